@@ -22,7 +22,7 @@ use Rattle.kc_build.specs.Growth.{IsGrown, Stands}
 use Rattle.kc_build.specs.SymbolRows.{member_by}
 use Rattle.kc_build.specs.Passes.{statements_of}
 use Rattle.kc_build.proofs.ScanLemmas.{statements_end, statements_from}
-use Rattle.kc_tree.specs.Layouts.{with_parts}
+use Rattle.kc_tree.specs.Layouts.{with_conjuncts}
 
 -- The conditions of contexts grow.
 module _ (old : List Condition) (mode : Option ℕ) where
@@ -55,35 +55,35 @@ module _ (old : List Condition) (mode : Option ℕ) where
           ap (λ k. (condition_in new k).mode) at ∙ ap (λ (d : Condition). d.mode) last ∙ m
 
 -- one thing more
-more_asked : (c : Condition) (e : Form) (fs : List Form) → with_parts (and_also c e) fs ≡ with_parts c (e ∷ fs)
-more_asked c e fs = λ i. record { parts = append_assoc c.parts (e ∷ []) fs i; mode = c.mode }
+more_asked : (c : Condition) (e : Form) (fs : List Form) → with_conjuncts (and_also c e) fs ≡ with_conjuncts c (e ∷ fs)
+more_asked c e fs = λ i. record { conjuncts = append_assoc c.conjuncts (e ∷ []) fs i; mode = c.mode }
 
-all_asked : (c : Condition) → with_parts c [] ≡ c
-all_asked c = λ i. record { parts = append-nil c.parts i; mode = c.mode }
+all_asked : (c : Condition) → with_conjuncts c [] ≡ c
+all_asked c = λ i. record { conjuncts = append-nil c.conjuncts i; mode = c.mode }
 
 -- The contexts of an entry: the last one and what is left to ask for is what the whole entry asks for.
 module _ (f : Numbered → Option Form) (old : List Condition) (outer : ℕ) where
-  pub record Asks (ls : List Line) (i : ℕ) (now : List Condition) (at : ℕ) : Type 0 where
+  pub record ContextSoFar (ls : List Line) (i : ℕ) (now : List Condition) (at : ℕ) : Type 0 where
     pub grown : IsGrown old now (condition_in old outer).mode i
     pub there : at < length now
-    pub asks : with_parts (condition_in now at) (filter_map f (drop i (statements_of ls))) ≡ with_parts (condition_in old outer) (filter_map f (statements_of ls))
+    pub condition : with_conjuncts (condition_in now at) (filter_map f (drop i (statements_of ls))) ≡ with_conjuncts (condition_in old outer) (filter_map f (statements_of ls))
 
-  pub asks_start : (ls : List Line) → outer < length old → Asks ls 0 old outer
-  asks_start ls h = record { grown = grown_none old (condition_in old outer).mode; there = h; asks = refl }
+  pub context_start : (ls : List Line) → outer < length old → ContextSoFar ls 0 old outer
+  context_start ls h = record { grown = grown_none old (condition_in old outer).mode; there = h; condition = refl }
 
-  pub asks_none : (ls : List Line) (i : ℕ) (x : Line) (now : List Condition) (at : ℕ) → Asks ls i now at → i < length ls → x ≡ get_or ls i x →
-      f (statement_view x.statement) ≡ None → Asks ls (i + 1) now at
-  asks_none ls i x now at a h n e = record {
+  pub context_kept : (ls : List Line) (i : ℕ) (x : Line) (now : List Condition) (at : ℕ) → ContextSoFar ls i now at → i < length ls → x ≡ get_or ls i x →
+      f (statement_view x.statement) ≡ None → ContextSoFar ls (i + 1) now at
+  context_kept ls i x now at a h n e = record {
     grown = grown_more old (condition_in old outer).mode now i (i + 1) (omega arith) a.grown;
     there = a.there;
-    asks = let s = a.asks in (rw (statements_from ls i x h n, e) at s);
+    condition = let s = a.condition in (rw (statements_from ls i x h n, e) at s);
   }
 
-  pub asks_more : (ls : List Line) (i : ℕ) (x : Line) (now new : List Condition) (at next : ℕ) (e : Form) → Asks ls i now at → i < length ls →
+  pub context_more : (ls : List Line) (i : ℕ) (x : Line) (now new : List Condition) (at next : ℕ) (e : Form) → ContextSoFar ls i now at → i < length ls →
       x ≡ get_or ls i x → Some e ≡ f (statement_view x.statement) → new ≡ now ++ and_also (condition_in now at) e ∷ [] → next ≡ length now →
-      Asks ls (i + 1) new next
-  asks_more ls i x now new at next e a h n q p k =
-      let s = a.asks in
+      ContextSoFar ls (i + 1) new next
+  context_more ls i x now new at next e a h n q p k =
+      let s = a.condition in
       let rest = filter_map f (drop (i + 1) (statements_of ls)) in
       let size : length new ≡ length now + 1 = ap length p ∙ length_push now (and_also (condition_in now at) e) in
       let here : condition_in new next ≡ and_also (condition_in now at) e = ap (λ j. condition_in new j) k ∙ ap (λ l. condition_in l (length now)) p
@@ -91,15 +91,16 @@ module _ (f : Numbered → Option Form) (old : List Condition) (outer : ℕ) whe
       record {
         grown = grown_push old (condition_in old outer).mode now new i (and_also (condition_in now at) e) a.grown (ap (λ (c : Condition). c.mode) s) p;
         there = omega arith;
-        asks = ap (λ c. with_parts c rest) here ∙ more_asked (condition_in now at) e rest ∙ (rw (statements_from ls i x h n, ← q) at s);
+        condition = ap (λ c. with_conjuncts c rest) here ∙ more_asked (condition_in now at) e rest ∙ (rw (statements_from ls i x h n, ← q) at s);
       }
 
-  pub asks_grown : (ls : List Line) (i : ℕ) (now : List Condition) (at : ℕ) → Asks ls i now at → i ≤ length ls → IsGrown old now (condition_in old outer).mode (length ls)
-  asks_grown ls i now at a h = grown_more old (condition_in old outer).mode now i (length ls) h a.grown
+  pub context_grown : (ls : List Line) (i : ℕ) (now : List Condition) (at : ℕ) → ContextSoFar ls i now at → i ≤ length ls → IsGrown old now (condition_in old outer).mode (length ls)
+  context_grown ls i now at a h = grown_more old (condition_in old outer).mode now i (length ls) h a.grown
 
-  pub asks_end : (ls : List Line) (i : ℕ) (now : List Condition) (at : ℕ) → Asks ls i now at → length ls ≤ i → Stands now at (with_parts (condition_in old outer) (filter_map f (statements_of ls)))
-  asks_end ls i now at a h =
-      let s = a.asks in
+  pub context_end : (ls : List Line) (i : ℕ) (now : List Condition) (at : ℕ) → ContextSoFar ls i now at → length ls ≤ i →
+      Stands now at (with_conjuncts (condition_in old outer) (filter_map f (statements_of ls)))
+  context_end ls i now at a h =
+      let s = a.condition in
       record { there = a.there; is = sym (all_asked (condition_in now at)) ∙ (rw (statements_end ls i h) at s) }
 
 -- A default.

@@ -4,7 +4,7 @@ use Rattle.std.specs.List.{slice_get}
 use Rattle.std.specs.Option.{is_some}
 use Rattle.std.specs.Prelude.{◌⊎◌}
 use Rattle.kc_read.specs.Statements.{Numbered}
-use Rattle.kc_read.specs.Blocks.{Bracket, Opens, Closes, NoBracket, numbers, last_of, depth_after, closes_outer, opened, bracket, stays_open, bracket_at, is_open, open_places, enclosing}
+use Rattle.kc_read.specs.Blocks.{Bracket, Opens, Closes, NoBracket, numbers, last_of, depth_after, closes_outer, opened, bracket, stays_open, bracket_at, is_open, open_block_indices, enclosing}
 
 -- Closers that close what was opened before a list.
 abbrev below : ℕ → ℕ → Bool
@@ -73,8 +73,8 @@ filter-open f p (s ∷ ss) h =
     let rest : (k : ℕ) → f (suc p + k) ≡ is_open ss k = λ k. (let e : p + suc k ≡ suc p + k = omega arith in (rw e at (h (suc k)))) in
     rw (first, filter-open f (suc p) ss rest) refl
 
-open_places-from : (ss : List Numbered) → open_places ss ≡ open_from 0 ss
-open_places-from ss =
+open_block_indices-from : (ss : List Numbered) → open_block_indices ss ≡ open_from 0 ss
+open_block_indices-from ss =
     ap (filter (is_open ss)) (numbers-from (length ss)) ∙ filter-open (is_open ss) 0 ss (λ k. let e : 0 + k ≡ k = omega arith in rw e refl)
 
 -- One statement more.
@@ -148,16 +148,16 @@ length-take_at (x ∷ ss) (suc i) s h = ap suc (length-take_at ss i s h)
 
 pub enclosing-no : (ss : List Numbered) (i : ℕ) (s : Numbered) → slice_get ss i ≡ Some s → bracket s ≡ NoBracket → enclosing ss (suc i) ≡ enclosing ss i
 enclosing-no ss i s h e =
-    open_places-from (take (suc i) ss) ∙ ap (open_from 0) (take-next ss i s h) ∙ open_from-no 0 (take i ss) s e ∙ sym (open_places-from (take i ss))
+    open_block_indices-from (take (suc i) ss) ∙ ap (open_from 0) (take-next ss i s h) ∙ open_from-no 0 (take i ss) s e ∙ sym (open_block_indices-from (take i ss))
 
 pub enclosing-opens : (ss : List Numbered) (i : ℕ) (s : Numbered) (b : _) → slice_get ss i ≡ Some s → bracket s ≡ Opens b → enclosing ss (suc i) ≡ enclosing ss i ++ i ∷ []
 enclosing-opens ss i s b h e =
     let n : 0 + length (take i ss) ≡ i = omega (arith, length-take_at ss i s h) in
-    open_places-from (take (suc i) ss) ∙ ap (open_from 0) (take-next ss i s h) ∙ open_from-opens 0 (take i ss) s b e ∙ (rw (n, open_places-from (take i ss)) refl)
+    open_block_indices-from (take (suc i) ss) ∙ ap (open_from 0) (take-next ss i s h) ∙ open_from-opens 0 (take i ss) s b e ∙ (rw (n, open_block_indices-from (take i ss)) refl)
 
 pub enclosing-closes : (ss : List Numbered) (i : ℕ) (s : Numbered) → slice_get ss i ≡ Some s → bracket s ≡ Closes → enclosing ss (suc i) ≡ front (enclosing ss i)
 enclosing-closes ss i s h e =
-    open_places-from (take (suc i) ss) ∙ ap (open_from 0) (take-next ss i s h) ∙ open_from-closes 0 (take i ss) s e ∙ ap front (sym (open_places-from (take i ss)))
+    open_block_indices-from (take (suc i) ss) ∙ ap (open_from 0) (take-next ss i s h) ∙ open_from-closes 0 (take i ss) s e ∙ ap front (sym (open_block_indices-from (take i ss)))
 
 -- Each place that encloses a statement has before it, among those that do, the places that enclose itself.
 pub record IsNested (ss : List Numbered) (i : ℕ) (ys : List ℕ) (k : ℕ) : Type 0 where

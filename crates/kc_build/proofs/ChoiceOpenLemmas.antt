@@ -20,18 +20,18 @@ use Rattle.kc_tree.specs.declared.rows.EntryPrompt.{EntryPrompt}
 use Rattle.kc_tree.specs.declared.rows.Symbol.{Symbol}
 use Rattle.kc_tree.specs.declared.rows.Title.{Title}
 use Rattle.kc_tree.specs.Contexts.{IsPlain, condition_in, in_choice, top}
-use Rattle.kc_tree.specs.Layouts.{choice_default_view, choice_facts as choice_in, prompt_view, with_when, with_parts}
+use Rattle.kc_tree.specs.Layouts.{choice_default_view, choice_facts as choice_in, prompt_view, with_when, with_conjuncts}
 use Rattle.kc_tree.specs.TreeFacts.{Condition, ChoiceFacts, Guarded}
 use Rattle.kc_tree.specs.Common.{listed}
 use Rattle.kc_build.specs.Before.{choice_before, choices_before, default_by, members_before}
 use Rattle.kc_build.specs.EntryLines.{choice_default_line, member_line, named_line, prompt_line}
-use Rattle.kc_build.specs.Facts.{StatedDefault, prompt_of, prompt_condition, block_parts, choice_number, enclosing_choice, dependency, depends_form, entry_number, stated_default, is_member_place, of_block, prompt_at, single_symbol, symbol_at, enclosing_visible}
+use Rattle.kc_build.specs.Facts.{StatedDefault, prompt_of, prompt_condition, block_conjuncts, choice_number, enclosing_choice, dependency, depends_form, shown_number, stated_default, is_member_index, of_block, prompt_at, single_symbol, symbol_at, enclosing_visible}
 use Rattle.kc_build.specs.Growth.{IsGrown, Stands}
 use Rattle.kc_build.specs.SymbolRows.{member_by}
 use Rattle.kc_build.specs.Scopes.{block_visible}
 use Rattle.kc_build.specs.WalkResult.{IsEntryThere, IsTitleThere}
 use Rattle.kc_build.specs.Stacks.{AreTitlesWithin, block_facts_at, block_view}
-use Rattle.kc_build.specs.Walks.{Enters, place_after}
+use Rattle.kc_build.specs.Walks.{Enters, index_after}
 use Rattle.kc_build.specs.declared.blocks.BlockScope.{BlockScope}
 use Rattle.kc_build.specs.declared.entries.EntryWalk.{EntryWalk}
 use Rattle.kc_build.proofs.CloserLemmas.{extends_equal, no_fewer}
@@ -194,7 +194,7 @@ module _ (ss : List Numbered) where
 
   pub no_members_yet : (i : ℕ) → members_before ss i (choice_number ss i) ≡ []
   no_members_yet i =
-      ap (filter_map (symbol_at ss)) (none_pass (is_member_place ss (choice_number ss i)) i
+      ap (filter_map (symbol_at ss)) (none_pass (is_member_index ss (choice_number ss i)) i
       (λ j l. and_false (is_some (symbol_at ss j)) (list_any (λ (d : ℕ). d == choice_number ss i) (listed (enclosing_choice ss j)))
       (not_yet i j (last_of (filter (of_block ss block.Choice) (enclosing ss j))) (omega arith) refl)))
 
@@ -254,7 +254,7 @@ module _ (symbols : List Symbol) (own : List Numbered) (old new : EntryWalk) (re
   block_outside = old.blocks.innermost
 
   pub choice_enters : IsGrown old.tables.contexts middle (condition_in old.tables.contexts old.blocks.innermost.within.0).mode (length own) →
-      Stands middle c.within.0 (with_parts (condition_in old.tables.contexts old.blocks.innermost.within.0) (filter_map depends_form own)) →
+      Stands middle c.within.0 (with_conjuncts (condition_in old.tables.contexts old.blocks.innermost.within.0) (filter_map depends_form own)) →
       new.tables.contexts ≡ middle ++ in_choice (condition_in middle old.blocks.innermost.within.0) id ∷ [] → id ≡ length old.tables.choices.items →
       new.tables.choices.items ≡ old.tables.choices.items ++ c ∷ [] →
       option_map prompt_line c.prompt ≡ option_map (λ (p : InputPrompt Form). (old.blocks.innermost.visible.0, p.when)) (last_of (filter_map prompt_of own)) →
@@ -275,15 +275,15 @@ module _ (symbols : List Symbol) (own : List Numbered) (old new : EntryWalk) (re
       let counted : id ≡ choice_number ss i = id_is ∙ choice_count ss symbols i old w in
       let depends : condition_in new.tables.contexts c.within.0 ≡ dependency ss i = k.keeps c.within.0 stands.there ∙ stands.is
       ∙ dependency_is ss i own o block_outside innermost_is h.attributes_are in
-      let shows : (condition_in new.tables.contexts block_outside.visible.0).parts ≡ enclosing_visible ss i =
-      ap (λ (y : Condition). y.parts) (g.keeps block_outside.visible.0 seen)
+      let shows : (condition_in new.tables.contexts block_outside.visible.0).conjuncts ≡ enclosing_visible ss i =
+      ap (λ (y : Condition). y.conjuncts) (g.keeps block_outside.visible.0 seen)
       ∙ ap (λ y. y.visible) innermost_is in
       let asked : option_map (prompt_view new.tables.contexts (condition_in new.tables.contexts c.within.0)) c.prompt ≡ prompt_at ss i =
       ap (λ (y : Condition). option_map (prompt_view new.tables.contexts y) c.prompt) depends
       ∙ prompt_by_line new.tables.contexts (dependency ss i) c.prompt
       ∙ ap (option_map (line_prompt new.tables.contexts (dependency ss i))) prompt_is
       ∙ by_asked new.tables.contexts (dependency ss i) block_outside.visible.0 (last_of (filter_map prompt_of own))
-      ∙ ap (λ (v : List Form). option_map (λ (p : InputPrompt Form). with_when (record { parts = (dependency ss i).parts ++ v; mode = (dependency ss i).mode }) p.when)
+      ∙ ap (λ (v : List Form). option_map (λ (p : InputPrompt Form). with_when (record { conjuncts = (dependency ss i).conjuncts ++ v; mode = (dependency ss i).mode }) p.when)
       (last_of (filter_map prompt_of own))) shows
       ∙ ap (λ (l : List Numbered). option_map (prompt_condition ss i) (last_of (filter_map prompt_of l))) (sym h.attributes_are) in
       let given : map (choice_default_view (condition_in new.tables.contexts c.within.0)) c.defaults.items ≡
@@ -296,7 +296,7 @@ module _ (symbols : List Symbol) (own : List Numbered) (old new : EntryWalk) (re
       ∙ ap (λ (l : List Numbered). filter_map (default_by ss symbols i) (filter_map stated_default l)) (sym h.attributes_are) in
       let members : c.members.items ≡ members_before ss i (choice_number ss i) = members_are ∙ sym (no_members_yet ss i) in
       let row : choice_in new.tables c ≡ choice_before ss symbols i i = λ j. record { prompt = asked j; defaults = given j; members = members j } in
-      let choices : map (choice_in new.tables) new.tables.choices.items ≡ choices_before ss symbols (place_after i own) =
+      let choices : map (choice_in new.tables) new.tables.choices.items ≡ choices_before ss symbols (index_after i own) =
       ap (map (choice_in new.tables)) pushed_is
       ∙ map_push (choice_in new.tables) old.tables.choices.items c
       ∙ ap (λ (l : List ChoiceFacts). l ++ choice_in new.tables c ∷ [])
@@ -305,18 +305,18 @@ module _ (symbols : List Symbol) (own : List Numbered) (old new : EntryWalk) (re
       ∙ sym (choice_passed ss i ChoiceLine own h refl symbols opens) in
       let made : condition_in new.tables.contexts b.within.0 ≡ in_choice x id = ap (λ (n : ℕ). condition_in new.tables.contexts n) within
       ∙ ap (λ (l : List Condition). condition_in l (length middle)) added ∙ get_or_push middle (in_choice x id) top (length middle) refl in
-      let nothing : block_parts ss i ≡ [] = rw (h.at) refl in
+      let nothing : block_conjuncts ss i ≡ [] = rw (h.at) refl in
       let unseen : block_visible ss i ≡ [] = rw (h.at) refl in
-      let parts : (condition_in new.tables.contexts b.within.0).parts ≡ (block_facts_at ss i).parts ++ block_parts ss i = ap (λ (y : Condition). y.parts) made
-      ∙ ap (λ (y : Condition). y.parts) (f.keeps block_outside.within.0 there) ∙ ap (λ y. y.parts) innermost_is
-      ∙ sym (ap (λ (l : List Form). (block_facts_at ss i).parts ++ l) nothing ∙ append-nil (block_facts_at ss i).parts) in
-      let visible_parts : (condition_in new.tables.contexts b.visible.0).parts ≡ (block_facts_at ss i).visible ++ block_visible ss i =
-      ap (λ (y : ContextId). (condition_in new.tables.contexts y.0).parts) visible ∙ shows
+      let conjuncts : (condition_in new.tables.contexts b.within.0).conjuncts ≡ (block_facts_at ss i).conjuncts ++ block_conjuncts ss i = ap (λ (y : Condition). y.conjuncts) made
+      ∙ ap (λ (y : Condition). y.conjuncts) (f.keeps block_outside.within.0 there) ∙ ap (λ y. y.conjuncts) innermost_is
+      ∙ sym (ap (λ (l : List Form). (block_facts_at ss i).conjuncts ++ l) nothing ∙ append-nil (block_facts_at ss i).conjuncts) in
+      let visible_conjuncts : (condition_in new.tables.contexts b.visible.0).conjuncts ≡ (block_facts_at ss i).visible ++ block_visible ss i =
+      ap (λ (y : ContextId). (condition_in new.tables.contexts y.0).conjuncts) visible ∙ shows
       ∙ sym (ap (λ (l : List Form). (block_facts_at ss i).visible ++ l) unseen ∙ append-nil (block_facts_at ss i).visible) in
       let mode : (condition_in new.tables.contexts b.within.0).mode ≡ (if of_block ss block.Choice i then Some (choice_number ss i) else (block_facts_at ss i).mode) =
       ap (λ (y : Condition). y.mode) made ∙ ap Some counted ∙ sym (ap (λ (t : Bool). if t then Some (choice_number ss i) else (block_facts_at ss i).mode) opens) in
-      let named : b.entry ≡ Some (entry_number ss i) = entry ∙ ap Some (number_is ∙ entry_count ss symbols i old w a.ends) in
-      let inside = ap (block_view new.tables.contexts) inner ∙ block_inside ss i new.tables.contexts b parts visible_parts mode named in
+      let named : b.entry ≡ Some (shown_number ss i) = entry ∙ ap Some (number_is ∙ entry_count ss symbols i old w a.ends) in
+      let inside = ap (block_view new.tables.contexts) inner ∙ block_inside ss i new.tables.contexts b conjuncts visible_conjuncts mode named in
       walk_passes ss i ChoiceLine own h symbols old new w
       (record {
         contexts = g;
@@ -345,7 +345,7 @@ module _ (symbols : List Symbol) (own : List Numbered) (old new : EntryWalk) (re
 -- The tables with the row of a choice that was made in the innermost block.
 pub kept_row : (w : EntryWalk) (b : BlockScope) (middle : List Condition) (n : ℕ) (r : Bool) (row : Choice) (new : List Choice) (fs : List Form) (x : Option (InputPrompt Form)) →
     b ≡ w.blocks.innermost → IsGrown w.tables.contexts middle (condition_in w.tables.contexts b.within.0).mode n →
-    Stands middle row.within.0 (with_parts (condition_in w.tables.contexts b.within.0) fs) → IsPlain w.tables.contexts w.blocks.innermost.within.0 →
+    Stands middle row.within.0 (with_conjuncts (condition_in w.tables.contexts b.within.0) fs) → IsPlain w.tables.contexts w.blocks.innermost.within.0 →
     option_map prompt_line row.prompt ≡ option_map (λ (p : InputPrompt Form). (b.visible.0, p.when)) x → new ≡ pushed r w.tables.choices.items row →
     AreKept middle w.tables.definitions.items new w.tables.titles.items
 kept_row w b middle n r row new fs x e grown stands plain asked added =

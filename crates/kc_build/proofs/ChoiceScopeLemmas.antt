@@ -24,7 +24,7 @@ use Rattle.kc_build.specs.Facts.{choice_number, enclosing_choice, is_block, of_b
 use Rattle.kc_build.specs.SymbolRows.{definition_number}
 use Rattle.kc_build.specs.Scopes as scopes
 use Rattle.kc_build.specs.SymbolWalk.{IsScopeAt}
-use Rattle.kc_build.specs.Walks.{IsHead, place_after}
+use Rattle.kc_build.specs.Walks.{IsHead, index_after}
 use Rattle.kc_build.proofs.BlockLemmas.{enclosing-closes, enclosing-last, enclosing-no, enclosing-opens, front}
 use Rattle.kc_build.proofs.EnterLemmas.{attribute_symbol, enclosing_passed, over}
 use Rattle.kc_build.proofs.PlaceLemmas.{filter_map-next, length-numbers}
@@ -39,10 +39,10 @@ made_by s = length (cons_option (symbol_of (Some s)) [])
 module _ (ss : List Numbered) where
   -- the choice of the innermost of these openers that is one
   abbrev mode_in : List ℕ → Option ℕ
-  mode_in places = option_map (choice_number ss) (last_of (filter (of_block ss block.Choice) places))
+  mode_in indices = option_map (choice_number ss) (last_of (filter (of_block ss block.Choice) indices))
 
-  mode_snoc : (places : List ℕ) (k : ℕ) → mode_in (places ++ k ∷ []) ≡ (if of_block ss block.Choice k then Some (choice_number ss k) else mode_in places)
-  mode_snoc places k = ap (λ (r : scopes.Scope). r.mode) (scope_snoc ss places k)
+  mode_snoc : (indices : List ℕ) (k : ℕ) → mode_in (indices ++ k ∷ []) ≡ (if of_block ss block.Choice k then Some (choice_number ss k) else mode_in indices)
+  mode_snoc indices k = ap (λ (r : scopes.Scope). r.mode) (scope_snoc ss indices k)
 
   grows : (xs : List SymId) (o : Option SymId) → length (xs ++ cons_option o []) ≡ length xs + length (cons_option o [])
   grows xs None = ap length (append-nil xs) ∙ omega arith
@@ -80,10 +80,10 @@ module _ (ss : List Numbered) where
     definitions_now : new.definitions ≡ definition_number ss (i + 1)
     definitions_now = made ∙ ap (λ n. n + made_by s) h.definitions ∙ sym (defined-next i s at)
 
-    passed : (places : List ℕ) → enclosing ss (suc i) ≡ places → mode_view new.choice ≡ mode_in places →
-        map mode_view new.outside.items ≡ map (enclosing_choice ss) places → IsScopeAt ss (i + 1) new
-    passed places e c o =
-        let after : enclosing ss (i + 1) ≡ places = (rw add-one e) in
+    passed : (indices : List ℕ) → enclosing ss (suc i) ≡ indices → mode_view new.choice ≡ mode_in indices →
+        map mode_view new.outside.items ≡ map (enclosing_choice ss) indices → IsScopeAt ss (i + 1) new
+    passed indices e c o =
+        let after : enclosing ss (i + 1) ≡ indices = (rw add-one e) in
         record { choice = c ∙ sym (ap mode_in after); outside = o ∙ sym (ap (map (enclosing_choice ss)) after); choices = choices_now; definitions = definitions_now }
 
     -- one that is no bracket
@@ -137,9 +137,9 @@ module _ (ss : List Numbered) where
   attribute_opens : (j : ℕ) (s : Numbered) → slice_get ss j ≡ Some s → is_attribute s ≡ true → choice_number ss (j + 1) ≡ choice_number ss j
   attribute_opens j s at e = sym (choice_number-next ss j s at) ∙ no_choice s (choice_number ss j) e
 
-  pub scope_behind : (i : ℕ) (head : Numbered) (own : List Numbered) (r : ChoiceScope) → IsHead ss i head own → IsScopeAt ss (i + 1) r → IsScopeAt ss (place_after i own) r
+  pub scope_behind : (i : ℕ) (head : Numbered) (own : List Numbered) (r : ChoiceScope) → IsHead ss i head own → IsScopeAt ss (i + 1) r → IsScopeAt ss (index_after i own) r
   scope_behind i head own r h w =
-      let innermost_facts : enclosing ss (place_after i own) ≡ enclosing ss (i + 1) = enclosing_passed ss i head own h ∙ sym (ap (enclosing ss) (add-one i)) in
+      let innermost_facts : enclosing ss (index_after i own) ≡ enclosing ss (i + 1) = enclosing_passed ss i head own h ∙ sym (ap (enclosing ss) (add-one i)) in
       record {
         choice = w.choice ∙ sym (ap mode_in innermost_facts);
         outside = w.outside ∙ sym (ap (map (enclosing_choice ss)) innermost_facts);

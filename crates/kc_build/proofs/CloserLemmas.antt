@@ -12,7 +12,7 @@ use Rattle.kc_tree.specs.declared.rows.ShownEntry.TheVariants as entry
 use Rattle.kc_tree.specs.declared.rows.Symbol.{Symbol}
 use Rattle.kc_tree.specs.Layouts.{shown_of}
 use Rattle.kc_tree.specs.TreeFacts.{Condition, EndShown}
-use Rattle.kc_build.specs.Facts.{entry_at, entry_number, shows_entry, of_block, enclosing_block, symbol_of, title_of}
+use Rattle.kc_build.specs.Facts.{shown_at, shown_number, shows_entry, of_block, enclosing_block, symbol_of, title_of}
 use Rattle.kc_build.specs.WalkResult.{IsEntryThere, IsTitleThere}
 use Rattle.kc_build.specs.Stacks.{AreOpen, IsClosed}
 use Rattle.kc_build.specs.Walks.{Enters}
@@ -46,7 +46,7 @@ no_fewer p k n h =
 
 -- The end of an `if` or of a choice.
 pub closer_enters : (head : Numbered) (old new : EntryWalk) → bracket head ≡ Closes → symbol_of (Some head) ≡ None → title_of head ≡ None →
-    ((ss : List Numbered) (i : ℕ) → entry_at ss i (Some head) ≡ None) → AreSame old new → new.tables.contexts ≡ old.tables.contexts → new.main_menu ≡ old.main_menu →
+    ((ss : List Numbered) (i : ℕ) → shown_at ss i (Some head) ≡ None) → AreSame old new → new.tables.contexts ≡ old.tables.contexts → new.main_menu ≡ old.main_menu →
     IsClosed old.blocks new.blocks → (symbols : List Symbol) (own : List Numbered) → Enters symbols head own old new
 closer_enters head old new b none untitled no_entry same contexts menu closed symbols own ss i a h w =
     quiet_passes ss symbols i head own h old new w same
@@ -58,7 +58,7 @@ closer_enters head old new b none untitled no_entry same contexts menu closed sy
 
 -- The end of a menu.
 module _ (ss : List Numbered) where
-  shown_end : (w : EntryWalk) (o : Option ℕ) → map (shown_of w.tables) (ends_of (option_map (entry_number ss) o)) ≡ cons_option (option_map (λ j. EndShown (entry_number ss j)) o) []
+  shown_end : (w : EntryWalk) (o : Option ℕ) → map (shown_of w.tables) (ends_of (option_map (shown_number ss) o)) ≡ cons_option (option_map (λ j. EndShown (shown_number ss j)) o) []
   shown_end w None = refl
   shown_end w (Some k) = refl
 
@@ -66,26 +66,26 @@ module _ (ss : List Numbered) where
   one_end None = omega arith
   one_end (Some k) = omega arith
 
-  end_there : (i m n : ℕ) (o : Option ℕ) → i ≤ length ss → enclosing_block ss i ≡ o → n ≡ entry_number ss i + length (ends_of (option_map (entry_number ss) o)) →
-      All (IsEntryThere m n) (ends_of (option_map (entry_number ss) o))
+  end_there : (i m n : ℕ) (o : Option ℕ) → i ≤ length ss → enclosing_block ss i ≡ o → n ≡ shown_number ss i + length (ends_of (option_map (shown_number ss) o)) →
+      All (IsEntryThere m n) (ends_of (option_map (shown_number ss) o))
   end_there i m n None l e c = All-nil (IsEntryThere m n)
   end_there i m n (Some k) l e c =
       let before = (last_is_nested ss i k l e).before in
       let fewer = no_fewer (λ j. shows_entry ss j (slice_get ss j)) k i (omega arith) in
-      All-cons (IsEntryThere m n) (entry.End (entry_number ss k)) [] (omega arith) (All-nil (IsEntryThere m n))
+      All-cons (IsEntryThere m n) (entry.End (shown_number ss k)) [] (omega arith) (All-nil (IsEntryThere m n))
 
 pub end_enters : (old new : EntryWalk) → AreRest old new → new.tables.contexts ≡ old.tables.contexts → new.tables.titles ≡ old.tables.titles →
     new.tables.entries.items ≡ old.tables.entries.items ++ ends_of old.blocks.innermost.entry → IsClosed old.blocks new.blocks → (symbols : List Symbol) (own : List Numbered) →
     Enters symbols EndMenuLine own old new
 end_enters old new r contexts titles entries closed symbols own ss i a h w =
-    let opener : old.blocks.innermost.entry ≡ option_map (entry_number ss) (enclosing_block ss i) = ap (λ x. x.entry) w.blocks.innermost in
-    let ends : new.tables.entries.items ≡ old.tables.entries.items ++ ends_of (option_map (entry_number ss) (enclosing_block ss i)) = entries
+    let opener : old.blocks.innermost.entry ≡ option_map (shown_number ss) (enclosing_block ss i) = ap (λ x. x.entry) w.blocks.innermost in
+    let ends : new.tables.entries.items ≡ old.tables.entries.items ++ ends_of (option_map (shown_number ss) (enclosing_block ss i)) = entries
     ∙ ap (λ (o : Option ℕ). old.tables.entries.items ++ ends_of o) opener in
     let other : of_block ss block.Choice i ≡ false = rw (h.at) refl in
     let g = extends_equal old.tables.contexts new.tables.contexts contexts in
-    let many : length new.tables.entries.items ≡ entry_number ss i + length (ends_of (option_map (entry_number ss) (enclosing_block ss i))) = ap length ends
-    ∙ length-append old.tables.entries.items (ends_of (option_map (entry_number ss) (enclosing_block ss i)))
-    ∙ ap (λ (n : ℕ). n + length (ends_of (option_map (entry_number ss) (enclosing_block ss i)))) (entry_count ss symbols i old w a.ends) in
+    let many : length new.tables.entries.items ≡ shown_number ss i + length (ends_of (option_map (shown_number ss) (enclosing_block ss i))) = ap length ends
+    ∙ length-append old.tables.entries.items (ends_of (option_map (shown_number ss) (enclosing_block ss i)))
+    ∙ ap (λ (n : ℕ). n + length (ends_of (option_map (shown_number ss) (enclosing_block ss i)))) (entry_count ss symbols i old w a.ends) in
     walk_passes ss i EndMenuLine own h symbols old new w
     (record {
       contexts = g;
@@ -102,9 +102,9 @@ end_enters old new r contexts titles entries closed symbols own ss i a h w =
       titles = ap (λ v. v.items) titles ∙ sym (append-nil old.tables.titles.items);
       few_titles = omega arith;
       titles_there = All-nil (IsTitleThere new.tables.contexts);
-      entries_more = ends_of (option_map (entry_number ss) (enclosing_block ss i));
+      entries_more = ends_of (option_map (shown_number ss) (enclosing_block ss i));
       entries = ends;
-      few_entries = one_end ss (option_map (entry_number ss) (enclosing_block ss i));
+      few_entries = one_end ss (option_map (shown_number ss) (enclosing_block ss i));
       entries_there = end_there ss i (length new.tables.titles.items) (length new.tables.entries.items) (enclosing_block ss i)
           (let l = slice_get_within ss i EndMenuLine h.at in omega arith) refl many;
       shown = shown_end ss new (enclosing_block ss i);

@@ -23,7 +23,7 @@ use Rattle.kc_tree.specs.declared.rows.RowSpan.{RowSpan}
 use Rattle.kc_tree.specs.declared.rows.Title.{Title}
 use Rattle.kc_tree.specs.declared.reverses.Reverses.{Reverses}
 use Rattle.kc_tree.specs.Contexts.{IsPlain, condition_in}
-use Rattle.kc_tree.specs.Layouts.{definition_facts, prompt_view, default_view, range_view, with_parts, with_when}
+use Rattle.kc_tree.specs.Layouts.{definition_facts, prompt_view, default_view, range_view, with_conjuncts, with_when}
 use Rattle.kc_tree.specs.Spans.{slice_of}
 use Rattle.kc_tree.specs.TreeFacts.{Condition}
 use Rattle.kc_build.specs.declared.blocks.BlockScope.{BlockScope}
@@ -49,7 +49,7 @@ prompt_visible (Some r) v (Some a) e p q =
     ap (λ (s : EntryPrompt). s.visible.0) (sym same) ∙ ap (λ (l : ℕ × Option Form). l.0) line
 
 abbrev pub line_prompt : List Condition → Condition → ℕ × Option Form → Condition
-line_prompt conditions dependency q = with_when (with_parts dependency (condition_in conditions q.0).parts) q.1
+line_prompt conditions dependency q = with_when (with_conjuncts dependency (condition_in conditions q.0).conjuncts) q.1
 
 pub prompt_by_line : (conditions : List Condition) (dependency : Condition) (o : Option EntryPrompt) →
     option_map (prompt_view conditions dependency) o ≡ option_map (line_prompt conditions dependency) (option_map prompt_line o)
@@ -58,7 +58,7 @@ prompt_by_line conditions dependency (Some p) = refl
 
 pub by_asked : (conditions : List Condition) (dependency : Condition) (v : ℕ) (x : Option (InputPrompt Form)) →
     option_map (line_prompt conditions dependency) (option_map (λ (p : InputPrompt Form). (v, p.when)) x) ≡ option_map
-    (λ (p : InputPrompt Form). with_when (with_parts dependency (condition_in conditions v).parts) p.when) x
+    (λ (p : InputPrompt Form). with_when (with_conjuncts dependency (condition_in conditions v).conjuncts) p.when) x
 by_asked conditions dependency v None = refl
 by_asked conditions dependency v (Some p) = refl
 
@@ -144,7 +144,7 @@ pub record IsMade (symbol : SymId) (own : List Numbered) (old new : EntryWalk) (
   pub contexts : IsGrown old.tables.contexts new.tables.contexts (condition_in old.tables.contexts old.blocks.innermost.within.0).mode (length own)
   pub pushed_is : new.tables.definitions.items ≡ old.tables.definitions.items ++ d ∷ []
   pub symbol_is : d.symbol ≡ symbol
-  pub within : Stands new.tables.contexts d.within.0 (with_parts (condition_in old.tables.contexts old.blocks.innermost.within.0) (filter_map depends_form own))
+  pub within : Stands new.tables.contexts d.within.0 (with_conjuncts (condition_in old.tables.contexts old.blocks.innermost.within.0) (filter_map depends_form own))
   pub prompt : option_map prompt_line d.prompt ≡ option_map (λ (p : InputPrompt Form). (old.blocks.innermost.visible.0, p.when)) (last_of (filter_map prompt_of own))
   pub defaults : map default_row new.tables.defaults.items ≡ map default_row old.tables.defaults.items ++ filter_map default_line own
   pub defaults_start : d.defaults.start ≡ length old.tables.defaults.items
@@ -186,7 +186,7 @@ module _ (symbol : SymId) (own : List Numbered) (old new : EntryWalk) (d : Defin
       ∙ prompt_by_line new.tables.contexts dependency d.prompt
       ∙ ap (option_map (line_prompt new.tables.contexts dependency)) m.prompt
       ∙ by_asked new.tables.contexts dependency old.blocks.innermost.visible.0 (last_of (filter_map prompt_of own))
-      ∙ ap (λ (c : Condition). option_map (λ (p : InputPrompt Form). with_when (with_parts dependency c.parts) p.when) (last_of (filter_map prompt_of own))) visible_is
+      ∙ ap (λ (c : Condition). option_map (λ (p : InputPrompt Form). with_when (with_conjuncts dependency c.conjuncts) p.when) (last_of (filter_map prompt_of own))) visible_is
 
   defaults_are : map (default_view (condition_in new.tables.contexts d.within.0)) (slice_of new.tables.defaults.items d.defaults) ≡ map
       (guarded_default dependency) (filter_map default_line own)
@@ -291,8 +291,8 @@ pub outer_grown : (w : EntryWalk) (outer : BlockScope) (new : List Condition) (n
 outer_grown w outer new n e h = subst (λ (b : BlockScope). IsGrown w.tables.contexts new (condition_in w.tables.contexts b.within.0).mode n) e h
 
 pub outer_stands : (w : EntryWalk) (outer : BlockScope) (new : List Condition) (i : ℕ) (fs : List Form) → outer ≡ w.blocks.innermost →
-    Stands new i (with_parts (condition_in w.tables.contexts outer.within.0) fs) → Stands new i (with_parts (condition_in w.tables.contexts w.blocks.innermost.within.0) fs)
-outer_stands w outer new i fs e h = subst (λ (b : BlockScope). Stands new i (with_parts (condition_in w.tables.contexts b.within.0) fs)) e h
+    Stands new i (with_conjuncts (condition_in w.tables.contexts outer.within.0) fs) → Stands new i (with_conjuncts (condition_in w.tables.contexts w.blocks.innermost.within.0) fs)
+outer_stands w outer new i fs e h = subst (λ (b : BlockScope). Stands new i (with_conjuncts (condition_in w.tables.contexts b.within.0) fs)) e h
 
 pub outer_prompt : (w : EntryWalk) (outer : BlockScope) (o : Option EntryPrompt) (x : Option (InputPrompt Form)) → outer ≡ w.blocks.innermost →
     option_map prompt_line o ≡ option_map (λ (p : InputPrompt Form). (outer.visible.0, p.when)) x →

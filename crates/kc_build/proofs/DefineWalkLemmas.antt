@@ -27,7 +27,7 @@ use Rattle.kc_tree.specs.Spans.{slice_of}
 use Rattle.kc_tree.specs.TreeFacts.{ChoiceFacts, Condition, Guarded, SymbolShown}
 use Rattle.kc_build.specs.declared.entries.EntryWalk.{EntryWalk}
 use Rattle.kc_build.specs.declared.lines.ReverseKind.TheVariants as reverse_kind
-use Rattle.kc_build.specs.Before.{choices_before, definition_at, definitions_before, entries_before, impliers_before, selectors_before}
+use Rattle.kc_build.specs.Before.{choices_before, definition_facts_at, definitions_before, entries_before, impliers_before, selectors_before}
 use Rattle.kc_build.specs.EntryLines.{default_line, range_line}
 use Rattle.kc_build.specs.Facts as facts
 use Rattle.kc_build.specs.Facts.{StatedDefault, enclosing_choice, defaults_at, dependency, stated_default, imply_of, is_first_definition, naming_at, guarded_range, select_of, symbol_at, symbol_of}
@@ -36,7 +36,7 @@ use Rattle.kc_build.specs.Passes.{change}
 use Rattle.kc_build.specs.ReverseRows.{AreAdded, HaveSources, KeepSources, added_lines, selects_of, implies_of}
 use Rattle.kc_build.specs.WalkResult.{AreRowsThere, HasHeads, IsEntryThere, IsSmall, IsSpanBelow, IsTitleThere}
 use Rattle.kc_build.specs.Stacks.{AreOpen, BlockFacts, block_facts_at, block_view}
-use Rattle.kc_build.specs.Walks.{IsHead, IsWalk, place_after}
+use Rattle.kc_build.specs.Walks.{IsHead, IsWalk, index_after}
 use Rattle.kc_build.specs.WalkSteps.{AddsDefinition, KeepsAllButChoices, made_definition, one_more, with_member}
 use Rattle.kc_build.proofs.BlockLemmas.{enclosing-no}
 use Rattle.kc_build.proofs.DefineLemmas.{entry_carries}
@@ -70,11 +70,11 @@ module _ (ss : List Numbered) (i : ℕ) (s : SymId) where
   ranges_same : map (guarded_bounds (dependency ss i)) (filter_map range_line (attributes ss i)) ≡ filter_map (guarded_range ss i) (attributes ss i)
   ranges_same = map-filter_map (guarded_bounds (dependency ss i)) range_line (guarded_range ss i) range_same (attributes ss i)
 
-  pub made_is : made_definition (block_facts_at ss i) s (attributes ss i) ≡ definition_at ss i s
+  pub made_is : made_definition (block_facts_at ss i) s (attributes ss i) ≡ definition_facts_at ss i s
   made_is =
       let a = defaults_same in
       let b = ranges_same in
-      λ j. record (definition_at ss i s) { defaults = a j; ranges = b j }
+      λ j. record (definition_facts_at ss i s) { defaults = a j; ranges = b j }
 
 -- Definitions say the same by the tables that they lead to.
 abbrev by_tables : List Condition → List SymbolDefault → List SymbolRange → Definition → DefinitionFacts
@@ -123,7 +123,7 @@ pub record Defines (symbols : List Symbol) (symbol : SymId) (own : List Numbered
 module _ (ss : List Numbered) (symbols : List Symbol) (i : ℕ) (s : SymId) (own : List Numbered) (source : DefinitionId) (old made last new : EntryWalk)
     (whole : HasSymbols ss symbols) (h : IsHead ss i (ConfigLine s) own) (w : IsWalk ss symbols i old) (m : Defines symbols s own source old made last new) where
   abbrev after : ℕ
-  after = place_after i own
+  after = index_after i own
 
   symbol_here : symbol_at ss i ≡ Some s
   symbol_here = ap symbol_of h.at
@@ -146,7 +146,7 @@ module _ (ss : List Numbered) (symbols : List Symbol) (i : ℕ) (s : SymId) (own
   before = map (definition_facts old.tables) old.tables.definitions.items
 
   abbrev here : DefinitionFacts
-  here = definition_at ss i s
+  here = definition_facts_at ss i s
 
   made_here : made_definition (block_view old.tables.contexts old.blocks.innermost) s own ≡ here
   made_here =
@@ -162,7 +162,7 @@ module _ (ss : List Numbered) (symbols : List Symbol) (i : ℕ) (s : SymId) (own
   definitions_now =
       definitions_made
       ∙ ap (λ l. l ++ here ∷ []) w.definitions
-      ∙ sym (definitions_passed ss i (ConfigLine s) own h ∙ ap (λ o. definitions_before ss i ++ cons_option (option_map (definition_at ss i) o) []) symbol_here)
+      ∙ sym (definitions_passed ss i (ConfigLine s) own h ∙ ap (λ o. definitions_before ss i ++ cons_option (option_map (definition_facts_at ss i) o) []) symbol_here)
 
   count : length before ≡ length old.tables.definitions.items
   count = length-map old.tables.definitions.items (definition_facts old.tables)
@@ -173,7 +173,7 @@ module _ (ss : List Numbered) (symbols : List Symbol) (i : ℕ) (s : SymId) (own
 
   number_is : source.0 ≡ definition_number ss i
   number_is =
-      m.number ∙ sym count ∙ ap length w.definitions ∙ length-given (symbol_at ss) (definition_at ss) (numbers i)
+      m.number ∙ sym count ∙ ap length w.definitions ∙ length-given (symbol_at ss) (definition_facts_at ss) (numbers i)
 
   -- Reverse dependencies.
   lines_made : new.tables.reverses ≡ last.tables.reverses
@@ -390,7 +390,7 @@ module _ (ss : List Numbered) (symbols : List Symbol) (i : ℕ) (s : SymId) (own
       open_moves ss i after new.tables.contexts new.blocks (enclosing_passed ss i (ConfigLine s) own h ∙ enclosing-no ss i (ConfigLine s) h.at refl)
       (subst (AreOpen ss i new.tables.contexts) (sym blocks_same) (open_carries ss i old.tables.contexts new.tables.contexts old.blocks carried old.within old.visible w.blocks))
 
-  pub walk_defines : IsWalk ss symbols (place_after i own) new
+  pub walk_defines : IsWalk ss symbols (index_after i own) new
   walk_defines = record {
     blocks = blocks_now;
     definitions = definitions_now;

@@ -20,7 +20,7 @@ use Rattle.kc_read.specs.declared.statement.Keyword.TheVariants as key
 use Rattle.kc_read.specs.Blocks.{definitions, defined_name}
 use Rattle.kc_read.specs.Expansion.{FileContext, Log, Refused, Rest, Expands, bytes_cause, context_of, limit_cause, with_file, nothing_read, refused, root_context, symbol_cause, with_line, defined, lexemes, at_end, unclosed, too_long, no_tokens, blank, bad_line, over_limit, statement, bad_source, refused_inside, source}
 use Rattle.kc_read.specs.Files.{Files}
-use Rattle.kc_read.specs.Lines.{LineContext, After, Cause, ReadsTarget, ReadsType, begins_with, cause, left_out, syntax_cause, ReadsLine, ReadsPlaced, ReadsRest, attribute_words, block_words, left_out_words, type_words, ReadsWhole, ReadsCondition, ReadsValue, ReadsPrompt, choice_line, finish, good_name, in_place, is_good_name, keyword_in, keyword_of, keyword_words, known, operand_of, option_line, placement_cause, plain_text, named_target, text_of, word_of, expected}
+use Rattle.kc_read.specs.Lines.{LineContext, After, Cause, ReadsTarget, ReadsType, begins_with, cause, left_out, syntax_cause, ReadsLine, ReadsPlaced, ReadsRest, attribute_words, block_words, left_out_words, type_words, ReadsWhole, ReadsCondition, ReadsValue, ReadsPrompt, choice_line, finish, good_name, in_place, is_good_name, keyword_in, keyword_of, keyword_words, keyword_or_refusal, operand_of, option_line, placement_cause, plain_text, named_target, text_of, word_of, expected}
 use Rattle.kc_read.specs.Progress.{defined_after, naming_cause}
 use Rattle.kc_read.specs.Numbering.{located_numbered}
 use Rattle.kc_read.specs.Statements.{InputPrompt, Named, Located, numbered, ConfigLine, IfLine, EndIfLine, CommentLine, SourceLine, MenuLine, EndMenuLine, ChoiceLine, EndChoiceLine, MainMenuLine, TypeLine, PromptLine, DefaultLine, DefLine, DependsLine, VisibleLine, SelectLine, ImplyLine, RangeLine, HelpLine, ModulesLine, IgnoredLine, statements}
@@ -186,13 +186,13 @@ placed_of c w ts k s g h = by (placement_cause c w ts k) h
     by None e = rest_of w k ts s g e
     by (Some why) e = absurd (let f : ◌≡◌ {A = Result Named Cause} (Ok s) (Err why) = e in cc)
 
-worded_of : (c : LineContext) (w : List ℕ) (ts : List Lexeme) (o : Option Keyword) (s : Named) → keyword_of w ≡ o → After (known o) (ReadsPlaced c w ts) (Ok s) → IsAllowed s
+worded_of : (c : LineContext) (w : List ℕ) (ts : List Lexeme) (o : Option Keyword) (s : Named) → keyword_of w ≡ o → After (keyword_or_refusal o) (ReadsPlaced c w ts) (Ok s) → IsAllowed s
 worded_of c w ts None s e h = absurd (let f : ◌≡◌ {A = Result Named Cause} (Ok s) (Err syntax_cause) = h in cc)
 worded_of c w ts (Some k) s e h = placed_of c w ts k s (key_of w k e) h
 
 line_of : (c : LineContext) (ts : List Lexeme) (s : Named) → ReadsLine c ts (Ok s) → IsAllowed s
 line_of c ts s h =
-    after (word_of ts) (λ w. After (known (keyword_of w)) (ReadsPlaced c w (drop 1 ts))) s h (λ w e. worded_of c w (drop 1 ts) (keyword_of w) s refl e)
+    after (word_of ts) (λ w. After (keyword_or_refusal (keyword_of w)) (ReadsPlaced c w (drop 1 ts))) s h (λ w e. worded_of c w (drop 1 ts) (keyword_of w) s refl e)
 
 -- The defined names: symbols may have them, and there are no more than there may be.
 pub record AreNames (names : List (List ℕ)) : Type 0 where

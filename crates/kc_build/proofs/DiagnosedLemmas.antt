@@ -39,7 +39,7 @@ use Rattle.kc_build.specs.Warnings.{bad_defaults, bad_members, is_bad_default, i
 use Rattle.kc_build.proofs.KindLemmas.{choices_known, kinds_known}
 use Rattle.kc_build.proofs.ListLemmas.{there_in}
 use Rattle.kc_build.proofs.MemberLemmas.{below_or_past, member_is}
-use Rattle.kc_build.proofs.MenuEntryLemmas.{asks, entry_goes_on, entry_here, prompt_begins, prompt_goes_on}
+use Rattle.kc_build.proofs.MenuEntryLemmas.{has_prompt, entry_goes_on, entry_here, prompt_begins, prompt_goes_on}
 use Rattle.kc_build.proofs.PlaceLemmas.{filter-next, flat_map-next}
 use Rattle.kc_build.proofs.StatementLemmas.{statements-are}
 
@@ -300,10 +300,10 @@ module _ (names : List (List ℕ)) (ls : List (Located Numbered)) (symbols : Lis
       let one : is_attribute l.statement ≡ true = All-head (λ s. is_attribute s ≡ true) l.statement (map (λ l. l.statement) own) a in
       let more = All-tail (λ s. is_attribute s ≡ true) l.statement (map (λ l. l.statement) own) a in
       let next = line_next names ls symbols below are summary prompted i l d (attribute_known prompted i l at one e p) f in
-      let asked : (prompted || asks l.statement) ≡ prompt_before ss (i + 1) = ap (λ b. b || asks l.statement) p ∙ turned (prompt_before ss i) (asks l.statement)
+      let asked : (prompted || has_prompt l.statement) ≡ prompt_before ss (i + 1) = ap (λ b. b || has_prompt l.statement) p ∙ turned (prompt_before ss i) (has_prompt l.statement)
       ∙ sym (prompt_goes_on ss i l.statement read one) in
       let there : i + length (l ∷ own) ≡ (i + 1) + length own = omega arith in
-      rw there (attributes_next own rest (i + 1) (prompted || asks l.statement) (line_diagnosed names symbols summary prompted l d)
+      rw there (attributes_next own rest (i + 1) (prompted || has_prompt l.statement) (line_diagnosed names symbols summary prompted l d)
       (drop_dropped ls i l (own ++ rest) h) more (entry_goes_on ss i l.statement read one ∙ e) asked next)
     where
       turned : (a b : Bool) → (a || b) ≡ (b || a)
@@ -341,15 +341,15 @@ module _ (names : List (List ℕ)) (ls : List (Located Numbered)) (symbols : Lis
       unread (inr z) = rw z refl
 
   -- behind what begins an entry a prompt stands, if it is its own
-  head_asked : (i : ℕ) (s : Numbered) → slice_get (statements ls) i ≡ Some s → ((is_attribute s ≡ false) ⊎ (i ≡ 0)) → asks s ≡ prompt_before (statements ls) (i + 1)
+  head_asked : (i : ℕ) (s : Numbered) → slice_get (statements ls) i ≡ Some s → ((is_attribute s ≡ false) ⊎ (i ≡ 0)) → has_prompt s ≡ prompt_before (statements ls) (i + 1)
   head_asked i s at (inl a) = ap is_some (no_prompt s a) ∙ sym (prompt_begins (statements ls) i s at a)
   head_asked i s at (inr z) = by (is_attribute s) refl
     where
-      by : (b : Bool) → is_attribute s ≡ b → asks s ≡ prompt_before (statements ls) (i + 1)
+      by : (b : Bool) → is_attribute s ≡ b → has_prompt s ≡ prompt_before (statements ls) (i + 1)
       by false a = ap is_some (no_prompt s a) ∙ sym (prompt_begins (statements ls) i s at a)
       by true a =
           let none : prompt_before (statements ls) i ≡ false = rw z refl in
-          sym (prompt_goes_on (statements ls) i s at a ∙ ap (λ b. asks s || b) none ∙ or_false (asks s))
+          sym (prompt_goes_on (statements ls) i s at a ∙ ap (λ b. has_prompt s || b) none ∙ or_false (has_prompt s))
 
   entry_next : (i : ℕ) (head : Located Numbered) (own rest : List (Located Numbered)) (d : Diagnosis) → slice_get ls i ≡ Some head →
       drop (i + 1) ls ≡ own ++ rest → attributes (statements ls) i ≡ map (λ l. l.statement) own → ((is_attribute head.statement ≡ false) ⊎ (i ≡ 0)) →
@@ -360,7 +360,7 @@ module _ (names : List (List ℕ)) (ls : List (Located Numbered)) (symbols : Lis
       let read = statement_read names ls i head at in
       let passed : All (λ s. is_attribute s ≡ true) (map (λ l. l.statement) own) =
       All-same (λ s. is_attribute s ≡ true) (map (λ l. l.statement) own) (attributes ss i) (sym are_own) (taken_pass is_attribute (drop (suc i) ss)) in
-      attributes_next own rest (i + 1) (asks head.statement) (line_diagnosed names symbols summary false head d) tail passed (entry_here ss i ∙ sym is.entry)
+      attributes_next own rest (i + 1) (has_prompt head.statement) (line_diagnosed names symbols summary false head d) tail passed (entry_here ss i ∙ sym is.entry)
       (head_asked i head.statement read begins) (line_next names ls symbols below are summary false i head d (head_known i head at is begins) f)
 
   -- one entry more

@@ -11,8 +11,8 @@ use Rattle.kc_read.specs.declared.statement.Block.TheVariants as block
 use Rattle.kc_read.specs.Statements.{Numbered, ConfigLine, IfLine, EndIfLine, CommentLine, MenuLine, EndMenuLine, ChoiceLine, EndChoiceLine, MainMenuLine}
 use Rattle.kc_read.specs.Blocks.{NoBracket, bracket, enclosing, is_attribute, numbers}
 use Rattle.kc_build.specs.Before.{definition_line, definitions_before, entries_before, members_before}
-use Rattle.kc_build.specs.Facts.{entry_at, is_member_place, naming_at, of_block, symbol_at, symbol_of, title_of}
-use Rattle.kc_build.specs.Walks.{IsHead, place_after}
+use Rattle.kc_build.specs.Facts.{shown_at, is_member_index, naming_at, of_block, symbol_at, symbol_of, title_of}
+use Rattle.kc_build.specs.Walks.{IsHead, index_after}
 use Rattle.kc_build.proofs.BlockLemmas.{enclosing-no, take-next}
 use Rattle.kc_build.proofs.PlaceLemmas.{filter-next, filter_map-next, flat_map-next}
 
@@ -34,7 +34,7 @@ pub attribute_title : (s : Numbered) → is_attribute s ≡ true → title_of s 
 attribute_title (MainMenuLine t) e = absurd cc
 attribute_title _ e = refl
 
-pub attribute_entry : (ss : List Numbered) (j : ℕ) (s : Numbered) → is_attribute s ≡ true → entry_at ss j (Some s) ≡ None
+pub attribute_entry : (ss : List Numbered) (j : ℕ) (s : Numbered) → is_attribute s ≡ true → shown_at ss j (Some s) ≡ None
 attribute_entry ss j (ConfigLine t) e = absurd cc
 attribute_entry ss j (MenuLine t) e = absurd cc
 attribute_entry ss j EndMenuLine e = absurd cc
@@ -66,7 +66,7 @@ stay f p (suc n) h =
 
 module _ (ss : List Numbered) (i : ℕ) (head : Numbered) (own : List Numbered) (h : IsHead ss i head own) where
   abbrev pub after : ℕ
-  after = place_after i own
+  after = index_after i own
 
   -- the lines behind the first one are attributes
   between : (k : ℕ) → k < length own → (s : Numbered) × (slice_get ss (i + 1 + k) ≡ Some s) × (is_attribute s ≡ true)
@@ -102,19 +102,19 @@ module _ (ss : List Numbered) (i : ℕ) (head : Numbered) (own : List Numbered) 
   pub names_passed : (line : Numbered → Option (Option Form)) → flat_map (naming_at ss line) (numbers after) ≡ flat_map (naming_at ss line) (numbers i) ++ naming_at ss line i
   names_passed line = flat_map_over (naming_at ss line) (λ j s at e. rw (no_symbol j s at e) refl)
 
-  pub entries_passed : entries_before ss after ≡ entries_before ss i ++ cons_option (entry_at ss i (Some head)) []
+  pub entries_passed : entries_before ss after ≡ entries_before ss i ++ cons_option (shown_at ss i (Some head)) []
   entries_passed =
-      filter_map_over (λ j. entry_at ss j (slice_get ss j)) (λ j s at e. ap (entry_at ss j) at ∙ attribute_entry ss j s e)
-      ∙ ap (λ (o : Option Numbered). entries_before ss i ++ cons_option (entry_at ss i o) []) h.at
+      filter_map_over (λ j. shown_at ss j (slice_get ss j)) (λ j s at e. ap (shown_at ss j) at ∙ attribute_entry ss j s e)
+      ∙ ap (λ (o : Option Numbered). entries_before ss i ++ cons_option (shown_at ss i o) []) h.at
 
   -- the members of a choice
   abbrev pub member_line : ℕ → ℕ → List SymId
-  member_line k j = filter_map (symbol_at ss) (if is_member_place ss k j then j ∷ [] else [])
+  member_line k j = filter_map (symbol_at ss) (if is_member_index ss k j then j ∷ [] else [])
 
   members_next : (k j : ℕ) → members_before ss (j + 1) k ≡ members_before ss j k ++ member_line k j
   members_next k j =
-      ap (filter_map (symbol_at ss)) (filter-next (is_member_place ss k) j)
-      ∙ filter_map-append (symbol_at ss) (filter (is_member_place ss k) (numbers j)) (if is_member_place ss k j then j ∷ [] else [])
+      ap (filter_map (symbol_at ss)) (filter-next (is_member_index ss k) j)
+      ∙ filter_map-append (symbol_at ss) (filter (is_member_index ss k) (numbers j)) (if is_member_index ss k j then j ∷ [] else [])
 
   pub members_passed : (k : ℕ) → members_before ss after k ≡ members_before ss i k ++ member_line k i
   members_passed k =

@@ -9,7 +9,7 @@ use Rattle.kc_read.specs.StatementViews.{statement_view}
 use Rattle.kc_read.specs.Statements.{Numbered, MainMenuLine}
 use Rattle.kc_read.specs.Blocks.{Closes, NoBracket, bracket, last_of}
 use Rattle.kc_tree.specs.declared.rows.Symbol.{Symbol}
-use Rattle.kc_build.specs.Facts.{entry_at, symbol_of, title_of}
+use Rattle.kc_build.specs.Facts.{shown_at, symbol_of, title_of}
 use Rattle.kc_build.specs.Walks.{Enters}
 use Rattle.kc_build.specs.declared.entries.EntryWalk.{EntryWalk}
 use Rattle.kc_build.proofs.CloserLemmas.{extends_equal}
@@ -23,13 +23,13 @@ pub record IsEnd (s : Numbered) : Type 0 where
   pub closes : bracket s ≡ Closes
   pub symbol : symbol_of (Some s) ≡ None
   pub title : title_of s ≡ None
-  pub entry : (ss : List Numbered) (i : ℕ) → entry_at ss i (Some s) ≡ None
+  pub entry : (ss : List Numbered) (i : ℕ) → shown_at ss i (Some s) ≡ None
 
 pub record IsIdle (s : Numbered) : Type 0 where
   pub passes : bracket s ≡ NoBracket
   pub symbol : symbol_of (Some s) ≡ None
   pub title : title_of s ≡ None
-  pub entry : (ss : List Numbered) (i : ℕ) → entry_at ss i (Some s) ≡ None
+  pub entry : (ss : List Numbered) (i : ℕ) → shown_at ss i (Some s) ≡ None
 
 pub end_is : (s : Statement) → (s ≡ made.EndIf) ⊎ (s ≡ made.EndChoice) → IsEnd (statement_view s)
 end_is s (inl e) = rw e (record { closes = refl; symbol = refl; title = refl; entry = λ ss i. refl })

@@ -5,7 +5,7 @@ use Rattle.std.specs.Option.{option_map}
 use Rattle.kc_expr.specs.declared.expression.SymId.{SymId}
 use Rattle.kc_read.specs.Statements.{Numbered, Located, ConfigLine, MenuLine, EndMenuLine, CommentLine}
 use Rattle.kc_tree.specs.TreeFacts.{Condition, Shown, SymbolShown, MenuShown, EndShown, CommentShown, TreeFacts, IsDefined, IsModeBelow, IsEntrySound}
-use Rattle.kc_build.specs.Facts.{dependency, entry_at, entry_number, is_first_definition, enclosing_block, places, shown_when, symbol_at, symbol_of}
+use Rattle.kc_build.specs.Facts.{dependency, shown_at, shown_number, is_first_definition, enclosing_block, indices, shown_when, symbol_at, symbol_of}
 use Rattle.kc_build.specs.SymbolRows.{AreBelow}
 use Rattle.kc_build.proofs.ElementLemmas.{filter_map-from}
 use Rattle.kc_build.proofs.FormedLemmas.{defined_if, line_statements, sound_at, tree}
@@ -34,11 +34,11 @@ module _ (names : List (List ℕ)) (count : ℕ) (modules : SymId) (ls : List (L
         let same : SymbolShown s ≡ e = cc in
         subst IsSoundShown same (defined_if names count modules ls s (below p s at))
 
-    end_sound : (o : Option ℕ) (e : Shown) → option_map (λ j. EndShown (entry_number statements j)) o ≡ Some e → IsSoundShown e
+    end_sound : (o : Option ℕ) (e : Shown) → option_map (λ j. EndShown (shown_number statements j)) o ≡ Some e → IsSoundShown e
     end_sound None e h = absurd cc
-    end_sound (Some j) e h = let same : EndShown (entry_number statements j) ≡ e = cc in subst IsSoundShown same tt
+    end_sound (Some j) e h = let same : EndShown (shown_number statements j) ≡ e = cc in subst IsSoundShown same tt
 
-    shown_sound : (p : ℕ) (o : Option Numbered) (e : Shown) → slice_get statements p ≡ o → entry_at statements p o ≡ Some e → IsSoundShown e
+    shown_sound : (p : ℕ) (o : Option Numbered) (e : Shown) → slice_get statements p ≡ o → shown_at statements p o ≡ Some e → IsSoundShown e
     shown_sound p (Some (ConfigLine s)) e at h = symbol_sound p s e (is_first_definition statements p s) (ap symbol_of at) h
     shown_sound p (Some (MenuLine t)) e at h =
         let same : MenuShown t (shown_when statements p) ≡ e = cc in
@@ -51,7 +51,7 @@ module _ (names : List (List ℕ)) (count : ℕ) (modules : SymId) (ls : List (L
 
     all_shown : (i : ℕ) (e : Shown) → slice_get whole.entries i ≡ Some e → IsSoundShown e
     all_shown i e h =
-        let p = filter_map-from (λ i. entry_at statements i (slice_get statements i)) e (places statements) i h in
+        let p = filter_map-from (λ i. shown_at statements i (slice_get statements i)) e (indices statements) i h in
         shown_sound p.0 (slice_get statements p.0) e refl p.1
 
     pub entries_sound : ((i menu : ℕ) → slice_get whole.entries i ≡ Some (EndShown menu) → IsMenuBefore i menu) → (i : ℕ) (e : Shown) → slice_get whole.entries i ≡ Some e → IsEntrySound whole i e

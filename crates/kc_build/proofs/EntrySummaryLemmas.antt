@@ -14,7 +14,7 @@ use Rattle.kc_tree.specs.declared.rows.ChoiceId.{ChoiceId}
 use Rattle.kc_tree.specs.declared.rows.Symbol.{Symbol}
 use Rattle.kc_tree.specs.Contexts.{condition_in, mode_view}
 use Rattle.kc_tree.specs.Layouts.{definition_facts}
-use Rattle.kc_build.specs.Before.{definition_at}
+use Rattle.kc_build.specs.Before.{definition_facts_at}
 use Rattle.kc_build.specs.declared.blocks.BlockScope.{BlockScope}
 use Rattle.kc_build.specs.declared.diagnostics.MenuEntry.TheVariants as menu_entry
 use Rattle.kc_build.specs.declared.entries.EntryWalk.{EntryWalk}
@@ -60,7 +60,7 @@ module _ (ss : List Numbered) (symbols : List Symbol) (i : ℕ) (head : Numbered
   -- how many definitions and choices stand before it
   pub definition_count : length w.tables.definitions.items ≡ definition_number ss i
   definition_count =
-      sym (length-map w.tables.definitions.items (definition_facts w.tables)) ∙ ap length k.definitions ∙ length-given (symbol_at ss) (definition_at ss) (numbers i)
+      sym (length-map w.tables.definitions.items (definition_facts w.tables)) ∙ ap length k.definitions ∙ length-given (symbol_at ss) (definition_facts_at ss) (numbers i)
 
   -- it is the first definition of its symbol
   pub first_is : (s : SymId) (n : ℕ) → head ≡ ConfigLine s → n ≡ length w.tables.definitions.items → first_by symbols s n ≡ is_first_definition_at ss i

@@ -9,7 +9,7 @@ use Rattle.kc_read.specs.StatementViews.{statement_view}
 use Rattle.kc_read.specs.Statements.{Numbered}
 use Rattle.kc_read.specs.Blocks.{attributes, is_attribute}
 use Rattle.kc_build.specs.Passes.{statements_of}
-use Rattle.kc_build.specs.Walks.{IsHead, place_after}
+use Rattle.kc_build.specs.Walks.{IsHead, index_after}
 use Rattle.kc_build.proofs.EnterLemmas.{get_behind}
 use Rattle.kc_build.proofs.PlaceLemmas.{statement_at}
 
@@ -46,7 +46,7 @@ module _ (ls : List Line) (i end : ℕ) (counted : end ≡ i + 1 + prefix_len is
       let here = statement_at ls i x h at in
       record { at = here; attributes_are = sym own_is; begins = b (statement_view x.statement) here }
 
-  pub end_is : end ≡ place_after i own_statements
+  pub end_is : end ≡ index_after i own_statements
   end_is =
       let size : length own_statements ≡ prefix_len is_attribute (drop (suc i) (statements_of ls)) = ap length own_is ∙ length-prefix_len is_attribute (drop (suc i) (statements_of ls)) in
       let same : prefix_len is_attribute (drop (i + 1) (statements_of ls)) ≡ prefix_len is_attribute (drop (suc i) (statements_of ls)) =

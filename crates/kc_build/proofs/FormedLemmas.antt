@@ -11,7 +11,7 @@ use Rattle.kc_read.specs.Blocks.{numbers, attributes, last_of}
 use Rattle.kc_read.specs.Statements.{InputPrompt, Numbered, Located, RangeLine}
 use Rattle.kc_tree.specs.TreeFacts.{Condition, Guarded, Bounds, TreeFacts, AreLinesSound, IsModeBelow, IsDefined}
 use Rattle.kc_tree.specs.Common.{listed}
-use Rattle.kc_build.specs.Facts.{prompt_of, prompt_condition, can_be_target, enclosing_choice, choices, defaults_at, guarded_default, definitions_of, dependency, imply_of, guarded_symbol, naming_at, places, prompt_at, guarded_range, select_of, stated_default, symbol_at, symbol_facts}
+use Rattle.kc_build.specs.Facts.{prompt_of, prompt_condition, can_be_target, enclosing_choice, choices, defaults_at, guarded_default, definitions_of, dependency, imply_of, guarded_symbol, naming_at, indices, prompt_at, guarded_range, select_of, stated_default, symbol_at, symbol_facts}
 use Rattle.kc_build.specs.SymbolRows.{AreBelow}
 use Rattle.kc_build.specs.Trees.{facts_with}
 use Rattle.kc_build.proofs.ElementLemmas.{All-if, All-filter_map, All-flat_map, All-map_each}
@@ -69,10 +69,10 @@ module _ (names : List (List ℕ)) (count : ℕ) (modules : SymId) (ls : List (L
         (filter_map line (attributes line_statements i))) (All-nil NamesSound)
 
     names_sound : (line : Numbered → Option (Option Form)) (t : SymId) →
-        All NamesSound (if can_be_target line_statements t then flat_map (naming_at line_statements line) (places line_statements) else [])
+        All NamesSound (if can_be_target line_statements t then flat_map (naming_at line_statements line) (indices line_statements) else [])
     names_sound line t =
-        All-if NamesSound (can_be_target line_statements t) (flat_map (naming_at line_statements line) (places line_statements))
-        (All-flat_map NamesSound (naming_at line_statements line) (λ i. names_by line i (symbol_at line_statements i) refl) (places line_statements))
+        All-if NamesSound (can_be_target line_statements t) (flat_map (naming_at line_statements line) (indices line_statements))
+        (All-flat_map NamesSound (naming_at line_statements line) (λ i. names_by line i (symbol_at line_statements i) refl) (indices line_statements))
 
     lines_sound : (s : SymId) → AreLinesSound tree (symbol_facts line_statements s)
     lines_sound s = record {

@@ -33,7 +33,7 @@ use Rattle.kc_tree.specs.TreeFacts.{Condition, Guarded, Bounds, MenuShown, Comme
 use Rattle.kc_build.specs.EntryLines.{default_row, range_row}
 use Rattle.kc_build.specs.Growth.{IsGrown}
 use Rattle.kc_build.specs.WalkResult.{AreRowsThere, IsEntryThere, IsSpanBelow, IsTitleThere}
-use Rattle.kc_build.specs.Stacks.{AreBlocksPlain, AreBlocksVisible, AreBlocksWithin, AreOpen, AreTitlesWithin, AsksNothing, block_view}
+use Rattle.kc_build.specs.Stacks.{AreBlocksPlain, AreBlocksVisible, AreBlocksWithin, AreOpen, AreTitlesWithin, IsTopEmpty, block_view}
 use Rattle.kc_build.specs.declared.blocks.BlockScope.{BlockScope}
 use Rattle.kc_build.specs.declared.blocks.Blocks.{Blocks}
 use Rattle.kc_build.specs.declared.entries.EntryWalk.{EntryWalk}
@@ -183,7 +183,7 @@ module _ (old new : List Condition) (g : Extends old new) where
   block_alike b w v =
       let within = g.keeps b.within.0 w in
       let visible = g.keeps b.visible.0 v in
-      λ i. record { parts = (within i).parts; visible = (visible i).parts; mode = (within i).mode; entry = b.entry }
+      λ i. record { conjuncts = (within i).conjuncts; visible = (visible i).conjuncts; mode = (within i).mode; entry = b.entry }
 
 module _ (old new : List Condition) (g : Carries old new) where
   pub plain_carries : (v : ℕ) → v < length old → IsPlain old v → IsPlain new v
@@ -429,7 +429,7 @@ open_carries ss i old new blocks g = open_extends ss i old new blocks (extends o
 
 -- What a walk keeps of its contexts, blocks and titles.
 pub record AreHeld (conditions : List Condition) (blocks : Blocks) (ts : List Title) : Type 0 where
-  pub asks_nothing : AsksNothing conditions
+  pub top_is_empty : IsTopEmpty conditions
   pub top_plain : IsPlain conditions 0
   pub within : AreBlocksWithin conditions blocks
   pub visible : AreBlocksVisible conditions blocks
@@ -437,13 +437,13 @@ pub record AreHeld (conditions : List Condition) (blocks : Blocks) (ts : List Ti
   pub titles : AreTitlesWithin conditions ts
 
 pub held_by : (w : EntryWalk) → AreHeld w.tables.contexts w.blocks w.tables.titles.items
-held_by w = record { asks_nothing = w.asks_nothing; top_plain = w.top_plain; within = w.within; visible = w.visible; plain = w.plain; titles = w.titles }
+held_by w = record { top_is_empty = w.top_is_empty; top_plain = w.top_plain; within = w.within; visible = w.visible; plain = w.plain; titles = w.titles }
 
 pub held_extends : (old new : List Condition) (blocks : Blocks) (ts : List Title) → Extends old new → AreHeld old blocks ts → AreHeld new blocks ts
 held_extends old new blocks ts g h =
     let some : 0 < length old = (let w = h.within 0 blocks.innermost refl in omega arith) in
     record {
-      asks_nothing = ap (λ (c : Condition). length c.parts) (g.keeps 0 some) ∙ h.asks_nothing;
+      top_is_empty = ap (λ (c : Condition). length c.conjuncts) (g.keeps 0 some) ∙ h.top_is_empty;
       top_plain = plain_extends old new g 0 some h.top_plain;
       within = within_extends old new g blocks h.within;
       visible = visible_extends old new g blocks h.visible;
@@ -477,12 +477,12 @@ keeping conditions ds cs ts k = (
 
 abbrev pub Holding : List Condition → List Title → Blocks → Type 0
 Holding conditions ts blocks =
-    AsksNothing conditions × (IsPlain conditions 0 ×
+    IsTopEmpty conditions × (IsPlain conditions 0 ×
     (AreBlocksWithin conditions blocks × (AreBlocksVisible conditions blocks × (AreBlocksPlain conditions blocks × (AreTitlesWithin conditions ts × Unit {0})))))
 
 pub holding : (conditions : List Condition) (ts : List Title) (blocks : Blocks) → AreHeld conditions blocks ts → Holding conditions ts blocks
 holding conditions ts blocks h =
-    (h.asks_nothing, (h.top_plain, (h.within, (h.visible, (h.plain, (h.titles, tt))))))
+    (h.top_is_empty, (h.top_plain, (h.within, (h.visible, (h.plain, (h.titles, tt))))))
 
 -- The same with more contexts.
 pub keeping_carries : (w : EntryWalk) (new : List Condition) → Carries w.tables.contexts new → Keeping new w.tables.definitions.items w.tables.choices.items w.tables.titles.items
@@ -524,7 +524,7 @@ keeping_title w b t new e v p =
           }),
       holding w.tables.contexts new w.blocks
           (record {
-            asks_nothing = h.asks_nothing;
+            top_is_empty = h.top_is_empty;
             top_plain = h.top_plain;
             within = h.within;
             visible = h.visible;

@@ -11,13 +11,13 @@ use Rattle.kc_tree.specs.declared.rows.Title.{Title}
 use Rattle.kc_tree.specs.Contexts.{IsPlain, and_also, condition_in}
 use Rattle.kc_tree.specs.TreeFacts.{Condition}
 use Rattle.kc_build.specs.Growth.{IsGrown, Stands}
-use Rattle.kc_build.specs.Stacks.{AreBlocksPlain, AreBlocksVisible, AreBlocksWithin, AreTitlesWithin, AsksNothing, IsClosed, open_scopes}
+use Rattle.kc_build.specs.Stacks.{AreBlocksPlain, AreBlocksVisible, AreBlocksWithin, AreTitlesWithin, IsTopEmpty, IsClosed, open_scopes}
 use Rattle.kc_build.specs.declared.blocks.BlockScope.{BlockScope}
 use Rattle.kc_build.specs.declared.blocks.Blocks.{Blocks}
 use Rattle.kc_build.specs.declared.entries.EntryWalk.{EntryWalk}
 use Rattle.kc_build.proofs.GrownLemmas.{AreHeld, Carries, Holding, Keeping, carries_grown, carries_push, carries_same, further, get_front, get_last, get_pushed, held_by, held_carries, holding, keeping_carries, plain_carries}
 use Rattle.kc_build.proofs.OpenLemmas.{ends}
-use Rattle.kc_tree.specs.Layouts.{with_parts}
+use Rattle.kc_tree.specs.Layouts.{with_conjuncts}
 
 -- a context inside another one, where there was memory for it
 pub carries_added : {T E : Type 0} (r : Result T E) (old new : List Condition) (j : ℕ) (f : Form) → j < length old → OnOk r (new ≡ old ++ and_also (condition_in old j) f ∷ []) →
@@ -76,7 +76,7 @@ module _ (conditions : List Condition) (old new : Blocks) (ts : List Title) (h :
       OnErr r (open_scopes new ≡ open_scopes old) → block.within.0 < length conditions → block.visible.0 < length conditions →
       IsPlain conditions block.visible.0 → AreHeld conditions new ts
   held_opens r block inner outer e within visible plain = record {
-    asks_nothing = h.asks_nothing;
+    top_is_empty = h.top_is_empty;
     top_plain = h.top_plain;
     within = each_opens (λ (b : BlockScope). b.within.0 < length conditions) old new h.within r block inner outer e within;
     visible = each_opens (λ (b : BlockScope). b.visible.0 < length conditions) old new h.visible r block inner outer e visible;
@@ -86,7 +86,7 @@ module _ (conditions : List Condition) (old new : Blocks) (ts : List Title) (h :
 
   pub held_closes : IsClosed old new → AreHeld conditions new ts
   held_closes c = record {
-    asks_nothing = h.asks_nothing;
+    top_is_empty = h.top_is_empty;
     top_plain = h.top_plain;
     within = each_closes (λ (b : BlockScope). b.within.0 < length conditions) old new h.within c;
     visible = each_closes (λ (b : BlockScope). b.visible.0 < length conditions) old new h.visible c;
@@ -109,7 +109,7 @@ carries_visible w b middle new n e f g =
 
 -- What is asked of what is visible in an entry stays plain.
 pub plain_visible : (w : EntryWalk) (b : BlockScope) (middle new : List Condition) (id n : ℕ) (fs : List Form) → b ≡ w.blocks.innermost → Carries w.tables.contexts middle →
-    Stands new id (with_parts (condition_in middle b.visible.0) fs) → IsPlain new id
+    Stands new id (with_conjuncts (condition_in middle b.visible.0) fs) → IsPlain new id
 plain_visible w b middle new id n fs e f s =
     ap (λ (c : Condition). is_some c.mode) s.is
     ∙ ap (λ (x : BlockScope). is_some (condition_in middle x.visible.0).mode) e
@@ -126,7 +126,7 @@ keeping_both w new g = (keeping_carries w new g, holding new w.tables.titles.ite
 -- What is held, as a goal asks for it by the names of the ghost fields.
 pub held_fields : (conditions : List Condition) (blocks : Blocks) (ts : List Title) → AreHeld conditions blocks ts →
     record {
-      asks_nothing : AsksNothing conditions;
+      top_is_empty : IsTopEmpty conditions;
       top_plain : IsPlain conditions 0;
       within : AreBlocksWithin conditions blocks;
       visible : AreBlocksVisible conditions blocks;
@@ -134,4 +134,4 @@ pub held_fields : (conditions : List Condition) (blocks : Blocks) (ts : List Tit
       titles : AreTitlesWithin conditions ts;
     }
 held_fields conditions blocks ts h =
-    record { asks_nothing = h.asks_nothing; top_plain = h.top_plain; within = h.within; visible = h.visible; plain = h.plain; titles = h.titles }
+    record { top_is_empty = h.top_is_empty; top_plain = h.top_plain; within = h.within; visible = h.visible; plain = h.plain; titles = h.titles }

@@ -20,7 +20,7 @@ use Rattle.kc_tree.specs.Layouts.{DefinitionFacts, facts_at, facts_by, facts_of,
 use Rattle.kc_tree.specs.Contexts.{mode_view}
 use Rattle.kc_tree.specs.Spans.{definition_ids}
 use Rattle.kc_tree.specs.Common.{is_symbol_of}
-use Rattle.kc_build.specs.Before.{definition_at, definition_line, definitions_before}
+use Rattle.kc_build.specs.Before.{definition_facts_at, definition_line, definitions_before}
 use Rattle.kc_build.specs.Facts.{choice_of, definitions_of, impliers_of, kind_of, selectors_of, symbol_at, symbol_facts}
 use Rattle.kc_build.specs.SymbolRows.{AreSymbols, SymbolRow, definition_number, row_of, row_view}
 use Rattle.kc_build.proofs.BlockLemmas.{numbers_from, numbers-from}
@@ -93,10 +93,10 @@ module _ (ss : List Numbered) where
   abbrev all_definitions : List DefinitionFacts
   all_definitions = definitions_before ss (length ss)
 
-  definition_here : (j : ℕ) (t : SymId) → j < length ss → symbol_at ss j ≡ Some t → slice_get all_definitions (definition_number ss j) ≡ Some (definition_at ss j t)
+  definition_here : (j : ℕ) (t : SymId) → j < length ss → symbol_at ss j ≡ Some t → slice_get all_definitions (definition_number ss j) ≡ Some (definition_facts_at ss j t)
   definition_here j t l e =
-      let so_many : length (filter_map (definition_line ss) (numbers j)) ≡ definition_number ss j = length-given (symbol_at ss) (definition_at ss) (numbers j) in
-      ap (slice_get all_definitions) (sym so_many) ∙ given_at (definition_line ss) (length ss) j (definition_at ss j t) l (ap (option_map (definition_at ss j)) e)
+      let so_many : length (filter_map (definition_line ss) (numbers j)) ≡ definition_number ss j = length-given (symbol_at ss) (definition_facts_at ss) (numbers j) in
+      ap (slice_get all_definitions) (sym so_many) ∙ given_at (definition_line ss) (length ss) j (definition_facts_at ss j t) l (ap (option_map (definition_facts_at ss j)) e)
 
   -- of a symbol's definitions among the first places
   abbrev is_of : SymId → ℕ → Bool
@@ -109,29 +109,29 @@ module _ (ss : List Numbered) where
   abbrev found : List ℕ → List DefinitionFacts
   found ps = filter_map (λ j. slice_get all_definitions (definition_number ss j)) ps
 
-  found_snoc : (s : SymId) (n : ℕ) (b : Bool) → n < length ss → is_of s n ≡ b → found (filter (is_of s) (numbers n)) ≡ map (λ j. definition_at ss j s) (filter (is_of s) (numbers n)) →
-      found (filter (is_of s) (numbers n) ++ (if b then n ∷ [] else [])) ≡ map (λ j. definition_at ss j s) (filter (is_of s) (numbers n) ++ (if b then n ∷ [] else []))
+  found_snoc : (s : SymId) (n : ℕ) (b : Bool) → n < length ss → is_of s n ≡ b → found (filter (is_of s) (numbers n)) ≡ map (λ j. definition_facts_at ss j s) (filter (is_of s) (numbers n)) →
+      found (filter (is_of s) (numbers n) ++ (if b then n ∷ [] else [])) ≡ map (λ j. definition_facts_at ss j s) (filter (is_of s) (numbers n) ++ (if b then n ∷ [] else []))
   found_snoc s n false l e h = rw (append-nil (filter (is_of s) (numbers n))) h
   found_snoc s n true l e h =
-      let here : slice_get all_definitions (definition_number ss n) ≡ Some (definition_at ss n s) = definition_here n s l (defined_by s n (symbol_at ss n) refl e) in
+      let here : slice_get all_definitions (definition_number ss n) ≡ Some (definition_facts_at ss n s) = definition_here n s l (defined_by s n (symbol_at ss n) refl e) in
       filter_map-append (λ j. slice_get all_definitions (definition_number ss j)) (filter (is_of s) (numbers n)) (n ∷ [])
       ∙ ap (λ o. found (filter (is_of s) (numbers n)) ++ cons_option o []) here
-      ∙ ap (λ l. l ++ definition_at ss n s ∷ []) h
-      ∙ sym (map-append (λ j. definition_at ss j s) (filter (is_of s) (numbers n)) (n ∷ []))
+      ∙ ap (λ l. l ++ definition_facts_at ss n s ∷ []) h
+      ∙ sym (map-append (λ j. definition_facts_at ss j s) (filter (is_of s) (numbers n)) (n ∷ []))
 
-  found_to : (s : SymId) (n : ℕ) → n ≤ length ss → found (filter (is_of s) (numbers n)) ≡ map (λ j. definition_at ss j s) (filter (is_of s) (numbers n))
+  found_to : (s : SymId) (n : ℕ) → n ≤ length ss → found (filter (is_of s) (numbers n)) ≡ map (λ j. definition_facts_at ss j s) (filter (is_of s) (numbers n))
   found_to s zero l = refl
   found_to s (suc n) l =
       let split : filter (is_of s) (numbers (suc n)) ≡ filter (is_of s) (numbers n) ++ (if is_of s n then n ∷ [] else []) = filter-append (is_of s) (numbers n) (n ∷ []) in
       rw split (found_snoc s n (is_of s n) (omega arith) refl (found_to s n (omega arith)))
 
-  found_all : (s : SymId) → found (definitions_of ss s) ≡ map (λ j. definition_at ss j s) (definitions_of ss s)
+  found_all : (s : SymId) → found (definitions_of ss s) ≡ map (λ j. definition_facts_at ss j s) (definitions_of ss s)
   found_all s = found_to s (length ss) (omega arith)
 
   -- the facts of a symbol by its definitions
-  facts_are : (s : SymId) → facts_by (kind_of ss s) (choice_of ss s) (map (λ j. definition_at ss j s) (definitions_of ss s)) (selectors_of ss s) (impliers_of ss s) ≡ symbol_facts ss s
+  facts_are : (s : SymId) → facts_by (kind_of ss s) (choice_of ss s) (map (λ j. definition_facts_at ss j s) (definitions_of ss s)) (selectors_of ss s) (impliers_of ss s) ≡ symbol_facts ss s
   facts_are s =
-      let at = λ (j : ℕ). definition_at ss j s in
+      let at = λ (j : ℕ). definition_facts_at ss j s in
       let ds = definitions_of ss s in
       let d = map-twice (λ (f : DefinitionFacts). f.dependency) at ds in
       let p = filter_map-map (λ (f : DefinitionFacts). f.prompt) at ds in
@@ -155,7 +155,7 @@ module _ (ss : List Numbered) (t : Tables) (definitions_are : map (layouts.defin
       sym (slice_get-map (layouts.definition_facts t) t.definitions.items id.0) ∙ ap (λ (ds : List DefinitionFacts). slice_get ds id.0) definitions_are
 
   row_definitions : (s : SymId) (ids : List DefinitionId) → map (λ (d : DefinitionId). d.0) ids ≡ map (definition_number ss) (definitions_of ss s) →
-      filter_map (layouts.definition_at t) ids ≡ map (λ j. definition_at ss j s) (definitions_of ss s)
+      filter_map (layouts.definition_at t) ids ≡ map (λ j. definition_facts_at ss j s) (definitions_of ss s)
   row_definitions s ids e =
       filter_map-same (layouts.definition_at t) (λ (d : DefinitionId). slice_get (all_definitions ss) d.0) ids row_definition
       ∙ sym (filter_map-map (slice_get (all_definitions ss)) (λ (d : DefinitionId). d.0) ids)
@@ -170,7 +170,7 @@ module _ (ss : List Numbered) (t : Tables) (definitions_are : map (layouts.defin
       let c = ap (λ (r : SymbolRow). r.choice) e in
       let d = row_definitions (symbol i) (definition_ids s) (ap (λ (r : SymbolRow). r.definitions) e) in
       let now = facts_by s.kind (mode_view s.choice) (filter_map (layouts.definition_at t) (definition_ids s)) (selectors_at t i) (impliers_at t i) in
-      let defined = map (λ j. definition_at ss j (symbol i)) (definitions_of ss (symbol i)) in
+      let defined = map (λ j. definition_facts_at ss j (symbol i)) (definitions_of ss (symbol i)) in
       let said : now ≡ facts_by (kind_of ss (symbol i)) (choice_of ss (symbol i)) defined (selectors_of ss (symbol i)) (impliers_of ss (symbol i)) =
       λ j. facts_by (k j) (c j) (d j) (a j) (b j) in
       said ∙ facts_are ss (symbol i)

@@ -10,7 +10,7 @@ use Rattle.kc_read.specs.Statements.{Numbered}
 use Rattle.kc_read.specs.Blocks.{numbers}
 use Rattle.kc_expr.specs.Names.{same_symbol}
 use Rattle.kc_tree.specs.Common.{is_symbol_of, listed}
-use Rattle.kc_build.specs.Facts.{is_first_definition, symbol_at, symbol_of, first_of, enclosing_choice, choice_of, kind_of, is_member, is_member_place, definitions_of, places}
+use Rattle.kc_build.specs.Facts.{is_first_definition, symbol_at, symbol_of, first_of, enclosing_choice, choice_of, kind_of, is_member, is_member_index, definitions_of, indices}
 use Rattle.kc_build.specs.FirstDefinitions.{is_first_definition_at, first_of_symbol}
 use Rattle.kc_build.specs.Warnings.{is_bad_member, bad_members}
 use Rattle.kc_build.proofs.BlockLemmas.{there}
@@ -176,14 +176,14 @@ module _ (ss : List Numbered) (t : SymId) where
       of_one k (definitions_of ss t) (one_definition (length ss) (omega arith) (first_if none (ap is_some e)))
 
   swapped : (k i : ℕ) (o : Option SymId) → symbol_at ss i ≡ o →
-      (is_member_place ss k i && list_any (same_symbol t) (listed (symbol_at ss i))) ≡ (defines i && list_any (is_number k) (listed (enclosing_choice ss i)))
+      (is_member_index ss k i && list_any (same_symbol t) (listed (symbol_at ss i))) ≡ (defines i && list_any (is_number k) (listed (enclosing_choice ss i)))
   swapped k i None e = rw e refl
   swapped k i (Some u) e = rw e (turned (list_any (is_number k) (listed (enclosing_choice ss i))) (same_symbol t u))
 
   pub member_is : bad_members ss ≡ [] → (k : ℕ) → is_member ss k t ≡ list_any (λ d. d == k) (listed (choice_of ss t))
   member_is none k =
-      any_kept (same_symbol t) (symbol_at ss) (is_member_place ss k) (places ss)
-      ∙ same_any (λ (i : ℕ). is_member_place ss k i && list_any (same_symbol t) (listed (symbol_at ss i)))
-      (λ (i : ℕ). defines i && list_any (is_number k) (listed (enclosing_choice ss i))) (places ss) (λ i. swapped k i (symbol_at ss i) refl)
-      ∙ sym (any_kept (is_number k) (enclosing_choice ss) defines (places ss))
+      any_kept (same_symbol t) (symbol_at ss) (is_member_index ss k) (indices ss)
+      ∙ same_any (λ (i : ℕ). is_member_index ss k i && list_any (same_symbol t) (listed (symbol_at ss i)))
+      (λ (i : ℕ). defines i && list_any (is_number k) (listed (enclosing_choice ss i))) (indices ss) (λ i. swapped k i (symbol_at ss i) refl)
+      ∙ sym (any_kept (is_number k) (enclosing_choice ss) defines (indices ss))
       ∙ by_choice k (choice_of ss t) none refl

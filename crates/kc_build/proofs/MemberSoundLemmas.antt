@@ -16,7 +16,7 @@ use Rattle.kc_read.specs.Blocks.{numbers, attributes}
 use Rattle.kc_read.specs.Statements.{Numbered, Located}
 use Rattle.kc_tree.specs.TreeFacts.{Guarded, SymbolFacts, ChoiceFacts, TreeFacts, IsMemberOf, IsChoiceSound, IsListed}
 use Rattle.kc_tree.specs.Common.{listed}
-use Rattle.kc_build.specs.Facts.{StatedDefault, choice_facts, choice_number, choice_of, choice_lines, enclosing_choice, choices, definitions_of, first_of, stated_default, is_member, is_member_place, kind_of, member_default, members_of, guarded_symbol, of_block, places, same_kind, single_symbol, symbol_at, symbol_facts, symbol_of}
+use Rattle.kc_build.specs.Facts.{StatedDefault, choice_facts, choice_number, choice_of, choice_lines, enclosing_choice, choices, definitions_of, first_of, stated_default, is_member, is_member_index, kind_of, member_default, members_of, guarded_symbol, of_block, indices, same_kind, single_symbol, symbol_at, symbol_facts, symbol_of}
 use Rattle.kc_build.specs.FirstDefinitions.{is_first_definition_at}
 use Rattle.kc_build.specs.SymbolRows.{AreBelow}
 use Rattle.kc_build.specs.Warnings.{bad_members, is_bad_member}
@@ -84,20 +84,20 @@ module _ (ss : List Numbered) (none : bad_members ss ≡ []) where
   symbol_within i s (Some x) e h = (x, e, h)
 
   -- a member at a place is one of its choice, and a bool
-  member_there : (k i : ℕ) (s : SymId) → is_member_place ss k i ≡ true → symbol_at ss i ≡ Some s → is_member ss k s ≡ true
+  member_there : (k i : ℕ) (s : SymId) → is_member_index ss k i ≡ true → symbol_at ss i ≡ Some s → is_member ss k s ≡ true
   member_there k i s m h =
       let x = symbol_within i s (slice_get ss i) refl h in
       let l : i < length ss = slice_get_within ss i x.0 x.1 in
       let own : list_any (same_symbol s) (listed (symbol_at ss i)) ≡ true = ap (λ (o : Option SymId). list_any (same_symbol s) (listed o)) h ∙ ap (λ (b : Bool). b || false) (eq-eqb s.0 s.0 refl) in
-      any_kept (same_symbol s) (symbol_at ss) (is_member_place ss k) (places ss)
-      ∙ any_at (λ (y : ℕ). is_member_place ss k y && list_any (same_symbol s) (listed (symbol_at ss y))) (length ss) i l
+      any_kept (same_symbol s) (symbol_at ss) (is_member_index ss k) (indices ss)
+      ∙ any_at (λ (y : ℕ). is_member_index ss k y && list_any (same_symbol s) (listed (symbol_at ss y))) (length ss) i l
       (ap (λ (b : Bool). b && list_any (same_symbol s) (listed (symbol_at ss i))) m ∙ own)
 
-  member_choice : (k i : ℕ) (s : SymId) → is_member_place ss k i ≡ true → symbol_at ss i ≡ Some s → choice_of ss s ≡ Some k
+  member_choice : (k i : ℕ) (s : SymId) → is_member_index ss k i ≡ true → symbol_at ss i ≡ Some s → choice_of ss s ≡ Some k
   member_choice k i s m h =
       number_listed k (choice_of ss s) (sym (member_is ss s none k) ∙ member_there k i s m h)
 
-  member_kind : (k i : ℕ) (s : SymId) → is_member_place ss k i ≡ true → symbol_at ss i ≡ Some s → kind_of ss s ≡ kind.Bool
+  member_kind : (k i : ℕ) (s : SymId) → is_member_index ss k i ≡ true → symbol_at ss i ≡ Some s → kind_of ss s ≡ kind.Bool
   member_kind k i s m h =
       let x = symbol_within i s (slice_get ss i) refl h in
       let l : i < length ss = slice_get_within ss i x.0 x.1 in
@@ -176,13 +176,13 @@ module _ (names : List (List ℕ)) (count : ℕ) (modules : SymId) (ls : List (L
   module _ (below : AreBelow count line_statements) (none : bad_members line_statements ≡ []) where
     members_sound : (k : ℕ) → All (IsMemberOf whole k) (members_of line_statements k)
     members_sound k =
-        All-kept (IsMemberOf whole k) (symbol_at line_statements) (is_member_place line_statements k)
+        All-kept (IsMemberOf whole k) (symbol_at line_statements) (is_member_index line_statements k)
         (λ i s m h. (
           symbol_facts line_statements (symbol s.0),
           facts_at names count modules ls s.0 (below i s h),
           member_choice line_statements none k i s m h,
           member_kind line_statements none k i s m h,
-        )) (places line_statements)
+        )) (indices line_statements)
 
     listed_by : (i k : ℕ) (f g : SymbolFacts) → Some g ≡ Some f → g.choice ≡ choice_of line_statements (symbol i) → f.choice ≡ Some k → (c : ChoiceFacts)
         × (slice_get whole.choices k ≡ Some c) × Contains c.members (symbol i)

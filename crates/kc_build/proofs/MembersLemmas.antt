@@ -14,7 +14,7 @@ use Rattle.kc_tree.specs.TreeFacts.{ChoiceFacts}
 use Rattle.kc_build.specs.Before.{choice_before, choices_before, members_before}
 use Rattle.kc_build.specs.Facts.{choice_number, enclosing_choice, is_block, of_block, symbol_at, symbol_of}
 use Rattle.kc_build.specs.Passes.{change}
-use Rattle.kc_build.specs.Walks.{IsHead, place_after}
+use Rattle.kc_build.specs.Walks.{IsHead, index_after}
 use Rattle.kc_build.specs.WalkSteps.{one_more, with_member}
 use Rattle.kc_build.proofs.EnterLemmas.{blocks_passed, member_line, members_passed}
 use Rattle.kc_build.proofs.GrownLemmas.{map_alike}
@@ -66,7 +66,7 @@ module _ {A : Type 0} (p : ℕ → Bool) (g : A → A) (f h : ℕ → A) (c : �
 -- Behind a `config` entry.
 module _ (ss : List Numbered) (symbols : List Symbol) (i : ℕ) (s : SymId) (own : List Numbered) (h : IsHead ss i (ConfigLine s) own) where
   abbrev after : ℕ
-  after = place_after i own
+  after = index_after i own
 
   symbol_here : symbol_at ss i ≡ Some s
   symbol_here = ap symbol_of h.at

@@ -7,7 +7,7 @@ use Rattle.kc_expr.specs.declared.expression.SymId.{SymId}
 use Rattle.kc_read.specs.Statements.{Numbered, ConfigLine, MenuLine, EndMenuLine}
 use Rattle.kc_read.specs.Blocks.{numbers}
 use Rattle.kc_tree.specs.TreeFacts.{Condition, Shown, SymbolShown, MenuShown, EndShown}
-use Rattle.kc_build.specs.Facts.{enclosing_block, is_first_definition, shows_entry, entry_number, entry_at, entries, shown_when}
+use Rattle.kc_build.specs.Facts.{enclosing_block, is_first_definition, shows_entry, shown_number, shown_at, entries, shown_when}
 use Rattle.kc_build.proofs.BlockLemmas.{there, last_is_nested}
 use Rattle.kc_build.proofs.ChoiceLemmas.{fewer_before}
 use Rattle.kc_build.proofs.ExpansionLemmas.{AreNested}
@@ -90,7 +90,7 @@ module _ {X : Type 0} (f : ℕ → Option X) (p : ℕ → Bool) where
 -- The entries of nested statements.
 module _ (ss : List Numbered) (nested : AreNested ss) where
   abbrev line_entry : ℕ → Option Shown
-  line_entry j = entry_at ss j (slice_get ss j)
+  line_entry j = shown_at ss j (slice_get ss j)
 
   abbrev is_line_entry : ℕ → Bool
   is_line_entry j = shows_entry ss j (slice_get ss j)
@@ -99,7 +99,7 @@ module _ (ss : List Numbered) (nested : AreNested ss) where
   first_tells true s = refl
   first_tells false s = refl
 
-  tells_by : (j : ℕ) (s : Numbered) → slice_get ss j ≡ Some s → shows_entry ss j (Some s) ≡ is_some (entry_at ss j (Some s))
+  tells_by : (j : ℕ) (s : Numbered) → slice_get ss j ≡ Some s → shows_entry ss j (Some s) ≡ is_some (shown_at ss j (Some s))
   tells_by j (ConfigLine s) e = first_tells (is_first_definition ss j s) s
   tells_by j EndMenuLine e =
       let k = menu_closed ss nested j e in
@@ -114,13 +114,13 @@ module _ (ss : List Numbered) (nested : AreNested ss) where
 
   -- the menu that an `endmenu` line closes stands before it among the entries
   menu_before : (i : ℕ) → i < length ss → slice_get ss i ≡ Some EndMenuLine → (k : ℕ) × (enclosing_block ss i ≡ Some k)
-      × ((entry_number ss k < entry_number ss i) × ((text : List ℕ) × (when : Condition)
-      × (slice_get (entries ss) (entry_number ss k) ≡ Some (MenuShown text when))))
+      × ((shown_number ss k < shown_number ss i) × ((text : List ℕ) × (when : Condition)
+      × (slice_get (entries ss) (shown_number ss k) ≡ Some (MenuShown text when))))
   menu_before i l e =
       let k = menu_closed ss nested i e in
       let before = (last_is_nested ss i k.0 (omega arith) k.1).before in
       let opens : is_line_entry k.0 ≡ true = ap (shows_entry ss k.0) k.2.1 in
-      let shown : line_entry k.0 ≡ Some (MenuShown k.2.0 (shown_when ss k.0)) = ap (entry_at ss k.0) k.2.1 in (
+      let shown : line_entry k.0 ≡ Some (MenuShown k.2.0 (shown_when ss k.0)) = ap (shown_at ss k.0) k.2.1 in (
         k.0,
         k.1,
         (
@@ -136,12 +136,12 @@ module _ (ss : List Numbered) (nested : AreNested ss) where
   no_end s menu true h = cc
   no_end s menu false h = cc
 
-  end_by : (j menu : ℕ) (s : Numbered) → j < length ss → slice_get ss j ≡ Some s → entry_at ss j (Some s) ≡ Some (EndShown menu) → IsMenuBefore (entry_number ss j) menu
+  end_by : (j menu : ℕ) (s : Numbered) → j < length ss → slice_get ss j ≡ Some s → shown_at ss j (Some s) ≡ Some (EndShown menu) → IsMenuBefore (shown_number ss j) menu
   end_by j menu (ConfigLine s) l at h = absurd (no_end s menu (is_first_definition ss j s) h)
   end_by j menu EndMenuLine l at h =
       let k = menu_before j l at in
-      let same : entry_number ss k.0 ≡ menu = (let g = (rw (k.1) at h) in cc) in
-      subst (IsMenuBefore (entry_number ss j)) same k.2
+      let same : shown_number ss k.0 ≡ menu = (let g = (rw (k.1) at h) in cc) in
+      subst (IsMenuBefore (shown_number ss j)) same k.2
   end_by j menu (MenuLine t) l at h = absurd cc
   end_by j menu _ l at h = absurd cc
 
@@ -150,4 +150,4 @@ module _ (ss : List Numbered) (nested : AreNested ss) where
   end_names_menu i menu h =
       let j = is_given line_entry is_line_entry (length ss) i (EndShown menu) tells h in
       let s = there ss j.0 j.1 in
-      subst (λ n. IsMenuBefore n menu) (sym j.3) (end_by j.0 menu s.0 j.1 s.1 (sym (ap (entry_at ss j.0) s.1) ∙ j.2))
+      subst (λ n. IsMenuBefore n menu) (sym j.3) (end_by j.0 menu s.0 j.1 s.1 (sym (ap (shown_at ss j.0) s.1) ∙ j.2))

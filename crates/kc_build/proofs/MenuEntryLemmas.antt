@@ -40,28 +40,28 @@ module _ (ss : List Numbered) where
   pub entry_here : (i : ℕ) → menu_entry_before ss (i + 1) ≡ menu_entry_at ss i
   entry_here i = rw add-one refl
 
-abbrev pub asks : Numbered → Bool
-asks s = is_some (prompt_of s)
+abbrev pub has_prompt : Numbered → Bool
+has_prompt s = is_some (prompt_of s)
 
-abbrev asks_in : List Numbered → Bool
-asks_in ss = list_any asks (take_while is_attribute ss)
+abbrev has_prompt_in : List Numbered → Bool
+has_prompt_in ss = list_any has_prompt (take_while is_attribute ss)
 
 run_take : (n : ℕ) (s : Numbered) (ss : List Numbered) → take (1 + n) (s ∷ ss) ≡ s ∷ take n ss
 run_take n s ss = let e : 1 + n ≡ suc n = omega arith in rw e refl
 
-attribute_run : (s : Numbered) (ss : List Numbered) → is_attribute s ≡ true → asks_in (s ∷ ss) ≡ (asks s || asks_in ss)
-attribute_run s ss e = rw e (ap (list_any asks) (run_take (prefix_len is_attribute ss) s ss))
+attribute_run : (s : Numbered) (ss : List Numbered) → is_attribute s ≡ true → has_prompt_in (s ∷ ss) ≡ (has_prompt s || has_prompt_in ss)
+attribute_run s ss e = rw e (ap (list_any has_prompt) (run_take (prefix_len is_attribute ss) s ss))
 
-other_run : (s : Numbered) (ss : List Numbered) → is_attribute s ≡ false → asks_in (s ∷ ss) ≡ false
+other_run : (s : Numbered) (ss : List Numbered) → is_attribute s ≡ false → has_prompt_in (s ∷ ss) ≡ false
 other_run s ss e = rw e refl
 
-turned : (ss : List Numbered) (i : ℕ) (s : Numbered) → slice_get ss i ≡ Some s → prompt_before ss (i + 1) ≡ asks_in (s ∷ reverse (take i ss))
+turned : (ss : List Numbered) (i : ℕ) (s : Numbered) → slice_get ss i ≡ Some s → prompt_before ss (i + 1) ≡ has_prompt_in (s ∷ reverse (take i ss))
 turned ss i s h =
     let back : reverse (take (suc i) ss) ≡ s ∷ reverse (take i ss) = ap reverse (take-next ss i s h) ∙ reverse-append (take i ss) (s ∷ []) in
-    (rw add-one (ap asks_in back))
+    (rw add-one (ap has_prompt_in back))
 
 -- a prompt stands before the line behind an attribute, if it stands before that or is its own
-pub prompt_goes_on : (ss : List Numbered) (i : ℕ) (s : Numbered) → slice_get ss i ≡ Some s → is_attribute s ≡ true → prompt_before ss (i + 1) ≡ (asks s || prompt_before ss i)
+pub prompt_goes_on : (ss : List Numbered) (i : ℕ) (s : Numbered) → slice_get ss i ≡ Some s → is_attribute s ≡ true → prompt_before ss (i + 1) ≡ (has_prompt s || prompt_before ss i)
 prompt_goes_on ss i s h e = turned ss i s h ∙ attribute_run s (reverse (take i ss)) e
 
 -- none stands before the line behind another line

@@ -19,7 +19,7 @@ use Rattle.kc_read.specs.declared.expansion.Expansion.{Expansion}
 use Rattle.kc_read.specs.declared.statement.Line.{Line}
 use Rattle.kc_read.specs.Blocks.{definitions, defined_name}
 use Rattle.kc_read.specs.Expansion.{Log, defined}
-use Rattle.kc_read.specs.Numbering.{known_names, modules_name, names_of, modules_id, located_numbered, numbered_lines}
+use Rattle.kc_read.specs.Numbering.{leading_names, modules_name, names_of, modules_id, located_numbered, numbered_lines}
 use Rattle.kc_read.specs.Expanded.{AreNumbers, IsExpansion, IsNamed}
 use Rattle.kc_read.specs.StatementViews.{line_view}
 use Rattle.kc_read.specs.Statements.{Named, Located, numbered, names_in_statement, ConfigLine, statements}
@@ -149,7 +149,7 @@ all_mentioned-distinct names (w ∷ words) distinct = all_mentioned-distinct (me
 
 pub names-distinct : (ss : List Named) → AreDistinct (names_of ss)
 names-distinct ss =
-    all_mentioned-distinct (known_names ss) (flat_map names_in_statement ss)
+    all_mentioned-distinct (leading_names ss) (flat_map names_in_statement ss)
     (all_mentioned-distinct (defined ss) (modules_name ss ∷ []) (all_mentioned-distinct [] (definitions ss) no_names))
 
 -- The modules symbol, by the name that it has or by the name `MODULES`.
@@ -271,7 +271,7 @@ module _ (log : Log) (e : Expansion) (mentioned : List (List ℕ)) (unknown : Sy
   word = modules_name (statements log.lines)
 
   abbrev known : List (List ℕ)
-  known = known_names (statements log.lines)
+  known = leading_names (statements log.lines)
 
   abbrev final_names : List (List ℕ)
   final_names = names_of (statements log.lines)
@@ -375,7 +375,7 @@ module _ (ss : List Named) where
   pub names_extend : Extends (defined ss) (names_of ss)
   names_extend =
       let first = all_mentioned_extends (defined ss) (modules_name ss ∷ []) in
-      let second = all_mentioned_extends (known_names ss) (flat_map names_in_statement ss) in
+      let second = all_mentioned_extends (leading_names ss) (flat_map names_in_statement ss) in
       (first.0 ++ second.0, second.1 ∙ ap (λ (l : List (List ℕ)). l ++ second.0) first.1 ∙ append_assoc (defined ss) first.0 second.0)
 
   number_is : (n : List ℕ) → list_any (same_name n) (defined ss) ≡ true → number_of (names_of ss) n ≡ number_of (defined ss) n

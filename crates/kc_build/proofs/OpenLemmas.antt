@@ -10,7 +10,7 @@ use Rattle.kc_read.specs.declared.statement.Block.TheVariants as block
 use Rattle.kc_read.specs.Statements.{Numbered}
 use Rattle.kc_read.specs.Blocks.{Opens, Closes, NoBracket, bracket, enclosing, last_of}
 use Rattle.kc_tree.specs.TreeFacts.{Condition}
-use Rattle.kc_build.specs.Facts.{block_parts, choice_number, entry_number, of_block, own_visible}
+use Rattle.kc_build.specs.Facts.{block_conjuncts, choice_number, shown_number, of_block, own_visible}
 use Rattle.kc_build.specs.Scopes.{block_visible}
 use Rattle.kc_build.specs.Stacks.{AreOpen, BlockFacts, IsClosed, block_facts_at, block_view, open_scopes}
 use Rattle.kc_build.specs.declared.blocks.BlockScope.{BlockScope}
@@ -31,26 +31,26 @@ ends {X} (x ∷ xs) = more (ends xs)
 module _ (ss : List Numbered) where
   -- what the scope of the lines in these blocks asks for, the outermost first
   abbrev asked_in : List ℕ → BlockFacts
-  asked_in places = record {
-    parts = flat_map (block_parts ss) places;
-    visible = flat_map (own_visible ss) (filter (of_block ss block.Menu) places);
-    mode = option_map (choice_number ss) (last_of (filter (of_block ss block.Choice) places));
-    entry = option_map (entry_number ss) (last_of places);
+  asked_in indices = record {
+    conjuncts = flat_map (block_conjuncts ss) indices;
+    visible = flat_map (own_visible ss) (filter (of_block ss block.Menu) indices);
+    mode = option_map (choice_number ss) (last_of (filter (of_block ss block.Choice) indices));
+    entry = option_map (shown_number ss) (last_of indices);
   }
 
   -- what the scope of the lines of the block that begins at a place asks for
   abbrev pub asked_inside : ℕ → BlockFacts → BlockFacts
   asked_inside i a = record {
-    parts = a.parts ++ block_parts ss i;
+    conjuncts = a.conjuncts ++ block_conjuncts ss i;
     visible = a.visible ++ block_visible ss i;
     mode = if of_block ss block.Choice i then Some (choice_number ss i) else a.mode;
-    entry = Some (entry_number ss i);
+    entry = Some (shown_number ss i);
   }
 
-  asked_snoc : (places : List ℕ) (k : ℕ) → asked_in (places ++ k ∷ []) ≡ asked_inside k (asked_in places)
-  asked_snoc places k =
-      let r = scope_snoc ss places k in
-      λ j. record { parts = (r j).parts; visible = (r j).visible; mode = (r j).mode; entry = option_map (entry_number ss) ((r j).opened_at) }
+  asked_snoc : (indices : List ℕ) (k : ℕ) → asked_in (indices ++ k ∷ []) ≡ asked_inside k (asked_in indices)
+  asked_snoc indices k =
+      let r = scope_snoc ss indices k in
+      λ j. record { conjuncts = (r j).conjuncts; visible = (r j).visible; mode = (r j).mode; entry = option_map (shown_number ss) ((r j).opened_at) }
 
   module _ (i : ℕ) (s : Numbered) (at : slice_get ss i ≡ Some s) where
     pub asked_opened : (b : opener.Block) → bracket s ≡ Opens b → block_facts_at ss (suc i) ≡ asked_inside i (block_facts_at ss i)

@@ -10,11 +10,11 @@ use Rattle.kc_tree.specs.declared.rows.Symbol.{Symbol}
 use Rattle.kc_tree.specs.Contexts.{and_also, condition_in, top}
 use Rattle.kc_tree.specs.TreeFacts.{Condition}
 use Rattle.kc_build.specs.Before.{main_menu_before}
-use Rattle.kc_build.specs.Facts.{block_parts, choice_number, entry_at, entry_number, of_block, symbol_of}
+use Rattle.kc_build.specs.Facts.{block_conjuncts, choice_number, shown_at, shown_number, of_block, symbol_of}
 use Rattle.kc_build.specs.Scopes.{block_visible}
 use Rattle.kc_build.specs.WalkResult.{IsEntryThere, IsTitleThere}
 use Rattle.kc_build.specs.Stacks.{AreOpen, block_facts_at, block_view}
-use Rattle.kc_build.specs.Walks.{Enters, IsHead, IsWalk, place_after}
+use Rattle.kc_build.specs.Walks.{Enters, IsHead, IsWalk, index_after}
 use Rattle.kc_build.specs.declared.blocks.BlockScope.{BlockScope}
 use Rattle.kc_build.specs.declared.entries.EntryWalk.{EntryWalk}
 use Rattle.kc_build.proofs.GrownLemmas.{Extends, carries_push, extends, open_carries}
@@ -35,12 +35,12 @@ pub record AreSame (old new : EntryWalk) : Type 0 where
 pub record IsQuiet (ss : List Numbered) (i : ℕ) (head : Numbered) : Type 0 where
   pub symbol : symbol_of (Some head) ≡ None
   pub choice : of_block ss block.Choice i ≡ false
-  pub entry : entry_at ss i (Some head) ≡ None
+  pub entry : shown_at ss i (Some head) ≡ None
 
 module _ (ss : List Numbered) (symbols : List Symbol) (i : ℕ) (head : Numbered) (own : List Numbered) (h : IsHead ss i head own) (old new : EntryWalk) (w : IsWalk ss symbols i old) where
   pub quiet_passes : AreSame old new → IsQuiet ss i head → Extends old.tables.contexts new.tables.contexts →
       length new.tables.contexts ≤ length old.tables.contexts + 2 * length own + 2 → AreOpen ss (suc i) new.tables.contexts new.blocks →
-      new.main_menu.items ≡ main_menu_before ss (place_after i own) → IsWalk ss symbols (place_after i own) new
+      new.main_menu.items ≡ main_menu_before ss (index_after i own) → IsWalk ss symbols (index_after i own) new
   quiet_passes s q g few blocks menu =
       walk_passes ss i head own h symbols old new w
       (record {
@@ -67,12 +67,13 @@ module _ (ss : List Numbered) (symbols : List Symbol) (i : ℕ) (head : Numbered
       q.symbol
 
 -- what a block asks for that begins at a place
-pub block_inside : (ss : List Numbered) (i : ℕ) (conditions : List Condition) (b : BlockScope) → (condition_in conditions b.within.0).parts ≡ (block_facts_at ss i).parts ++ block_parts ss i →
-    (condition_in conditions b.visible.0).parts ≡ (block_facts_at ss i).visible ++ block_visible ss i →
-    (condition_in conditions b.within.0).mode ≡ (if of_block ss block.Choice i then Some (choice_number ss i) else (block_facts_at ss i).mode) → b.entry ≡ Some (entry_number ss i) →
+pub block_inside : (ss : List Numbered) (i : ℕ) (conditions : List Condition) (b : BlockScope) →
+    (condition_in conditions b.within.0).conjuncts ≡ (block_facts_at ss i).conjuncts ++ block_conjuncts ss i →
+    (condition_in conditions b.visible.0).conjuncts ≡ (block_facts_at ss i).visible ++ block_visible ss i →
+    (condition_in conditions b.within.0).mode ≡ (if of_block ss block.Choice i then Some (choice_number ss i) else (block_facts_at ss i).mode) → b.entry ≡ Some (shown_number ss i) →
     block_view conditions b ≡ asked_inside ss i (block_facts_at ss i)
 block_inside ss i conditions b p v m e =
-    λ j. record { parts = p j; visible = v j; mode = m j; entry = e j }
+    λ j. record { conjuncts = p j; visible = v j; mode = m j; entry = e j }
 
 -- An `if`.
 module _ (e : Form) (entry : ℕ) (b : BlockScope) (old new : EntryWalk) (same : AreSame old new) (menu : new.main_menu ≡ old.main_menu) (number : entry ≡ length old.tables.entries.items) where
@@ -92,18 +93,18 @@ module _ (e : Form) (entry : ℕ) (b : BlockScope) (old new : EntryWalk) (same :
       let made : condition_in new.tables.contexts b.within.0 ≡ and_also outer e = ap (λ (n : ℕ). condition_in new.tables.contexts n) within
       ∙ ap (λ (l : List Condition). condition_in l (length conditions)) added ∙ get_or_push conditions (and_also outer e) top (length conditions) refl in
       let innermost_is = w.blocks.innermost in
-      let opens : block_parts ss i ≡ e ∷ [] = rw (h.at) refl in
+      let opens : block_conjuncts ss i ≡ e ∷ [] = rw (h.at) refl in
       let nothing : block_visible ss i ≡ [] = rw (h.at) refl in
       let other : of_block ss block.Choice i ≡ false = rw (h.at) refl in
-      let parts : (condition_in new.tables.contexts b.within.0).parts ≡ (block_facts_at ss i).parts ++ block_parts ss i = ap (λ (c : Condition). c.parts) made
-      ∙ ap (λ (l : List Form). l ++ e ∷ []) (ap (λ x. x.parts) innermost_is) ∙ ap (λ (l : List Form). (block_facts_at ss i).parts ++ l) (sym opens) in
-      let seen : (condition_in new.tables.contexts b.visible.0).parts ≡ (block_facts_at ss i).visible ++ block_visible ss i = ap (λ x. (condition_in new.tables.contexts x.0).parts) visible
-      ∙ ap (λ (c : Condition). c.parts) (g.keeps old.blocks.innermost.visible.0 shown) ∙ ap (λ x. x.visible) innermost_is
+      let conjuncts : (condition_in new.tables.contexts b.within.0).conjuncts ≡ (block_facts_at ss i).conjuncts ++ block_conjuncts ss i = ap (λ (c : Condition). c.conjuncts) made
+      ∙ ap (λ (l : List Form). l ++ e ∷ []) (ap (λ x. x.conjuncts) innermost_is) ∙ ap (λ (l : List Form). (block_facts_at ss i).conjuncts ++ l) (sym opens) in
+      let seen : (condition_in new.tables.contexts b.visible.0).conjuncts ≡ (block_facts_at ss i).visible ++ block_visible ss i = ap (λ x. (condition_in new.tables.contexts x.0).conjuncts) visible
+      ∙ ap (λ (c : Condition). c.conjuncts) (g.keeps old.blocks.innermost.visible.0 shown) ∙ ap (λ x. x.visible) innermost_is
       ∙ sym (ap (λ (l : List Form). (block_facts_at ss i).visible ++ l) nothing ∙ append-nil (block_facts_at ss i).visible) in
       let mode : (condition_in new.tables.contexts b.within.0).mode ≡ (if of_block ss block.Choice i then Some (choice_number ss i) else (block_facts_at ss i).mode) =
       ap (λ (c : Condition). c.mode) made ∙ ap (λ x. x.mode) innermost_is ∙ sym (ap (λ (t : Bool). if t then Some (choice_number ss i) else (block_facts_at ss i).mode) other) in
-      let named : b.entry ≡ Some (entry_number ss i) = at ∙ ap Some (number ∙ entry_count ss symbols i old w a.ends) in
-      let inside = ap (block_view new.tables.contexts) inner ∙ block_inside ss i new.tables.contexts b parts seen mode named in
+      let named : b.entry ≡ Some (shown_number ss i) = at ∙ ap Some (number ∙ entry_count ss symbols i old w a.ends) in
+      let inside = ap (block_view new.tables.contexts) inner ∙ block_inside ss i new.tables.contexts b conjuncts seen mode named in
       quiet_passes ss symbols i (IfLine e) own h old new w same
       (record { symbol = refl; choice = other; entry = refl })
       (extends conditions new.tables.contexts g)

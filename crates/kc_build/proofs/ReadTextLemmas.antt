@@ -16,7 +16,7 @@ use Rattle.kc_read.specs.declared.statement.Keyword.{Keyword}
 use Rattle.kc_read.specs.declared.statement.Keyword.TheVariants as key
 use Rattle.kc_read.specs.Expansion.{FileContext, Log, Refused, Rest, Expands, NextLine, bytes_cause, context_of, with_file, nothing_read, refused, root_context, with_line, is_help, lexemes, without_help, at_end, unclosed, too_long, no_tokens, blank, bad_line, over_limit, statement, bad_source, refused_inside, source}
 use Rattle.kc_read.specs.Files.{Files}
-use Rattle.kc_read.specs.Lines.{LineContext, After, Cause, Front, IsCondition, IsWhole, ReadsTarget, ReadsType, ReadsLine, ReadsPlaced, ReadsRest, ReadsWhole, ReadsCondition, ReadsTextLine, ReadsValue, ReadsPrompt, StartsExpression, begins_with, choice_line, expected, finish, front, good_name, in_place, is_good_name, keyword_of, known, left_out, operand_of, option_line, placement_cause, plain_text, syntax_cause, named_target, text_of, word_of}
+use Rattle.kc_read.specs.Lines.{LineContext, After, Cause, Front, IsCondition, IsWhole, ReadsTarget, ReadsType, ReadsLine, ReadsPlaced, ReadsRest, ReadsWhole, ReadsCondition, ReadsTextLine, ReadsValue, ReadsPrompt, StartsExpression, begins_with, choice_line, expected, finish, front, good_name, in_place, is_good_name, keyword_of, keyword_or_refusal, left_out, operand_of, option_line, placement_cause, plain_text, syntax_cause, named_target, text_of, word_of}
 use Rattle.kc_read.specs.Statements.{Statement, InputPrompt, Named, Located, ConfigLine, IfLine, EndIfLine, CommentLine, SourceLine, MenuLine, EndMenuLine, ChoiceLine, EndChoiceLine, MainMenuLine, TypeLine, PromptLine, DefaultLine, DefLine, DependsLine, VisibleLine, SelectLine, ImplyLine, RangeLine, HelpLine, ModulesLine, IgnoredLine, names_in_condition, names_in_statement, value_form, statements}
 use Rattle.kc_tree.specs.TreeFacts.{IsLineText, IsLineForm}
 use Rattle.kc_build.proofs.LineTextLemmas.{AreOneLine, IsLineAtom, IsLineLexeme, IsLineTerminal, all_front, atom_lines, cut_line, file_lines, helped, taken_line, terminal_lines, value_line, word_lines}
@@ -219,8 +219,8 @@ rest_of w key.LeftOut ts s l h = absurd (let e : ◌≡◌ {A = Result Named Cau
 
 line_of : (c : LineContext) (ts : List Lexeme) (s : Named) → AreInLine ts → ReadsLine c ts (Ok s) → IsInLines s
 line_of c ts s l h =
-    after (word_of ts) (λ w. After (known (keyword_of w)) (ReadsPlaced c w (drop 1 ts))) s (IsInLines s) h
-    (λ w e f. after (known (keyword_of w)) (ReadsPlaced c w (drop 1 ts)) s (IsInLines s) f
+    after (word_of ts) (λ w. After (keyword_or_refusal (keyword_of w)) (ReadsPlaced c w (drop 1 ts))) s (IsInLines s) h
+    (λ w e f. after (keyword_or_refusal (keyword_of w)) (ReadsPlaced c w (drop 1 ts)) s (IsInLines s) f
     (λ k g m. after (in_place k (placement_cause c w (drop 1 ts) k)) (λ j. ReadsRest w j (drop 1 ts)) s (IsInLines s) m (λ j i n. rest_of w j (drop 1 ts) s (All-drop IsLineLexeme 1 ts l) n)))
 
 -- The next line: its tokens, and what is left after it.

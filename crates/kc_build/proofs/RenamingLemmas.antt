@@ -8,7 +8,7 @@ use Rattle.kc_expr.specs.Names.{same_name, symbol}
 use Rattle.kc_expr.proofs.NamesLemmas.{names_in_terminals-append, names_in_terminals-closed}
 use Rattle.kc_read.specs.Numbering.{located_numbered}
 use Rattle.kc_read.specs.Statements.{Named, Located, InputPrompt, numbered, prompt_form, names_in_statement, names_in_condition, names_in_prompt, ConfigLine, IfLine, EndIfLine, CommentLine, SourceLine, MenuLine, EndMenuLine, ChoiceLine, EndChoiceLine, MainMenuLine, TypeLine, PromptLine, DefaultLine, DefLine, DependsLine, VisibleLine, SelectLine, ImplyLine, RangeLine, HelpLine, ModulesLine, IgnoredLine, statements}
-use Rattle.kc_build.specs.Renamings.{leaf_renamed, renamed, all_renamed, asked_renamed, statement_renamed, line_renamed}
+use Rattle.kc_build.specs.Renamings.{leaf_renamed, renamed, all_renamed, prompt_renamed, statement_renamed, line_renamed}
 
 module _ {X : Type 0} (P : X → Type 0) where
   front_of : (xs ys : List X) → AllByRecursion P (xs ++ ys) → AllByRecursion P xs
@@ -85,10 +85,10 @@ module _ (f : SymId → SymId) (n k : List ℕ → ℕ) where
     when_is None h = refl
     when_is (Some d) h = ap Some (chain_is d h)
 
-    asked_is : (p : InputPrompt Disjunction) → Agree (names_in_condition p.when) → asked_renamed f (prompt_form c n p) ≡ prompt_form (option_map f c) k p
+    asked_is : (p : InputPrompt Disjunction) → Agree (names_in_condition p.when) → prompt_renamed f (prompt_form c n p) ≡ prompt_form (option_map f c) k p
     asked_is p h = λ i. record { text = []; when = when_is p.when h i }
 
-    prompt_is : (p : Option (InputPrompt Disjunction)) → Agree (names_in_prompt p) → option_map (asked_renamed f) (option_map (prompt_form c n) p) ≡ option_map (prompt_form (option_map f c) k) p
+    prompt_is : (p : Option (InputPrompt Disjunction)) → Agree (names_in_prompt p) → option_map (prompt_renamed f) (option_map (prompt_form c n) p) ≡ option_map (prompt_form (option_map f c) k) p
     prompt_is None h = refl
     prompt_is (Some p) h = ap Some (asked_is p h)
 

@@ -48,7 +48,7 @@ abbrev txt : List ℕ → Form
 txt t = Single (Text t)
 
 abbrev cond : List Form → Option ℕ → Condition
-cond ps m = record { parts = ps; mode = m }
+cond ps m = record { conjuncts = ps; mode = m }
 
 -- what lines say, where nothing is to be refused
 abbrev facts_of_lines : List Named → List (Located Numbered) → TreeFacts

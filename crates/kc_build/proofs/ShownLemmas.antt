@@ -16,7 +16,7 @@ use Rattle.kc_read.specs.Statements.{Named, Numbered, Located, ConfigLine, numbe
 use Rattle.kc_read.proofs.NameLemmas.{known_at}
 use Rattle.kc_tree.specs.TreeFacts.{TreeFacts, ShowsEach, SymbolShown}
 use Rattle.kc_tree.specs.Common.{is_symbol_of}
-use Rattle.kc_build.specs.Facts.{entries, entry_at, is_first_definition, places, symbol_at, symbol_facts, symbol_of}
+use Rattle.kc_build.specs.Facts.{entries, shown_at, is_first_definition, indices, symbol_at, symbol_facts, symbol_of}
 use Rattle.kc_build.specs.Trees.{facts_with}
 use Rattle.kc_build.proofs.ElementLemmas.{kept_at, same_is}
 use Rattle.kc_build.proofs.FirstLemmas.{defined_before, first-is, some_places}
@@ -79,8 +79,8 @@ config_is (Some (ConfigLine t)) s h = ap (λ (u : SymId). Some (ConfigLine u)) (
 config_is (Some _) s h = absurd cc
 
 module _ (ss : List Numbered) where
-  shown_first : (d : ℕ) (s : SymId) → slice_get ss d ≡ Some (ConfigLine s) → is_first_definition ss d s ≡ true → entry_at ss d (slice_get ss d) ≡ Some (SymbolShown s)
-  shown_first d s at first = ap (entry_at ss d) at ∙ ap (λ (b : Bool). if b then Some (SymbolShown s) else None) first
+  shown_first : (d : ℕ) (s : SymId) → slice_get ss d ≡ Some (ConfigLine s) → is_first_definition ss d s ≡ true → shown_at ss d (slice_get ss d) ≡ Some (SymbolShown s)
+  shown_first d s at first = ap (shown_at ss d) at ∙ ap (λ (b : Bool). if b then Some (SymbolShown s) else None) first
 
   -- a symbol that some line defines has an entry
   shown_where : (p : ℕ) (s : SymId) → p < length ss → is_symbol_of s (symbol_at ss p) ≡ true → Contains (entries ss) (SymbolShown s)
@@ -92,7 +92,7 @@ module _ (ss : List Numbered) where
       let none : length (defined_before ss d.0 s.0) ≡ 0 = length-filter (λ j. is_symbol_of s (symbol_at ss j)) (numbers d.0) ∙ k.count in
       let first : is_first_definition ss d.0 s ≡ true = first-is ss d.0 s (omega arith) ∙ no_places_by (defined_before ss d.0 s.0) none in
       let at : slice_get ss d.0 ≡ Some (ConfigLine s) = config_is (slice_get ss d.0) s k.passes in
-      given_at (λ i. entry_at ss i (slice_get ss i)) (places ss) d.0 d.0 (SymbolShown s) (number_at (length ss) d.0 below) (shown_first d.0 s at first)
+      given_at (λ i. shown_at ss i (slice_get ss i)) (indices ss) d.0 d.0 (SymbolShown s) (number_at (length ss) d.0 below) (shown_first d.0 s at first)
 
 -- A defined name is that of some line.
 snoc_from : (xs : List (List ℕ)) (x n : List ℕ) (k : ℕ) → slice_get (xs ++ x ∷ []) k ≡ Some n → (slice_get xs k ≡ Some n) ⊎ (x ≡ n)

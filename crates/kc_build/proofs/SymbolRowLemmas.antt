@@ -20,7 +20,7 @@ use Rattle.kc_build.specs.SymbolWalk.{first_kind, with_member_type, unknown, wit
 use Rattle.kc_build.proofs.EnterLemmas.{attribute_symbol, get_behind, over}
 use Rattle.kc_build.proofs.PlaceLemmas.{length-map_numbers}
 use Rattle.kc_build.proofs.TableLemmas.{defined_before, defined_next, not_defined, same_numbers}
-use Rattle.kc_build.specs.Walks.{IsHead, place_after}
+use Rattle.kc_build.specs.Walks.{IsHead, index_after}
 use Rattle.kc_tree.specs.Contexts.{mode_view}
 
 -- The first of what two lists give, of what a list of lists gives.
@@ -102,9 +102,9 @@ module _ (ss : List Numbered) where
   rows_start count = same_numbers (λ s. unknown) (row_before 0) count (λ s. refl)
 
   -- the attributes of an entry define nothing
-  pub rows_behind : (i : ℕ) (head : Numbered) (own : List Numbered) (count : ℕ) → IsHead ss i head own → map (row_before (i + 1)) (numbers count) ≡ map (row_before (place_after i own)) (numbers count)
+  pub rows_behind : (i : ℕ) (head : Numbered) (own : List Numbered) (count : ℕ) → IsHead ss i head own → map (row_before (i + 1)) (numbers count) ≡ map (row_before (index_after i own)) (numbers count)
   rows_behind i head own count h =
-      same_numbers (row_before (i + 1)) (row_before (place_after i own)) count
+      same_numbers (row_before (i + 1)) (row_before (index_after i own)) count
       (λ s. ap row_by (sym (over ss i head own h (λ j. defined_before ss j s) (λ j x at e. not_defined ss j s (ap (is_symbol_of (symbol s)) (ap symbol_of at ∙ attribute_symbol x e))))))
 
   module _ (typed : AreTypesDefined ss) where

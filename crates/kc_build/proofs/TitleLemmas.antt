@@ -14,14 +14,14 @@ use Rattle.kc_tree.specs.declared.rows.Symbol.{Symbol}
 use Rattle.kc_tree.specs.declared.rows.Title.{Title}
 use Rattle.kc_tree.specs.declared.rows.TitleId.{TitleId}
 use Rattle.kc_tree.specs.Contexts.{condition_in}
-use Rattle.kc_tree.specs.Layouts.{shown_of, shown_when as shown_in, title_condition, title_text, with_parts}
+use Rattle.kc_tree.specs.Layouts.{shown_of, shown_when as shown_in, title_condition, title_text, with_conjuncts}
 use Rattle.kc_tree.specs.TreeFacts.{Condition, CommentShown, MenuShown, Shown}
-use Rattle.kc_build.specs.Facts.{block_parts, choice_number, dependency, depends_form, entry_at, entry_number, of_block, own_dependencies, own_visible, shown_when, symbol_of, title_of, visible_form, enclosing_visible}
+use Rattle.kc_build.specs.Facts.{block_conjuncts, choice_number, dependency, depends_form, shown_at, shown_number, of_block, own_dependencies, own_visible, shown_when, symbol_of, title_of, visible_form, enclosing_visible}
 use Rattle.kc_build.specs.Growth.{IsGrown, Stands}
 use Rattle.kc_build.specs.Scopes.{block_visible}
 use Rattle.kc_build.specs.WalkResult.{IsEntryThere, IsTitleThere}
 use Rattle.kc_build.specs.Stacks.{AreOpen, block_facts_at, block_view}
-use Rattle.kc_build.specs.Walks.{Enters, IsHead, IsWalk, place_after}
+use Rattle.kc_build.specs.Walks.{Enters, IsHead, IsWalk, index_after}
 use Rattle.kc_build.specs.declared.blocks.BlockScope.{BlockScope}
 use Rattle.kc_build.specs.declared.entries.EntryWalk.{EntryWalk}
 use Rattle.kc_build.proofs.GrownLemmas.{Extends, carries_both, carries_grown, extends, get_last, open_carries}
@@ -31,13 +31,13 @@ use Rattle.kc_build.proofs.WalkLemmas.{choices_say_same, entry_count, main_menu_
 
 -- What an entry depends on, by its enclosing block and its own lines.
 module _ (ss : List Numbered) (i : ℕ) (own : List Numbered) (conditions : List Condition) (b : BlockScope) (outside : block_view conditions b ≡ block_facts_at ss i) where
-  pub dependency_is : attributes ss i ≡ own → with_parts (condition_in conditions b.within.0) (filter_map depends_form own) ≡ dependency ss i
+  pub dependency_is : attributes ss i ≡ own → with_conjuncts (condition_in conditions b.within.0) (filter_map depends_form own) ≡ dependency ss i
   dependency_is a =
       let lines : filter_map depends_form own ≡ own_dependencies ss i = sym (ap (filter_map depends_form) a) in
-      λ j. record { parts = (outside j).parts ++ lines j; mode = (outside j).mode }
+      λ j. record { conjuncts = (outside j).conjuncts ++ lines j; mode = (outside j).mode }
 
   -- and what is asked of what is visible
-  pub visible_is : attributes ss i ≡ own → (condition_in conditions b.visible.0).parts ++ filter_map visible_form own ≡ enclosing_visible ss i ++ own_visible ss i
+  pub visible_is : attributes ss i ≡ own → (condition_in conditions b.visible.0).conjuncts ++ filter_map visible_form own ≡ enclosing_visible ss i ++ own_visible ss i
   visible_is a =
       let lines : filter_map visible_form own ≡ own_visible ss i = sym (ap (filter_map visible_form) a) in
       λ j. (outside j).visible ++ lines j
@@ -76,8 +76,8 @@ module _ (ss : List Numbered) (symbols : List Symbol) (i : ℕ) (head : Numbered
   pub titled_passes : (t : Title) (e : ShownEntry) (s : Shown) → AreRest old new → IsTitled ss i head → Extends old.tables.contexts new.tables.contexts →
       length new.tables.contexts ≤ length old.tables.contexts + 2 * length own + 2 → AreOpen ss (suc i) new.tables.contexts new.blocks →
       new.tables.titles.items ≡ old.tables.titles.items ++ t ∷ [] → IsTitleThere new.tables.contexts t → new.tables.entries.items ≡ old.tables.entries.items ++ e ∷ [] →
-      IsEntryThere (length new.tables.titles.items) (length new.tables.entries.items) e → shown_of new.tables e ≡ s → entry_at ss i (Some head) ≡ Some s →
-      IsWalk ss symbols (place_after i own) new
+      IsEntryThere (length new.tables.titles.items) (length new.tables.entries.items) e → shown_of new.tables e ≡ s → shown_at ss i (Some head) ≡ Some s →
+      IsWalk ss symbols (index_after i own) new
   titled_passes t e s r q g few blocks titles title entries there shown says =
       walk_passes ss i head own h symbols old new w
       (record {
@@ -107,7 +107,7 @@ module _ (ss : List Numbered) (symbols : List Symbol) (i : ℕ) (head : Numbered
 -- A comment.
 module _ (text : List ℕ) (own : List Numbered) (old new : EntryWalk) (rest : AreRest old new) (within : ContextId) (t : Title) (id : TitleId) where
   pub comment_enters : IsGrown old.tables.contexts new.tables.contexts (condition_in old.tables.contexts old.blocks.innermost.within.0).mode (length own) →
-      Stands new.tables.contexts within.0 (with_parts (condition_in old.tables.contexts old.blocks.innermost.within.0) (filter_map depends_form own)) → new.blocks ≡ old.blocks →
+      Stands new.tables.contexts within.0 (with_conjuncts (condition_in old.tables.contexts old.blocks.innermost.within.0) (filter_map depends_form own)) → new.blocks ≡ old.blocks →
       new.tables.titles.items ≡ old.tables.titles.items ++ t ∷ [] → t.text.items ≡ text → t.within ≡ within → t.visible ≡ record { 0 = 0 } → id.0 ≡ length old.tables.titles.items →
       new.tables.entries.items ≡ old.tables.entries.items ++ entry.Comment id ∷ [] → (symbols : List Symbol) → Enters symbols (CommentLine text) own old new
   comment_enters grown stands blocks titles said shown_within shown_visible number entries symbols ss i a h w =
@@ -118,10 +118,10 @@ module _ (text : List ℕ) (own : List Numbered) (old new : EntryWalk) (rest : A
       let some : 0 < length new.tables.contexts = (let s = stands.there in omega arith) in
       let depends : condition_in new.tables.contexts t.within.0 ≡ dependency ss i = ap (λ x. condition_in new.tables.contexts x.0) shown_within ∙ stands.is
       ∙ dependency_is ss i own old.tables.contexts old.blocks.innermost w.blocks.innermost h.attributes_are in
-      let nothing : (condition_in new.tables.contexts t.visible.0).parts ≡ [] = ap (λ x. (condition_in new.tables.contexts x.0).parts) shown_visible
-      ∙ nil_from_length (condition_in new.tables.contexts 0).parts new.asks_nothing in
-      let condition : title_condition new.tables t ≡ dependency ss i = (λ j. record { parts = (depends j).parts ++ nothing j; mode = (depends j).mode })
-      ∙ (λ j. record { parts = append-nil (dependency ss i).parts j; mode = (dependency ss i).mode }) in
+      let nothing : (condition_in new.tables.contexts t.visible.0).conjuncts ≡ [] = ap (λ x. (condition_in new.tables.contexts x.0).conjuncts) shown_visible
+      ∙ nil_from_length (condition_in new.tables.contexts 0).conjuncts new.top_is_empty in
+      let condition : title_condition new.tables t ≡ dependency ss i = (λ j. record { conjuncts = (depends j).conjuncts ++ nothing j; mode = (depends j).mode })
+      ∙ (λ j. record { conjuncts = append-nil (dependency ss i).conjuncts j; mode = (dependency ss i).mode }) in
       titled_passes ss symbols i (CommentLine text) own h old new w t (entry.Comment id) (CommentShown text (dependency ss i)) rest
       (record { symbol = refl; choice = rw (h.at) refl; title = refl })
       (extends old.tables.contexts new.tables.contexts g)
@@ -144,9 +144,9 @@ module _ (text : List ℕ) (own : List Numbered) (old new : EntryWalk) (rest : A
 module _ (text : List ℕ) (own : List Numbered) (old new : EntryWalk) (rest : AreRest old new) (middle : List Condition) (within visible : ContextId) (t : Title) (id : TitleId)
     (number : ℕ) (b : BlockScope) where
   pub menu_enters : IsGrown old.tables.contexts middle (condition_in old.tables.contexts old.blocks.innermost.within.0).mode (length own) →
-      Stands middle within.0 (with_parts (condition_in old.tables.contexts old.blocks.innermost.within.0) (filter_map depends_form own)) →
+      Stands middle within.0 (with_conjuncts (condition_in old.tables.contexts old.blocks.innermost.within.0) (filter_map depends_form own)) →
       IsGrown middle new.tables.contexts (condition_in middle old.blocks.innermost.visible.0).mode (length own) →
-      Stands new.tables.contexts visible.0 (with_parts (condition_in middle old.blocks.innermost.visible.0) (filter_map visible_form own)) →
+      Stands new.tables.contexts visible.0 (with_conjuncts (condition_in middle old.blocks.innermost.visible.0) (filter_map visible_form own)) →
       new.tables.titles.items ≡ old.tables.titles.items ++ t ∷ [] → t.text.items ≡ text → t.within ≡ within → t.visible ≡ visible → id.0 ≡ length old.tables.titles.items →
       number ≡ length old.tables.entries.items → new.tables.entries.items ≡ old.tables.entries.items ++ entry.Menu id ∷ [] →
       b ≡ record { within = within; visible = visible; entry = Some number } → new.blocks.innermost ≡ b →
@@ -163,27 +163,27 @@ module _ (text : List ℕ) (own : List Numbered) (old new : EntryWalk) (rest : A
       let one : length new.tables.titles.items ≡ length old.tables.titles.items + 1 = ap length titles ∙ length_push old.tables.titles.items t in
       let depends : condition_in new.tables.contexts within.0 ≡ dependency ss i = k.keeps within.0 stands.there ∙ stands.is
       ∙ dependency_is ss i own old.tables.contexts old.blocks.innermost innermost_is h.attributes_are in
-      let shows : (condition_in new.tables.contexts visible.0).parts ≡ enclosing_visible ss i ++ own_visible ss i = ap (λ (c : Condition). c.parts) sees.is
-      ∙ ap (λ (c : Condition). c.parts ++ filter_map visible_form own) (f.keeps old.blocks.innermost.visible.0 seen)
+      let shows : (condition_in new.tables.contexts visible.0).conjuncts ≡ enclosing_visible ss i ++ own_visible ss i = ap (λ (c : Condition). c.conjuncts) sees.is
+      ∙ ap (λ (c : Condition). c.conjuncts ++ filter_map visible_form own) (f.keeps old.blocks.innermost.visible.0 seen)
       ∙ visible_is ss i own old.tables.contexts old.blocks.innermost innermost_is h.attributes_are in
       let depends_t : condition_in new.tables.contexts t.within.0 ≡ dependency ss i = ap (λ x. condition_in new.tables.contexts x.0) shown_within ∙ depends in
-      let shows_t : (condition_in new.tables.contexts t.visible.0).parts ≡ enclosing_visible ss i ++ own_visible ss i =
-      ap (λ x. (condition_in new.tables.contexts x.0).parts) shown_visible ∙ shows in
-      let grouped = sym (append_assoc (dependency ss i).parts (enclosing_visible ss i) (own_visible ss i)) in
-      let condition : title_condition new.tables t ≡ shown_when ss i = (λ j. record { parts = (depends_t j).parts ++ shows_t j; mode = (depends_t j).mode })
-      ∙ (λ j. record { parts = grouped j; mode = (dependency ss i).mode }) in
-      let opens : own_dependencies ss i ≡ block_parts ss i = rw (h.at) refl in
+      let shows_t : (condition_in new.tables.contexts t.visible.0).conjuncts ≡ enclosing_visible ss i ++ own_visible ss i =
+      ap (λ x. (condition_in new.tables.contexts x.0).conjuncts) shown_visible ∙ shows in
+      let grouped = sym (append_assoc (dependency ss i).conjuncts (enclosing_visible ss i) (own_visible ss i)) in
+      let condition : title_condition new.tables t ≡ shown_when ss i = (λ j. record { conjuncts = (depends_t j).conjuncts ++ shows_t j; mode = (depends_t j).mode })
+      ∙ (λ j. record { conjuncts = grouped j; mode = (dependency ss i).mode }) in
+      let opens : own_dependencies ss i ≡ block_conjuncts ss i = rw (h.at) refl in
       let opens_visible : own_visible ss i ≡ block_visible ss i = rw (h.at) refl in
       let other : of_block ss block.Choice i ≡ false = rw (h.at) refl in
-      let parts : (condition_in new.tables.contexts within.0).parts ≡ (block_facts_at ss i).parts ++ block_parts ss i = ap (λ (c : Condition). c.parts) depends
-      ∙ ap (λ (l : List Form). (block_facts_at ss i).parts ++ l) opens in
-      let visible_parts : (condition_in new.tables.contexts visible.0).parts ≡ (block_facts_at ss i).visible ++ block_visible ss i = shows
+      let conjuncts : (condition_in new.tables.contexts within.0).conjuncts ≡ (block_facts_at ss i).conjuncts ++ block_conjuncts ss i = ap (λ (c : Condition). c.conjuncts) depends
+      ∙ ap (λ (l : List Form). (block_facts_at ss i).conjuncts ++ l) opens in
+      let visible_conjuncts : (condition_in new.tables.contexts visible.0).conjuncts ≡ (block_facts_at ss i).visible ++ block_visible ss i = shows
       ∙ ap (λ (l : List Form). (block_facts_at ss i).visible ++ l) opens_visible in
       let mode : (condition_in new.tables.contexts within.0).mode ≡ (if of_block ss block.Choice i then Some (choice_number ss i) else (block_facts_at ss i).mode) =
       ap (λ (c : Condition). c.mode) depends ∙ sym (ap (λ (x : Bool). if x then Some (choice_number ss i) else (block_facts_at ss i).mode) other) in
-      let named : Some number ≡ Some (entry_number ss i) = ap Some (number_is ∙ entry_count ss symbols i old w a.ends) in
+      let named : Some number ≡ Some (shown_number ss i) = ap Some (number_is ∙ entry_count ss symbols i old w a.ends) in
       let inside = ap (block_view new.tables.contexts) (inner ∙ block_is)
-      ∙ block_inside ss i new.tables.contexts (record { within = within; visible = visible; entry = Some number }) parts visible_parts mode named in
+      ∙ block_inside ss i new.tables.contexts (record { within = within; visible = visible; entry = Some number }) conjuncts visible_conjuncts mode named in
       titled_passes ss symbols i (MenuLine text) own h old new w t (entry.Menu id) (MenuShown text (shown_when ss i)) rest
       (record { symbol = refl; choice = other; title = refl })
       (extends old.tables.contexts new.tables.contexts g)

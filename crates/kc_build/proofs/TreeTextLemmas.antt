@@ -9,10 +9,10 @@ use Rattle.kc_expr.specs.Form.{Form}
 use Rattle.kc_expr.specs.Names.{all_mentioned, mention, number_of, same_name, symbol}
 use Rattle.kc_read.specs.Blocks.{attributes, definitions, is_attribute, has_modules_line, last_of, modules_of, defined_name, numbers}
 use Rattle.kc_read.specs.Expansion.{defined}
-use Rattle.kc_read.specs.Numbering.{known_names, modules_id, modules_name, names_of, numbered_lines, located_numbered}
+use Rattle.kc_read.specs.Numbering.{leading_names, modules_id, modules_name, names_of, numbered_lines, located_numbered}
 use Rattle.kc_read.specs.Statements.{Named, Numbered, Located, ConfigLine, CommentLine, MenuLine, EndMenuLine, MainMenuLine, DefaultLine, DefLine, numbered, names_in_statement, statements}
 use Rattle.kc_tree.specs.TreeFacts.{TreeFacts, SymbolFacts, Guarded, Shown, SymbolShown, MenuShown, EndShown, CommentShown, HasLineTexts, IsLineText, IsLineForm, OfTitle}
-use Rattle.kc_build.specs.Facts.{StatedDefault, guarded_default, defaults_at, definitions_of, dependency, entry_at, entry_number, stated_default, is_first_definition, enclosing_block, places, shown_when, symbol_facts, title_of}
+use Rattle.kc_build.specs.Facts.{StatedDefault, guarded_default, defaults_at, definitions_of, dependency, shown_at, shown_number, stated_default, is_first_definition, enclosing_block, indices, shown_when, symbol_facts, title_of}
 use Rattle.kc_build.specs.Trees.{facts_with}
 use Rattle.kc_build.proofs.ElementLemmas.{All-at, All-cons_option, All-flat_map, All-map_each, filter_map-from}
 use Rattle.kc_build.proofs.ReadTextLemmas.{HasTexts, IsInLines, IsLineValue}
@@ -78,7 +78,7 @@ name_lines : (ss : List Named) → All IsInLines ss → All IsLineText (names_of
 name_lines ss h =
     let first : All IsLineText (defined ss) = mentioned_all [] (definitions ss) (All-nil IsLineText) (definition_names ss h) in
     let modules : IsLineText (modules_name ss) = unless_named (modules_of ss) (codes "MODULES") (modules_line ss h) modules_word in
-    mentioned_all (known_names ss) (flat_map names_in_statement ss)
+    mentioned_all (leading_names ss) (flat_map names_in_statement ss)
     (mentioned_all (defined ss) (modules_name ss ∷ []) first (All-cons IsLineText (modules_name ss) [] modules (All-nil IsLineText))) (statement_names ss h)
 
 -- The numbered statements.
@@ -102,11 +102,11 @@ module _ (ss : List Numbered) (texts : All IsLineNumbered ss) where
   first_shown s e false h = absurd cc
   first_shown s e true h = let same : SymbolShown s ≡ e = cc in subst (OfTitle IsLineText) same tt
 
-  end_shown : (o : Option ℕ) (e : Shown) → option_map (λ j. EndShown (entry_number ss j)) o ≡ Some e → OfTitle IsLineText e
+  end_shown : (o : Option ℕ) (e : Shown) → option_map (λ j. EndShown (shown_number ss j)) o ≡ Some e → OfTitle IsLineText e
   end_shown None e h = absurd cc
-  end_shown (Some j) e h = let same : EndShown (entry_number ss j) ≡ e = cc in subst (OfTitle IsLineText) same tt
+  end_shown (Some j) e h = let same : EndShown (shown_number ss j) ≡ e = cc in subst (OfTitle IsLineText) same tt
 
-  shown_by : (p : ℕ) (o : Option Numbered) (e : Shown) → slice_get ss p ≡ o → entry_at ss p o ≡ Some e → OfTitle IsLineText e
+  shown_by : (p : ℕ) (o : Option Numbered) (e : Shown) → slice_get ss p ≡ o → shown_at ss p o ≡ Some e → OfTitle IsLineText e
   shown_by p (Some (ConfigLine s)) e at h = first_shown s e (is_first_definition ss p s) h
   shown_by p (Some (MenuLine t)) e at h =
       let same : MenuShown t (shown_when ss p) ≡ e = cc in
@@ -117,9 +117,9 @@ module _ (ss : List Numbered) (texts : All IsLineNumbered ss) where
       subst (OfTitle IsLineText) same (text_at p (CommentLine t) at)
   shown_by p _ e at h = absurd cc
 
-  entry_title : (i : ℕ) (e : Shown) → slice_get (filter_map (λ p. entry_at ss p (slice_get ss p)) (places ss)) i ≡ Some e → OfTitle IsLineText e
+  entry_title : (i : ℕ) (e : Shown) → slice_get (filter_map (λ p. shown_at ss p (slice_get ss p)) (indices ss)) i ≡ Some e → OfTitle IsLineText e
   entry_title i e h =
-      let p = filter_map-from (λ p. entry_at ss p (slice_get ss p)) e (places ss) i h in
+      let p = filter_map-from (λ p. shown_at ss p (slice_get ss p)) e (indices ss) i h in
       shown_by p.0 (slice_get ss p.0) e refl p.1
 
   -- the main menu

@@ -20,12 +20,12 @@ use Rattle.kc_tree.specs.declared.reverses.Reverses.{Reverses}
 use Rattle.kc_tree.specs.Layouts.{choice_facts as choice_in, definition_facts, shown_of}
 use Rattle.kc_tree.specs.TreeFacts.{Guarded, Shown, SymbolShown, EndShown}
 use Rattle.kc_build.specs.Before.{choice_before, choices_before, definitions_before, entries_before, impliers_before, main_menu_before, members_before, selectors_before}
-use Rattle.kc_build.specs.Facts.{can_be_target, choice_number, entry_at, entry_number, imply_of, shows_entry, is_first_definition, naming_at, of_block, enclosing_block, select_of, symbol_at, symbol_of, title_of}
+use Rattle.kc_build.specs.Facts.{can_be_target, choice_number, shown_at, shown_number, imply_of, shows_entry, is_first_definition, naming_at, of_block, enclosing_block, select_of, symbol_at, symbol_of, title_of}
 use Rattle.kc_build.specs.SymbolRows.{AreMenusOpened}
 use Rattle.kc_build.specs.ReverseRows.{HaveSources}
 use Rattle.kc_build.specs.WalkResult.{AreRowsThere, IsEntryThere, IsSmall, IsSpanBelow, IsTitleThere}
 use Rattle.kc_build.specs.Stacks.{AreOpen}
-use Rattle.kc_build.specs.Walks.{IsHead, IsWalk, place_after}
+use Rattle.kc_build.specs.Walks.{IsHead, IsWalk, index_after}
 use Rattle.kc_build.specs.declared.entries.EntryWalk.{EntryWalk}
 use Rattle.kc_build.proofs.EnterLemmas.{blocks_passed, definitions_passed, enclosing_passed, entries_passed, member_line, members_passed, names_passed, titles_passed}
 use Rattle.kc_build.proofs.GrownLemmas.{Extends, choice_extends, definition_extends_same, entries_stay, impliers_same, map_alike, selectors_same, shown_extends, titles_stay}
@@ -45,11 +45,11 @@ if_some true s = refl
 if_some false s = refl
 
 module _ (ss : List Numbered) (ends : AreMenusOpened ss) where
-  end_some : (o : Option ℕ) → is_some o ≡ true → true ≡ is_some (option_map (λ j. EndShown (entry_number ss j)) o)
+  end_some : (o : Option ℕ) → is_some o ≡ true → true ≡ is_some (option_map (λ j. EndShown (shown_number ss j)) o)
   end_some None e = absurd cc
   end_some (Some k) e = refl
 
-  tells : (j : ℕ) (o : Option Numbered) → slice_get ss j ≡ o → shows_entry ss j o ≡ is_some (entry_at ss j o)
+  tells : (j : ℕ) (o : Option Numbered) → slice_get ss j ≡ o → shows_entry ss j o ≡ is_some (shown_at ss j o)
   tells j None e = refl
   tells j (Some (ConfigLine s)) e = if_some (is_first_definition ss j s) s
   tells j (Some EndMenuLine) e = end_some (enclosing_block ss j) (ends j e)
@@ -61,16 +61,16 @@ module _ (ss : List Numbered) (ends : AreMenusOpened ss) where
   one_more None = refl
   one_more (Some x) = refl
 
-  pub so_many_entries : (n : ℕ) → length (entries_before ss n) ≡ entry_number ss n
+  pub so_many_entries : (n : ℕ) → length (entries_before ss n) ≡ shown_number ss n
   so_many_entries zero = refl
   so_many_entries (suc n) =
       let before = so_many_entries n in
-      let whole : entries_before ss (suc n) ≡ entries_before ss n ++ cons_option (entry_at ss n (slice_get ss n)) [] =
-      (rw add-one at (filter_map-next (λ j. entry_at ss j (slice_get ss j)) n)) in
-      let here : length (cons_option (entry_at ss n (slice_get ss n)) []) ≡ cond (shows_entry ss n (slice_get ss n)) 1 0 = one_more (entry_at ss n (slice_get ss n))
+      let whole : entries_before ss (suc n) ≡ entries_before ss n ++ cons_option (shown_at ss n (slice_get ss n)) [] =
+      (rw add-one at (filter_map-next (λ j. shown_at ss j (slice_get ss j)) n)) in
+      let here : length (cons_option (shown_at ss n (slice_get ss n)) []) ≡ cond (shows_entry ss n (slice_get ss n)) 1 0 = one_more (shown_at ss n (slice_get ss n))
       ∙ ap (λ (b : Bool). cond b 1 0) (sym (tells n (slice_get ss n) refl)) in
-      let size : length (entries_before ss (suc n)) ≡ length (entries_before ss n) + length (cons_option (entry_at ss n (slice_get ss n)) []) = ap length whole
-      ∙ length-append (entries_before ss n) (cons_option (entry_at ss n (slice_get ss n)) []) in
+      let size : length (entries_before ss (suc n)) ≡ length (entries_before ss n) + length (cons_option (shown_at ss n (slice_get ss n)) []) = ap length whole
+      ∙ length-append (entries_before ss n) (cons_option (shown_at ss n (slice_get ss n)) []) in
       let all = count_next (λ j. shows_entry ss j (slice_get ss j)) n in
       omega arith
 
@@ -81,14 +81,14 @@ module _ (ss : List Numbered) (symbols : List Symbol) (i : ℕ) (w : EntryWalk) 
       ∙ length-map (filter (of_block ss block.Choice) (numbers i)) (choice_before ss symbols i)
       ∙ length-filter (of_block ss block.Choice) (numbers i)
 
-  pub entry_count : AreMenusOpened ss → length w.tables.entries.items ≡ entry_number ss i
+  pub entry_count : AreMenusOpened ss → length w.tables.entries.items ≡ shown_number ss i
   entry_count ends =
       sym (length-map w.tables.entries.items (shown_of w.tables)) ∙ ap length h.entries ∙ so_many_entries ss ends i
 
 -- What an entry that defines no symbol leaves as it is.
 module _ (ss : List Numbered) (i : ℕ) (head : Numbered) (own : List Numbered) (h : IsHead ss i head own) where
   abbrev after : ℕ
-  after = place_after i own
+  after = index_after i own
 
   module _ (none : symbol_of (Some head) ≡ None) where
     no_symbol : symbol_at ss i ≡ None
@@ -150,7 +150,7 @@ module _ (ss : List Numbered) (i : ℕ) (head : Numbered) (own : List Numbered) 
       pub ranges : new.tables.ranges ≡ old.tables.ranges
       pub reverses : new.tables.reverses ≡ old.tables.reverses
       pub blocks : AreOpen ss (suc i) new.tables.contexts new.blocks
-      pub choices : map (choice_in new.tables) new.tables.choices.items ≡ choices_before ss symbols (place_after i own)
+      pub choices : map (choice_in new.tables) new.tables.choices.items ≡ choices_before ss symbols (index_after i own)
       pub few_choices : length new.tables.choices.items ≤ length old.tables.choices.items + 1
       pub titles_more : List Title
       pub titles : new.tables.titles.items ≡ old.tables.titles.items ++ titles_more
@@ -160,8 +160,8 @@ module _ (ss : List Numbered) (i : ℕ) (head : Numbered) (own : List Numbered) 
       pub entries : new.tables.entries.items ≡ old.tables.entries.items ++ entries_more
       pub few_entries : length entries_more ≤ 1
       pub entries_there : All (IsEntryThere (length new.tables.titles.items) (length new.tables.entries.items)) entries_more
-      pub shown : map (shown_of new.tables) entries_more ≡ cons_option (entry_at ss i (Some head)) []
-      pub main_menu : new.main_menu.items ≡ main_menu_before ss (place_after i own)
+      pub shown : map (shown_of new.tables) entries_more ≡ cons_option (shown_at ss i (Some head)) []
+      pub main_menu : new.main_menu.items ≡ main_menu_before ss (index_after i own)
 
     module _ (w : IsWalk ss symbols i old) (p : Passes) (none : symbol_of (Some head) ≡ None) where
       say_same : (k : ℕ) (d : Definition) → slice_get old.tables.definitions.items k ≡ Some d → definition_facts new.tables d ≡ definition_facts old.tables d
@@ -223,7 +223,7 @@ module _ (ss : List Numbered) (i : ℕ) (head : Numbered) (own : List Numbered) 
         choices = (let a = w.small.choices in let b = p.few_choices in omega arith);
       }
 
-      pub walk_passes : IsWalk ss symbols (place_after i own) new
+      pub walk_passes : IsWalk ss symbols (index_after i own) new
       walk_passes = record {
         blocks = open_moves ss (suc i) after new.tables.contexts new.blocks (enclosing_passed ss i head own h) p.blocks;
         definitions = definitions_now;

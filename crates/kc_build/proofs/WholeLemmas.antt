@@ -21,7 +21,7 @@ use Rattle.kc_read.specs.Numbering.{names_of, modules_id, numbered_lines}
 use Rattle.kc_read.specs.Statements.{Named, Numbered, Located, statements}
 use Rattle.kc_tree.specs.TreeFacts.{Condition, EndShown, MenuShown, TreeFacts, IsSymbolName, IsWellFormed}
 use Rattle.kc_tree.specs.Common.{listed}
-use Rattle.kc_build.specs.Facts.{entries, enclosing_choice, choice_of, kind_of, of_block, symbol_facts, places}
+use Rattle.kc_build.specs.Facts.{entries, enclosing_choice, choice_of, kind_of, of_block, symbol_facts, indices}
 use Rattle.kc_build.specs.Trees.{facts_with}
 use Rattle.kc_build.specs.FirstDefinitions.{is_first_definition_at}
 use Rattle.kc_build.specs.Warnings.{bad_members, bad_defaults, is_bad_member, entry_name, whole_list_refusals, menu_entry_at, entry_symbol, refused_at}
@@ -114,7 +114,7 @@ module _ (names : List (List ℕ)) (ls : List (Located Numbered)) where
   none_by (i ∷ is) rest e h =
       let bad = All-head (λ (j : ℕ). bad_at j (slice_get numbered j) ≡ true) i is
       (subst (λ (js : List ℕ). All (λ (j : ℕ). bad_at j (slice_get numbered j) ≡ true) js) e
-      (filter_passes (λ (j : ℕ). bad_at j (slice_get numbered j)) (places numbered))) in
+      (filter_passes (λ (j : ℕ). bad_at j (slice_get numbered j)) (indices numbered))) in
       let all : flat_map (refused_at names ls code.ChoiceMember) (i ∷ is) ≡ [] = append_none (flat_map (refused_at names ls code.ChoiceMember) (i ∷ is)) rest h in
       absurd (not_refused code.ChoiceMember i bad (append_none (refused_at names ls code.ChoiceMember i) (flat_map (refused_at names ls code.ChoiceMember) is) all))
 
@@ -170,7 +170,7 @@ module _ (ls : List (Located Named)) where
       let good = none_bad (names_of (statements ls)) (numbered_lines ls) none in
       record {
         names_differ = names_differ (names_of (statements ls)) distinct;
-        names_known = omega arith;
+        symbols_named = omega arith;
         names_allowed = allowed known;
         symbols_few = omega arith;
         lines_sound = all_sound (names_of (statements ls)) (length (defined (statements ls))) (modules_id (statements ls)) (numbered_lines ls) below;

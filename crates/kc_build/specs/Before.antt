@@ -7,15 +7,15 @@ use Rattle.kc_read.specs.Blocks.{attributes, last_of, numbers}
 use Rattle.kc_read.specs.Statements.{Numbered}
 use Rattle.kc_read.specs.declared.statement.Block.TheVariants as block
 use Rattle.kc_tree.specs.declared.rows.Symbol.{Symbol}
-use Rattle.kc_build.specs.Facts.{StatedDefault, can_be_target, choice_number, defaults_at, dependency, entry_at, stated_default, imply_of, is_member_place, guarded_symbol, naming_at, of_block, prompt_at, guarded_range, select_of, single_symbol, symbol_at, title_of}
+use Rattle.kc_build.specs.Facts.{StatedDefault, can_be_target, choice_number, defaults_at, dependency, shown_at, stated_default, imply_of, is_member_index, guarded_symbol, naming_at, of_block, prompt_at, guarded_range, select_of, single_symbol, symbol_at, title_of}
 use Rattle.kc_build.specs.SymbolRows.{member_by}
 use Rattle.kc_tree.specs.Layouts.{DefinitionFacts}
 use Rattle.kc_tree.specs.TreeFacts.{Guarded, ChoiceFacts, Shown}
 
 module _ (ss : List Numbered) where
   -- the definition that begins at a place; those that begin before a place
-  abbrev pub definition_at : ℕ → SymId → DefinitionFacts
-  definition_at i s = record {
+  abbrev pub definition_facts_at : ℕ → SymId → DefinitionFacts
+  definition_facts_at i s = record {
     symbol = s;
     dependency = dependency ss i;
     prompt = prompt_at ss i;
@@ -24,7 +24,7 @@ module _ (ss : List Numbered) where
   }
 
   abbrev pub definition_line : ℕ → Option DefinitionFacts
-  definition_line i = option_map (definition_at i) (symbol_at ss i)
+  definition_line i = option_map (definition_facts_at i) (symbol_at ss i)
 
   abbrev pub definitions_before : ℕ → List DefinitionFacts
   definitions_before i = filter_map definition_line (numbers i)
@@ -38,7 +38,7 @@ module _ (ss : List Numbered) where
 
   -- the choices that open before a place, with their members before it; what is a member is said by the symbols
   abbrev pub members_before : ℕ → ℕ → List SymId
-  members_before i k = filter_map (symbol_at ss) (filter (is_member_place ss k) (numbers i))
+  members_before i k = filter_map (symbol_at ss) (filter (is_member_index ss k) (numbers i))
 
   abbrev pub default_by : List Symbol → ℕ → StatedDefault → Option (Guarded SymId)
   default_by symbols j g = option_and_then (λ s. if member_by symbols (choice_number ss j) s then Some (guarded_symbol ss j s g.when) else None) (single_symbol g.value)
@@ -55,7 +55,7 @@ module _ (ss : List Numbered) where
 
   -- the entries before a place
   abbrev pub entries_before : ℕ → List Shown
-  entries_before i = filter_map (λ j. entry_at ss j (slice_get ss j)) (numbers i)
+  entries_before i = filter_map (λ j. shown_at ss j (slice_get ss j)) (numbers i)
 
   abbrev pub main_menu_before : ℕ → List ℕ
   main_menu_before i = unwrap_or (last_of (filter_map title_of (take i ss))) (codes "Main menu")

@@ -106,8 +106,8 @@ imply_of t (ImplyLine n w) = if same_symbol n t then Some w else None
 imply_of t _ = None
 
 module _ (ss : List Numbered) where
-  abbrev pub places : List ℕ
-  places = numbers (length ss)
+  abbrev pub indices : List ℕ
+  indices = numbers (length ss)
 
   abbrev pub symbol_at : ℕ → Option SymId
   symbol_at i = symbol_of (slice_get ss i)
@@ -130,12 +130,12 @@ module _ (ss : List Numbered) where
   own_visible i = filter_map visible_form (attributes ss i)
 
   -- what a block that begins at a place asks for
-  abbrev pub block_parts : ℕ → List Form
-  block_parts i = if of_block block.Menu i then own_dependencies i else if_condition (slice_get ss i)
+  abbrev pub block_conjuncts : ℕ → List Form
+  block_conjuncts i = if of_block block.Menu i then own_dependencies i else if_condition (slice_get ss i)
 
   -- the choices, in order; the number of the choice that begins at a place
   abbrev pub choice_lines : List ℕ
-  choice_lines = filter (of_block block.Choice) places
+  choice_lines = filter (of_block block.Choice) indices
 
   abbrev pub choice_number : ℕ → ℕ
   choice_number i = count_by (of_block block.Choice) (numbers i)
@@ -146,20 +146,20 @@ module _ (ss : List Numbered) where
 
   -- what the entry at a place depends on
   abbrev pub dependency : ℕ → Condition
-  dependency i = record { parts = flat_map block_parts (enclosing ss i) ++ own_dependencies i; mode = enclosing_choice i }
+  dependency i = record { conjuncts = flat_map block_conjuncts (enclosing ss i) ++ own_dependencies i; mode = enclosing_choice i }
 
   -- the condition of one of its lines, of a prompt, of a menu
   abbrev pub line_condition : ℕ → Option Form → Condition
-  line_condition i w = record { parts = (dependency i).parts ++ listed w; mode = (dependency i).mode }
+  line_condition i w = record { conjuncts = (dependency i).conjuncts ++ listed w; mode = (dependency i).mode }
 
   abbrev pub enclosing_visible : ℕ → List Form
   enclosing_visible i = flat_map own_visible (filter (of_block block.Menu) (enclosing ss i))
 
   abbrev pub prompt_condition : ℕ → InputPrompt Form → Condition
-  prompt_condition i p = record { parts = (dependency i).parts ++ enclosing_visible i ++ listed p.when; mode = (dependency i).mode }
+  prompt_condition i p = record { conjuncts = (dependency i).conjuncts ++ enclosing_visible i ++ listed p.when; mode = (dependency i).mode }
 
   abbrev pub shown_when : ℕ → Condition
-  shown_when i = record { parts = (dependency i).parts ++ enclosing_visible i ++ own_visible i; mode = (dependency i).mode }
+  shown_when i = record { conjuncts = (dependency i).conjuncts ++ enclosing_visible i ++ own_visible i; mode = (dependency i).mode }
 
   -- of several prompts of one entry the last counts
   abbrev pub prompt_at : ℕ → Option Condition
@@ -177,7 +177,7 @@ module _ (ss : List Numbered) where
 
   -- the places of a symbol's definitions
   abbrev pub definitions_of : SymId → List ℕ
-  definitions_of s = filter (λ i. is_symbol_of s (symbol_at i)) places
+  definitions_of s = filter (λ i. is_symbol_of s (symbol_at i)) indices
 
   abbrev pub attributes_of : SymId → List Numbered
   attributes_of s = flat_map (attributes ss) (definitions_of s)
@@ -201,10 +201,10 @@ module _ (ss : List Numbered) where
   naming_at line i = flat_map (λ s. map (guarded_symbol i s) (filter_map line (attributes ss i))) (listed (symbol_at i))
 
   abbrev pub selectors_of : SymId → List (Guarded SymId)
-  selectors_of t = if can_be_target t then flat_map (naming_at (select_of t)) places else []
+  selectors_of t = if can_be_target t then flat_map (naming_at (select_of t)) indices else []
 
   abbrev pub impliers_of : SymId → List (Guarded SymId)
-  impliers_of t = if can_be_target t then flat_map (naming_at (imply_of t)) places else []
+  impliers_of t = if can_be_target t then flat_map (naming_at (imply_of t)) indices else []
 
   abbrev pub symbol_facts : SymId → SymbolFacts
   symbol_facts s = record {
@@ -219,11 +219,11 @@ module _ (ss : List Numbered) where
   }
 
   -- the members of the choice with a number
-  abbrev pub is_member_place : ℕ → ℕ → Bool
-  is_member_place k i = is_some (symbol_at i) && list_any (λ j. j == k) (listed (enclosing_choice i))
+  abbrev pub is_member_index : ℕ → ℕ → Bool
+  is_member_index k i = is_some (symbol_at i) && list_any (λ j. j == k) (listed (enclosing_choice i))
 
   abbrev pub members_of : ℕ → List SymId
-  members_of k = filter_map symbol_at (filter (is_member_place k) places)
+  members_of k = filter_map symbol_at (filter (is_member_index k) indices)
 
   abbrev pub is_member : ℕ → SymId → Bool
   is_member k s = list_any (same_symbol s) (members_of k)
@@ -253,15 +253,15 @@ module _ (ss : List Numbered) where
   shows_entry i (Some (CommentLine t)) = true
   shows_entry i _ = false
 
-  abbrev pub entry_number : ℕ → ℕ
-  entry_number i = count_by (λ j. shows_entry j (slice_get ss j)) (numbers i)
+  abbrev pub shown_number : ℕ → ℕ
+  shown_number i = count_by (λ j. shows_entry j (slice_get ss j)) (numbers i)
 
-  abbrev pub entry_at : ℕ → Option Numbered → Option Shown
-  entry_at i (Some (ConfigLine s)) = if is_first_definition i s then Some (SymbolShown s) else None
-  entry_at i (Some (MenuLine t)) = Some (MenuShown t (shown_when i))
-  entry_at i (Some EndMenuLine) = option_map (λ j. EndShown (entry_number j)) (enclosing_block i)
-  entry_at i (Some (CommentLine t)) = Some (CommentShown t (dependency i))
-  entry_at i _ = None
+  abbrev pub shown_at : ℕ → Option Numbered → Option Shown
+  shown_at i (Some (ConfigLine s)) = if is_first_definition i s then Some (SymbolShown s) else None
+  shown_at i (Some (MenuLine t)) = Some (MenuShown t (shown_when i))
+  shown_at i (Some EndMenuLine) = option_map (λ j. EndShown (shown_number j)) (enclosing_block i)
+  shown_at i (Some (CommentLine t)) = Some (CommentShown t (dependency i))
+  shown_at i _ = None
 
   abbrev pub entries : List Shown
-  entries = filter_map (λ i. entry_at i (slice_get ss i)) places
+  entries = filter_map (λ i. shown_at i (slice_get ss i)) indices

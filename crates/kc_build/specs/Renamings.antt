@@ -25,8 +25,8 @@ module _ (f : SymId → SymId) where
     all_renamed NoForms = NoForms
     all_renamed (MoreForms x xs) = MoreForms (renamed x) (all_renamed xs)
 
-  abbrev pub asked_renamed : InputPrompt Form → InputPrompt Form
-  asked_renamed a = record { text = a.text; when = option_map renamed a.when }
+  abbrev pub prompt_renamed : InputPrompt Form → InputPrompt Form
+  prompt_renamed a = record { text = a.text; when = option_map renamed a.when }
 
   -- the statement with other symbols
   abbrev pub statement_renamed : Numbered → Numbered
@@ -40,8 +40,8 @@ module _ (f : SymId → SymId) where
   statement_renamed ChoiceLine = ChoiceLine
   statement_renamed EndChoiceLine = EndChoiceLine
   statement_renamed (MainMenuLine t) = MainMenuLine t
-  statement_renamed (TypeLine k p) = TypeLine k (option_map asked_renamed p)
-  statement_renamed (PromptLine p) = PromptLine (asked_renamed p)
+  statement_renamed (TypeLine k p) = TypeLine k (option_map prompt_renamed p)
+  statement_renamed (PromptLine p) = PromptLine (prompt_renamed p)
   statement_renamed (DefaultLine v w) = DefaultLine (renamed v) (option_map renamed w)
   statement_renamed (DefLine k v w) = DefLine k (renamed v) (option_map renamed w)
   statement_renamed (DependsLine e) = DependsLine (renamed e)

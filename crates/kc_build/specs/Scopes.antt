@@ -5,10 +5,10 @@ use Rattle.kc_expr.specs.Form.{Form}
 use Rattle.kc_read.specs.declared.statement.Block.TheVariants as block
 use Rattle.kc_read.specs.Statements.{Numbered, ChoiceLine}
 use Rattle.kc_read.specs.Blocks.{enclosing}
-use Rattle.kc_build.specs.Facts.{of_block, block_parts, own_visible, enclosing_visible, enclosing_choice, enclosing_block}
+use Rattle.kc_build.specs.Facts.{of_block, block_conjuncts, own_visible, enclosing_visible, enclosing_choice, enclosing_block}
 
 pub record Scope : Type 0 where
-  pub parts : List Form
+  pub conjuncts : List Form
   pub visible : List Form
   pub mode : Option ℕ
   pub opened_at : Option ℕ
@@ -25,7 +25,7 @@ module _ (ss : List Numbered) where
   -- the scope of the lines of the block that begins at a place, given the scope of its first line and the choices before
   abbrev pub scope_of_block : ℕ → Scope → ℕ → Scope
   scope_of_block i r choices = record {
-    parts = r.parts ++ block_parts ss i;
+    conjuncts = r.conjuncts ++ block_conjuncts ss i;
     visible = r.visible ++ block_visible i;
     mode = if of_block ss block.Choice i then Some choices else r.mode;
     opened_at = Some i;
@@ -33,4 +33,4 @@ module _ (ss : List Numbered) where
 
   -- the scope of a place
   abbrev pub scope_at : ℕ → Scope
-  scope_at i = record { parts = flat_map (block_parts ss) (enclosing ss i); visible = enclosing_visible ss i; mode = enclosing_choice ss i; opened_at = enclosing_block ss i }
+  scope_at i = record { conjuncts = flat_map (block_conjuncts ss) (enclosing ss i); visible = enclosing_visible ss i; mode = enclosing_choice ss i; opened_at = enclosing_block ss i }

@@ -5,7 +5,7 @@ use Rattle.kc_expr.specs.Form.{Form}
 use Rattle.kc_read.specs.Blocks.{enclosing}
 use Rattle.kc_read.specs.Statements.{Numbered, ChoiceLine}
 use Rattle.kc_tree.specs.Contexts.{IsPlain, condition_in}
-use Rattle.kc_build.specs.Facts.{entry_number, enclosing_block}
+use Rattle.kc_build.specs.Facts.{shown_number, enclosing_block}
 use Rattle.kc_build.specs.Scopes.{scope_at}
 use Rattle.kc_tree.specs.TreeFacts.{Condition}
 use Rattle.kc_tree.specs.declared.rows.Title.{Title}
@@ -14,15 +14,15 @@ use Rattle.kc_build.specs.declared.blocks.Blocks.{Blocks}
 
 -- a block by the conditions of its contexts; its opener is given by the entries before it
 pub record BlockFacts : Type 0 where
-  pub parts : List Form
+  pub conjuncts : List Form
   pub visible : List Form
   pub mode : Option ℕ
   pub entry : Option ℕ
 
 abbrev pub block_view : List Condition → BlockScope → BlockFacts
 block_view conditions b = record {
-  parts = (condition_in conditions b.within.0).parts;
-  visible = (condition_in conditions b.visible.0).parts;
+  conjuncts = (condition_in conditions b.within.0).conjuncts;
+  visible = (condition_in conditions b.visible.0).conjuncts;
   mode = (condition_in conditions b.within.0).mode;
   entry = b.entry;
 }
@@ -30,10 +30,10 @@ block_view conditions b = record {
 -- the scope of a place, with the number of the entries before its innermost block's opener
 abbrev pub block_facts_at : List Numbered → ℕ → BlockFacts
 block_facts_at ss i = record {
-  parts = (scope_at ss i).parts;
+  conjuncts = (scope_at ss i).conjuncts;
   visible = (scope_at ss i).visible;
   mode = (scope_at ss i).mode;
-  entry = option_map (entry_number ss) (enclosing_block ss i);
+  entry = option_map (shown_number ss) (enclosing_block ss i);
 }
 
 -- the open blocks at a place: that of the place, and those of the openers that enclose it
@@ -66,8 +66,8 @@ abbrev pub AreTitlesWithin : List Condition → List Title → Type 0
 AreTitlesWithin conditions ts = (i : ℕ) (t : Title) → slice_get ts i ≡ Some t → t.visible.0 < length conditions
 
 -- the context with the number 0 asks for nothing
-abbrev pub AsksNothing : List Condition → Type 0
-AsksNothing conditions = length (condition_in conditions 0).parts ≡ 0
+abbrev pub IsTopEmpty : List Condition → Type 0
+IsTopEmpty conditions = length (condition_in conditions 0).conjuncts ≡ 0
 
 -- a choice begins where no mode counts
 abbrev pub IsPlainHead : Numbered → Option ℕ → Type 0

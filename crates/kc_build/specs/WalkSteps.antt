@@ -12,7 +12,7 @@ use Rattle.kc_tree.specs.declared.rows.ShownEntry.{ShownEntry}
 use Rattle.kc_tree.specs.declared.rows.ShownEntry.TheVariants as entry
 use Rattle.kc_tree.specs.declared.rows.Title.{Title}
 use Rattle.kc_tree.specs.Contexts.{condition_in}
-use Rattle.kc_tree.specs.Layouts.{DefinitionFacts, definition_facts, with_parts, with_when}
+use Rattle.kc_tree.specs.Layouts.{DefinitionFacts, definition_facts, with_conjuncts, with_when}
 use Rattle.kc_tree.specs.TreeFacts.{ChoiceFacts, Condition}
 use Rattle.kc_build.specs.EntryLines.{default_line, range_line}
 use Rattle.kc_build.specs.Facts.{prompt_of, depends_form}
@@ -32,11 +32,11 @@ with_member (Some k) s cs = change (one_more s) k cs
 
 -- what an entry with these attributes depends on in a block
 abbrev pub dependency_in : stacks.BlockFacts → List Numbered → Condition
-dependency_in a own = record { parts = a.parts ++ filter_map depends_form own; mode = a.mode }
+dependency_in a own = record { conjuncts = a.conjuncts ++ filter_map depends_form own; mode = a.mode }
 
 -- what it says as a definition of a symbol
 abbrev pub made_prompt : stacks.BlockFacts → List Numbered → InputPrompt Form → Condition
-made_prompt a own p = with_when (with_parts (dependency_in a own) a.visible) p.when
+made_prompt a own p = with_when (with_conjuncts (dependency_in a own) a.visible) p.when
 
 abbrev pub made_definition : stacks.BlockFacts → SymId → List Numbered → DefinitionFacts
 made_definition a s own = record {

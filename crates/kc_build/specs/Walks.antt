@@ -31,10 +31,10 @@ pub record IsHead (ss : List Numbered) (i : ℕ) (head : Numbered) (own : List N
   pub begins : (is_attribute head ≡ false) ⊎ (i ≡ 0)
 
 -- the place behind an entry
-abbrev pub place_after : ℕ → List Numbered → ℕ
-place_after i own = i + 1 + length own
+abbrev pub index_after : ℕ → List Numbered → ℕ
+index_after i own = i + 1 + length own
 
 -- the walk goes on behind the entry
 abbrev pub Enters : List Symbol → Numbered → List Numbered → EntryWalk → EntryWalk → Type 0
 Enters symbols head own old new =
-    (ss : List Numbered) (i : ℕ) → HasSymbols ss symbols → IsHead ss i head own → IsWalk ss symbols i old → IsWalk ss symbols (place_after i own) new
+    (ss : List Numbered) (i : ℕ) → HasSymbols ss symbols → IsHead ss i head own → IsWalk ss symbols i old → IsWalk ss symbols (index_after i own) new

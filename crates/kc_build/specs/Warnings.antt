@@ -18,7 +18,7 @@ use Rattle.kc_build.specs.declared.warning.Warning.TheVariants as warning
 use Rattle.kc_build.specs.FirstDefinitions.{is_first_definition_at}
 use Rattle.kc_build.specs.Targets.{target_of}
 use Rattle.kc_tree.specs.Common.{listed, name_by}
-use Rattle.kc_build.specs.Facts.{symbol_of, kind_of, choice_of, has_text, same_kind, type_of, prompt_of, stated_default, single_symbol, is_single, is_member, choice_number, places, enclosing_choice}
+use Rattle.kc_build.specs.Facts.{symbol_of, kind_of, choice_of, has_text, same_kind, type_of, prompt_of, stated_default, single_symbol, is_single, is_member, choice_number, indices, enclosing_choice}
 
 -- something, where it holds
 abbrev pub when : {A : Type 0} → Bool → A → List A
@@ -117,10 +117,10 @@ is_bad_default kinds o s =
 
 module _ (ss : List Numbered) where
   abbrev pub bad_members : List ℕ
-  bad_members = filter (λ i. list_any (is_bad_member (kind_of ss) (choice_of ss) (is_first_definition_at ss i) (enclosing_choice ss i)) (listed (slice_get ss i))) (places ss)
+  bad_members = filter (λ i. list_any (is_bad_member (kind_of ss) (choice_of ss) (is_first_definition_at ss i) (enclosing_choice ss i)) (listed (slice_get ss i))) (indices ss)
 
   abbrev pub bad_defaults : List ℕ
-  bad_defaults = filter (λ i. list_any (is_bad_default (kind_of ss) (menu_entry_at ss i)) (listed (slice_get ss i))) (places ss)
+  bad_defaults = filter (λ i. list_any (is_bad_default (kind_of ss) (menu_entry_at ss i)) (listed (slice_get ss i))) (indices ss)
 
 -- Texts.
 abbrev pub reverse_word : ReverseKind → List ℕ
@@ -151,7 +151,7 @@ module _ (names : List (List ℕ)) (ls : List (Located Numbered)) where
   warned_at i (Some l) = map (line_of names l.file l.line) (line_warnings (statements ls) i l.statement)
 
   abbrev pub warnings : List (List ℕ)
-  warnings = flat_map (λ i. warned_at i (slice_get ls i)) (places (statements ls))
+  warnings = flat_map (λ i. warned_at i (slice_get ls i)) (indices (statements ls))
 
   -- the refusal of a line, which names its entry
   abbrev pub refused_at : Code → ℕ → List Refused

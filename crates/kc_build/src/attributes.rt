@@ -5,13 +5,13 @@ ghost use Rattle.std.specs.List.{filter_map, prefix_len};
 ghost use Rattle.kc_expr.specs.Form.{form_of};
 ghost use Rattle.kc_read.specs.Blocks as blocks;
 ghost use Rattle.kc_expr.specs.When.{when_view};
-ghost use Rattle.kc_read.specs.StatementViews.{asked_view};
+ghost use Rattle.kc_read.specs.StatementViews.{input_prompt_view};
 ghost use Rattle.kc_tree.specs.Contexts.{condition_in};
 ghost use Rattle.kc_build.specs.Facts as facts;
 ghost use Rattle.kc_build.specs.Growth.{IsGrown, Stands};
 ghost use Rattle.kc_build.specs.EntryLines.{prompt_line, default_line, range_line, member_line, choice_default_line, default_row, range_row};
 ghost use Rattle.kc_build.specs.Passes.{statements_of};
-ghost use Rattle.kc_tree.specs.Layouts.{with_parts};
+ghost use Rattle.kc_tree.specs.Layouts.{with_conjuncts};
 
 use crate::copies::operand_copy;
 use crate::lines::{
@@ -65,7 +65,7 @@ pub fn first_type(attributes: &[Line]) -> Option<Kind>
 
 // The prompt that counts of several: the last.
 fn last_prompt(attributes: &[Line]) -> Option<&statement::Prompt>
-    ensures { option_map (λ p. asked_view p.now) result ≡ blocks.last_of (filter_map facts.prompt_of (statements_of attributes.now)) }
+    ensures { option_map (λ p. input_prompt_view p.now) result ≡ blocks.last_of (filter_map facts.prompt_of (statements_of attributes.now)) }
 {
     let mut last = None;
     for line in attributes {
@@ -105,7 +105,7 @@ pub fn entry_context(
 ) -> Result<ContextId, AllocError>
     requires there { outer.0 < length contexts.old }
     requires few { length contexts.old + length attributes.now < 2 ^ 32 }
-    ensures made { IfOk result (λ id. Stands contexts.new id.0 (with_parts (condition_in contexts.old outer.0) (filter_map facts.depends_form (statements_of attributes.now)))) }
+    ensures made { IfOk result (λ id. Stands contexts.new id.0 (with_conjuncts (condition_in contexts.old outer.0) (filter_map facts.depends_form (statements_of attributes.now)))) }
     ensures kept { IsGrown contexts.old contexts.new (condition_in contexts.old outer.0).mode (length attributes.now) }
 {
     let mut at = outer;
@@ -126,7 +126,7 @@ pub fn visible_context(
 ) -> Result<ContextId, AllocError>
     requires there { outer.0 < length contexts.old }
     requires few { length contexts.old + length attributes.now < 2 ^ 32 }
-    ensures made { IfOk result (λ id. Stands contexts.new id.0 (with_parts (condition_in contexts.old outer.0) (filter_map facts.visible_form (statements_of attributes.now)))) }
+    ensures made { IfOk result (λ id. Stands contexts.new id.0 (with_conjuncts (condition_in contexts.old outer.0) (filter_map facts.visible_form (statements_of attributes.now)))) }
     ensures kept { IsGrown contexts.old contexts.new (condition_in contexts.old outer.0).mode (length attributes.now) }
 {
     let mut at = outer;

@@ -8,7 +8,7 @@ ghost use Rattle.kc_tree.specs.declared.rows.Symbol.{Symbol};
 ghost use Rattle.kc_build.specs.SymbolRows.{AreBelow, AreChoicesApart, AreMenusOpened, AreSymbols, IsEntrySummary, HasSymbols};
 ghost use Rattle.kc_build.specs.Passes.{statements_of};
 ghost use Rattle.kc_build.specs.WalkResult.{IsWalkResult, HasHeads, HasRoom, IsDiagnosed, IsSmall};
-ghost use Rattle.kc_build.specs.Stacks.{AreBlocksPlain, AreBlocksVisible, AreBlocksWithin, AreTitlesWithin, AsksNothing, IsPlainHead};
+ghost use Rattle.kc_build.specs.Stacks.{AreBlocksPlain, AreBlocksVisible, AreBlocksWithin, AreTitlesWithin, IsTopEmpty, IsPlainHead};
 ghost use Rattle.kc_tree.specs.Contexts.{IsPlain, condition_in};
 ghost use Rattle.kc_tree.specs.Layouts.{choice_facts as choice_in};
 
@@ -35,7 +35,7 @@ struct EntryWalk {
     tables: Tables,
     blocks: Blocks,
     main_menu: Vec<u8>,
-    ghost asks_nothing: { AsksNothing tables.contexts },
+    ghost top_is_empty: { IsTopEmpty tables.contexts },
     ghost top_plain: { IsPlain tables.contexts 0 },
     ghost within: { AreBlocksWithin tables.contexts blocks },
     ghost visible: { AreBlocksVisible tables.contexts blocks },

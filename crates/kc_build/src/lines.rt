@@ -4,7 +4,7 @@ ghost use Rattle.std.specs.Prelude.{◌≡◌, option_map, Some};
 ghost use Rattle.kc_expr.specs.Form.{form_of};
 ghost use Rattle.kc_read.specs.Blocks as blocks;
 ghost use Rattle.kc_expr.specs.When.{when_view};
-ghost use Rattle.kc_read.specs.StatementViews.{statement_view, asked_view};
+ghost use Rattle.kc_read.specs.StatementViews.{statement_view, input_prompt_view};
 ghost use Rattle.kc_build.specs.Facts as facts;
 ghost use Rattle.kc_build.specs.Passes.{stated_default_view, target_view, range_view};
 ghost use Rattle.kc_build.specs.EntryLines.{range_line};
@@ -88,7 +88,7 @@ pub fn type_of(statement: &Statement) -> Option<Kind>
 
 /// The prompt of a line.
 pub fn prompt_of(statement: &Statement) -> Option<&Prompt>
-    ensures { option_map (λ p. asked_view p.now) result ≡ facts.prompt_of (statement_view statement.now) }
+    ensures { option_map (λ p. input_prompt_view p.now) result ≡ facts.prompt_of (statement_view statement.now) }
 {
     match statement {
         Statement::Type(_, Some(p)) => Some(p),

@@ -28,7 +28,7 @@ use Rattle.kc_dot.proofs.ReadingLemmas.{places_after-append}
 use Rattle.kc_dot.specs.SolvedView.{solution_view}
 use Rattle.kc_dot.specs.Texts.{config_text}
 use Rattle.kc_conf.specs.declared.options.Options.{Options}
-use Rattle.kc_conf.specs.Accounted.{IsAccountedFor, IsKeptOrTold, IsSetAgain, NothingIsLost}
+use Rattle.kc_conf.specs.Accounted.{IsAccountedFor, IsKeptOrWarned, IsSetAgain, NothingIsLost}
 use Rattle.kc_conf.specs.Lost.{has_prompt, lost_at, lost_by, lost_line, lost_lines, lost_of, same_given}
 use Rattle.kc_conf.specs.Outcome.{Outcome, lines_text, lost_warnings, names_of, noted, outcome_of, read_of, streams, with_rule}
 use Rattle.kc_conf.specs.Reruns.{RefusesNothing, WrittenAreWhole}
@@ -245,7 +245,7 @@ module _ (files : Files) (options : Options) (all : List (List ℕ)) (tree : Tre
           ap (λ (q : Places). place_at q (SymbolPlace s.0)) (places_after-append tree prefix empty before (l ∷ []))
           ∙ assigned tree prefix (places_after tree prefix empty before) l s given assigns below
 
-      kept : place_at (places_after tree prefix here later) (SymbolPlace s.0) ≡ Some given → IsKeptOrTold tree solution outcome.notes s f given
+      kept : place_at (places_after tree prefix here later) (SymbolPlace s.0) ≡ Some given → IsKeptOrWarned tree solution outcome.notes s f given
       kept stays = elim (kept_or_told solution s f given (subst (λ (t : TreeFacts). facts t s ≡ Some f) (sym is_whole.solution_is.tree_is) defined) prompted there) [
         | inl same ↦ inl same
         | inr told ↦ inr (of_lost (lost_line (name tree s) f.kind given (given_of (known solution s)) ++ codes "\n")
@@ -279,7 +279,7 @@ module _ (files : Files) (options : Options) (all : List (List ℕ)) (tree : Tre
               ap (effect_warning tree (places_after tree prefix empty (before ++ l ∷ front))) (sets ∙ ap (λ x. Assigns x other) (same_symbol t s same))
               ∙ ap (λ o. if is_some o then Some (SetAgain (name tree s)) else None) filled_then
 
-      heard : IsSetAgain tree prefix outcome.notes s later ⊎ IsKeptOrTold tree solution outcome.notes s f given
+      heard : IsSetAgain tree prefix outcome.notes s later ⊎ IsKeptOrWarned tree solution outcome.notes s f given
       heard = elim (stays_or_set tree prefix here later s.0 given filled) [
         | inl stays ↦ inr (kept stays)
         | inr set ↦ inl (again set)

@@ -10,7 +10,7 @@ use Rattle.kc_conf.specs.declared.options.Options.{Options}
 use Rattle.kc_conf.specs.ErrorLines.{strict_line}
 use Rattle.kc_conf.specs.Outcome.{Outcome, is_done, has_text, lines_text, lost_warnings, noted, outcome_of, refused, strictly}
 use Rattle.kc_conf.specs.Reads.{behind_warnings, without_notes, strictly_after}
-use Rattle.kc_conf.specs.Faults.{files_before, files_made, file_text, up_to, finished, Finishes, after_fault, BreaksRun, in_notes, not_begun, in_file, BreaksNotes, BreaksFile, BreaksFiles}
+use Rattle.kc_conf.specs.Faults.{files_before, files_made, file_text, up_to, finished, Completes, after_fault, BreaksRun, in_notes, not_begun, in_file, BreaksNotes, BreaksFile, BreaksFiles}
 use Rattle.kc_conf.specs.declared.run_fault.RunFault.{RunFault}
 use Rattle.kc_conf.specs.declared.run_fault.RunFault.TheVariants.{Write, Memory}
 use Rattle.kc_conf.specs.declared.options.Status.{Status}
@@ -45,29 +45,29 @@ up_to-noted file text outcome old =
     ap (files_before file outcome) (with_text-with_text text outcome.notes old) ∙ files_before-noted file text outcome (with_text Notes (text ++ outcome.notes) old)
 
 -- a run that began after these notes is one with them before its own
-pub Finishes-after : (text : List ℕ) (part : Outcome) (status : Status) (old mid new : OutputStates) → mid ≡ with_text Notes text old →
-    Finishes part status mid new → Finishes (noted text part) status old new
-Finishes-after text part status old mid new was (answers, leaves) =
+pub Completes-after : (text : List ℕ) (part : Outcome) (status : Status) (old mid new : OutputStates) → mid ≡ with_text Notes text old →
+    Completes part status mid new → Completes (noted text part) status old new
+Completes-after text part status old mid new was (answers, leaves) =
     (answers, leaves ∙ ap (finished part) was ∙ ap (files_made part) (with_text-with_text text part.notes old))
 
-BreaksRun-noted : (text : List ℕ) (outcome : Outcome) (cause : RunFault) (old new : OutputStates) → BreaksRun outcome cause (with_text Notes text old) new →
-    BreaksRun (noted text outcome) cause old new
-BreaksRun-noted text outcome cause old new (in_notes front strikes (rest, begins) is) =
-    in_notes (text ++ front) strikes (rest, ap (λ t. text ++ t) begins ∙ sym (append_assoc text front rest)) (is ∙ ap (after_fault cause) (with_text-with_text text front old))
-BreaksRun-noted text outcome cause old new (not_begun file whole strikes there is) =
-    not_begun file whole strikes (file_text-noted file text outcome ∙ there) (is ∙ ap (after_fault cause) (up_to-noted file text outcome old))
-BreaksRun-noted text outcome cause old new (in_file file whole front strikes there begins is) =
-    in_file file whole front strikes (file_text-noted file text outcome ∙ there) begins (is ∙ ap (λ p. after_fault cause (begun_with file front p)) (up_to-noted file text outcome old))
+BreaksRun-noted : (text : List ℕ) (outcome : Outcome) (fault : RunFault) (old new : OutputStates) → BreaksRun outcome fault (with_text Notes text old) new →
+    BreaksRun (noted text outcome) fault old new
+BreaksRun-noted text outcome fault old new (in_notes front strikes (rest, begins) is) =
+    in_notes (text ++ front) strikes (rest, ap (λ t. text ++ t) begins ∙ sym (append_assoc text front rest)) (is ∙ ap (after_fault fault) (with_text-with_text text front old))
+BreaksRun-noted text outcome fault old new (not_begun file whole strikes there is) =
+    not_begun file whole strikes (file_text-noted file text outcome ∙ there) (is ∙ ap (after_fault fault) (up_to-noted file text outcome old))
+BreaksRun-noted text outcome fault old new (in_file file whole front strikes there begins is) =
+    in_file file whole front strikes (file_text-noted file text outcome ∙ there) begins (is ∙ ap (λ p. after_fault fault (begun_with file front p)) (up_to-noted file text outcome old))
 
-pub BreaksRun-after : (text : List ℕ) (part : Outcome) (cause : RunFault) (old mid new : OutputStates) → mid ≡ with_text Notes text old →
-    BreaksRun part cause mid new → BreaksRun (noted text part) cause old new
-BreaksRun-after text part cause old mid new was broke =
-    BreaksRun-noted text part cause old new (subst (λ p. BreaksRun part cause p new) was broke)
+pub BreaksRun-after : (text : List ℕ) (part : Outcome) (fault : RunFault) (old mid new : OutputStates) → mid ≡ with_text Notes text old →
+    BreaksRun part fault mid new → BreaksRun (noted text part) fault old new
+BreaksRun-after text part fault old mid new was broke =
+    BreaksRun-noted text part fault old new (subst (λ p. BreaksRun part fault p new) was broke)
 
 -- the notes broke off in a beginning of their text
-pub BreaksRun-in_notes : (outcome : Outcome) (text : List ℕ) (cause : RunFault) (old new : OutputStates) → BeginsWith outcome.notes text →
-    BreaksNotes text cause old new → BreaksRun outcome cause old new
-BreaksRun-in_notes outcome text cause old new (more, whole) (front, strikes, (rest, begins), is) =
+pub BreaksRun-in_notes : (outcome : Outcome) (text : List ℕ) (fault : RunFault) (old new : OutputStates) → BeginsWith outcome.notes text →
+    BreaksNotes text fault old new → BreaksRun outcome fault old new
+BreaksRun-in_notes outcome text fault old new (more, whole) (front, strikes, (rest, begins), is) =
     in_notes front strikes (rest ++ more, whole ∙ ap (λ t. t ++ more) begins ∙ append_assoc front rest more) is
 
 -- the notes failed
@@ -82,12 +82,12 @@ pub BreaksRun-nothing : (outcome : Outcome) (old : OutputStates) → BreaksRun o
 BreaksRun-nothing outcome old = in_notes [] tt (outcome.notes, refl) (with_text-nothing old)
 
 -- a file broke off behind the notes
-pub BreaksRun-files : (outcome : Outcome) (cause : RunFault) (old mid new : OutputStates) → mid ≡ with_text Notes outcome.notes old →
-    BreaksFiles outcome cause mid new → BreaksRun outcome cause old new
-BreaksRun-files outcome cause old mid new was (file, breaks) =
-    go (file_text outcome file) refl (subst (λ p. BreaksFile file (file_text outcome file) cause (files_before file outcome p) new) was breaks)
+pub BreaksRun-files : (outcome : Outcome) (fault : RunFault) (old mid new : OutputStates) → mid ≡ with_text Notes outcome.notes old →
+    BreaksFiles outcome fault mid new → BreaksRun outcome fault old new
+BreaksRun-files outcome fault old mid new was (file, breaks) =
+    go (file_text outcome file) refl (subst (λ p. BreaksFile file (file_text outcome file) fault (files_before file outcome p) new) was breaks)
   where
-    go : (text : Option (List ℕ)) → file_text outcome file ≡ text → BreaksFile file text cause (up_to file outcome old) new → BreaksRun outcome cause old new
+    go : (text : Option (List ℕ)) → file_text outcome file ≡ text → BreaksFile file text fault (up_to file outcome old) new → BreaksRun outcome fault old new
     go None e never = absurd never
     go (Some text) e (strikes, inl is) = not_begun file text strikes e is
     go (Some text) e (strikes, inr (front, begins, is)) = in_file file text front strikes e begins is
@@ -167,16 +167,16 @@ strictly-off true lenient e = cc
 strictly-off false lenient e = ap (λ b. refused_if b lenient) (and_never (is_done lenient.status))
 
 -- its files are those of the same without notes
-pub BreaksFiles-without_notes : (outcome : Outcome) (cause : RunFault) (old new : OutputStates) → BreaksFiles outcome cause old new → BreaksFiles (without_notes outcome) cause old new
-BreaksFiles-without_notes outcome cause old new (Config, breaks) = (Config, breaks)
-BreaksFiles-without_notes outcome cause old new (Header, breaks) = (Header, breaks)
-BreaksFiles-without_notes outcome cause old new (Minimal, breaks) = (Minimal, breaks)
-BreaksFiles-without_notes outcome cause old new (Depfile, breaks) = (Depfile, breaks)
-BreaksFiles-without_notes outcome cause old new (Notes, breaks) = (Notes, breaks)
+pub BreaksFiles-without_notes : (outcome : Outcome) (fault : RunFault) (old new : OutputStates) → BreaksFiles outcome fault old new → BreaksFiles (without_notes outcome) fault old new
+BreaksFiles-without_notes outcome fault old new (Config, breaks) = (Config, breaks)
+BreaksFiles-without_notes outcome fault old new (Header, breaks) = (Header, breaks)
+BreaksFiles-without_notes outcome fault old new (Minimal, breaks) = (Minimal, breaks)
+BreaksFiles-without_notes outcome fault old new (Depfile, breaks) = (Depfile, breaks)
+BreaksFiles-without_notes outcome fault old new (Notes, breaks) = (Notes, breaks)
 
 -- nothing is refused, and one of the files broke off
-pub BreaksRun-made : (options : Options) (tree : TreeFacts) (s : Solution) (strict before : Bool) (cause : RunFault) (old new : OutputStates) → (strict && before) ≡ false →
-    BreaksFiles (outcome_of options tree s) cause old new → BreaksRun (strictly_after strict before (without_notes (outcome_of options tree s))) cause old new
-BreaksRun-made options tree s strict before cause old new passes breaks =
-    subst (λ o. BreaksRun o cause old new) (sym (without_notes-made options tree s strict before passes))
-    (BreaksRun-files (without_notes (outcome_of options tree s)) cause old old new (with_text-nothing old) (BreaksFiles-without_notes (outcome_of options tree s) cause old new breaks))
+pub BreaksRun-made : (options : Options) (tree : TreeFacts) (s : Solution) (strict before : Bool) (fault : RunFault) (old new : OutputStates) → (strict && before) ≡ false →
+    BreaksFiles (outcome_of options tree s) fault old new → BreaksRun (strictly_after strict before (without_notes (outcome_of options tree s))) fault old new
+BreaksRun-made options tree s strict before fault old new passes breaks =
+    subst (λ o. BreaksRun o fault old new) (sym (without_notes-made options tree s strict before passes))
+    (BreaksRun-files (without_notes (outcome_of options tree s)) fault old old new (with_text-nothing old) (BreaksFiles-without_notes (outcome_of options tree s) fault old new breaks))

@@ -1,5 +1,5 @@
 -- Texts written one after another.
-use Rattle.std.proofs.Common.{◌≡◌, ◌<◌, ◌+◌, ℕ, List, [], ◌∷◌, ◌++◌, sym, ap, ◌∙◌, append_assoc, append-nil, take, drop, length, get_or, Option, inl, inr, refl}
+use Rattle.std.proofs.Common.{◌≡◌, ◌<◌, ◌+◌, ℕ, List, [], ◌∷◌, ◌++◌, sym, ap, ◌∙◌, append_assoc, append-nil, take, drop, length, get_or, inl, inr, refl}
 use Rattle.std.proofs.lemmas.List.{take-append-drop, take_more}
 use Rattle.std.proofs.lemmas.Grind.{flat_map-append}
 use Rattle.std.specs.Prelude.{flat_map}
@@ -11,7 +11,6 @@ use Rattle.kc_conf.specs.OutputStates.{OutputState, OutputStates, at, with_state
 use Rattle.kc_conf.specs.ChangeLemmas.{ChangesOnly-same}
 use Rattle.kc_conf.specs.declared.run_fault.RunFault.{RunFault}
 use Rattle.kc_conf.specs.declared.run_fault.RunFault.TheVariants.{Read, Write, Memory}
-use Rattle.kc_conf.specs.declared.outputs.Output.{Output}
 use Rattle.kc_conf.specs.declared.outputs.Output.TheVariants.{Config, Header, Minimal, Depfile, Notes}
 
 pub grown-grown : (state : OutputState) (a b : List ℕ) → grown (grown state a) b ≡ grown state (a ++ b)
@@ -44,18 +43,12 @@ BreaksOutput-at f xs i d old mid new within so_far broke =
     rw (flat_map-at f xs i d within) (BreaksOutput-before (flat_map f (take i xs) ++ f (get_or xs i d)) (flat_map f (drop (i + 1) xs)) old new
     (BreaksOutput-after (flat_map f (take i xs)) (f (get_or xs i d)) old new (rw so_far at broke)))
 
--- an output after the only change of it
-pub ChangesOnly-text : (output : Output) (old new : OutputStates) (text : Option (List ℕ)) (failures : ℕ) → ChangesOnly output old new →
-    (at new output).text ≡ text → (at new output).failures ≡ failures →
-    new ≡ with_state old output (let p : OutputState = record { is_begun = (at old output).is_begun; is_ended = (at old output).is_ended; text = text; failures = failures } in p)
-ChangesOnly-text output old new text failures only first second = rw (← first, ← second) only
-
 -- an error line changes the notes alone
 NotesLine-only : (line : List ℕ) (old new : OutputStates) → NotesLine line old new → ChangesOnly Notes old new
 NotesLine-only line old new (inl is) = rw is refl
 NotesLine-only line old new (inr (front, begins, is)) = rw is refl
 
-pub Reports-only : (options : Options) (cause : RunFault) (old new : OutputStates) → Reports options cause old new → ChangesOnly Notes old new
+pub Reports-only : (options : Options) (fault : RunFault) (old new : OutputStates) → Reports options fault old new → ChangesOnly Notes old new
 Reports-only options (Read input) old new line = NotesLine-only (error_line options (Read input)) old new line
 Reports-only options Memory old new line = NotesLine-only (error_line options Memory) old new line
 Reports-only options (Write Config) old new line = NotesLine-only (error_line options (Write Config)) old new line

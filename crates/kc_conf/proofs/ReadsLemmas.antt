@@ -3,19 +3,19 @@ use Rattle.std.proofs.Common.{◌≡◌, ℕ, suc, ◌+◌, ◌<◌, Bool, true,
 use Rattle.std.specs.List.{All}
 use Rattle.kc_tree.specs.TreeFacts.{TreeFacts}
 use Rattle.kc_user.specs.Places.{Places}
-use Rattle.kc_dot.specs.Feeding.{StreamPosition, stream_start, to_come, ReadsPiece, Feeds, StopsBecause, Refuses, Finishes, FailsToEnd}
+use Rattle.kc_dot.specs.Feeding.{StreamPosition, stream_start, to_come, ReadsPiece, Feeds, StopsBecause, Refuses, FinishesStream, FailsToEnd}
 use Rattle.kc_dot.specs.Laws.{HasShortLines}
 use Rattle.kc_dot.specs.Reading.{Line, ReadResult, StreamLocation, is_within, lines_from, lines_of, places_after, reading, with_warnings}
 use Rattle.kc_dot.specs.Sink.{BeginsWith, extended}
 use Rattle.kc_dot.specs.declared.fault.DotFault.{DotFault}
-use Rattle.kc_dot.specs.declared.fault.DotFault.TheVariants.{ConfigLineTooLong, Sink, Memory}
+use Rattle.kc_dot.specs.declared.fault.DotFault.TheVariants.{DotLineTooLong, Sink, Memory}
 use Rattle.kc_dot.proofs.FeedLemmas.{begins_at_break, begins_at_end}
-use Rattle.kc_dot.proofs.ReadingLemmas.{reading-nothing, reading_within}
+use Rattle.kc_dot.proofs.ReadingLemmas.{reading-nothing, reading_within, with_warnings-with_warnings}
 use Rattle.kc_dot.proofs.SinkLemmas.{extended-extended, extended-nothing}
 use Rattle.kc_conf.specs.InputBytes.{preceded, AreToCome, AreAllToCome}
 use Rattle.kc_conf.specs.Outcome.{streams}
 use Rattle.kc_conf.specs.Presence.{StreamsAreThere}
-use Rattle.kc_conf.specs.Reads.{Stops, ended_with, TakenSoFar, TakesPieces, BreaksPieces, ReadsStream, BreaksStream, ReadSoFar, ReadsStreams, BreaksStreams}
+use Rattle.kc_conf.specs.Reads.{StopsAtLongLine, ended_with, TakenSoFar, TakesPieces, BreaksPieces, ReadsStream, BreaksStream, ReadSoFar, ReadsStreams, BreaksStreams}
 
 -- ---- what inputs give
 
@@ -73,12 +73,6 @@ there-stopped (read ∷ done) bytes left (first ∷ there) within is long =
 
 -- ---- what was told
 
-with_warnings-with_warnings : (a b : List ℕ) (read : ReadResult) → with_warnings a (with_warnings b read) ≡ with_warnings (a ++ b) read
-with_warnings-with_warnings a b read = rw append_assoc refl
-
-with_warnings-nothing : (read : ReadResult) → with_warnings [] read ≡ read
-with_warnings-nothing read = refl
-
 -- the warnings begin with what was told before, and then as they go on
 BeginsWith-with_warnings : (a front : List ℕ) (whole read : ReadResult) → whole ≡ with_warnings a read → BeginsWith read.warned front → BeginsWith whole.warned (a ++ front)
 BeginsWith-with_warnings a front whole read is (rest, begins) =
@@ -119,7 +113,7 @@ module _ (tree : TreeFacts) (prefix : List ℕ) where
     pub TakesPieces-long : (given mid rest : Option (List ℕ)) (piece : List ℕ) (number : ℕ) (old position new last : StreamPosition)
         (before places after : Places) (text text_mid text_after : Option (List ℕ)) →
         TakenSoFar tree prefix name given mid old position before places text text_mid → mid ≡ preceded piece rest →
-        Refuses tree prefix name (ConfigLineTooLong number) piece position new places after text_mid text_after →
+        Refuses tree prefix name (DotLineTooLong number) piece position new places after text_mid text_after →
         TakesPieces tree prefix name (Some number) given old last before after text text_after
     TakesPieces-long given mid rest piece number old position new last before places after text text_mid text_after (bytes, warned, first, grew, goes) second refuses =
         let (nothing, is_number, full, more_comes, stops) = refuses.because in
@@ -184,7 +178,7 @@ module _ (tree : TreeFacts) (prefix : List ℕ) where
     -- ---- a stream
 
     pub ReadsStream-whole : (given : Option (List ℕ)) (position : StreamPosition) (before places after : Places) (text text_mid text_after : Option (List ℕ)) →
-        TakesPieces tree prefix name None given stream_start position before places text text_mid → Finishes tree prefix name position places after text_mid text_after →
+        TakesPieces tree prefix name None given stream_start position before places text text_mid → FinishesStream tree prefix name position places after text_mid text_after →
         ReadsStream tree prefix name None given before after text text_after
     ReadsStream-whole given position before places after text text_mid text_after (bytes, warned, are, grew, goes) (warned', grew', ends) = (
       bytes,
@@ -223,7 +217,7 @@ module _ (tree : TreeFacts) (prefix : List ℕ) where
     pub BreaksStream-fails : (fault : DotFault) (given : Option (List ℕ)) (position : StreamPosition) (before places : Places) (text text_mid text_after : Option (List ℕ)) →
         TakesPieces tree prefix name None given stream_start position before places text text_mid → FailsToEnd tree prefix name fault position places text_mid text_after →
         BreaksStream tree prefix name given before text text_after
-    BreaksStream-fails (ConfigLineTooLong n) given position before places text text_mid text_after takes never = absurd never
+    BreaksStream-fails (DotLineTooLong n) given position before places text text_mid text_after takes never = absurd never
     BreaksStream-fails Sink given position before places text text_mid text_after takes (last, is, within, (front, begun, grew)) =
         BreaksStream-end given position before places text text_mid text_after takes front grew (begins_at_end tree prefix name position places last front is within begun)
     BreaksStream-fails Memory given position before places text text_mid text_after takes same =
@@ -240,7 +234,7 @@ module _ (tree : TreeFacts) (prefix : List ℕ) where
 
   -- a stream of which a line is refused has a line that is too long
   long_stream : (name bytes : List ℕ) (before after : Places) (warned : List ℕ) (stop : StreamLocation) →
-      Stops tree prefix (lines_from name 1 bytes) before after warned stop → HasShortLines bytes → ⊥
+      StopsAtLongLine tree prefix (lines_from name 1 bytes) before after warned stop → HasShortLines bytes → ⊥
   long_stream name bytes before after warned stop stops short =
       let lines = lines_from name 1 bytes in
       let whole : (reading tree prefix before (lines ++ [])).stopped ≡ None =

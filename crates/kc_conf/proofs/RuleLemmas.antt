@@ -4,7 +4,7 @@ use Rattle.std.specs.Prelude.{◌&&◌, if◌then◌else◌}
 use Rattle.kc_tree.specs.TreeFacts.{TreeFacts}
 use Rattle.kc_conf.specs.declared.options.Options.{Options}
 use Rattle.kc_conf.specs.ErrorLines.{strict_line}
-use Rattle.kc_conf.specs.Faults.{BreaksRun, BreaksFile, Finishes, finished, in_file, in_notes, not_begun, up_to}
+use Rattle.kc_conf.specs.Faults.{BreaksRun, BreaksFile, Completes, finished, in_file, in_notes, not_begun, up_to}
 use Rattle.kc_conf.specs.Outcome.{IsOutcomeOfReading, IsOutcomeOfTree, Outcome, depfile_text, is_done, has_text, long_line, read_of, refused, strictly, text_if, whole, with_rule}
 use Rattle.kc_conf.specs.OutputStates.{OutputStates, made_if, with_text}
 use Rattle.kc_conf.specs.Rules.{BreaksInRule, EndsWithRule}
@@ -53,25 +53,25 @@ module _ (options : Options) (opened : List (List ℕ)) where
 
   -- ---- a run that breaks off before it
 
-  broken_before : (o : Outcome) (cause : RunFault) (old new : OutputStates) → o.depfile ≡ None → BreaksRun o cause old new → BreaksRun (ruled o) cause old new
-  broken_before o cause old new none (in_notes front strikes begins is) = in_notes front strikes begins is
-  broken_before o cause old new none (not_begun Config text_is strikes there is) = not_begun Config text_is strikes there is
-  broken_before o cause old new none (not_begun Header text_is strikes there is) = not_begun Header text_is strikes there is
-  broken_before o cause old new none (not_begun Minimal text_is strikes there is) = not_begun Minimal text_is strikes there is
-  broken_before o cause old new none (not_begun Notes text_is strikes there is) = not_begun Notes text_is strikes there is
-  broken_before o cause old new none (not_begun Depfile text_is strikes there is) = absurd (let e : None ≡ Some text_is = sym none ∙ there in cc)
-  broken_before o cause old new none (in_file Config text_is front strikes there begins is) = in_file Config text_is front strikes there begins is
-  broken_before o cause old new none (in_file Header text_is front strikes there begins is) = in_file Header text_is front strikes there begins is
-  broken_before o cause old new none (in_file Minimal text_is front strikes there begins is) = in_file Minimal text_is front strikes there begins is
-  broken_before o cause old new none (in_file Notes text_is front strikes there begins is) = in_file Notes text_is front strikes there begins is
-  broken_before o cause old new none (in_file Depfile text_is front strikes there begins is) = absurd (let e : None ≡ Some text_is = sym none ∙ there in cc)
+  broken_before : (o : Outcome) (fault : RunFault) (old new : OutputStates) → o.depfile ≡ None → BreaksRun o fault old new → BreaksRun (ruled o) fault old new
+  broken_before o fault old new none (in_notes front strikes begins is) = in_notes front strikes begins is
+  broken_before o fault old new none (not_begun Config text_is strikes there is) = not_begun Config text_is strikes there is
+  broken_before o fault old new none (not_begun Header text_is strikes there is) = not_begun Header text_is strikes there is
+  broken_before o fault old new none (not_begun Minimal text_is strikes there is) = not_begun Minimal text_is strikes there is
+  broken_before o fault old new none (not_begun Notes text_is strikes there is) = not_begun Notes text_is strikes there is
+  broken_before o fault old new none (not_begun Depfile text_is strikes there is) = absurd (let e : None ≡ Some text_is = sym none ∙ there in cc)
+  broken_before o fault old new none (in_file Config text_is front strikes there begins is) = in_file Config text_is front strikes there begins is
+  broken_before o fault old new none (in_file Header text_is front strikes there begins is) = in_file Header text_is front strikes there begins is
+  broken_before o fault old new none (in_file Minimal text_is front strikes there begins is) = in_file Minimal text_is front strikes there begins is
+  broken_before o fault old new none (in_file Notes text_is front strikes there begins is) = in_file Notes text_is front strikes there begins is
+  broken_before o fault old new none (in_file Depfile text_is front strikes there begins is) = absurd (let e : None ≡ Some text_is = sym none ∙ there in cc)
 
-  broken_if : (b : Bool) (o : Outcome) (cause : RunFault) (old new : OutputStates) → o.depfile ≡ None → BreaksRun o cause old new → BreaksRun (ruled_if b o) cause old new
-  broken_if true o cause old new none broken = broken_before o cause old new none broken
-  broken_if false o cause old new none broken = broken
+  broken_if : (b : Bool) (o : Outcome) (fault : RunFault) (old new : OutputStates) → o.depfile ≡ None → BreaksRun o fault old new → BreaksRun (ruled_if b o) fault old new
+  broken_if true o fault old new none broken = broken_before o fault old new none broken
+  broken_if false o fault old new none broken = broken
 
-  pub BreaksRun-before_rule : (o : Outcome) (cause : RunFault) (old new : OutputStates) → o.depfile ≡ None → BreaksRun o cause old new → BreaksRun (with_rule options opened o) cause old new
-  BreaksRun-before_rule o cause old new none broken = broken_if (is_done o.status) o cause old new none broken
+  pub BreaksRun-before_rule : (o : Outcome) (fault : RunFault) (old new : OutputStates) → o.depfile ≡ None → BreaksRun o fault old new → BreaksRun (with_rule options opened o) fault old new
+  BreaksRun-before_rule o fault old new none broken = broken_if (is_done o.status) o fault old new none broken
 
   -- ---- a run that ends, and then the rule
 
@@ -79,22 +79,22 @@ module _ (options : Options) (opened : List (List ℕ)) where
   turn_of_rule : (o : Outcome) (mid old : OutputStates) → o.depfile ≡ None → mid ≡ finished o old → mid ≡ up_to Depfile o old
   turn_of_rule o mid old none was = was ∙ ap (λ t. made_if Depfile t (up_to Depfile o old)) none
 
-  pub Finishes-rule : (o : Outcome) (status ended : Status) (old mid new : OutputStates) → o.depfile ≡ None → Finishes o status old mid →
-      EndsWithRule options opened status ended mid new → Finishes (with_rule options opened o) ended old new
-  Finishes-rule o status ended old mid new none (is, was) (same, left) =
+  pub Completes-rule : (o : Outcome) (status ended : Status) (old mid new : OutputStates) → o.depfile ≡ None → Completes o status old mid →
+      EndsWithRule options opened status ended mid new → Completes (with_rule options opened o) ended old new
+  Completes-rule o status ended old mid new none (is, was) (same, left) =
       by (is_done o.status) (left ∙ ap (λ s. if is_done s then made_if Depfile text mid else mid) is)
     where
-      by : (b : Bool) → new ≡ (if b then made_if Depfile text mid else mid) → Finishes (ruled_if b o) ended old new
+      by : (b : Bool) → new ≡ (if b then made_if Depfile text mid else mid) → Completes (ruled_if b o) ended old new
       by true e = (same ∙ is, e ∙ ap (made_if Depfile text) (turn_of_rule o mid old none was))
       by false e = (same ∙ is, e ∙ was)
 
-  pub BreaksRun-in_rule : (o : Outcome) (status : Status) (cause : RunFault) (old mid new : OutputStates) → o.depfile ≡ None → Finishes o status old mid →
-      BreaksInRule options opened status cause mid new → BreaksRun (with_rule options opened o) cause old new
-  BreaksRun-in_rule o status cause old mid new none (is, was) (done, breaks) =
+  pub BreaksRun-in_rule : (o : Outcome) (status : Status) (fault : RunFault) (old mid new : OutputStates) → o.depfile ≡ None → Completes o status old mid →
+      BreaksInRule options opened status fault mid new → BreaksRun (with_rule options opened o) fault old new
+  BreaksRun-in_rule o status fault old mid new none (is, was) (done, breaks) =
       let wrote : is_done o.status ≡ true = ap is_done (sym is ∙ done) in
       let turn : mid ≡ up_to Depfile o old = turn_of_rule o mid old none was in
-      subst (λ b. BreaksRun (ruled_if b o) cause old new) (sym wrote)
-      (BreaksRun-files (ruled o) cause old (with_text Notes o.notes old) new refl (Depfile, subst (λ (p : OutputStates). BreaksFile Depfile text cause p new) turn breaks))
+      subst (λ b. BreaksRun (ruled_if b o) fault old new) (sym wrote)
+      (BreaksRun-files (ruled o) fault old (with_text Notes o.notes old) new refl (Depfile, subst (λ (p : OutputStates). BreaksFile Depfile text fault p new) turn breaks))
 
 -- ---- no outcome has a rule before it is written
 

@@ -11,7 +11,7 @@ use Rattle.kc_dot.specs.Reading.{ReadResult, StreamLocation, reading, lines_of}
 use Rattle.kc_dot.specs.Sink.{BeginsWith}
 use Rattle.kc_conf.specs.declared.options.Options.{Options}
 use Rattle.kc_conf.specs.ErrorLines.{refusal_line, too_long_line}
-use Rattle.kc_conf.specs.Faults.{Finishes, BreaksRun, StrikesNotes, IsNoInputFault, CountsInputs}
+use Rattle.kc_conf.specs.Faults.{Completes, BreaksRun, StrikesNotes, IsNoInputFault, CountsInputs}
 use Rattle.kc_conf.specs.InputBytes.{AreAllToCome}
 use Rattle.kc_conf.specs.Outcome.{Outcome, has_text, IsLenientOutcome, strictly, noted, lines_text, refused, outcome_of, lost_warnings, read_of, names_of, streams, IsSolutionFor, IsOutcomeOfReading, long_line, whole, IsOutcomeOfTree, OneAnswer, IsAcceptedTree, IsRefusedTree, IsOutcome, refused_tree, accepted_tree, root_file, with_rule}
 use Rattle.kc_conf.specs.OutputStates.{OutputStates, BreaksOutput, with_text}
@@ -24,8 +24,8 @@ use Rattle.kc_conf.specs.declared.options.Status.{Status}
 use Rattle.kc_conf.specs.declared.outputs.Output.TheVariants.{Notes}
 use Rattle.kc_conf.specs.Rules.{BreaksInRule, EndsWithRule}
 use Rattle.kc_conf.proofs.Once.{one_of_tree, one_opened, one_solution}
-use Rattle.kc_conf.proofs.RuleLemmas.{BreaksRun-before_rule, BreaksRun-in_rule, Finishes-rule, no_rule}
-use Rattle.kc_conf.proofs.OutcomeLemmas.{Finishes-after, BreaksRun-after, BreaksRun-in_notes, BreaksNotes-broke, noted_strictly, lost-noted, strictly_after-begins, strictly_after-noted}
+use Rattle.kc_conf.proofs.RuleLemmas.{BreaksRun-before_rule, BreaksRun-in_rule, Completes-rule, no_rule}
+use Rattle.kc_conf.proofs.OutcomeLemmas.{Completes-after, BreaksRun-after, BreaksRun-in_notes, BreaksNotes-broke, noted_strictly, lost-noted, strictly_after-begins, strictly_after-noted}
 
 -- the whole is a beginning
 BeginsWith-whole : (text : List ℕ) → BeginsWith text text
@@ -43,19 +43,19 @@ module _ (options : Options) (tree : TreeFacts) (before told : Bool) (lines : Li
       ∙ ap (λ l. strictly_after options.strict before (noted (lines_text l) (without_notes (outcome_of options tree s)))) is
       ∙ ap (strictly_after options.strict before) (lost-noted options tree s)
 
-  pub BreaksRun-lost_files : (s : Solution) (cause : RunFault) (old mid new : OutputStates) → lines ≡ lost_warnings options s → mid ≡ with_text Notes (lines_text lines) old →
-      BreaksRun (strictly_after options.strict told (without_notes (outcome_of options tree s))) cause mid new →
-      BreaksRun (strictly_after options.strict before (behind_warnings options tree s)) cause old new
-  BreaksRun-lost_files s cause old mid new is was breaks =
-      subst (λ o. BreaksRun o cause old new) (after_lost s is)
-      (BreaksRun-after (lines_text lines) (strictly_after options.strict told (without_notes (outcome_of options tree s))) cause old mid new was breaks)
+  pub BreaksRun-lost_files : (s : Solution) (fault : RunFault) (old mid new : OutputStates) → lines ≡ lost_warnings options s → mid ≡ with_text Notes (lines_text lines) old →
+      BreaksRun (strictly_after options.strict told (without_notes (outcome_of options tree s))) fault mid new →
+      BreaksRun (strictly_after options.strict before (behind_warnings options tree s)) fault old new
+  BreaksRun-lost_files s fault old mid new is was breaks =
+      subst (λ o. BreaksRun o fault old new) (after_lost s is)
+      (BreaksRun-after (lines_text lines) (strictly_after options.strict told (without_notes (outcome_of options tree s))) fault old mid new was breaks)
 
-  pub Finishes-lost : (s : Solution) (status : Status) (old mid new : OutputStates) → lines ≡ lost_warnings options s → mid ≡ with_text Notes (lines_text lines) old →
-      Finishes (strictly_after options.strict told (without_notes (outcome_of options tree s))) status mid new →
-      Finishes (strictly_after options.strict before (behind_warnings options tree s)) status old new
-  Finishes-lost s status old mid new is was finishes =
-      subst (λ o. Finishes o status old new) (after_lost s is)
-      (Finishes-after (lines_text lines) (strictly_after options.strict told (without_notes (outcome_of options tree s))) status old mid new was finishes)
+  pub Completes-lost : (s : Solution) (status : Status) (old mid new : OutputStates) → lines ≡ lost_warnings options s → mid ≡ with_text Notes (lines_text lines) old →
+      Completes (strictly_after options.strict told (without_notes (outcome_of options tree s))) status mid new →
+      Completes (strictly_after options.strict before (behind_warnings options tree s)) status old new
+  Completes-lost s status old mid new is was finishes =
+      subst (λ o. Completes o status old new) (after_lost s is)
+      (Completes-after (lines_text lines) (strictly_after options.strict told (without_notes (outcome_of options tree s))) status old mid new was finishes)
 
 -- those lines broke off
 pub BreaksRun-lost_notes : (options : Options) (tree : TreeFacts) (before : Bool) (s : Solution) (lines : List (List ℕ)) (old new : OutputStates) →
@@ -76,20 +76,20 @@ module _ (options : Options) (tree : TreeFacts) (before told : Bool) (lines : Li
       ∙ strictly_after-noted options.strict before (lines_text (warnings s)) (behind_warnings options tree s)
 
   -- what follows them broke off
-  pub BreaksRun-solution_files : (user : Places) (s t : Solution) (cause : RunFault) (old mid new : OutputStates) →
+  pub BreaksRun-solution_files : (user : Places) (s t : Solution) (fault : RunFault) (old mid new : OutputStates) →
       IsSolutionFor tree user s → IsSolutionFor tree user t → lines ≡ warnings s → mid ≡ with_text Notes (lines_text lines) old →
-      BreaksRun (strictly_after options.strict told (behind_warnings options tree s)) cause mid new → BreaksRun (strictly_after options.strict before (outcome_of options tree t)) cause old new
-  BreaksRun-solution_files user s t cause old mid new solves solves' is was breaks =
-      subst (λ x. BreaksRun (strictly_after options.strict before (outcome_of options tree x)) cause old new) (one_solution tree user s t solves solves')
-      (subst (λ o. BreaksRun o cause old new) (after_lines s is)
-      (BreaksRun-after (lines_text (warnings s)) (strictly_after options.strict told (behind_warnings options tree s)) cause old mid new
+      BreaksRun (strictly_after options.strict told (behind_warnings options tree s)) fault mid new → BreaksRun (strictly_after options.strict before (outcome_of options tree t)) fault old new
+  BreaksRun-solution_files user s t fault old mid new solves solves' is was breaks =
+      subst (λ x. BreaksRun (strictly_after options.strict before (outcome_of options tree x)) fault old new) (one_solution tree user s t solves solves')
+      (subst (λ o. BreaksRun o fault old new) (after_lines s is)
+      (BreaksRun-after (lines_text (warnings s)) (strictly_after options.strict told (behind_warnings options tree s)) fault old mid new
       (was ∙ ap (λ l. with_text Notes (lines_text l) old) is) breaks))
 
-  pub Finishes-solution : (s : Solution) (status : Status) (old mid new : OutputStates) → lines ≡ warnings s → mid ≡ with_text Notes (lines_text lines) old →
-      Finishes (strictly_after options.strict told (behind_warnings options tree s)) status mid new → Finishes (strictly_after options.strict before (outcome_of options tree s)) status old new
-  Finishes-solution s status old mid new is was finishes =
-      subst (λ o. Finishes o status old new) (after_lines s is)
-      (Finishes-after (lines_text (warnings s)) (strictly_after options.strict told (behind_warnings options tree s)) status old mid new
+  pub Completes-solution : (s : Solution) (status : Status) (old mid new : OutputStates) → lines ≡ warnings s → mid ≡ with_text Notes (lines_text lines) old →
+      Completes (strictly_after options.strict told (behind_warnings options tree s)) status mid new → Completes (strictly_after options.strict before (outcome_of options tree s)) status old new
+  Completes-solution s status old mid new is was finishes =
+      subst (λ o. Completes o status old new) (after_lines s is)
+      (Completes-after (lines_text (warnings s)) (strictly_after options.strict told (behind_warnings options tree s)) status old mid new
       (was ∙ ap (λ l. with_text Notes (lines_text l) old) is) finishes)
 
 -- its warnings broke off
@@ -116,11 +116,11 @@ module _ (options : Options) (tree : TreeFacts) (given : List (Option (List ℕ)
   after_warned warned part known is =
       noted_strictly options.strict before told warned part (λ on. is ∙ ap (λ b. before || b) (known on))
 
-  pub Finishes-whole : (status : Status) → TellsStreams tree options.prefix options.strict (names_of options) None later given there user after old mid → told ≡ (before || later) →
-      (s : Solution) → IsSolutionFor tree after s → Finishes (strictly_after options.strict told (outcome_of options tree s)) status mid new →
+  pub Completes-whole : (status : Status) → TellsStreams tree options.prefix options.strict (names_of options) None later given there user after old mid → told ≡ (before || later) →
+      (s : Solution) → IsSolutionFor tree after s → Completes (strictly_after options.strict told (outcome_of options tree s)) status mid new →
       (all : List (List ℕ)) × AreRead given there all × ((part : Outcome) × IsOutcomeOfReading options tree (read_of options tree all) part
-      × Finishes (strictly_after options.strict before part) status old new)
-  Finishes-whole status (all, warned, are, grew, is, known) has_text s solves finishes =
+      × Completes (strictly_after options.strict before part) status old new)
+  Completes-whole status (all, warned, are, grew, is, known) has_text s solves finishes =
       let read : read_of options tree all ≡ ended_with after warned None = read_is None all warned is in (
         all,
         are,
@@ -129,47 +129,47 @@ module _ (options : Options) (tree : TreeFacts) (given : List (Option (List ℕ)
           whole s (ap (λ (r : ReadResult). r.stopped) read)
               (subst (λ (p : Places). IsSolutionFor tree p s) (sym (ap (λ (r : ReadResult). r.places) read)) solves)
               (ap (λ (r : ReadResult). noted r.warned (outcome_of options tree s)) (sym read)),
-          subst (λ o. Finishes o status old new) (after_warned warned (outcome_of options tree s) known has_text)
-              (Finishes-after warned (strictly_after options.strict told (outcome_of options tree s)) status old mid new grew finishes),
+          subst (λ o. Completes o status old new) (after_warned warned (outcome_of options tree s) known has_text)
+              (Completes-after warned (strictly_after options.strict told (outcome_of options tree s)) status old mid new grew finishes),
         ),
       )
 
-  pub BreaksRun-whole : (cause : RunFault) → TellsStreams tree options.prefix options.strict (names_of options) None later given there user after old mid → told ≡ (before || later) →
-      ((s : Solution) → IsSolutionFor tree after s → BreaksRun (strictly_after options.strict told (outcome_of options tree s)) cause mid new) →
+  pub BreaksRun-whole : (fault : RunFault) → TellsStreams tree options.prefix options.strict (names_of options) None later given there user after old mid → told ≡ (before || later) →
+      ((s : Solution) → IsSolutionFor tree after s → BreaksRun (strictly_after options.strict told (outcome_of options tree s)) fault mid new) →
       (all : List (List ℕ)) × AreAllToCome given all × ((part : Outcome) → IsOutcomeOfReading options tree (read_of options tree all) part →
-      BreaksRun (strictly_after options.strict before part) cause old new)
-  BreaksRun-whole cause (all, warned, are, grew, is, known) has_text broken = (all, are.0, each) where
+      BreaksRun (strictly_after options.strict before part) fault old new)
+  BreaksRun-whole fault (all, warned, are, grew, is, known) has_text broken = (all, are.0, each) where
     read : read_of options tree all ≡ ended_with after warned None
     read = read_is None all warned is
 
-    each : (part : Outcome) → IsOutcomeOfReading options tree (read_of options tree all) part → BreaksRun (strictly_after options.strict before part) cause old new
+    each : (part : Outcome) → IsOutcomeOfReading options tree (read_of options tree all) part → BreaksRun (strictly_after options.strict before part) fault old new
     each part (long_line stop long is_part) = absurd (let e : Some stop ≡ None = sym long ∙ ap (λ (r : ReadResult). r.stopped) read in cc)
     each part (whole s none solves is_part) =
         let here = broken s (subst (λ (p : Places). IsSolutionFor tree p s) (ap (λ (r : ReadResult). r.places) read) solves) in
         let same : noted warned (outcome_of options tree s) ≡ part = ap (λ (r : ReadResult). noted r.warned (outcome_of options tree s)) (sym read) ∙ sym is_part in
-        subst (λ o. BreaksRun o cause old new) (after_warned warned (outcome_of options tree s) known has_text ∙ ap (strictly_after options.strict before) same)
-        (BreaksRun-after warned (strictly_after options.strict told (outcome_of options tree s)) cause old mid new grew here)
+        subst (λ o. BreaksRun o fault old new) (after_warned warned (outcome_of options tree s) known has_text ∙ ap (strictly_after options.strict before) same)
+        (BreaksRun-after warned (strictly_after options.strict told (outcome_of options tree s)) fault old mid new grew here)
 
-  pub Finishes-long : (status : Status) (stop : StreamLocation) → TellsStreams tree options.prefix options.strict (names_of options) (Some stop) later given there user after old mid →
-      Finishes (refused (too_long_line stop)) status mid new →
+  pub Completes-long : (status : Status) (stop : StreamLocation) → TellsStreams tree options.prefix options.strict (names_of options) (Some stop) later given there user after old mid →
+      Completes (refused (too_long_line stop)) status mid new →
       (all : List (List ℕ)) × AreRead given there all × ((part : Outcome) × IsOutcomeOfReading options tree (read_of options tree all) part
-      × Finishes (strictly_after options.strict before part) status old new)
-  Finishes-long status stop (all, warned, are, grew, is, known) finishes =
+      × Completes (strictly_after options.strict before part) status old new)
+  Completes-long status stop (all, warned, are, grew, is, known) finishes =
       let read : read_of options tree all ≡ ended_with after warned (Some stop) = read_is (Some stop) all warned is in (
         all,
         are,
         (
           noted warned (refused (too_long_line stop)),
           long_line stop (ap (λ (r : ReadResult). r.stopped) read) (ap (λ (r : ReadResult). noted r.warned (refused (too_long_line stop))) (sym read)),
-          Finishes-after warned (refused (too_long_line stop)) status old mid new grew finishes,
+          Completes-after warned (refused (too_long_line stop)) status old mid new grew finishes,
         ),
       )
 
-  pub BreaksRun-long : (cause : RunFault) (stop : StreamLocation) → TellsStreams tree options.prefix options.strict (names_of options) (Some stop) later given there user after old mid →
-      BreaksRun (refused (too_long_line stop)) cause mid new →
+  pub BreaksRun-long : (fault : RunFault) (stop : StreamLocation) → TellsStreams tree options.prefix options.strict (names_of options) (Some stop) later given there user after old mid →
+      BreaksRun (refused (too_long_line stop)) fault mid new →
       (all : List (List ℕ)) × AreAllToCome given all × ((part : Outcome) → IsOutcomeOfReading options tree (read_of options tree all) part →
-      BreaksRun (strictly_after options.strict before part) cause old new)
-  BreaksRun-long cause stop (all, warned, are, grew, is, known) broken = (all, are.0, each) where
+      BreaksRun (strictly_after options.strict before part) fault old new)
+  BreaksRun-long fault stop (all, warned, are, grew, is, known) broken = (all, are.0, each) where
     read : read_of options tree all ≡ ended_with after warned (Some stop)
     read = read_is (Some stop) all warned is
 
@@ -177,12 +177,12 @@ module _ (options : Options) (tree : TreeFacts) (given : List (Option (List ℕ)
     some_or None = stop
     some_or (Some s) = s
 
-    each : (part : Outcome) → IsOutcomeOfReading options tree (read_of options tree all) part → BreaksRun (strictly_after options.strict before part) cause old new
+    each : (part : Outcome) → IsOutcomeOfReading options tree (read_of options tree all) part → BreaksRun (strictly_after options.strict before part) fault old new
     each part (long_line other long is_part) =
         let stops : stop ≡ other = ap some_or (sym (ap (λ (r : ReadResult). r.stopped) read) ∙ long) in
         let same : noted warned (refused (too_long_line stop)) ≡ part =
         ap (λ s. noted warned (refused (too_long_line s))) stops ∙ ap (λ (r : ReadResult). noted r.warned (refused (too_long_line other))) (sym read) ∙ sym is_part in
-        subst (λ o. BreaksRun (strictly_after options.strict before o) cause old new) same (BreaksRun-after warned (refused (too_long_line stop)) cause old mid new grew broken)
+        subst (λ o. BreaksRun (strictly_after options.strict before o) fault old new) same (BreaksRun-after warned (refused (too_long_line stop)) fault old mid new grew broken)
     each part (whole s none solves is_part) = absurd (let e : Some stop ≡ None = sym (ap (λ (r : ReadResult). r.stopped) read) ∙ none in cc)
 
 -- every outcome of a reading begins with its warnings
@@ -194,18 +194,18 @@ BeginsWith-longer : (text mid front : List ℕ) → BeginsWith text mid → Begi
 BeginsWith-longer text mid front (rest, is) (more, is') = (more ++ rest, is ∙ ap (λ t. t ++ rest) is' ∙ append_assoc front more rest)
 
 -- the reading broke off
-pub BreaksRun-reading : (options : Options) (tree : TreeFacts) (before : Bool) (given : List (Option (List ℕ))) (user : Places) (cause : RunFault)
-    (old new : OutputStates) → user ≡ no_places tree → StrikesNotes cause →
-    BreaksTelling tree options.prefix (names_of options) cause given user old new →
+pub BreaksRun-reading : (options : Options) (tree : TreeFacts) (before : Bool) (given : List (Option (List ℕ))) (user : Places) (fault : RunFault)
+    (old new : OutputStates) → user ≡ no_places tree → StrikesNotes fault →
+    BreaksTelling tree options.prefix (names_of options) fault given user old new →
     (all : List (List ℕ)) × AreAllToCome given all × ((part : Outcome) → IsOutcomeOfReading options tree (read_of options tree all) part →
-    BreaksRun (strictly_after options.strict before part) cause old new)
-BreaksRun-reading options tree before given user cause old new empty strikes (all, front, are, grew, begins) = (
+    BreaksRun (strictly_after options.strict before part) fault old new)
+BreaksRun-reading options tree before given user fault old new empty strikes (all, front, are, grew, begins) = (
   all,
   are,
   λ part is.
       let begins' : BeginsWith (read_of options tree all).warned front =
       subst (λ (p : Places). BeginsWith (reading tree options.prefix p (lines_of (streams (names_of options) all))).warned front) empty begins in
-      BreaksRun-in_notes (strictly_after options.strict before part) front cause old new
+      BreaksRun-in_notes (strictly_after options.strict before part) front fault old new
       (strictly_after-begins options.strict before part front
       (BeginsWith-longer part.notes (read_of options tree all).warned front (begins_with_warned options tree (read_of options tree all) part is) begins'))
       (front, strikes, BeginsWith-whole front, grew),
@@ -219,22 +219,22 @@ module _ (options : Options) (tree : TreeFacts) (all : List (List ℕ)) (lines :
       ap (λ b. noted (lines_text tree.warnings) (strictly_after options.strict b part)) (told_is ∙ ap (λ l. has_text (lines_text l)) is)
       ∙ strictly_after-noted options.strict false (lines_text tree.warnings) part
 
-  pub Finishes-tree : (status : Status) (old mid new : OutputStates) → mid ≡ with_text Notes (lines_text lines) old →
-      (part : Outcome) × IsOutcomeOfReading options tree (read_of options tree all) part × Finishes (strictly_after options.strict told part) status mid new →
-      (part : Outcome) × IsOutcomeOfTree options tree all part × Finishes (strictly options.strict part) status old new
-  Finishes-tree status old mid new was (part, is_part, finishes) = (
+  pub Completes-tree : (status : Status) (old mid new : OutputStates) → mid ≡ with_text Notes (lines_text lines) old →
+      (part : Outcome) × IsOutcomeOfReading options tree (read_of options tree all) part × Completes (strictly_after options.strict told part) status mid new →
+      (part : Outcome) × IsOutcomeOfTree options tree all part × Completes (strictly options.strict part) status old new
+  Completes-tree status old mid new was (part, is_part, finishes) = (
     noted (lines_text tree.warnings) part,
     (part, is_part, refl),
-    subst (λ o. Finishes o status old new) (after_tree part)
-        (Finishes-after (lines_text tree.warnings) (strictly_after options.strict told part) status old mid new (was ∙ ap (λ l. with_text Notes (lines_text l) old) is) finishes),
+    subst (λ o. Completes o status old new) (after_tree part)
+        (Completes-after (lines_text tree.warnings) (strictly_after options.strict told part) status old mid new (was ∙ ap (λ l. with_text Notes (lines_text l) old) is) finishes),
   )
 
-  pub BreaksRun-tree : (cause : RunFault) (old mid new : OutputStates) → mid ≡ with_text Notes (lines_text lines) old →
-      ((part : Outcome) → IsOutcomeOfReading options tree (read_of options tree all) part → BreaksRun (strictly_after options.strict told part) cause mid new) →
-      (part : Outcome) → IsOutcomeOfTree options tree all part → BreaksRun (strictly options.strict part) cause old new
-  BreaksRun-tree cause old mid new was broken outcome (part, is_part, same) =
-      subst (λ o. BreaksRun o cause old new) (after_tree part ∙ ap (strictly options.strict) (sym same))
-      (BreaksRun-after (lines_text tree.warnings) (strictly_after options.strict told part) cause old mid new (was ∙ ap (λ l. with_text Notes (lines_text l) old) is) (broken part is_part))
+  pub BreaksRun-tree : (fault : RunFault) (old mid new : OutputStates) → mid ≡ with_text Notes (lines_text lines) old →
+      ((part : Outcome) → IsOutcomeOfReading options tree (read_of options tree all) part → BreaksRun (strictly_after options.strict told part) fault mid new) →
+      (part : Outcome) → IsOutcomeOfTree options tree all part → BreaksRun (strictly options.strict part) fault old new
+  BreaksRun-tree fault old mid new was broken outcome (part, is_part, same) =
+      subst (λ o. BreaksRun o fault old new) (after_tree part ∙ ap (strictly options.strict) (sym same))
+      (BreaksRun-after (lines_text tree.warnings) (strictly_after options.strict told part) fault old mid new (was ∙ ap (λ l. with_text Notes (lines_text l) old) is) (broken part is_part))
 
 -- the tree's warnings broke off
 pub BreaksRun-warnings : (options : Options) (tree : TreeFacts) (all : List (List ℕ)) (lines : List (List ℕ)) (old new : OutputStates) → lines ≡ tree.warnings →
@@ -248,73 +248,73 @@ BreaksRun-warnings options tree all lines old new is broke outcome (part, is_par
 -- ---- the tree
 
 -- an accepted tree is the only answer of its files
-pub BreaksRun-outcome_of_tree : OneAnswer → (files : Files) (options : Options) (tree : TreeFacts) (all : List (List ℕ)) (cause : RunFault)
+pub BreaksRun-outcome_of_tree : OneAnswer → (files : Files) (options : Options) (tree : TreeFacts) (all : List (List ℕ)) (fault : RunFault)
     (old new : OutputStates) → IsAcceptedTree files (root_file options) tree →
     ((part : Outcome) (opened : List (List ℕ)) → IsOutcomeOfTree options tree all part → AreOpened files (root_file options) opened →
-    BreaksRun (with_rule options opened (strictly options.strict part)) cause old new) →
-    (outcome : Outcome) → IsOutcome files options all outcome → BreaksRun outcome cause old new
-BreaksRun-outcome_of_tree law files options tree all cause old new accepted broken outcome (lenient, opened, is_lenient, are, is) = by is_lenient where
-  by : IsLenientOutcome files options all lenient → BreaksRun outcome cause old new
+    BreaksRun (with_rule options opened (strictly options.strict part)) fault old new) →
+    (outcome : Outcome) → IsOutcome files options all outcome → BreaksRun outcome fault old new
+BreaksRun-outcome_of_tree law files options tree all fault old new accepted broken outcome (lenient, opened, is_lenient, are, is) = by is_lenient where
+  by : IsLenientOutcome files options all lenient → BreaksRun outcome fault old new
   by (refused_tree r is_refused was) = absurd (law.not_both files (root_file options) r tree is_refused accepted)
   by (accepted_tree other second was) =
       let of_tree : IsOutcomeOfTree options tree all lenient = subst (λ t. IsOutcomeOfTree options t all lenient) (law.one_accepted files (root_file options) other tree second accepted) was in
-      subst (λ o. BreaksRun o cause old new) (sym is) (broken lenient opened of_tree are)
+      subst (λ o. BreaksRun o fault old new) (sym is) (broken lenient opened of_tree are)
 
 -- a run over an accepted tree breaks off before its rule for make
-pub BreaksRun-accepted : OneAnswer → (files : Files) (options : Options) (tree : TreeFacts) (all : List (List ℕ)) (cause : RunFault) (old new : OutputStates) →
+pub BreaksRun-accepted : OneAnswer → (files : Files) (options : Options) (tree : TreeFacts) (all : List (List ℕ)) (fault : RunFault) (old new : OutputStates) →
     IsAcceptedTree files (root_file options) tree →
-    ((part : Outcome) → IsOutcomeOfTree options tree all part → BreaksRun (strictly options.strict part) cause old new) →
-    (outcome : Outcome) → IsOutcome files options all outcome → BreaksRun outcome cause old new
-BreaksRun-accepted law files options tree all cause old new accepted broken =
-    BreaksRun-outcome_of_tree law files options tree all cause old new accepted
-    (λ part opened is are. BreaksRun-before_rule options opened (strictly options.strict part) cause old new (no_rule options tree all part is)
+    ((part : Outcome) → IsOutcomeOfTree options tree all part → BreaksRun (strictly options.strict part) fault old new) →
+    (outcome : Outcome) → IsOutcome files options all outcome → BreaksRun outcome fault old new
+BreaksRun-accepted law files options tree all fault old new accepted broken =
+    BreaksRun-outcome_of_tree law files options tree all fault old new accepted
+    (λ part opened is are. BreaksRun-before_rule options opened (strictly options.strict part) fault old new (no_rule options tree all part is)
     (broken part is))
 
 -- or in it
 pub BreaksRun-accepted_rule : OneAnswer → OpenedAreOne →
-    (files : Files) (options : Options) (tree : TreeFacts) (all : List (List ℕ)) (status : Status) (cause : RunFault) (old mid new : OutputStates) →
+    (files : Files) (options : Options) (tree : TreeFacts) (all : List (List ℕ)) (status : Status) (fault : RunFault) (old mid new : OutputStates) →
     IsAcceptedTree files (root_file options) tree →
-    (part : Outcome) × IsOutcomeOfTree options tree all part × Finishes (strictly options.strict part) status old mid →
-    (opened : List (List ℕ)) × AreOpened files (root_file options) opened × BreaksInRule options opened status cause mid new →
-    (outcome : Outcome) → IsOutcome files options all outcome → BreaksRun outcome cause old new
-BreaksRun-accepted_rule law one files options tree all status cause old mid new accepted (part, is_part, finishes) (opened, are, breaks) =
-    BreaksRun-outcome_of_tree law files options tree all cause old new accepted (λ other others is are'.
-    let ends : BreaksRun (with_rule options opened (strictly options.strict part)) cause old new =
-    BreaksRun-in_rule options opened (strictly options.strict part) status cause old mid new (no_rule options tree all part is_part) finishes breaks in
-    subst (λ l. BreaksRun (with_rule options l (strictly options.strict other)) cause old new) (one_opened one files (root_file options) tree opened others accepted are are')
-    (subst (λ o. BreaksRun (with_rule options opened (strictly options.strict o)) cause old new) (one_of_tree options tree all part other is_part is) ends))
+    (part : Outcome) × IsOutcomeOfTree options tree all part × Completes (strictly options.strict part) status old mid →
+    (opened : List (List ℕ)) × AreOpened files (root_file options) opened × BreaksInRule options opened status fault mid new →
+    (outcome : Outcome) → IsOutcome files options all outcome → BreaksRun outcome fault old new
+BreaksRun-accepted_rule law one files options tree all status fault old mid new accepted (part, is_part, finishes) (opened, are, breaks) =
+    BreaksRun-outcome_of_tree law files options tree all fault old new accepted (λ other others is are'.
+    let ends : BreaksRun (with_rule options opened (strictly options.strict part)) fault old new =
+    BreaksRun-in_rule options opened (strictly options.strict part) status fault old mid new (no_rule options tree all part is_part) finishes breaks in
+    subst (λ l. BreaksRun (with_rule options l (strictly options.strict other)) fault old new) (one_opened one files (root_file options) tree opened others accepted are are')
+    (subst (λ o. BreaksRun (with_rule options opened (strictly options.strict o)) fault old new) (one_of_tree options tree all part other is_part is) ends))
 
 -- it ends with its rule
-pub Finishes-accepted : (files : Files) (options : Options) (tree : TreeFacts) (all : List (List ℕ)) (status ended : Status) (old mid new : OutputStates) →
+pub Completes-accepted : (files : Files) (options : Options) (tree : TreeFacts) (all : List (List ℕ)) (status ended : Status) (old mid new : OutputStates) →
     IsAcceptedTree files (root_file options) tree →
-    (part : Outcome) × IsOutcomeOfTree options tree all part × Finishes (strictly options.strict part) status old mid →
+    (part : Outcome) × IsOutcomeOfTree options tree all part × Completes (strictly options.strict part) status old mid →
     (opened : List (List ℕ)) × AreOpened files (root_file options) opened × EndsWithRule options opened status ended mid new →
-    (outcome : Outcome) × IsOutcome files options all outcome × Finishes outcome ended old new
-Finishes-accepted files options tree all status ended old mid new accepted (part, is_part, finishes) (opened, are, ends) = (
+    (outcome : Outcome) × IsOutcome files options all outcome × Completes outcome ended old new
+Completes-accepted files options tree all status ended old mid new accepted (part, is_part, finishes) (opened, are, ends) = (
   with_rule options opened (strictly options.strict part),
   (part, opened, accepted_tree tree accepted is_part, are, refl),
-  Finishes-rule options opened (strictly options.strict part) status ended old mid new (no_rule options tree all part is_part) finishes ends,
+  Completes-rule options opened (strictly options.strict part) status ended old mid new (no_rule options tree all part is_part) finishes ends,
 )
 
 -- and so is a refused one
-pub BreaksRun-refused_tree : OneAnswer → (files : Files) (options : Options) (r : Refused) (all : List (List ℕ)) (cause : RunFault) (old new : OutputStates) →
+pub BreaksRun-refused_tree : OneAnswer → (files : Files) (options : Options) (r : Refused) (all : List (List ℕ)) (fault : RunFault) (old new : OutputStates) →
     IsRefusedTree files (root_file options) r →
-    BreaksRun (refused (refusal_line r)) cause old new → (outcome : Outcome) → IsOutcome files options all outcome → BreaksRun outcome cause old new
-BreaksRun-refused_tree law files options r all cause old new is_refused broken outcome (lenient, opened, is_lenient, are, is) = by is_lenient where
-  by : IsLenientOutcome files options all lenient → BreaksRun outcome cause old new
+    BreaksRun (refused (refusal_line r)) fault old new → (outcome : Outcome) → IsOutcome files options all outcome → BreaksRun outcome fault old new
+BreaksRun-refused_tree law files options r all fault old new is_refused broken outcome (lenient, opened, is_lenient, are, is) = by is_lenient where
+  by : IsLenientOutcome files options all lenient → BreaksRun outcome fault old new
   by (refused_tree s second was) =
-      subst (λ o. BreaksRun o cause old new) (ap (λ x. refused (refusal_line x)) (law.one_refusal files (root_file options) r s is_refused second)
+      subst (λ o. BreaksRun o fault old new) (ap (λ x. refused (refusal_line x)) (law.one_refusal files (root_file options) r s is_refused second)
       ∙ ap (λ o. with_rule options opened (strictly options.strict o)) (sym was) ∙ sym is) broken
   by (accepted_tree tree accepted was) = absurd (law.not_both files (root_file options) r tree is_refused accepted)
 
 -- a failure of an output changes no count of the inputs
-pub CountsInputs-outputs : (cause : RunFault) (counts : List ℕ) → IsNoInputFault cause → CountsInputs cause counts counts
+pub CountsInputs-outputs : (fault : RunFault) (counts : List ℕ) → IsNoInputFault fault → CountsInputs fault counts counts
 CountsInputs-outputs (why.Read input) counts never = absurd never
 CountsInputs-outputs Memory counts is = refl
 CountsInputs-outputs (Write output) counts is = refl
 
 -- nor is it a failure of one
-pub MayStrike-outputs : (cause : RunFault) (may_fail : List Bool) → IsNoInputFault cause → MayStrike may_fail cause
+pub MayStrike-outputs : (fault : RunFault) (may_fail : List Bool) → IsNoInputFault fault → MayStrike may_fail fault
 MayStrike-outputs (why.Read input) may_fail never = absurd never
 MayStrike-outputs Memory may_fail is = tt
 MayStrike-outputs (Write output) may_fail is = tt

@@ -8,7 +8,7 @@ use Rattle.kc_conf.specs.declared.options.Options.{Options}
 use Rattle.kc_conf.specs.declared.options.Status.{Status}
 use Rattle.kc_conf.specs.declared.options.Status.TheVariants.{Done, Refused as IsRefused, Usage, Faulted}
 use Rattle.kc_conf.specs.ErrorLines.{strict_line}
-use Rattle.kc_conf.specs.Outcome.{IsLenientOutcome, IsOutcome, IsOutcomeOfReading, IsOutcomeOfTree, Outcome, accepted_tree, depfile_text, has_text, is_done, long_line, refused, refused_tree, strictly, text_if, whole, with_rule}
+use Rattle.kc_conf.specs.Outcome.{IsLenientOutcome, IsOutcome, IsOutcomeOfReading, Outcome, accepted_tree, depfile_text, has_text, is_done, long_line, refused, refused_tree, strictly, text_if, whole}
 
 abbrev is_faulted : Status → Bool
 is_faulted Done = false

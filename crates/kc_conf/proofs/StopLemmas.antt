@@ -15,7 +15,7 @@ use Rattle.kc_values.specs.Laws.{IsAccepted}
 use Rattle.kc_solve.specs.Graphs.{IsGraphOf}
 use Rattle.kc_solve.specs.Refused.{NamesLoop}
 use Rattle.kc_conf.specs.ErrorLines.{refusal_line}
-use Rattle.kc_conf.specs.Faults.{BreaksRun, Finishes}
+use Rattle.kc_conf.specs.Faults.{BreaksRun, Completes}
 use Rattle.kc_conf.specs.InputBytes.{AreAllToCome}
 use Rattle.kc_conf.specs.AcceptedTree.{HoldsTree}
 use Rattle.kc_conf.specs.Outcome.{IsAcceptedTree, IsOutcome, IsRefusedTree, looped, no_tree, OneAnswer, Outcome, refused, refused_tree, root_file}
@@ -53,10 +53,10 @@ module _ (law : OneAnswer) (there : OpenedAreThere) (files : Files) (options : O
   its_line = refusal_line (refusal_view r)
 
   -- the run ends with the line of the refusal
-  pub Finishes-refusal : (given : List (Option (List ℕ))) (flags : List Bool) (status : Status) (old new : OutputStates) → (r.code ≢ NoMemory) × Finishes (refused its_line) status old new →
+  pub Completes-refusal : (given : List (Option (List ℕ))) (flags : List Bool) (status : Status) (old new : OutputStates) → (r.code ≢ NoMemory) × Completes (refused its_line) status old new →
       (all : List (List ℕ)) × AreAllToCome given all × ((tree : TreeFacts) → IsAcceptedTree files (root_file options) tree → StreamsAreThere all flags)
-      × ((outcome : Outcome) × IsOutcome files options all outcome × Finishes outcome status old new)
-  Finishes-refusal given flags status old new (known, finishes) =
+      × ((outcome : Outcome) × IsOutcome files options all outcome × Completes outcome status old new)
+  Completes-refusal given flags status old new (known, finishes) =
       let (opened, are) = there files (root_file options) in (
         map left_of given,
         AreAllToCome-self given,
@@ -65,26 +65,26 @@ module _ (law : OneAnswer) (there : OpenedAreThere) (files : Files) (options : O
       )
 
   -- or it breaks off in that line, or for want of memory
-  pub BreaksRun-refusal : (given : List (Option (List ℕ))) (cause : RunFault) (old new : OutputStates) →
-      IsOutOfMemory r cause old new ⊎ ((r.code ≢ NoMemory) × BreaksRun (refused its_line) cause old new) →
-      (all : List (List ℕ)) × AreAllToCome given all × ((outcome : Outcome) → IsOutcome files options all outcome → BreaksRun outcome cause old new)
-  BreaksRun-refusal given cause old new (inl out) = (
+  pub BreaksRun-refusal : (given : List (Option (List ℕ))) (fault : RunFault) (old new : OutputStates) →
+      IsOutOfMemory r fault old new ⊎ ((r.code ≢ NoMemory) × BreaksRun (refused its_line) fault old new) →
+      (all : List (List ℕ)) × AreAllToCome given all × ((outcome : Outcome) → IsOutcome files options all outcome → BreaksRun outcome fault old new)
+  BreaksRun-refusal given fault old new (inl out) = (
     map left_of given,
     AreAllToCome-self given,
     λ outcome is.
-        subst (λ c. BreaksRun outcome c old new) (sym out.cause_is) (subst (λ (p : OutputStates). BreaksRun outcome Memory old p) (sym out.nothing) (BreaksRun-nothing outcome old)),
+        subst (λ c. BreaksRun outcome c old new) (sym out.fault_is) (subst (λ (p : OutputStates). BreaksRun outcome Memory old p) (sym out.nothing) (BreaksRun-nothing outcome old)),
   )
-  BreaksRun-refusal given cause old new (inr (known, broken)) = (
+  BreaksRun-refusal given fault old new (inr (known, broken)) = (
     map left_of given,
     AreAllToCome-self given,
-    BreaksRun-refused_tree law files options (refusal_view r) (map left_of given) cause old new (why known) broken,
+    BreaksRun-refused_tree law files options (refusal_view r) (map left_of given) fault old new (why known) broken,
   )
 
   -- where it ends, no tree is accepted
   pub nothing_accepted : (kept : Option AcceptedTree) (Ends : Status → Type 0) (result : Result Status RunFault) → IfOk result (λ status. (r.code ≢ NoMemory) × Ends status) →
       OnOk result ((tree : TreeFacts) → IsAcceptedTree files (root_file options) tree → HoldsTree tree kept)
   nothing_accepted kept Ends (Ok status) (known, ends) = λ tree accepted. absurd (law.not_both files (root_file options) (refusal_view r) tree (why known) accepted)
-  nothing_accepted kept Ends (Err cause) ends = tt
+  nothing_accepted kept Ends (Err fault) ends = tt
 
 -- ---- kept
 
@@ -97,4 +97,4 @@ module _ (law : OneAnswer) (files : Files) (root : List ℕ) (tree : TreeFacts) 
 
   pub HoldsTree-ended : (result : Result Status RunFault) → OnOk result ((other : TreeFacts) → IsAcceptedTree files root other → HoldsTree other (Some record { tree = tree; order = order }))
   HoldsTree-ended (Ok status) = HoldsTree-accepted
-  HoldsTree-ended (Err cause) = tt
+  HoldsTree-ended (Err fault) = tt

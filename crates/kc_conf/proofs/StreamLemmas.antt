@@ -92,17 +92,17 @@ flags-unchanged f xs i x d within same =
     map-set f xs i x ∙ ap (slice_set (map f xs) i) (same ∙ sym (get_or-map f xs i d (f d) within)) ∙ set-get_or (map f xs) i (f d)
 
 -- an input that failed is one that may
-pub MayStrike-stream : {X : Type 0} (may_fail : X → Bool) (cause : RunFault) (old : List Bool) (inputs : List X) (at : ℕ) (d : X) → at < length inputs →
-    map may_fail inputs ≡ old → IsStreamFault at cause → StreamMayFail (may_fail (get_or inputs at d)) cause → MayStrike old cause
+pub MayStrike-stream : {X : Type 0} (may_fail : X → Bool) (fault : RunFault) (old : List Bool) (inputs : List X) (at : ℕ) (d : X) → at < length inputs →
+    map may_fail inputs ≡ old → IsStreamFault at fault → StreamMayFail (may_fail (get_or inputs at d)) fault → MayStrike old fault
 MayStrike-stream may_fail (Read input) old inputs at d within same is may =
     ap (slice_get old) is ∙ ap (λ l. slice_get l at) (sym same) ∙ slice_get-flag may_fail inputs at d within may
 MayStrike-stream may_fail Memory old inputs at d within same is may = tt
 MayStrike-stream may_fail (Write output) old inputs at d within same is may = tt
 
 -- the count of the input that failed rose, and no other
-pub CountsInputs-stream : {X : Type 0} (failures : X → ℕ) (cause : RunFault) (old : List ℕ) (inputs : List X) (at : ℕ) (new d : X) → at < length inputs →
-    map failures inputs ≡ old → IsStreamFault at cause →
-    failures new ≡ input_failures_after cause (failures (get_or inputs at d)) → CountsInputs cause old (map failures (slice_set inputs at new))
+pub CountsInputs-stream : {X : Type 0} (failures : X → ℕ) (fault : RunFault) (old : List ℕ) (inputs : List X) (at : ℕ) (new d : X) → at < length inputs →
+    map failures inputs ≡ old → IsStreamFault at fault →
+    failures new ≡ input_failures_after fault (failures (get_or inputs at d)) → CountsInputs fault old (map failures (slice_set inputs at new))
 CountsInputs-stream failures (Read input) old inputs at new d within same is counts =
     let within' : at < length old = omega (arith, within, ap length same, length-map inputs failures) in
     let changed : map failures (slice_set inputs at new) ≡ slice_set old at (next_failure (slice_index old at)) =

@@ -1,9 +1,7 @@
 -- The files that a run reads, where they are at hand.
 use Rattle.std.proofs.Common.{◌≡◌, List, ℕ, Option, Some, None, Err, refl, subst, subst₂, ap, sym}
-use Rattle.std.specs.Prelude.{if◌then◌else◌}
 use Rattle.kc_read.specs.Expansion.{Expands, Refused}
 use Rattle.kc_read.specs.Files.{Files}
-use Rattle.kc_make.specs.Opened.{AreOpened}
 use Rattle.kc_build.specs.Numberings.{IsListingOf}
 use Rattle.kc_build.specs.Trees.{IsTreeOf}
 use Rattle.kc_build.specs.declared.numbering.Listing.{Listing}
@@ -12,7 +10,7 @@ use Rattle.kc_conf.specs.declared.options.Status.{Status}
 use Rattle.kc_conf.specs.declared.options.Status.TheVariants.{Done}
 use Rattle.kc_conf.specs.declared.outputs.Output.TheVariants.{Depfile}
 use Rattle.kc_conf.specs.declared.tree_files.TreeFiles.{TreeFiles}
-use Rattle.kc_conf.specs.Outcome.{depfile_text, is_done, text_if}
+use Rattle.kc_conf.specs.Outcome.{depfile_text, text_if}
 use Rattle.kc_conf.specs.OutputStates.{OutputStates, made_if}
 use Rattle.kc_conf.specs.Rules.{EndsWithRule}
 use Rattle.kc_conf.specs.TreeFiles.{AreAtHand, files_in}

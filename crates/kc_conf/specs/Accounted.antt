@@ -24,8 +24,8 @@ IsSetAgain tree prefix notes s later =
     × Holds notes (warning_line l.stream l.number (SetAgain (name tree s)))
 
 -- what was given is the symbol's value, or it is told that it is not
-abbrev pub IsKeptOrTold : TreeFacts → Solution → List ℕ → SymId → SymbolFacts → GivenValue → Type 0
-IsKeptOrTold tree solution notes s f given =
+abbrev pub IsKeptOrWarned : TreeFacts → Solution → List ℕ → SymId → SymbolFacts → GivenValue → Type 0
+IsKeptOrWarned tree solution notes s f given =
     (given ≡ given_of (known solution s))
     ⊎ Holds notes (lost_line (name tree s) f.kind given (given_of (known solution s)) ++ codes "\n")
 
@@ -36,7 +36,7 @@ module _ (tree : TreeFacts) (prefix : List ℕ) (solution : Solution) (notes : L
   IsAccountedFor l later Silent = Unit {0}
   IsAccountedFor l later (Warns line_warning) = Holds notes (warning_line l.stream l.number line_warning)
   IsAccountedFor l later (Assigns s given) =
-      (f : SymbolFacts) → facts tree s ≡ Some f → has_prompt f.prompts ≡ true → IsSetAgain tree prefix notes s later ⊎ IsKeptOrTold tree solution notes s f given
+      (f : SymbolFacts) → facts tree s ≡ Some f → has_prompt f.prompts ≡ true → IsSetAgain tree prefix notes s later ⊎ IsKeptOrWarned tree solution notes s f given
 
 -- Where lost values are warned of and files are written, the .config is the text of the solution, and the notes account for
 -- each line of the streams by the values of that solution.

@@ -37,8 +37,8 @@ abbrev pub finished : Outcome → OutputStates → OutputStates
 finished outcome states = files_made outcome (with_text Notes outcome.notes states)
 
 -- the run left this outcome, and answered its status
-abbrev pub Finishes : Outcome → Status → OutputStates → OutputStates → Type 0
-Finishes outcome status old new = (status ≡ outcome.status) × (new ≡ finished outcome old)
+abbrev pub Completes : Outcome → Status → OutputStates → OutputStates → Type 0
+Completes outcome status old new = (status ≡ outcome.status) × (new ≡ finished outcome old)
 
 -- ---- a run with a fault
 
@@ -70,11 +70,11 @@ StrikesFile file (Write output) = output ≡ file
 
 -- A run that was to leave this outcome broke off, for this cause. All before the point where it broke off is whole. A file
 -- that broke off was not ended: it holds a beginning of its text, or all of it where its end failed.
-pub data BreaksRun (outcome : Outcome) (cause : RunFault) (old new : OutputStates) : Type 0 where
-  in_notes : (front : List ℕ) → StrikesNotes cause → BeginsWith outcome.notes front → new ≡ after_fault cause (with_text Notes front old) → BreaksRun outcome cause old new
-  not_begun : (file : Output) (text : List ℕ) → StrikesFile file cause → file_text outcome file ≡ Some text → new ≡ after_fault cause (up_to file outcome old) → BreaksRun outcome cause old new
-  in_file : (file : Output) (text front : List ℕ) → StrikesFile file cause → file_text outcome file ≡ Some text → BeginsWith text front →
-      new ≡ after_fault cause (begun_with file front (up_to file outcome old)) → BreaksRun outcome cause old new
+pub data BreaksRun (outcome : Outcome) (fault : RunFault) (old new : OutputStates) : Type 0 where
+  in_notes : (front : List ℕ) → StrikesNotes fault → BeginsWith outcome.notes front → new ≡ after_fault fault (with_text Notes front old) → BreaksRun outcome fault old new
+  not_begun : (file : Output) (text : List ℕ) → StrikesFile file fault → file_text outcome file ≡ Some text → new ≡ after_fault fault (up_to file outcome old) → BreaksRun outcome fault old new
+  in_file : (file : Output) (text front : List ℕ) → StrikesFile file fault → file_text outcome file ≡ Some text → BeginsWith text front →
+      new ≡ after_fault fault (begun_with file front (up_to file outcome old)) → BreaksRun outcome fault old new
 
 -- the cause is no failure of an input
 abbrev pub IsNoInputFault : RunFault → Type 0
@@ -122,23 +122,23 @@ Reports options (Write Notes) old new = new ≡ old
 
 -- broke off, and then reported
 abbrev pub Faults : Options → Outcome → RunFault → OutputStates → OutputStates → Type 0
-Faults options outcome cause old new = (mid : OutputStates) × BreaksRun outcome cause old mid × Reports options cause mid new
+Faults options outcome fault old new = (mid : OutputStates) × BreaksRun outcome fault old mid × Reports options fault mid new
 
 -- ---- parts of a run
 
 -- the notes broke off
 abbrev pub BreaksNotes : List ℕ → RunFault → OutputStates → OutputStates → Type 0
-BreaksNotes text cause old new = (front : List ℕ) × StrikesNotes cause × BeginsWith text front × (new ≡ after_fault cause (with_text Notes front old))
+BreaksNotes text fault old new = (front : List ℕ) × StrikesNotes fault × BeginsWith text front × (new ≡ after_fault fault (with_text Notes front old))
 
 -- one file broke off: before it was begun, or with a beginning of its text
 abbrev pub BreaksFile : Output → Option (List ℕ) → RunFault → OutputStates → OutputStates → Type 0
-BreaksFile file None cause old new = ⊥
-BreaksFile file (Some text) cause old new =
-    StrikesFile file cause × ((new ≡ after_fault cause old) ⊎ ((front : List ℕ) × BeginsWith text front × (new ≡ after_fault cause (begun_with file front old))))
+BreaksFile file None fault old new = ⊥
+BreaksFile file (Some text) fault old new =
+    StrikesFile file fault × ((new ≡ after_fault fault old) ⊎ ((front : List ℕ) × BeginsWith text front × (new ≡ after_fault fault (begun_with file front old))))
 
 -- one of the files broke off, behind those before it
 abbrev pub BreaksFiles : Outcome → RunFault → OutputStates → OutputStates → Type 0
-BreaksFiles outcome cause old new = (file : Output) × BreaksFile file (file_text outcome file) cause (files_before file outcome old) new
+BreaksFiles outcome fault old new = (file : Output) × BreaksFile file (file_text outcome file) fault (files_before file outcome old) new
 
 abbrev pub write_fault : Output → WriteFault → RunFault
 write_fault output write.Sink = Write output

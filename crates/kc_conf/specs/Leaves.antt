@@ -4,7 +4,7 @@ use Rattle.kc_read.specs.Expansion.{Refused}
 use Rattle.kc_read.specs.Files.{Files}
 use Rattle.kc_tree.specs.TreeFacts.{TreeFacts}
 use Rattle.kc_conf.specs.declared.options.Options.{Options}
-use Rattle.kc_conf.specs.Faults.{CountsInputs, Faults, Finishes}
+use Rattle.kc_conf.specs.Faults.{CountsInputs, Faults, Completes}
 use Rattle.kc_conf.specs.InputBytes.{AreAllToCome}
 use Rattle.kc_conf.specs.AcceptedTree.{HoldsTree}
 use Rattle.kc_conf.specs.Outcome.{IsAcceptedTree, IsOutcome, IsRefusedTree, Outcome, root_file}
@@ -25,9 +25,9 @@ pub record Leaves (files : Files) (options : Options) (given : List (Option (Lis
   pub to_come : AreAllToCome given all
   pub outcome : Outcome
   pub is_outcome : IsOutcome files options all outcome
-  pub finished : status ≢ Faulted → Finishes outcome status old new × (counts_after ≡ counts)
+  pub finished : status ≢ Faulted → Completes outcome status old new × (counts_after ≡ counts)
       × ((tree : TreeFacts) → IsAcceptedTree files (root_file options) tree → StreamsAreThere all there)
-  pub broken : status ≡ Faulted → (cause : RunFault) × CountsInputs cause counts counts_after × MayStrike may_fail cause × Faults options outcome cause old new
+  pub broken : status ≡ Faulted → (fault : RunFault) × CountsInputs fault counts counts_after × MayStrike may_fail fault × Faults options outcome fault old new
   pub refused : (r : Refused) → IsRefusedTree files (root_file options) r → ChangesOnly Notes old new
 
 -- Without a fault an accepted tree is kept; a refused one leaves what was there. After a fault it is what was there or the

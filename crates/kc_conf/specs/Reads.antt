@@ -14,7 +14,7 @@ use Rattle.kc_conf.specs.OutputStates.{OutputStates, with_text}
 use Rattle.kc_conf.specs.Presence.{StreamsAreThere}
 use Rattle.kc_conf.specs.declared.options.Options.{Options}
 use Rattle.kc_conf.specs.declared.run_fault.RunFault.{RunFault}
-use Rattle.kc_conf.specs.declared.run_fault.RunFault.TheVariants as cause
+use Rattle.kc_conf.specs.declared.run_fault.RunFault.TheVariants as fault
 use Rattle.kc_conf.specs.declared.outputs.Output.TheVariants.{Notes}
 use Rattle.kc_conf.specs.declared.reading.LongLine.{LongLine}
 
@@ -42,26 +42,26 @@ ended_with places warned stopped = record { places = places; warned = warned; st
 -- the counts of failures, of an input and of the notes, after a fault that strikes while streams are read: the one that
 -- failed rises
 abbrev pub input_failures_after : RunFault → ℕ → ℕ
-input_failures_after (cause.Read input) count = next_failure count
-input_failures_after cause.Memory count = count
-input_failures_after (cause.Write output) count = count
+input_failures_after (fault.Read input) count = next_failure count
+input_failures_after fault.Memory count = count
+input_failures_after (fault.Write output) count = count
 
 abbrev pub notes_failures_after : RunFault → ℕ → ℕ
-notes_failures_after (cause.Read input) count = count
-notes_failures_after cause.Memory count = count
-notes_failures_after (cause.Write output) count = next_failure count
+notes_failures_after (fault.Read input) count = count
+notes_failures_after fault.Memory count = count
+notes_failures_after (fault.Write output) count = next_failure count
 
 -- the cause is a read of that input, a failure of the notes, or memory
 abbrev pub IsStreamFault : ℕ → RunFault → Type 0
-IsStreamFault input (cause.Read other) = other ≡ input
-IsStreamFault input cause.Memory = Unit {0}
-IsStreamFault input (cause.Write output) = output ≡ Notes
+IsStreamFault input (fault.Read other) = other ≡ input
+IsStreamFault input fault.Memory = Unit {0}
+IsStreamFault input (fault.Write output) = output ≡ Notes
 
 -- where the cause is a read of an input, that may fail
 abbrev pub StreamMayFail : Bool → RunFault → Type 0
-StreamMayFail may_fail (cause.Read input) = may_fail ≡ true
-StreamMayFail may_fail cause.Memory = ⊤
-StreamMayFail may_fail (cause.Write output) = ⊤
+StreamMayFail may_fail (fault.Read input) = may_fail ≡ true
+StreamMayFail may_fail fault.Memory = ⊤
+StreamMayFail may_fail (fault.Write output) = ⊤
 
 -- the inputs give these bytes, and those whose turn came are there
 abbrev pub AreRead : List (Option (List ℕ)) → List Bool → List (List ℕ) → Type 0
@@ -74,8 +74,8 @@ module _ (tree : TreeFacts) (prefix : List ℕ) where
       (more : List Line) → reading tree prefix before (lines ++ more) ≡ with_warnings warned (reading tree prefix after more)
 
   -- Whatever lines follow: one of these lines is too long, after these warnings.
-  abbrev pub Stops : List Line → Places → Places → List ℕ → StreamLocation → Type 0
-  Stops lines before after warned stop =
+  abbrev pub StopsAtLongLine : List Line → Places → Places → List ℕ → StreamLocation → Type 0
+  StopsAtLongLine lines before after warned stop =
       (more : List Line) → reading tree prefix before (lines ++ more) ≡ ended_with after warned (Some stop)
 
   -- Whatever lines follow: their warnings begin so.
@@ -109,7 +109,7 @@ module _ (tree : TreeFacts) (prefix : List ℕ) where
     -- the lines of the stream were read, to their end or to one that is too long
     abbrev pub ReadsTo : Option ℕ → List Line → Places → Places → List ℕ → Type 0
     ReadsTo None lines before after warned = Reads lines before after warned
-    ReadsTo (Some number) lines before after warned = Stops lines before after warned (record { stream = name; number = number })
+    ReadsTo (Some number) lines before after warned = StopsAtLongLine lines before after warned (record { stream = name; number = number })
 
     -- the stream was read, to its end or to a line that is too long
     abbrev pub ReadsStream : Option ℕ → Option (List ℕ) → Places → Places → Option (List ℕ) → Option (List ℕ) → Type 0
@@ -136,8 +136,8 @@ module _ (tree : TreeFacts) (prefix : List ℕ) where
 
   -- and broke off for this cause
   abbrev pub BreaksTelling : List (List ℕ) → RunFault → List (Option (List ℕ)) → Places → OutputStates → OutputStates → Type 0
-  BreaksTelling names cause given before old new =
-      (all : List (List ℕ)) × (front : List ℕ) × AreAllToCome given all × (new ≡ after_fault cause (with_text Notes front old))
+  BreaksTelling names fault given before old new =
+      (all : List (List ℕ)) × (front : List ℕ) × AreAllToCome given all × (new ≡ after_fault fault (with_text Notes front old))
       × BeginsWith (reading tree prefix before (lines_of (streams names all))).warned front
 
   -- the streams broke off, with a beginning of their warnings told

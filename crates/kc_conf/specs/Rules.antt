@@ -16,4 +16,4 @@ EndsWithRule options opened status ended old new =
 
 -- it was done, and the rule broke off
 abbrev pub BreaksInRule : Options → List (List ℕ) → Status → RunFault → OutputStates → OutputStates → Type 0
-BreaksInRule options opened status cause old new = (status ≡ Done) × BreaksFile Depfile (text_if options.depfile (depfile_text options opened)) cause old new
+BreaksInRule options opened status fault old new = (status ≡ Done) × BreaksFile Depfile (text_if options.depfile (depfile_text options opened)) fault old new

@@ -23,7 +23,7 @@ use kc_tree::layout::Layout;
 use kc_tree::rows::{DefinitionId, Symbol};
 use kc_user::user::User;
 use kc_user::value::UserValue;
-use kc_values::lookups::name;
+use kc_values::table::name;
 use std::alloc::{AllocError, Global};
 
 // Adds a text as a `.config` writes it.

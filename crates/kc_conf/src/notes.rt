@@ -106,7 +106,7 @@ fn note_at<'a, O: Outputs>(
 }
 
 // Writes an error line without a location.
-fn note_unplaced<'a, O: Outputs>(
+fn note_without_location<'a, O: Outputs>(
     outputs: &mut O,
     before: &'a [u8],
     detail: &'a [u8],
@@ -134,7 +134,7 @@ pub fn note_refusal<O: Outputs>(outputs: &mut O, refusal: &Refusal) -> Result<()
             &refusal.detail,
             behind,
         ),
-        None => note_unplaced(outputs, before, &refusal.detail, behind),
+        None => note_without_location(outputs, before, &refusal.detail, behind),
     }
 }
 
@@ -180,10 +180,10 @@ fn note_line<O: Outputs>(outputs: &mut O, parts: &[&[u8]])
 }
 
 // Writes the one error line of a fault, unless the notes are what failed.
-pub fn report<O: Outputs>(options: &Options, cause: RunFault, outputs: &mut O)
-    ensures { Reports options.now cause (O.states outputs.old) (O.states outputs.new) }
+pub fn report<O: Outputs>(options: &Options, fault: RunFault, outputs: &mut O)
+    ensures { Reports options.now fault (O.states outputs.old) (O.states outputs.new) }
 {
-    match cause {
+    match fault {
         RunFault::Read(input) => note_line(outputs, &cannot_read(stream_name(options, input))),
         RunFault::Write(Output::Notes) => {}
         RunFault::Write(output) => note_line(outputs, &cannot_write(name_of(options, output))),

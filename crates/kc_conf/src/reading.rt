@@ -2,7 +2,7 @@
 ghost use Rattle.std.specs.Prelude.{◌≡◌, ◌<◌, ◌+◌, true, length, map, None, IfOk, OnOk, IfErr, OnErr};
 ghost use Rattle.std.specs.Option.{option_map};
 ghost use Rattle.kc_user.specs.Places.{ArePlacesOf};
-ghost use Rattle.kc_dot.specs.Feeding.{Feeds, Refuses, Finishes, FailsToEnd, stream_start, failures_after};
+ghost use Rattle.kc_dot.specs.Feeding.{Feeds, Refuses, FinishesStream, FailsToEnd, stream_start, failures_after};
 ghost use Rattle.kc_conf.specs.Faults.{CountsInputs, StrikesNotes};
 ghost use Rattle.kc_conf.specs.Outcome.{names_of};
 ghost use Rattle.kc_conf.specs.Presence.{MayStrike};
@@ -56,7 +56,7 @@ fn finish_stream<S: Sink>(
 ) -> Result<(), DotFault>
     requires user { ArePlacesOf reader.old.tree user.old }
     requires fresh { reader.old.refusal ≡ None }
-    ensures ok { OnOk result (Finishes reader.old.tree reader.old.prefix reader.old.name reader.old.position user.old user.new (S.taken sink.old) (S.taken sink.new)) }
+    ensures ok { OnOk result (FinishesStream reader.old.tree reader.old.prefix reader.old.name reader.old.position user.old user.new (S.taken sink.old) (S.taken sink.new)) }
     ensures failed { IfErr result (λ fault. FailsToEnd reader.old.tree reader.old.prefix reader.old.name fault reader.old.position user.old (S.taken sink.old) (S.taken sink.new)) }
     ensures quiet { OnOk result (S.failures sink.new ≡ S.failures sink.old) }
     ensures counted { IfErr result (λ fault. S.failures sink.new ≡ failures_after fault (S.failures sink.old)) }
@@ -79,15 +79,15 @@ fn read_pieces<I: Input, S: Sink>(
     ensures ok { IfOk result (λ long. TakesPieces reader.old.tree reader.old.prefix reader.old.name long (I.remaining input.old) reader.old.position reader.new.position user.old user.new (S.taken sink.old) (S.taken sink.new)) }
     ensures stands { IfOk result (λ long. long ≡ None → reader.new ≡ record reader.old { position = reader.new.position }) }
     ensures err { OnErr result (BreaksPieces reader.old.tree reader.old.prefix reader.old.name (I.remaining input.old) reader.old.position user.old (S.taken sink.old) (S.taken sink.new)) }
-    ensures cause { IfErr result (IsStreamFault at) }
+    ensures fault { IfErr result (IsStreamFault at) }
     ensures quiet { OnOk result (S.failures sink.new ≡ S.failures sink.old) }
-    ensures counted { IfErr result (λ cause. S.failures sink.new ≡ notes_failures_after cause (S.failures sink.old)) }
+    ensures counted { IfErr result (λ fault. S.failures sink.new ≡ notes_failures_after fault (S.failures sink.old)) }
     ensures there { OnOk result (I.is_there input.old ≡ true) }
     ensures may { IfErr result (StreamMayFail (I.may_fail input.old)) }
     ensures there_stays { I.is_there input.new ≡ I.is_there input.old }
     ensures may_fail_stays { I.may_fail input.new ≡ I.may_fail input.old }
     ensures quiet_input { OnOk result (I.failures input.new ≡ I.failures input.old) }
-    ensures input_failures_after { IfErr result (λ cause. I.failures input.new ≡ input_failures_after cause (I.failures input.old)) }
+    ensures input_failures_after { IfErr result (λ fault. I.failures input.new ≡ input_failures_after fault (I.failures input.old)) }
     ensures keeps { S.goes_to sink.old sink.new }
     ensures user { ArePlacesOf reader.old.tree user.new }
 {
@@ -102,7 +102,7 @@ fn read_pieces<I: Input, S: Sink>(
         }
         match feed_piece(reader, &buffer[..count], user, sink) {
             Ok(()) => {}
-            Err(DotFault::ConfigLineTooLong(number)) => return Ok(Some(number)),
+            Err(DotFault::DotLineTooLong(number)) => return Ok(Some(number)),
             Err(DotFault::Sink) => return Err(RunFault::Write(Output::Notes)),
             Err(DotFault::Memory) => return Err(RunFault::Memory),
         }
@@ -122,26 +122,26 @@ fn read_stream<I: Input, S: Sink>(
     requires begins { reader.old.position ≡ stream_start }
     ensures ok { IfOk result (λ long. ReadsStream reader.old.tree reader.old.prefix reader.old.name long (I.remaining input.old) user.old user.new (S.taken sink.old) (S.taken sink.new)) }
     ensures err { OnErr result (BreaksStream reader.old.tree reader.old.prefix reader.old.name (I.remaining input.old) user.old (S.taken sink.old) (S.taken sink.new)) }
-    ensures cause { IfErr result (IsStreamFault at) }
+    ensures fault { IfErr result (IsStreamFault at) }
     ensures quiet { OnOk result (S.failures sink.new ≡ S.failures sink.old) }
-    ensures counted { IfErr result (λ cause. S.failures sink.new ≡ notes_failures_after cause (S.failures sink.old)) }
+    ensures counted { IfErr result (λ fault. S.failures sink.new ≡ notes_failures_after fault (S.failures sink.old)) }
     ensures there { OnOk result (I.is_there input.old ≡ true) }
     ensures may { IfErr result (StreamMayFail (I.may_fail input.old)) }
     ensures there_stays { I.is_there input.new ≡ I.is_there input.old }
     ensures may_fail_stays { I.may_fail input.new ≡ I.may_fail input.old }
     ensures quiet_input { OnOk result (I.failures input.new ≡ I.failures input.old) }
-    ensures input_failures_after { IfErr result (λ cause. I.failures input.new ≡ input_failures_after cause (I.failures input.old)) }
+    ensures input_failures_after { IfErr result (λ fault. I.failures input.new ≡ input_failures_after fault (I.failures input.old)) }
     ensures keeps { S.goes_to sink.old sink.new }
     ensures user { ArePlacesOf reader.old.tree user.new }
 {
     match read_pieces(reader, at, input, user, sink) {
         Ok(Some(number)) => return Ok(Some(number)),
         Ok(None) => {}
-        Err(cause) => return Err(cause),
+        Err(fault) => return Err(fault),
     }
     match finish_stream(reader, user, sink) {
         Ok(()) => Ok(None),
-        Err(DotFault::ConfigLineTooLong(number)) => Ok(Some(number)),
+        Err(DotFault::DotLineTooLong(number)) => Ok(Some(number)),
         Err(DotFault::Sink) => Err(RunFault::Write(Output::Notes)),
         Err(DotFault::Memory) => Err(RunFault::Memory),
     }
@@ -159,14 +159,15 @@ pub fn read_streams<'a, I: Input, S: Sink>(
 ) -> Result<Option<LongLine<'a>>, RunFault>
     requires inputs { length inputs.old ≡ length options.now.fragments.items + 1 }
     requires user { ArePlacesOf tree.now user.old }
-    ensures ok { IfOk result (λ long. ReadsStreams tree.now options.now.prefix (names_of options.now) (option_map stop_of long) (map I.remaining inputs.old) (map I.is_there inputs.old) user.old user.new (S.taken sink.old) (S.taken sink.new)) }
+    ensures ok { IfOk result (λ long. ReadsStreams tree.now options.now.prefix (names_of options.now) (option_map stop_of long) (map I.remaining inputs.old)
+        (map I.is_there inputs.old) user.old user.new (S.taken sink.old) (S.taken sink.new)) }
     ensures err { OnErr result (BreaksStreams tree.now options.now.prefix (names_of options.now) (map I.remaining inputs.old) user.old (S.taken sink.old) (S.taken sink.new)) }
     ensures quiet { OnOk result (S.failures sink.new ≡ S.failures sink.old) }
-    ensures cause { IfErr result StrikesNotes }
-    ensures counted { IfErr result (λ cause. S.failures sink.new ≡ notes_failures_after cause (S.failures sink.old)) }
+    ensures fault { IfErr result StrikesNotes }
+    ensures counted { IfErr result (λ fault. S.failures sink.new ≡ notes_failures_after fault (S.failures sink.old)) }
     ensures may { IfErr result (MayStrike (map I.may_fail inputs.old)) }
     ensures quiet_inputs { OnOk result (map I.failures inputs.new ≡ map I.failures inputs.old) }
-    ensures counted_inputs { IfErr result (λ cause. CountsInputs cause (map I.failures inputs.old) (map I.failures inputs.new)) }
+    ensures counted_inputs { IfErr result (λ fault. CountsInputs fault (map I.failures inputs.old) (map I.failures inputs.new)) }
     ensures keeps { S.goes_to sink.old sink.new }
     ensures user { ArePlacesOf tree.now user.new }
 {
@@ -181,7 +182,7 @@ pub fn read_streams<'a, I: Input, S: Sink>(
                     number,
                 }));
             }
-            Err(cause) => return Err(cause),
+            Err(fault) => return Err(fault),
         }
     }
     Ok(None)

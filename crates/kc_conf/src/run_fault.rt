@@ -15,7 +15,7 @@ pub enum RunFault {
 }
 
 impl From<AllocError> for RunFault {
-    ghost from_gives = { λ _ cause. cause ≡ Memory };
+    ghost from_gives = { λ _ fault. fault ≡ Memory };
 
     fn from(_error: AllocError) -> RunFault {
         RunFault::Memory

@@ -12,7 +12,7 @@ ghost use Rattle.kc_solve.specs.Graphs.{IsGraphOf};
 ghost use Rattle.kc_solve.specs.Solved.{Solution};
 ghost use Rattle.kc_tree.specs.Layouts.{IsLayoutOf};
 ghost use Rattle.kc_conf.specs.ErrorLines.{refusal_line, strict_line, too_long_line};
-ghost use Rattle.kc_conf.specs.Faults.{Finishes, BreaksRun, IsNoInputFault, CountsInputs, Faults};
+ghost use Rattle.kc_conf.specs.Faults.{Completes, BreaksRun, IsNoInputFault, CountsInputs, Faults};
 ghost use Rattle.kc_conf.specs.InputBytes.{AreAllToCome};
 ghost use Rattle.kc_conf.specs.AcceptedTree.{HoldsTree};
 ghost use Rattle.kc_conf.specs.Outcome.{Outcome, has_text, lines_text, outcome_of, refused, strictly, root_file, read_of, IsAcceptedTree, IsRefusedTree, IsSolutionFor, IsOutcome, IsOutcomeOfReading, IsOutcomeOfTree, OneAnswer, OneOutcome};
@@ -62,9 +62,9 @@ pub struct AcceptedTree {
 
 // Writes the refusal of a tree.
 fn refuse_tree<O: Outputs>(outputs: &mut O, refusal: &Refusal) -> Result<Status, RunFault>
-    ensures ok { IfOk result (λ status. Finishes (refused (refusal_line (refusal_view refusal.now))) status (O.states outputs.old) (O.states outputs.new)) }
-    ensures err { IfErr result (λ cause. BreaksRun (refused (refusal_line (refusal_view refusal.now))) cause (O.states outputs.old) (O.states outputs.new)) }
-    ensures cause { IfErr result IsNoInputFault }
+    ensures ok { IfOk result (λ status. Completes (refused (refusal_line (refusal_view refusal.now))) status (O.states outputs.old) (O.states outputs.new)) }
+    ensures err { IfErr result (λ fault. BreaksRun (refused (refusal_line (refusal_view refusal.now))) fault (O.states outputs.old) (O.states outputs.new)) }
+    ensures fault { IfErr result IsNoInputFault }
     ensures only { ChangesOnly Output.Notes (O.states outputs.old) (O.states outputs.new) }
 {
     match note_refusal(outputs, refusal) {
@@ -75,9 +75,9 @@ fn refuse_tree<O: Outputs>(outputs: &mut O, refusal: &Refusal) -> Result<Status,
 
 // Writes the refusal of a line that is too long.
 fn refuse_line<O: Outputs>(outputs: &mut O, long: &LongLine<'_>) -> Result<Status, RunFault>
-    ensures ok { IfOk result (λ status. Finishes (refused (too_long_line (stop_of long.now))) status (O.states outputs.old) (O.states outputs.new)) }
-    ensures err { IfErr result (λ cause. BreaksRun (refused (too_long_line (stop_of long.now))) cause (O.states outputs.old) (O.states outputs.new)) }
-    ensures cause { IfErr result IsNoInputFault }
+    ensures ok { IfOk result (λ status. Completes (refused (too_long_line (stop_of long.now))) status (O.states outputs.old) (O.states outputs.new)) }
+    ensures err { IfErr result (λ fault. BreaksRun (refused (too_long_line (stop_of long.now))) fault (O.states outputs.old) (O.states outputs.new)) }
+    ensures fault { IfErr result IsNoInputFault }
 {
     match note_too_long(outputs, long) {
         Ok(()) => Ok(Status::Refused),
@@ -87,9 +87,9 @@ fn refuse_line<O: Outputs>(outputs: &mut O, long: &LongLine<'_>) -> Result<Statu
 
 // Refuses the warnings.
 fn refuse_warnings<O: Outputs>(outputs: &mut O) -> Result<Status, RunFault>
-    ensures ok { IfOk result (λ status. Finishes (refused strict_line) status (O.states outputs.old) (O.states outputs.new)) }
-    ensures err { IfErr result (λ cause. BreaksRun (refused strict_line) cause (O.states outputs.old) (O.states outputs.new)) }
-    ensures cause { IfErr result IsNoInputFault }
+    ensures ok { IfOk result (λ status. Completes (refused strict_line) status (O.states outputs.old) (O.states outputs.new)) }
+    ensures err { IfErr result (λ fault. BreaksRun (refused strict_line) fault (O.states outputs.old) (O.states outputs.new)) }
+    ensures fault { IfErr result IsNoInputFault }
 {
     match note_strict(outputs) {
         Ok(()) => Ok(Status::Refused),
@@ -107,9 +107,9 @@ fn make_or_refuse<O: Outputs>(
     outputs: &mut O,
 ) -> Result<Status, RunFault>
     requires { solved.now.tree ≡ tree.now }
-    ensures ok { IfOk result (λ status. Finishes (strictly_after options.now.strict is_warned (without_notes (outcome_of options.now tree.now solved.now))) status (O.states outputs.old) (O.states outputs.new)) }
-    ensures err { IfErr result (λ cause. BreaksRun (strictly_after options.now.strict is_warned (without_notes (outcome_of options.now tree.now solved.now))) cause (O.states outputs.old) (O.states outputs.new)) }
-    ensures cause { IfErr result IsNoInputFault }
+    ensures ok { IfOk result (λ status. Completes (strictly_after options.now.strict is_warned (without_notes (outcome_of options.now tree.now solved.now))) status (O.states outputs.old) (O.states outputs.new)) }
+    ensures err { IfErr result (λ fault. BreaksRun (strictly_after options.now.strict is_warned (without_notes (outcome_of options.now tree.now solved.now))) fault (O.states outputs.old) (O.states outputs.new)) }
+    ensures fault { IfErr result IsNoInputFault }
 {
     if options.strict && is_warned {
         return refuse_warnings(outputs);
@@ -143,9 +143,9 @@ fn run_lost<O: Outputs>(
     outputs: &mut O,
 ) -> Result<Status, RunFault>
     requires { solved.now.tree ≡ tree.now }
-    ensures ok { IfOk result (λ status. Finishes (strictly_after options.now.strict is_warned (behind_warnings options.now tree.now solved.now)) status (O.states outputs.old) (O.states outputs.new)) }
-    ensures err { IfErr result (λ cause. BreaksRun (strictly_after options.now.strict is_warned (behind_warnings options.now tree.now solved.now)) cause (O.states outputs.old) (O.states outputs.new)) }
-    ensures cause { IfErr result IsNoInputFault }
+    ensures ok { IfOk result (λ status. Completes (strictly_after options.now.strict is_warned (behind_warnings options.now tree.now solved.now)) status (O.states outputs.old) (O.states outputs.new)) }
+    ensures err { IfErr result (λ fault. BreaksRun (strictly_after options.now.strict is_warned (behind_warnings options.now tree.now solved.now)) fault (O.states outputs.old) (O.states outputs.new)) }
+    ensures fault { IfErr result IsNoInputFault }
 {
     let lost = lost_warnings(alloc, options, solved)?;
     let lines = lost.as_slice();
@@ -171,10 +171,10 @@ fn run_solved<O: Outputs>(
     requires order { IsGraphOf tree.now layout.now order.now }
     requires user { ArePlacesOf tree.now user.now }
     ensures ok { IfOk result (λ status. (solution : Solution) × IsSolutionFor tree.now user.now solution
-        × Finishes (strictly_after options.now.strict is_warned (outcome_of options.now tree.now solution)) status (O.states outputs.old) (O.states outputs.new)) }
-    ensures err { IfErr result (λ cause. (solution : Solution) → IsSolutionFor tree.now user.now solution
-        → BreaksRun (strictly_after options.now.strict is_warned (outcome_of options.now tree.now solution)) cause (O.states outputs.old) (O.states outputs.new)) }
-    ensures cause { IfErr result IsNoInputFault }
+        × Completes (strictly_after options.now.strict is_warned (outcome_of options.now tree.now solution)) status (O.states outputs.old) (O.states outputs.new)) }
+    ensures err { IfErr result (λ fault. (solution : Solution) → IsSolutionFor tree.now user.now solution
+        → BreaksRun (strictly_after options.now.strict is_warned (outcome_of options.now tree.now solution)) fault (O.states outputs.old) (O.states outputs.new)) }
+    ensures fault { IfErr result IsNoInputFault }
 {
     let solved = solve(alloc, tree, layout, order, user)?;
     solved.is_solution();
@@ -201,18 +201,18 @@ fn run_read<I: Input, O: Outputs>(
     requires inputs { length inputs.old ≡ length options.now.fragments.items + 1 }
     ensures ok { IfOk result (λ status. (all : List (List ℕ)) × AreRead (map I.remaining inputs.old) (map I.is_there inputs.old) all
         × ((part : Outcome) × IsOutcomeOfReading options.now tree.now (read_of options.now tree.now all) part
-        × Finishes (strictly_after options.now.strict is_warned part) status (O.states outputs.old) (O.states outputs.new))) }
-    ensures err { IfErr result (λ cause. (all : List (List ℕ)) × AreAllToCome (map I.remaining inputs.old) all
+        × Completes (strictly_after options.now.strict is_warned part) status (O.states outputs.old) (O.states outputs.new))) }
+    ensures err { IfErr result (λ fault. (all : List (List ℕ)) × AreAllToCome (map I.remaining inputs.old) all
         × ((part : Outcome) → IsOutcomeOfReading options.now tree.now (read_of options.now tree.now all) part
-        → BreaksRun (strictly_after options.now.strict is_warned part) cause (O.states outputs.old) (O.states outputs.new))) }
+        → BreaksRun (strictly_after options.now.strict is_warned part) fault (O.states outputs.old) (O.states outputs.new))) }
     ensures may { IfErr result (MayStrike (map I.may_fail inputs.old)) }
     ensures quiet_inputs { OnOk result (map I.failures inputs.new ≡ map I.failures inputs.old) }
-    ensures counted_inputs { IfErr result (λ cause. CountsInputs cause (map I.failures inputs.old) (map I.failures inputs.new)) }
+    ensures counted_inputs { IfErr result (λ fault. CountsInputs fault (map I.failures inputs.old) (map I.failures inputs.new)) }
 {
     let mut user = User::new(alloc, tree)?;
     let streamed = match tell_streams(alloc, options, tree, inputs, &mut user, outputs) {
         Ok(streamed) => streamed,
-        Err(cause) => return Err(cause),
+        Err(fault) => return Err(fault),
     };
     match streamed.long {
         None => {
@@ -240,13 +240,13 @@ fn run_tree<I: Input, O: Outputs>(
     requires inputs { length inputs.old ≡ length options.now.fragments.items + 1 }
     ensures ok { IfOk result (λ status. (all : List (List ℕ)) × AreRead (map I.remaining inputs.old) (map I.is_there inputs.old) all
         × ((part : Outcome) × IsOutcomeOfTree options.now tree.now all part
-        × Finishes (strictly options.now.strict part) status (O.states outputs.old) (O.states outputs.new))) }
-    ensures err { IfErr result (λ cause. (all : List (List ℕ)) × AreAllToCome (map I.remaining inputs.old) all
+        × Completes (strictly options.now.strict part) status (O.states outputs.old) (O.states outputs.new))) }
+    ensures err { IfErr result (λ fault. (all : List (List ℕ)) × AreAllToCome (map I.remaining inputs.old) all
         × ((part : Outcome) → IsOutcomeOfTree options.now tree.now all part
-        → BreaksRun (strictly options.now.strict part) cause (O.states outputs.old) (O.states outputs.new))) }
+        → BreaksRun (strictly options.now.strict part) fault (O.states outputs.old) (O.states outputs.new))) }
     ensures may { IfErr result (MayStrike (map I.may_fail inputs.old)) }
     ensures quiet_inputs { OnOk result (map I.failures inputs.new ≡ map I.failures inputs.old) }
-    ensures counted_inputs { IfErr result (λ cause. CountsInputs cause (map I.failures inputs.old) (map I.failures inputs.new)) }
+    ensures counted_inputs { IfErr result (λ fault. CountsInputs fault (map I.failures inputs.old) (map I.failures inputs.new)) }
 {
     if let Err(Fault) = note_lines(outputs, tree.parse_warnings()) {
         return Err(RunFault::Write(Output::Notes));
@@ -267,9 +267,9 @@ fn end_run<O: Outputs>(
 ) -> Result<Status, RunFault>
     ensures ok { IfOk result (λ ended. (tree_files : Files) → AreAtHand options.now.depfile tree_files files.entry
         → (opened : List (List ℕ)) × AreOpened tree_files (root_file options.now) opened × EndsWithRule options.now opened status ended (O.states outputs.old) (O.states outputs.new)) }
-    ensures err { IfErr result (λ cause. (tree_files : Files) → AreAtHand options.now.depfile tree_files files.entry
-        → (opened : List (List ℕ)) × AreOpened tree_files (root_file options.now) opened × BreaksInRule options.now opened status cause (O.states outputs.old) (O.states outputs.new)) }
-    ensures cause { IfErr result IsNoInputFault }
+    ensures err { IfErr result (λ fault. (tree_files : Files) → AreAtHand options.now.depfile tree_files files.entry
+        → (opened : List (List ℕ)) × AreOpened tree_files (root_file options.now) opened × BreaksInRule options.now opened status fault (O.states outputs.old) (O.states outputs.new)) }
+    ensures fault { IfErr result IsNoInputFault }
 {
     opened_are_one_list();
     if status != Status::Done {
@@ -281,7 +281,7 @@ fn end_run<O: Outputs>(
     };
     match make_depfile(alloc, files.map(), options, outputs) {
         Ok(()) => Ok(status),
-        Err(cause) => Err(cause),
+        Err(fault) => Err(fault),
     }
 }
 
@@ -302,20 +302,20 @@ fn run_accepted<I: Input, O: Outputs>(
     ensures ok { IfOk result (λ status. (tree_files : Files) → IsAcceptedTree tree_files (root_file options.now) tree.now → AreAtHand options.now.depfile tree_files files.entry
         → (all : List (List ℕ)) × AreRead (map I.remaining inputs.old) (map I.is_there inputs.old) all
         × ((outcome : Outcome) × IsOutcome tree_files options.now all outcome
-        × Finishes outcome status (O.states outputs.old) (O.states outputs.new))) }
-    ensures err { IfErr result (λ cause. (tree_files : Files) → IsAcceptedTree tree_files (root_file options.now) tree.now → AreAtHand options.now.depfile tree_files files.entry
+        × Completes outcome status (O.states outputs.old) (O.states outputs.new))) }
+    ensures err { IfErr result (λ fault. (tree_files : Files) → IsAcceptedTree tree_files (root_file options.now) tree.now → AreAtHand options.now.depfile tree_files files.entry
         → (all : List (List ℕ)) × AreAllToCome (map I.remaining inputs.old) all
         × ((outcome : Outcome) → IsOutcome tree_files options.now all outcome
-        → BreaksRun outcome cause (O.states outputs.old) (O.states outputs.new))) }
+        → BreaksRun outcome fault (O.states outputs.old) (O.states outputs.new))) }
     ensures may { IfErr result (MayStrike (map I.may_fail inputs.old)) }
     ensures quiet_inputs { OnOk result (map I.failures inputs.new ≡ map I.failures inputs.old) }
-    ensures counted_inputs { IfErr result (λ cause. CountsInputs cause (map I.failures inputs.old) (map I.failures inputs.new)) }
+    ensures counted_inputs { IfErr result (λ fault. CountsInputs fault (map I.failures inputs.old) (map I.failures inputs.new)) }
 {
     one_answer();
     opened_are_one_list();
     match run_tree(alloc, options, tree, layout, order, inputs, outputs) {
         Ok(status) => end_run(alloc, files, options, status, outputs),
-        Err(cause) => Err(cause),
+        Err(fault) => Err(fault),
     }
 }
 
@@ -342,10 +342,10 @@ fn read_tree<'f>(
 
 // Writes why no tree is accepted, unless that is a want of memory.
 fn refuse<O: Outputs>(outputs: &mut O, refusal: &Refusal) -> Result<Status, RunFault>
-    ensures ok { IfOk result (λ status. (refusal.now.code ≢ Memory) × Finishes (refused (refusal_line (refusal_view refusal.now))) status (O.states outputs.old) (O.states outputs.new)) }
-    ensures err { IfErr result (λ cause. IsOutOfMemory refusal.now cause (O.states outputs.old) (O.states outputs.new)
-        ⊎ ((refusal.now.code ≢ Memory) × BreaksRun (refused (refusal_line (refusal_view refusal.now))) cause (O.states outputs.old) (O.states outputs.new))) }
-    ensures cause { IfErr result IsNoInputFault }
+    ensures ok { IfOk result (λ status. (refusal.now.code ≢ Memory) × Completes (refused (refusal_line (refusal_view refusal.now))) status (O.states outputs.old) (O.states outputs.new)) }
+    ensures err { IfErr result (λ fault. IsOutOfMemory refusal.now fault (O.states outputs.old) (O.states outputs.new)
+        ⊎ ((refusal.now.code ≢ Memory) × BreaksRun (refused (refusal_line (refusal_view refusal.now))) fault (O.states outputs.old) (O.states outputs.new))) }
+    ensures fault { IfErr result IsNoInputFault }
     ensures only { ChangesOnly Output.Notes (O.states outputs.old) (O.states outputs.new) }
 {
     match refusal.code {
@@ -367,13 +367,13 @@ fn run_through<I: Input, O: Outputs>(
     ensures ok { IfOk result (λ status. (all : List (List ℕ)) × AreAllToCome (map I.remaining inputs.old) all
         × ((tree : TreeFacts) → IsAcceptedTree (files_in files.entry) (root_file options.now) tree → StreamsAreThere all (map I.is_there inputs.old))
         × ((outcome : Outcome) × IsOutcome (files_in files.entry) options.now all outcome
-        × Finishes outcome status (O.states outputs.old) (O.states outputs.new))) }
-    ensures err { IfErr result (λ cause. (all : List (List ℕ)) × AreAllToCome (map I.remaining inputs.old) all
+        × Completes outcome status (O.states outputs.old) (O.states outputs.new))) }
+    ensures err { IfErr result (λ fault. (all : List (List ℕ)) × AreAllToCome (map I.remaining inputs.old) all
         × ((outcome : Outcome) → IsOutcome (files_in files.entry) options.now all outcome
-        → BreaksRun outcome cause (O.states outputs.old) (O.states outputs.new))) }
+        → BreaksRun outcome fault (O.states outputs.old) (O.states outputs.new))) }
     ensures may { IfErr result (MayStrike (map I.may_fail inputs.old)) }
     ensures quiet_inputs { OnOk result (map I.failures inputs.new ≡ map I.failures inputs.old) }
-    ensures counted_inputs { IfErr result (λ cause. CountsInputs cause (map I.failures inputs.old) (map I.failures inputs.new)) }
+    ensures counted_inputs { IfErr result (λ fault. CountsInputs fault (map I.failures inputs.old) (map I.failures inputs.new)) }
     ensures refused_inputs { (r : Refused) → IsRefusedTree (files_in files.entry) (root_file options.now) r → inputs.new ≡ inputs.old }
     ensures refused_outputs { (r : Refused) → IsRefusedTree (files_in files.entry) (root_file options.now) r → ChangesOnly Output.Notes (O.states outputs.old) (O.states outputs.new) }
     ensures kept { OnOk result ((tree : TreeFacts) → IsAcceptedTree (files_in files.entry) (root_file options.now) tree → HoldsTree tree kept.new) }
@@ -420,8 +420,8 @@ fn run_over<I: Input, O: Outputs>(
     exactly_one_outcome();
     match run_through(alloc, files, options, inputs, outputs, kept) {
         Ok(status) => status,
-        Err(cause) => {
-            report(options, cause, outputs);
+        Err(fault) => {
+            report(options, fault, outputs);
             Status::Faulted
         }
     }
@@ -450,15 +450,15 @@ pub fn run<I: Input, O: Outputs>(
     ensures exactly { result ≢ Status.Faulted → (all : List (List ℕ)) × AreAllToCome (map I.remaining inputs.old) all
         × ((tree : TreeFacts) → IsAcceptedTree (bytes_in files.now) (root_file options.now) tree → StreamsAreThere all (map I.is_there inputs.old))
         × ((outcome : Outcome) × IsOutcome (bytes_in files.now) options.now all outcome
-        × Finishes outcome result (O.states outputs.old) (O.states outputs.new)) }
+        × Completes outcome result (O.states outputs.old) (O.states outputs.new)) }
     ensures quiet_inputs { result ≢ Status.Faulted → map I.failures inputs.new ≡ map I.failures inputs.old }
     // After a fault there is its cause, whose count rose by one, and of the outcome all before it is whole. No other count
     // rose but the notes', where they fail while the error line is written. An input that failed is one that may.
-    ensures fault { result ≡ Status.Faulted → (cause : RunFault) × (all : List (List ℕ)) × AreAllToCome (map I.remaining inputs.old) all
-        × CountsInputs cause (map I.failures inputs.old) (map I.failures inputs.new)
-        × MayStrike (map I.may_fail inputs.old) cause
+    ensures fault { result ≡ Status.Faulted → (fault : RunFault) × (all : List (List ℕ)) × AreAllToCome (map I.remaining inputs.old) all
+        × CountsInputs fault (map I.failures inputs.old) (map I.failures inputs.new)
+        × MayStrike (map I.may_fail inputs.old) fault
         × ((outcome : Outcome) × IsOutcome (bytes_in files.now) options.now all outcome
-        × Faults options.now outcome cause (O.states outputs.old) (O.states outputs.new)) }
+        × Faults options.now outcome fault (O.states outputs.old) (O.states outputs.new)) }
     // A refused tree leaves the inputs untouched, and begins nothing.
     ensures refused_inputs { (r : Refused) → IsRefusedTree (bytes_in files.now) (root_file options.now) r → inputs.new ≡ inputs.old }
     ensures refused_outputs { (r : Refused) → IsRefusedTree (bytes_in files.now) (root_file options.now) r → ChangesOnly Output.Notes (O.states outputs.old) (O.states outputs.new) }

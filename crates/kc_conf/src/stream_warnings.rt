@@ -88,14 +88,15 @@ fn read_to_notes<'a, I: Input, O: Outputs>(
 ) -> Result<Option<LongLine<'a>>, RunFault>
     requires inputs { length inputs.old ≡ length options.now.fragments.items + 1 }
     requires user { ArePlacesOf tree.now user.old }
-    ensures ok { IfOk result (λ long. ReadsStreams tree.now options.now.prefix (names_of options.now) (option_map stop_of long) (map I.remaining inputs.old) (map I.is_there inputs.old) user.old user.new (O.states outputs.old).notes.text (O.states outputs.new).notes.text) }
+    ensures ok { IfOk result (λ long. ReadsStreams tree.now options.now.prefix (names_of options.now) (option_map stop_of long) (map I.remaining inputs.old)
+        (map I.is_there inputs.old) user.old user.new (O.states outputs.old).notes.text (O.states outputs.new).notes.text) }
     ensures err { OnErr result (BreaksStreams tree.now options.now.prefix (names_of options.now) (map I.remaining inputs.old) user.old (O.states outputs.old).notes.text (O.states outputs.new).notes.text) }
     ensures quiet { OnOk result ((O.states outputs.new).notes.failures ≡ (O.states outputs.old).notes.failures) }
-    ensures cause { IfErr result StrikesNotes }
-    ensures counted { IfErr result (λ cause. (O.states outputs.new).notes.failures ≡ notes_failures_after cause (O.states outputs.old).notes.failures) }
+    ensures fault { IfErr result StrikesNotes }
+    ensures counted { IfErr result (λ fault. (O.states outputs.new).notes.failures ≡ notes_failures_after fault (O.states outputs.old).notes.failures) }
     ensures may { IfErr result (MayStrike (map I.may_fail inputs.old)) }
     ensures quiet_inputs { OnOk result (map I.failures inputs.new ≡ map I.failures inputs.old) }
-    ensures counted_inputs { IfErr result (λ cause. CountsInputs cause (map I.failures inputs.old) (map I.failures inputs.new)) }
+    ensures counted_inputs { IfErr result (λ fault. CountsInputs fault (map I.failures inputs.old) (map I.failures inputs.new)) }
     ensures only { ChangesOnly Output.Notes (O.states outputs.old) (O.states outputs.new) }
     ensures user { ArePlacesOf tree.now user.new }
 {
@@ -115,12 +116,13 @@ fn tell<'a, I: Input, O: Outputs>(
     requires lenient { options.now.strict ≡ false }
     requires inputs { length inputs.old ≡ length options.now.fragments.items + 1 }
     requires user { ArePlacesOf tree.now user.old }
-    ensures ok { IfOk result (λ s. TellsStreams tree.now options.now.prefix options.now.strict (names_of options.now) (option_map stop_of s.long) s.is_warned (map I.remaining inputs.old) (map I.is_there inputs.old) user.old user.new (O.states outputs.old) (O.states outputs.new)) }
-    ensures err { IfErr result (λ cause. BreaksTelling tree.now options.now.prefix (names_of options.now) cause (map I.remaining inputs.old) user.old (O.states outputs.old) (O.states outputs.new)) }
-    ensures cause { IfErr result StrikesNotes }
+    ensures ok { IfOk result (λ s. TellsStreams tree.now options.now.prefix options.now.strict (names_of options.now) (option_map stop_of s.long) s.is_warned
+        (map I.remaining inputs.old) (map I.is_there inputs.old) user.old user.new (O.states outputs.old) (O.states outputs.new)) }
+    ensures err { IfErr result (λ fault. BreaksTelling tree.now options.now.prefix (names_of options.now) fault (map I.remaining inputs.old) user.old (O.states outputs.old) (O.states outputs.new)) }
+    ensures fault { IfErr result StrikesNotes }
     ensures may { IfErr result (MayStrike (map I.may_fail inputs.old)) }
     ensures quiet_inputs { OnOk result (map I.failures inputs.new ≡ map I.failures inputs.old) }
-    ensures counted_inputs { IfErr result (λ cause. CountsInputs cause (map I.failures inputs.old) (map I.failures inputs.new)) }
+    ensures counted_inputs { IfErr result (λ fault. CountsInputs fault (map I.failures inputs.old) (map I.failures inputs.new)) }
     ensures user { ArePlacesOf tree.now user.new }
 {
     match read_to_notes(alloc, options, tree, inputs, user, outputs) {
@@ -128,7 +130,7 @@ fn tell<'a, I: Input, O: Outputs>(
             long,
             is_warned: false,
         }),
-        Err(cause) => Err(cause),
+        Err(fault) => Err(fault),
     }
 }
 
@@ -143,19 +145,20 @@ fn hold<'a, I: Input, O: Outputs>(
 ) -> Result<StreamsRead<'a>, RunFault>
     requires inputs { length inputs.old ≡ length options.now.fragments.items + 1 }
     requires user { ArePlacesOf tree.now user.old }
-    ensures ok { IfOk result (λ s. TellsStreams tree.now options.now.prefix options.now.strict (names_of options.now) (option_map stop_of s.long) s.is_warned (map I.remaining inputs.old) (map I.is_there inputs.old) user.old user.new (O.states outputs.old) (O.states outputs.new)) }
-    ensures err { IfErr result (λ cause. BreaksTelling tree.now options.now.prefix (names_of options.now) cause (map I.remaining inputs.old) user.old (O.states outputs.old) (O.states outputs.new)) }
-    ensures cause { IfErr result StrikesNotes }
+    ensures ok { IfOk result (λ s. TellsStreams tree.now options.now.prefix options.now.strict (names_of options.now) (option_map stop_of s.long) s.is_warned
+        (map I.remaining inputs.old) (map I.is_there inputs.old) user.old user.new (O.states outputs.old) (O.states outputs.new)) }
+    ensures err { IfErr result (λ fault. BreaksTelling tree.now options.now.prefix (names_of options.now) fault (map I.remaining inputs.old) user.old (O.states outputs.old) (O.states outputs.new)) }
+    ensures fault { IfErr result StrikesNotes }
     ensures may { IfErr result (MayStrike (map I.may_fail inputs.old)) }
     ensures quiet_inputs { OnOk result (map I.failures inputs.new ≡ map I.failures inputs.old) }
-    ensures counted_inputs { IfErr result (λ cause. CountsInputs cause (map I.failures inputs.old) (map I.failures inputs.new)) }
+    ensures counted_inputs { IfErr result (λ fault. CountsInputs fault (map I.failures inputs.old) (map I.failures inputs.new)) }
     ensures user { ArePlacesOf tree.now user.new }
 {
     let mut held = MemorySink::new(alloc);
     let long = match read_streams(alloc, options, tree, inputs, user, &mut held) {
         Ok(long) => long,
         Err(RunFault::Write(_)) => return Err(RunFault::Memory),
-        Err(cause) => return Err(cause),
+        Err(fault) => return Err(fault),
     };
     let is_warned = is_some_text(held.text.as_slice());
     match note_text(outputs, held.text.as_slice()) {
@@ -176,12 +179,13 @@ pub fn tell_streams<'a, I: Input, O: Outputs>(
 ) -> Result<StreamsRead<'a>, RunFault>
     requires inputs { length inputs.old ≡ length options.now.fragments.items + 1 }
     requires user { ArePlacesOf tree.now user.old }
-    ensures ok { IfOk result (λ s. TellsStreams tree.now options.now.prefix options.now.strict (names_of options.now) (option_map stop_of s.long) s.is_warned (map I.remaining inputs.old) (map I.is_there inputs.old) user.old user.new (O.states outputs.old) (O.states outputs.new)) }
-    ensures err { IfErr result (λ cause. BreaksTelling tree.now options.now.prefix (names_of options.now) cause (map I.remaining inputs.old) user.old (O.states outputs.old) (O.states outputs.new)) }
-    ensures cause { IfErr result StrikesNotes }
+    ensures ok { IfOk result (λ s. TellsStreams tree.now options.now.prefix options.now.strict (names_of options.now) (option_map stop_of s.long) s.is_warned
+        (map I.remaining inputs.old) (map I.is_there inputs.old) user.old user.new (O.states outputs.old) (O.states outputs.new)) }
+    ensures err { IfErr result (λ fault. BreaksTelling tree.now options.now.prefix (names_of options.now) fault (map I.remaining inputs.old) user.old (O.states outputs.old) (O.states outputs.new)) }
+    ensures fault { IfErr result StrikesNotes }
     ensures may { IfErr result (MayStrike (map I.may_fail inputs.old)) }
     ensures quiet_inputs { OnOk result (map I.failures inputs.new ≡ map I.failures inputs.old) }
-    ensures counted_inputs { IfErr result (λ cause. CountsInputs cause (map I.failures inputs.old) (map I.failures inputs.new)) }
+    ensures counted_inputs { IfErr result (λ fault. CountsInputs fault (map I.failures inputs.old) (map I.failures inputs.new)) }
     ensures user { ArePlacesOf tree.now user.new }
 {
     if options.strict {

@@ -35,7 +35,7 @@ fn fault_of(fault: WriteFault, output: Output) -> RunFault
 // Ends an output.
 fn end<O: Outputs>(output: Output, outputs: &mut O) -> Result<(), RunFault>
     ensures ok { OnOk result (O.states outputs.new ≡ with_state (O.states outputs.old) output (ended (at (O.states outputs.old) output))) }
-    ensures err { IfErr result (λ cause. (cause ≡ RunFault.Write output) × (O.states outputs.new ≡ after_fault cause (O.states outputs.old))) }
+    ensures err { IfErr result (λ fault. (fault ≡ RunFault.Write output) × (O.states outputs.new ≡ after_fault fault (O.states outputs.old))) }
 {
     match outputs.end(output) {
         Ok(()) => Ok(()),
@@ -53,7 +53,7 @@ fn make_config<O: Outputs>(
 ) -> Result<(), RunFault>
     requires { solved.now.tree ≡ tree.now }
     ensures ok { OnOk result (O.states outputs.new ≡ made_if Output.Config (Some (config_text tree.now options.now.prefix (solution_view solved.now))) (O.states outputs.old)) }
-    ensures err { IfErr result (λ cause. BreaksFile Output.Config (Some (config_text tree.now options.now.prefix (solution_view solved.now))) cause (O.states outputs.old) (O.states outputs.new)) }
+    ensures err { IfErr result (λ fault. BreaksFile Output.Config (Some (config_text tree.now options.now.prefix (solution_view solved.now))) fault (O.states outputs.old) (O.states outputs.new)) }
 {
     if let Err(Fault) = outputs.begin(Output::Config) {
         return Err(RunFault::Write(Output::Config));
@@ -75,7 +75,7 @@ fn make_header<O: Outputs>(
 ) -> Result<(), RunFault>
     requires { solved.now.tree ≡ tree.now }
     ensures ok { OnOk result (O.states outputs.new ≡ made_if Output.Header (text_if options.now.header (header_text tree.now options.now.prefix (solution_view solved.now))) (O.states outputs.old)) }
-    ensures err { IfErr result (λ cause. BreaksFile Output.Header (text_if options.now.header (header_text tree.now options.now.prefix (solution_view solved.now))) cause (O.states outputs.old) (O.states outputs.new)) }
+    ensures err { IfErr result (λ fault. BreaksFile Output.Header (text_if options.now.header (header_text tree.now options.now.prefix (solution_view solved.now))) fault (O.states outputs.old) (O.states outputs.new)) }
 {
     if options.header.is_none() {
         return Ok(());
@@ -100,7 +100,7 @@ fn make_minimal<O: Outputs>(
 ) -> Result<(), RunFault>
     requires { solved.now.tree ≡ tree.now }
     ensures ok { OnOk result (O.states outputs.new ≡ made_if Output.Minimal (text_if options.now.minimal (minimal_text tree.now options.now.prefix (solution_view solved.now))) (O.states outputs.old)) }
-    ensures err { IfErr result (λ cause. BreaksFile Output.Minimal (text_if options.now.minimal (minimal_text tree.now options.now.prefix (solution_view solved.now))) cause (O.states outputs.old) (O.states outputs.new)) }
+    ensures err { IfErr result (λ fault. BreaksFile Output.Minimal (text_if options.now.minimal (minimal_text tree.now options.now.prefix (solution_view solved.now))) fault (O.states outputs.old) (O.states outputs.new)) }
 {
     if options.minimal.is_none() {
         return Ok(());
@@ -125,8 +125,8 @@ pub fn make_files<O: Outputs>(
 ) -> Result<(), RunFault>
     requires { solved.now.tree ≡ tree.now }
     ensures ok { OnOk result (O.states outputs.new ≡ files_made (outcome_of options.now tree.now solved.now) (O.states outputs.old)) }
-    ensures err { IfErr result (λ cause. BreaksFiles (outcome_of options.now tree.now solved.now) cause (O.states outputs.old) (O.states outputs.new)) }
-    ensures cause { IfErr result IsNoInputFault }
+    ensures err { IfErr result (λ fault. BreaksFiles (outcome_of options.now tree.now solved.now) fault (O.states outputs.old) (O.states outputs.new)) }
+    ensures fault { IfErr result IsNoInputFault }
 {
     make_config(alloc, options, tree, solved, outputs)?;
     make_header(alloc, options, tree, solved, outputs)?;
@@ -152,8 +152,8 @@ fn rule_for(alloc: Global, options: &Options, files: &FileMap) -> Result<Vec<u8>
 // Begins Depfile, writes this text and ends it.
 fn put_depfile<O: Outputs>(text: &[u8], outputs: &mut O) -> Result<(), RunFault>
     ensures ok { OnOk result (O.states outputs.new ≡ made_if Output.Depfile (Some text.now) (O.states outputs.old)) }
-    ensures err { IfErr result (λ cause. BreaksFile Output.Depfile (Some text.now) cause (O.states outputs.old) (O.states outputs.new)) }
-    ensures cause { IfErr result IsNoInputFault }
+    ensures err { IfErr result (λ fault. BreaksFile Output.Depfile (Some text.now) fault (O.states outputs.old) (O.states outputs.new)) }
+    ensures fault { IfErr result IsNoInputFault }
 {
     if let Err(Fault) = outputs.begin(Output::Depfile) {
         return Err(RunFault::Write(Output::Depfile));
@@ -173,9 +173,9 @@ pub fn make_depfile<O: Outputs>(
 ) -> Result<(), RunFault>
     ensures ok { OnOk result ((opened : List (List ℕ)) × AreOpened (bytes_in files.now) (root_file options.now) opened
         × (O.states outputs.new ≡ made_if Output.Depfile (text_if options.now.depfile (depfile_text options.now opened)) (O.states outputs.old))) }
-    ensures err { IfErr result (λ cause. (opened : List (List ℕ)) × AreOpened (bytes_in files.now) (root_file options.now) opened
-        × BreaksFile Output.Depfile (text_if options.now.depfile (depfile_text options.now opened)) cause (O.states outputs.old) (O.states outputs.new)) }
-    ensures cause { IfErr result IsNoInputFault }
+    ensures err { IfErr result (λ fault. (opened : List (List ℕ)) × AreOpened (bytes_in files.now) (root_file options.now) opened
+        × BreaksFile Output.Depfile (text_if options.now.depfile (depfile_text options.now opened)) fault (O.states outputs.old) (O.states outputs.new)) }
+    ensures fault { IfErr result IsNoInputFault }
 {
     opened_are_one_list();
     if options.depfile.is_none() {

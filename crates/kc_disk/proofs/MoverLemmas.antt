@@ -1,8 +1,9 @@
 -- What a mover tells after its calls.
-use Rattle.std.proofs.Common.{◌≡◌, refl, ℕ, ◌+◌, ◌-◌, ◌<◌, Bool, List, [], ◌∷◌, ◌++◌, length, take, drop, sym, ap, ◌∙◌, Option, None, Some, append_assoc, option_map, arith, zero, suc, true, false, get_or, add-one, le_refl, map, slice_get, ◌||◌}
+use Rattle.std.proofs.Common.{◌≡◌, refl, ℕ, ◌+◌, ◌-◌, ◌<◌, List, [], ◌∷◌, ◌++◌, length, take, drop, sym, ap, ◌∙◌, Option, None, Some, append_assoc, option_map, arith, zero, suc, true, get_or, add-one, le_refl, map, slice_get}
 use Rattle.std.proofs.Math.Seq.{take-add}
 use Rattle.std.proofs.lemmas.List.{drop_all, take_all, take_rest}
-use Rattle.kc_disk.specs.Movers.{Held, IsClear, MoverState, Shows, NamedText, changed, cleared, finished, grown_by, has_name, moved, put, put_all, put_first, replaced, replaced_front, started}
+use Rattle.kc_disk.specs.Makers.{Tells}
+use Rattle.kc_disk.specs.Movers.{Held, IsClear, MoverState, NamedText, changed, cleared, finished, grown_by, has_name, moved, put, put_all, put_first, replaced, replaced_front, started}
 use Rattle.kc_disk.specs.Texts.{added, moved_times, staged, texts_of}
 use Rattle.kc_disk.specs.declared.replace_files.NamedText.{NamedText as CodeText}
 use Rattle.std.proofs.lemmas.Slice.Eq.{bytes_eq-Decides}
@@ -54,16 +55,16 @@ moved-next i state = rw (add-one i) (moved-suc i state)
 
 -- ---- all of it
 
-pub replaced-front : (count : ℕ) (texts some : List NamedText) (first mid last : Option MoverState) → Shows first IsClear →
-    Shows first (λ s. some ≡ changed texts s.held) → mid ≡ option_map (staged some) first →
+pub replaced-front : (count : ℕ) (texts some : List NamedText) (first mid last : Option MoverState) → Tells first IsClear →
+    Tells first (λ s. some ≡ changed texts s.held) → mid ≡ option_map (staged some) first →
     last ≡ option_map (moved_times count) mid → option_map cleared last ≡ option_map (replaced_front count texts) first
 replaced-front count texts some None mid last clear is made moves = rw (moves, made) refl
 replaced-front count texts some (Some s) mid last clear is made moves =
     let none = clear s refl in
     rw (moves, made, sym (is s refl)) (rw (none.0, none.1) refl)
 
-pub replaced-all : (count : ℕ) (texts some : List NamedText) (first mid last : Option MoverState) → Shows first IsClear →
-    Shows first (λ s. some ≡ changed texts s.held) → mid ≡ option_map (staged some) first →
+pub replaced-all : (count : ℕ) (texts some : List NamedText) (first mid last : Option MoverState) → Tells first IsClear →
+    Tells first (λ s. some ≡ changed texts s.held) → mid ≡ option_map (staged some) first →
     last ≡ option_map (moved_times count) mid → count ≡ length some → last ≡ option_map (replaced texts) first
 replaced-all count texts some None mid last clear is made moves whole = rw (moves, made) refl
 replaced-all count texts some (Some s) mid last clear is made moves whole =

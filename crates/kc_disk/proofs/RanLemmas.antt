@@ -13,7 +13,7 @@ use Rattle.kc_conf.specs.declared.options.Status.TheVariants.{Faulted}
 use Rattle.kc_conf.specs.Leaves.{Leaves}
 use Rattle.kc_disk.specs.Makers.{Tells, MakerState, maker_call}
 use Rattle.kc_disk.specs.Openers.{ReadDevice, contents, is_there, may_fail}
-use Rattle.kc_disk.specs.Program.{Ends, Ran, Reports, load_line, streams_of, unloaded}
+use Rattle.kc_disk.specs.Program.{RunEnds, Ran, Reports, load_line, streams_of, unloaded}
 use Rattle.kc_disk.specs.Reached.{Reached, unused}
 use Rattle.kc_disk.proofs.ReportLemmas.{reports-from}
 
@@ -55,7 +55,7 @@ ran-of rest there may fails folder opened options status state state_after fail_
 -- the tree could not be loaded
 pub unloaded-of : (folder opened : ReadDevice) (options : Options) (ended : Result Status LoadFault) (fault : LoadFault) (state mid new : Option MakerState) (was may_fail : Bool) → ended ≡ Err fault →
     IfErr ended (IsLoadFault folder.files folder.failing (string_bytes options.root) (root_file options)) → OnErr ended (mid ≡ state) → was ≡ may_fail →
-    Reports (load_line fault) (maker_call mid new was) → Ends folder opened options Faulted (maker_call state new may_fail)
+    Reports (load_line fault) (maker_call mid new was) → RunEnds folder opened options Faulted (maker_call state new may_fail)
 unloaded-of folder opened options ended fault state mid new was may_fail is at_fault same stays reports =
     let f : IsLoadFault folder.files folder.failing (string_bytes options.root) (root_file options) fault = rw is at at_fault in
     let e : mid ≡ state = rw is at same in

@@ -1,5 +1,5 @@
 -- What was reported of a text.
-use Rattle.std.proofs.Common.{◌≡◌, ℕ, ◌<◌, suc, Bool, true, List, [], ◌++◌, ◌⊎◌, inl, inr, length, take, drop, slice_index_or, sym, ap, ◌∙◌, subst, Option, append_assoc, option_map, arith}
+use Rattle.std.proofs.Common.{◌≡◌, ℕ, ◌<◌, suc, Bool, true, List, ◌++◌, ◌⊎◌, inl, inr, length, take, drop, slice_index_or, sym, ap, ◌∙◌, subst, Option, append_assoc, option_map, arith}
 use Rattle.std.specs.Prelude.{flat_map}
 use Rattle.std.proofs.Math.Seq.{drop-cons, take-length}
 use Rattle.std.proofs.lemmas.List.{take-append-drop}

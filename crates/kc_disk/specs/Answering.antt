@@ -2,8 +2,8 @@
 use Rattle.std.specs.Prelude.{◌≡◌, List, None, String, true, codes, string_bytes, ⊤}
 use Rattle.std.specs.declared.alloc.Global.{Global}
 use Rattle.clap.specs.Words.{fault_of}
-use Rattle.kc_words.specs.Fields.{AreOptionsOf, asked_prefix}
-use Rattle.kc_words.specs.Kconf.{kconf_app, rows_for, words_of}
+use Rattle.kc_words.specs.Fields.{AreOptionsOf, prefix_option}
+use Rattle.kc_words.specs.Kconf.{kconf_app, rows_for, arguments_of}
 use Rattle.kc_words.specs.Refusals.{IsRefused}
 use Rattle.kc_conf.specs.declared.options.Options.{Options}
 use Rattle.kc_words.specs.declared.usage.UsageError.{UsageError as NoOptions}
@@ -18,7 +18,7 @@ use Rattle.kc_disk.specs.Replacing.{EndsBy}
 -- the program's arguments: they give options, and the run for these ends so; or they give none, for this cause
 pub data KconfEnds (folder opened : ReadDevice) (arguments : List (String Global)) (status : Status) (maker : MakerCall) (mover : MoverCall) : Type 0 where
   options : (o : Options) → AreOptionsOf (rows_for arguments) o → EndsBy o.replace folder opened o status maker mover → KconfEnds folder opened arguments status maker mover
-  none : (usage : NoOptions) → IsRefused (fault_of kconf_app (words_of arguments)) (asked_prefix (rows_for arguments)) usage → status ≡ usage_status usage →
+  none : (usage : NoOptions) → IsRefused (fault_of kconf_app (arguments_of arguments)) (prefix_option (rows_for arguments)) usage → status ≡ usage_status usage →
       ReportsUsage usage maker → IsStill mover → KconfEnds folder opened arguments status maker mover
 
 -- the same over the disk, which tells nothing and may fail anywhere

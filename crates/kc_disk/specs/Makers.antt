@@ -87,5 +87,5 @@ abbrev pub since : Option MakerState → MakerCall → MakerCall
 since state maker = record maker { state = state }
 
 -- this holds of what is told
-abbrev pub Tells : Option MakerState → (MakerState → Type 0) → Type 0
-Tells state P = (t : MakerState) → state ≡ Some t → P t
+abbrev pub Tells : {S : Type 0} → Option S → (S → Type 0) → Type 0
+Tells state P = (t : _) → state ≡ Some t → P t

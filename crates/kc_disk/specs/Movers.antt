@@ -108,7 +108,3 @@ replaced texts s = record { held = put_all (changed texts s.held) s.held; begun 
 -- the first of those that were to change are in their places, and the others are as they were
 abbrev pub replaced_front : ℕ → List NamedText → MoverState → MoverState
 replaced_front count texts s = record { held = put_all (take count (changed texts s.held)) s.held; begun = s.begun; whole = s.whole }
-
--- this holds of what is told
-abbrev pub Shows : Option MoverState → (MoverState → Type 0) → Type 0
-Shows state P = (s : MoverState) → state ≡ Some s → P s

@@ -60,10 +60,10 @@ load_line (CannotRead name) = cannot_read_line name.items
 load_line Memory = out_of_memory_line
 
 -- a run: as above, or the tree could not be loaded, which its one line tells
-pub data Ends (folder opened : ReadDevice) (options : Options) (status : Status) (maker : MakerCall) : Type 0 where
-  ran : Ran folder opened options status maker → Ends folder opened options status maker
+pub data RunEnds (folder opened : ReadDevice) (options : Options) (status : Status) (maker : MakerCall) : Type 0 where
+  ran : Ran folder opened options status maker → RunEnds folder opened options status maker
   unloaded : (fault : LoadFault) → IsLoadFault folder.files folder.failing (string_bytes options.root) (root_file options) fault → status ≡ ended.Faulted →
-      Reports (load_line fault) maker → Ends folder opened options status maker
+      Reports (load_line fault) maker → RunEnds folder opened options status maker
 
 -- the status where the arguments give no options
 abbrev pub usage_status : NoOptions → Status

@@ -1,5 +1,5 @@
 -- Trusted: What a run leaves whose files take their places at the end.
-use Rattle.std.specs.Prelude.{◌≡◌, ◌≢◌, ℕ, Bool, true, false, List, [], ◌∷◌, ◌++◌, Option, None, Some, map, option_map, string_bytes, Result, Ok, Err}
+use Rattle.std.specs.Prelude.{◌≡◌, ◌≢◌, ℕ, Bool, true, false, List, [], ◌∷◌, ◌++◌, Option, None, Some, option_map, string_bytes, Result, Ok, Err}
 use Rattle.std.specs.declared.string.String.{String}
 use Rattle.std.specs.declared.alloc.Global.{Global}
 use Rattle.kc_read.specs.Files.{Files}
@@ -16,7 +16,7 @@ use Rattle.kc_conf.specs.declared.outputs.Output.TheVariants.{Notes}
 use Rattle.kc_disk.specs.Makers.{MakerCall, Tells, MakerState, none_made, since, until, with_made}
 use Rattle.kc_disk.specs.Openers.{ReadDevice}
 use Rattle.kc_disk.specs.Movers.{IsStill, MoverCall, NamedText, replaced}
-use Rattle.kc_disk.specs.Program.{Ends, LeavesOver, Reports, load_line}
+use Rattle.kc_disk.specs.Program.{RunEnds, LeavesOver, Reports, load_line}
 use Rattle.kc_disk.specs.Reached.{Reached}
 use Rattle.kc_disk.specs.ReplaceFaults.{IsReplaceFault}
 use Rattle.kc_disk.specs.declared.replace_files.ReplaceFault.{ReplaceFault}
@@ -85,4 +85,4 @@ pub data EndsReplacing (folder opened : ReadDevice) (options : Options) (status 
 -- A run with --replace ends so; one without touches no place beside its own.
 abbrev pub EndsBy : Bool → ReadDevice → ReadDevice → Options → Status → MakerCall → MoverCall → Type 0
 EndsBy true folder opened options status maker mover = EndsReplacing folder opened options status maker mover
-EndsBy false folder opened options status maker mover = Ends folder opened options status maker × IsStill mover
+EndsBy false folder opened options status maker mover = RunEnds folder opened options status maker × IsStill mover

@@ -1,14 +1,17 @@
-//! Files that are read a piece at a time.
-ghost use Rattle.std.specs.Prelude.{◌≡◌, ◌≢◌, ◌<◌, ◌-◌, ◌≤◌, length, take, true, IfOk, OnOk, OnErr};
+//! The inputs of a run: files that are read a piece at a time.
+ghost use Rattle.std.specs.Prelude.{◌≡◌, ◌≢◌, ◌<◌, ◌-◌, ◌≤◌, length, map, take, true, IfOk, OnOk, OnErr};
 ghost use Rattle.kc_dot.specs.Sink.{next_failure};
 ghost use Rattle.kc_conf.specs.InputBytes.{preceded, IsAtEnd};
+ghost use Rattle.kc_conf.specs.Outcome.{names_of};
 ghost use Rattle.kc_disk.specs.Devices.{most_reads};
 ghost use Rattle.kc_disk.specs.Openers.{contents, is_there, may_fail, read_device, stream};
+ghost use Rattle.kc_disk.specs.Program.{streams_of};
 ghost use Rattle.kc_disk.specs.Stages.{IsThere, IsThereOnceOpened, ReadsWithin, breaks_in, left};
 
 use crate::opener::{OpenFault, Opener};
-use kc_conf::Input;
+use kc_conf::{Input, Options};
 use kc_dot::Fault;
+use std::alloc::{AllocError, Global};
 
 /// How many reads that give bytes there may be: a file that gives more has no end.
 const MOST_READS: u64 = 1 << 63;
@@ -158,4 +161,28 @@ impl<'a, P: Opener> Input for FileInput<'a, P> {
             Err(Fault) => Err(fail(&mut self.failures)),
         }
     }
+}
+
+/// The `.config`, which may be missing where `--must-exist` was not given, and then the fragments in order, each of which has
+/// to be there.
+pub(crate) fn inputs_of<'a, P: Opener>(
+    alloc: Global,
+    opener: &'a P,
+    options: &'a Options,
+) -> Result<Vec<FileInput<'a, P>>, AllocError>
+    ensures streams { IfOk result (λ inputs. map (λ i. stream i.name.now i.may_be_missing) inputs.items ≡ streams_of options.now) }
+    ensures there { IfOk result (λ inputs. map (λ i. is_there (P.files i.opener.now) (stream i.name.now i.may_be_missing)) inputs.items ≡ map (is_there (P.files opener.now)) (streams_of options.now)) }
+    ensures may_fail { IfOk result (λ inputs. map (λ i. may_fail (read_device (P.files i.opener.now) (P.failing i.opener.now)) (stream i.name.now i.may_be_missing))
+        inputs.items ≡ map (may_fail (read_device (P.files opener.now) (P.failing opener.now))) (streams_of options.now)) }
+    // Each gives what the file of its name holds, from its beginning on.
+    ensures unread { IfOk result (λ inputs. map (λ i. left P.rest (P.files i.opener.now) i.name.now i.stage) inputs.items ≡ map (contents (P.files opener.now)) (names_of options.now)) }
+    ensures quiet { IfOk result (λ inputs. map (λ i. i.failures) inputs.items ≡ map (λ _. 0) (names_of options.now)) }
+{
+    let mut inputs = Vec::new(alloc);
+    let config = FileInput::new(opener, options.config.as_str(), !options.must_exist);
+    inputs.push(config)?;
+    for fragment in &options.fragments {
+        inputs.push(FileInput::new(opener, fragment.as_str(), false))?;
+    }
+    Ok(inputs)
 }

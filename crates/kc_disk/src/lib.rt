@@ -7,7 +7,6 @@ mod devices;
 mod drafts;
 mod folder;
 mod input;
-mod inputs;
 pub mod laws;
 mod maker;
 mod mover;

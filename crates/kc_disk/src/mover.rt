@@ -1,6 +1,7 @@
 //! What makes files beside their places and moves them there.
 ghost use Rattle.std.specs.Prelude.{◌≡◌, ◌<◌, ◌≤◌, Bool, true, Option, length, take, option_map, IfOk, OnOk, OnErr};
-ghost use Rattle.kc_disk.specs.Movers.{MoverState, Shows, cleared, finished, grown_by, is_held, moved, started};
+ghost use Rattle.kc_disk.specs.Makers.{Tells};
+ghost use Rattle.kc_disk.specs.Movers.{MoverState, cleared, finished, grown_by, is_held, moved, started};
 
 use kc_dot::Fault;
 
@@ -16,7 +17,7 @@ pub trait Mover {
 
     /// Whether the file of this name holds these bytes and no others.
     fn holds(&self, name: &str, bytes: &[u8]) -> bool
-        ensures { Shows (state self.now) (λ s. result ≡ is_held s.held name.now bytes.now) };
+        ensures { Tells (state self.now) (λ s. result ≡ is_held s.held name.now bytes.now) };
 
     /// Makes an empty file beside the place of this name. On `Fault` none was made.
     fn start(&mut self, name: &str) -> Result<(), Fault>

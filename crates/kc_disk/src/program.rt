@@ -5,7 +5,7 @@ ghost use Rattle.kc_disk.specs.Devices.{exit_status};
 ghost use Rattle.kc_disk.specs.Answering.{KconfEnds, KconfEndsOnDisk, ProcessEnds};
 ghost use Rattle.kc_disk.specs.Openers.{read_device};
 ghost use Rattle.kc_disk.specs.Makers.{IsOpen, Tells, maker_call, none_made};
-ghost use Rattle.kc_disk.specs.Movers.{IsClear, Shows, mover_call};
+ghost use Rattle.kc_disk.specs.Movers.{IsClear, mover_call};
 ghost use Rattle.kc_disk.specs.Program.{ReportsUsage, usage_status};
 ghost use Rattle.kc_disk.specs.Replacing.{EndsBy};
 
@@ -59,8 +59,9 @@ fn run_by<F: Folder, P: Opener, M: Maker + Drop, V: Mover>(
     kept: &mut Option<AcceptedTree>,
 ) -> (Status, M)
     requires maker { Tells (M.state maker) (λ t. t ≡ none_made) }
-    requires clear { Shows (V.state mover.old) IsClear }
-    ensures { EndsBy options.now.replace (read_device (F.files folder.old) (F.failing folder.old)) (read_device (P.files opener.now) (P.failing opener.now)) options.now result.0 (maker_call (M.state maker) (M.state result.1) (M.failing maker Notes)) (mover_call (V.state mover.old) (V.state mover.new) (V.failing mover.old)) }
+    requires clear { Tells (V.state mover.old) IsClear }
+    ensures { EndsBy options.now.replace (read_device (F.files folder.old) (F.failing folder.old)) (read_device (P.files opener.now) (P.failing opener.now)) options.now
+        result.0 (maker_call (M.state maker) (M.state result.1) (M.failing maker Notes)) (mover_call (V.state mover.old) (V.state mover.new) (V.failing mover.old)) }
 {
     if options.replace {
         run_replacing(alloc, folder, opener, options, maker, mover, kept)
@@ -86,8 +87,9 @@ pub fn kconf_over<F: Folder, P: Opener, M: Maker + Drop, V: Mover>(
     kept: &mut Option<AcceptedTree>,
 ) -> (Status, M)
     requires maker { Tells (M.state maker) (λ t. t ≡ none_made) }
-    requires clear { Shows (V.state mover.old) IsClear }
-    ensures { KconfEnds (read_device (F.files folder.old) (F.failing folder.old)) (read_device (P.files opener.now) (P.failing opener.now)) arguments.now result.0 (maker_call (M.state maker) (M.state result.1) (M.failing maker Notes)) (mover_call (V.state mover.old) (V.state mover.new) (V.failing mover.old)) }
+    requires clear { Tells (V.state mover.old) IsClear }
+    ensures { KconfEnds (read_device (F.files folder.old) (F.failing folder.old)) (read_device (P.files opener.now) (P.failing opener.now)) arguments.now result.0
+        (maker_call (M.state maker) (M.state result.1) (M.failing maker Notes)) (mover_call (V.state mover.old) (V.state mover.new) (V.failing mover.old)) }
 {
     match options_of(rt.alloc(), arguments) {
         Ok(options) => run_by(rt.alloc(), folder, opener, &options, maker, mover, kept),

@@ -5,7 +5,7 @@ ghost use Rattle.kc_conf.specs.Outcome.{root_file};
 ghost use Rattle.kc_conf.specs.declared.outputs.Output.TheVariants.{Notes};
 ghost use Rattle.kc_disk.specs.Openers.{read_device};
 ghost use Rattle.kc_disk.specs.Makers.{Tells, maker_call, none_made};
-ghost use Rattle.kc_disk.specs.Movers.{IsClear, Shows, mover_call};
+ghost use Rattle.kc_disk.specs.Movers.{IsClear, mover_call};
 ghost use Rattle.kc_disk.specs.Replacing.{EndsReplacing, RanReplacing, Replaces, text_at, wanted_texts};
 ghost use Rattle.kc_disk.specs.Texts.{texts_of};
 
@@ -68,8 +68,9 @@ fn replace_drafts<'n, N: Maker + Drop, M: Mover>(
     drafts: &Drafts<N>,
     mover: &mut M,
 ) -> Result<Status, ReplaceFault<'n>>
-    requires { Shows (M.state mover.old) IsClear }
-    ensures { Replaces (wanted_texts options.now drafts.now.config.bytes.items drafts.now.header.bytes.items drafts.now.minimal.bytes.items drafts.now.depfile.bytes.items) ran result (mover_call (M.state mover.old) (M.state mover.new) (M.failing mover.old)) }
+    requires { Tells (M.state mover.old) IsClear }
+    ensures { Replaces (wanted_texts options.now drafts.now.config.bytes.items drafts.now.header.bytes.items drafts.now.minimal.bytes.items
+        drafts.now.depfile.bytes.items) ran result (mover_call (M.state mover.old) (M.state mover.new) (M.failing mover.old)) }
 {
     let Status::Done = ran else {
         return Ok(ran);
@@ -103,10 +104,12 @@ pub fn replace_over<'n, F: Folder, P: Opener, N: Maker + Drop, M: Mover>(
     kept: &mut Option<AcceptedTree>,
 ) -> (Result<Result<Status, ReplaceFault<'n>>, LoadFault>, N)
     requires notes { Tells (N.state notes) (λ t. t ≡ none_made) }
-    requires clear { Shows (M.state mover.old) IsClear }
+    requires clear { Tells (M.state mover.old) IsClear }
     // The run leaves the outcome of the folder's files and of the streams by their names, or a part of it and a cause; what it
     // handed out took its places where it is done, and the maker made no file.
-    ensures ran { IfOk result.0 (λ ended. RanReplacing (read_device (F.files folder.old) (F.failing folder.old)) (read_device (P.files opener.now) (P.failing opener.now)) options.now ended (maker_call (N.state notes) (N.state result.1) (N.failing notes Notes)) (mover_call (M.state mover.old) (M.state mover.new) (M.failing mover.old))) }
+    ensures ran { IfOk result.0 (λ ended. RanReplacing (read_device (F.files folder.old) (F.failing folder.old)) (read_device (P.files opener.now) (P.failing opener.now))
+        options.now ended (maker_call (N.state notes) (N.state result.1) (N.failing notes Notes))
+        (mover_call (M.state mover.old) (M.state mover.new) (M.failing mover.old))) }
     // A file of the tree that could not be read is one whose turn it was.
     ensures fault { IfErr result.0 (IsLoadFault (F.files folder.old) (F.failing folder.old) (string_bytes options.now.root) (root_file options.now)) }
     // After a fault of loading nothing was made, told or moved.
@@ -137,8 +140,9 @@ pub fn run_replacing<F: Folder, P: Opener, N: Maker + Drop, M: Mover>(
     kept: &mut Option<AcceptedTree>,
 ) -> (Status, N)
     requires notes { Tells (N.state notes) (λ t. t ≡ none_made) }
-    requires clear { Shows (M.state mover.old) IsClear }
-    ensures { EndsReplacing (read_device (F.files folder.old) (F.failing folder.old)) (read_device (P.files opener.now) (P.failing opener.now)) options.now result.0 (maker_call (N.state notes) (N.state result.1) (N.failing notes Notes)) (mover_call (M.state mover.old) (M.state mover.new) (M.failing mover.old)) }
+    requires clear { Tells (M.state mover.old) IsClear }
+    ensures { EndsReplacing (read_device (F.files folder.old) (F.failing folder.old)) (read_device (P.files opener.now) (P.failing opener.now)) options.now result.0
+        (maker_call (N.state notes) (N.state result.1) (N.failing notes Notes)) (mover_call (M.state mover.old) (M.state mover.new) (M.failing mover.old)) }
 {
     let (ended, mut notes) = replace_over(alloc, folder, opener, options, notes, mover, kept);
     match ended {

@@ -1,6 +1,7 @@
 //! The texts of a run take their places.
 ghost use Rattle.std.specs.Prelude.{◌≡◌, ◌<◌, ◌||◌, not, length, option_map, None, true, IfOk, IfErr, OnOk, OnErr};
-ghost use Rattle.kc_disk.specs.Movers.{IsClear, Shows, changed, cleared, grown_by, has_name, is_held, mover_call, changed_or_all, replaced, share_name};
+ghost use Rattle.kc_disk.specs.Makers.{Tells};
+ghost use Rattle.kc_disk.specs.Movers.{IsClear, changed, cleared, grown_by, has_name, is_held, mover_call, changed_or_all, replaced, share_name};
 ghost use Rattle.kc_disk.specs.ReplaceFaults.{IsReplaceFault};
 ghost use Rattle.kc_disk.specs.Texts.{added, moved_times, staged, text_of, texts_of};
 
@@ -63,7 +64,7 @@ fn share_name(texts: &[NamedText<'_, '_>]) -> bool
 
 // Whether the text is not in its place, or is made anyway.
 fn is_changed<M: Mover>(share_name: bool, text: NamedText<'_, '_>, mover: &M) -> bool
-    ensures { Shows (M.state mover.now) (λ s. result ≡ (share_name || not (is_held s.held text.entry.name.now text.entry.bytes.now))) }
+    ensures { Tells (M.state mover.now) (λ s. result ≡ (share_name || not (is_held s.held text.entry.name.now text.entry.bytes.now))) }
 {
     share_name || !mover.holds(text.name, text.bytes)
 }
@@ -75,7 +76,7 @@ fn changed_or_all<'n, 'b, M: Mover>(
     texts: &[NamedText<'n, 'b>],
     mover: &M,
 ) -> Result<Vec<NamedText<'n, 'b>>, AllocError>
-    ensures { Shows (M.state mover.now) (λ s. IfOk result (λ some. texts_of some.items ≡ changed_or_all share_name (texts_of texts.now) s.held)) }
+    ensures { Tells (M.state mover.now) (λ s. IfOk result (λ some. texts_of some.items ≡ changed_or_all share_name (texts_of texts.now) s.held)) }
 {
     let mut some = Vec::new(alloc);
     for text in texts {
@@ -93,7 +94,7 @@ fn changed<'n, 'b, M: Mover>(
     texts: &[NamedText<'n, 'b>],
     mover: &M,
 ) -> Result<Vec<NamedText<'n, 'b>>, AllocError>
-    ensures { Shows (M.state mover.now) (λ s. IfOk result (λ some. texts_of some.items ≡ changed (texts_of texts.now) s.held)) }
+    ensures { Tells (M.state mover.now) (λ s. IfOk result (λ some. texts_of some.items ≡ changed (texts_of texts.now) s.held)) }
 {
     changed_or_all(alloc, share_name(texts), texts, mover)
 }
@@ -130,7 +131,7 @@ fn make<M: Mover>(text: NamedText<'_, '_>, mover: &mut M) -> Result<(), Fault>
 // Makes the file of each text beside its place, in their order. An error is the name of the place of one that could not be
 // made: some of them may stand there in part.
 fn make_all<'n, M: Mover>(texts: &[NamedText<'n, '_>], mover: &mut M) -> Result<(), &'n str>
-    requires { Shows (M.state mover.old) (λ s. s.begun ≡ None) }
+    requires { Tells (M.state mover.old) (λ s. s.begun ≡ None) }
     ensures ok { OnOk result (M.state mover.new ≡ option_map (staged (texts_of texts.now)) (M.state mover.old)) }
     ensures err { OnErr result (option_map cleared (M.state mover.new) ≡ option_map cleared (M.state mover.old)) }
     ensures named { IfErr result (λ name. has_name name.now (texts_of texts.now) ≡ true) }
@@ -172,7 +173,7 @@ pub(crate) fn replace_files<'n, M: Mover>(
     texts: &[NamedText<'n, '_>],
     mover: &mut M,
 ) -> Result<(), ReplaceFault<'n>>
-    requires { Shows (M.state mover.old) IsClear }
+    requires { Tells (M.state mover.old) IsClear }
     ensures ok { OnOk result (M.state mover.new ≡ option_map (replaced (texts_of texts.now)) (M.state mover.old)) }
     ensures err { IfErr result (λ stop. IsReplaceFault stop (texts_of texts.now) (mover_call (M.state mover.old) (M.state mover.new) (M.failing mover.old))) }
 {

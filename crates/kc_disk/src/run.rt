@@ -5,11 +5,11 @@ ghost use Rattle.kc_conf.specs.Outcome.{root_file};
 ghost use Rattle.kc_conf.specs.declared.outputs.Output.TheVariants.{Notes};
 ghost use Rattle.kc_disk.specs.Openers.{read_device};
 ghost use Rattle.kc_disk.specs.Makers.{Tells, maker_call, none_made};
-ghost use Rattle.kc_disk.specs.Program.{Ends, Ran};
+ghost use Rattle.kc_disk.specs.Program.{RunEnds, Ran};
 
 use crate::buffer::Buffer;
 use crate::devices::Devices;
-use crate::inputs::inputs_of;
+use crate::input::inputs_of;
 use crate::maker::Maker;
 use crate::opener::Opener;
 use crate::outputs::FileOutputs;
@@ -38,7 +38,8 @@ fn over_devices<F: Folder, P: Opener, M: Maker + Drop, K: Devices>(
 ) -> (Result<Status, LoadFault>, M)
     requires maker { Tells (M.state maker) (λ t. t ≡ none_made) }
     requires notes { K.notes_fail ≡ M.failing maker Notes }
-    ensures ran { IfOk result.0 (λ status. Ran (read_device (F.files folder.old) (F.failing folder.old)) (read_device (P.files opener.now) (P.failing opener.now)) options.now status (maker_call (M.state maker) (M.state result.1) (M.failing maker Notes))) }
+    ensures ran { IfOk result.0 (λ status. Ran (read_device (F.files folder.old) (F.failing folder.old)) (read_device (P.files opener.now) (P.failing opener.now))
+        options.now status (maker_call (M.state maker) (M.state result.1) (M.failing maker Notes))) }
     ensures fault { IfErr result.0 (IsLoadFault (F.files folder.old) (F.failing folder.old) (string_bytes options.now.root) (root_file options.now)) }
     ensures untouched { OnErr result.0 (M.state result.1 ≡ M.state maker) }
     ensures failing_stays { M.failing result.1 Notes ≡ M.failing maker Notes }
@@ -81,7 +82,8 @@ pub fn configure_over<F: Folder, P: Opener, M: Maker + Drop>(
     requires { Tells (M.state maker) (λ t. t ≡ none_made) }
     // The run leaves the outcome of the folder's files and of the streams by their names, or a part of it and a cause, and
     // what it handed out reached the files.
-    ensures ran { IfOk result.0 (λ status. Ran (read_device (F.files folder.old) (F.failing folder.old)) (read_device (P.files opener.now) (P.failing opener.now)) options.now status (maker_call (M.state maker) (M.state result.1) (M.failing maker Notes))) }
+    ensures ran { IfOk result.0 (λ status. Ran (read_device (F.files folder.old) (F.failing folder.old)) (read_device (P.files opener.now) (P.failing opener.now))
+        options.now status (maker_call (M.state maker) (M.state result.1) (M.failing maker Notes))) }
     // A file of the tree that could not be read is one whose turn it was.
     ensures fault { IfErr result.0 (IsLoadFault (F.files folder.old) (F.failing folder.old) (string_bytes options.now.root) (root_file options.now)) }
     // After a fault of loading nothing was made.
@@ -102,7 +104,8 @@ pub fn run_over<F: Folder, P: Opener, M: Maker + Drop>(
     kept: &mut Option<AcceptedTree>,
 ) -> (Status, M)
     requires { Tells (M.state maker) (λ t. t ≡ none_made) }
-    ensures { Ends (read_device (F.files folder.old) (F.failing folder.old)) (read_device (P.files opener.now) (P.failing opener.now)) options.now result.0 (maker_call (M.state maker) (M.state result.1) (M.failing maker Notes)) }
+    ensures { RunEnds (read_device (F.files folder.old) (F.failing folder.old)) (read_device (P.files opener.now) (P.failing opener.now)) options.now result.0
+        (maker_call (M.state maker) (M.state result.1) (M.failing maker Notes)) }
 {
     let (ended, mut maker) = configure_over(alloc, folder, opener, options, maker, kept);
     match ended {

@@ -121,7 +121,7 @@ fn start(rt: &HostRuntime, name: &str) -> io::Result<(File, Option<TemporaryFile
 }
 
 // Where the text of this name lies, if that is a regular file.
-fn place_of(rt: &HostRuntime, name: &str) -> io::Result<Option<PathBuf>> {
+fn regular_file_of(rt: &HostRuntime, name: &str) -> io::Result<Option<PathBuf>> {
     match destination_of(rt, name)? {
         Destination::File(place, Some(_)) => Ok(Some(place)),
         Destination::File(_, None) | Destination::Other => Ok(None),
@@ -141,7 +141,7 @@ impl<'a> Mover for SystemMover<'a> {
     ghost failing = { λ _. true };
 
     fn holds(&self, name: &str, bytes: &[u8]) -> bool {
-        let Ok(Some(place)) = place_of(self.rt, name) else {
+        let Ok(Some(place)) = regular_file_of(self.rt, name) else {
             return false;
         };
         let opener = SystemOpener::new(self.rt);

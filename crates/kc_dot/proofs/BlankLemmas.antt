@@ -1,11 +1,11 @@
 -- What bstr's finds say of blanks at the end of a line, and of the first `=`.
-use Rattle.std.proofs.Common.{◌≡◌, ◌≢◌, ℕ, ◌+◌, ◌-◌, ◌<◌, List, [], ◌∷◌, Bool, true, false, length, take, drop, ltb, cond, sym, refl, ap, ◌∙◌, arith, Option, Some, None}
-use Rattle.std.specs.Prelude.{not, ◌||◌, ◌&&◌, ◌==◌}
+use Rattle.std.proofs.Common.{◌≡◌, ◌≢◌, ℕ, ◌+◌, ◌-◌, ◌<◌, List, [], Bool, true, false, length, take, drop, ltb, cond, refl, arith, Option, Some, None}
+use Rattle.std.specs.Prelude.{◌&&◌}
 use Rattle.std.specs.List.{position_or_len, suffix_len}
-use Rattle.std.proofs.lemmas.Bool.{not-true, true_from_ne_false, not_from_false, false_from_ne_true, lt-ltb, le-ltb}
+use Rattle.std.proofs.lemmas.Bool.{false_from_ne_true, lt-ltb, le-ltb}
 use Rattle.std.proofs.lemmas.List.{take_rest}
 use Rattle.std.proofs.lemmas.List.Sums.{suffix_len_is, position_or_len_is}
-use Rattle.bstr.specs.Bytes.{is_in, not_in}
+use Rattle.bstr.specs.Bytes.{not_in}
 use Rattle.bstr.specs.Find.{NoneAfter, NoneBefore, Nowhere, Passes, is_byte}
 use Rattle.kc_text.specs.Lexemes.{is_blank}
 use Rattle.kc_text.proofs.Blanks.{blanks, fails_not, passes_not}

@@ -2,7 +2,7 @@
 use Rattle.std.proofs.Common.{◌≡◌, ℕ, List, [], ◌∷◌, ◌++◌, refl, ap, ◌∙◌, append-nil}
 use Rattle.kc_user.specs.Places.{Places}
 use Rattle.kc_dot.specs.Calls.{Call, Feed, Finish, NextStream, rest_of, more_of, lines_fed, CallsJoin}
-use Rattle.kc_dot.specs.Feeding.{fed, ended, stream_start, ReadsPiece, Ends}
+use Rattle.kc_dot.specs.Feeding.{fed, ended, stream_start, ReadsPiece, EndsStream}
 use Rattle.kc_dot.specs.ReaderState.{ReaderState}
 use Rattle.kc_dot.specs.Reading.{ReadResult, reading, with_warnings, lines_from}
 use Rattle.kc_dot.proofs.ReadingLemmas.{with_warnings-with_warnings}
@@ -14,14 +14,14 @@ module _ (old : ReaderState) (before middle : Places) (first : List ℕ) (calls 
       reading old.tree old.prefix before (lines_fed old (Feed piece ∷ calls)) ≡ with_warnings first later
   feed_first piece goes rest = goes (rest_of calls) (more_of old.name (fed piece old.position) calls) ∙ ap (with_warnings first) rest
 
-  finish_first : Ends old.tree old.prefix old.name old.position before middle first →
+  finish_first : EndsStream old.tree old.prefix old.name old.position before middle first →
       reading old.tree old.prefix middle (lines_fed (record old { position = ended old.position }) calls) ≡ later →
       reading old.tree old.prefix before (lines_fed old (Finish ∷ calls)) ≡ with_warnings first later
   finish_first ends rest =
       let e : old.position.pending ++ [] ≡ old.position.pending = append-nil old.position.pending in
       rw e (ends (lines_fed (record old { position = ended old.position }) calls) ∙ ap (with_warnings first) rest)
 
-  next_first : (name : List ℕ) → Ends old.tree old.prefix old.name old.position before middle first →
+  next_first : (name : List ℕ) → EndsStream old.tree old.prefix old.name old.position before middle first →
       reading old.tree old.prefix middle (lines_fed (record old { name = name; position = stream_start }) calls) ≡ later →
       reading old.tree old.prefix before (lines_fed old (NextStream name ∷ calls)) ≡ with_warnings first later
   next_first name ends rest =

@@ -7,13 +7,13 @@ use Rattle.kc_text.specs.Lines.{is_line_feed}
 use Rattle.kc_tree.specs.TreeFacts.{TreeFacts}
 use Rattle.kc_user.specs.Places.{Places}
 use Rattle.kc_dot.specs.declared.fault.DotFault.{DotFault}
-use Rattle.kc_dot.specs.declared.fault.DotFault.TheVariants.{ConfigLineTooLong, Sink, Memory}
-use Rattle.kc_dot.specs.Feeding.{StreamPosition, IsWithinLine, fed, to_come, BreaksAt, ReadsPiece, Feeds, StopsBecause, StopsAt, Refuses, Finishes, FailsToEnd}
+use Rattle.kc_dot.specs.declared.fault.DotFault.TheVariants.{DotLineTooLong, Sink, Memory}
+use Rattle.kc_dot.specs.Feeding.{StreamPosition, IsWithinLine, fed, to_come, BreaksAt, ReadsPiece, Feeds, StopsBecause, StopsAt, Refuses, FinishesStream, FailsToEnd}
 use Rattle.kc_dot.specs.LineSteps.{FailsIn}
 use Rattle.kc_dot.specs.Reading.{Line, line, is_within, next_number, lines_from, reading, with_warnings, places_after, warning}
 use Rattle.kc_dot.specs.Sink.{extended, BeginsWith, GoesBeyond}
 use Rattle.kc_dot.proofs.LineLemmas.{HasNoLf, lines_from-lf, lines_from-last, is_within-line}
-use Rattle.kc_dot.proofs.LongLineLemmas.{Stops-long, Stops-longer}
+use Rattle.kc_dot.proofs.LongLineLemmas.{MeetsLongLine-long, MeetsLongLine-longer}
 use Rattle.kc_dot.proofs.ReadingLemmas.{with_warnings-with_warnings, reading_within}
 use Rattle.kc_dot.proofs.SinkLemmas.{extended-extended, extended-nothing}
 
@@ -80,22 +80,22 @@ module _ (tree : TreeFacts) (prefix name : List ℕ) where
 
   pub StopsAt-lf : (fault : DotFault) (b : ℕ) (old : StreamPosition) (places : Places) (taken taken_after : Option (List ℕ)) → IsWithinLine old → is_line_feed b ≡ true →
       FailsIn (warning tree prefix places (line name old.number old.pending true)) fault taken taken_after → StopsAt tree prefix name fault (b ∷ []) old places taken taken_after
-  StopsAt-lf (ConfigLineTooLong n) b old places taken taken_after open' lf never = absurd never
+  StopsAt-lf (DotLineTooLong n) b old places taken taken_after open' lf never = absurd never
   StopsAt-lf Sink b old places taken taken_after open' lf (front, begins, handed) = (front, handed, StopsBecause-lf b old places front open' lf begins)
   StopsAt-lf Memory b old places taken taken_after open' lf same = ([], same ∙ extended-nothing taken, refl)
 
   -- the 65,536th byte of a line
   pub StopsAt-long : (b : ℕ) (old : StreamPosition) (places : Places) (taken : Option (List ℕ)) → IsWithinLine old → is_line_feed b ≡ false → 65535 ≤ length old.pending →
-      StopsAt tree prefix name (ConfigLineTooLong old.number) (b ∷ []) old places taken taken
+      StopsAt tree prefix name (DotLineTooLong old.number) (b ∷ []) old places taken taken
   StopsAt-long b old places taken open' other long =
       let within = open'.within in
-      ([], extended-nothing taken, (refl, refl, omega arith, (b, [], refl, other), Stops-long tree prefix name b old places open' other long))
+      ([], extended-nothing taken, (refl, refl, omega arith, (b, [], refl, other), MeetsLongLine-long tree prefix name b old places open' other long))
 
   -- whatever else follows in the piece
   StopsBecause-longer : (fault : DotFault) (a b : List ℕ) (position : StreamPosition) (places : Places) (front : List ℕ) →
       StopsBecause tree prefix name fault a position places front → StopsBecause tree prefix name fault (a ++ b) position places front
-  StopsBecause-longer (ConfigLineTooLong n) a b position places front (nothing, number, long, (x, rest, is, other), stops) =
-      (nothing, number, long, (x, rest ++ b, ap (λ t. t ++ b) is, other), Stops-longer tree prefix name a b position places stops)
+  StopsBecause-longer (DotLineTooLong n) a b position places front (nothing, number, long, (x, rest, is, other), stops) =
+      (nothing, number, long, (x, rest ++ b, ap (λ t. t ++ b) is, other), MeetsLongLine-longer tree prefix name a b position places stops)
   StopsBecause-longer Sink a b position places front breaks = record {
     text = breaks.text;
     later = breaks.later ++ b;
@@ -143,8 +143,8 @@ OnOk-three (Err e) P Q R S f p q r = tt
 
 module _ (tree : TreeFacts) (prefix name : List ℕ) where
   -- there is no last line
-  pub Finishes-nothing : (position : StreamPosition) (places : Places) (taken : Option (List ℕ)) → position.pending ≡ [] → Finishes tree prefix name position places places taken taken
-  Finishes-nothing position places taken empty =
+  pub FinishesStream-nothing : (position : StreamPosition) (places : Places) (taken : Option (List ℕ)) → position.pending ≡ [] → FinishesStream tree prefix name position places places taken taken
+  FinishesStream-nothing position places taken empty =
       ([], extended-nothing taken, λ more. rw (empty, lines_from-last name position.number [] (λ k d lt. absurd (omega arith))) refl)
 
   last_is : (position : StreamPosition) → IsWithinLine position → 0 < length position.pending → lines_from name position.number position.pending ≡ line name position.number position.pending false ∷ []
@@ -153,11 +153,11 @@ module _ (tree : TreeFacts) (prefix name : List ℕ) where
       lines_from-last name position.number position.pending opened.one_line ∙ rw e refl
 
   -- the last line was read
-  pub Finishes-line : (position : StreamPosition) (before after : Places) (taken taken_after : Option (List ℕ)) → IsWithinLine position → 0 < length position.pending →
+  pub FinishesStream-line : (position : StreamPosition) (before after : Places) (taken taken_after : Option (List ℕ)) → IsWithinLine position → 0 < length position.pending →
       after ≡ places_after tree prefix before (line name position.number position.pending false ∷ []) →
       taken_after ≡ extended taken (warning tree prefix before (line name position.number position.pending false)) →
-      Finishes tree prefix name position before after taken taken_after
-  Finishes-line position before after taken taken_after opened some places handed =
+      FinishesStream tree prefix name position before after taken taken_after
+  FinishesStream-line position before after taken taken_after opened some places handed =
       let l = line name position.number position.pending false in (
         warning tree prefix before l,
         handed,
@@ -168,7 +168,7 @@ module _ (tree : TreeFacts) (prefix name : List ℕ) where
   -- the warning of the last line broke off
   pub FailsToEnd-line : (fault : DotFault) (position : StreamPosition) (places : Places) (taken taken_after : Option (List ℕ)) → IsWithinLine position → 0 < length position.pending →
       FailsIn (warning tree prefix places (line name position.number position.pending false)) fault taken taken_after → FailsToEnd tree prefix name fault position places taken taken_after
-  FailsToEnd-line (ConfigLineTooLong n) position places taken taken_after opened some never = never
+  FailsToEnd-line (DotLineTooLong n) position places taken taken_after opened some never = never
   FailsToEnd-line Sink position places taken taken_after opened some broke =
       (line name position.number position.pending false, last_is position opened some, is_within-line name position.number position.pending false opened.within, broke)
   FailsToEnd-line Memory position places taken taken_after opened some same = same

@@ -96,9 +96,6 @@ module _ (tree : TreeFacts) (given : List Assignment) where
       ∙ (let z : 0 + c ≡ c = omega arith in rw (get_or-replicate (length tree.choices) c no_member no_member lt, z) refl)
       )
 
-abbrev symbol_of : Assignment → SymId
-symbol_of a = a.symbol
-
 same_number : (s : SymId) (i : ℕ) → s.0 ≡ i → s ≡ symbol i
 same_number s i e = ap symbol e
 

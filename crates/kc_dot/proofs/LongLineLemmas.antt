@@ -8,8 +8,8 @@ use Rattle.std.proofs.lemmas.List.Splits.{slice_split-cons_no}
 use Rattle.kc_text.specs.Lines.{is_line_feed}
 use Rattle.kc_tree.specs.TreeFacts.{TreeFacts}
 use Rattle.kc_user.specs.Places.{Places}
-use Rattle.kc_dot.specs.Feeding.{StreamPosition, IsWithinLine, Stops}
-use Rattle.kc_dot.specs.Reading.{Line, line, is_within, lines_from, lines_of_parts}
+use Rattle.kc_dot.specs.Feeding.{StreamPosition, IsWithinLine, MeetsLongLine}
+use Rattle.kc_dot.specs.Reading.{Line, line, is_within, lines_from, lines_in_stream}
 use Rattle.kc_dot.proofs.LineLemmas.{HasNoLf, split_form}
 use Rattle.kc_dot.proofs.ReadingLemmas.{reading_long}
 
@@ -21,9 +21,9 @@ split_behind (b ∷ bytes) rest part parts one is =
 
 -- the first line of these parts is the first part
 first_line : (stream : List ℕ) (n : ℕ) (part : List ℕ) (parts : List (List ℕ)) → 0 < length part → (ended : Bool) × (lines : List Line)
-    × (lines_of_parts stream n (part ∷ parts) ≡ line stream n part ended ∷ lines)
+    × (lines_in_stream stream n (part ∷ parts) ≡ line stream n part ended ∷ lines)
 first_line stream n part [] some = let e : (length part == 0) ≡ false = ne_eqb (length part) 0 (omega (arith, some)) in (false, [], rw e refl)
-first_line stream n part (next ∷ parts) some = (true, lines_of_parts stream _ (next ∷ parts), refl)
+first_line stream n part (next ∷ parts) some = (true, lines_in_stream stream _ (next ∷ parts), refl)
 
 -- bytes without an LF, and then another byte than an LF, begin the first line
 begins_line : (stream : List ℕ) (n : ℕ) (bytes : List ℕ) (b : ℕ) (rest : List ℕ) → HasNoLf bytes → is_line_feed b ≡ false →
@@ -34,12 +34,12 @@ begins_line stream n bytes b rest one other =
     let whole : slice_split is_line_feed (bytes ++ b ∷ rest) ≡ (bytes ++ b ∷ part) ∷ parts =
     split_behind bytes (b ∷ rest) (b ∷ part) parts one (slice_split-cons_no is_line_feed b rest other ∙ ap (onto_first b) is) in
     let (ended, lines, first) = first_line stream n (bytes ++ b ∷ part) parts (omega (arith, length-append bytes (b ∷ part))) in
-    (part, ended, lines, ap (lines_of_parts stream n) whole ∙ first)
+    (part, ended, lines, ap (lines_in_stream stream n) whole ∙ first)
 
 -- the 65,536th byte of a line stops the reading there
-pub Stops-long : (tree : TreeFacts) (prefix name : List ℕ) (b : ℕ) (position : StreamPosition) (places : Places) → IsWithinLine position →
-    is_line_feed b ≡ false → 65535 ≤ length position.pending → Stops tree prefix name (b ∷ []) position places
-Stops-long tree prefix name b position places opened other long rest more =
+pub MeetsLongLine-long : (tree : TreeFacts) (prefix name : List ℕ) (b : ℕ) (position : StreamPosition) (places : Places) → IsWithinLine position →
+    is_line_feed b ≡ false → 65535 ≤ length position.pending → MeetsLongLine tree prefix name (b ∷ []) position places
+MeetsLongLine-long tree prefix name b position places opened other long rest more =
     let (part, ended, lines, is) = begins_line name position.number position.pending b rest opened.one_line other in
     let l = line name position.number (position.pending ++ b ∷ part) ended in
     let count = length-append position.pending (b ∷ part) in
@@ -47,6 +47,6 @@ Stops-long tree prefix name b position places opened other long rest more =
     rw is (reading_long tree prefix places l (lines ++ more) too_long)
 
 -- whatever else follows in the piece
-pub Stops-longer : (tree : TreeFacts) (prefix name a b : List ℕ) (position : StreamPosition) (places : Places) → Stops tree prefix name a position places →
-    Stops tree prefix name (a ++ b) position places
-Stops-longer tree prefix name a b position places stops rest more = rw append_assoc (stops (b ++ rest) more)
+pub MeetsLongLine-longer : (tree : TreeFacts) (prefix name a b : List ℕ) (position : StreamPosition) (places : Places) → MeetsLongLine tree prefix name a position places →
+    MeetsLongLine tree prefix name (a ++ b) position places
+MeetsLongLine-longer tree prefix name a b position places stops rest more = rw append_assoc (stops (b ++ rest) more)

@@ -54,6 +54,3 @@ module _ (tree : TreeFacts) (prefix : List ℕ) where
 
 pub with_warnings-with_warnings : (a b : List ℕ) (read : ReadResult) → with_warnings a (with_warnings b read) ≡ with_warnings (a ++ b) read
 with_warnings-with_warnings a b read = rw append_assoc refl
-
-pub with_warnings-nothing : (read : ReadResult) → with_warnings [] read ≡ read
-with_warnings-nothing read = refl

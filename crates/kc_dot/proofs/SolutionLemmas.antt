@@ -22,6 +22,6 @@ solution_of s tree same formed accepted is held = record {
 -- the names of a well-formed tree's symbols
 pub has_names : (tree : TreeFacts) → IsWellFormed tree → HasNames tree
 has_names tree formed s lt =
-    let known = formed.names_known in
+    let known = formed.symbols_named in
     let name = formed.names_allowed s.0 (name_of tree s) lt (slice_get-get_or tree.names s.0 [] (omega arith)) in
     (record { some = name.some; bytes = name.bytes }, name.short)

@@ -17,10 +17,10 @@ use Rattle.kc_user.specs.Places.{ArePlaces, Places, allowed, members_of, no_plac
 use Rattle.kc_dot.specs.Calls.{Call, Feed, Finish, NextStream, Answers, AllAnswered, rest_of, more_of, lines_fed}
 use Rattle.kc_dot.specs.DotLine.{meaning_of}
 use Rattle.kc_dot.specs.Effects.{Effect, Silent, Warns, Assigns, effect_of}
-use Rattle.kc_dot.specs.Feeding.{StreamPosition, fed, ended, stream_start, ReadsPiece, Ends}
+use Rattle.kc_dot.specs.Feeding.{StreamPosition, fed, ended, stream_start, ReadsPiece, EndsStream}
 use Rattle.kc_dot.specs.LineSteps.{with_member}
 use Rattle.kc_dot.specs.ReaderState.{ReaderState}
-use Rattle.kc_dot.specs.Reading.{Assignment, Line, ReadResult, Stream, assignment_of, assignments, choice_of, before_too_long, effect, is_within, is_yes, last_line, line, lines_from, lines_of, lines_of_parts, next_number, places_given, reading, text_of, with_warnings}
+use Rattle.kc_dot.specs.Reading.{Assignment, Line, ReadResult, Stream, assignment_of, assignments, choice_of, before_too_long, effect, is_within, is_yes, last_line, line, lines_from, lines_of, lines_in_stream, next_number, places_given, reading, text_of, with_warnings}
 use Rattle.kc_dot.specs.Streams.{Pieces, stream_of, feeds, calls_after, RefusalsKeepPlaces, StreamsAreRead, StreamsLeavePlaces, ReadingKeepsPlaces}
 use Rattle.kc_dot.proofs.AllowedLemmas.{assigned_allowed, strip_no_lf}
 use Rattle.kc_dot.proofs.CallLemmas.{calls_join}
@@ -171,7 +171,7 @@ last_line_no_lf stream n bytes none = by (length bytes == 0)
     by true = tt
     by false = (none, tt)
 
-part_lines : (stream : List ℕ) (n : ℕ) (parts : List (List ℕ)) → AllByRecursion HasNoLf parts → AllByRecursion (λ (l : Line). HasNoLf l.bytes) (lines_of_parts stream n parts)
+part_lines : (stream : List ℕ) (n : ℕ) (parts : List (List ℕ)) → AllByRecursion HasNoLf parts → AllByRecursion (λ (l : Line). HasNoLf l.bytes) (lines_in_stream stream n parts)
 part_lines stream n [] ok = tt
 part_lines stream n (part ∷ []) ok = last_line_no_lf stream n part ok.0
 part_lines stream n (part ∷ next ∷ parts) ok = (ok.0, part_lines stream (next_number n) (next ∷ parts) ok.1)
@@ -209,7 +209,7 @@ module _ (setting : SettingKeepsPlaces) (selecting : SelectingKeepsPlaces) where
   no_more_lines name n bytes = subst (λ lines. AllByRecursion (λ (l : Line). HasNoLf l.bytes) lines) (sym (append-nil (lines_from name n bytes))) (stream_lines name n bytes)
 
   end_keeps : (tree : TreeFacts) (prefix name : List ℕ) (position : StreamPosition) (before after : Places) (warned : List ℕ) → IsWellFormed tree →
-      Ends tree prefix name position before after warned → ArePlaces tree before → ArePlaces tree after
+      EndsStream tree prefix name position before after warned → ArePlaces tree before → ArePlaces tree after
   end_keeps tree prefix name position before after warned formed ends old =
       let is : (reading tree prefix before (lines_from name position.number position.pending ++ [])).places ≡ after =
       ap (λ (r : ReadResult). r.places) (ends [] ∙ ap (with_warnings warned) (reading-nothing tree prefix after)) in

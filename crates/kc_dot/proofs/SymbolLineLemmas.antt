@@ -79,7 +79,7 @@ same_itself name = let d = bytes_eq-Decides name name in d.1 refl
 
 pub named_itself : (tree : TreeFacts) (s : SymId) → IsWellFormed tree → s.0 < length tree.symbols → symbol_named tree (name_of tree s) ≡ Some s
 named_itself tree s formed defined =
-    let known = formed.names_known in
+    let known = formed.symbols_named in
     let lt : s.0 < length tree.names = omega arith in
     let at : position_or_len (same_name (name_of tree s)) tree.names ≡ s.0 =
     position_or_len_is (same_name (name_of tree s)) tree.names s.0 [] (omega arith)

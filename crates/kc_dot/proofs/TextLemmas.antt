@@ -83,7 +83,7 @@ module _ (tree : TreeFacts) (prefix : List ℕ) (solution : SolutionView) where
 module _ (tree : TreeFacts) (formed : IsWellFormed tree) where
   shown_has_name : (i : ℕ) (shown : Shown) → IsEntrySound tree i shown → HasName tree shown
   shown_has_name i (SymbolShown s) defined =
-      let named : length tree.symbols ≤ length tree.names = formed.names_known in
+      let named : length tree.symbols ≤ length tree.names = formed.symbols_named in
       let there : s.0 < length tree.symbols = defined in
       omega arith
   shown_has_name i (MenuShown text when) sound = tt

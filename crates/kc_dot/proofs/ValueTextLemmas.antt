@@ -30,7 +30,7 @@ use Rattle.kc_values.specs.Differs.{AllowedPlaces}
 use Rattle.kc_values.specs.Laws.{IsAccepted, EquationsReadNeeds, NeedsAreDefined}
 use Rattle.kc_values.specs.Lookups.{facts, name, is_defined}
 use Rattle.kc_values.specs.Needs.{needs, needs_of}
-use Rattle.kc_values.specs.Numbers.{number_text, is_inside, clamped, if_inside, number_or_zero}
+use Rattle.kc_values.specs.Numbers.{number_text, is_within_range, clamped, if_within_range, number_or_zero}
 use Rattle.kc_values.specs.Solution as sol
 use Rattle.kc_values.specs.Solution.{symbol_count, known_from, user_place, equations}
 use Rattle.kc_values.specs.Values as v
@@ -219,13 +219,13 @@ inside_fits false t d a e = e
 
 ranged_fits : (k : Kind) (range : Option Interval) (u : Option GivenValue) (vis : Tri) (d : List ℕ) →
     ((t : List ℕ) → u ≡ Some (GivenText t) → allowed_text k t ≡ true) → fits_text d ≡ true →
-    fits_text (unwrap_or (if_inside k range (v.visible_text u vis)) d) ≡ true
+    fits_text (unwrap_or (if_within_range k range (v.visible_text u vis)) d) ≡ true
 ranged_fits k range None vis d given e = e
 ranged_fits k range (Some (GivenTruth t)) vis d given e = e
 ranged_fits k range (Some (Member m)) vis d given e = e
 ranged_fits k range (Some (GivenText t)) N d given e = e
-ranged_fits k range (Some (GivenText t)) M d given e = inside_fits (is_inside k range t) t d (allowed_fits_text k t (given t refl)) e
-ranged_fits k range (Some (GivenText t)) Y d given e = inside_fits (is_inside k range t) t d (allowed_fits_text k t (given t refl)) e
+ranged_fits k range (Some (GivenText t)) M d given e = inside_fits (is_within_range k range t) t d (allowed_fits_text k t (given t refl)) e
+ranged_fits k range (Some (GivenText t)) Y d given e = inside_fits (is_within_range k range t) t d (allowed_fits_text k t (given t refl)) e
 
 -- Under what is known, where it fits.
 module _ (tree : TreeFacts) (known : SymId → SymbolValue) (all : (s : SymId) → fits_known (known s) ≡ true) where

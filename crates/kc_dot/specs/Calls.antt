@@ -1,7 +1,7 @@
 -- Trusted: What any list of calls of a reader comes to.
 use Rattle.std.specs.Prelude.{◌≡◌, ℕ, ◌++◌, List, [], ◌∷◌}
 use Rattle.kc_user.specs.Places.{Places}
-use Rattle.kc_dot.specs.Feeding.{StreamPosition, fed, ended, stream_start, ReadsPiece, Ends}
+use Rattle.kc_dot.specs.Feeding.{StreamPosition, fed, ended, stream_start, ReadsPiece, EndsStream}
 use Rattle.kc_dot.specs.ReaderState.{ReaderState}
 use Rattle.kc_dot.specs.Reading.{Line, lines_from, reading, with_warnings}
 
@@ -15,9 +15,9 @@ abbrev pub Answers : Call → ReaderState → ReaderState → Places → Places 
 Answers (Feed piece) old new before after warned =
     (new ≡ record old { position = fed piece old.position }) × ReadsPiece old.tree old.prefix old.name piece old.position new.position before after warned
 Answers Finish old new before after warned =
-    (new ≡ record old { position = ended old.position }) × Ends old.tree old.prefix old.name old.position before after warned
+    (new ≡ record old { position = ended old.position }) × EndsStream old.tree old.prefix old.name old.position before after warned
 Answers (NextStream name) old new before after warned =
-    (new ≡ record old { name = name; position = stream_start }) × Ends old.tree old.prefix old.name old.position before after warned
+    (new ≡ record old { name = name; position = stream_start }) × EndsStream old.tree old.prefix old.name old.position before after warned
 
 -- calls, one after another, each answered Ok
 abbrev pub AllAnswered : List Call → ReaderState → ReaderState → Places → Places → List ℕ → Type 0

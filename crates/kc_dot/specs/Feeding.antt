@@ -7,7 +7,7 @@ use Rattle.kc_text.specs.Lines.{is_line_feed}
 use Rattle.kc_tree.specs.TreeFacts.{TreeFacts}
 use Rattle.kc_user.specs.Places.{Places}
 use Rattle.kc_dot.specs.declared.fault.DotFault.{DotFault}
-use Rattle.kc_dot.specs.declared.fault.DotFault.TheVariants.{ConfigLineTooLong, Sink, Memory}
+use Rattle.kc_dot.specs.declared.fault.DotFault.TheVariants.{DotLineTooLong, Sink, Memory}
 use Rattle.kc_dot.specs.Limits.{longest_dot_line}
 use Rattle.kc_dot.specs.Reading.{Line, line, is_within, next_number, lines_from, reading, with_warnings, warning}
 use Rattle.kc_dot.specs.Sink.{extended, next_failure, BreaksOff, GoesBeyond}
@@ -41,7 +41,7 @@ ended position = record { number = if length position.pending == 0 then position
 
 -- a count of failures after a fault: the sink's alone counts
 abbrev pub failures_after : DotFault → ℕ → ℕ
-failures_after (ConfigLineTooLong n) count = count
+failures_after (DotLineTooLong n) count = count
 failures_after Sink count = next_failure count
 failures_after Memory count = count
 
@@ -68,8 +68,8 @@ module _ (tree : TreeFacts) (prefix name : List ℕ) where
       (warned : List ℕ) × (taken_after ≡ extended taken warned) × ReadsPiece piece old new before after warned
 
   -- Whatever follows: the line at this position is too long.
-  abbrev pub Stops : List ℕ → StreamPosition → Places → Type 0
-  Stops left position places =
+  abbrev pub MeetsLongLine : List ℕ → StreamPosition → Places → Type 0
+  MeetsLongLine left position places =
       (rest : List ℕ) (more : List Line) →
       reading tree prefix places (to_come name position (left ++ rest) more)
       ≡ record { places = places; warned = []; stopped = Some (record { stream = name; number = position.number }) }
@@ -86,8 +86,8 @@ module _ (tree : TreeFacts) (prefix name : List ℕ) where
 
   -- why a reader stops before what is left, with a beginning of the next line's warning handed out
   abbrev pub StopsBecause : DotFault → List ℕ → StreamPosition → Places → List ℕ → Type 0
-  StopsBecause (ConfigLineTooLong n) left position places front =
-      (front ≡ []) × (n ≡ position.number) × (length position.pending ≡ longest_dot_line) × GoesOn left × Stops left position places
+  StopsBecause (DotLineTooLong n) left position places front =
+      (front ≡ []) × (n ≡ position.number) × (length position.pending ≡ longest_dot_line) × GoesOn left × MeetsLongLine left position places
   StopsBecause Sink left position places front = BreaksAt left position places front
   StopsBecause Memory left position places front = front ≡ []
 
@@ -109,18 +109,18 @@ module _ (tree : TreeFacts) (prefix name : List ℕ) where
     pub because : StopsBecause fault left new after front
 
   -- Whatever lines follow: the last line is ended, with its warning.
-  abbrev pub Ends : StreamPosition → Places → Places → List ℕ → Type 0
-  Ends old before after warned =
+  abbrev pub EndsStream : StreamPosition → Places → Places → List ℕ → Type 0
+  EndsStream old before after warned =
       (more : List Line) →
       reading tree prefix before (lines_from name old.number old.pending ++ more) ≡ with_warnings warned (reading tree prefix after more)
 
-  abbrev pub Finishes : StreamPosition → Places → Places → Option (List ℕ) → Option (List ℕ) → Type 0
-  Finishes old before after taken taken_after =
-      (warned : List ℕ) × (taken_after ≡ extended taken warned) × Ends old before after warned
+  abbrev pub FinishesStream : StreamPosition → Places → Places → Option (List ℕ) → Option (List ℕ) → Type 0
+  FinishesStream old before after taken taken_after =
+      (warned : List ℕ) × (taken_after ≡ extended taken warned) × EndsStream old before after warned
 
   -- the last line could not be ended: where the sink failed, a beginning of its warning was handed out, and not the whole
   abbrev pub FailsToEnd : DotFault → StreamPosition → Places → Option (List ℕ) → Option (List ℕ) → Type 0
-  FailsToEnd (ConfigLineTooLong n) position places taken taken_after = ⊥
+  FailsToEnd (DotLineTooLong n) position places taken taken_after = ⊥
   FailsToEnd Sink position places taken taken_after =
       (last : Line) × (lines_from name position.number position.pending ≡ last ∷ []) × (is_within last ≡ true)
       × BreaksOff (warning tree prefix places last) taken taken_after

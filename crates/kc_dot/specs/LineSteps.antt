@@ -4,7 +4,7 @@ use Rattle.kc_expr.specs.declared.expression.SymId.{SymId}
 use Rattle.kc_tree.specs.TreeFacts.{TreeFacts}
 use Rattle.kc_user.specs.Places.{Places}
 use Rattle.kc_dot.specs.declared.fault.DotFault.{DotFault}
-use Rattle.kc_dot.specs.declared.fault.DotFault.TheVariants.{ConfigLineTooLong, Sink, Memory}
+use Rattle.kc_dot.specs.declared.fault.DotFault.TheVariants.{DotLineTooLong, Sink, Memory}
 use Rattle.kc_dot.specs.Effects.{Effect, Silent, Warns, Assigns}
 use Rattle.kc_dot.specs.Reading.{places_given}
 use Rattle.kc_dot.specs.Sink.{BreaksOff}
@@ -23,6 +23,6 @@ places_by tree places (Assigns s given) = places_given tree places (record { sym
 
 -- a beginning of the text, and not the whole, was handed out where the sink failed, nothing where there was no memory
 abbrev pub FailsIn : List ℕ → DotFault → Option (List ℕ) → Option (List ℕ) → Type 0
-FailsIn text (ConfigLineTooLong n) old new = ⊥
+FailsIn text (DotLineTooLong n) old new = ⊥
 FailsIn text Sink old new = BreaksOff text old new
 FailsIn text Memory old new = new ≡ old

@@ -32,14 +32,14 @@ line stream number bytes ended = record { stream = stream; number = number; byte
 abbrev pub last_line : List ℕ → ℕ → List ℕ → List Line
 last_line stream n bytes = if length bytes == 0 then [] else line stream n bytes false ∷ []
 
-abbrev pub lines_of_parts : List ℕ → ℕ → List (List ℕ) → List Line
-lines_of_parts stream n [] = []
-lines_of_parts stream n (last ∷ []) = last_line stream n last
-lines_of_parts stream n (part ∷ next ∷ parts) = line stream n part true ∷ lines_of_parts stream (next_number n) (next ∷ parts)
+abbrev pub lines_in_stream : List ℕ → ℕ → List (List ℕ) → List Line
+lines_in_stream stream n [] = []
+lines_in_stream stream n (last ∷ []) = last_line stream n last
+lines_in_stream stream n (part ∷ next ∷ parts) = line stream n part true ∷ lines_in_stream stream (next_number n) (next ∷ parts)
 
 -- the lines of these bytes of a stream, of which the first has number n
 unfoldable pub lines_from : List ℕ → ℕ → List ℕ → List Line
-lines_from stream n bytes = lines_of_parts stream n (slice_split is_line_feed bytes)
+lines_from stream n bytes = lines_in_stream stream n (slice_split is_line_feed bytes)
 
 -- One carriage return directly before the LF belongs to the line's end.
 abbrev pub text_of : Line → List ℕ

@@ -12,7 +12,7 @@ use thiserror::Error;
 pub enum DotFault {
     /// The line of this number has more than 65,535 bytes (E17).
     #[error("line {0} is longer than 65535 bytes")]
-    ConfigLineTooLong(u64),
+    DotLineTooLong(u64),
     /// The sink of the warnings failed (E19).
     #[error("cannot write the warnings")]
     Sink,

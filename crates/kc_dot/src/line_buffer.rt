@@ -3,7 +3,7 @@ ghost use Rattle.std.specs.Prelude.{◌≡◌, ◌<◌, ◌≤◌, ◌∷◌, �
 ghost use Rattle.std.specs.Str.Lines.{strip_carriage_return};
 ghost use Rattle.kc_text.specs.Lines.{is_line_feed};
 ghost use Rattle.kc_user.specs.Places.{ArePlacesOf};
-ghost use Rattle.kc_dot.specs.Feeding.{StreamPosition, IsWithinLine, Feeds, Refuses, StopsAt, Finishes, FailsToEnd, fed, ended, failures_after};
+ghost use Rattle.kc_dot.specs.Feeding.{StreamPosition, IsWithinLine, Feeds, Refuses, StopsAt, FinishesStream, FailsToEnd, fed, ended, failures_after};
 ghost use Rattle.kc_dot.specs.LineSteps.{FailsIn};
 ghost use Rattle.kc_dot.specs.Reading.{line, next_number, places_after, warning};
 ghost use Rattle.kc_dot.specs.ReaderView.{position_of};
@@ -53,7 +53,8 @@ pub fn end_line<S: Sink>(
     ensures next { OnOk result (position_of line_buffer.new ≡ record { number = next_number line_buffer.old.number; pending = [] }) }
     ensures unchanged { OnErr result (user.new ≡ user.old) }
     ensures stays { OnErr result (position_of line_buffer.new ≡ position_of line_buffer.old) }
-    ensures fault { IfErr result (λ fault. FailsIn (warning stream.now.tree.now stream.now.prefix.now user.old (line stream.now.name.now line_buffer.old.number line_buffer.old.pending.items ended)) fault (S.taken sink.old) (S.taken sink.new)) }
+    ensures fault { IfErr result (λ fault. FailsIn (warning stream.now.tree.now stream.now.prefix.now user.old
+        (line stream.now.name.now line_buffer.old.number line_buffer.old.pending.items ended)) fault (S.taken sink.old) (S.taken sink.new)) }
     ensures quiet { OnOk result (S.failures sink.new ≡ S.failures sink.old) }
     ensures counted { IfErr result (λ fault. S.failures sink.new ≡ failures_after fault (S.failures sink.old)) }
     ensures keeps { S.goes_to sink.old sink.new }
@@ -91,7 +92,7 @@ fn take_byte<S: Sink>(
         return end_line(alloc, stream, line_buffer, true, user, sink);
     }
     if line_buffer.pending.len() >= LONGEST_DOT_LINE {
-        return Err(DotFault::ConfigLineTooLong(line_buffer.number));
+        return Err(DotFault::DotLineTooLong(line_buffer.number));
     }
     line_buffer.pending.push(byte)?;
     Ok(())
@@ -123,7 +124,8 @@ fn take_front<S: Sink>(
     requires opened { IsWithinLine (position_of line_buffer.old) }
     ensures some { IfOk result (λ n. 0 < n) }
     ensures within { IfOk result (λ n. n ≤ length bytes.now) }
-    ensures ok { IfOk result (λ n. Feeds stream.now.tree.now stream.now.prefix.now stream.now.name.now (take n bytes.now) (position_of line_buffer.old) (position_of line_buffer.new) user.old user.new (S.taken sink.old) (S.taken sink.new)) }
+    ensures ok { IfOk result (λ n. Feeds stream.now.tree.now stream.now.prefix.now stream.now.name.now (take n bytes.now) (position_of line_buffer.old)
+        (position_of line_buffer.new) user.old user.new (S.taken sink.old) (S.taken sink.new)) }
     ensures position { IfOk result (λ n. (before : List ℕ) (first : StreamPosition) → position_of line_buffer.old ≡ fed before first → position_of line_buffer.new ≡ fed (before ++ take n bytes.now) first) }
     ensures unchanged { OnErr result (user.new ≡ user.old) }
     ensures stays { OnErr result (position_of line_buffer.new ≡ position_of line_buffer.old) }
@@ -156,7 +158,8 @@ pub fn take_piece<S: Sink>(
     requires opened { IsWithinLine (position_of line_buffer.old) }
     ensures ok { OnOk result (Feeds stream.now.tree.now stream.now.prefix.now stream.now.name.now piece.now (position_of line_buffer.old) (position_of line_buffer.new) user.old user.new (S.taken sink.old) (S.taken sink.new)) }
     ensures position { OnOk result (position_of line_buffer.new ≡ fed piece.now (position_of line_buffer.old)) }
-    ensures err { IfErr result (λ fault. Refuses stream.now.tree.now stream.now.prefix.now stream.now.name.now fault piece.now (position_of line_buffer.old) (position_of line_buffer.new) user.old user.new (S.taken sink.old) (S.taken sink.new)) }
+    ensures err { IfErr result (λ fault. Refuses stream.now.tree.now stream.now.prefix.now stream.now.name.now fault piece.now (position_of line_buffer.old)
+        (position_of line_buffer.new) user.old user.new (S.taken sink.old) (S.taken sink.new)) }
     ensures quiet { OnOk result (S.failures sink.new ≡ S.failures sink.old) }
     ensures counted { IfErr result (λ fault. S.failures sink.new ≡ failures_after fault (S.failures sink.old)) }
     ensures keeps { S.goes_to sink.old sink.new }
@@ -180,7 +183,7 @@ pub fn end_stream<S: Sink>(
 ) -> Result<(), DotFault>
     requires user { ArePlacesOf stream.now.tree.now user.old }
     requires opened { IsWithinLine (position_of line_buffer.old) }
-    ensures ok { OnOk result (Finishes stream.now.tree.now stream.now.prefix.now stream.now.name.now (position_of line_buffer.old) user.old user.new (S.taken sink.old) (S.taken sink.new)) }
+    ensures ok { OnOk result (FinishesStream stream.now.tree.now stream.now.prefix.now stream.now.name.now (position_of line_buffer.old) user.old user.new (S.taken sink.old) (S.taken sink.new)) }
     ensures position { OnOk result (position_of line_buffer.new ≡ ended (position_of line_buffer.old)) }
     ensures unchanged { OnErr result (user.new ≡ user.old) }
     ensures stays { OnErr result (position_of line_buffer.new ≡ position_of line_buffer.old) }

@@ -2,7 +2,7 @@
 ghost use Rattle.std.specs.Prelude.{◌≡◌, ◌≤◌, length, Some, None, Err, OnOk, IfErr};
 ghost use Rattle.kc_dot.specs.declared.fault.DotFault.{DotFault};
 ghost use Rattle.kc_user.specs.Places.{ArePlacesOf};
-ghost use Rattle.kc_dot.specs.Feeding.{IsWithinLine, Feeds, Refuses, Finishes, FailsToEnd, fed, ended, stream_start, failures_after};
+ghost use Rattle.kc_dot.specs.Feeding.{IsWithinLine, Feeds, Refuses, FinishesStream, FailsToEnd, fed, ended, stream_start, failures_after};
 ghost use Rattle.kc_dot.specs.Limits.{longest_dot_line};
 
 use crate::fault::DotFault;
@@ -77,7 +77,9 @@ impl<'a> DotReader<'a> {
         requires { ArePlacesOf self.old.tree user.old }
         ensures ok { OnOk result (Feeds self.old.tree self.old.prefix self.old.name piece.now self.old.position self.new.position user.old user.new (S.taken sink.old) (S.taken sink.new)) }
         ensures stands { OnOk result ((self.old.refusal ≡ None) × (self.new ≡ record self.old { position = fed piece.now self.old.position })) }
-        ensures refused { self.old.refusal ≡ None → IfErr result (λ fault. Refuses self.old.tree self.old.prefix self.old.name fault piece.now self.old.position self.new.position user.old user.new (S.taken sink.old) (S.taken sink.new)) }
+        ensures refused { self.old.refusal ≡ None → IfErr result
+            (λ fault. Refuses self.old.tree self.old.prefix self.old.name fault piece.now self.old.position self.new.position user.old user.new (S.taken sink.old)
+            (S.taken sink.new)) }
         ensures kept { self.old.refusal ≡ None → IfErr result (λ fault. self.new ≡ record self.old { position = self.new.position; refusal = Some fault }) }
         ensures again { (fault : DotFault) → self.old.refusal ≡ Some fault → (result ≡ Err fault) × (self.new ≡ self.old) × (user.new ≡ user.old) × (sink.new ≡ sink.old) }
         ensures quiet { OnOk result (S.failures sink.new ≡ S.failures sink.old) }
@@ -109,7 +111,7 @@ impl<'a> DotReader<'a> {
     /// beginning of the line's warning, never the whole, and otherwise nothing.
     pub fn finish<S: Sink>(&mut self, user: &mut User, sink: &mut S) -> Result<(), DotFault>
         requires { ArePlacesOf self.old.tree user.old }
-        ensures ok { OnOk result (Finishes self.old.tree self.old.prefix self.old.name self.old.position user.old user.new (S.taken sink.old) (S.taken sink.new)) }
+        ensures ok { OnOk result (FinishesStream self.old.tree self.old.prefix self.old.name self.old.position user.old user.new (S.taken sink.old) (S.taken sink.new)) }
         ensures stands { OnOk result ((self.old.refusal ≡ None) × (self.new ≡ record self.old { position = ended self.old.position })) }
         ensures failed { self.old.refusal ≡ None → IfErr result (λ fault. FailsToEnd self.old.tree self.old.prefix self.old.name fault self.old.position user.old (S.taken sink.old) (S.taken sink.new)) }
         ensures kept { self.old.refusal ≡ None → IfErr result (λ fault. (self.new ≡ record self.old { refusal = Some fault }) × (user.new ≡ user.old)) }
@@ -138,7 +140,7 @@ impl<'a> DotReader<'a> {
         sink: &mut S,
     ) -> Result<(), DotFault>
         requires { ArePlacesOf self.old.tree user.old }
-        ensures ok { OnOk result (Finishes self.old.tree self.old.prefix self.old.name self.old.position user.old user.new (S.taken sink.old) (S.taken sink.new)) }
+        ensures ok { OnOk result (FinishesStream self.old.tree self.old.prefix self.old.name self.old.position user.old user.new (S.taken sink.old) (S.taken sink.new)) }
         ensures stands { OnOk result ((self.old.refusal ≡ None) × (self.new ≡ record self.old { name = name.now; position = stream_start })) }
         ensures failed { self.old.refusal ≡ None → IfErr result (λ fault. FailsToEnd self.old.tree self.old.prefix self.old.name fault self.old.position user.old (S.taken sink.old) (S.taken sink.new)) }
         ensures kept { self.old.refusal ≡ None → IfErr result (λ fault. (self.new ≡ record self.old { refusal = Some fault }) × (user.new ≡ user.old)) }

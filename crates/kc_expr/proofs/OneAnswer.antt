@@ -10,7 +10,7 @@ use Rattle.kc_expr.specs.declared.parse.ExprFault.TheVariants.{Syntax, TooDeep, 
 use Rattle.kc_expr.specs.Grammar.{Atom, Terminal, Plain, Compares, Bang, Joins, Open, Close, Keyword, Chain, Part, Disjunction, only, negation, conjunction, bang, group, lone, compare, spell, spell_part, spell_not, spell_or, levels, levels_part, levels_not, LongestFront}
 use Rattle.kc_expr.specs.Scan.{lone_in}
 use Rattle.kc_expr.specs.Parsing.{IsNoExpression, IsTooDeep, Answer, Derived, NoExpression, TooManyLevels, Answers, OneAnswer}
-use Rattle.kc_expr.specs.Reading.{starts_compares, starts_joins, starts_close, starts_plain, starts_bang, starts_open, same_connective, NoneWithin, StopsNot, StopsPart, Stops, FailsNot, FailsPart, FailsChain}
+use Rattle.kc_expr.specs.Reading.{starts_compares, starts_joins, starts_close, starts_plain, starts_bang, starts_open, same_connective, NoneWithin, StopsNot, StopsPart, StopsChain, FailsNot, FailsPart, FailsChain}
 use Rattle.kc_expr.proofs.PushLemmas.{push, spell-push, levels-push, lone-push}
 use Rattle.kc_expr.proofs.ReadingLemmas.{fails_bang, fails_group, fails_negation, fails_conjunction, fails_first, fails_next, deep_bang_now, deep_group_now, unclosed}
 use Rattle.kc_expr.proofs.ParseLemmas.{no_left, no_right_side}
@@ -39,7 +39,7 @@ abbrev GotPart : Connective → ℕ → List Terminal → Type 0
 GotPart c = Got {T = Part c} spell_part levels_part (StopsPart c)
 
 abbrev GotChain : Connective → ℕ → List Terminal → Type 0
-GotChain c = Got {T = Chain c} spell levels (Stops c)
+GotChain c = Got {T = Chain c} spell levels (StopsChain c)
 
 abbrev NotOrFault : ℕ → List Terminal → Type 0
 NotOrFault k ts = GotNot k ts ⊎ ((f : ExprFault) × IsFound f × FailsNot f k ts)
@@ -151,10 +151,10 @@ bang_here : (k : ℕ) (ts : List Terminal) → NotOrFault k ts → NotOrFault (s
 bang_here k ts (inr x) = inr (x.0, x.1, fails_bang x.0 k ts x.2)
 bang_here k ts (inl p) = inl (record { tree = bang p.tree; rest = p.rest; whole = ap (λ l. Bang ∷ l) p.whole; within = let w = p.within in omega arith; stops = p.stops })
 
-not_closed : (k : ℕ) (d : Disjunction) (rest : List Terminal) → levels d ≤ k → Stops Or d rest → starts_close rest ≡ false → NotOrFault (suc k) (Open ∷ (spell d ++ rest))
+not_closed : (k : ℕ) (d : Disjunction) (rest : List Terminal) → levels d ≤ k → StopsChain Or d rest → starts_close rest ≡ false → NotOrFault (suc k) (Open ∷ (spell d ++ rest))
 not_closed k d rest w s e = inr (Syntax, tt, unclosed k d rest w s e)
 
-closing : (k : ℕ) (d : Disjunction) (rest : List Terminal) → levels d ≤ k → Stops Or d rest → NotOrFault (suc k) (Open ∷ (spell d ++ rest))
+closing : (k : ℕ) (d : Disjunction) (rest : List Terminal) → levels d ≤ k → StopsChain Or d rest → NotOrFault (suc k) (Open ∷ (spell d ++ rest))
 closing k d [] w s = not_closed k d [] w s refl
 closing k d (Plain a ∷ ts) w s = not_closed k d (Plain a ∷ ts) w s refl
 closing k d (Compares o ∷ ts) w s = not_closed k d (Compares o ∷ ts) w s refl

@@ -8,7 +8,7 @@ use Rattle.kc_expr.specs.Grammar.{Terminal, Disjunction, spell, spell_or, levels
 use Rattle.kc_expr.specs.declared.parse.Connective.TheVariants.{Or}
 use Rattle.kc_expr.specs.Scan.{State, want, run, lone_in, after}
 use Rattle.kc_expr.specs.Parsing.{IsParsed, IsNoExpression, IsTooDeep, IsRefused}
-use Rattle.kc_expr.specs.Reading.{IsUnfinished, Refuses, Fresh_start, Stops, Broken, Deep, ParsedChain, FailsChain}
+use Rattle.kc_expr.specs.Reading.{IsUnfinished, Refuses, Fresh_start, StopsChain, Broken, Deep, ParsedChain, FailsChain}
 use Rattle.kc_expr.proofs.ScanLemmas.{run-append, reads}
 use Rattle.kc_expr.proofs.ReadingLemmas.{refuses_after}
 
@@ -38,7 +38,7 @@ unfinished_after true h = h
 unfinished_after false h = h
 
 -- a whole expression that nothing can follow is the longest front
-pub longest_of : (d : Disjunction) (rest : List Terminal) → levels d ≤ 64 → Stops Or d rest → LongestFront (spell d ++ rest) (spell d) rest
+pub longest_of : (d : Disjunction) (rest : List Terminal) → levels d ≤ 64 → StopsChain Or d rest → LongestFront (spell d ++ rest) (spell d) rest
 longest_of d rest w stops = record {
   whole = refl;
   begins = (d, [], sym (append-nil (spell d)));

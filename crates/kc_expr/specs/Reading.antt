@@ -91,12 +91,12 @@ module _ {T : Type 0} (spell : T → List Terminal) (levels : T → ℕ) where
     pub deep : (cur base : ℕ) (stack : List ℕ) → Starts cur base → run (cur + k) (want cur base stack) front ≡ None
 
   -- the part is whole, and no longer one begins here
-  pub record Parsed (meaning : (List ℕ → ℕ) → T → Form) (Stops : T → List Terminal → Type 0) (k : ℕ) (ts rest : List Terminal) (old names : List (List ℕ)) (f : Form) : Type 0 where
+  pub record Parsed (meaning : (List ℕ → ℕ) → T → Form) (StopsIt : T → List Terminal → Type 0) (k : ℕ) (ts rest : List Terminal) (old names : List (List ℕ)) (f : Form) : Type 0 where
     pub tree : T
     pub whole : ts ≡ spell tree ++ rest
     pub mentions : names ≡ all_mentioned old (names_in_terminals (spell tree))
     pub within : levels tree ≤ k
-    pub stops : Stops tree rest
+    pub stops : StopsIt tree rest
     pub form : (later : List (List ℕ)) → Extends names later → f ≡ meaning (number_of later) tree
 
 abbrev pub StopsNot : Negation → List Terminal → Type 0
@@ -110,8 +110,8 @@ NoneWithin Or rest = starts_joins And rest ≡ false
 abbrev pub StopsPart : (c : Connective) → Part c → List Terminal → Type 0
 StopsPart c p rest = (lone_part p ≡ true → starts_compares rest ≡ false) × NoneWithin c rest
 
-abbrev pub Stops : (c : Connective) → Chain c → List Terminal → Type 0
-Stops c ps rest = (lone_in ps ≡ true → starts_compares rest ≡ false) × NoneWithin c rest × (starts_joins c rest ≡ false)
+abbrev pub StopsChain : (c : Connective) → Chain c → List Terminal → Type 0
+StopsChain c ps rest = (lone_in ps ≡ true → starts_compares rest ≡ false) × NoneWithin c rest × (starts_joins c rest ≡ false)
 
 abbrev pub ParsedNot : Option SymId → ℕ → List Terminal → List Terminal → List (List ℕ) → List (List ℕ) → Form → Type 0
 ParsedNot condition = Parsed spell_not levels_not (meaning_not condition) StopsNot
@@ -120,7 +120,7 @@ abbrev pub ParsedPart : Connective → Option SymId → ℕ → List Terminal �
 ParsedPart c condition = Parsed {T = Part c} spell_part levels_part (λ number p. meaning_part condition number p) (StopsPart c)
 
 abbrev pub ParsedChain : Connective → Option SymId → ℕ → List Terminal → List Terminal → List (List ℕ) → List (List ℕ) → Form → Type 0
-ParsedChain c condition = Parsed {T = Chain c} spell levels (λ number ps. meaning condition number ps) (Stops c)
+ParsedChain c condition = Parsed {T = Chain c} spell levels (λ number ps. meaning condition number ps) (StopsChain c)
 
 -- where a part may start: the first negation of a chain also after `!`
 abbrev pub PartStart : Connective → ℕ → ℕ → Type 0

@@ -11,7 +11,7 @@ use Rattle.kc_read.specs.declared.refusal.Code.TheVariants as code
 use Rattle.kc_read.specs.Expansion.{FileContext, Expands, Log, Refused, Rest, bytes_cause, nothing_read, of_file, with_file, refused, root_context, sourcing_cause, at_end, unclosed, too_long, no_tokens, blank, bad_line, over_limit, statement, bad_source, refused_inside, source}
 use Rattle.kc_read.specs.Files.{Files, bytes_in}
 use Rattle.kc_read.specs.Lines.{Cause, cause}
-use Rattle.kc_read.specs.OpenedFiles.{asked}
+use Rattle.kc_read.specs.OpenedFiles.{sourced_files}
 use Rattle.kc_read.specs.Statements.{Located, Named}
 use Rattle.kc_read.proofs.ExpansionThere.{has_one_expansion}
 use Rattle.kc_read.proofs.OneExpansion.{one_expansion_law}
@@ -35,7 +35,7 @@ module _ (files others : Files) where
 
   -- the expansion over the one is one over the other
   pub over : {a : FileContext} {l : UnreadLines} {own : List (Located Named)} {log : Log} {r : Result Log Refused} (d : Rest files a l own log r) →
-      ((y : List ℕ) → Contains (asked d) y → others y ≡ files y) → Rest others a l own log r
+      ((y : List ℕ) → Contains (sourced_files d) y → others y ≡ files y) → Rest others a l own log r
   over (at_end a l own log none closed) h = at_end a l own log none closed
   over (unclosed a l own log line none unmatched) h = unclosed a l own log line none unmatched
   over (too_long a l own log long) h = too_long a l own log long
@@ -46,76 +46,76 @@ module _ (files others : Files) where
   over (statement a l m own log s r n plain f d) h = statement a l m own log s r n plain f (over d h)
   over (bad_source a l m own log name c n f) h = bad_source a l m own log name c n (same_cause a.open_files log.total_lines name (Some c) (h name (here name [])) f)
   over (refused_inside a l m own log name bytes e n free there d) h =
-      let same = h name (here name (asked d)) in
-      refused_inside a l m own log name bytes e n (same_cause a.open_files log.total_lines name None same free) (same ∙ there) (over d (λ y c. h y (Contains-append_right (name ∷ []) (asked d) y c)))
+      let same = h name (here name (sourced_files d)) in
+      refused_inside a l m own log name bytes e n (same_cause a.open_files log.total_lines name None same free) (same ∙ there) (over d (λ y c. h y (Contains-append_right (name ∷ []) (sourced_files d) y c)))
   over (source a l m own log more name bytes r n free there d g) h =
-      let same = h name (here name (asked d ++ asked g)) in
+      let same = h name (here name (sourced_files d ++ sourced_files g)) in
       source a l m own log more name bytes r n (same_cause a.open_files log.total_lines name None same free) (same ∙ there)
-      (over d (λ y c. h y (Contains-append_right (name ∷ []) (asked d ++ asked g) y (Contains-append_left (asked d) (asked g) y c))))
-      (over g (λ y c. h y (Contains-append_right (name ∷ []) (asked d ++ asked g) y (Contains-append_right (asked d) (asked g) y c))))
+      (over d (λ y c. h y (Contains-append_right (name ∷ []) (sourced_files d ++ sourced_files g) y (Contains-append_left (sourced_files d) (sourced_files g) y c))))
+      (over g (λ y c. h y (Contains-append_right (name ∷ []) (sourced_files d ++ sourced_files g) y (Contains-append_right (sourced_files d) (sourced_files g) y c))))
 
   -- and it opens the same files
-  asked_over : {a : FileContext} {l : UnreadLines} {own : List (Located Named)} {log : Log} {r : Result Log Refused} (d : Rest files a l own log r)
-      (h : (y : List ℕ) → Contains (asked d) y → others y ≡ files y) → asked (over d h) ≡ asked d
+  requested_over : {a : FileContext} {l : UnreadLines} {own : List (Located Named)} {log : Log} {r : Result Log Refused} (d : Rest files a l own log r)
+      (h : (y : List ℕ) → Contains (sourced_files d) y → others y ≡ files y) → sourced_files (over d h) ≡ sourced_files d
   unfolding over
-  asked_over (at_end a l own log none closed) h = refl
-  asked_over (unclosed a l own log line none unmatched) h = refl
-  asked_over (too_long a l own log long) h = refl
-  asked_over (no_tokens a l m own log ts why next) h = refl
-  asked_over (blank a l m own log r next d) h = asked_over d h
-  asked_over (bad_line a l m own log c n) h = refl
-  asked_over (over_limit a l m own log s c n f) h = refl
-  asked_over (statement a l m own log s r n plain f d) h = asked_over d h
-  asked_over (bad_source a l m own log name c n f) h = refl
-  asked_over (refused_inside a l m own log name bytes e n free there d) h = ap (λ (t : List (List ℕ)). name ∷ t) (asked_over d (λ y c. h y (Contains-append_right (name ∷ []) (asked d) y c)))
-  asked_over (source a l m own log more name bytes r n free there d g) h =
-      let within = λ (y : List ℕ) (c : Contains (asked d) y). h y (Contains-append_right (name ∷ []) (asked d ++ asked g) y (Contains-append_left (asked d) (asked g) y c)) in
-      let later = λ (y : List ℕ) (c : Contains (asked g) y). h y (Contains-append_right (name ∷ []) (asked d ++ asked g) y (Contains-append_right (asked d) (asked g) y c)) in
-      ap (λ (t : List (List ℕ)). name ∷ (t ++ asked (over g later))) (asked_over d within) ∙ ap (λ (t : List (List ℕ)). name ∷ (asked d ++ t)) (asked_over g later)
+  requested_over (at_end a l own log none closed) h = refl
+  requested_over (unclosed a l own log line none unmatched) h = refl
+  requested_over (too_long a l own log long) h = refl
+  requested_over (no_tokens a l m own log ts why next) h = refl
+  requested_over (blank a l m own log r next d) h = requested_over d h
+  requested_over (bad_line a l m own log c n) h = refl
+  requested_over (over_limit a l m own log s c n f) h = refl
+  requested_over (statement a l m own log s r n plain f d) h = requested_over d h
+  requested_over (bad_source a l m own log name c n f) h = refl
+  requested_over (refused_inside a l m own log name bytes e n free there d) h = ap (λ (t : List (List ℕ)). name ∷ t) (requested_over d (λ y c. h y (Contains-append_right (name ∷ []) (sourced_files d) y c)))
+  requested_over (source a l m own log more name bytes r n free there d g) h =
+      let within = λ (y : List ℕ) (c : Contains (sourced_files d) y). h y (Contains-append_right (name ∷ []) (sourced_files d ++ sourced_files g) y (Contains-append_left (sourced_files d) (sourced_files g) y c)) in
+      let later = λ (y : List ℕ) (c : Contains (sourced_files g) y). h y (Contains-append_right (name ∷ []) (sourced_files d ++ sourced_files g) y (Contains-append_right (sourced_files d) (sourced_files g) y c)) in
+      ap (λ (t : List (List ℕ)). name ∷ (t ++ sourced_files (over g later))) (requested_over d within) ∙ ap (λ (t : List (List ℕ)). name ∷ (sourced_files d ++ t)) (requested_over g later)
 
 -- ---- From the root file on
 
 abbrev RootGives : Files → List ℕ → Result Log Refused → Type 0
 RootGives files root r = (bytes : List ℕ) × (files root ≡ Some bytes) × Rest files (root_context root) (unread_lines bytes 1) [] (with_file nothing_read bytes) r
 
-module _ (told : List ℕ → Option (List ℕ)) (dir first : List ℕ) (loaded : Files) (w : List (List ℕ)) (m : ℕ) (b : Bool) (text : IsUtf8 first)
-    (walk : Walks (Some told) dir [] 0 (first ∷ []) w m b) (agree : (y : List ℕ) → IsMetIn w y → loaded y ≡ named told dir y) where
-  same_root : loaded first ≡ named told dir first
+module _ (folder_files : List ℕ → Option (List ℕ)) (dir first : List ℕ) (loaded : Files) (w : List (List ℕ)) (m : ℕ) (b : Bool) (text : IsUtf8 first)
+    (walk : Walks (Some folder_files) dir [] 0 (first ∷ []) w m b) (agree : (y : List ℕ) → IsMetIn w y → loaded y ≡ named folder_files dir y) where
+  same_root : loaded first ≡ named folder_files dir first
   same_root = agree first (first_is_met (omega arith) walk)
 
   -- what the root file asks for was loaded
-  asked_agree : (bytes : List ℕ) (r : Result Log Refused) → bytes_cause first 0 (named told dir first) ≡ None → named told dir first ≡ Some bytes →
-      (d : Rest (named told dir) (root_context first) (unread_lines bytes 1) [] (with_file nothing_read bytes) r) → (y : List ℕ) → Contains (asked d) y → loaded y ≡ named told dir y
-  asked_agree bytes r free there d y c =
-      let few = few_lines first bytes 0 (named told dir first) free there in
+  requested_agree : (bytes : List ℕ) (r : Result Log Refused) → bytes_cause first 0 (named folder_files dir first) ≡ None → named folder_files dir first ≡ Some bytes →
+      (d : Rest (named folder_files dir) (root_context first) (unread_lines bytes 1) [] (with_file nothing_read bytes) r) → (y : List ℕ) → Contains (sourced_files d) y → loaded y ≡ named folder_files dir y
+  requested_agree bytes r free there d y c =
+      let few = few_lines first bytes 0 (named folder_files dir first) free there in
       let free : list_any (same_name first) [] ≡ false = refl in
-      let shut : IsClosed told dir [] [] = λ x c now. absurd (false≢true now) in
-      let en = enter told dir {opens = []} bytes 0 there free (omega arith) (omega arith) shut walk in
-      let f = follow told dir d en.names en.sources en.walk en.closed en.fewer few in
+      let shut : IsClosed folder_files dir [] [] = λ x c now. absurd (false≢true now) in
+      let en = enter folder_files dir {opens = []} bytes 0 there free (omega arith) (omega arith) shut walk in
+      let f = follow folder_files dir d en.names en.sources en.walk en.closed en.fewer few in
       agree y (en.grown y (f.asks y c))
 
-  opened_alike : (r : Result Log Refused) → bytes_cause first 0 (named told dir first) ≡ None → RootGives (named told dir) first r → RootGives loaded first r
-  opened_alike r free (bytes, there, d) = (bytes, same_root ∙ there, over (named told dir) loaded d (asked_agree bytes r free there d))
+  opened_alike : (r : Result Log Refused) → bytes_cause first 0 (named folder_files dir first) ≡ None → RootGives (named folder_files dir) first r → RootGives loaded first r
+  opened_alike r free (bytes, there, d) = (bytes, same_root ∙ there, over (named folder_files dir) loaded d (requested_agree bytes r free there d))
 
-  pub opens_alike : OpensAlike first (named told dir) loaded
+  pub opens_alike : OpensAlike first (named folder_files dir) loaded
   opens_alike bytes log there few d =
-      let agrees = asked_agree bytes (Ok log) (ap (bytes_cause first 0) there ∙ few) there d in
-      (same_root ∙ there, (over (named told dir) loaded d agrees, asked_over (named told dir) loaded d agrees))
+      let agrees = requested_agree bytes (Ok log) (ap (bytes_cause first 0) there ∙ few) there d in
+      (same_root ∙ there, (over (named folder_files dir) loaded d agrees, requested_over (named folder_files dir) loaded d agrees))
 
-  pub forward : (r : Result Log Refused) → Expands (named told dir) first r → Expands loaded first r
-  forward r d = by (bytes_cause first 0 (named told dir first)) refl d
+  pub forward : (r : Result Log Refused) → Expands (named folder_files dir) first r → Expands loaded first r
+  forward r d = by (bytes_cause first 0 (named folder_files dir first)) refl d
     where
-      by : (o : Option Cause) → bytes_cause first 0 (named told dir first) ≡ o → MatchOption o (RootGives (named told dir) first r) (λ c. r ≡ Err (refused c first 0)) → Expands loaded first r
+      by : (o : Option Cause) → bytes_cause first 0 (named folder_files dir first) ≡ o → MatchOption o (RootGives (named folder_files dir) first r) (λ c. r ≡ Err (refused c first 0)) → Expands loaded first r
       by None e x = subst (λ (k : Option Cause). MatchOption k (RootGives loaded first r) (λ c. r ≡ Err (refused c first 0))) (sym (ap (bytes_cause first 0) same_root ∙ e)) (opened_alike r e x)
       by (Some c) e x = subst (λ (k : Option Cause). MatchOption k (RootGives loaded first r) (λ c. r ≡ Err (refused c first 0))) (sym (ap (bytes_cause first 0) same_root ∙ e)) x
 
-  pub alike : ExpandsAlike first (named told dir) loaded
+  pub alike : ExpandsAlike first (named folder_files dir) loaded
   alike r = (forward r, back)
     where
-      back : Expands loaded first r → Expands (named told dir) first r
+      back : Expands loaded first r → Expands (named folder_files dir) first r
       back h =
-          let x = has_one_expansion (named told dir) first in
-          subst (Expands (named told dir) first) (one_expansion_law loaded first x.0 r (forward x.0 x.1) h) x.1
+          let x = has_one_expansion (named folder_files dir) first in
+          subst (Expands (named folder_files dir) first) (one_expansion_law loaded first x.0 r (forward x.0 x.1) h) x.1
 
 -- ---- The end of the loading
 
@@ -124,27 +124,27 @@ reached_text : (files : Files) (first : List ℕ) → IsUtf8 first → (name : L
 reached_text files first text name itself = is_utf8-from_IsUtf8 first text
 reached_text files first text name (sourced file bytes x names r e s among t) = is_utf8-from_IsUtf8 x t
 
-module _ (told : List ℕ → Option (List ℕ)) (dir first : List ℕ) (s : State) (h : Ongoing (Some told) dir first s) where
+module _ (folder_files : List ℕ → Option (List ℕ)) (dir first : List ℕ) (s : State) (h : Ongoing (Some folder_files) dir first s) where
   -- each name that was asked for has the folder's file
-  asked_are_whole : (y : List ℕ) → IsMetIn s.asked y → s.files y ≡ named told dir y
-  asked_are_whole y met = by (is_utf8 y) refl
+  requested_are_whole : (y : List ℕ) → IsMetIn s.requested y → s.files y ≡ named folder_files dir y
+  requested_are_whole y met = by (is_utf8 y) refl
     where
       none : is_utf8 y ≡ false → (o : Option (List ℕ)) → bytes_in h.read y ≡ o → o ≡ None
       none u None e = refl
       none u (Some c) e = absurd (false≢true (sym u ∙ reached_text (bytes_in h.read) first h.text y (h.are_read.reached y c e)))
 
-      by : (b : Bool) → is_utf8 y ≡ b → s.files y ≡ cond b (told (path_of dir y)) None
+      by : (b : Bool) → is_utf8 y ≡ b → s.files y ≡ cond b (folder_files (path_of dir y)) None
       by true u = h.held y ∙ sym (h.answers y (met (IsUtf8-from_is_utf8 y u)))
       by false u = h.held y ∙ none u (bytes_in h.read y) refl
 
-  pub enough_told : (b : Bool) → Walks (Some told) dir [] 0 (first ∷ []) s.asked s.lines b → Suffices (Some told) dir first s.files
+  pub enough_told : (b : Bool) → Walks (Some folder_files) dir [] 0 (first ∷ []) s.requested s.lines b → Suffices (Some folder_files) dir first s.files
   enough_told b walk = (
-    named told dir,
+    named folder_files dir,
     refl,
-    alike told dir first s.files s.asked s.lines b h.text walk asked_are_whole,
-    opens_alike told dir first s.files s.asked s.lines b h.text walk asked_are_whole,
+    alike folder_files dir first s.files s.requested s.lines b h.text walk requested_are_whole,
+    opens_alike folder_files dir first s.files s.requested s.lines b h.text walk requested_are_whole,
   )
 
-pub enough : (told : FolderFiles) (dir first : List ℕ) (s : State) → Ongoing told dir first s → (b : Bool) → Walks told dir [] 0 (first ∷ []) s.asked s.lines b → Suffices told dir first s.files
+pub enough : (folder_files : FolderFiles) (dir first : List ℕ) (s : State) → Ongoing folder_files dir first s → (b : Bool) → Walks folder_files dir [] 0 (first ∷ []) s.requested s.lines b → Suffices folder_files dir first s.files
 enough None dir first s h b walk = (s.files, tt, λ r. (λ x. x, λ x. x), λ bytes log there few d. (there, (d, refl)))
-enough (Some told) dir first s h b walk = enough_told told dir first s h b walk
+enough (Some folder_files) dir first s h b walk = enough_told folder_files dir first s h b walk

@@ -15,7 +15,7 @@ use Rattle.kc_read.specs.declared.refusal.Code.TheVariants as code
 use Rattle.kc_read.specs.Expansion.{FileContext, Log, Refused, Rest, NextStatement, bytes_cause, is_source, lexemes, of_file, sourcing_cause, at_end, unclosed, too_long, no_tokens, blank, bad_line, over_limit, statement, bad_source, refused_inside, source, lines_of}
 use Rattle.kc_read.specs.Files.{Files}
 use Rattle.kc_read.specs.Lines.{LineContext, After, Cause, ReadsSource, begins_with, cause, finish, plain_text, text_of}
-use Rattle.kc_read.specs.OpenedFiles.{asked}
+use Rattle.kc_read.specs.OpenedFiles.{sourced_files}
 use Rattle.kc_read.specs.Sources.{SourceNames}
 use Rattle.kc_read.specs.Statements.{Located, Named, SourceLine}
 use Rattle.kc_read.proofs.FileLemmas.{same_name_eq}
@@ -27,8 +27,8 @@ use Rattle.kc_load.specs.Folders.{path_of}
 use Rattle.kc_read.specs.Limits.{most_lines}
 use Rattle.kc_load.specs.Loaded.{AreSources}
 use Rattle.kc_text.specs.Limits.{last_count}
-use Rattle.kc_load.specs.Steps.{was_asked}
-use Rattle.kc_load.proofs.HeldLemmas.{asked_cases, asked_itself, asked_still, only_element}
+use Rattle.kc_load.specs.Steps.{was_requested}
+use Rattle.kc_load.proofs.HeldLemmas.{requested_cases, requested_itself, requested_still, only_element}
 use Rattle.kc_load.proofs.Walks.{IsMetIn, Walks, stopped, passed, missing, taken, all_passed, first_is_met, first_or_later, grows, meets, no_name, split}
 use Rattle.kc_load.proofs.Walks as walks
 
@@ -91,15 +91,15 @@ may_open files opens n name bytes h there = by (list_any (same_name name) opens)
 
 -- ---- The folder
 
-module _ (told : List ℕ → Option (List ℕ)) (dir : List ℕ) where
+module _ (folder_files : List ℕ → Option (List ℕ)) (dir : List ℕ) where
   abbrev pub all : Files
-  all = named told dir
+  all = named folder_files dir
 
   -- a name that has a file is text, and the folder tells that file
-  pub is_found : (x bytes : List ℕ) → all x ≡ Some bytes → (is_utf8 x ≡ true) × (told (path_of dir x) ≡ Some bytes)
+  pub is_found : (x bytes : List ℕ) → all x ≡ Some bytes → (is_utf8 x ≡ true) × (folder_files (path_of dir x) ≡ Some bytes)
   is_found x bytes e = by (is_utf8 x) refl e
     where
-      by : (b : Bool) → is_utf8 x ≡ b → cond b (told (path_of dir x)) None ≡ Some bytes → (is_utf8 x ≡ true) × (told (path_of dir x) ≡ Some bytes)
+      by : (b : Bool) → is_utf8 x ≡ b → cond b (folder_files (path_of dir x)) None ≡ Some bytes → (is_utf8 x ≡ true) × (folder_files (path_of dir x) ≡ Some bytes)
       by true u h = (u, h)
       by false u h = absurd cc
 
@@ -109,7 +109,7 @@ module _ (told : List ℕ → Option (List ℕ)) (dir : List ℕ) where
 
   -- so were those of each file that was asked for and is not open
   abbrev pub IsClosed : List (List ℕ) → List (List ℕ) → Type 0
-  IsClosed opens v = (x bytes : List ℕ) → was_asked v x ≡ true → list_any (same_name x) opens ≡ false → all x ≡ Some bytes → AreAsked v bytes
+  IsClosed opens v = (x bytes : List ℕ) → was_requested v x ≡ true → list_any (same_name x) opens ≡ false → all x ≡ Some bytes → AreAsked v bytes
 
   module _ (opens : List (List ℕ)) (x : List ℕ) where
     one_open_more : (z : List ℕ) → list_any (same_name z) (opens ++ x ∷ []) ≡ (list_any (same_name z) opens || (same_name z x || false))
@@ -128,11 +128,11 @@ module _ (told : List ℕ → Option (List ℕ)) (dir : List ℕ) where
     wider v shut z c a h = shut z c a (apart z h).0
 
     -- and was asked for now
-    opened : (v : List (List ℕ)) → was_asked v x ≡ false → IsClosed opens v → IsClosed (opens ++ x ∷ []) (mention v x)
+    opened : (v : List (List ℕ)) → was_requested v x ≡ false → IsClosed opens v → IsClosed (opens ++ x ∷ []) (mention v x)
     opened v new shut z c a h e =
         let p = apart z h in
-        elim (asked_cases v x new z a) [
-          | inl before ↦ let k = shut z c before p.0 e in (k.0, k.1, λ y among t. asked_still v x new y (k.2 y among t))
+        elim (requested_cases v x new z a) [
+          | inl before ↦ let k = shut z c before p.0 e in (k.0, k.1, λ y among t. requested_still v x new y (k.2 y among t))
           | inr is ↦ absurd (false≢true (sym p.1 ∙ ap (λ (q : List ℕ). same_name q x) is ∙ same_name-refl x))
         ]
 
@@ -155,17 +155,17 @@ module _ (told : List ℕ → Option (List ℕ)) (dir : List ℕ) where
       pub after : List (List ℕ)
       pub count_after : ℕ
       pub over : Bool
-      pub walk : Walks (Some told) dir before count names after count_after over
+      pub walk : Walks (Some folder_files) dir before count names after count_after over
       pub closed : IsClosed (opens ++ x ∷ []) before
       pub fewer : count ≤ total_lines + lines_of bytes
       pub grown : (y : List ℕ) → IsMetIn after y → IsMetIn w y
       pub met : IsMetIn w x
-      pub leaves : over ≡ false → IsClosed (opens ++ x ∷ []) after → IsClosed opens after × Walks (Some told) dir after count_after rest w m b
+      pub leaves : over ≡ false → IsClosed (opens ++ x ∷ []) after → IsClosed opens after × Walks (Some folder_files) dir after count_after rest w m b
 
     -- a file that was not asked for before
     entered_new : (bytes : List ℕ) (total_lines : ℕ) (rest v w names : List (List ℕ)) (n m : ℕ) (b : Bool) → all x ≡ Some bytes → n ≤ total_lines →
-        IsClosed opens v → was_asked v x ≡ false → AreSources bytes names →
-        Walks (Some told) dir (mention v x) (min (n + lines_of bytes) last_count) (names ++ rest) w m b → Enters bytes total_lines rest w m b
+        IsClosed opens v → was_requested v x ≡ false → AreSources bytes names →
+        Walks (Some folder_files) dir (mention v x) (min (n + lines_of bytes) last_count) (names ++ rest) w m b → Enters bytes total_lines rest w m b
     entered_new bytes total_lines rest v w names n m b there le shut new are d = elim (split d names rest refl) [
       | inl r ↦ record {
         names = names;
@@ -179,7 +179,7 @@ module _ (told : List ℕ → Option (List ℕ)) (dir : List ℕ) where
         closed = opened v new shut;
         fewer = omega arith;
         grown = λ y h t. grows r.3 y (h t);
-        met = λ t. grows r.3 x (grows r.2 x (asked_itself v x new));
+        met = λ t. grows r.3 x (grows r.2 x (requested_itself v x new));
         leaves = λ e c. (left_now r.0 bytes there (names, are, meets r.2 refl) c, r.3);
       }
       | inr r ↦ record {
@@ -194,13 +194,13 @@ module _ (told : List ℕ → Option (List ℕ)) (dir : List ℕ) where
         closed = opened v new shut;
         fewer = omega arith;
         grown = λ y h. h;
-        met = λ t. grows r.1 x (asked_itself v x new);
+        met = λ t. grows r.1 x (requested_itself v x new);
         leaves = λ e c. absurd (true≢false e);
       }
     ]
 
   pub enter : {opens v rest w : List (List ℕ)} {x : List ℕ} {n m : ℕ} {b : Bool} (bytes : List ℕ) (total_lines : ℕ) → all x ≡ Some bytes →
-      list_any (same_name x) opens ≡ false → n ≤ total_lines → total_lines ≤ most_lines → IsClosed opens v → Walks (Some told) dir v n (x ∷ rest) w m b →
+      list_any (same_name x) opens ≡ false → n ≤ total_lines → total_lines ≤ most_lines → IsClosed opens v → Walks (Some folder_files) dir v n (x ∷ rest) w m b →
       Enters opens x bytes total_lines rest w m b
   enter bytes total_lines there free le lim shut (stopped v xs n lt) = absurd (omega arith)
   enter {opens} bytes total_lines there free le lim shut (passed v xs w x n m b met d) =
@@ -214,7 +214,7 @@ module _ (told : List ℕ → Option (List ℕ)) (dir : List ℕ) where
         after = v;
         count_after = n;
         over = false;
-        walk = all_passed (Some told) dir v n own.0 own.2;
+        walk = all_passed (Some folder_files) dir v n own.0 own.2;
         closed = wider opens x v shut;
         fewer = omega arith;
         grown = λ y h t. grows d y (h t);
@@ -222,11 +222,11 @@ module _ (told : List ℕ → Option (List ℕ)) (dir : List ℕ) where
         leaves = λ e c. (shut, d);
       }
   enter bytes total_lines there free le lim shut (missing v xs w x n m b new none d) =
-      none_or_some (told (path_of dir x)) bytes none (is_found x bytes there).1
+      none_or_some (folder_files (path_of dir x)) bytes none (is_found x bytes there).1
   enter {opens} bytes total_lines there free le lim shut (taken v xs w names x c n m b new some are d) =
-      let same : c ≡ bytes = one_some (told (path_of dir x)) c bytes some (is_found x bytes there).1 in
+      let same : c ≡ bytes = one_some (folder_files (path_of dir x)) c bytes some (is_found x bytes there).1 in
       entered_new opens x bytes total_lines xs v w names n m b there le shut new (subst (λ k. AreSources k names) same are)
-      (subst (λ k. Walks (Some told) dir (mention v x) (min (n + lines_of k) last_count) (names ++ xs) w m b) same d)
+      (subst (λ k. Walks (Some folder_files) dir (mention v x) (min (n + lines_of k) last_count) (names ++ xs) w m b) same d)
 
   -- ---- The rest of a file
 
@@ -240,33 +240,33 @@ module _ (told : List ℕ → Option (List ℕ)) (dir : List ℕ) where
     pub asks : (y : List ℕ) → Contains names y → IsMetIn w y
     pub ends : Ends a r w m b
 
-  none_asked : (a : FileContext) (e : Refused) (w : List (List ℕ)) (m : ℕ) (b : Bool) → Follows a (Err e) [] w m b
-  none_asked a e w m b = record { asks = λ y c. absurd (no_name y c); ends = tt }
+  none_requested : (a : FileContext) (e : Refused) (w : List (List ℕ)) (m : ℕ) (b : Bool) → Follows a (Err e) [] w m b
+  none_requested a e w m b = record { asks = λ y c. absurd (no_name y c); ends = tt }
 
   pub follow : {a : FileContext} {l : UnreadLines} {own : List (Located Named)} {log : Log} {r : Result Log Refused} (d : Rest all a l own log r)
-      {v w : List (List ℕ)} {n m : ℕ} {b : Bool} (ns : List (List ℕ)) → SourceNames l ns → Walks (Some told) dir v n ns w m b → IsClosed a.open_files v →
-      n ≤ log.total_lines → log.total_lines ≤ most_lines → Follows a r (asked d) w m b
+      {v w : List (List ℕ)} {n m : ℕ} {b : Bool} (ns : List (List ℕ)) → SourceNames l ns → Walks (Some folder_files) dir v n ns w m b → IsClosed a.open_files v →
+      n ≤ log.total_lines → log.total_lines ≤ most_lines → Follows a r (sourced_files d) w m b
   follow (at_end a l own log none closed) ns names walk shut le lim =
       let e = walks.at_end walk (lines.one_list l ns [] names (lines.at_end l none)) (omega arith) in
       record { asks = λ y c. absurd (no_name y c); ends = (e.2, subst (IsClosed a.open_files) e.0 shut, let k = e.1 in omega arith, lim) }
-  follow (unclosed a l own log line none unmatched) ns names walk shut le lim = none_asked a _ _ _ _
-  follow (too_long a l own log long) ns names walk shut le lim = none_asked a _ _ _ _
-  follow (no_tokens a l m own log ts why next) ns names walk shut le lim = none_asked a _ _ _ _
+  follow (unclosed a l own log line none unmatched) ns names walk shut le lim = none_requested a _ _ _ _
+  follow (too_long a l own log long) ns names walk shut le lim = none_requested a _ _ _ _
+  follow (no_tokens a l m own log ts why next) ns names walk shut le lim = none_requested a _ _ _ _
   follow (blank a l m own log r next d) ns names walk shut le lim = follow d ns (lines.after_other l m ns ([], next, refl) names) walk shut le lim
-  follow (bad_line a l m own log c n) ns names walk shut le lim = none_asked a _ _ _ _
-  follow (over_limit a l m own log s c n f) ns names walk shut le lim = none_asked a _ _ _ _
+  follow (bad_line a l m own log c n) ns names walk shut le lim = none_requested a _ _ _ _
+  follow (over_limit a l m own log s c n f) ns names walk shut le lim = none_requested a _ _ _ _
   follow (statement a l m own log s r n plain f d) ns names walk shut le lim = follow d ns (names_plain l m _ s ns n plain names) walk shut le lim
   follow (bad_source a l l' own log name c next f) {v} {w} {n} {m} {b} ns names walk shut le lim =
       let x = names_source l l' _ name ns next names in
-      let met = first_is_met (omega arith) (subst (λ zs. Walks (Some told) dir v n zs w m b) x.1 walk) in
+      let met = first_is_met (omega arith) (subst (λ zs. Walks (Some folder_files) dir v n zs w m b) x.1 walk) in
       record { asks = λ y c. subst (IsMetIn w) (only_element name y c) met; ends = tt }
   follow (refused_inside a l l' own log name bytes e next free there d) {v} {w} {n} {m} {b} ns names walk shut le lim =
       let x = names_source l l' _ name ns next names in
       let may = may_open all a.open_files log.total_lines name bytes free there in
-      let en = enter bytes log.total_lines there may.0 le lim shut (subst (λ zs. Walks (Some told) dir v n zs w m b) x.1 walk) in
+      let en = enter bytes log.total_lines there may.0 le lim shut (subst (λ zs. Walks (Some folder_files) dir v n zs w m b) x.1 walk) in
       let f = follow d en.names en.sources en.walk en.closed en.fewer may.1 in
       record {
-        asks = λ y c. elim (first_or_later name (asked d) y c) [
+        asks = λ y c. elim (first_or_later name (sourced_files d) y c) [
           | inl is ↦ subst (IsMetIn w) is en.met
           | inr inside ↦ en.grown y (f.asks y inside)
         ];
@@ -275,14 +275,14 @@ module _ (told : List ℕ → Option (List ℕ)) (dir : List ℕ) where
   follow (source a l l' own log more name bytes r next free there d g) {v} {w} {n} {m} {b} ns names walk shut le lim =
       let x = names_source l l' _ name ns next names in
       let may = may_open all a.open_files log.total_lines name bytes free there in
-      let en = enter bytes log.total_lines there may.0 le lim shut (subst (λ zs. Walks (Some told) dir v n zs w m b) x.1 walk) in
+      let en = enter bytes log.total_lines there may.0 le lim shut (subst (λ zs. Walks (Some folder_files) dir v n zs w m b) x.1 walk) in
       let f = follow d en.names en.sources en.walk en.closed en.fewer may.1 in
       let on = en.leaves f.ends.0 f.ends.1 in
       let h = follow g x.0 x.2 on.1 on.0 f.ends.2 f.ends.3 in
       record {
-        asks = λ y c. elim (first_or_later name (asked d ++ asked g) y c) [
+        asks = λ y c. elim (first_or_later name (sourced_files d ++ sourced_files g) y c) [
           | inl is ↦ subst (IsMetIn w) is en.met
-          | inr later ↦ elim (Contains-append_cases (asked d) (asked g) y later) [
+          | inr later ↦ elim (Contains-append_cases (sourced_files d) (sourced_files g) y later) [
             | inl inside ↦ en.grown y (f.asks y inside)
             | inr behind ↦ h.asks y behind
           ]

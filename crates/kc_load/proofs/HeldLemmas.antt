@@ -7,7 +7,7 @@ use Rattle.kc_expr.proofs.NamesLemmas.{same_name-refl}
 use Rattle.kc_read.specs.Files.{bytes_in}
 use Rattle.kc_read.proofs.FileLemmas.{same_name_eq}
 use Rattle.kc_load.specs.Loaded.{File, Reached, itself, sourced}
-use Rattle.kc_load.specs.Steps.{was_asked}
+use Rattle.kc_load.specs.Steps.{was_requested}
 
 pub cons_cases : (b : Bool) (bytes c : List ℕ) (o : Option (List ℕ)) → cond b (Some bytes) o ≡ Some c → ((b ≡ true) × (bytes ≡ c)) ⊎ ((b ≡ false) × (o ≡ Some c))
 cons_cases true bytes c o e = inl (refl, cc)
@@ -45,9 +45,9 @@ reached_more name bytes read none first x itself = itself
 reached_more name bytes read none first x (sourced file held y names r e s among text) =
     sourced file held y names (reached_more name bytes read none first file r) (held_more name bytes read none file held e) s among text
 
-mention_new : (asked : List (List ℕ)) (name : List ℕ) (b : Bool) → b ≡ false → cond b asked (asked ++ name ∷ []) ≡ asked ++ name ∷ []
-mention_new asked name true e = absurd cc
-mention_new asked name false e = refl
+mention_new : (requested : List (List ℕ)) (name : List ℕ) (b : Bool) → b ≡ false → cond b requested (requested ++ name ∷ []) ≡ requested ++ name ∷ []
+mention_new requested name true e = absurd cc
+mention_new requested name false e = refl
 
 or_cases : (a b : Bool) → (a || b) ≡ true → (a ≡ true) ⊎ (b ≡ true)
 or_cases true b e = inl refl
@@ -61,30 +61,30 @@ or_right : (a b : Bool) → b ≡ true → (a || b) ≡ true
 or_right true b e = refl
 or_right false b e = e
 
-module _ (asked : List (List ℕ)) (name : List ℕ) (is_new : was_asked asked name ≡ false) where
+module _ (requested : List (List ℕ)) (name : List ℕ) (is_new : was_requested requested name ≡ false) where
   -- one name more was asked for
-  now_asked : (x : List ℕ) → was_asked (mention asked name) x ≡ (was_asked asked x || (same_name x name || false))
-  now_asked x = ap (list_any (same_name x)) (mention_new asked name (was_asked asked name) is_new) ∙ list_any-append (same_name x) asked (name ∷ [])
+  now_requested : (x : List ℕ) → was_requested (mention requested name) x ≡ (was_requested requested x || (same_name x name || false))
+  now_requested x = ap (list_any (same_name x)) (mention_new requested name (was_requested requested name) is_new) ∙ list_any-append (same_name x) requested (name ∷ [])
 
-  pub asked_still : (x : List ℕ) → was_asked asked x ≡ true → was_asked (mention asked name) x ≡ true
-  asked_still x h = now_asked x ∙ or_left (was_asked asked x) (same_name x name || false) h
+  pub requested_still : (x : List ℕ) → was_requested requested x ≡ true → was_requested (mention requested name) x ≡ true
+  requested_still x h = now_requested x ∙ or_left (was_requested requested x) (same_name x name || false) h
 
-  pub asked_itself : was_asked (mention asked name) name ≡ true
-  asked_itself = now_asked name ∙ or_right (was_asked asked name) (same_name name name || false) (or_left (same_name name name) false (same_name-refl name))
+  pub requested_itself : was_requested (mention requested name) name ≡ true
+  requested_itself = now_requested name ∙ or_right (was_requested requested name) (same_name name name || false) (or_left (same_name name name) false (same_name-refl name))
 
-  pub asked_cases : (x : List ℕ) → was_asked (mention asked name) x ≡ true → (was_asked asked x ≡ true) ⊎ (x ≡ name)
-  asked_cases x h =
-      elim (or_cases (was_asked asked x) (same_name x name || false) (sym (now_asked x) ∙ h)) [
+  pub requested_cases : (x : List ℕ) → was_requested (mention requested name) x ≡ true → (was_requested requested x ≡ true) ⊎ (x ≡ name)
+  requested_cases x h =
+      elim (or_cases (was_requested requested x) (same_name x name || false) (sym (now_requested x) ∙ h)) [
         | inl before ↦ inl before
         | inr now ↦ inr (same_name_eq x name (elim (or_cases (same_name x name) false now) [ inl e ↦ e | inr e ↦ absurd cc ]))
       ]
 
   -- a name that was asked for is not one that was not
-  pub apart_asked : (x : List ℕ) → was_asked asked x ≡ true → same_name x name ≡ false
-  apart_asked x h = by (same_name x name) refl
+  pub apart_requested : (x : List ℕ) → was_requested requested x ≡ true → same_name x name ≡ false
+  apart_requested x h = by (same_name x name) refl
     where
       by : (b : Bool) → same_name x name ≡ b → b ≡ false
-      by true e = absurd (let clash : false ≡ true = sym is_new ∙ ap (was_asked asked) (sym (same_name_eq x name e)) ∙ h in cc)
+      by true e = absurd (let clash : false ≡ true = sym is_new ∙ ap (was_requested requested) (sym (same_name_eq x name e)) ∙ h in cc)
       by false e = refl
 
 -- the one element of a list

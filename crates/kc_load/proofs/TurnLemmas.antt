@@ -7,19 +7,19 @@ use Rattle.kc_load.specs.Folders.{FolderFiles, AnswersAs, path_of}
 use Rattle.kc_read.specs.Limits.{most_lines}
 use Rattle.kc_load.specs.Loaded.{AreRead, File, IsReadWhole, Reached, sourced, line_total}
 use Rattle.kc_text.specs.Limits.{last_count}
-use Rattle.kc_load.specs.Steps.{AddsName, IsDue, State, AddsFile, Visits, no_text, known, no_file, file, was_asked}
-use Rattle.kc_load.proofs.HeldLemmas.{held_cases, held_new, held_old, reached_more, asked_still, asked_itself, asked_cases, apart_asked, only_element}
+use Rattle.kc_load.specs.Steps.{AddsName, IsDue, State, AddsFile, Visits, no_text, not_new, no_file, file, was_requested}
+use Rattle.kc_load.proofs.HeldLemmas.{held_cases, held_new, held_old, reached_more, requested_still, requested_itself, requested_cases, apart_requested, only_element}
 use Rattle.kc_load.proofs.ListLemmas.{reversed_in, reversed_out}
 use Rattle.kc_load.proofs.Ongoing.{AreMet, IsMet, Ongoing}
 
-pub absent_if_new : (told : FolderFiles) (dir first : List ℕ) (s : State) (h : Ongoing told dir first s) (name : List ℕ) → was_asked s.asked name ≡ false → bytes_in h.read name ≡ None
-absent_if_new told dir first s h name new = by (bytes_in h.read name) refl
+pub absent_if_new : (folder_files : FolderFiles) (dir first : List ℕ) (s : State) (h : Ongoing folder_files dir first s) (name : List ℕ) → was_requested s.requested name ≡ false → bytes_in h.read name ≡ None
+absent_if_new folder_files dir first s h name new = by (bytes_in h.read name) refl
   where
     by : (o : Option (List ℕ)) → bytes_in h.read name ≡ o → o ≡ None
     by None e = refl
-    by (Some b) e = absurd (let clash : true ≡ false = sym (h.were_asked name b e) ∙ new in cc)
+    by (Some b) e = absurd (let clash : true ≡ false = sym (h.were_requested name b e) ∙ new in cc)
 
-module _ (told : FolderFiles) (dir first : List ℕ) (s : State) (h : Ongoing told dir first s) (rest : List (List ℕ)) (name : List ℕ) (last : s.waiting ≡ rest ++ name ∷ []) where
+module _ (folder_files : FolderFiles) (dir first : List ℕ) (s : State) (h : Ongoing folder_files dir first s) (rest : List (List ℕ)) (name : List ℕ) (last : s.waiting ≡ rest ++ name ∷ []) where
   -- the name waited
   waited : Contains s.waiting name
   waited = subst (λ (l : List (List ℕ)). Contains l name) (sym last) (Contains-append_right rest (name ∷ []) name (0, omega arith, refl))
@@ -35,25 +35,25 @@ module _ (told : FolderFiles) (dir first : List ℕ) (s : State) (h : Ongoing to
   ]
 
   -- a met name stays met, where this one is asked for if it is text
-  met_still : (n : State) → ((x : List ℕ) → was_asked s.asked x ≡ true → was_asked n.asked x ≡ true) → ((x : List ℕ) → Contains rest x → Contains n.waiting x) →
-      (IsUtf8 name → was_asked n.asked name ≡ true) → (x : List ℕ) → IsUtf8 x → IsMet s x → IsMet n x
-  met_still n asked waits done x text (inl a) = inl (asked x a)
-  met_still n asked waits done x text (inr c) = elim (waits_or_is x c) [
+  met_still : (n : State) → ((x : List ℕ) → was_requested s.requested x ≡ true → was_requested n.requested x ≡ true) → ((x : List ℕ) → Contains rest x → Contains n.waiting x) →
+      (IsUtf8 name → was_requested n.requested name ≡ true) → (x : List ℕ) → IsUtf8 x → IsMet s x → IsMet n x
+  met_still n requested waits done x text (inl a) = inl (requested x a)
+  met_still n requested waits done x text (inr c) = elim (waits_or_is x c) [
     | inl before ↦ inr (waits x before)
-    | inr is ↦ inl (subst (λ (y : List ℕ). was_asked n.asked y ≡ true) (sym is) (done (subst IsUtf8 is text)))
+    | inr is ↦ inl (subst (λ (y : List ℕ). was_requested n.requested y ≡ true) (sym is) (done (subst IsUtf8 is text)))
   ]
 
-  are_met_still : (n : State) → ((x : List ℕ) → was_asked s.asked x ≡ true → was_asked n.asked x ≡ true) →
-      ((x : List ℕ) → Contains rest x → Contains n.waiting x) → (IsUtf8 name → was_asked n.asked name ≡ true) → (bytes : List ℕ) → AreMet s bytes →
+  are_met_still : (n : State) → ((x : List ℕ) → was_requested s.requested x ≡ true → was_requested n.requested x ≡ true) →
+      ((x : List ℕ) → Contains rest x → Contains n.waiting x) → (IsUtf8 name → was_requested n.requested name ≡ true) → (bytes : List ℕ) → AreMet s bytes →
       AreMet n bytes
-  are_met_still n asked waits done bytes m = record {
+  are_met_still n requested waits done bytes m = record {
     names = m.names;
     sources = m.sources;
-    met = λ x among text. met_still n asked waits done x text (m.met x among text);
+    met = λ x among text. met_still n requested waits done x text (m.met x among text);
   }
 
   -- the name is left out
-  left_out : (IsUtf8 name → was_asked s.asked name ≡ true) → Ongoing told dir first (record s { waiting = rest })
+  left_out : (IsUtf8 name → was_requested s.requested name ≡ true) → Ongoing folder_files dir first (record s { waiting = rest })
   left_out done =
       let n = record s { waiting = rest } in
       record {
@@ -65,42 +65,42 @@ module _ (told : FolderFiles) (dir first : List ℕ) (s : State) (h : Ongoing to
         first_is = met_still n (λ x a. a) (λ x c. c) done first h.text h.first_is;
         sources_are = λ f bytes e. are_met_still n (λ x a. a) (λ x c. c) done bytes (h.sources_are f bytes e);
         answers = h.answers;
-        were_asked = h.were_asked;
+        were_requested = h.were_requested;
         waiting_are = λ x c text. h.waiting_are x (waits_still x c) text;
       }
 
   module _ (due : IsDue s name) where
     absent : bytes_in h.read name ≡ None
-    absent = absent_if_new told dir first s h name due.is_new
+    absent = absent_if_new folder_files dir first s h name due.is_new
 
     pub reached_now : Reached (bytes_in h.read) first name
     reached_now = h.waiting_are name waited due.utf8
 
     -- there is no file of the name
-    missing : (n : State) → AnswersAs told (path_of dir name) None → AddsName name (record s { waiting = rest }) n → Ongoing told dir first n
+    missing : (n : State) → AnswersAs folder_files (path_of dir name) None → AddsName name (record s { waiting = rest }) n → Ongoing folder_files dir first n
     missing n answer asks =
-        let asked = λ (x : List ℕ) (a : was_asked s.asked x ≡ true). subst (λ (l : List (List ℕ)). was_asked l x ≡ true) (sym asks.asked_are) (asked_still s.asked name due.is_new x a) in
+        let requested = λ (x : List ℕ) (a : was_requested s.requested x ≡ true). subst (λ (l : List (List ℕ)). was_requested l x ≡ true) (sym asks.requested_are) (requested_still s.requested name due.is_new x a) in
         let waits = λ (x : List ℕ) (c : Contains rest x). subst (λ (l : List (List ℕ)). Contains l x) (sym asks.waiting_is) c in
-        let done : was_asked n.asked name ≡ true = subst (λ (l : List (List ℕ)). was_asked l name ≡ true) (sym asks.asked_are) (asked_itself s.asked name due.is_new) in
-        let here : IsReadWhole told dir h.read name = subst (λ (o : Option (List ℕ)). AnswersAs told (path_of dir name) o) (sym absent) answer in
+        let done : was_requested n.requested name ≡ true = subst (λ (l : List (List ℕ)). was_requested l name ≡ true) (sym asks.requested_are) (requested_itself s.requested name due.is_new) in
+        let here : IsReadWhole folder_files dir h.read name = subst (λ (o : Option (List ℕ)). AnswersAs folder_files (path_of dir name) o) (sym absent) answer in
         record {
           read = h.read;
           held = λ x. ap (λ f. f x) asks.files_are ∙ h.held x;
           are_read = h.are_read;
           total = asks.lines_are ∙ h.total;
           text = h.text;
-          first_is = met_still n asked waits (λ t. done) first h.text h.first_is;
-          sources_are = λ f bytes e. are_met_still n asked waits (λ t. done) bytes (h.sources_are f bytes e);
-          answers = λ x a. elim (asked_cases s.asked name due.is_new x (subst (λ (l : List (List ℕ)). was_asked l x ≡ true) asks.asked_are a)) [
+          first_is = met_still n requested waits (λ t. done) first h.text h.first_is;
+          sources_are = λ f bytes e. are_met_still n requested waits (λ t. done) bytes (h.sources_are f bytes e);
+          answers = λ x a. elim (requested_cases s.requested name due.is_new x (subst (λ (l : List (List ℕ)). was_requested l x ≡ true) asks.requested_are a)) [
             | inl before ↦ h.answers x before
-            | inr is ↦ subst (IsReadWhole told dir h.read) (sym is) here
+            | inr is ↦ subst (IsReadWhole folder_files dir h.read) (sym is) here
           ];
-          were_asked = λ x bytes e. asked x (h.were_asked x bytes e);
+          were_requested = λ x bytes e. requested x (h.were_requested x bytes e);
           waiting_are = λ x c text. h.waiting_are x (waits_still x (subst (λ (l : List (List ℕ)). Contains l x) asks.waiting_is c)) text;
         }
 
     -- the file of the name is read
-    module _ (within : s.lines ≤ most_lines) (n middle : State) (bytes : List ℕ) (answer : AnswersAs told (path_of dir name) (Some bytes))
+    module _ (within : s.lines ≤ most_lines) (n middle : State) (bytes : List ℕ) (answer : AnswersAs folder_files (path_of dir name) (Some bytes))
         (asks : AddsName name (record s { waiting = rest }) middle) (takes : AddsFile name bytes middle n) where
       abbrev read_now : List File
       read_now = (name, bytes) ∷ h.read
@@ -108,14 +108,14 @@ module _ (told : FolderFiles) (dir first : List ℕ) (s : State) (h : Ongoing to
       waiting_now : n.waiting ≡ rest ++ reverse takes.names
       waiting_now = takes.waiting_is ∙ ap (λ l. l ++ reverse takes.names) asks.waiting_is
 
-      asked_now : n.asked ≡ mention s.asked name
-      asked_now = takes.asked_are ∙ asks.asked_are
+      requested_now : n.requested ≡ mention s.requested name
+      requested_now = takes.requested_are ∙ asks.requested_are
 
-      asked : (x : List ℕ) → was_asked s.asked x ≡ true → was_asked n.asked x ≡ true
-      asked x a = subst (λ (l : List (List ℕ)). was_asked l x ≡ true) (sym asked_now) (asked_still s.asked name due.is_new x a)
+      requested : (x : List ℕ) → was_requested s.requested x ≡ true → was_requested n.requested x ≡ true
+      requested x a = subst (λ (l : List (List ℕ)). was_requested l x ≡ true) (sym requested_now) (requested_still s.requested name due.is_new x a)
 
-      done : was_asked n.asked name ≡ true
-      done = subst (λ (l : List (List ℕ)). was_asked l name ≡ true) (sym asked_now) (asked_itself s.asked name due.is_new)
+      done : was_requested n.requested name ≡ true
+      done = subst (λ (l : List (List ℕ)). was_requested l name ≡ true) (sym requested_now) (requested_itself s.requested name due.is_new)
 
       waits : (x : List ℕ) → Contains rest x → Contains n.waiting x
       waits x c = subst (λ (l : List (List ℕ)). Contains l x) (sym waiting_now) (Contains-append_left rest (reverse takes.names) x c)
@@ -128,7 +128,7 @@ module _ (told : FolderFiles) (dir first : List ℕ) (s : State) (h : Ongoing to
       reached : (x : List ℕ) → Reached (bytes_in h.read) first x → Reached (bytes_in read_now) first x
       reached x = reached_more name bytes h.read absent first x
 
-      are_read_now : AreRead told dir first read_now
+      are_read_now : AreRead folder_files dir first read_now
       are_read_now = record {
         once = (absent, h.are_read.once);
         within = let t = h.total in omega arith;
@@ -137,7 +137,7 @@ module _ (told : FolderFiles) (dir first : List ℕ) (s : State) (h : Ongoing to
           | inr there ↦ reached x (h.are_read.reached x c there.1)
         ];
         answers = λ x c e. elim (held_cases name bytes h.read x c e) [
-          | inl here ↦ subst (λ (y : List ℕ). AnswersAs told (path_of dir y) (Some c)) (sym here.0) (subst (λ (d : List ℕ). AnswersAs told (path_of dir name) (Some d)) here.1 answer)
+          | inl here ↦ subst (λ (y : List ℕ). AnswersAs folder_files (path_of dir y) (Some c)) (sym here.0) (subst (λ (d : List ℕ). AnswersAs folder_files (path_of dir name) (Some d)) here.1 answer)
           | inr there ↦ h.are_read.answers x c there.1
         ];
       }
@@ -156,31 +156,31 @@ module _ (told : FolderFiles) (dir first : List ℕ) (s : State) (h : Ongoing to
         met = λ x among text. inr (subst (λ (l : List (List ℕ)). Contains l x) (sym waiting_now) (Contains-append_right rest (reverse takes.names) x (reversed_in takes.names x among)));
       }
 
-      whole_here : IsReadWhole told dir read_now name
-      whole_here = subst (λ (o : Option (List ℕ)). AnswersAs told (path_of dir name) o) (sym (held_new name bytes h.read)) answer
+      whole_here : IsReadWhole folder_files dir read_now name
+      whole_here = subst (λ (o : Option (List ℕ)). AnswersAs folder_files (path_of dir name) o) (sym (held_new name bytes h.read)) answer
 
-      whole_there : (x : List ℕ) → was_asked s.asked x ≡ true → IsReadWhole told dir read_now x
-      whole_there x a = subst (λ (o : Option (List ℕ)). AnswersAs told (path_of dir x) o) (sym (held_old name bytes h.read x (apart_asked s.asked name due.is_new x a))) (h.answers x a)
+      whole_there : (x : List ℕ) → was_requested s.requested x ≡ true → IsReadWhole folder_files dir read_now x
+      whole_there x a = subst (λ (o : Option (List ℕ)). AnswersAs folder_files (path_of dir x) o) (sym (held_old name bytes h.read x (apart_requested s.requested name due.is_new x a))) (h.answers x a)
 
-      taken : Ongoing told dir first n
+      taken : Ongoing folder_files dir first n
       taken = record {
         read = read_now;
         held = held_now;
         are_read = are_read_now;
         total = total_now;
         text = h.text;
-        first_is = met_still n asked waits (λ t. done) first h.text h.first_is;
+        first_is = met_still n requested waits (λ t. done) first h.text h.first_is;
         sources_are = λ f c e. elim (held_cases name bytes h.read f c e) [
           | inl here ↦ subst (AreMet n) here.1 met_here
-          | inr there ↦ are_met_still n asked waits (λ t. done) c (h.sources_are f c there.1)
+          | inr there ↦ are_met_still n requested waits (λ t. done) c (h.sources_are f c there.1)
         ];
-        answers = λ x a. elim (asked_cases s.asked name due.is_new x (subst (λ (l : List (List ℕ)). was_asked l x ≡ true) asked_now a)) [
+        answers = λ x a. elim (requested_cases s.requested name due.is_new x (subst (λ (l : List (List ℕ)). was_requested l x ≡ true) requested_now a)) [
           | inl before ↦ whole_there x before
-          | inr is ↦ subst (IsReadWhole told dir read_now) (sym is) whole_here
+          | inr is ↦ subst (IsReadWhole folder_files dir read_now) (sym is) whole_here
         ];
-        were_asked = λ x c e. elim (held_cases name bytes h.read x c e) [
-          | inl here ↦ subst (λ (y : List ℕ). was_asked n.asked y ≡ true) (sym here.0) done
-          | inr there ↦ asked x (h.were_asked x c there.1)
+        were_requested = λ x c e. elim (held_cases name bytes h.read x c e) [
+          | inl here ↦ subst (λ (y : List ℕ). was_requested n.requested y ≡ true) (sym here.0) done
+          | inr there ↦ requested x (h.were_requested x c there.1)
         ];
         waiting_are = λ x c text. elim (Contains-append_cases rest (reverse takes.names) x (subst (λ (l : List (List ℕ)). Contains l x) waiting_now c)) [
           | inl before ↦ reached x (h.waiting_are x (waits_still x before) text)
@@ -189,8 +189,8 @@ module _ (told : FolderFiles) (dir first : List ℕ) (s : State) (h : Ongoing to
       }
 
   -- the turn of the name
-  pub turn : s.lines ≤ most_lines → (n : State) → Visits told dir name (record s { waiting = rest }) n → Ongoing told dir first n
-  turn within n (no_text not_text same) = subst (Ongoing told dir first) (sym same) (left_out (λ text. absurd (not_text text)))
-  turn within n (known a same) = subst (Ongoing told dir first) (sym same) (left_out (λ text. a))
+  pub turn : s.lines ≤ most_lines → (n : State) → Visits folder_files dir name (record s { waiting = rest }) n → Ongoing folder_files dir first n
+  turn within n (no_text not_text same) = subst (Ongoing folder_files dir first) (sym same) (left_out (λ text. absurd (not_text text)))
+  turn within n (not_new a same) = subst (Ongoing folder_files dir first) (sym same) (left_out (λ text. a))
   turn within n (no_file due answer asks) = missing (record { utf8 = due.utf8; is_new = due.is_new }) n answer asks
   turn within n (file middle bytes due answer asks takes) = taken (record { utf8 = due.utf8; is_new = due.is_new }) within n middle bytes answer asks takes

@@ -9,23 +9,23 @@ use Rattle.kc_read.specs.Limits.{most_lines}
 use Rattle.kc_read.specs.Expansion.{lines_of}
 use Rattle.kc_load.specs.Loaded.{AreSources}
 use Rattle.kc_text.specs.Limits.{last_count}
-use Rattle.kc_load.specs.Steps.{State, Visits, no_text, known, no_file, file, initial_state, was_asked}
-use Rattle.kc_load.proofs.HeldLemmas.{asked_still, asked_itself, only_element}
+use Rattle.kc_load.specs.Steps.{State, Visits, no_text, not_new, no_file, file, initial_state, was_requested}
+use Rattle.kc_load.proofs.HeldLemmas.{requested_still, requested_itself, only_element}
 
 -- the name was asked for, if it is text
 abbrev pub IsMetIn : List (List ℕ) → List ℕ → Type 0
-IsMetIn asked name = IsUtf8 name → was_asked asked name ≡ true
+IsMetIn requested name = IsUtf8 name → was_requested requested name ≡ true
 
 -- From the names that were asked for and the lines counted, through these names and what their files source: then these
 -- names were asked for and these lines counted, and whether the walk was stopped, over the limit.
-pub data Walks (told : FolderFiles) (dir : List ℕ) : List (List ℕ) → ℕ → List (List ℕ) → List (List ℕ) → ℕ → Bool → Type 0 where
-  ended : (v : List (List ℕ)) (n : ℕ) → Walks told dir v n [] v n false
-  stopped : (v xs : List (List ℕ)) (n : ℕ) → most_lines < n → Walks told dir v n xs v n true
-  passed : (v xs w : List (List ℕ)) (x : List ℕ) (n m : ℕ) (b : Bool) → IsMetIn v x → Walks told dir v n xs w m b → Walks told dir v n (x ∷ xs) w m b
-  missing : (v xs w : List (List ℕ)) (x : List ℕ) (n m : ℕ) (b : Bool) → was_asked v x ≡ false → AnswersAs told (path_of dir x) None →
-      Walks told dir (mention v x) n xs w m b → Walks told dir v n (x ∷ xs) w m b
-  taken : (v xs w names : List (List ℕ)) (x bytes : List ℕ) (n m : ℕ) (b : Bool) → was_asked v x ≡ false → AnswersAs told (path_of dir x) (Some bytes) →
-      AreSources bytes names → Walks told dir (mention v x) (min (n + lines_of bytes) last_count) (names ++ xs) w m b → Walks told dir v n (x ∷ xs) w m b
+pub data Walks (folder_files : FolderFiles) (dir : List ℕ) : List (List ℕ) → ℕ → List (List ℕ) → List (List ℕ) → ℕ → Bool → Type 0 where
+  ended : (v : List (List ℕ)) (n : ℕ) → Walks folder_files dir v n [] v n false
+  stopped : (v xs : List (List ℕ)) (n : ℕ) → most_lines < n → Walks folder_files dir v n xs v n true
+  passed : (v xs w : List (List ℕ)) (x : List ℕ) (n m : ℕ) (b : Bool) → IsMetIn v x → Walks folder_files dir v n xs w m b → Walks folder_files dir v n (x ∷ xs) w m b
+  missing : (v xs w : List (List ℕ)) (x : List ℕ) (n m : ℕ) (b : Bool) → was_requested v x ≡ false → AnswersAs folder_files (path_of dir x) None →
+      Walks folder_files dir (mention v x) n xs w m b → Walks folder_files dir v n (x ∷ xs) w m b
+  taken : (v xs w names : List (List ℕ)) (x bytes : List ℕ) (n m : ℕ) (b : Bool) → was_requested v x ≡ false → AnswersAs folder_files (path_of dir x) (Some bytes) →
+      AreSources bytes names → Walks folder_files dir (mention v x) (min (n + lines_of bytes) last_count) (names ++ xs) w m b → Walks folder_files dir v n (x ∷ xs) w m b
 
 pub no_name : (y : List ℕ) → Contains {X = List ℕ} [] y → ⊥
 no_name y h = let lt = h.1 in absurd (omega arith)
@@ -39,15 +39,15 @@ first_or_later x xs y h = elim (Contains-append_cases (x ∷ []) xs y h) [
 -- ---- What was asked for
 
 -- what was asked for before still is
-pub grows : {told : FolderFiles} {dir : List ℕ} {v xs w : List (List ℕ)} {n m : ℕ} {b : Bool} (d : Walks told dir v n xs w m b) (y : List ℕ) → was_asked v y ≡ true → was_asked w y ≡ true
+pub grows : {folder_files : FolderFiles} {dir : List ℕ} {v xs w : List (List ℕ)} {n m : ℕ} {b : Bool} (d : Walks folder_files dir v n xs w m b) (y : List ℕ) → was_requested v y ≡ true → was_requested w y ≡ true
 grows (ended v n) y h = h
 grows (stopped v xs n lt) y h = h
 grows (passed v xs w x n m b met d) y h = grows d y h
-grows (missing v xs w x n m b new none d) y h = grows d y (asked_still v x new y h)
-grows (taken v xs w names x bytes n m b new some are d) y h = grows d y (asked_still v x new y h)
+grows (missing v xs w x n m b new none d) y h = grows d y (requested_still v x new y h)
+grows (taken v xs w names x bytes n m b new some are d) y h = grows d y (requested_still v x new y h)
 
 -- a walk that was not stopped asked for all its names
-pub meets : {told : FolderFiles} {dir : List ℕ} {v xs w : List (List ℕ)} {n m : ℕ} {b : Bool} (d : Walks told dir v n xs w m b) → b ≡ false → (y : List ℕ) → Contains xs y → IsMetIn w y
+pub meets : {folder_files : FolderFiles} {dir : List ℕ} {v xs w : List (List ℕ)} {n m : ℕ} {b : Bool} (d : Walks folder_files dir v n xs w m b) → b ≡ false → (y : List ℕ) → Contains xs y → IsMetIn w y
 meets (ended v n) e y h = absurd (no_name y h)
 meets (stopped v xs n lt) e y h = absurd (true≢false e)
 meets (passed v xs w x n m b met d) e y h = elim (first_or_later x xs y h) [
@@ -55,29 +55,29 @@ meets (passed v xs w x n m b met d) e y h = elim (first_or_later x xs y h) [
   | inr there ↦ meets d e y there
 ]
 meets (missing v xs w x n m b new none d) e y h = elim (first_or_later x xs y h) [
-  | inl is ↦ subst (IsMetIn w) is (λ t. grows d x (asked_itself v x new))
+  | inl is ↦ subst (IsMetIn w) is (λ t. grows d x (requested_itself v x new))
   | inr there ↦ meets d e y there
 ]
 meets (taken v xs w names x bytes n m b new some are d) e y h = elim (first_or_later x xs y h) [
-  | inl is ↦ subst (IsMetIn w) is (λ t. grows d x (asked_itself v x new))
+  | inl is ↦ subst (IsMetIn w) is (λ t. grows d x (requested_itself v x new))
   | inr there ↦ meets d e y (Contains-append_right names xs y there)
 ]
 
 -- a walk within the limit asked for its first name
-pub first_is_met : {told : FolderFiles} {dir : List ℕ} {v xs w : List (List ℕ)} {x : List ℕ} {n m : ℕ} {b : Bool} → n ≤ most_lines → Walks told dir v n (x ∷ xs) w m b → IsMetIn w x
+pub first_is_met : {folder_files : FolderFiles} {dir : List ℕ} {v xs w : List (List ℕ)} {x : List ℕ} {n m : ℕ} {b : Bool} → n ≤ most_lines → Walks folder_files dir v n (x ∷ xs) w m b → IsMetIn w x
 first_is_met le (stopped v xs n lt) = absurd (omega arith)
 first_is_met le (passed v xs w x n m b met d) = λ t. grows d x (met t)
-first_is_met le (missing v xs w x n m b new none d) = λ t. grows d x (asked_itself v x new)
-first_is_met le (taken v xs w names x bytes n m b new some are d) = λ t. grows d x (asked_itself v x new)
+first_is_met le (missing v xs w x n m b new none d) = λ t. grows d x (requested_itself v x new)
+first_is_met le (taken v xs w names x bytes n m b new some are d) = λ t. grows d x (requested_itself v x new)
 
 -- names that were all asked for are passed by
-pub all_passed : (told : FolderFiles) (dir : List ℕ) (v : List (List ℕ)) (n : ℕ) (xs : List (List ℕ)) → ((y : List ℕ) → Contains xs y → IsMetIn v y) → Walks told dir v n xs v n false
-all_passed told dir v n [] h = ended v n
-all_passed told dir v n (x ∷ xs) h =
-    passed v xs v x n n false (h x (0, omega arith, refl)) (all_passed told dir v n xs (λ y c. h y (Contains-append_right (x ∷ []) xs y c)))
+pub all_passed : (folder_files : FolderFiles) (dir : List ℕ) (v : List (List ℕ)) (n : ℕ) (xs : List (List ℕ)) → ((y : List ℕ) → Contains xs y → IsMetIn v y) → Walks folder_files dir v n xs v n false
+all_passed folder_files dir v n [] h = ended v n
+all_passed folder_files dir v n (x ∷ xs) h =
+    passed v xs v x n n false (h x (0, omega arith, refl)) (all_passed folder_files dir v n xs (λ y c. h y (Contains-append_right (x ∷ []) xs y c)))
 
 -- without names nothing changes
-pub at_end : {told : FolderFiles} {dir : List ℕ} {v xs w : List (List ℕ)} {n m : ℕ} {b : Bool} → Walks told dir v n xs w m b → xs ≡ [] → n ≤ most_lines → (v ≡ w) × (m ≡ n) × (b ≡ false)
+pub at_end : {folder_files : FolderFiles} {dir : List ℕ} {v xs w : List (List ℕ)} {n m : ℕ} {b : Bool} → Walks folder_files dir v n xs w m b → xs ≡ [] → n ≤ most_lines → (v ≡ w) × (m ≡ n) × (b ≡ false)
 at_end (ended v n) e le = (refl, refl, refl)
 at_end (stopped v xs n lt) e le = absurd (omega arith)
 at_end (passed v xs w x n m b met d) e le = absurd cc
@@ -88,32 +88,32 @@ at_end (taken v xs w names x bytes n m b new some are d) e le = absurd cc
 
 -- a walk through the one list and then through the other, or one that was stopped in the first
 abbrev pub Splits : FolderFiles → List ℕ → List (List ℕ) → ℕ → List (List ℕ) → List (List ℕ) → List (List ℕ) → ℕ → Bool → Type 0
-Splits told dir v n xs ys w m b =
-    ((u : List (List ℕ)) × (k : ℕ) × Walks told dir v n xs u k false × Walks told dir u k ys w m b) ⊎ ((b ≡ true) × Walks told dir v n xs w m true)
+Splits folder_files dir v n xs ys w m b =
+    ((u : List (List ℕ)) × (k : ℕ) × Walks folder_files dir v n xs u k false × Walks folder_files dir u k ys w m b) ⊎ ((b ≡ true) × Walks folder_files dir v n xs w m true)
 
-pub split : {told : FolderFiles} {dir : List ℕ} {v zs w : List (List ℕ)} {n m : ℕ} {b : Bool} (d : Walks told dir v n zs w m b) (xs ys : List (List ℕ)) →
-    zs ≡ xs ++ ys → Splits told dir v n xs ys w m b
-split {told} {dir} {v} {zs} {w} {n} {m} {b} d [] ys e = inl (v, n, ended v n, subst (λ l. Walks told dir v n l w m b) e d)
+pub split : {folder_files : FolderFiles} {dir : List ℕ} {v zs w : List (List ℕ)} {n m : ℕ} {b : Bool} (d : Walks folder_files dir v n zs w m b) (xs ys : List (List ℕ)) →
+    zs ≡ xs ++ ys → Splits folder_files dir v n xs ys w m b
+split {folder_files} {dir} {v} {zs} {w} {n} {m} {b} d [] ys e = inl (v, n, ended v n, subst (λ l. Walks folder_files dir v n l w m b) e d)
 split (ended v n) (x ∷ xs) ys e = absurd cc
 split (stopped v zs n lt) (x ∷ xs) ys e = inr (refl, stopped v (x ∷ xs) n lt)
-split {told} {dir} (passed v zs w z n m b met d) (x ∷ xs) ys e =
+split {folder_files} {dir} (passed v zs w z n m b met d) (x ∷ xs) ys e =
     let h : z ≡ x = cc in
     let t : zs ≡ xs ++ ys = cc in
-    subst (λ y. Splits told dir v n (y ∷ xs) ys w m b) h (elim (split d xs ys t) [
+    subst (λ y. Splits folder_files dir v n (y ∷ xs) ys w m b) h (elim (split d xs ys t) [
       | inl r ↦ inl (r.0, r.1, passed v xs r.0 z n r.1 false met r.2, r.3)
       | inr r ↦ inr (r.0, passed v xs w z n m true met r.1)
     ])
-split {told} {dir} (missing v zs w z n m b new none d) (x ∷ xs) ys e =
+split {folder_files} {dir} (missing v zs w z n m b new none d) (x ∷ xs) ys e =
     let h : z ≡ x = cc in
     let t : zs ≡ xs ++ ys = cc in
-    subst (λ y. Splits told dir v n (y ∷ xs) ys w m b) h (elim (split d xs ys t) [
+    subst (λ y. Splits folder_files dir v n (y ∷ xs) ys w m b) h (elim (split d xs ys t) [
       | inl r ↦ inl (r.0, r.1, missing v xs r.0 z n r.1 false new none r.2, r.3)
       | inr r ↦ inr (r.0, missing v xs w z n m true new none r.1)
     ])
-split {told} {dir} (taken v zs w names z bytes n m b new some are d) (x ∷ xs) ys e =
+split {folder_files} {dir} (taken v zs w names z bytes n m b new some are d) (x ∷ xs) ys e =
     let h : z ≡ x = cc in
     let t : zs ≡ xs ++ ys = cc in
-    subst (λ y. Splits told dir v n (y ∷ xs) ys w m b) h (elim (split d (names ++ xs) ys (ap (λ l. names ++ l) t ∙ sym (append_assoc names xs ys))) [
+    subst (λ y. Splits folder_files dir v n (y ∷ xs) ys w m b) h (elim (split d (names ++ xs) ys (ap (λ l. names ++ l) t ∙ sym (append_assoc names xs ys))) [
       | inl r ↦ inl (r.0, r.1, taken v xs r.0 names z bytes n r.1 false new some are r.2, r.3)
       | inr r ↦ inr (r.0, taken v xs w names z bytes n m true new some are r.1)
     ])
@@ -122,54 +122,54 @@ split {told} {dir} (taken v zs w names z bytes n m b new some are d) (x ∷ xs) 
 
 -- whatever walk goes on from here goes on from the first name
 abbrev pub IsOnWay : FolderFiles → List ℕ → List ℕ → State → Type 0
-IsOnWay told dir first s = (w : List (List ℕ)) (m : ℕ) (b : Bool) → Walks told dir s.asked s.lines (reverse s.waiting) w m b → Walks told dir [] 0 (first ∷ []) w m b
+IsOnWay folder_files dir first s = (w : List (List ℕ)) (m : ℕ) (b : Bool) → Walks folder_files dir s.requested s.lines (reverse s.waiting) w m b → Walks folder_files dir [] 0 (first ∷ []) w m b
 
-pub walk_begins : (told : FolderFiles) (dir first : List ℕ) → IsOnWay told dir first (initial_state first)
-walk_begins told dir first w m b d = d
+pub walk_begins : (folder_files : FolderFiles) (dir first : List ℕ) → IsOnWay folder_files dir first (initial_state first)
+walk_begins folder_files dir first w m b d = d
 
-moved : (told : FolderFiles) (dir : List ℕ) (v v' xs xs' w : List (List ℕ)) (n n' m : ℕ) (b : Bool) → v ≡ v' → n ≡ n' → xs ≡ xs' → Walks told dir v n xs w m b → Walks told dir v' n' xs' w m b
-moved told dir v v' xs xs' w n n' m b e f g d =
-    subst (λ l. Walks told dir v' n' l w m b) g (subst (λ k. Walks told dir v' k xs w m b) f (subst (λ u. Walks told dir u n xs w m b) e d))
+moved : (folder_files : FolderFiles) (dir : List ℕ) (v v' xs xs' w : List (List ℕ)) (n n' m : ℕ) (b : Bool) → v ≡ v' → n ≡ n' → xs ≡ xs' → Walks folder_files dir v n xs w m b → Walks folder_files dir v' n' xs' w m b
+moved folder_files dir v v' xs xs' w n n' m b e f g d =
+    subst (λ l. Walks folder_files dir v' n' l w m b) g (subst (λ k. Walks folder_files dir v' k xs w m b) f (subst (λ u. Walks folder_files dir u n xs w m b) e d))
 
 -- the turn of one name is one step of the walk
-pub walk_goes_on : (told : FolderFiles) (dir first : List ℕ) (s : State) (rest : List (List ℕ)) (name : List ℕ) → s.waiting ≡ rest ++ name ∷ [] →
-    IsOnWay told dir first s → (n : State) → Visits told dir name (record s { waiting = rest }) n → IsOnWay told dir first n
-walk_goes_on told dir first s rest name last on n v w m b d =
-    on w m b (subst (λ l. Walks told dir s.asked s.lines l w m b) (sym (ap reverse last ∙ reverse-append rest (name ∷ []))) (step v))
+pub walk_goes_on : (folder_files : FolderFiles) (dir first : List ℕ) (s : State) (rest : List (List ℕ)) (name : List ℕ) → s.waiting ≡ rest ++ name ∷ [] →
+    IsOnWay folder_files dir first s → (n : State) → Visits folder_files dir name (record s { waiting = rest }) n → IsOnWay folder_files dir first n
+walk_goes_on folder_files dir first s rest name last on n v w m b d =
+    on w m b (subst (λ l. Walks folder_files dir s.requested s.lines l w m b) (sym (ap reverse last ∙ reverse-append rest (name ∷ []))) (step v))
   where
-    step : Visits told dir name (record s { waiting = rest }) n → Walks told dir s.asked s.lines (name ∷ reverse rest) w m b
+    step : Visits folder_files dir name (record s { waiting = rest }) n → Walks folder_files dir s.requested s.lines (name ∷ reverse rest) w m b
     step (no_text not_text same) =
-        passed s.asked (reverse rest) w name s.lines m b (λ t. absurd (not_text t))
-        (moved told dir n.asked s.asked (reverse n.waiting) (reverse rest) w n.lines s.lines m b (ap (λ k. k.asked) same) (ap (λ k. k.lines) same)
+        passed s.requested (reverse rest) w name s.lines m b (λ t. absurd (not_text t))
+        (moved folder_files dir n.requested s.requested (reverse n.waiting) (reverse rest) w n.lines s.lines m b (ap (λ k. k.requested) same) (ap (λ k. k.lines) same)
         (ap (λ k. reverse k.waiting) same) d)
-    step (known a same) =
-        passed s.asked (reverse rest) w name s.lines m b (λ t. a)
-        (moved told dir n.asked s.asked (reverse n.waiting) (reverse rest) w n.lines s.lines m b (ap (λ k. k.asked) same) (ap (λ k. k.lines) same)
+    step (not_new a same) =
+        passed s.requested (reverse rest) w name s.lines m b (λ t. a)
+        (moved folder_files dir n.requested s.requested (reverse n.waiting) (reverse rest) w n.lines s.lines m b (ap (λ k. k.requested) same) (ap (λ k. k.lines) same)
         (ap (λ k. reverse k.waiting) same) d)
     step (no_file due answer asks) =
-        missing s.asked (reverse rest) w name s.lines m b due.is_new answer
-        (moved told dir n.asked (mention s.asked name) (reverse n.waiting) (reverse rest) w n.lines s.lines m b asks.asked_are asks.lines_are
+        missing s.requested (reverse rest) w name s.lines m b due.is_new answer
+        (moved folder_files dir n.requested (mention s.requested name) (reverse n.waiting) (reverse rest) w n.lines s.lines m b asks.requested_are asks.lines_are
         (ap reverse asks.waiting_is) d)
     step (file middle bytes due answer asks takes) =
-        taken s.asked (reverse rest) w takes.names name bytes s.lines m b due.is_new answer takes.sources
-        (moved told dir n.asked (mention s.asked name) (reverse n.waiting) (takes.names ++ reverse rest) w n.lines
+        taken s.requested (reverse rest) w takes.names name bytes s.lines m b due.is_new answer takes.sources
+        (moved folder_files dir n.requested (mention s.requested name) (reverse n.waiting) (takes.names ++ reverse rest) w n.lines
         (min (s.lines + lines_of bytes) last_count) m b
-        (takes.asked_are ∙ asks.asked_are)
+        (takes.requested_are ∙ asks.requested_are)
         (takes.lines_are ∙ ap (λ k. min (k + lines_of bytes) last_count) asks.lines_are)
         (ap reverse (takes.waiting_is ∙ ap (λ l. l ++ reverse takes.names) asks.waiting_is) ∙ reverse-append rest (reverse takes.names) ∙ ap (λ l. l ++ reverse rest) (reverse-reverse takes.names))
         d)
 
 -- the same, as another state of the folder told it
-pub walk_turned : (told given : FolderFiles) (dir first : List ℕ) (s : State) → IsOnWay told dir first s → given ≡ told →
+pub walk_turned : (folder_files given : FolderFiles) (dir first : List ℕ) (s : State) → IsOnWay folder_files dir first s → given ≡ folder_files →
     (rest : List (List ℕ)) (name : List ℕ) → s.waiting ≡ rest ++ name ∷ [] → (n : State) → Visits given dir name (record s { waiting = rest }) n →
-    IsOnWay told dir first n
-walk_turned told given dir first s on same rest name last n v =
-    walk_goes_on told dir first s rest name last on n (subst (λ (t : FolderFiles). Visits t dir name (record s { waiting = rest }) n) same v)
+    IsOnWay folder_files dir first n
+walk_turned folder_files given dir first s on same rest name last n v =
+    walk_goes_on folder_files dir first s rest name last on n (subst (λ (t : FolderFiles). Visits t dir name (record s { waiting = rest }) n) same v)
 
 -- where no name waits, the walk is at its end
-pub ended_walk : (told : FolderFiles) (dir first : List ℕ) (s : State) → IsOnWay told dir first s → s.waiting ≡ [] → Walks told dir [] 0 (first ∷ []) s.asked s.lines false
-ended_walk told dir first s on none = on s.asked s.lines false (subst (λ l. Walks told dir s.asked s.lines (reverse l) s.asked s.lines false) (sym none) (ended s.asked s.lines))
+pub ended_walk : (folder_files : FolderFiles) (dir first : List ℕ) (s : State) → IsOnWay folder_files dir first s → s.waiting ≡ [] → Walks folder_files dir [] 0 (first ∷ []) s.requested s.lines false
+ended_walk folder_files dir first s on none = on s.requested s.lines false (subst (λ l. Walks folder_files dir s.requested s.lines (reverse l) s.requested s.lines false) (sym none) (ended s.requested s.lines))
 
 -- over the limit it is stopped
-pub over_walk : (told : FolderFiles) (dir first : List ℕ) (s : State) → IsOnWay told dir first s → most_lines < s.lines → Walks told dir [] 0 (first ∷ []) s.asked s.lines true
-over_walk told dir first s on more = on s.asked s.lines true (stopped s.asked (reverse s.waiting) s.lines more)
+pub over_walk : (folder_files : FolderFiles) (dir first : List ℕ) (s : State) → IsOnWay folder_files dir first s → most_lines < s.lines → Walks folder_files dir [] 0 (first ∷ []) s.requested s.lines true
+over_walk folder_files dir first s on more = on s.requested s.lines true (stopped s.requested (reverse s.waiting) s.lines more)

@@ -39,25 +39,25 @@ WithinBeforeLast (f ∷ fs) = line_total fs ≤ most_lines
 
 -- What may have been read, the last file first: names that the first one reaches, each once, with the folder's bytes,
 -- until the lines are over the limit.
-pub record AreRead (told : FolderFiles) (dir first : List ℕ) (read : List File) : Type 0 where
+pub record AreRead (folder_files : FolderFiles) (dir first : List ℕ) (read : List File) : Type 0 where
   pub once : EachOnce read
   pub within : WithinBeforeLast read
   pub reached : (name bytes : List ℕ) → bytes_in read name ≡ Some bytes → Reached (bytes_in read) first name
-  pub answers : (name bytes : List ℕ) → bytes_in read name ≡ Some bytes → AnswersAs told (path_of dir name) (Some bytes)
+  pub answers : (name bytes : List ℕ) → bytes_in read name ≡ Some bytes → AnswersAs folder_files (path_of dir name) (Some bytes)
 
 -- the folder has no more of this name than what was read
 abbrev pub IsReadWhole : FolderFiles → List ℕ → List File → List ℕ → Type 0
-IsReadWhole told dir read name = AnswersAs told (path_of dir name) (bytes_in read name)
+IsReadWhole folder_files dir read name = AnswersAs folder_files (path_of dir name) (bytes_in read name)
 
 -- the first name and all the UTF-8 names that the files source are read, where the folder has them
-pub record AreComplete (told : FolderFiles) (dir first : List ℕ) (read : List File) : Type 0 where
-  pub first_is : IsReadWhole told dir read first
+pub record AreComplete (folder_files : FolderFiles) (dir first : List ℕ) (read : List File) : Type 0 where
+  pub first_is : IsReadWhole folder_files dir read first
   pub sources_are : (file bytes : List ℕ) → bytes_in read file ≡ Some bytes → (names : List (List ℕ)) × AreSources bytes names
-      × ((name : List ℕ) → Contains names name → IsUtf8 name → IsReadWhole told dir read name)
+      × ((name : List ℕ) → Contains names name → IsUtf8 name → IsReadWhole folder_files dir read name)
 
 -- The files of a map are those that were read, and, where their lines are within the limit, all that there are.
-pub record Loads (told : FolderFiles) (dir first : List ℕ) (files : Files) : Type 0 where
+pub record Loads (folder_files : FolderFiles) (dir first : List ℕ) (files : Files) : Type 0 where
   pub read : List File
   pub held : (name : List ℕ) → files name ≡ bytes_in read name
-  pub are_read : AreRead told dir first read
-  pub are_all : line_total read ≤ most_lines → AreComplete told dir first read
+  pub are_read : AreRead folder_files dir first read
+  pub are_all : line_total read ≤ most_lines → AreComplete folder_files dir first read

@@ -15,18 +15,18 @@ use Rattle.kc_load.specs.declared.loading.Loading.{Loading}
 -- what is held, which names were asked for, which wait (the next one last), and how many lines there are
 pub record State : Type 0 where
   pub files : Files
-  pub asked : List (List ℕ)
+  pub requested : List (List ℕ)
   pub waiting : List (List ℕ)
   pub lines : ℕ
 
 abbrev pub state_of : Loading → State
-state_of l = record { files = bytes_in l.files; asked = l.asked; waiting = map (λ n. n.items) l.waiting.items; lines = l.lines }
+state_of l = record { files = bytes_in l.files; requested = l.requested; waiting = map (λ n. n.items) l.waiting.items; lines = l.lines }
 
 abbrev pub initial_state : List ℕ → State
-initial_state first = record { files = bytes_in []; asked = []; waiting = first ∷ []; lines = 0 }
+initial_state first = record { files = bytes_in []; requested = []; waiting = first ∷ []; lines = 0 }
 
-abbrev pub was_asked : List (List ℕ) → List ℕ → Bool
-was_asked asked name = list_any (same_name name) asked
+abbrev pub was_requested : List (List ℕ) → List ℕ → Bool
+was_requested requested name = list_any (same_name name) requested
 
 -- the names that the file sources wait, the first one last
 pub record PushesSources (file : List ℕ) (old new : State) : Type 0 where
@@ -34,7 +34,7 @@ pub record PushesSources (file : List ℕ) (old new : State) : Type 0 where
   pub sources : AreSources file names
   pub waiting_is : new.waiting ≡ old.waiting ++ reverse names
   pub files_are : new.files ≡ old.files
-  pub asked_are : new.asked ≡ old.asked
+  pub requested_are : new.requested ≡ old.requested
   pub lines_are : new.lines ≡ old.lines
 
 -- the file of the name is added: its bytes, its lines, and the names that it sources
@@ -43,27 +43,27 @@ pub record AddsFile (name bytes : List ℕ) (old new : State) : Type 0 where
   pub sources : AreSources bytes names
   pub waiting_is : new.waiting ≡ old.waiting ++ reverse names
   pub puts : Puts old.files new.files name bytes
-  pub asked_are : new.asked ≡ old.asked
+  pub requested_are : new.requested ≡ old.requested
   pub lines_are : new.lines ≡ min (old.lines + lines_of bytes) last_count
 
 -- all stays but the names that were asked for, to which this one is added
 pub record AddsName (name : List ℕ) (old new : State) : Type 0 where
   pub files_are : new.files ≡ old.files
   pub waiting_is : new.waiting ≡ old.waiting
-  pub asked_are : new.asked ≡ mention old.asked name
+  pub requested_are : new.requested ≡ mention old.requested name
   pub lines_are : new.lines ≡ old.lines
 
 -- it is the name's turn: it was not asked for before
 pub record IsDue (s : State) (name : List ℕ) : Type 0 where
   pub utf8 : IsUtf8 name
-  pub is_new : was_asked s.asked name ≡ false
+  pub is_new : was_requested s.requested name ≡ false
 
 -- The turn of a name.
-pub data Visits (told : FolderFiles) (dir name : List ℕ) (old new : State) : Type 0 where
-  no_text : (IsUtf8 name → ⊥) → new ≡ old → Visits told dir name old new
-  known : was_asked old.asked name ≡ true → new ≡ old → Visits told dir name old new
-  no_file : IsDue old name → AnswersAs told (path_of dir name) None → AddsName name old new → Visits told dir name old new
-  file : (middle : State) (bytes : List ℕ) → IsDue old name → AnswersAs told (path_of dir name) (Some bytes) → AddsName name old middle → AddsFile name bytes middle new → Visits told dir name old new
+pub data Visits (folder_files : FolderFiles) (dir name : List ℕ) (old new : State) : Type 0 where
+  no_text : (IsUtf8 name → ⊥) → new ≡ old → Visits folder_files dir name old new
+  not_new : was_requested old.requested name ≡ true → new ≡ old → Visits folder_files dir name old new
+  no_file : IsDue old name → AnswersAs folder_files (path_of dir name) None → AddsName name old new → Visits folder_files dir name old new
+  file : (middle : State) (bytes : List ℕ) → IsDue old name → AnswersAs folder_files (path_of dir name) (Some bytes) → AddsName name old middle → AddsFile name bytes middle new → Visits folder_files dir name old new
 
 -- the device fails at a name that is due, and may fail at its path
 abbrev pub FailsAt : (List ℕ → Bool) → List ℕ → State → List ℕ → LoadFault → Type 0

@@ -3,11 +3,10 @@
 
 mod fault;
 mod folder;
-mod loader;
 mod loading;
 mod path;
 
 pub use fault::LoadFault;
 pub use folder::{Folder, FolderFault};
-pub use loader::load;
+pub use loading::load;
 pub use path::begins_with_slash;

@@ -1,12 +1,15 @@
-//! The loading of files, name by name.
+//! Loading: all the files that a first one reaches, name by name.
 
 ghost use Rattle.std.specs.Prelude.{◌≡◌, ◌+◌, IfOk, IfErr, OnOk, min, nat_lt, option_map};
+ghost use Rattle.kc_load.specs.Expanding.{Suffices};
 ghost use Rattle.kc_load.specs.Folders.{AnswersAs, FailsWhere, failures_after, path_of};
-ghost use Rattle.kc_load.specs.Faults.{load_failures_after};
+ghost use Rattle.kc_load.specs.Faults.{IsLoadFault, load_failures_after};
+ghost use Rattle.kc_load.specs.Loaded.{Loads};
+ghost use Rattle.kc_read.specs.Files.{bytes_in};
 ghost use Rattle.kc_read.specs.Limits.{most_lines};
 ghost use Rattle.kc_read.specs.Expansion.{lines_of};
 ghost use Rattle.kc_text.specs.Limits.{last_count};
-ghost use Rattle.kc_load.specs.Steps.{FailsAt, PushesSources, AddsFile, Visits, initial_state, state_of, was_asked};
+ghost use Rattle.kc_load.specs.Steps.{FailsAt, PushesSources, AddsFile, Visits, initial_state, state_of, was_requested};
 
 use crate::fault::LoadFault;
 use crate::folder::{Folder, FolderFault};
@@ -24,7 +27,7 @@ pub(crate) struct Loading {
     // What was read.
     pub(crate) files: FileMap,
     // The names that were asked for.
-    asked: Names,
+    requested: Names,
     // The names that wait for their turn, the next one last.
     pub(crate) waiting: Vec<Vec<u8>>,
     // The physical lines of the files.
@@ -59,7 +62,7 @@ impl Loading {
         Ok(Loading {
             alloc,
             files: FileMap::new(alloc),
-            asked: Names::new(alloc),
+            requested: Names::new(alloc),
             waiting,
             lines: 0,
         })
@@ -73,10 +76,10 @@ impl Loading {
     }
 
     // Whether the name was asked for.
-    fn was_asked(&self, name: &[u8]) -> bool
-        ensures { result ≡ was_asked self.now.asked name.now }
+    fn was_requested(&self, name: &[u8]) -> bool
+        ensures { result ≡ was_requested self.now.requested name.now }
     {
-        self.asked.find(name).is_some()
+        self.requested.find(name).is_some()
     }
 
     // The lines with those of one file more, or the greatest number.
@@ -124,10 +127,10 @@ impl Loading {
         let Ok(text) = str::from_utf8(&name) else {
             return Ok(());
         };
-        if self.was_asked(&name) {
+        if self.was_requested(&name) {
             return Ok(());
         }
-        self.asked.id(&name)?;
+        self.requested.id(&name)?;
         match read_named(self.alloc, folder, dir, text) {
             Ok(Some(bytes)) => Ok(self.take(name, bytes)?),
             Ok(None) => Ok(()),
@@ -135,4 +138,44 @@ impl Loading {
             Err(FolderFault::Memory) => Err(LoadFault::Memory),
         }
     }
+}
+
+/// Reads the file `kconfig` and every file that a `source` line of a file so read names (our own; the statement is of
+/// the kernel's kconfig-language document).
+///
+/// A name is read at the path `dir/NAME`, or at the name itself where it begins with `/`. Each name is read once, depth
+/// first, in the order of the `source` lines. A name that is no UTF-8, or of which there is no file, is left out.
+/// Reading stops after the file with which there are more than 1,000,000 physical lines: such a tree is refused at that
+/// file or before it. So what is read is always enough: over it the root file gives the list, or the refusal, that it gives
+/// over all the files of the folder.
+///
+/// E18 where the folder's device failed, E20 where memory was refused. Nothing of the map is left then.
+pub fn load<F: Folder>(
+    alloc: Global,
+    folder: &mut F,
+    dir: &str,
+    kconfig: &str,
+) -> Result<FileMap, LoadFault>
+    // The map holds the files that the first one reaches, with the folder's bytes.
+    ensures loaded { IfOk result (λ map. Loads (F.files folder.old) dir.now kconfig.now (bytes_in map)) }
+    // They are enough: over them the first file gives what it gives over all the folder's files.
+    ensures enough { IfOk result (λ map. Suffices (F.files folder.old) dir.now kconfig.now (bytes_in map)) }
+    // The folder's files stay, and the paths at which it may fail.
+    ensures stays { F.files folder.new ≡ F.files folder.old }
+    ensures failing_stays { F.failing folder.new ≡ F.failing folder.old }
+    // No failure is counted where all was read.
+    ensures quiet { OnOk result (F.failures folder.new ≡ F.failures folder.old) }
+    // A file that could not be read is one whose turn it was, and at whose path the device may fail.
+    ensures fault { IfErr result (IsLoadFault (F.files folder.old) (F.failing folder.old) dir.now kconfig.now) }
+    // The device's failure is counted, being out of memory is not.
+    ensures counted { IfErr result (λ fault. F.failures folder.new ≡ load_failures_after fault (F.failures folder.old)) }
+{
+    let mut loading = Loading::new(alloc, kconfig)?;
+    while let Some(name) = loading.waiting.pop() {
+        loading.visit(folder, dir, name)?;
+        if loading.is_over() {
+            return Ok(loading.files);
+        }
+    }
+    Ok(loading.files)
 }

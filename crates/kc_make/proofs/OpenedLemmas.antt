@@ -6,7 +6,7 @@ use Rattle.kc_read.specs.Existing.{HasOneExpansion}
 use Rattle.kc_read.specs.Expansion.{Expands, Log, OneExpansion, Refused, Rest, bytes_cause, nothing_read, with_file, refused, root_context}
 use Rattle.kc_read.specs.Files.{Files}
 use Rattle.kc_read.specs.Lines.{Cause}
-use Rattle.kc_read.specs.OpenedFiles.{asked}
+use Rattle.kc_read.specs.OpenedFiles.{sourced_files}
 use Rattle.kc_read.proofs.OpenedFileLemmas.{has_one_list_of_names}
 use Rattle.kc_make.specs.Opened.{AreOpened, OpenedAreOne, OpenedAreThere}
 use Rattle.kc_make.proofs.Trees.{Trees, one_sources, one_tree, tree_of}
@@ -17,13 +17,13 @@ Accepts files root bytes log = Rest files (root_context root) (unread_lines byte
 
 -- two of them open the same
 asked_one : (files : Files) (root bytes others : List ℕ) (log more : Log) → files root ≡ Some bytes → files root ≡ Some others →
-    (d : Accepts files root bytes log) (e : Accepts files root others more) → asked d ≡ asked e
+    (d : Accepts files root bytes log) (e : Accepts files root others more) → sourced_files d ≡ sourced_files e
 asked_one files root bytes others log more there too d e =
     let (names, is_list, one) = has_one_list_of_names (unread_lines bytes 1) in
     let (listed, are_list, only) = has_one_list_of_names (unread_lines others 1) in
     let same : names ≡ listed = one_sources files root bytes others names listed there too is_list are_list in
-    let second : Trees files listed (asked e) = tree_of e more refl listed are_list in
-    one_tree files names (asked d) (asked e) (tree_of d log refl names is_list) (subst (λ (l : List (List ℕ)). Trees files l (asked e)) (sym same) second)
+    let second : Trees files listed (sourced_files e) = tree_of e more refl listed are_list in
+    one_tree files names (sourced_files d) (sourced_files e) (tree_of d log refl names is_list) (subst (λ (l : List (List ℕ)). Trees files l (sourced_files e)) (sym same) second)
 
 -- an accepted list has its expansion
 expansion_of : (files : Files) (root : List ℕ) (log : Log) → Expands files root (Ok log) → (bytes : List ℕ) × (files root ≡ Some bytes)
@@ -53,7 +53,7 @@ opened_there has one files root = by (has files root).0 (has files root).1
     by : (r : Result Log Refused) → Expands files root r → (opened : List (List ℕ)) × AreOpened files root opened
     by (Ok log) expands =
         let (bytes, there, few, d) = expansion_of files root log expands in (
-          all_mentioned [] (root ∷ asked d),
+          all_mentioned [] (root ∷ sourced_files d),
           λ given more is_there is_few e. ap (λ l. all_mentioned [] (root ∷ l)) (asked_one files root bytes given log more there is_there d e),
         )
     by (Err e) expands = (

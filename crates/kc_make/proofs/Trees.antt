@@ -7,7 +7,7 @@ use Rattle.kc_read.specs.Expansion as exp
 use Rattle.kc_read.specs.Expansion.{FileContext, Log, Refused, Rest, NextStatement, context_of, is_source, lexemes}
 use Rattle.kc_read.specs.Files.{Files}
 use Rattle.kc_read.specs.Lines.{begins_with}
-use Rattle.kc_read.specs.OpenedFiles.{asked}
+use Rattle.kc_read.specs.OpenedFiles.{sourced_files}
 use Rattle.kc_read.specs.Sources.{SourceNames, IsOther}
 use Rattle.kc_read.specs.Statements.{Located, Named, SourceLine}
 use Rattle.kc_read.proofs.OpenedFileLemmas.{has_one_list_of_names, reads_source}
@@ -79,7 +79,7 @@ other l m a own log s n plain = elim (cases_Bool (begins n.tokens)) [
 ]
 
 pub tree_of : {files : Files} {a : FileContext} {l : UnreadLines} {own : List (Located Named)} {log : Log} {r : Result Log Refused}
-    (d : Rest files a l own log r) (done : Log) → r ≡ Ok done → (names : List (List ℕ)) → SourceNames l names → Trees files names (asked d)
+    (d : Rest files a l own log r) (done : Log) → r ≡ Ok done → (names : List (List ℕ)) → SourceNames l names → Trees files names (sourced_files d)
 tree_of {files} (exp.at_end a l own log none closed) done ok names ns =
     subst (λ (k : List (List ℕ)). Trees files k []) (sym (one_list l names [] ns (at_end l none))) leaf
 tree_of (exp.unclosed a l own log line none unmatched) done ok names ns = clash _ done ok
@@ -95,5 +95,5 @@ tree_of {files} (exp.source a l m own log more k bytes r n free there d f) done 
     let b = source_begins (context_of a own log) (lexemes n.tokens) k n.reads in
     let (after, is, ms) = after_source l m k names (n.tokens, n.next, b, begins_source (context_of a own log) (lexemes n.tokens) (Ok (SourceLine k)) b n.reads) ns in
     let (inner, is_list, one) = has_one_list_of_names (unread_lines bytes 1) in
-    subst (λ (x : List (List ℕ)). Trees files x (k ∷ (asked d ++ asked f))) (sym is)
-    (node k bytes inner after (asked d) (asked f) there is_list (tree_of d more refl inner is_list) (tree_of f done ok after ms))
+    subst (λ (x : List (List ℕ)). Trees files x (k ∷ (sourced_files d ++ sourced_files f))) (sym is)
+    (node k bytes inner after (sourced_files d) (sourced_files f) there is_list (tree_of d more refl inner is_list) (tree_of f done ok after ms))

@@ -4,7 +4,7 @@ use Rattle.std.proofs.lemmas.List.{reverse-append, reverse-reverse}
 use Rattle.kc_text.specs.Lines.{unread_lines}
 use Rattle.kc_expr.specs.Names.{same_name, mention, all_mentioned}
 use Rattle.kc_read.specs.Files.{Files, bytes_in}
-use Rattle.kc_read.specs.OpenedFiles.{asked}
+use Rattle.kc_read.specs.OpenedFiles.{sourced_files}
 use Rattle.kc_read.specs.Sources.{SourceNames}
 use Rattle.kc_read.proofs.FileLemmas.{same_name_eq}
 use Rattle.kc_read.proofs.OpenedFileLemmas.{has_one_list_of_names}
@@ -225,8 +225,8 @@ walks_tree files names a (node name bytes ns rest inner after e n t u) opened to
 walked : (files : Files) (root : List ℕ) (final : List (List ℕ)) → Walks files [] (root ∷ []) final → AreOpened files root final
 walked files root final w bytes log there few d =
     let (names, is_list, one) = has_one_list_of_names (unread_lines bytes 1) in
-    let t : Trees files (root ∷ []) (root ∷ asked d) = alone files root bytes names (asked d) there is_list (tree_of d log refl names is_list) in
-    end_of files (all_mentioned [] (root ∷ asked d)) final (walks_tree files (root ∷ []) (root ∷ asked d) t [] [] final (λ x h. in_none x h) w)
+    let t : Trees files (root ∷ []) (root ∷ sourced_files d) = alone files root bytes names (sourced_files d) there is_list (tree_of d log refl names is_list) in
+    end_of files (all_mentioned [] (root ∷ sourced_files d)) final (walks_tree files (root ∷ []) (root ∷ sourced_files d) t [] [] final (λ x h. in_none x h) w)
 
 pub at_end : (files : Files) (root : List ℕ) (s : State) → Leads files root s → s.waiting ≡ [] → AreOpened files root s.opened
 at_end files root s leads none =

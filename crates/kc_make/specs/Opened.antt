@@ -4,7 +4,7 @@ use Rattle.kc_text.specs.Lines.{unread_lines}
 use Rattle.kc_expr.specs.Names.{all_mentioned}
 use Rattle.kc_read.specs.Expansion.{Expands, Log, Rest, bytes_cause, root_context, with_file, nothing_read}
 use Rattle.kc_read.specs.Files.{Files}
-use Rattle.kc_read.specs.OpenedFiles.{asked}
+use Rattle.kc_read.specs.OpenedFiles.{sourced_files}
 use Rattle.kc_load.specs.Folders.{path_of}
 
 -- Where the expansion of the root file is accepted, these are the files that it opens, each once, in the order of their
@@ -13,7 +13,7 @@ abbrev pub AreOpened : Files → List ℕ → List (List ℕ) → Type 0
 AreOpened files root names =
     (bytes : List ℕ) (log : Log) → files root ≡ Some bytes → bytes_cause root 0 (Some bytes) ≡ None →
     (d : Rest files (root_context root) (unread_lines bytes 1) [] (with_file nothing_read bytes) (Ok log)) →
-    names ≡ all_mentioned [] (root ∷ asked d)
+    names ≡ all_mentioned [] (root ∷ sourced_files d)
 
 -- there are such files
 abbrev pub OpenedAreThere : Type 0

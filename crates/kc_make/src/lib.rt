@@ -2,11 +2,10 @@
 #![tactic(auto)]
 
 pub mod laws;
-mod opened;
 mod paths;
 mod rule;
 mod walk;
 
-pub use opened::opened_files;
 pub use paths::prerequisites_of;
 pub use rule::add_rule;
+pub use walk::opened_files;

@@ -6,7 +6,7 @@ ghost use Rattle.kc_load.specs.Folders.{path_of};
 ghost use Rattle.kc_make.specs.Opened.{AreOpened, prerequisites_of};
 ghost use Rattle.kc_read.specs.Files.{bytes_in};
 
-use crate::opened::opened_files;
+use crate::walk::opened_files;
 use kc_expr::expression::SymId;
 use kc_expr::names::Names;
 use kc_load::begins_with_slash;

@@ -1,5 +1,5 @@
 //! Devices in memory, which give and take pieces, and fail at a call of choice.
-ghost use Rattle.std.specs.Prelude.{◌≡◌, ◌<◌, ◌≤◌, ◌-◌, length, take, true, nat_lt, Some, OnOk, OnErr, IfOk, [], ℕ};
+ghost use Rattle.std.specs.Prelude.{◌≡◌, ◌<◌, ◌≤◌, ◌-◌, length, take, true, nat_lt, Some, OnOk, OnErr, IfOk};
 ghost use Rattle.kc_conf.specs.OutputStates.{at, grown, begun, ended, failed};
 
 use kc_conf::{Input, Output, Outputs};

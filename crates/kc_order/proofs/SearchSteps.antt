@@ -18,7 +18,7 @@ use Rattle.kc_order.specs.Needs.{NeedsBelow, needs_in, unordered_after}
 use Rattle.kc_order.specs.Rows.{RowsBelow}
 use Rattle.kc_order.specs.Order.{IsOrderOf}
 use Rattle.kc_order.specs.declared.search.Search.{Search}
-use Rattle.kc_order.specs.Search.{IsSearch, IsSound, IsFinished, Opens, Closes, GivesUp, KeepsVisited, weight, work, mark_of, is_unordered}
+use Rattle.kc_order.specs.Search.{IsSearch, IsSound, IsFinished, Opens, Closes, GivesUp, KeepsVisited, weight, work, state_of, is_unordered}
 use Rattle.kc_order.proofs.Held.{needs_below}
 use Rattle.kc_order.proofs.Stays.{stays_unordered}
 use Rattle.kc_order.specs.Solution.{IsUpdate}
@@ -341,22 +341,22 @@ is_given_up Unordered e = refl
 -- after the last step
 module _ (rows : List (List ℕ)) (search : Search) (over : IsFinished rows search) where
   -- a symbol is marked as unordered exactly where it is
-  pub unordered_iff : (s : ℕ) → s < length rows → is_unordered (get_or search.marks.items s New) ≡ unordered_after (needs_in rows) (length rows) s
+  pub unordered_iff : (s : ℕ) → s < length rows → is_unordered (get_or search.states.items s New) ≡ unordered_after (needs_in rows) (length rows) s
   unordered_iff s b =
       let keeps = over.sound.keeps in
-      let closed_now : mark_of search s ≢ Open = λ e. omega (arith, over.idle, (keeps.open_is s b e).1) in
-      elim (cases_Bool (is_unordered (get_or search.marks.items s New))) [
-        | inl given ↦ given ∙ sym (keeps.unordered_is s (length rows) b (is_given_up (get_or search.marks.items s New) given))
-        | inr free ↦ free ∙ sym (keeps.done_ordered s b (met_is_done (get_or search.marks.items s New) (over.visited s b) closed_now free))
+      let closed_now : state_of search s ≢ Open = λ e. omega (arith, over.idle, (keeps.open_is s b e).1) in
+      elim (cases_Bool (is_unordered (get_or search.states.items s New))) [
+        | inl given ↦ given ∙ sym (keeps.unordered_is s (length rows) b (is_given_up (get_or search.states.items s New) given))
+        | inr free ↦ free ∙ sym (keeps.done_ordered s b (met_is_done (get_or search.states.items s New) (over.visited s b) closed_now free))
       ]
 
   -- where none is unordered, all are in order
-  pub finishes : All (λ m. is_unordered m ≡ false) search.marks.items → IsOrderOf (length rows) (needs_in rows) search.order.items
+  pub finishes : All (λ m. is_unordered m ≡ false) search.states.items → IsOrderOf (length rows) (needs_in rows) search.order.items
   finishes free =
       let keeps = over.sound.keeps in
       record {
         all_there = λ s b.
-            keeps.done_is s b (met_is_done (mark_of search s) (over.visited s b) (λ e. omega (arith, over.idle, (keeps.open_is s b e).1)) (free s New (omega (arith, b, over.sound.marks_len))));
+            keeps.done_is s b (met_is_done (state_of search s) (over.visited s b) (λ e. omega (arith, over.idle, (keeps.open_is s b e).1)) (free s New (omega (arith, b, over.sound.states_len))));
         all_below = λ s c. (keeps.order_is s c).0;
         apart = keeps.order_apart;
         needs_first = keeps.needs_first;
@@ -379,64 +379,64 @@ row_passes_to rows left s j l t c =
 
 module _ (rows : List (List ℕ)) (before after : Search) (s : ℕ) (sound : IsSound rows before) where
   -- a new symbol that the last open one needs is opened
-  pub opens_sound : s < length rows → get_or before.marks.items s New ≡ New →
+  pub opens_sound : s < length rows → get_or before.states.items s New ≡ New →
       ((k : ℕ) → k + 1 ≡ length before.path.items → Contains (needs_in rows (slice_index before.path.items k)) s) → Opens before after s → IsSound rows after
   opens_sound below new needed o = record {
-    marks_len = ap length o.marks ∙ length-set before.marks.items s Open ∙ sound.marks_len;
+    states_len = ap length o.states ∙ length-set before.states.items s Open ∙ sound.states_len;
     left_len = ap length o.left ∙ sound.left_len;
-    keeps = rw (o.marks, o.left, o.path, o.order) (opened _ (needs_in rows) _ _ _ before.path.items before.order.items s sound.keeps below new needed
-        (list_set New before.marks.items s Open (omega (arith, sound.marks_len))));
+    keeps = rw (o.states, o.left, o.path, o.order) (opened _ (needs_in rows) _ _ _ before.path.items before.order.items s sound.keeps below new needed
+        (list_set New before.states.items s Open (omega (arith, sound.states_len))));
   }
 
-  pub opens_less : s < length rows → get_or before.marks.items s New ≡ New → Opens before after s → work after < work before
+  pub opens_less : s < length rows → get_or before.states.items s New ≡ New → Opens before after s → work after < work before
   opens_less below new o =
-      let less = sum_by-set weight before.marks.items s Open New (omega (arith, sound.marks_len)) in
-      omega (arith, less, ap weight new, ap (sum_by weight) o.marks, ap sum o.left)
+      let less = sum_by-set weight before.states.items s Open New (omega (arith, sound.states_len)) in
+      omega (arith, less, ap weight new, ap (sum_by weight) o.states, ap sum o.left)
 
-  pub opens_there : s < length rows → Opens before after s → get_or after.marks.items s New ≡ Open
-  opens_there below o = ap (λ xs. get_or xs s New) o.marks ∙ get_or-set_same before.marks.items s Open New (omega (arith, sound.marks_len))
+  pub opens_there : s < length rows → Opens before after s → get_or after.states.items s New ≡ Open
+  opens_there below o = ap (λ xs. get_or xs s New) o.states ∙ get_or-set_same before.states.items s Open New (omega (arith, sound.states_len))
 
   pub opens_met : s < length rows → Opens before after s → KeepsVisited before after
   opens_met below o t visited new =
-      let u = list_set New before.marks.items s Open (omega (arith, sound.marks_len)) in
-      let is = sym (ap (λ xs. get_or xs t New) o.marks) ∙ new in
+      let u = list_set New before.states.items s Open (omega (arith, sound.states_len)) in
+      let is = sym (ap (λ xs. get_or xs t New) o.states) ∙ new in
       elim (cases_eq t s) [
-        | inl same ↦ open≢new (get_or (set before.marks.items s Open) s New) u.here (sym (ap (λ k. get_or (set before.marks.items s Open) k New) same) ∙ is)
+        | inl same ↦ open≢new (get_or (set before.states.items s Open) s New) u.here (sym (ap (λ k. get_or (set before.states.items s Open) k New) same) ∙ is)
         | inr other ↦ visited (sym (u.others t other) ∙ is)
       ]
 
   -- the last open symbol, of which no need is left, is closed
   pub closes_sound : RowsBelow (length rows) rows → s < length rows → get_or before.left.items s 0 ≡ 0 → Closes before after s → IsSound rows after
   closes_sound rows_below below none o =
-      let split = subst (λ p. IsSearch (length rows) (needs_in rows) (λ t. get_or before.marks.items t New)
+      let split = subst (λ p. IsSearch (length rows) (needs_in rows) (λ t. get_or before.states.items t New)
       (λ t. get_or before.left.items t 0) p before.order.items) o.path sound.keeps in
       record {
-        marks_len = ap length o.marks ∙ length-set before.marks.items s Done ∙ sound.marks_len;
+        states_len = ap length o.states ∙ length-set before.states.items s Done ∙ sound.states_len;
         left_len = ap length o.left ∙ sound.left_len;
-        keeps = rw (o.marks, o.left, o.order) (closed _ (needs_in rows) (needs_below rows rows_below) _ _ _ after.path.items before.order.items s split none
-            (list_set New before.marks.items s Done (omega (arith, sound.marks_len))));
+        keeps = rw (o.states, o.left, o.order) (closed _ (needs_in rows) (needs_below rows rows_below) _ _ _ after.path.items before.order.items s split none
+            (list_set New before.states.items s Done (omega (arith, sound.states_len))));
       }
 
   pub closes_less : s < length rows → Closes before after s → work after < work before
   closes_less below o =
       let was = ap weight (sound.keeps.path_is s (subst (λ p. Contains p s) (sym o.path) (Contains-push after.path.items s))).1 in
-      let less = sum_by-set weight before.marks.items s Done New (omega (arith, sound.marks_len)) in
-      omega (arith, less, was, ap (sum_by weight) o.marks, ap sum o.left)
+      let less = sum_by-set weight before.states.items s Done New (omega (arith, sound.states_len)) in
+      omega (arith, less, was, ap (sum_by weight) o.states, ap sum o.left)
 
   -- the last open symbol, which is unordered, is given up
   pub gives_up_sound : s < length rows → ((k : ℕ) → unordered_after (needs_in rows) k s ≡ true) → GivesUp before after s → IsSound rows after
   gives_up_sound below unordered o =
-      let split = subst (λ p. IsSearch (length rows) (needs_in rows) (λ t. get_or before.marks.items t New)
+      let split = subst (λ p. IsSearch (length rows) (needs_in rows) (λ t. get_or before.states.items t New)
       (λ t. get_or before.left.items t 0) p before.order.items) o.path sound.keeps in
       record {
-        marks_len = ap length o.marks ∙ length-set before.marks.items s Unordered ∙ sound.marks_len;
+        states_len = ap length o.states ∙ length-set before.states.items s Unordered ∙ sound.states_len;
         left_len = ap length o.left ∙ sound.left_len;
-        keeps = rw (o.marks, o.left, o.order) (given_up _ (needs_in rows) _ _ _ after.path.items before.order.items s split unordered
-            (list_set New before.marks.items s Unordered (omega (arith, sound.marks_len))));
+        keeps = rw (o.states, o.left, o.order) (given_up _ (needs_in rows) _ _ _ after.path.items before.order.items s split unordered
+            (list_set New before.states.items s Unordered (omega (arith, sound.states_len))));
       }
 
   pub gives_up_less : s < length rows → GivesUp before after s → work after < work before
   gives_up_less below o =
       let was = ap weight (sound.keeps.path_is s (subst (λ p. Contains p s) (sym o.path) (Contains-push after.path.items s))).1 in
-      let less = sum_by-set weight before.marks.items s Unordered New (omega (arith, sound.marks_len)) in
-      omega (arith, less, was, ap (sum_by weight) o.marks, ap sum o.left)
+      let less = sum_by-set weight before.states.items s Unordered New (omega (arith, sound.states_len)) in
+      omega (arith, less, was, ap (sum_by weight) o.states, ap sum o.left)

@@ -13,7 +13,7 @@ use Rattle.std.specs.List.{Contains, list_any, IsDistinct}
 use Rattle.std.proofs.lemmas.Bool.{eqb-false, cases_eq, cases_Bool, ne_eqb, eqb-true, cases_lt}
 use Rattle.std.proofs.lemmas.List.Elements.{Contains-get_or, All-contains, All-filter, filter_passes, All-contains_itself, All-push, Contains-push}
 use Rattle.kc_order.specs.Needs.{NeedsBelow, unordered_after}
-use Rattle.kc_order.specs.Rows.{AreMarks}
+use Rattle.kc_order.specs.Rows.{AreFlags}
 use Rattle.kc_order.specs.Loop.{IsFirstUnordered, IsNext, IsUnorderedWalk, IsNamedLoop}
 use Rattle.kc_order.proofs.Stays.{stays_unordered}
 
@@ -114,8 +114,8 @@ any_push p [] x e = ap (λ b. b || false) e
 any_push p (y ∷ xs) x e = ap (λ b. p y || b) (any_push p xs x e)
 
 -- one more symbol is marked as visited
-pub met_push : (n : ℕ) (walk : List ℕ) (visited : List Bool) (at : ℕ) → AreMarks n (λ s. list_any (eqb s) walk) visited → at < n →
-    AreMarks n (λ s. list_any (eqb s) (walk ++ at ∷ [])) (set visited at true)
+pub met_push : (n : ℕ) (walk : List ℕ) (visited : List Bool) (at : ℕ) → AreFlags n (λ s. list_any (eqb s) walk) visited → at < n →
+    AreFlags n (λ s. list_any (eqb s) (walk ++ at ∷ [])) (set visited at true)
 met_push n walk visited at m l = record {
   length_is = length-set visited at true ∙ m.length_is;
   each = λ s h.
@@ -140,7 +140,7 @@ is_met walk at e none =
     none a.0 a.1 a.2 (a.3 ∙ sym (eqb-true at a.1 a.4))
 
 -- at first none is
-pub none_met : (n : ℕ) (visited : List Bool) → visited ≡ replicate n false → AreMarks n (λ s. list_any (eqb s) []) visited
+pub none_met : (n : ℕ) (visited : List Bool) → visited ≡ replicate n false → AreFlags n (λ s. list_any (eqb s) []) visited
 none_met n visited e = record {
   length_is = ap length e ∙ length-replicate n false;
   each = λ s h. ap (λ xs. get_or xs s false) e ∙ get_or-replicate n s false false h;

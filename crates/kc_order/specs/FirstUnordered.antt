@@ -17,14 +17,14 @@ least_in test [] = None
 least_in test (s ∷ ss) = lesser_of (if test s then Some s else None) (least_in test ss)
 
 -- a symbol is marked as unordered
-abbrev pub marked_unordered : List NodeState → ℕ → Bool
-marked_unordered marks s = is_unordered (slice_index_or marks s New)
+abbrev pub is_unordered_at : List NodeState → ℕ → Bool
+is_unordered_at states s = is_unordered (slice_index_or states s New)
 
 -- of each group the first unordered symbol that it needs
 abbrev pub AreFirstByGroup : List NodeState → List (List ℕ) → List (Option ℕ) → Type 0
-AreFirstByGroup marks groups first_by_group = first_by_group ≡ map (least_in (marked_unordered marks)) groups
+AreFirstByGroup states groups first_by_group = first_by_group ≡ map (least_in (is_unordered_at states)) groups
 
 -- each node is marked as unordered exactly where it is
-pub record TellsUnordered (rows : List (List ℕ)) (marks : List NodeState) : Type 0 where
-  pub count : length marks ≡ length rows
-  pub each : (s : ℕ) → s < length rows → marked_unordered marks s ≡ unordered_after (needs_in rows) (length rows) s
+pub record TellsUnordered (rows : List (List ℕ)) (states : List NodeState) : Type 0 where
+  pub count : length states ≡ length rows
+  pub each : (s : ℕ) → s < length rows → is_unordered_at states s ≡ unordered_after (needs_in rows) (length rows) s

@@ -24,33 +24,33 @@ pub record IsSearch (n : ℕ) (needs : ℕ → List ℕ) (mark : ℕ → NodeSta
   pub passed : (s t : ℕ) → s < n → Contains (drop (left s) (needs s)) t → mark t ≡ Done
 
 -- how far symbol s is
-abbrev pub mark_of : Search → ℕ → NodeState
-mark_of search s = slice_index_or search.marks.items s New
+abbrev pub state_of : Search → ℕ → NodeState
+state_of search s = slice_index_or search.states.items s New
 
 -- a search over rows
 pub record IsSound (rows : List (List ℕ)) (search : Search) : Type 0 where
-  pub marks_len : length search.marks.items ≡ length rows
+  pub states_len : length search.states.items ≡ length rows
   pub left_len : length search.left.items ≡ length rows
-  pub keeps : IsSearch (length rows) (needs_in rows) (λ s. slice_index_or search.marks.items s New)
+  pub keeps : IsSearch (length rows) (needs_in rows) (λ s. slice_index_or search.states.items s New)
       (λ s. slice_index_or search.left.items s 0) search.path.items search.order.items
 
 -- s is open now, at the end of the path
 pub record Opens (before after : Search) (s : ℕ) : Type 0 where
-  pub marks : after.marks.items ≡ slice_set before.marks.items s Open
+  pub states : after.states.items ≡ slice_set before.states.items s Open
   pub left : after.left.items ≡ before.left.items
   pub path : after.path.items ≡ before.path.items ++ s ∷ []
   pub order : after.order.items ≡ before.order.items
 
 -- s, which was at the end of the path, is done now, at the end of the order
 pub record Closes (before after : Search) (s : ℕ) : Type 0 where
-  pub marks : after.marks.items ≡ slice_set before.marks.items s Done
+  pub states : after.states.items ≡ slice_set before.states.items s Done
   pub left : after.left.items ≡ before.left.items
   pub path : before.path.items ≡ after.path.items ++ s ∷ []
   pub order : after.order.items ≡ before.order.items ++ s ∷ []
 
 -- s, which was at the end of the path, is given up
 pub record GivesUp (before after : Search) (s : ℕ) : Type 0 where
-  pub marks : after.marks.items ≡ slice_set before.marks.items s Unordered
+  pub states : after.states.items ≡ slice_set before.states.items s Unordered
   pub left : after.left.items ≡ before.left.items
   pub path : before.path.items ≡ after.path.items ++ s ∷ []
   pub order : after.order.items ≡ before.order.items
@@ -64,11 +64,11 @@ weight Unordered = 0
 
 -- the steps still to be made
 abbrev pub work : Search → ℕ
-work search = sum_by weight search.marks.items + sum search.left.items
+work search = sum_by weight search.states.items + sum search.left.items
 
 -- what was visited stays visited
 abbrev pub KeepsVisited : Search → Search → Type 0
-KeepsVisited before after = (s : ℕ) → (slice_index_or before.marks.items s New ≡ New → ⊥) → slice_index_or after.marks.items s New ≡ New → ⊥
+KeepsVisited before after = (s : ℕ) → (slice_index_or before.states.items s New ≡ New → ⊥) → slice_index_or after.states.items s New ≡ New → ⊥
 
 -- a symbol with this mark is unordered
 abbrev pub is_unordered : NodeState → Bool
@@ -81,4 +81,4 @@ is_unordered Unordered = true
 pub record IsFinished (rows : List (List ℕ)) (search : Search) : Type 0 where
   pub sound : IsSound rows search
   pub idle : length search.path.items ≡ 0
-  pub visited : (s : ℕ) → s < length rows → mark_of search s ≢ New
+  pub visited : (s : ℕ) → s < length rows → state_of search s ≢ New

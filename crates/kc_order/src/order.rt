@@ -66,11 +66,11 @@ fn order_or_loop(alloc: Global, graph: &Graph) -> Result<Vec<u32>, NoOrder>
     ensures order { IfOk result (λ v. Orders graph.now.rows v.items) }
     ensures refused { IfErr result (IsReason (needs_of graph.now)) }
 {
-    let Search { marks, order, .. } = search_all(alloc, &graph.rows)?;
-    match first_unordered(&marks[..graph.symbols]) {
+    let Search { states, order, .. } = search_all(alloc, &graph.rows)?;
+    match first_unordered(&states[..graph.symbols]) {
         None => Ok(order),
         Some(first) => {
-            let found = named_loop(alloc, &graph.rows, graph.symbols, &marks, first as u32)?;
+            let found = named_loop(alloc, &graph.rows, graph.symbols, &states, first as u32)?;
             Err(NoOrder::Loop(found))
         }
     }

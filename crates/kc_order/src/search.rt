@@ -2,7 +2,7 @@
 
 ghost use Rattle.std.specs.Prelude.{◌≡◌, ℕ, ◌<◌, ◌≤◌, ◌↔◌, length, slice_index, IfOk, IsTrue, MatchOption, OnOk, All, slice_index_or, take, vec_len, replicate, map, ◌≢◌, ◌^◌, ◌++◌, ◌∷◌, [], ◌-◌, true, false};
 ghost use Rattle.kc_order.specs.Rows.{RowsBelow};
-ghost use Rattle.kc_order.specs.Search.{IsSound, IsFinished, KeepsVisited, Opens, Closes, GivesUp, work, mark_of, is_unordered};
+ghost use Rattle.kc_order.specs.Search.{IsSound, IsFinished, KeepsVisited, Opens, Closes, GivesUp, work, state_of, is_unordered};
 
 use crate::rows::Rows;
 use std::alloc::{AllocError, Global};
@@ -24,7 +24,7 @@ pub enum NodeState {
 #[derive(Drop)]
 pub struct Search {
     /// How far each node is.
-    pub marks: Vec<NodeState>,
+    pub states: Vec<NodeState>,
     // How many needs of each node are still to be looked at.
     left: Vec<usize>,
     // The open nodes, each needing the next.
@@ -42,45 +42,45 @@ fn is_done(mark: NodeState) -> bool
 
 // Opens a node.
 fn open(search: &mut Search, node: u32) -> Result<(), AllocError>
-    requires { node < length search.old.marks.items }
+    requires { node < length search.old.states.items }
     ensures { OnOk result (Opens search.old search.new node) }
 {
-    search.marks[node as usize] = NodeState::Open;
+    search.states[node as usize] = NodeState::Open;
     search.path.push(node)?;
     Ok(())
 }
 
 // Closes the last open node.
 fn close(search: &mut Search, node: u32) -> Result<(), AllocError>
-    requires there { node < length search.old.marks.items }
+    requires there { node < length search.old.states.items }
     requires last { search.old.path.items ≡ take (vec_len search.old.path - 1) search.old.path.items ++ node ∷ [] }
     ensures { OnOk result (Closes search.old search.new node) }
 {
     search.path.pop();
-    search.marks[node as usize] = NodeState::Done;
+    search.states[node as usize] = NodeState::Done;
     search.order.push(node)?;
     Ok(())
 }
 
 // Gives up the last open node, which is unordered.
 fn give_up(search: &mut Search, node: u32)
-    requires there { node < length search.old.marks.items }
+    requires there { node < length search.old.states.items }
     requires last { search.old.path.items ≡ take (vec_len search.old.path - 1) search.old.path.items ++ node ∷ [] }
     ensures { GivesUp search.old search.new node }
 {
     search.path.pop();
-    search.marks[node as usize] = NodeState::Unordered;
+    search.states[node as usize] = NodeState::Unordered;
 }
 
 // How many of the first needs of a row are left, once those at their end that are done are passed.
-fn pass_done(row: &[u32], marks: &[NodeState], count: usize) -> usize
+fn pass_done(row: &[u32], states: &[NodeState], count: usize) -> usize
     requires count { count ≤ length row.now }
-    requires row { All (λ t. t < length marks.now) row.now }
+    requires row { All (λ t. t < length states.now) row.now }
     ensures fewer { result ≤ count }
-    ensures done { (k : ℕ) → result ≤ k → k < count → slice_index_or marks.now (slice_index row.now k) NodeState.New ≡ NodeState.Done }
+    ensures done { (k : ℕ) → result ≤ k → k < count → slice_index_or states.now (slice_index row.now k) NodeState.New ≡ NodeState.Done }
 {
     let mut left = count;
-    while left > 0 && is_done(marks[row[left - 1] as usize]) {
+    while left > 0 && is_done(states[row[left - 1] as usize]) {
         left -= 1;
     }
     left
@@ -104,8 +104,8 @@ fn advance(rows: &Rows, search: &mut Search, top: u32) -> Result<(), AllocError>
     }
     let row = rows.row(top as usize);
     let need = row[left - 1];
-    match search.marks[need as usize] {
-        NodeState::Done => search.left[top as usize] = pass_done(row, &search.marks, left - 1),
+    match search.states[need as usize] {
+        NodeState::Done => search.left[top as usize] = pass_done(row, &search.states, left - 1),
         NodeState::New => open(search, need)?,
         NodeState::Open => give_up(search, top),
         NodeState::Unordered => give_up(search, top),
@@ -122,9 +122,9 @@ fn visit(rows: &Rows, search: &mut Search, root: u32) -> Result<(), AllocError>
     ensures sound { OnOk result (IsSound rows.now search.new) }
     ensures idle { OnOk result (length search.new.path.items ≡ 0) }
     ensures visited { OnOk result (KeepsVisited search.old search.new) }
-    ensures root_met { OnOk result (mark_of search.new root ≢ NodeState.New) }
+    ensures root_met { OnOk result (state_of search.new root ≢ NodeState.New) }
 {
-    match search.marks[root as usize] {
+    match search.states[root as usize] {
         NodeState::New => {}
         _ => return Ok(()),
     }
@@ -137,11 +137,11 @@ fn visit(rows: &Rows, search: &mut Search, root: u32) -> Result<(), AllocError>
 }
 
 // A mark for each node, none of them visited.
-fn new_marks(alloc: Global, count: usize) -> Result<Vec<NodeState>, AllocError>
+fn new_states(alloc: Global, count: usize) -> Result<Vec<NodeState>, AllocError>
     ensures { IfOk result (λ v. v.items ≡ replicate count NodeState.New) }
 {
-    let marks = vec![in alloc; NodeState::New; count]?;
-    Ok(marks)
+    let states = vec![in alloc; NodeState::New; count]?;
+    Ok(states)
 }
 
 // How many needs each node has.
@@ -163,7 +163,7 @@ pub fn search_all(alloc: Global, rows: &Rows) -> Result<Search, AllocError>
 {
     let count = rows.count();
     let mut search = Search {
-        marks: new_marks(alloc, count)?,
+        states: new_states(alloc, count)?,
         left: need_counts(alloc, rows)?,
         path: Vec::new(alloc),
         order: Vec::with_capacity(alloc, count)?,
@@ -182,8 +182,9 @@ pub fn is_unordered(mark: NodeState) -> bool
 }
 
 /// The first of these nodes that is unordered.
-pub fn first_unordered(marks: &[NodeState]) -> Option<usize>
-    ensures { MatchOption result (All (λ m. is_unordered m ≡ false) marks.now) (λ i. (i < length marks.now) × (is_unordered (slice_index_or marks.now i NodeState.New) ≡ true) × ((k : ℕ) → k < i → is_unordered (slice_index_or marks.now k NodeState.New) ≡ false)) }
+pub fn first_unordered(states: &[NodeState]) -> Option<usize>
+    ensures { MatchOption result (All (λ m. is_unordered m ≡ false) states.now) (λ i. (i < length states.now)
+        × (is_unordered (slice_index_or states.now i NodeState.New) ≡ true) × ((k : ℕ) → k < i → is_unordered (slice_index_or states.now k NodeState.New) ≡ false)) }
 {
-    marks.iter().position(|mark| is_unordered(*mark))
+    states.iter().position(|mark| is_unordered(*mark))
 }

@@ -5,7 +5,7 @@ use Rattle.std.proofs.lemmas.Bool.Decides.{nat_tests}
 use Rattle.std.proofs.lemmas.List.Elements.{filter_map-append}
 use Rattle.kc_read.specs.declared.statement.Block.{Block}
 use Rattle.kc_read.specs.declared.statement.OpenBlock.{OpenBlock}
-use Rattle.kc_read.specs.Blocks.{Bracket, Opens, Closes, NoBracket, bracket, bracket_at, opened, closes_outer, depth_after, stays_open, is_open, open_places, open_blocks, last_of, numbers}
+use Rattle.kc_read.specs.Blocks.{Bracket, Opens, Closes, NoBracket, bracket, bracket_at, opened, closes_outer, depth_after, stays_open, is_open, open_block_indices, open_blocks, last_of, numbers}
 use Rattle.kc_read.specs.Expansion.{IsUnclosed}
 use Rattle.kc_read.specs.Progress.{open_block_of, located_blocks, open_blocks_after}
 use Rattle.kc_read.specs.Statements.{Named, Located, statements}
@@ -61,19 +61,19 @@ head_first : {A : Type 0} (t : Bool) (x : A) (xs : List A) → cond t (x ∷ xs)
 head_first true x xs = refl
 head_first false x xs = refl
 
-places_front : (s : Named) (ss : List Named) → open_places (s ∷ ss) ≡ here (bracket s) (λ b. zero) (unmatched ss) ++ map suc (open_places ss)
+places_front : (s : Named) (ss : List Named) → open_block_indices (s ∷ ss) ≡ here (bracket s) (λ b. zero) (unmatched ss) ++ map suc (open_block_indices ss)
 places_front s ss =
     ap (filter (is_open (s ∷ ss))) (numbers_front (length ss))
     ∙ ap (λ xs. cond (is_open (s ∷ ss) zero) (zero ∷ xs) xs) (filter-map (is_open (s ∷ ss)) suc (numbers (length ss)))
-    ∙ head_first (is_open (s ∷ ss) zero) zero (map suc (open_places ss))
-    ∙ ap (λ xs. xs ++ map suc (open_places ss)) (head_place (bracket s) ss)
+    ∙ head_first (is_open (s ∷ ss) zero) zero (map suc (open_block_indices ss))
+    ∙ ap (λ xs. xs ++ map suc (open_block_indices ss)) (head_place (bracket s) ss)
 
 located_blocks_front : (l : Located Named) (ls : List (Located Named)) → located_blocks (l ∷ ls) ≡ here (bracket l.statement) (opener l.line) (unmatched (statements ls)) ++ located_blocks ls
 located_blocks_front l ls =
     ap (filter_map (λ j. open_block_of (slice_get (l ∷ ls) j))) (places_front l.statement (statements ls))
-    ∙ filter_map-append (λ j. open_block_of (slice_get (l ∷ ls) j)) (here (bracket l.statement) (λ b. zero) (unmatched (statements ls))) (map suc (open_places (statements ls)))
+    ∙ filter_map-append (λ j. open_block_of (slice_get (l ∷ ls) j)) (here (bracket l.statement) (λ b. zero) (unmatched (statements ls))) (map suc (open_block_indices (statements ls)))
     ∙ ap (λ xs. filter_map (λ j. open_block_of (slice_get (l ∷ ls) j)) (here (bracket l.statement) (λ b. zero) (unmatched (statements ls))) ++ xs)
-    (filter_map-map (λ j. open_block_of (slice_get (l ∷ ls) j)) suc (open_places (statements ls)))
+    (filter_map-map (λ j. open_block_of (slice_get (l ∷ ls) j)) suc (open_block_indices (statements ls)))
     ∙ ap (λ xs. xs ++ located_blocks ls) (by (bracket l.statement) (unmatched (statements ls)) refl)
   where
     by : (b : Bracket) (u : ℕ) → bracket l.statement ≡ b → filter_map (λ j. open_block_of (slice_get (l ∷ ls) j)) (here b (λ b. zero) u) ≡ here b (opener l.line) u
@@ -167,7 +167,7 @@ same_bracket (l ∷ ls) zero = by (opened (bracket l.statement))
 same_bracket (l ∷ ls) (suc j) = same_bracket ls j
 
 pub blocks_of_located : (ls : List (Located Named)) → map (λ o. o.block) (located_blocks ls) ≡ open_blocks (statements ls)
-blocks_of_located ls = map-filter_map (λ o. o.block) (λ j. open_block_of (slice_get ls j)) (λ j. opened (bracket_at (statements ls) j)) (same_bracket ls) (open_places (statements ls))
+blocks_of_located ls = map-filter_map (λ o. o.block) (λ j. open_block_of (slice_get ls j)) (λ j. opened (bracket_at (statements ls) j)) (same_bracket ls) (open_block_indices (statements ls))
 
 -- the innermost open block
 here_both : (b : Bracket) (n u : ℕ) → here b (opener n) u ≡ [] → here b (λ b. zero) u ≡ []
@@ -184,13 +184,13 @@ second_nil : {A : Type 0} (xs ys : List A) → xs ++ ys ≡ [] → ys ≡ []
 second_nil [] ys e = e
 second_nil (x ∷ xs) ys e = absurd cc
 
-pub no_places : (ls : List (Located Named)) → opens ls ≡ [] → open_places (statements ls) ≡ []
+pub no_places : (ls : List (Located Named)) → opens ls ≡ [] → open_block_indices (statements ls) ≡ []
 no_places [] e = refl
 no_places (l ∷ ls) e =
     let b = bracket l.statement in
     let u = unmatched (statements ls) in
     let h : here b (λ b. zero) u ≡ [] = here_both b l.line u (first_nil (here b (opener l.line) u) (opens ls) e) in
-    let t : open_places (statements ls) ≡ [] = no_places ls (second_nil (here b (opener l.line) u) (opens ls) e) in
+    let t : open_block_indices (statements ls) ≡ [] = no_places ls (second_nil (here b (opener l.line) u) (opens ls) e) in
     places_front l.statement (statements ls) ∙ rw (h, t) refl
 
 unclosed_here : (b : Bracket) (u : ℕ) (l : Located Named) (ls : List (Located Named)) (o : OpenBlock) → bracket l.statement ≡ b →
@@ -222,8 +222,8 @@ unclosed_later l ls line r = record {
   split = ap (λ xs. l ∷ xs) r.split;
   innermost_is =
       ap last_of (places_front l.statement (statements ls))
-      ∙ last_of-append (here (bracket l.statement) (λ b. zero) (unmatched (statements ls))) (map suc (open_places (statements ls))) (suc (length r.before))
-      (last_of-map suc (open_places (statements ls)) ∙ ap (option_map suc) r.innermost_is);
+      ∙ last_of-append (here (bracket l.statement) (λ b. zero) (unmatched (statements ls))) (map suc (open_block_indices (statements ls))) (suc (length r.before))
+      (last_of-map suc (open_block_indices (statements ls)) ∙ ap (option_map suc) r.innermost_is);
   line_is = r.line_is;
 }
 

@@ -9,7 +9,7 @@ use Rattle.kc_read.specs.declared.refusal.Code.TheVariants as code
 use Rattle.kc_read.specs.declared.statement.Keyword.{Keyword}
 use Rattle.kc_read.specs.declared.statement.Keyword.TheVariants as key
 use Rattle.kc_read.specs.Statements.{Named, InputPrompt, IfLine, EndIfLine, CommentLine, SourceLine, MenuLine, EndMenuLine, EndChoiceLine, MainMenuLine, TypeLine, PromptLine, DefaultLine, DefLine, DependsLine, VisibleLine, SelectLine, ImplyLine, RangeLine, HelpLine, ModulesLine}
-use Rattle.kc_read.specs.Lines.{LineContext, Cause, cause, syntax_cause, StartsExpression, ExpressionFault, front, IsWhole, WholeFault, ReadsWhole, begins_with, IsCondition, ConditionFault, ReadsCondition, After, text_of, word_of, named_target, operand_of, finish, ReadsTextLine, plain_text, ReadsSource, good_name, ReadsConfig, choice_line, ReadsPrompt, ReadsType, ReadsValue, expected, ReadsTarget, ReadsRange, option_line, left_out, ReadsRest, in_place, known, placement_cause, keyword_of, ReadsPlaced, ReadsLine, OneStatement}
+use Rattle.kc_read.specs.Lines.{LineContext, Cause, cause, syntax_cause, StartsExpression, ExpressionFault, front, IsWhole, WholeFault, ReadsWhole, begins_with, IsCondition, ConditionFault, ReadsCondition, After, text_of, word_of, named_target, operand_of, finish, ReadsTextLine, plain_text, ReadsSource, good_name, ReadsConfig, choice_line, ReadsPrompt, ReadsType, ReadsValue, expected, ReadsTarget, ReadsRange, option_line, left_out, ReadsRest, in_place, keyword_or_refusal, placement_cause, keyword_of, ReadsPlaced, ReadsLine, OneStatement}
 use Rattle.kc_read.proofs.OneLine.{one_line}
 
 -- ---- Expressions and conditions
@@ -164,8 +164,8 @@ placed_there : (c : LineContext) (w : List ℕ) (ts : List Lexeme) (k : Keyword)
 placed_there c w ts k = after (in_place k (placement_cause c w ts k)) (λ j. ReadsRest w j ts) (λ j. rest_there w j ts)
 
 pub line_there : (c : LineContext) (ts : List Lexeme) → (r : Result Named Cause) × ReadsLine c ts r
-line_there c ts = after (word_of ts) (λ w. After (known (keyword_of w)) (ReadsPlaced c w (drop 1 ts)))
-    (λ w. after (known (keyword_of w)) (ReadsPlaced c w (drop 1 ts)) (placed_there c w (drop 1 ts)))
+line_there c ts = after (word_of ts) (λ w. After (keyword_or_refusal (keyword_of w)) (ReadsPlaced c w (drop 1 ts)))
+    (λ w. after (keyword_or_refusal (keyword_of w)) (ReadsPlaced c w (drop 1 ts)) (placed_there c w (drop 1 ts)))
 
 pub one_statement_law : OneStatement
 one_statement_law c ts =

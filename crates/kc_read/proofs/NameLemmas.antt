@@ -14,7 +14,7 @@ use Rattle.kc_expr.specs.Order.{has_rank, rank_of, ranked}
 use Rattle.kc_expr.proofs.NamesLemmas.{extends_on, same_name-refl}
 use Rattle.kc_expr.proofs.OrderLemmas.{next_rank, rank-some}
 use Rattle.kc_read.specs.Expansion.{names_match}
-use Rattle.kc_read.specs.Progress.{defined_after, defining_cause, ids_match, naming_cause, order_after, placing_cause}
+use Rattle.kc_read.specs.Progress.{defined_after, defining_cause, ids_match, naming_cause, order_after, symbol_limit_cause}
 use Rattle.kc_read.specs.Expanded.{AreNumbers, IsNamed}
 use Rattle.kc_read.proofs.FileLemmas.{same_name_eq}
 
@@ -183,14 +183,14 @@ count_within ids id h l = elim (placed_by ids id) [
   | inr k ↦ omega (arith, k.0, k.1)
 ]
 
-pub too_many : (ids : List SymId) (id rank : SymId) → rank ≡ symbol (rank_of ids id) → 65535 ≤ rank.0 → placing_cause ids id ≡ Some (cause code.TooManySymbols)
+pub too_many : (ids : List SymId) (id rank : SymId) → rank ≡ symbol (rank_of ids id) → 65535 ≤ rank.0 → symbol_limit_cause ids id ≡ Some (cause code.TooManySymbols)
 too_many ids id rank e h =
     let n : 65535 ≤ rank_of ids id = omega (arith, ap (λ s. s.0) e) in
     let past : 65535 < length (ranked ids id) = count_past ids id n in
     let t : nat_lt 65535 (length (ranked ids id)) ≡ true = grind (arith, nat_tests) in
     rw t refl
 
-pub not_too_many : (ids : List SymId) (id rank : SymId) → rank ≡ symbol (rank_of ids id) → rank.0 < 65535 → length ids ≤ 65535 → placing_cause ids id ≡ None
+pub not_too_many : (ids : List SymId) (id rank : SymId) → rank ≡ symbol (rank_of ids id) → rank.0 < 65535 → length ids ≤ 65535 → symbol_limit_cause ids id ≡ None
 not_too_many ids id rank e h l =
     let n : rank_of ids id < 65535 = omega (arith, ap (λ s. s.0) e) in
     let within : length (ranked ids id) ≤ 65535 = count_within ids id n l in

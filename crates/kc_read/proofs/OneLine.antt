@@ -9,7 +9,7 @@ use Rattle.kc_expr.proofs.LongestLemmas.{one_longest, is_expression, not_too_dee
 use Rattle.kc_read.specs.declared.statement.Keyword.{Keyword}
 use Rattle.kc_read.specs.declared.statement.Keyword.TheVariants as key
 use Rattle.kc_read.specs.Statements.{Named, InputPrompt, IfLine, EndIfLine, CommentLine, SourceLine, MenuLine, EndMenuLine, EndChoiceLine, MainMenuLine, TypeLine, PromptLine, DefaultLine, DefLine, DependsLine, VisibleLine, SelectLine, ImplyLine, RangeLine, HelpLine, ModulesLine}
-use Rattle.kc_read.specs.Lines.{LineContext, Cause, Front, front, StartsExpression, ExpressionFault, IsMore, IsWhole, WholeFault, ReadsWhole, IsCondition, ConditionFault, ReadsCondition, After, finish, text_of, word_of, named_target, operand_of, plain_text, good_name, choice_line, option_line, expected, keyword_of, known, in_place, placement_cause, left_out, ReadsTextLine, ReadsSource, ReadsConfig, ReadsPrompt, ReadsType, ReadsValue, ReadsTarget, ReadsRange, ReadsRest, ReadsPlaced, ReadsLine, begins_with}
+use Rattle.kc_read.specs.Lines.{LineContext, Cause, Front, front, StartsExpression, ExpressionFault, IsMore, IsWhole, WholeFault, ReadsWhole, IsCondition, ConditionFault, ReadsCondition, After, finish, text_of, word_of, named_target, operand_of, plain_text, good_name, choice_line, option_line, expected, keyword_of, keyword_or_refusal, in_place, placement_cause, left_out, ReadsTextLine, ReadsSource, ReadsConfig, ReadsPrompt, ReadsType, ReadsValue, ReadsTarget, ReadsRange, ReadsRest, ReadsPlaced, ReadsLine, begins_with}
 
 -- ---- Expressions
 
@@ -182,8 +182,8 @@ one_placed : (c : LineContext) (w : List ℕ) (ts : List Lexeme) (k : Keyword) �
 one_placed c w ts k = one_after (in_place k (placement_cause c w ts k)) (λ j. ReadsRest w j ts) (λ j. one_rest w j ts)
 
 pub one_line : (c : LineContext) (ts : List Lexeme) → AtMostOne (ReadsLine c ts)
-one_line c ts = one_after (word_of ts) (λ w. After (known (keyword_of w)) (ReadsPlaced c w (drop 1 ts)))
-    (λ w. one_after (known (keyword_of w)) (ReadsPlaced c w (drop 1 ts)) (one_placed c w (drop 1 ts)))
+one_line c ts = one_after (word_of ts) (λ w. After (keyword_or_refusal (keyword_of w)) (ReadsPlaced c w (drop 1 ts)))
+    (λ w. one_after (keyword_or_refusal (keyword_of w)) (ReadsPlaced c w (drop 1 ts)) (one_placed c w (drop 1 ts)))
 
 -- ---- A statement does not depend on the context, once it may stand there
 
@@ -207,6 +207,6 @@ same_ok s t e = cc
 
 pub same_statement : (c d : LineContext) (ts : List Lexeme) (s t : Named) → ReadsLine c ts (Ok s) → ReadsLine d ts (Ok t) → s ≡ t
 same_statement c d ts s t =
-    both_after (word_of ts) (λ w. After (known (keyword_of w)) (ReadsPlaced c w (drop 1 ts))) (λ w. After (known (keyword_of w)) (ReadsPlaced d w (drop 1 ts))) s t
-    (λ w. both_after (known (keyword_of w)) (ReadsPlaced c w (drop 1 ts)) (ReadsPlaced d w (drop 1 ts)) s t
+    both_after (word_of ts) (λ w. After (keyword_or_refusal (keyword_of w)) (ReadsPlaced c w (drop 1 ts))) (λ w. After (keyword_or_refusal (keyword_of w)) (ReadsPlaced d w (drop 1 ts))) s t
+    (λ w. both_after (keyword_or_refusal (keyword_of w)) (ReadsPlaced c w (drop 1 ts)) (ReadsPlaced d w (drop 1 ts)) s t
     (λ k x y. same_ok s t (one_rest w k (drop 1 ts) (Ok s) (Ok t) (placed_rest c w (drop 1 ts) k s x) (placed_rest d w (drop 1 ts) k t y))))

@@ -11,7 +11,7 @@ use Rattle.kc_text.proofs.There.{one_cutting_law}
 use Rattle.kc_read.specs.Expansion.{FileContext, Log, Refused, Rest, NextLine, NextStatement, context_of, is_help, lexemes, without_help, at_end, unclosed, too_long, no_tokens, blank, bad_line, over_limit, statement, bad_source, refused_inside, source}
 use Rattle.kc_read.specs.Files.{Files}
 use Rattle.kc_read.specs.Lines.{LineContext, After, Cause, ReadsSource, begins_with, finish, plain_text, text_of}
-use Rattle.kc_read.specs.OpenedFiles.{asked, IsNamedIn, IsNamedByOne, AskedAreNamed, HasOneListOfNames}
+use Rattle.kc_read.specs.OpenedFiles.{sourced_files, IsNamedIn, IsNamedByOne, SourcedFilesAreNamed, HasOneListOfNames}
 use Rattle.kc_read.specs.Sources.{SourceNames}
 use Rattle.kc_read.specs.Statements.{Located, Named, SourceLine}
 use Rattle.kc_read.proofs.LineThere.{source_line}
@@ -145,7 +145,7 @@ within files bytes before name k there (inl h) = (k, bytes, here k before, there
 within files bytes before name k there (inr h) = one_more files before name k h
 
 pub named : {files : Files} {a : FileContext} {l : UnreadLines} {own : List (Located Named)} {log : Log} {r : Result Log Refused} (d : Rest files a l own log r)
-    (before after : List (List ℕ)) (name : List ℕ) → asked d ≡ before ++ name ∷ after → IsNamed files l before name
+    (before after : List (List ℕ)) (name : List ℕ) → sourced_files d ≡ before ++ name ∷ after → IsNamed files l before name
 named (at_end a l own log none closed) before after name e = no_split before after name e
 named (unclosed a l own log line none unmatched) before after name e = no_split before after name e
 named (too_long a l own log long) before after name e = no_split before after name e
@@ -167,23 +167,23 @@ named (refused_inside a l m own log k bytes c n free there d) [] after name e =
     let h : k ≡ name = cc in inl (subst (IsNamedIn l) h (named_here l m (context_of a own log) k n))
 named {files} (refused_inside a l m own log k bytes c n free there d) (b ∷ before) after name e =
     let h : k ≡ b = cc in
-    let t : asked d ≡ before ++ name ∷ after = cc in
+    let t : sourced_files d ≡ before ++ name ∷ after = cc in
     inr (subst (λ x. IsNamedByOne files (x ∷ before) name) h (within files bytes before name k there (named d before after name t)))
 named (source a l m own log more k bytes r n free there d f) [] after name e =
     let h : k ≡ name = cc in inl (subst (IsNamedIn l) h (named_here l m (context_of a own log) k n))
 named {files} (source a l m own log more k bytes r n free there d f) (b ∷ before) after name e =
     let h : k ≡ b = cc in
-    let t : asked d ++ asked f ≡ before ++ name ∷ after = cc in
-    elim (split_append (asked d) (asked f) before after name t) [
+    let t : sourced_files d ++ sourced_files f ≡ before ++ name ∷ after = cc in
+    elim (split_append (sourced_files d) (sourced_files f) before after name t) [
       | inl x ↦ inr (subst (λ y. IsNamedByOne files (y ∷ before) name) h (within files bytes before name k there (named d before x.0 name x.1)))
       | inr x ↦ elim (named f x.0 after name x.2) [
         | inl y ↦ inl (named_after l m (context_of a own log) (SourceLine k) name n y)
-        | inr y ↦ let (by, text, has, there, names) = y in inr (by, text, subst (λ z. Contains (b ∷ z) by) (sym x.1) (later by b (asked d ++ x.0) (later_all by (asked d) x.0 has)), there, names)
+        | inr y ↦ let (by, text, has, there, names) = y in inr (by, text, subst (λ z. Contains (b ∷ z) by) (sym x.1) (later by b (sourced_files d ++ x.0) (later_all by (sourced_files d) x.0 has)), there, names)
       ]
     ]
 
-pub asked_are_named : AskedAreNamed
-asked_are_named files root bytes r there d before after name e = within files bytes before name root there (named d before after name e)
+pub sourced_are_named : SourcedFilesAreNamed
+sourced_are_named files root bytes r there d before after name e = within files bytes before name root there (named d before after name e)
 
 pub has_one_list_of_names : HasOneListOfNames
 has_one_list_of_names l =

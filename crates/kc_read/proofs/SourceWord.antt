@@ -11,7 +11,7 @@ use Rattle.kc_read.specs.declared.statement.Keyword.{Keyword}
 use Rattle.kc_read.specs.declared.statement.Keyword.TheVariants as key
 use Rattle.kc_read.specs.Statements.{Named, InputPrompt, IfLine, EndIfLine, CommentLine, SourceLine, MenuLine, EndMenuLine, EndChoiceLine, MainMenuLine, TypeLine, PromptLine, DefaultLine, DefLine, DependsLine, VisibleLine, SelectLine, ImplyLine, RangeLine, HelpLine, ModulesLine, ConfigLine, IgnoredLine}
 use Rattle.kc_read.specs.declared.refusal.Code.TheVariants as code
-use Rattle.kc_read.specs.Lines.{LineContext, Cause, syntax_cause, After, ReadsWhole, ReadsCondition, ReadsTextLine, ReadsSource, ReadsConfig, ReadsPrompt, ReadsType, ReadsValue, ReadsTarget, ReadsRange, ReadsRest, ReadsPlaced, ReadsLine, finish, text_of, word_of, named_target, operand_of, good_name, is_good_name, choice_line, option_line, expected, block_words, type_words, attribute_words, left_out_words, keyword_in, keyword_of, known, in_place, placement_cause, begins_with}
+use Rattle.kc_read.specs.Lines.{LineContext, Cause, syntax_cause, After, ReadsWhole, ReadsCondition, ReadsTextLine, ReadsSource, ReadsConfig, ReadsPrompt, ReadsType, ReadsValue, ReadsTarget, ReadsRange, ReadsRest, ReadsPlaced, ReadsLine, finish, text_of, word_of, named_target, operand_of, good_name, is_good_name, choice_line, option_line, expected, block_words, type_words, attribute_words, left_out_words, keyword_in, keyword_of, keyword_or_refusal, in_place, placement_cause, begins_with}
 use Rattle.kc_read.proofs.FileLemmas.{same_name_eq}
 use Rattle.kc_read.proofs.KeywordLemmas.{keyword_in_turn}
 use Rattle.kc_read.proofs.OneExpansion.{source_line}
@@ -177,7 +177,7 @@ none_rest w key.Modules ts e = other_end ModulesLine ts (λ name f. cc)
 none_rest w key.«Option» ts e = other_option ts
 none_rest w key.LeftOut ts e = other_refused _
 
-none_placed : (c : LineContext) (w : List ℕ) (ts : List Lexeme) (o : Option Keyword) → is_source_key o ≡ false → NoSource (After (known o) (ReadsPlaced c w ts))
+none_placed : (c : LineContext) (w : List ℕ) (ts : List Lexeme) (o : Option Keyword) → is_source_key o ≡ false → NoSource (After (keyword_or_refusal o) (ReadsPlaced c w ts))
 none_placed c w ts None e name x = let f : Ok (source_line name) ≡ Err syntax_cause = x in cc
 none_placed c w ts (Some k) e name x = by (placement_cause c w ts k) x
   where
@@ -200,4 +200,4 @@ pub begins_source : (c : LineContext) (ts : List Lexeme) (r : Result Named Cause
 begins_source c [] r b x = absurd cc
 begins_source c (AQuoted t ∷ ts) r b x = absurd cc
 begins_source c (AnOp o ∷ ts) r b x = absurd cc
-begins_source c (AWord w ∷ ts) r b x = subst (λ v. After (known (keyword_of v)) (ReadsPlaced c v ts) r) (same_name_eq w (codes "source") b) x
+begins_source c (AWord w ∷ ts) r b x = subst (λ v. After (keyword_or_refusal (keyword_of v)) (ReadsPlaced c v ts) r) (same_name_eq w (codes "source") b) x

@@ -17,7 +17,7 @@ use Rattle.kc_read.specs.declared.statement.Block.TheVariants as block
 use Rattle.kc_read.specs.Files.{Files}
 use Rattle.kc_read.specs.Statements.{Statement, Named, Located, SourceLine, ConfigLine, statements}
 use Rattle.kc_read.specs.Lines.{LineContext, Cause, cause, begins_with, help_word, old_help_word, ReadsLine}
-use Rattle.kc_read.specs.Blocks.{Bracket, Opens, Closes, NoBracket, bracket, open_blocks, open_places, last_of, last_no_attribute, entry_of, modules_of, definitions}
+use Rattle.kc_read.specs.Blocks.{Bracket, Opens, Closes, NoBracket, bracket, open_blocks, open_block_indices, last_of, last_no_attribute, entry_of, modules_of, definitions}
 
 -- a refusal and its location
 pub record Refused : Type 0 where
@@ -158,7 +158,7 @@ long_line fault.Memory = 0
 
 -- the place of the innermost open block's opener
 abbrev pub innermost : List (Located Named) → Option ℕ
-innermost own = last_of (open_places (statements own))
+innermost own = last_of (open_block_indices (statements own))
 
 pub record IsUnclosed (own : List (Located Named)) (line : ℕ) : Type 0 where
   pub before : List (Located Named)

@@ -398,9 +398,9 @@ abbrev pub in_place : Keyword → Option Cause → Result Keyword Cause
 in_place k None = Ok k
 in_place k (Some why) = Err why
 
-abbrev pub known : Option Keyword → Result Keyword Cause
-known None = Err syntax_cause
-known (Some k) = Ok k
+abbrev pub keyword_or_refusal : Option Keyword → Result Keyword Cause
+keyword_or_refusal None = Err syntax_cause
+keyword_or_refusal (Some k) = Ok k
 
 -- the placement, and then the rest
 abbrev pub ReadsPlaced : LineContext → List ℕ → List Lexeme → Keyword → Result Named Cause → Type 0
@@ -408,7 +408,7 @@ ReadsPlaced c w ts k r = After (in_place k (placement_cause c w ts k)) (λ j. Re
 
 -- the whole line: its first word, its placement and its rest, in this order
 abbrev pub ReadsLine : LineContext → List Lexeme → Result Named Cause → Type 0
-ReadsLine c ts r = After (word_of ts) (λ w. After (known (keyword_of w)) (ReadsPlaced c w (drop 1 ts))) r
+ReadsLine c ts r = After (word_of ts) (λ w. After (keyword_or_refusal (keyword_of w)) (ReadsPlaced c w (drop 1 ts))) r
 
 -- in each context a line has one outcome, a statement or a cause, and no other
 abbrev pub OneStatement : Type 0

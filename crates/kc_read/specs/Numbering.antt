@@ -13,11 +13,11 @@ modules_name ss = unwrap_or (modules_of ss) (codes "MODULES")
 
 -- The names: those of the symbols in order of their first definition, that of the modules symbol, and then the others
 -- in order of their first mention.
-abbrev pub known_names : List Named → List (List ℕ)
-known_names ss = all_mentioned (defined ss) (modules_name ss ∷ [])
+abbrev pub leading_names : List Named → List (List ℕ)
+leading_names ss = all_mentioned (defined ss) (modules_name ss ∷ [])
 
 abbrev pub names_of : List Named → List (List ℕ)
-names_of ss = all_mentioned (known_names ss) (flat_map names_in_statement ss)
+names_of ss = all_mentioned (leading_names ss) (flat_map names_in_statement ss)
 
 abbrev pub modules_id : List Named → SymId
 modules_id ss = symbol (number_of (names_of ss) (modules_name ss))

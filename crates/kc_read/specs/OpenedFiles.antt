@@ -9,18 +9,18 @@ use Rattle.kc_read.specs.Statements.{Located, Named}
 
 -- The files that are asked for along the rest of a file, in order: those that are opened, and last the one that may not
 -- be opened or has no bytes, where there is one.
-abbrev pub asked : {files : Files} {a : FileContext} {l : UnreadLines} {own : List (Located Named)} {log : Log} {r : Result Log Refused} → Rest files a l own log r → List (List ℕ)
-asked (at_end a l own log none closed) = []
-asked (unclosed a l own log line none unmatched) = []
-asked (too_long a l own log long) = []
-asked (no_tokens a l m own log ts why next) = []
-asked (blank a l m own log r next d) = asked d
-asked (bad_line a l m own log c next) = []
-asked (over_limit a l m own log s c next effect) = []
-asked (statement a l m own log s r next plain effect d) = asked d
-asked (bad_source a l m own log name c next why) = name ∷ []
-asked (refused_inside a l m own log name bytes e next free there d) = name ∷ asked d
-asked (source a l m own log more name bytes r next free there d f) = name ∷ asked d ++ asked f
+abbrev pub sourced_files : {files : Files} {a : FileContext} {l : UnreadLines} {own : List (Located Named)} {log : Log} {r : Result Log Refused} → Rest files a l own log r → List (List ℕ)
+sourced_files (at_end a l own log none closed) = []
+sourced_files (unclosed a l own log line none unmatched) = []
+sourced_files (too_long a l own log long) = []
+sourced_files (no_tokens a l m own log ts why next) = []
+sourced_files (blank a l m own log r next d) = sourced_files d
+sourced_files (bad_line a l m own log c next) = []
+sourced_files (over_limit a l m own log s c next effect) = []
+sourced_files (statement a l m own log s r next plain effect d) = sourced_files d
+sourced_files (bad_source a l m own log name c next why) = name ∷ []
+sourced_files (refused_inside a l m own log name bytes e next free there d) = name ∷ sourced_files d
+sourced_files (source a l m own log more name bytes r next free there d f) = name ∷ sourced_files d ++ sourced_files f
 
 -- these lines have a list of names, and it holds this one
 abbrev pub IsNamedIn : UnreadLines → List ℕ → Type 0
@@ -31,11 +31,11 @@ abbrev pub IsNamedByOne : Files → List (List ℕ) → List ℕ → Type 0
 IsNamedByOne files before name = (by bytes : List ℕ) × Contains before by × (files by ≡ Some bytes) × IsNamedIn (unread_lines bytes 1) name
 
 -- Each file that an expansion asks for after the root is named in one that it opened before.
-abbrev pub AskedAreNamed : Type 0
-AskedAreNamed =
+abbrev pub SourcedFilesAreNamed : Type 0
+SourcedFilesAreNamed =
     (files : Files) (root bytes : List ℕ) (r : Result Log Refused) → files root ≡ Some bytes →
     (d : Rest files (root_context root) (unread_lines bytes 1) [] (with_file nothing_read bytes) r) (before after : List (List ℕ)) (name : List ℕ) →
-    asked d ≡ before ++ name ∷ after → IsNamedByOne files (root ∷ before) name
+    sourced_files d ≡ before ++ name ∷ after → IsNamedByOne files (root ∷ before) name
 
 -- lines have one list of names, and no other
 abbrev pub HasOneListOfNames : Type 0

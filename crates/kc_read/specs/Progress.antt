@@ -18,7 +18,7 @@ use Rattle.kc_read.specs.declared.refusal.Refusal.{Refusal}
 use Rattle.kc_read.specs.declared.statement.EntryKind.{EntryKind}
 use Rattle.kc_read.specs.declared.statement.EntryKind.TheVariants as entry
 use Rattle.kc_read.specs.declared.statement.OpenBlock.{OpenBlock}
-use Rattle.kc_read.specs.Blocks.{Bracket, Opens, Closes, NoBracket, bracket, opened, open_places, last_of, last_no_attribute, entry_of, is_attribute, definitions, modules_of, defined_name, is_modules}
+use Rattle.kc_read.specs.Blocks.{Bracket, Opens, Closes, NoBracket, bracket, opened, open_block_indices, last_of, last_no_attribute, entry_of, is_attribute, definitions, modules_of, defined_name, is_modules}
 use Rattle.kc_read.specs.Expansion.{FileContext, Log, Refused, Rest, defined, is_choice, refused, symbol_cause, nesting_cause}
 use Rattle.kc_read.specs.Lines.{LineContext, Cause, cause}
 use Rattle.kc_read.specs.Files.{Files}
@@ -39,7 +39,7 @@ open_block_of (Some l) = option_map (λ b. record { block = b; line = l.line }) 
 
 -- the blocks that are open after these lines, each with the line that opened it, the outermost first
 abbrev pub located_blocks : List (Located Named) → List OpenBlock
-located_blocks ls = filter_map (λ j. open_block_of (slice_get ls j)) (open_places (statements ls))
+located_blocks ls = filter_map (λ j. open_block_of (slice_get ls j)) (open_block_indices (statements ls))
 
 -- the open blocks after one more line
 abbrev pub open_blocks_after : Bracket → ℕ → List OpenBlock → List OpenBlock
@@ -119,12 +119,12 @@ abbrev pub order_after : List SymId → Option SymId → List SymId
 order_after ids None = ids
 order_after ids (Some id) = ranked ids id
 
-abbrev pub placing_cause : List SymId → SymId → Option Cause
-placing_cause ids id = if nat_lt most_symbols (length (ranked ids id)) then Some (cause code.TooManySymbols) else None
+abbrev pub symbol_limit_cause : List SymId → SymId → Option Cause
+symbol_limit_cause ids id = if nat_lt most_symbols (length (ranked ids id)) then Some (cause code.TooManySymbols) else None
 
 abbrev pub defining_cause : List SymId → Option SymId → Option Cause
 defining_cause ids None = None
-defining_cause ids (Some id) = placing_cause ids id
+defining_cause ids (Some id) = symbol_limit_cause ids id
 
 -- a statement was remembered: what it changes of the symbols
 pub record IsRemembered (s : Numbered) (old new : Progress) : Type 0 where

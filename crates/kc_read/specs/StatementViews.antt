@@ -10,8 +10,8 @@ use Rattle.kc_read.specs.declared.statement.Statement.TheVariants as made
 use Rattle.kc_read.specs.Statements.{Numbered, InputPrompt, Located, ConfigLine, IfLine, EndIfLine, CommentLine, SourceLine, MenuLine, EndMenuLine, ChoiceLine, EndChoiceLine, MainMenuLine, TypeLine, PromptLine, DefaultLine, DefLine, DependsLine, VisibleLine, SelectLine, ImplyLine, RangeLine, HelpLine, ModulesLine, IgnoredLine}
 
 -- a prompt and a statement without where they lie in memory
-abbrev pub asked_view : Prompt → InputPrompt Form
-asked_view p = record { text = []; when = when_view p.when }
+abbrev pub input_prompt_view : Prompt → InputPrompt Form
+input_prompt_view p = record { text = []; when = when_view p.when }
 
 abbrev pub statement_view : Statement → Numbered
 statement_view (made.Config s) = ConfigLine s
@@ -24,8 +24,8 @@ statement_view made.EndMenu = EndMenuLine
 statement_view made.Choice = ChoiceLine
 statement_view made.EndChoice = EndChoiceLine
 statement_view (made.MainMenu t) = MainMenuLine t.items
-statement_view (made.Type k p) = TypeLine k (option_map asked_view p)
-statement_view (made.Prompt p) = PromptLine (asked_view p)
+statement_view (made.Type k p) = TypeLine k (option_map input_prompt_view p)
+statement_view (made.Prompt p) = PromptLine (input_prompt_view p)
 statement_view (made.Default v w) = DefaultLine (form_of v.value) (when_view w)
 statement_view (made.Def k v w) = DefLine k (form_of v.value) (when_view w)
 statement_view (made.Depends e) = DependsLine (form_of e.value)

@@ -212,7 +212,8 @@ pub fn read_file(
 ) -> Result<(), Refusal>
     requires shallow { IsShallow frame }
     requires bounded { IsBounded progress.old }
-    ensures read { (first : List (List ℕ)) (a : FileContext) (log : Log) → IsState first reader.now.modules names.old a [] log progress.old frame → IsReading (bytes_in reader.now.map.now) first reader.now.modules names.new a (unread_lines bytes.now 1) log progress.new result }
+    ensures read { (first : List (List ℕ)) (a : FileContext) (log : Log) → IsState first reader.now.modules names.old a [] log progress.old frame
+        → IsReading (bytes_in reader.now.map.now) first reader.now.modules names.new a (unread_lines bytes.now 1) log progress.new result }
     ensures open { OnOk result (progress.new.open_files.items ≡ progress.old.open_files.items) }
     ensures bounded { OnOk result (IsBounded progress.new) }
     ensures memory { IfErr result IsMemory }
@@ -248,7 +249,9 @@ fn read_next<'a>(
     requires clear { lines.old.refusal ≡ None }
     requires shallow { IsShallow frame.old }
     requires bounded { IsBounded progress.old }
-    ensures read { (first : List (List ℕ)) (a : FileContext) (own : List (Located Named)) (log : Log) → IsState first reader.now.modules names.old a own log progress.old frame.old → IsNextRead (bytes_in reader.now.map.now) first reader.now.modules names.new a lines.old lines.new own log progress.new frame.new result }
+    ensures read { (first : List (List ℕ)) (a : FileContext) (own : List (Located Named)) (log : Log)
+        → IsState first reader.now.modules names.old a own log progress.old frame.old
+        → IsNextRead (bytes_in reader.now.map.now) first reader.now.modules names.new a lines.old lines.new own log progress.new frame.new result }
     ensures less { IfOk result (λ more. IsTrue more → length lines.new.lines < length lines.old.lines) }
     ensures clear { IfOk result (λ more. IsTrue more → lines.new.refusal ≡ None) }
     ensures open { OnOk result (progress.new.open_files.items ≡ progress.old.open_files.items) }
@@ -288,7 +291,10 @@ fn read_statement(
 ) -> Result<(), Refusal>
     requires shallow { IsShallow frame.old }
     requires bounded { IsBounded progress.old }
-    ensures read { (first known : List (List ℕ)) (a : FileContext) (own : List (Located Named)) (log : Log) (x : Named) (l m : UnreadLines) → IsState first reader.now.modules known a own log progress.old frame.old → IsMade reader.now.modules known names.old statement x → NextStatement l m (spec.context_of a own log) (Ok x) → line ≡ l.number → IsStatementRead (bytes_in reader.now.map.now) first reader.now.modules names.new a l m own log progress.new frame.new result }
+    ensures read { (first known : List (List ℕ)) (a : FileContext) (own : List (Located Named)) (log : Log) (x : Named) (l m : UnreadLines)
+        → IsState first reader.now.modules known a own log progress.old frame.old → IsMade reader.now.modules known names.old statement x
+        → NextStatement l m (spec.context_of a own log) (Ok x) → line ≡ l.number
+        → IsStatementRead (bytes_in reader.now.map.now) first reader.now.modules names.new a l m own log progress.new frame.new result }
     ensures open { OnOk result (progress.new.open_files.items ≡ progress.old.open_files.items) }
     ensures shallow { OnOk result (IsShallow frame.new) }
     ensures bounded { OnOk result (IsBounded progress.new) }
@@ -316,7 +322,10 @@ fn source(
 ) -> Result<(), Refusal>
     requires shallow { IsShallow frame.old }
     requires bounded { IsBounded progress.old }
-    ensures read { (first : List (List ℕ)) (a : FileContext) (own : List (Located Named)) (log : Log) (l m : UnreadLines) → IsState first reader.now.modules names.old a own log progress.old frame.old → NextStatement l m (spec.context_of a own log) (Ok (SourceLine name.items)) → line ≡ l.number → IsStatementRead (bytes_in reader.now.map.now) first reader.now.modules names.new a l m own log progress.new frame.new result }
+    ensures read { (first : List (List ℕ)) (a : FileContext) (own : List (Located Named)) (log : Log) (l m : UnreadLines)
+        → IsState first reader.now.modules names.old a own log progress.old frame.old
+        → NextStatement l m (spec.context_of a own log) (Ok (SourceLine name.items)) → line ≡ l.number
+        → IsStatementRead (bytes_in reader.now.map.now) first reader.now.modules names.new a l m own log progress.new frame.new result }
     ensures open { OnOk result (progress.new.open_files.items ≡ progress.old.open_files.items) }
     ensures shallow { OnOk result (IsShallow frame.new) }
     ensures bounded { OnOk result (IsBounded progress.new) }

@@ -3,7 +3,7 @@
 ghost use Rattle.kc_read.specs.Existing.{HasOneExpansion};
 ghost use Rattle.kc_read.specs.Expansion.{OneExpansion};
 ghost use Rattle.kc_read.specs.Lines.{OneStatement};
-ghost use Rattle.kc_read.specs.OpenedFiles.{AskedAreNamed, HasOneListOfNames};
+ghost use Rattle.kc_read.specs.OpenedFiles.{SourcedFilesAreNamed, HasOneListOfNames};
 ghost use Rattle.kc_read.specs.Replaced.{ExpandedIsListOf, OneListOf};
 
 /// The law of statements: in each context the tokens of a line are one statement or are refused for one cause, and
@@ -36,7 +36,7 @@ pub fn one_list_of()
 /// The law of sources: each file that an expansion opens after the root, and one that it asks for in vain, is among
 /// the names of a file that was opened before it; and the names of a file, which `sources_of` answers, are one list, which
 /// is there for any bytes. It does nothing.
-pub fn asked_files_are_named()
-    ensures named { AskedAreNamed }
+pub fn sourced_files_are_named()
+    ensures named { SourcedFilesAreNamed }
     ensures one_list { HasOneListOfNames }
 {}

@@ -3,7 +3,7 @@
 ghost use Rattle.std.specs.Prelude.{◌≡◌, IfErr, OnOk, None, Some};
 ghost use Rattle.std.specs.Option.{option_or};
 ghost use Rattle.kc_expr.specs.Order.{ranked};
-ghost use Rattle.kc_read.specs.Progress.{defining_cause, ids_match, HasSymbolsWithin, IsRemembered, placing_cause};
+ghost use Rattle.kc_read.specs.Progress.{defining_cause, ids_match, HasSymbolsWithin, IsRemembered, symbol_limit_cause};
 ghost use Rattle.kc_read.specs.StatementViews.{statement_view};
 ghost use Rattle.kc_read.specs.LineReads.{IsFault};
 ghost use Rattle.kc_read.specs.Blocks.{defined_name};
@@ -49,8 +49,8 @@ impl Progress {
         ensures config { OnOk result (self.new.config ≡ Some id) }
         ensures kept { (self.new.lines ≡ self.old.lines) × (self.new.total_lines ≡ self.old.total_lines) × (self.new.modules ≡ self.old.modules) × (self.new.open_files ≡ self.old.open_files) }
         ensures within { OnOk result (HasSymbolsWithin self.new) }
-        ensures allowed { OnOk result (placing_cause self.old.defined id ≡ None) }
-        ensures fault { IfErr result (λ f. IsFault f (λ c. placing_cause self.old.defined id ≡ Some c)) }
+        ensures allowed { OnOk result (symbol_limit_cause self.old.defined id ≡ None) }
+        ensures fault { IfErr result (λ f. IsFault f (λ c. symbol_limit_cause self.old.defined id ≡ Some c)) }
     {
         let rank = self.defined.rank(id)?;
         if rank.0 >= MOST_SYMBOLS {
@@ -77,7 +77,7 @@ impl Progress {
     /// line is remembered.
     pub fn remember(&mut self, statement: &Statement) -> Result<(), LineFault<'static>>
         requires { HasSymbolsWithin self.old }
-        ensures seen { OnOk result (IsRemembered (statement_view statement.now) self.old self.new) }
+        ensures remembered { OnOk result (IsRemembered (statement_view statement.now) self.old self.new) }
         ensures within { OnOk result (HasSymbolsWithin self.new) }
         ensures allowed { OnOk result (defining_cause self.old.defined (defined_name (statement_view statement.now)) ≡ None) }
         ensures fault { IfErr result (λ f. IsFault f (λ c. defining_cause self.old.defined (defined_name (statement_view statement.now)) ≡ Some c)) }

@@ -82,8 +82,10 @@ fn step_of_line<'l>(
     requires clear { lines.old.refusal ≡ None }
     requires short { length line.now ≤ longest_line }
     // Whatever the lines were before.
-    ensures step { IfOk result (λ s. (before : UnreadLines) → number ≡ before.number → TakesLine before lines.old line.now → IsStep position.now.modules names.old names.new (context_in position.now.frame.now position.now.progress.now) before lines.new s) }
-    ensures refused { IfErr result (λ r. (before : UnreadLines) → number ≡ before.number → TakesLine before lines.old line.now → IsStepRefusal position.now.frame.now.file.value.items (context_in position.now.frame.now position.now.progress.now) before r) }
+    ensures step { IfOk result (λ s. (before : UnreadLines) → number ≡ before.number → TakesLine before lines.old line.now
+        → IsStep position.now.modules names.old names.new (context_in position.now.frame.now position.now.progress.now) before lines.new s) }
+    ensures refused { IfErr result (λ r. (before : UnreadLines) → number ≡ before.number → TakesLine before lines.old line.now
+        → IsStepRefusal position.now.frame.now.file.value.items (context_in position.now.frame.now position.now.progress.now) before r) }
     ensures memory { IfErr result IsMemory }
     ensures names { Extends names.old names.new }
 {

@@ -68,7 +68,9 @@ pub fn selections(alloc: Global, table: &Table, user: &User) -> Result<ChoiceSel
     requires full { length table.now.values.items ≡ symbol_count table.now.tree.now }
     requires user { ArePlacesOf table.now.tree.now user.now }
     requires selected { AreSelected table.now user.now.choices }
-    ensures selected { IfOk result (λ s. s.selected.items ≡ map (spec.selection table.now.tree.now (place_at user.now) (valuation table.now.tree.now table.now.values.items)) (range_with_len 0 (length table.now.tree.now.choices))) }
+    ensures selected { IfOk result (λ s. s.selected.items ≡ map
+        (spec.selection table.now.tree.now (place_at user.now) (valuation table.now.tree.now table.now.values.items))
+        (range_with_len 0 (length table.now.tree.now.choices))) }
     ensures default { IfOk result (λ s. s.default.items ≡ map (spec.default_selection table.now.tree.now (valuation table.now.tree.now table.now.values.items)) (range_with_len 0 (length table.now.tree.now.choices))) }
 {
     let count = choice_count(table.tree);

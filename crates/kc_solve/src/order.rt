@@ -19,8 +19,8 @@ use kc_read::refusal::{Code, Refusal};
 use kc_tree::layout::Layout;
 use kc_tree::tree::Tree;
 use kc_values::laws::needs_are_defined;
-use kc_values::lookups::name;
 use kc_values::needs::tree_needs;
+use kc_values::table::name;
 use std::alloc::{AllocError, Global};
 use std::marker::Model;
 

@@ -40,8 +40,8 @@ module _ (tree : TreeFacts) (given : List (Option UserValue)) (chosen : List (Op
       all_hold (symbol_count tree) k (needs_in (needs tree)) (equations tree (places given chosen)) (valuation tree values) e (free_count tree free) h
 
   -- after the last equation of a round
-  pub round_ended : (k i : ℕ) (values : List (Option Value)) → i ≡ symbol_count tree → HoldUpTo k i values → HoldAfter (k + 1) values
-  round_ended k i values e h s l free =
+  pub iteration_ended : (k i : ℕ) (values : List (Option Value)) → i ≡ symbol_count tree → HoldUpTo k i values → HoldAfter (k + 1) values
+  iteration_ended k i values e h s l free =
       let next : k + 1 ≡ suc k = omega arith in
       h.now s (omega arith) l (subst (λ m. unordered_after (needs_in (needs tree)) m s ≡ false) next free)
 

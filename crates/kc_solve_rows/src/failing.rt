@@ -150,3 +150,20 @@ fn the_last_line_waits_where_its_warning_broke_off(rt: HostRuntime) -> Result<()
     assert_eq!(rt; reader.pending(), 3);
     Ok(())
 }
+
+#[test]
+fn the_next_stream_begins_at_line_1(rt: HostRuntime) -> Result<(), Fail> {
+    let alloc = rt.alloc();
+    let tree = tree_of(alloc)?;
+    let prefix = Prefix::new(alloc, b"CONFIG_")?.ok_or("a prefix")?;
+    let mut user = User::new(alloc, &tree)?;
+    let mut sink = with_room(alloc, WARNINGS.len());
+    let mut reader = DotReader::new(alloc, &tree, &prefix, b".config");
+    reader.feed(b"CONFIG_A=y\nfoo", &mut user, &mut sink)?;
+    reader.next_stream(b"x.cfg", &mut user, &mut sink)?;
+    reader.feed(b"bar\n", &mut user, &mut sink)?;
+    let warnings = b".config:2: warning K9: malformed line\nx.cfg:1: warning K9: malformed line\n";
+    assert_eq!(rt; sink.bytes.as_slice(), warnings.as_slice());
+    assert_eq!(rt; value_of_a(&tree, &user)?, Tri::Y);
+    Ok(())
+}

@@ -14,7 +14,7 @@ use kc_tree::tree::Tree;
 use kc_values::conditions::{context, mode_of};
 use kc_values::differs::member_differs;
 use kc_values::nodes::{Node, choice_number, context_number, node_count, node_of};
-use kc_values::numbers::{Interval, clamped, if_inside, is_inside, number_text};
+use kc_values::numbers::{Interval, clamped, if_within_range, is_within_range, number_text};
 use kc_values::table::{Table, Value};
 use kc_values::texts::single_text;
 use std::alloc::{AllocError, Global};
@@ -96,10 +96,10 @@ fn a_number_outside_becomes_the_bound(rt: HostRuntime) {
 #[test]
 fn what_is_inside_counts(rt: HostRuntime) {
     let range = Some(Interval { low: 16, high: 31 });
-    assert!(rt; is_inside(Kind::Hex, range, b"0X1f"));
-    assert!(rt; !is_inside(Kind::Hex, range, b"20"));
-    assert!(rt; is_inside(Kind::Hex, None, b"20"));
-    assert!(rt; if_inside(Kind::Int, range, Some(b"3".as_slice())).is_none());
+    assert!(rt; is_within_range(Kind::Hex, range, b"0X1f"));
+    assert!(rt; !is_within_range(Kind::Hex, range, b"20"));
+    assert!(rt; is_within_range(Kind::Hex, None, b"20"));
+    assert!(rt; if_within_range(Kind::Int, range, Some(b"3".as_slice())).is_none());
 }
 
 // So many values, each this one.

@@ -107,7 +107,9 @@ fn value_anew(
 ) -> Result<Value, AllocError>
     requires below { id.0 < length given.now }
     requires users { IfSome symbol.now.choice (λ c. c.0 < length chosen.now) }
-    ensures { IfOk result (λ x. known_value symbol.now.kind x ≡ by_choice table.now.tree.now (known_at table.now) id (facts_of table.now.layout.now id.0 symbol.now) (facts_of table.now.layout.now id.0 symbol.now).choice (given_for symbol.now.choice (places given.now chosen.now (SymbolPlace id.0)) chosen.now)) }
+    ensures { IfOk result (λ x. known_value symbol.now.kind x
+        ≡ by_choice table.now.tree.now (known_at table.now) id (facts_of table.now.layout.now id.0 symbol.now) (facts_of table.now.layout.now id.0 symbol.now).choice
+        (given_for symbol.now.choice (places given.now chosen.now (SymbolPlace id.0)) chosen.now)) }
 {
     let own = given[id.0].as_ref();
     match symbol.choice {
@@ -169,7 +171,7 @@ pub fn slow_table<'t>(
     let given = user.symbols();
     let chosen = user.choices();
     let mut table = first_table(alloc, tree, layout)?;
-    for _round in 0..count {
+    for _iteration in 0..count {
         for i in 0..count {
             compute_anew(alloc, &mut table, SymId(i), given, chosen)?;
         }

@@ -5,7 +5,7 @@ use kc_expr::expression::SymId;
 use kc_expr::values::Values;
 use kc_solve::solved::Solved;
 use kc_tree::rows::ChoiceId;
-use kc_values::lookups::name;
+use kc_values::table::name;
 use std::alloc::{AllocError, Global};
 
 // Whether the symbol has a line in the minimal file.

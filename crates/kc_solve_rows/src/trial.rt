@@ -12,7 +12,7 @@ use kc_tree::rows::ChoiceId;
 use kc_tree::tree::Tree;
 use kc_user::user::User;
 use kc_user::value::UserValue;
-use kc_values::lookups::name;
+use kc_values::table::name;
 use std::alloc::{AllocError, Global};
 use std::test::Fail;
 

@@ -10,7 +10,7 @@ use Rattle.kc_tree.specs.TreeFacts.{Condition}
 
 -- nothing is asked for
 abbrev pub top : Condition
-top = record { parts = []; mode = None }
+top = record { conjuncts = []; mode = None }
 
 -- the condition with a number
 abbrev pub condition_in : List Condition → ℕ → Condition
@@ -22,10 +22,10 @@ IsPlain conditions i = is_some (condition_in conditions i).mode ≡ false
 
 -- a condition and one thing more; a condition in a choice
 abbrev pub and_also : Condition → Form → Condition
-and_also c f = record { parts = c.parts ++ f ∷ []; mode = c.mode }
+and_also c f = record { conjuncts = c.conjuncts ++ f ∷ []; mode = c.mode }
 
 abbrev pub in_choice : Condition → ℕ → Condition
-in_choice c k = record { parts = c.parts; mode = Some k }
+in_choice c k = record { conjuncts = c.conjuncts; mode = Some k }
 
 -- the number of a choice, if there is one
 abbrev pub mode_view : Option ChoiceId → Option ℕ
@@ -33,7 +33,7 @@ mode_view = option_map (λ (k : ChoiceId). k.0)
 
 -- the condition of one more context, by those before it
 abbrev pub condition_of : List Condition → Context → Condition
-condition_of conditions c = record { parts = (condition_in conditions c.outer.0).parts ++ listed (when_view c.own_condition); mode = mode_view c.mode }
+condition_of conditions c = record { conjuncts = (condition_in conditions c.outer.0).conjuncts ++ listed (when_view c.own_condition); mode = mode_view c.mode }
 
 -- these conditions, and those of the contexts behind them
 abbrev pub conditions_from : List Condition → List Context → List Condition

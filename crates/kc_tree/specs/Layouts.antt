@@ -30,14 +30,14 @@ use Rattle.kc_tree.specs.TreeFacts.{Condition, Guarded, Bounds, SymbolFacts, Cho
 
 -- a condition and an `if`; a condition and what another one asks for besides
 abbrev pub with_when : Condition → Option Form → Condition
-with_when c w = record { parts = c.parts ++ listed w; mode = c.mode }
+with_when c w = record { conjuncts = c.conjuncts ++ listed w; mode = c.mode }
 
-abbrev pub with_parts : Condition → List Form → Condition
-with_parts c fs = record { parts = c.parts ++ fs; mode = c.mode }
+abbrev pub with_conjuncts : Condition → List Form → Condition
+with_conjuncts c fs = record { conjuncts = c.conjuncts ++ fs; mode = c.mode }
 
 -- a prompt, under the conditions of the contexts and what its entry depends on
 abbrev pub prompt_view : List Condition → Condition → EntryPrompt → Condition
-prompt_view conditions dependency p = with_when (with_parts dependency (condition_in conditions p.visible.0).parts) (when_view p.when)
+prompt_view conditions dependency p = with_when (with_conjuncts dependency (condition_in conditions p.visible.0).conjuncts) (when_view p.when)
 
 -- Under what their entry depends on.
 module _ (dependency : Condition) where
@@ -116,7 +116,7 @@ module _ (t : Tables) where
 
   -- when a title is shown
   abbrev pub title_condition : Title → Condition
-  title_condition title = with_parts (condition_in t.contexts title.within.0) (condition_in t.contexts title.visible.0).parts
+  title_condition title = with_conjuncts (condition_in t.contexts title.within.0) (condition_in t.contexts title.visible.0).conjuncts
 
   abbrev pub shown_when : Option Title → Condition
   shown_when None = condition_in t.contexts 0

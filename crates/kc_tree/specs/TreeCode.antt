@@ -18,7 +18,7 @@ kind_code = kind.the_row.coded
 
 abbrev pub condition_code : Coded Condition
 condition_code =
-    code_by (List Form × Option ℕ) (coded× (coded_list form_code) (coded_option coded_ℕ)) (λ c. (c.parts, c.mode)) (λ p. record { parts = p.0; mode = p.1 }) (λ _. refl)
+    code_by (List Form × Option ℕ) (coded× (coded_list form_code) (coded_option coded_ℕ)) (λ c. (c.conjuncts, c.mode)) (λ p. record { conjuncts = p.0; mode = p.1 }) (λ _. refl)
 
 module _ {X : Type 0} (code : Coded X) where
   abbrev pub guarded_code : Coded (Guarded X)

@@ -10,9 +10,9 @@ use Rattle.kc_expr.specs.Limits.{longest_name}
 use Rattle.kc_expr.specs.Names.{is_name_byte}
 use Rattle.kc_expr.specs.Limits.{most_symbols}
 
--- the `&&` of its parts, and of that choice's mode
+-- the `&&` of these, and of that choice's mode
 pub record Condition : Type 0 where
-  pub parts : List Form
+  pub conjuncts : List Form
   pub mode : Option ℕ
 
 -- something that counts under a condition
@@ -142,7 +142,7 @@ ShowsEach t = (s : SymId) → IsDefined t s → Contains t.entries (SymbolShown 
 
 pub record IsWellFormed (t : TreeFacts) : Type 0 where
   pub names_differ : (i j : ℕ) (name : List ℕ) → slice_get t.names i ≡ Some name → slice_get t.names j ≡ Some name → i ≡ j
-  pub names_known : length t.symbols ≤ length t.names
+  pub symbols_named : length t.symbols ≤ length t.names
   pub names_allowed : (i : ℕ) (name : List ℕ) → i < length t.symbols → slice_get t.names i ≡ Some name → IsSymbolName name
   pub symbols_few : length t.symbols ≤ most_symbols
   pub lines_sound : All (AreLinesSound t) t.symbols

@@ -1,5 +1,5 @@
 //! Worked rows of what makes a tree of files: the lines and files of Kconfig (kc_read), their loading (kc_load), the tree
-//! (kc_tree) and the rule for make (kc_make). Tests alone, in a crate of their own so that they do not have those crates
+//! (kc_build) and the rule for make (kc_make). Tests alone, in a crate of their own so that they do not have those crates
 //! proved once more.
 #![tactic(auto)]
 

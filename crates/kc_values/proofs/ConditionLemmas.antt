@@ -10,7 +10,7 @@ use Rattle.kc_expr.specs.When.{when_view}
 use Rattle.kc_tree.specs.declared.rows.Context.{Context}
 use Rattle.kc_tree.specs.declared.rows.EntryPrompt.{EntryPrompt}
 use Rattle.kc_tree.specs.Contexts.{condition_in, IsPlain, IsContextAt}
-use Rattle.kc_tree.specs.Layouts.{with_when, with_parts, prompt_view}
+use Rattle.kc_tree.specs.Layouts.{with_when, with_conjuncts, prompt_view}
 use Rattle.kc_tree.specs.TreeFacts.{Condition, TreeFacts}
 use Rattle.kc_tree.specs.Common.{listed}
 use Rattle.kc_values.specs.Computed.{when_value}
@@ -37,78 +37,78 @@ swapped a b c = lesser_assoc a b c ∙ ap (lesser a) (lesser_comm b c) ∙ sym (
 
 -- what the prompt of a choice asks for
 pub prompt_asked : (known : SymId → SymbolValue) (conditions : List Condition) (dep : Condition) (p : EntryPrompt) →
-    and_value known (prompt_view conditions dep p).parts
-    ≡ lesser (lesser (when_value known (when_view p.when)) (and_value known (condition_in conditions p.visible.0).parts)) (and_value known dep.parts)
+    and_value known (prompt_view conditions dep p).conjuncts
+    ≡ lesser (lesser (when_value known (when_view p.when)) (and_value known (condition_in conditions p.visible.0).conjuncts)) (and_value known dep.conjuncts)
 prompt_asked known conditions dep p =
-    let D = and_value known dep.parts in
-    let V = and_value known (condition_in conditions p.visible.0).parts in
+    let D = and_value known dep.conjuncts in
+    let V = and_value known (condition_in conditions p.visible.0).conjuncts in
     let W = when_value known (when_view p.when) in
-    and_value-when known (dep.parts ++ (condition_in conditions p.visible.0).parts) (when_view p.when)
-    ∙ ap (λ t. lesser t W) (and_value-append known dep.parts (condition_in conditions p.visible.0).parts)
+    and_value-when known (dep.conjuncts ++ (condition_in conditions p.visible.0).conjuncts) (when_view p.when)
+    ∙ ap (λ t. lesser t W) (and_value-append known dep.conjuncts (condition_in conditions p.visible.0).conjuncts)
     ∙ lesser_assoc D V W ∙ lesser_comm D (lesser V W) ∙ ap (λ t. lesser t D) (lesser_comm V W)
 
 module _ (tree : TreeFacts) (known : SymId → SymbolValue) where
   pub condition-with_when : (c : Condition) (w : Option Form) → condition tree known (with_when c w) ≡ lesser (condition tree known c) (when_value known w)
   condition-with_when c w =
-      ap (λ t. lesser t (mode_value tree known c.mode)) (and_value-when known c.parts w)
-      ∙ swapped (and_value known c.parts) (when_value known w) (mode_value tree known c.mode)
+      ap (λ t. lesser t (mode_value tree known c.mode)) (and_value-when known c.conjuncts w)
+      ∙ swapped (and_value known c.conjuncts) (when_value known w) (mode_value tree known c.mode)
 
-  pub condition-with_parts : (c : Condition) (fs : List Form) → condition tree known (with_parts c fs) ≡ lesser (condition tree known c) (and_value known fs)
-  condition-with_parts c fs =
-      ap (λ t. lesser t (mode_value tree known c.mode)) (and_value-append known c.parts fs)
-      ∙ swapped (and_value known c.parts) (and_value known fs) (mode_value tree known c.mode)
+  pub condition-with_conjuncts : (c : Condition) (fs : List Form) → condition tree known (with_conjuncts c fs) ≡ lesser (condition tree known c) (and_value known fs)
+  condition-with_conjuncts c fs =
+      ap (λ t. lesser t (mode_value tree known c.mode)) (and_value-append known c.conjuncts fs)
+      ∙ swapped (and_value known c.conjuncts) (and_value known fs) (mode_value tree known c.mode)
 
   -- where no mode counts
-  pub condition-plain : (c : Condition) → is_some c.mode ≡ false → condition tree known c ≡ and_value known c.parts
-  condition-plain c e = ap (λ m. lesser (and_value known c.parts) (mode_value tree known m)) (no_mode c.mode e) ∙ lesser_y (and_value known c.parts)
+  pub condition-plain : (c : Condition) → is_some c.mode ≡ false → condition tree known c ≡ and_value known c.conjuncts
+  condition-plain c e = ap (λ m. lesser (and_value known c.conjuncts) (mode_value tree known m)) (no_mode c.mode e) ∙ lesser_y (and_value known c.conjuncts)
 
   pub within_plain : (first : Tri) (c : Condition) → is_some c.mode ≡ false → lesser first (mode_value tree known c.mode) ≡ first
   within_plain first c e = ap (λ m. lesser first (mode_value tree known m)) (no_mode c.mode e) ∙ lesser_y first
 
   -- a condition and what another one asks for besides
-  pub condition-both : (c d : Condition) → is_some d.mode ≡ false → condition tree known (with_parts c d.parts) ≡ lesser (condition tree known c) (condition tree known d)
-  condition-both c d e = condition-with_parts c d.parts ∙ ap (lesser (condition tree known c)) (sym (condition-plain d e))
+  pub condition-both : (c d : Condition) → is_some d.mode ≡ false → condition tree known (with_conjuncts c d.conjuncts) ≡ lesser (condition tree known c) (condition tree known d)
+  condition-both c d e = condition-with_conjuncts c d.conjuncts ∙ ap (lesser (condition tree known c)) (sym (condition-plain d e))
 
   pub condition-prompt : (conditions : List Condition) (dep : Condition) (p : EntryPrompt) → IsPlain conditions p.visible.0 →
       condition tree known (prompt_view conditions dep p) ≡ lesser
       (lesser (condition tree known dep) (condition tree known (condition_in conditions p.visible.0))) (when_value known (when_view p.when))
   condition-prompt conditions dep p e =
-      condition-with_when (with_parts dep (condition_in conditions p.visible.0).parts) (when_view p.when)
+      condition-with_when (with_conjuncts dep (condition_in conditions p.visible.0).conjuncts) (when_view p.when)
       ∙ ap (λ t. lesser t (when_value known (when_view p.when))) (condition-both dep (condition_in conditions p.visible.0) e)
 
   -- One step outwards of the least of what contexts ask for.
   module _ (conditions : List Condition) where
-    abbrev pub asks_for : ℕ → Tri
-    asks_for i = and_value known (condition_in conditions i).parts
+    abbrev pub conjuncts_value : ℕ → Tri
+    conjuncts_value i = and_value known (condition_in conditions i).conjuncts
 
     abbrev pub mode_at : ℕ → Tri
     mode_at i = mode_value tree known (condition_in conditions i).mode
 
     pub enclosing_least-step : (i : ℕ) (c : Context) → IsContextAt conditions i c → (least : Tri) →
-        lesser least (asks_for i) ≡ lesser (lesser least (when_value known (when_view c.own_condition))) (asks_for c.outer.0)
+        lesser least (conjuncts_value i) ≡ lesser (lesser least (when_value known (when_view c.own_condition))) (conjuncts_value c.outer.0)
     enclosing_least-step i c step least =
-        let whole : asks_for i ≡ lesser (asks_for c.outer.0) (when_value known (when_view c.own_condition)) =
-        ap (λ (o : Condition). and_value known o.parts) step.is ∙ and_value-when known (condition_in conditions c.outer.0).parts (when_view c.own_condition)
+        let whole : conjuncts_value i ≡ lesser (conjuncts_value c.outer.0) (when_value known (when_view c.own_condition)) =
+        ap (λ (o : Condition). and_value known o.conjuncts) step.is ∙ and_value-when known (condition_in conditions c.outer.0).conjuncts (when_view c.own_condition)
         in
-        ap (lesser least) (whole ∙ lesser_comm (asks_for c.outer.0) (when_value known (when_view c.own_condition)))
-        ∙ sym (lesser_assoc least (when_value known (when_view c.own_condition)) (asks_for c.outer.0))
+        ap (lesser least) (whole ∙ lesser_comm (conjuncts_value c.outer.0) (when_value known (when_view c.own_condition)))
+        ∙ sym (lesser_assoc least (when_value known (when_view c.own_condition)) (conjuncts_value c.outer.0))
 
     -- what is no more than a mode stays so with something more
     less_mode : (a b m : Tri) → lesser a m ≡ a → lesser (lesser a b) m ≡ lesser a b
     less_mode a b m e = swapped a b m ∙ ap (λ t. lesser t b) e
 
-    by_asks : (i : ℕ) (c : Context) → IsContextAt conditions i c → (least : Tri) → lesser least (mode_at i) ≡ least → (w : Option Form) → when_view c.own_condition ≡ w →
+    by_conjuncts : (i : ℕ) (c : Context) → IsContextAt conditions i c → (least : Tri) → lesser least (mode_at i) ≡ least → (w : Option Form) → when_view c.own_condition ≡ w →
         lesser (lesser least (when_value known w)) (mode_at c.outer.0) ≡ lesser least (when_value known w)
-    by_asks i c step least within None e = within_plain (lesser least Y) (condition_in conditions c.outer.0) (step.begins e)
-    by_asks i c step least within (Some f) e =
+    by_conjuncts i c step least within None e = within_plain (lesser least Y) (condition_in conditions c.outer.0) (step.begins e)
+    by_conjuncts i c step least within (Some f) e =
         let same : (condition_in conditions i).mode ≡ (condition_in conditions c.outer.0).mode = ap (λ (o : Condition). o.mode) step.is ∙ step.keeps f e in
         less_mode least (value known f) (mode_at c.outer.0) (ap (λ m. lesser least (mode_value tree known m)) (sym same) ∙ within)
 
     pub enclosing_least-mode : (i : ℕ) (c : Context) → IsContextAt conditions i c → (least : Tri) → lesser least (mode_at i) ≡ least →
         lesser (lesser least (when_value known (when_view c.own_condition))) (mode_at c.outer.0) ≡ lesser least (when_value known (when_view c.own_condition))
-    enclosing_least-mode i c step least within = by_asks i c step least within (when_view c.own_condition) refl
+    enclosing_least-mode i c step least within = by_conjuncts i c step least within (when_view c.own_condition) refl
 
     -- a computed value, which has the mode in it
-    pub enclosing_least-computed : (i : ℕ) (least : Tri) → lesser least (mode_at i) ≡ least → lesser least (condition tree known (condition_in conditions i)) ≡ lesser least (asks_for i)
+    pub enclosing_least-computed : (i : ℕ) (least : Tri) → lesser least (mode_at i) ≡ least → lesser least (condition tree known (condition_in conditions i)) ≡ lesser least (conjuncts_value i)
     enclosing_least-computed i least within =
-        sym (lesser_assoc least (asks_for i) (mode_at i)) ∙ swapped least (asks_for i) (mode_at i) ∙ ap (λ t. lesser t (asks_for i)) within
+        sym (lesser_assoc least (conjuncts_value i) (mode_at i)) ∙ swapped least (conjuncts_value i) (mode_at i) ∙ ap (λ t. lesser t (conjuncts_value i)) within

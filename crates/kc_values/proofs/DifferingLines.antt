@@ -11,7 +11,7 @@ use Rattle.kc_expr.specs.Value.{SymbolValue, Truth, TextValue}
 use Rattle.kc_tree.specs.TreeFacts.{SymbolFacts, TreeFacts}
 use Rattle.kc_values.specs.declared.numbers.Interval.{Interval}
 use Rattle.kc_values.specs.Lookups.{facts}
-use Rattle.kc_values.specs.Numbers.{is_inside, if_inside, clamped}
+use Rattle.kc_values.specs.Numbers.{is_within_range, if_within_range, clamped}
 use Rattle.kc_values.specs.Values as v
 use Rattle.kc_user.specs.GivenValue.{GivenValue, GivenTruth, GivenText, Member, SymbolPlace, ChoicePlace}
 use Rattle.kc_user.specs.Places.{allowed_truth, allowed_text, allowed_by, allowed_for, allowed}
@@ -38,13 +38,13 @@ inside_allowed q true t d e = inr e
 inside_allowed q false t d e = inl refl
 
 number_allowed : (kind : Kind) (range : Option Interval) (q : List ℕ → Bool) (u : Option GivenValue) (vis : Tri) (d : List ℕ) → ((t : List ℕ) → u ≡ Some (GivenText t) → q t ≡ true) →
-    (unwrap_or (if_inside kind range (v.visible_text u vis)) d ≡ d) ⊎ (q (unwrap_or (if_inside kind range (v.visible_text u vis)) d) ≡ true)
+    (unwrap_or (if_within_range kind range (v.visible_text u vis)) d ≡ d) ⊎ (q (unwrap_or (if_within_range kind range (v.visible_text u vis)) d) ≡ true)
 number_allowed kind range q None vis d given = inl refl
 number_allowed kind range q (Some (GivenTruth t)) vis d given = inl refl
 number_allowed kind range q (Some (Member m)) vis d given = inl refl
 number_allowed kind range q (Some (GivenText t)) N d given = inl refl
-number_allowed kind range q (Some (GivenText t)) M d given = inside_allowed q (is_inside kind range t) t d (given t refl)
-number_allowed kind range q (Some (GivenText t)) Y d given = inside_allowed q (is_inside kind range t) t d (given t refl)
+number_allowed kind range q (Some (GivenText t)) M d given = inside_allowed q (is_within_range kind range t) t d (given t refl)
+number_allowed kind range q (Some (GivenText t)) Y d given = inside_allowed q (is_within_range kind range t) t d (given t refl)
 
 module _ (tree : TreeFacts) (k : SymId → SymbolValue) where
   upgraded_allowed : (kind : Kind) (t : Tri) → is_truth_kind tree k kind ≡ true → allowed_truth kind (v.upgraded tree k kind t) ≡ true

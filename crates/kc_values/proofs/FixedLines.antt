@@ -14,7 +14,7 @@ use Rattle.kc_values.specs.declared.numbers.Interval.{Interval}
 use Rattle.kc_order.specs.Solution.{Solves}
 use Rattle.kc_order.specs.Minimal.{KeepsWhatDiffers}
 use Rattle.kc_values.specs.Lookups.{facts, choice_at}
-use Rattle.kc_values.specs.Numbers.{is_inside, if_inside, clamped}
+use Rattle.kc_values.specs.Numbers.{is_within_range, if_within_range, clamped}
 use Rattle.kc_values.specs.Values as v
 use Rattle.kc_user.specs.GivenValue.{GivenValue, GivenTruth, GivenText, Member, UserPlace, SymbolPlace, ChoicePlace}
 use Rattle.kc_tree.specs.Common.{is_symbol_of}
@@ -76,12 +76,12 @@ module _ (tree : TreeFacts) (k : SymId → SymbolValue) where
         ]
 
     number_again : (b : Bool) (kind : Kind) (range : Option Interval) (t d : List ℕ) →
-        (unwrap_or (if_inside kind range (cond b None (Some t))) d ≡ d) ⊎
-        (unwrap_or (if_inside kind range (cond b None (Some (unwrap_or (if_inside kind range (cond b None (Some t))) d)))) d ≡ unwrap_or (if_inside kind range (cond b None (Some t))) d)
+        (unwrap_or (if_within_range kind range (cond b None (Some t))) d ≡ d) ⊎
+        (unwrap_or (if_within_range kind range (cond b None (Some (unwrap_or (if_within_range kind range (cond b None (Some t))) d)))) d ≡ unwrap_or (if_within_range kind range (cond b None (Some t))) d)
     number_again true kind range t d = inl refl
     number_again false kind range t d =
-        let F = λ (x : List ℕ). unwrap_or (if_inside kind range (Some x)) d in
-        elim (cases_Bool (is_inside kind range t)) [
+        let F = λ (x : List ℕ). unwrap_or (if_within_range kind range (Some x)) d in
+        elim (cases_Bool (is_within_range kind range t)) [
           | inl y ↦ let e : F t ≡ t = ap (λ c. unwrap_or (cond c (Some t) None) d) y in inr (ap F e)
           | inr n ↦ inl (ap (λ c. unwrap_or (cond c (Some t) None) d) n)
         ]

@@ -19,7 +19,7 @@ use Rattle.kc_tree.specs.declared.rows.Context.{Context}
 use Rattle.kc_tree.specs.declared.rows.EntryPrompt.{EntryPrompt}
 use Rattle.kc_tree.specs.declared.rows.Symbol.{Symbol}
 use Rattle.kc_values.specs.NeedRows as rows
-use Rattle.kc_values.specs.NeedRows.{AreChoicesThere, AreNodeRows, IsContextRow, asks_nothing, asks_this}
+use Rattle.kc_values.specs.NeedRows.{AreChoicesThere, AreNodeRows, IsContextRow, of_top, of_inner}
 use Rattle.kc_values.specs.Nodes.{choice_number, first_choice, node_count}
 use Rattle.kc_values.proofs.Laid.{choices_laid, facts_laid}
 use Rattle.kc_values.proofs.NodesBelow.{asked_below, below, choice_below, far, none, symbol_below}
@@ -80,8 +80,8 @@ module _ (tree : TreeFacts) (l : Layout) (g : Nodes) (made : AreNodeRows tree l 
           (l.tables.modes_behind i id.0 k is found, λ p h. l.tables.mode_prompts_behind i id.0 k p is found h)
 
   context_row_below : (i : ℕ) (row : List ℕ) → IsContextRow l i row → none (length l.symbols.items + i) row
-  context_row_below i row (asks_nothing e r) = ap (λ x. list_any (far (length l.symbols.items + i)) x) r
-  context_row_below i row (asks_this c step r) =
+  context_row_below i row (of_top e r) = ap (λ x. list_any (far (length l.symbols.items + i)) x) r
+  context_row_below i row (of_inner c step r) =
       rw r (asked_below l (length l.symbols.items + i) i (omega arith) c step.smaller (behind i c step))
 
   -- each node of a row is there, and a group needs those before it

@@ -14,7 +14,7 @@ use Rattle.kc_tree.specs.TreeFacts.{SymbolFacts, ChoiceFacts, TreeFacts}
 use Rattle.kc_values.specs.declared.numbers.Interval.{Interval}
 use Rattle.kc_order.specs.Solution.{Solves}
 use Rattle.kc_values.specs.Lookups.{facts, choice_at}
-use Rattle.kc_values.specs.Numbers.{is_inside, if_inside, clamped}
+use Rattle.kc_values.specs.Numbers.{is_within_range, if_within_range, clamped}
 use Rattle.kc_values.specs.Values as v
 use Rattle.kc_user.specs.GivenValue.{GivenValue, GivenTruth, GivenText, Member, UserPlace, SymbolPlace, ChoicePlace}
 use Rattle.kc_user.specs.Places.{is_m, allowed_truth, allowed_text, allowed_by, allowed_for, allowed, members_of}
@@ -127,7 +127,7 @@ module _ (tree : TreeFacts) (k : SymId → SymbolValue) where
 
   module _ (kind : Kind) (range : Option Interval) where
     abbrev Ranged : Tri → List ℕ → Option GivenValue → List ℕ
-    Ranged vis d u = unwrap_or (if_inside kind range (v.visible_text u vis)) d
+    Ranged vis d u = unwrap_or (if_within_range kind range (v.visible_text u vis)) d
 
     either_way : (b : Bool) (d : List ℕ) → d ≡ unwrap_or (cond b (Some d) None) d
     either_way true d = refl
@@ -135,23 +135,23 @@ module _ (tree : TreeFacts) (k : SymId → SymbolValue) where
 
     unused_number : (a : Bool) (vis : Tri) (d : List ℕ) → d ≡ Ranged vis d (cond a (Some (GivenText d)) None)
     unused_number true N d = refl
-    unused_number true M d = either_way (is_inside kind range d) d
-    unused_number true Y d = either_way (is_inside kind range d) d
+    unused_number true M d = either_way (is_within_range kind range d) d
+    unused_number true Y d = either_way (is_within_range kind range d) d
     unused_number false vis d = refl
 
     shown_number : (q : List ℕ → Bool) (t d : List ℕ) (w : Bool) → w ≡ true → q t ≡ true →
-        unwrap_or (cond (is_inside kind range t) (Some t) None) d ≡ Ranged Y d
-        (TextLine w (q (unwrap_or (cond (is_inside kind range t) (Some t) None) d)) (unwrap_or (cond (is_inside kind range t) (Some t) None) d))
+        unwrap_or (cond (is_within_range kind range t) (Some t) None) d ≡ Ranged Y d
+        (TextLine w (q (unwrap_or (cond (is_within_range kind range t) (Some t) None) d)) (unwrap_or (cond (is_within_range kind range t) (Some t) None) d))
     shown_number q t d w shown given =
         let T = λ (b : Bool). unwrap_or (cond b (Some t) None) d in
         let F = λ (x : List ℕ). Ranged Y d (TextLine w (q x) x) in
-        elim (cases_Bool (is_inside kind range t)) [
+        elim (cases_Bool (is_within_range kind range t)) [
           | inl y ↦
-              let e : T (is_inside kind range t) ≡ t = ap T y in
+              let e : T (is_within_range kind range t) ≡ t = ap T y in
               let f : F t ≡ t = ap (λ b. Ranged Y d (cond b (Some (GivenText t)) None)) (and_from w (q t) shown given) ∙ e in
               e ∙ sym f ∙ sym (ap F e)
           | inr n ↦
-              let e : T (is_inside kind range t) ≡ d = ap T n in
+              let e : T (is_within_range kind range t) ≡ d = ap T n in
               e ∙ unused_number (w && q d) Y d ∙ sym (ap F e)
         ]
 

@@ -10,7 +10,7 @@ use Rattle.kc_tree.specs.Contexts.{mode_view}
 use Rattle.kc_tree.specs.TreeFacts.{SymbolFacts, TreeFacts}
 use Rattle.kc_user.specs.GivenValue.{GivenValue}
 use Rattle.kc_values.specs.declared.numbers.Interval.{Interval}
-use Rattle.kc_values.specs.Numbers.{if_inside, number_text}
+use Rattle.kc_values.specs.Numbers.{if_within_range, number_text}
 use Rattle.kc_values.specs.Values as v
 use Rattle.kc_values.specs.Warnings as w
 use Rattle.kc_values.specs.WrittenSymbols.{above}
@@ -37,23 +37,23 @@ module _ (tree : TreeFacts) (k : SymId → SymbolValue) where
       ap (λ n. w.select_warnings tree k n f) e3 ∙ sym by_kind ∙ ap (λ x. w.warnings_by_kind tree k told f x user) (sym e1) ∙ ap (λ c. w.warnings_by_choice tree k told f c user) (sym e2)
 
   pub range_joined : (name : List ℕ) (f : SymbolFacts) (user : Option GivenValue) (range : Option Interval) (vis : Tri) (given used default : Option (List ℕ))
-      (old mid new : List (List ℕ)) → range ≡ v.active_range tree k f → vis ≡ v.visibility tree k f → given ≡ v.visible_text user vis → used ≡ if_inside f.kind range given →
+      (old mid new : List (List ℕ)) → range ≡ v.active_range tree k f → vis ≡ v.visibility tree k f → given ≡ v.visible_text user vis → used ≡ if_within_range f.kind range given →
       default ≡ w.met_text k (v.first_met tree k f.defaults) → mid ≡ old ++ w.user_warnings f.kind name range given →
       new ≡ mid ++ w.default_warnings f.kind name range used default → new ≡ old ++ w.range_warnings tree k name f user
   range_joined name f user range vis given used default old mid new e1 e2 e3 e4 e5 e6 e7 =
       let r = v.active_range tree k f in
       let t = v.visible_text user (v.visibility tree k f) in
       let given_is : given ≡ t = e3 ∙ ap (v.visible_text user) e2 in
-      let used_is : used ≡ if_inside f.kind r t = e4 ∙ ap (λ x. if_inside f.kind x given) e1 ∙ ap (if_inside f.kind r) given_is in
+      let used_is : used ≡ if_within_range f.kind r t = e4 ∙ ap (λ x. if_within_range f.kind x given) e1 ∙ ap (if_within_range f.kind r) given_is in
       let first_is : w.user_warnings f.kind name range given ≡ w.user_warnings f.kind name r t =
       ap (λ x. w.user_warnings f.kind name x given) e1 ∙ ap (w.user_warnings f.kind name r) given_is
       in
-      let second_is : w.default_warnings f.kind name range used default ≡ w.default_warnings f.kind name r (if_inside f.kind r t) (w.met_text k (v.first_met tree k f.defaults)) =
-      ap (λ x. w.default_warnings f.kind name x used default) e1 ∙ ap (λ x. w.default_warnings f.kind name r x default) used_is ∙ ap (w.default_warnings f.kind name r (if_inside f.kind r t)) e5
+      let second_is : w.default_warnings f.kind name range used default ≡ w.default_warnings f.kind name r (if_within_range f.kind r t) (w.met_text k (v.first_met tree k f.defaults)) =
+      ap (λ x. w.default_warnings f.kind name x used default) e1 ∙ ap (λ x. w.default_warnings f.kind name r x default) used_is ∙ ap (w.default_warnings f.kind name r (if_within_range f.kind r t)) e5
       in
       e7 ∙ ap (λ x. x ++ w.default_warnings f.kind name range used default) (e6 ∙ ap (λ x. old ++ x) first_is)
       ∙ ap (λ x. (old ++ w.user_warnings f.kind name r t) ++ x) second_is
-      ∙ append_assoc old (w.user_warnings f.kind name r t) (w.default_warnings f.kind name r (if_inside f.kind r t) (w.met_text k (v.first_met tree k f.defaults)))
+      ∙ append_assoc old (w.user_warnings f.kind name r t) (w.default_warnings f.kind name r (if_within_range f.kind r t) (w.met_text k (v.first_met tree k f.defaults)))
 
 pub outside_joined : (kind : Kind) (r : Interval) (begin name first second third low high new : List ℕ) → first ≡ begin ++ codes " of " → second ≡ first ++ name →
     third ≡ second ++ codes " is outside " → low ≡ number_text kind r.low → high ≡ number_text kind r.high → new ≡ third ++ low ++ codes " to " ++ high → new ≡ w.outside_line begin kind r name

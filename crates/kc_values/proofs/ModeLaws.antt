@@ -16,7 +16,7 @@ least-y Y = refl
 
 pub mode_is_prompt : ModeIsPromptCondition
 mode_is_prompt tree known c e =
-    sym (least-y (and_value known c.parts)) ∙ ap (λ m. lesser (and_value known c.parts) (mode_value tree known m)) (sym e)
+    sym (least-y (and_value known c.conjuncts)) ∙ ap (λ m. lesser (and_value known c.conjuncts) (mode_value tree known m)) (sym e)
 
 some_same : {X : Type 0} (a b : X) → Some a ≡ Some b → a ≡ b
 some_same a b e = cc

@@ -27,14 +27,14 @@ use Rattle.kc_tree.specs.declared.rows.ChoiceId.{ChoiceId}
 use Rattle.kc_tree.specs.declared.rows.EntryPrompt.{EntryPrompt}
 use Rattle.kc_values.specs.Lookups.{choice_at, facts, is_defined}
 use Rattle.kc_values.specs.NeedRows as rows
-use Rattle.kc_values.specs.NeedRows.{AreChoicesThere, AreNodeRows, IsContextRow, asks_nothing, asks_this}
+use Rattle.kc_values.specs.NeedRows.{AreChoicesThere, AreNodeRows, IsContextRow, of_top, of_inner}
 use Rattle.kc_values.specs.Needs as spec
 use Rattle.kc_values.specs.Nodes.{choice_number, context_number, node_count}
 use Rattle.kc_values.proofs.AnyLemmas.{any_filter, any_flat, any_map, any_same, in_stands, stands, stands_in}
 use Rattle.kc_values.proofs.GraphNeeds.{behind, row_of_choice, row_of_context, row_of_symbol}
 use Rattle.kc_values.proofs.Laid.{choices_laid, facts_laid, symbols_count}
 use Rattle.kc_values.proofs.Once.{from_once, has_once}
-use Rattle.kc_values.proofs.RowNeeds.{asks, asks_parts, choice_needs, choice_prompt_needs, forms, forms_more, forms_when, hit, mode, names, no_mode, symbol_needs}
+use Rattle.kc_values.proofs.RowNeeds.{condition_hits, hits_conjuncts, choice_needs, choice_prompt_needs, forms, forms_more, forms_when, hit, mode, names, no_mode, symbol_needs}
 use Rattle.kc_values.proofs.TreeNeeds.{needs_at, needs_length}
 
 module _ (tree : TreeFacts) (l : Layout) (laid : IsLayoutOf tree l) (g : Nodes) (made : AreNodeRows tree l g) (is : IsGraph g) (v : ℕ) where
@@ -70,7 +70,7 @@ module _ (tree : TreeFacts) (l : Layout) (laid : IsLayoutOf tree l) (g : Nodes) 
 
   -- contexts below a bound stand for what their conditions name
   abbrev pub ContextsStand : ℕ → Type 0
-  ContextsStand bound = (i : ℕ) → i < bound → list_any st (rows.context_nodes l i) ≡ asks tree l v (condition_in l.tables.contexts i)
+  ContextsStand bound = (i : ℕ) → i < bound → list_any st (rows.context_nodes l i) ≡ condition_hits tree l v (condition_in l.tables.contexts i)
 
   -- the mode of a choice
   module _ (bound : ℕ) (stand : ContextsStand bound) where
@@ -93,16 +93,16 @@ module _ (tree : TreeFacts) (l : Layout) (laid : IsLayoutOf tree l) (g : Nodes) 
         ((e : Form) → when_view w ≡ Some e → mode_view o ≡ (condition_in l.tables.contexts outer).mode) → (when_view w ≡ None → IsPlain l.tables.contexts outer) →
         ((c : Choice) → rows.choice_row l o ≡ Some c → (c.within.0 < bound) × ((p : EntryPrompt) → c.prompt ≡ Some p → p.visible.0 < bound)) →
         (list_any st (rows.context_nodes l outer ++ cond (is_some w) [] (rows.mode_nodes l o)) || names tree l v (cond (is_some w) (rows.when_names (when_view w)) (rows.mode_names l o))) ≡
-        asks tree l v (record { parts = (condition_in l.tables.contexts outer).parts ++ listed (when_view w); mode = mode_view o })
+        condition_hits tree l v (record { conjuncts = (condition_in l.tables.contexts outer).conjuncts ++ listed (when_view w); mode = mode_view o })
     asked_needs outer (Some e) o b keeps begins there =
         let c = condition_in l.tables.contexts outer in
         let own = names tree l v (symbols (form_of e.value)) in
-        ap (λ x. x || own) (list_any-append st (rows.context_nodes l outer) [] ∙ ap (λ x. x || false) (stand outer b ∙ asks_parts tree l v c))
-        ∙ turned (forms tree l v c.parts) (mode tree l v c.mode) own
-        ∙ sym (asks_parts tree l v (record { parts = c.parts ++ listed (Some (form_of e.value)); mode = mode_view o })
+        ap (λ x. x || own) (list_any-append st (rows.context_nodes l outer) [] ∙ ap (λ x. x || false) (stand outer b ∙ hits_conjuncts tree l v c))
+        ∙ turned (forms tree l v c.conjuncts) (mode tree l v c.mode) own
+        ∙ sym (hits_conjuncts tree l v (record { conjuncts = c.conjuncts ++ listed (Some (form_of e.value)); mode = mode_view o })
         ∙ ap (λ x. x || mode tree l v (mode_view o))
-        (forms_more tree l v c.parts (listed (Some (form_of e.value))) ∙ ap (λ x. forms tree l v c.parts || x) (forms_when tree l v (Some (form_of e.value))))
-        ∙ ap (λ m. (forms tree l v c.parts || own) || mode tree l v m) (keeps (form_of e.value) refl))
+        (forms_more tree l v c.conjuncts (listed (Some (form_of e.value))) ∙ ap (λ x. forms tree l v c.conjuncts || x) (forms_when tree l v (Some (form_of e.value))))
+        ∙ ap (λ m. (forms tree l v c.conjuncts || own) || mode tree l v m) (keeps (form_of e.value) refl))
       where
         turned : (a m x : Bool) → (((a || m) || false) || x) ≡ ((a || x) || m)
         turned a m x = grind arith
@@ -110,30 +110,30 @@ module _ (tree : TreeFacts) (l : Layout) (laid : IsLayoutOf tree l) (g : Nodes) 
         let c = condition_in l.tables.contexts outer in
         let mn = rows.mode_nodes l o in
         let mw = names tree l v (rows.mode_names l o) in
-        let first : list_any st (rows.context_nodes l outer) ≡ (forms tree l v c.parts || false) =
-        stand outer b ∙ asks_parts tree l v c ∙ ap (λ x. forms tree l v c.parts || x) (no_mode tree l v c.mode (begins refl)) in
+        let first : list_any st (rows.context_nodes l outer) ≡ (forms tree l v c.conjuncts || false) =
+        stand outer b ∙ hits_conjuncts tree l v c ∙ ap (λ x. forms tree l v c.conjuncts || x) (no_mode tree l v c.mode (begins refl)) in
         ap (λ x. x || mw) (list_any-append st (rows.context_nodes l outer) mn ∙ ap (λ x. x || list_any st mn) first)
-        ∙ turned (forms tree l v c.parts) (list_any st mn) mw
-        ∙ ap (λ x. (forms tree l v c.parts || false) || x) (mode_needs o there)
-        ∙ sym (asks_parts tree l v (record { parts = c.parts ++ []; mode = mode_view o })
-        ∙ ap (λ x. x || mode tree l v (mode_view o)) (forms_more tree l v c.parts []))
+        ∙ turned (forms tree l v c.conjuncts) (list_any st mn) mw
+        ∙ ap (λ x. (forms tree l v c.conjuncts || false) || x) (mode_needs o there)
+        ∙ sym (hits_conjuncts tree l v (record { conjuncts = c.conjuncts ++ []; mode = mode_view o })
+        ∙ ap (λ x. x || mode tree l v (mode_view o)) (forms_more tree l v c.conjuncts []))
       where
         turned : (a n x : Bool) → (((a || false) || n) || x) ≡ ((a || false) || (n || x))
         turned a n x = grind arith
 
-  context_row : (i : ℕ) (row : List ℕ) → IsContextRow l i row → ContextsStand i → list_any st row ≡ asks tree l v (condition_in l.tables.contexts i)
-  context_row i row (asks_nothing e r) stand = ap (list_any st) r ∙ sym (ap (asks tree l v) e)
-  context_row i row (asks_this c step r) stand =
+  context_row : (i : ℕ) (row : List ℕ) → IsContextRow l i row → ContextsStand i → list_any st row ≡ condition_hits tree l v (condition_in l.tables.contexts i)
+  context_row i row (of_top e r) stand = ap (list_any st) r ∙ sym (ap (condition_hits tree l v) e)
+  context_row i row (of_inner c step r) stand =
       ap (list_any st) r ∙ of_row (rows.context_row_nodes l c) (rows.context_row_names l c)
       ∙ asked_needs i stand c.outer.0 c.own_condition c.mode step.smaller step.keeps step.begins (behind tree l g made i c step)
-      ∙ sym (ap (asks tree l v) step.is)
+      ∙ sym (ap (condition_hits tree l v) step.is)
 
-  nothing_first : (row : List ℕ) → IsContextRow l 0 row → false ≡ asks tree l v (condition_in l.tables.contexts 0)
-  nothing_first row (asks_nothing e r) = sym (ap (asks tree l v) e)
-  nothing_first row (asks_this c step r) = absurd (let h = step.smaller in omega (arith, h))
+  nothing_first : (row : List ℕ) → IsContextRow l 0 row → false ≡ condition_hits tree l v (condition_in l.tables.contexts 0)
+  nothing_first row (of_top e r) = sym (ap (condition_hits tree l v) e)
+  nothing_first row (of_inner c step r) = absurd (let h = step.smaller in omega (arith, h))
 
   -- one context, with those before it
-  one_context : (i : ℕ) → i < length l.tables.contexts → ContextsStand i → list_any st (rows.context_nodes l i) ≡ asks tree l v (condition_in l.tables.contexts i)
+  one_context : (i : ℕ) → i < length l.tables.contexts → ContextsStand i → list_any st (rows.context_nodes l i) ≡ condition_hits tree l v (condition_in l.tables.contexts i)
   one_context zero b stand = nothing_first (get_or made.contexts 0 []) (made.contexts_are.1 0 (omega (arith, made.contexts_are.0)))
   one_context (suc i) b stand =
       ap (λ x. list_any st (cond x [] (context_number l (suc i) ∷ []))) (other i)

@@ -110,33 +110,33 @@ module _ (l : Layout) (b : ℕ) (fits : length l.symbols.items + length l.tables
   abbrev m : ℕ
   m = length l.tables.contexts
 
-  definition_prompt : (id : DefinitionId) (d : Definition) → rows.definition_at l id ≡ Some d → none b (rows.prompt_nodes l d.prompt)
+  definition_prompt : (id : DefinitionId) (d : Definition) → rows.stored_definition l id ≡ Some d → none b (rows.prompt_nodes l d.prompt)
   definition_prompt id d e = prompt_below l b (length l.tables.contexts) fits d.prompt (λ p h. l.tables.prompts_within id.0 d p e h)
 
-  definition_context : (id : DefinitionId) (d : Definition) → rows.definition_at l id ≡ Some d → none b (rows.context_nodes l d.within.0)
+  definition_context : (id : DefinitionId) (d : Definition) → rows.stored_definition l id ≡ Some d → none b (rows.context_nodes l d.within.0)
   definition_context id d e = context_below l b (length l.tables.contexts) fits d.within.0 (l.tables.within id.0 d e)
 
   definitions_below : (kind : Kind) (ids : List DefinitionId) → none b (rows.definitions_nodes_of l kind ids)
   definitions_below kind =
-      none_found b (rows.definition_nodes l kind) (rows.definition_at l)
+      none_found b (rows.definition_nodes l kind) (rows.stored_definition l)
       (λ id d e. none_both b (cond (rows.is_read l kind d) (rows.context_nodes l d.within.0) []) (rows.prompt_nodes l d.prompt)
       (none_if b (rows.is_read l kind d) (rows.context_nodes l d.within.0) (definition_context id d e)) (definition_prompt id d e))
 
   prompts_below : (ids : List DefinitionId) → none b (rows.prompts_nodes_of l ids)
   prompts_below =
-      none_found b (rows.entry_nodes l) (rows.definition_at l)
+      none_found b (rows.entry_nodes l) (rows.stored_definition l)
       (λ id d e. none_both b (cond (is_some d.prompt) (rows.context_nodes l d.within.0) []) (rows.prompt_nodes l d.prompt)
       (none_if b (is_some d.prompt) (rows.context_nodes l d.within.0) (definition_context id d e)) (definition_prompt id d e))
 
-  source_below : (id : DefinitionId) (o : Option Definition) → rows.definition_at l id ≡ o → none b (rows.source_nodes l o)
+  source_below : (id : DefinitionId) (o : Option Definition) → rows.stored_definition l id ≡ o → none b (rows.source_nodes l o)
   source_below id None e = refl
   source_below id (Some d) e = definition_context id d e
 
   reverses_below : (last : Option ReverseId) → none b (rows.reverses_nodes l last)
   reverses_below last =
-      any_flat (far b) (λ (r : Reverse). rows.source_nodes l (rows.definition_at l r.source)) (rows.lines_from l last)
-      ∙ any_none (λ (r : Reverse). list_any (far b) (rows.source_nodes l (rows.definition_at l r.source)))
-      (λ r. source_below r.source (rows.definition_at l r.source) refl) (rows.lines_from l last)
+      any_flat (far b) (λ (r : Reverse). rows.source_nodes l (rows.stored_definition l r.source)) (rows.lines_from l last)
+      ∙ any_none (λ (r : Reverse). list_any (far b) (rows.source_nodes l (rows.stored_definition l r.source)))
+      (λ r. source_below r.source (rows.stored_definition l r.source) refl) (rows.lines_from l last)
 
   truth_below : (i : ℕ) (s : Symbol) → none b (rows.truth_nodes l i s)
   truth_below i s =

@@ -46,12 +46,12 @@ module _ (law : DependsOnSymbols) (tree : TreeFacts) (k l : SymId → SymbolValu
   same_text (Text bytes) h = refl
   same_text (Symbol s) h = ap text_of_value h.0
 
-  same_and_value : (parts : List Form) → Sames (flat_map symbols parts) → v.and_value k parts ≡ v.and_value l parts
-  same_and_value parts h = ap least (map_same Same symbols (value k) (value l) same_value parts h)
+  same_and_value : (conjuncts : List Form) → Sames (flat_map symbols conjuncts) → v.and_value k conjuncts ≡ v.and_value l conjuncts
+  same_and_value conjuncts h = ap least (map_same Same symbols (value k) (value l) same_value conjuncts h)
 
-  same_prompt : (p : Option Condition) → Sames (n.parts_names p) → v.prompt_value k p ≡ v.prompt_value l p
+  same_prompt : (p : Option Condition) → Sames (n.conjunct_names p) → v.prompt_value k p ≡ v.prompt_value l p
   same_prompt None h = refl
-  same_prompt (Some c) h = same_and_value c.parts h
+  same_prompt (Some c) h = same_and_value c.conjuncts h
 
   same_mode : (c : Option ChoiceFacts) → Sames (n.prompt_names c) → v.mode_of k c ≡ v.mode_of l c
   same_mode None h = refl
@@ -63,8 +63,8 @@ module _ (law : DependsOnSymbols) (tree : TreeFacts) (k l : SymId → SymbolValu
 
   pub same_condition : (c : Condition) → Sames (n.condition_names tree c) → v.condition tree k c ≡ v.condition tree l c
   same_condition c h =
-      let a = same_and_value c.parts (front (flat_map symbols c.parts) (n.mode_names tree c.mode) h) in
-      let b = same_mode_value c.mode (back (flat_map symbols c.parts) (n.mode_names tree c.mode) h) in
+      let a = same_and_value c.conjuncts (front (flat_map symbols c.conjuncts) (n.mode_names tree c.mode) h) in
+      let b = same_mode_value c.mode (back (flat_map symbols c.conjuncts) (n.mode_names tree c.mode) h) in
       cc
 
   same_conditions : (cs : List Condition) → Sames (flat_map (n.condition_names tree) cs) → v.conditions tree k cs ≡ v.conditions tree l cs
@@ -273,7 +273,7 @@ module _ (law : DependsOnSymbols) (tree : TreeFacts) (k l : SymId → SymbolValu
   pub same_selected : (c : Option ChoiceFacts) (user : Option GivenValue) → Sames (n.names_of_choice tree c) → v.selected tree k c user ≡ v.selected tree l c user
   same_selected None user h = refl
   same_selected (Some c) user h =
-      let Own = n.parts_names c.prompt in
+      let Own = n.conjunct_names c.prompt in
       let Defaults = n.guarded_names tree (n.no_name) c.defaults in
       let shown = front (Shown c) (Own ++ Defaults) h in
       let more1 = back (Shown c) (Own ++ Defaults) h in

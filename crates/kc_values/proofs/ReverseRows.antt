@@ -5,7 +5,7 @@ use Rattle.std.proofs.lemmas.Option.{slice_get_cases}
 use Rattle.kc_tree.specs.declared.layout.Layout.{Layout}
 use Rattle.kc_tree.specs.declared.rows.Reverse.{Reverse}
 use Rattle.kc_tree.specs.declared.rows.ReverseId.{ReverseId}
-use Rattle.kc_values.specs.NeedRows.{definition_at, lines_from, reverse_row, reverses_names, reverses_nodes, source_names, source_nodes}
+use Rattle.kc_values.specs.NeedRows.{stored_definition, lines_from, reverse_row, reverses_names, reverses_nodes, source_names, source_nodes}
 use Rattle.kc_values.proofs.ChainLemmas.{chain-at, chain-past}
 
 past : {X : Type 0} (xs : List X) (i : ℕ) → slice_get xs i ≡ None → length xs ≤ i
@@ -21,15 +21,15 @@ module _ (l : Layout) (id : ReverseId) where
   line_past e = ap (filter_map (reverse_row l)) (chain-past l.tables.reverses.lines.items id.0 (past l.tables.reverses.lines.items id.0 e))
 
   pub nodes_next : (r : Reverse) → slice_get l.tables.reverses.lines.items id.0 ≡ Some r →
-      reverses_nodes l (Some id) ≡ source_nodes l (definition_at l r.source) ++ reverses_nodes l r.next
-  nodes_next r e = ap (flat_map (λ (x : Reverse). source_nodes l (definition_at l x.source))) (line_next r e)
+      reverses_nodes l (Some id) ≡ source_nodes l (stored_definition l r.source) ++ reverses_nodes l r.next
+  nodes_next r e = ap (flat_map (λ (x : Reverse). source_nodes l (stored_definition l x.source))) (line_next r e)
 
   pub names_next : (r : Reverse) → slice_get l.tables.reverses.lines.items id.0 ≡ Some r →
-      reverses_names l (Some id) ≡ source_names r (definition_at l r.source) ++ reverses_names l r.next
-  names_next r e = ap (flat_map (λ (x : Reverse). source_names x (definition_at l x.source))) (line_next r e)
+      reverses_names l (Some id) ≡ source_names r (stored_definition l r.source) ++ reverses_names l r.next
+  names_next r e = ap (flat_map (λ (x : Reverse). source_names x (stored_definition l x.source))) (line_next r e)
 
   pub nodes_past : slice_get l.tables.reverses.lines.items id.0 ≡ None → reverses_nodes l (Some id) ≡ []
-  nodes_past e = ap (flat_map (λ (x : Reverse). source_nodes l (definition_at l x.source))) (line_past e)
+  nodes_past e = ap (flat_map (λ (x : Reverse). source_nodes l (stored_definition l x.source))) (line_past e)
 
   pub names_past : slice_get l.tables.reverses.lines.items id.0 ≡ None → reverses_names l (Some id) ≡ []
-  names_past e = ap (flat_map (λ (x : Reverse). source_names x (definition_at l x.source))) (line_past e)
+  names_past e = ap (flat_map (λ (x : Reverse). source_names x (stored_definition l x.source))) (line_past e)

@@ -15,7 +15,7 @@ use Rattle.kc_expr.specs.declared.expression.SymId.{SymId}
 use Rattle.kc_tree.specs.Chains.{chain_of, chains_of}
 use Rattle.kc_tree.specs.Contexts.{IsPlain, condition_in, mode_view}
 use Rattle.kc_tree.specs.Layouts as laid
-use Rattle.kc_tree.specs.Layouts.{DefinitionFacts, IsLayoutOf, choice_facts, definition_facts, facts_of, prompt_view, default_view, range_view, choice_default_view, with_parts, with_when, reverse_at, reverse_facts, reverses_from}
+use Rattle.kc_tree.specs.Layouts.{DefinitionFacts, IsLayoutOf, choice_facts, definition_facts, facts_of, prompt_view, default_view, range_view, choice_default_view, with_conjuncts, with_when, reverse_at, reverse_facts, reverses_from}
 use Rattle.kc_tree.specs.Spans.{definition_ids}
 use Rattle.kc_tree.specs.TreeFacts.{Condition, Guarded, TreeFacts}
 use Rattle.kc_tree.specs.Common.{listed}
@@ -89,11 +89,11 @@ module _ (tree : TreeFacts) (l : Layout) (v : ℕ) where
   abbrev pub mode : Option ℕ → Bool
   mode o = names (spec.mode_names tree o)
 
-  abbrev pub asks : Condition → Bool
-  asks c = names (spec.condition_names tree c)
+  abbrev pub condition_hits : Condition → Bool
+  condition_hits c = names (spec.condition_names tree c)
 
-  pub asks_parts : (c : Condition) → asks c ≡ (forms c.parts || mode c.mode)
-  asks_parts c = list_any-append hit (flat_map symbols c.parts) (spec.mode_names tree c.mode)
+  pub hits_conjuncts : (c : Condition) → condition_hits c ≡ (forms c.conjuncts || mode c.mode)
+  hits_conjuncts c = list_any-append hit (flat_map symbols c.conjuncts) (spec.mode_names tree c.mode)
 
   pub forms_more : (fs gs : List Form) → forms (fs ++ gs) ≡ (forms fs || forms gs)
   forms_more fs gs = ap names (flat_map-append symbols fs gs) ∙ list_any-append hit (flat_map symbols fs) (flat_map symbols gs)
@@ -107,20 +107,20 @@ module _ (tree : TreeFacts) (l : Layout) (v : ℕ) where
   no_mode (Some k) e = cc
 
   -- a condition and what is asked for besides
-  asks_more : (c : Condition) (fs : List Form) → asks (with_parts c fs) ≡ (asks c || forms fs)
-  asks_more c fs =
-      asks_parts (with_parts c fs) ∙ ap (λ b. b || mode c.mode) (forms_more c.parts fs) ∙ turned (forms c.parts) (forms fs) (mode c.mode)
-      ∙ ap (λ b. b || forms fs) (sym (asks_parts c))
+  hits_more : (c : Condition) (fs : List Form) → condition_hits (with_conjuncts c fs) ≡ (condition_hits c || forms fs)
+  hits_more c fs =
+      hits_conjuncts (with_conjuncts c fs) ∙ ap (λ b. b || mode c.mode) (forms_more c.conjuncts fs) ∙ turned (forms c.conjuncts) (forms fs) (mode c.mode)
+      ∙ ap (λ b. b || forms fs) (sym (hits_conjuncts c))
     where
       turned : (a b c : Bool) → ((a || b) || c) ≡ ((a || c) || b)
       turned a b c = grind arith
 
-  asks_when : (c : Condition) (w : Option Form) → asks (with_when c w) ≡ (asks c || names (rows.when_names w))
-  asks_when c w = asks_more c (listed w) ∙ ap (λ b. asks c || b) (forms_when w)
+  hits_when : (c : Condition) (w : Option Form) → condition_hits (with_when c w) ≡ (condition_hits c || names (rows.when_names w))
+  hits_when c w = hits_more c (listed w) ∙ ap (λ b. condition_hits c || b) (forms_when w)
 
   -- things under the same condition, each with names of its own
   guarded : {X Y : Type 0} (view : Y → Guarded X) (what : X → List SymId) (own : Y → List SymId) (a : Bool) →
-      ((y : Y) → (names (what (view y).what) || asks (view y).when) ≡ (a || names (own y))) →
+      ((y : Y) → (names (what (view y).what) || condition_hits (view y).when) ≡ (a || names (own y))) →
       (ys : List Y) → names (spec.guarded_names tree what (map view ys)) ≡ ((has_some ys && a) || names (flat_map own ys))
   guarded {X} view what own a h ys =
       let each : Guarded X → List SymId = λ g. what g.what ++ spec.condition_names tree g.when in
@@ -131,38 +131,39 @@ module _ (tree : TreeFacts) (l : Layout) (v : ℕ) where
       ∙ ap (λ b. (has_some ys && a) || b) (sym (any_flat hit own ys))
 
   defaults_names : (c : Condition) (ds : List SymbolDefault) →
-      names (spec.guarded_names tree symbols (map (default_view c) ds)) ≡ ((has_some ds && asks c) || names (flat_map rows.default_names ds))
-  defaults_names c = guarded (default_view c) symbols rows.default_names (asks c) one
+      names (spec.guarded_names tree symbols (map (default_view c) ds)) ≡ ((has_some ds && condition_hits c) || names (flat_map rows.default_names ds))
+  defaults_names c = guarded (default_view c) symbols rows.default_names (condition_hits c) one
     where
       turned : (x a w : Bool) → (x || (a || w)) ≡ (a || (x || w))
       turned x a w = grind arith
 
-      one : (d : SymbolDefault) → (names (symbols (form_of d.value.value)) || asks (with_when c (when_view d.when))) ≡ (asks c || names (rows.default_names d))
+      one : (d : SymbolDefault) → (names (symbols (form_of d.value.value)) || condition_hits (with_when c (when_view d.when))) ≡ (condition_hits c || names (rows.default_names d))
       one d =
-          ap (λ b. names (symbols (form_of d.value.value)) || b) (asks_when c (when_view d.when))
-          ∙ turned (names (symbols (form_of d.value.value))) (asks c) (names (rows.when_names (when_view d.when)))
-          ∙ ap (λ b. asks c || b) (sym (list_any-append hit (symbols (form_of d.value.value)) (rows.when_names (when_view d.when))))
+          ap (λ b. names (symbols (form_of d.value.value)) || b) (hits_when c (when_view d.when))
+          ∙ turned (names (symbols (form_of d.value.value))) (condition_hits c) (names (rows.when_names (when_view d.when)))
+          ∙ ap (λ b. condition_hits c || b) (sym (list_any-append hit (symbols (form_of d.value.value)) (rows.when_names (when_view d.when))))
 
   ranges_names : (c : Condition) (rs : List SymbolRange) →
-      names (spec.guarded_names tree spec.bounds_names (map (range_view c) rs)) ≡ ((has_some rs && asks c) || names (flat_map rows.range_names rs))
-  ranges_names c = guarded (range_view c) spec.bounds_names rows.range_names (asks c) one
+      names (spec.guarded_names tree spec.bounds_names (map (range_view c) rs)) ≡ ((has_some rs && condition_hits c) || names (flat_map rows.range_names rs))
+  ranges_names c = guarded (range_view c) spec.bounds_names rows.range_names (condition_hits c) one
     where
       turned : (x a w : Bool) → (x || (a || w)) ≡ (a || (x || w))
       turned x a w = grind arith
 
-      one : (r : SymbolRange) → (names (leaf_symbols (leaf_of r.low) ++ leaf_symbols (leaf_of r.high)) || asks (with_when c (when_view r.when))) ≡ (asks c || names (rows.range_names r))
+      one : (r : SymbolRange) → (names (leaf_symbols (leaf_of r.low) ++ leaf_symbols (leaf_of r.high)) || condition_hits (with_when c (when_view r.when)))
+          ≡ (condition_hits c || names (rows.range_names r))
       one r =
           let bounds = leaf_symbols (leaf_of r.low) ++ leaf_symbols (leaf_of r.high) in
-          ap (λ b. names bounds || b) (asks_when c (when_view r.when)) ∙ turned (names bounds) (asks c) (names (rows.when_names (when_view r.when)))
-          ∙ ap (λ b. asks c || b) (sym (list_any-append hit bounds (rows.when_names (when_view r.when))))
+          ap (λ b. names bounds || b) (hits_when c (when_view r.when)) ∙ turned (names bounds) (condition_hits c) (names (rows.when_names (when_view r.when)))
+          ∙ ap (λ b. condition_hits c || b) (sym (list_any-append hit bounds (rows.when_names (when_view r.when))))
 
   choice_defaults_names : (c : Condition) (ds : List ChoiceDefault) →
-      names (spec.guarded_names tree spec.no_name (map (choice_default_view c) ds)) ≡ ((has_some ds && asks c) || names (flat_map rows.choice_default_names ds))
-  choice_defaults_names c = guarded (choice_default_view c) spec.no_name rows.choice_default_names (asks c) (λ d. asks_when c (when_view d.when))
+      names (spec.guarded_names tree spec.no_name (map (choice_default_view c) ds)) ≡ ((has_some ds && condition_hits c) || names (flat_map rows.choice_default_names ds))
+  choice_defaults_names c = guarded (choice_default_view c) spec.no_name rows.choice_default_names (condition_hits c) (λ d. hits_when c (when_view d.when))
 
 -- Under what each node stands for: of contexts below a bound what their conditions name.
 module _ (tree : TreeFacts) (l : Layout) (v : ℕ) (st : ℕ → Bool) (bound : ℕ)
-    (at : (i : ℕ) → i < bound → list_any st (rows.context_nodes l i) ≡ asks tree l v (condition_in l.tables.contexts i)) where
+    (at : (i : ℕ) → i < bound → list_any st (rows.context_nodes l i) ≡ condition_hits tree l v (condition_in l.tables.contexts i)) where
   abbrev known : List ℕ → Bool
   known ns = list_any st ns
 
@@ -176,26 +177,27 @@ module _ (tree : TreeFacts) (l : Layout) (v : ℕ) (st : ℕ → Bool) (bound : 
   abbrev prompt_own : Option EntryPrompt → Bool
   prompt_own o = known (rows.prompt_nodes l o) || names tree l v (rows.prompt_names o)
 
-  prompt_asks : (c : Condition) (o : Option EntryPrompt) → IsBelow o → passes (asks tree l v) (option_map (prompt_view l.tables.contexts c) o) ≡ ((is_some o && asks tree l v c) || prompt_own o)
-  prompt_asks c None h = refl
-  prompt_asks c (Some p) h =
-      let visible = (cond_at p.visible.0).parts in
+  prompt_hits : (c : Condition) (o : Option EntryPrompt) → IsBelow o → passes (condition_hits tree l v) (option_map (prompt_view l.tables.contexts c) o)
+      ≡ ((is_some o && condition_hits tree l v c) || prompt_own o)
+  prompt_hits c None h = refl
+  prompt_hits c (Some p) h =
+      let visible = (cond_at p.visible.0).conjuncts in
       let there = h p refl in
-      let parts = names tree l v (flat_map symbols visible) in
+      let conjuncts = names tree l v (flat_map symbols visible) in
       let when = names tree l v (rows.when_names (when_view p.when)) in
-      let same : known (rows.context_nodes l p.visible.0) ≡ (parts || false) =
-      at p.visible.0 there.0 ∙ asks_parts tree l v (cond_at p.visible.0) ∙ ap (λ b. parts || b) (no_mode tree l v (cond_at p.visible.0).mode there.1) in
-      asks_when tree l v (with_parts c visible) (when_view p.when) ∙ ap (λ b. b || when) (asks_more tree l v c visible)
-      ∙ turned (asks tree l v c) parts when (known (rows.context_nodes l p.visible.0)) same
+      let same : known (rows.context_nodes l p.visible.0) ≡ (conjuncts || false) =
+      at p.visible.0 there.0 ∙ hits_conjuncts tree l v (cond_at p.visible.0) ∙ ap (λ b. conjuncts || b) (no_mode tree l v (cond_at p.visible.0).mode there.1) in
+      hits_when tree l v (with_conjuncts c visible) (when_view p.when) ∙ ap (λ b. b || when) (hits_more tree l v c visible)
+      ∙ turned (condition_hits tree l v c) conjuncts when (known (rows.context_nodes l p.visible.0)) same
     where
       turned : (a x w k : Bool) → k ≡ (x || false) → ((a || x) || w) ≡ ((true && a) || (k || w))
       turned a x w k e = grind arith
 
-  -- of a choice the parts alone
-  parts_asks : (o : Option Condition) → ((c : Condition) → o ≡ Some c → is_some c.mode ≡ false) → names tree l v (spec.parts_names o) ≡ passes (asks tree l v) o
-  parts_asks None h = refl
-  parts_asks (Some c) h =
-      sym (asks_parts tree l v c ∙ ap (λ b. names tree l v (flat_map symbols c.parts) || b) (no_mode tree l v c.mode (h c refl)) ∙ drop_false (names tree l v (flat_map symbols c.parts)))
+  -- of a choice the conjuncts alone
+  conjuncts_hit : (o : Option Condition) → ((c : Condition) → o ≡ Some c → is_some c.mode ≡ false) → names tree l v (spec.conjunct_names o) ≡ passes (condition_hits tree l v) o
+  conjuncts_hit None h = refl
+  conjuncts_hit (Some c) h =
+      sym (hits_conjuncts tree l v c ∙ ap (λ b. names tree l v (flat_map symbols c.conjuncts) || b) (no_mode tree l v c.mode (h c refl)) ∙ drop_false (names tree l v (flat_map symbols c.conjuncts)))
     where
       drop_false : (b : Bool) → (b || false) ≡ b
       drop_false b = grind arith
@@ -209,34 +211,34 @@ module _ (tree : TreeFacts) (l : Layout) (v : ℕ) (st : ℕ → Bool) (bound : 
   -- a prompt and the context that it stands in
   prompt_needs : (within : ℕ) (o : Option EntryPrompt) → within < bound → IsBelow o →
       (known (cond (is_some o) (rows.context_nodes l within) [] ++ rows.prompt_nodes l o) || names tree l v (rows.prompt_names o)) ≡
-      passes (asks tree l v) (option_map (prompt_view l.tables.contexts (cond_at within)) o)
+      passes (condition_hits tree l v) (option_map (prompt_view l.tables.contexts (cond_at within)) o)
   prompt_needs within o b h =
       let own = rows.context_nodes l within in
       let rest = known (rows.prompt_nodes l o) in
-      let first : known (cond (is_some o) own []) ≡ (is_some o && asks tree l v (cond_at within)) = any_if st (is_some o) own ∙ ap (λ x. is_some o && x) (at within b) in
+      let first : known (cond (is_some o) own []) ≡ (is_some o && condition_hits tree l v (cond_at within)) = any_if st (is_some o) own ∙ ap (λ x. is_some o && x) (at within b) in
       ap (λ x. x || names tree l v (rows.prompt_names o)) (list_any-append st (cond (is_some o) own []) (rows.prompt_nodes l o) ∙ ap (λ x. x || rest) first)
-      ∙ regroup (is_some o && asks tree l v (cond_at within)) rest (names tree l v (rows.prompt_names o))
-      ∙ sym (prompt_asks (cond_at within) o h)
+      ∙ regroup (is_some o && condition_hits tree l v (cond_at within)) rest (names tree l v (rows.prompt_names o))
+      ∙ sym (prompt_hits (cond_at within) o h)
     where
       regroup : (a b c : Bool) → ((a || b) || c) ≡ (a || (b || c))
       regroup a b c = grind arith
 
-  -- that of a choice, whose parts alone count
+  -- that of a choice, whose conjuncts alone count
   pub choice_prompt_needs : (within : ℕ) (o : Option EntryPrompt) → within < bound → IsPlain l.tables.contexts within → IsBelow o →
       (known (cond (is_some o) (rows.context_nodes l within) [] ++ rows.prompt_nodes l o) || names tree l v (rows.prompt_names o)) ≡
-      names tree l v (spec.parts_names (option_map (prompt_view l.tables.contexts (cond_at within)) o))
+      names tree l v (spec.conjunct_names (option_map (prompt_view l.tables.contexts (cond_at within)) o))
   choice_prompt_needs within o b plain h =
-      prompt_needs within o b h ∙ sym (parts_asks (option_map (prompt_view l.tables.contexts (cond_at within)) o) (view_plain (cond_at within) o plain))
+      prompt_needs within o b h ∙ sym (conjuncts_hit (option_map (prompt_view l.tables.contexts (cond_at within)) o) (view_plain (cond_at within) o plain))
 
   -- a definition whose context is below the bound
   module _ (d : Definition) (within : d.within.0 < bound) (prompt : IsBelow d.prompt) where
     -- its prompt alone
-    entry_needs : (known (rows.entry_nodes l d) || names tree l v (rows.entry_names d)) ≡ passes (asks tree l v) (definition_facts l.tables d).prompt
+    entry_needs : (known (rows.entry_nodes l d) || names tree l v (rows.entry_names d)) ≡ passes (condition_hits tree l v) (definition_facts l.tables d).prompt
     entry_needs = prompt_needs d.within.0 d.prompt within prompt
 
     definition_needs : (kind : Kind) → (known (rows.definition_nodes l kind d) || names tree l v (rows.definition_names l kind d)) ≡
-        ((rows.is_truth kind && asks tree l v (definition_facts l.tables d).dependency)
-        || ((passes (asks tree l v) (definition_facts l.tables d).prompt || names tree l v (spec.guarded_names tree symbols (definition_facts l.tables d).defaults))
+        ((rows.is_truth kind && condition_hits tree l v (definition_facts l.tables d).dependency)
+        || ((passes (condition_hits tree l v) (definition_facts l.tables d).prompt || names tree l v (spec.guarded_names tree symbols (definition_facts l.tables d).defaults))
         || (rows.is_number kind && names tree l v (spec.guarded_names tree spec.bounds_names (definition_facts l.tables d).ranges))))
     definition_needs kind =
         let c = cond_at d.within.0 in
@@ -246,18 +248,18 @@ module _ (tree : TreeFacts) (l : Layout) (v : ℕ) (st : ℕ → Bool) (bound : 
         let pw = names tree l v (rows.prompt_names d.prompt) in
         let dn = names tree l v (flat_map rows.default_names ds) in
         let rn = names tree l v (flat_map rows.range_names rs) in
-        let nodes : known (rows.definition_nodes l kind d) ≡ ((rows.is_read l kind d && asks tree l v c) || pn) =
+        let nodes : known (rows.definition_nodes l kind d) ≡ ((rows.is_read l kind d && condition_hits tree l v c) || pn) =
         list_any-append st (cond (rows.is_read l kind d) (rows.context_nodes l d.within.0) []) (rows.prompt_nodes l d.prompt)
         ∙ ap (λ x. x || pn) (any_if st (rows.is_read l kind d) (rows.context_nodes l d.within.0) ∙ ap (λ x. rows.is_read l kind d && x) (at d.within.0 within)) in
         let own : names tree l v (rows.definition_names l kind d) ≡ ((pw || dn) || (rows.is_number kind && rn)) =
         list_any-append (hit tree l v) (rows.prompt_names d.prompt ++ flat_map rows.default_names ds) (cond (rows.is_number kind) (flat_map rows.range_names rs) [])
         ∙ ap (λ x. x || names tree l v (cond (rows.is_number kind) (flat_map rows.range_names rs) [])) (list_any-append (hit tree l v) (rows.prompt_names d.prompt) (flat_map rows.default_names ds))
         ∙ ap (λ x. (pw || dn) || x) (any_if (hit tree l v) (rows.is_number kind) (flat_map rows.range_names rs)) in
-        let p = prompt_asks c d.prompt prompt in
+        let p = prompt_hits c d.prompt prompt in
         let df = defaults_names tree l v c ds in
         let rf = ranges_names tree l v c rs in
-        together (rows.is_truth kind) (is_some d.prompt) (has_some ds) (has_some rs) (nat_lt 0 (length ds)) (nat_lt 0 (length rs)) (rows.is_number kind) (asks tree l v c) pn pw dn rn
-        (known (rows.definition_nodes l kind d)) (names tree l v (rows.definition_names l kind d)) (passes (asks tree l v) (definition_facts l.tables d).prompt)
+        together (rows.is_truth kind) (is_some d.prompt) (has_some ds) (has_some rs) (nat_lt 0 (length ds)) (nat_lt 0 (length rs)) (rows.is_number kind) (condition_hits tree l v c) pn pw dn rn
+        (known (rows.definition_nodes l kind d)) (names tree l v (rows.definition_names l kind d)) (passes (condition_hits tree l v) (definition_facts l.tables d).prompt)
         (names tree l v (spec.guarded_names tree symbols (definition_facts l.tables d).defaults)) (names tree l v (spec.guarded_names tree spec.bounds_names (definition_facts l.tables d).ranges))
         (some_length ds) (some_length rs) nodes own p df rf
       where
@@ -268,21 +270,21 @@ module _ (tree : TreeFacts) (l : Layout) (v : ℕ) (st : ℕ → Bool) (bound : 
 
 -- Where each context that there is stands for what its condition names.
 module _ (tree : TreeFacts) (l : Layout) (v : ℕ) (st : ℕ → Bool)
-    (at : (i : ℕ) → i < length l.tables.contexts → list_any st (rows.context_nodes l i) ≡ asks tree l v (condition_in l.tables.contexts i)) where
+    (at : (i : ℕ) → i < length l.tables.contexts → list_any st (rows.context_nodes l i) ≡ condition_hits tree l v (condition_in l.tables.contexts i)) where
   abbrev all : ℕ
   all = length l.tables.contexts
 
-  definition_there : (id : DefinitionId) (d : Definition) → rows.definition_at l id ≡ Some d → IsBelow tree l v st (length l.tables.contexts) at d.prompt
+  definition_there : (id : DefinitionId) (d : Definition) → rows.stored_definition l id ≡ Some d → IsBelow tree l v st (length l.tables.contexts) at d.prompt
   definition_there id d e p h = (l.tables.prompts_within id.0 d p e h, l.tables.prompts_plain id.0 d p e h)
 
   facts_list : (ids : List DefinitionId) → filter_map (laid.definition_at l.tables) ids ≡ map (definition_facts l.tables) (rows.definitions_of l ids)
-  facts_list ids = found_mapped (definition_facts l.tables) (rows.definition_at l) ids
+  facts_list ids = found_mapped (definition_facts l.tables) (rows.stored_definition l) ids
 
   abbrev prompt_of : Definition → Bool
-  prompt_of d = passes (asks tree l v) (definition_facts l.tables d).prompt
+  prompt_of d = passes (condition_hits tree l v) (definition_facts l.tables d).prompt
 
   abbrev dep_of : Definition → Bool
-  dep_of d = asks tree l v (definition_facts l.tables d).dependency
+  dep_of d = condition_hits tree l v (definition_facts l.tables d).dependency
 
   abbrev defaults_of : Definition → Bool
   defaults_of d = names tree l v (spec.guarded_names tree symbols (definition_facts l.tables d).defaults)
@@ -298,8 +300,8 @@ module _ (tree : TreeFacts) (l : Layout) (v : ℕ) (st : ℕ → Bool)
       let prompt : DefinitionFacts → Option Condition = λ d. d.prompt in
       ap (λ fs. names tree l v (flat_map (spec.condition_names tree) (filter_map prompt fs))) (facts_list ids)
       ∙ any_flat (hit tree l v) (spec.condition_names tree) (filter_map prompt (map (definition_facts l.tables) (rows.definitions_of l ids)))
-      ∙ any_found (asks tree l v) prompt (map (definition_facts l.tables) (rows.definitions_of l ids))
-      ∙ any_map (λ d. passes (asks tree l v) d.prompt) (definition_facts l.tables) (rows.definitions_of l ids)
+      ∙ any_found (condition_hits tree l v) prompt (map (definition_facts l.tables) (rows.definitions_of l ids))
+      ∙ any_map (λ d. passes (condition_hits tree l v) d.prompt) (definition_facts l.tables) (rows.definitions_of l ids)
 
   deps_seen : (ids : List DefinitionId) →
       names tree l v (flat_map (spec.condition_names tree) (map (λ (d : DefinitionFacts). d.dependency) (filter_map (laid.definition_at l.tables) ids))) ≡ list_any dep_of (rows.definitions_of l ids)
@@ -307,8 +309,8 @@ module _ (tree : TreeFacts) (l : Layout) (v : ℕ) (st : ℕ → Bool)
       let dependency : DefinitionFacts → Condition = λ d. d.dependency in
       ap (λ fs. names tree l v (flat_map (spec.condition_names tree) (map dependency fs))) (facts_list ids)
       ∙ any_flat (hit tree l v) (spec.condition_names tree) (map dependency (map (definition_facts l.tables) (rows.definitions_of l ids)))
-      ∙ any_map (asks tree l v) dependency (map (definition_facts l.tables) (rows.definitions_of l ids))
-      ∙ any_map (λ d. asks tree l v d.dependency) (definition_facts l.tables) (rows.definitions_of l ids)
+      ∙ any_map (condition_hits tree l v) dependency (map (definition_facts l.tables) (rows.definitions_of l ids))
+      ∙ any_map (λ d. condition_hits tree l v d.dependency) (definition_facts l.tables) (rows.definitions_of l ids)
 
   -- things that each definition has several of
   several : {X : Type 0} (what : X → List SymId) (of : DefinitionFacts → List (Guarded X)) (ids : List DefinitionId) →
@@ -334,7 +336,7 @@ module _ (tree : TreeFacts) (l : Layout) (v : ℕ) (st : ℕ → Bool)
       ap (λ b. b || names tree l v (rows.prompts_names l s)) (any_flat st (rows.entry_nodes l) (rows.definitions_of l ids))
       ∙ ap (λ b. list_any node (rows.definitions_of l ids) || b) (any_flat (hit tree l v) rows.entry_names (rows.definitions_of l ids))
       ∙ sym (any_or node name (rows.definitions_of l ids))
-      ∙ found_same (λ d. node d || name d) prompt_of (rows.definition_at l)
+      ∙ found_same (λ d. node d || name d) prompt_of (rows.stored_definition l)
       (λ id d e. entry_needs tree l v st (length l.tables.contexts) at d (l.tables.within id.0 d e) (definition_there id d e)) ids
       ∙ sym (prompts_seen ids)
 
@@ -349,7 +351,7 @@ module _ (tree : TreeFacts) (l : Layout) (v : ℕ) (st : ℕ → Bool)
       ap (λ b. b || names tree l v (rows.definitions_names_of l kind ids)) (any_flat st (rows.definition_nodes l kind) (rows.definitions_of l ids))
       ∙ ap (λ b. list_any node (rows.definitions_of l ids) || b) (any_flat (hit tree l v) (rows.definition_names l kind) (rows.definitions_of l ids))
       ∙ sym (any_or node name (rows.definitions_of l ids))
-      ∙ found_same (λ d. node d || name d) (λ d. (rows.is_truth kind && dep_of d) || ((prompt_of d || defaults_of d) || (rows.is_number kind && ranges_of d))) (rows.definition_at l)
+      ∙ found_same (λ d. node d || name d) (λ d. (rows.is_truth kind && dep_of d) || ((prompt_of d || defaults_of d) || (rows.is_number kind && ranges_of d))) (rows.stored_definition l)
       (λ id d e. definition_needs tree l v st (length l.tables.contexts) at d (l.tables.within id.0 d e) (definition_there id d e) kind) ids
       ∙ any_four (rows.is_truth kind) (rows.is_number kind) dep_of prompt_of defaults_of ranges_of (rows.definitions_of l ids)
 
@@ -357,34 +359,34 @@ module _ (tree : TreeFacts) (l : Layout) (v : ℕ) (st : ℕ → Bool)
   abbrev line : Guarded SymId → Bool
   line g = names tree l v (spec.one_name g.what ++ spec.condition_names tree g.when)
 
-  source_needs : (r : Reverse) (o : Option Definition) → rows.definition_at l r.source ≡ o →
+  source_needs : (r : Reverse) (o : Option Definition) → rows.stored_definition l r.source ≡ o →
       (list_any st (rows.source_nodes l o) || names tree l v (rows.source_names r o)) ≡
       passes line (option_map (λ (d : DefinitionFacts). record { what = d.symbol; when = with_when d.dependency (when_view r.when) }) (option_map (definition_facts l.tables) o))
   source_needs r None e = refl
   source_needs r (Some d) e =
       let w = names tree l v (rows.when_names (when_view r.when)) in
       ap (λ b. b || (hit tree l v d.symbol || w)) (at d.within.0 (l.tables.within r.source.0 d e))
-      ∙ turned (asks tree l v (condition_in l.tables.contexts d.within.0)) (hit tree l v d.symbol) w
-      ∙ ap (λ b. hit tree l v d.symbol || b) (sym (asks_when tree l v (condition_in l.tables.contexts d.within.0) (when_view r.when)))
+      ∙ turned (condition_hits tree l v (condition_in l.tables.contexts d.within.0)) (hit tree l v d.symbol) w
+      ∙ ap (λ b. hit tree l v d.symbol || b) (sym (hits_when tree l v (condition_in l.tables.contexts d.within.0) (when_view r.when)))
     where
       turned : (a x w : Bool) → (a || (x || w)) ≡ (x || (a || w))
       turned a x w = grind arith
 
   reverse_needs : (o : Option Reverse) →
-      (passes (λ (r : Reverse). list_any st (rows.source_nodes l (rows.definition_at l r.source)) || names tree l v (rows.source_names r (rows.definition_at l r.source))) o) ≡
+      (passes (λ (r : Reverse). list_any st (rows.source_nodes l (rows.stored_definition l r.source)) || names tree l v (rows.source_names r (rows.stored_definition l r.source))) o) ≡
       passes line (option_and_then (reverse_facts l.tables) o)
   reverse_needs None = refl
-  reverse_needs (Some r) = source_needs r (rows.definition_at l r.source) refl
+  reverse_needs (Some r) = source_needs r (rows.stored_definition l r.source) refl
 
   reverses_needs : (last : Option ReverseId) →
       (list_any st (rows.reverses_nodes l last) || names tree l v (rows.reverses_names l last)) ≡ names tree l v (spec.guarded_names tree spec.one_name (reverses_from l.tables last))
   reverses_needs last =
       let chain = chain_of (chains_of l.tables.reverses.lines.items) last in
-      let node : Reverse → Bool = λ r. list_any st (rows.source_nodes l (rows.definition_at l r.source)) in
-      let name : Reverse → Bool = λ r. names tree l v (rows.source_names r (rows.definition_at l r.source)) in
+      let node : Reverse → Bool = λ r. list_any st (rows.source_nodes l (rows.stored_definition l r.source)) in
+      let name : Reverse → Bool = λ r. names tree l v (rows.source_names r (rows.stored_definition l r.source)) in
       let each : Guarded SymId → List SymId = λ g. spec.one_name g.what ++ spec.condition_names tree g.when in
-      ap (λ b. b || names tree l v (rows.reverses_names l last)) (any_flat st (λ (r : Reverse). rows.source_nodes l (rows.definition_at l r.source)) (rows.lines_from l last))
-      ∙ ap (λ b. list_any node (rows.lines_from l last) || b) (any_flat (hit tree l v) (λ (r : Reverse). rows.source_names r (rows.definition_at l r.source)) (rows.lines_from l last))
+      ap (λ b. b || names tree l v (rows.reverses_names l last)) (any_flat st (λ (r : Reverse). rows.source_nodes l (rows.stored_definition l r.source)) (rows.lines_from l last))
+      ∙ ap (λ b. list_any node (rows.lines_from l last) || b) (any_flat (hit tree l v) (λ (r : Reverse). rows.source_names r (rows.stored_definition l r.source)) (rows.lines_from l last))
       ∙ sym (any_or node name (rows.lines_from l last))
       ∙ any_found (λ r. node r || name r) (rows.reverse_row l) chain
       ∙ any_same (λ i. passes (λ r. node r || name r) (rows.reverse_row l i)) (λ i. passes line (reverse_at l.tables i)) (λ i. reverse_needs (rows.reverse_row l i)) chain
@@ -526,15 +528,15 @@ module _ (tree : TreeFacts) (l : Layout) (v : ℕ) (st : ℕ → Bool)
         let pw = rows.prompt_names c.prompt in
         let dw = flat_map rows.choice_default_names c.defaults.items in
         let m = flat_map (λ m. spec.prompts_names tree (facts tree m)) c.members.items in
-        let p = spec.parts_names (choice_facts l.tables c).prompt in
+        let p = spec.conjunct_names (choice_facts l.tables c).prompt in
         let d = spec.guarded_names tree spec.no_name (choice_facts l.tables c).defaults in
         let nodes : list_any st (rows.choice_nodes l c) ≡ ((list_any st mn || list_any st pn) || list_any st dn) =
         list_any-append st (mn ++ pn) dn ∙ ap (λ b. b || list_any st dn) (list_any-append st mn pn) in
         let own : name (rows.choice_names l c) ≡ ((name mw || name pw) || name dw) = name_both (mw ++ pw) dw ∙ ap (λ b. b || name dw) (name_both mw pw) in
         let seen : name (spec.names_of_choice tree (Some (choice_facts l.tables c))) ≡ (name m || (name p || name d)) = name_both m (p ++ d) ∙ ap (λ b. name m || b) (name_both p d) in
-        let defaults : list_any st dn ≡ (has_some c.defaults.items && asks tree l v dependency) =
+        let defaults : list_any st dn ≡ (has_some c.defaults.items && condition_hits tree l v dependency) =
         any_where st c.defaults.items (rows.context_nodes l c.within.0) ∙ ap (λ b. has_some c.defaults.items && b) (at c.within.0 within) in
-        close (list_any st mn) (list_any st pn) (list_any st dn) (name mw) (name pw) (name dw) (name m) (name p) (name d) (has_some c.defaults.items && asks tree l v dependency)
+        close (list_any st mn) (list_any st pn) (list_any st dn) (name mw) (name pw) (name dw) (name m) (name p) (name d) (has_some c.defaults.items && condition_hits tree l v dependency)
         (list_any st (rows.choice_nodes l c)) (name (rows.choice_names l c)) (name (spec.names_of_choice tree (Some (choice_facts l.tables c))))
         nodes own seen (members_needs c.members.items) (choice_prompt_needs tree l v st (length l.tables.contexts) at c.within.0 c.prompt within (l.tables.choices_plain k c e) below)
         defaults (choice_defaults_names tree l v dependency c.defaults.items)

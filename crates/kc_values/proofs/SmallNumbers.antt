@@ -7,7 +7,7 @@ use Rattle.std.proofs.lemmas.Bool.{and_parts, ltb-true}
 use Rattle.kc_text.specs.Numbers.{natural_of, is_numeral, negated, without_hex_prefix}
 use Rattle.kc_expr.specs.declared.expression.Kind.{Kind}
 use Rattle.kc_expr.specs.declared.expression.Kind.TheVariants.{Undefined, Bool as IsBool, Tristate, Str, Int, Hex}
-use Rattle.kc_values.specs.Numbers.{number_or_zero, number_text, is_inside, clamped}
+use Rattle.kc_values.specs.Numbers.{number_or_zero, number_text, is_within_range, clamped}
 use Rattle.kc_values.specs.declared.numbers.Interval.{Interval}
 
 below_if : (b : Bool) (n limit : ℕ) → 0 < limit → (b ≡ true → n < limit) → unwrap_or (cond b (Some n) None) 0 < limit
@@ -57,6 +57,6 @@ neither false true x y t e = cc
 neither false false x y t e = refl
 
 -- what is inside keeps its text
-pub inside_keeps : (kind : Kind) (range : Option Interval) (t : List ℕ) → is_inside kind range t ≡ true → clamped kind range t ≡ t
+pub inside_keeps : (kind : Kind) (range : Option Interval) (t : List ℕ) → is_within_range kind range t ≡ true → clamped kind range t ≡ t
 inside_keeps kind None t e = refl
 inside_keeps kind (Some r) t e = neither (int_lt (number_or_zero kind t) r.low) (int_lt r.high (number_or_zero kind t)) (number_text kind r.low) (number_text kind r.high) t e

@@ -18,14 +18,14 @@ use Rattle.kc_values.specs.Differs.{differs}
 use Rattle.kc_values.specs.Warnings.{value_warnings}
 
 abbrev pub always : Condition
-always = record { parts = []; mode = None }
+always = record { conjuncts = []; mode = None }
 
 abbrev pub if_of : Form → Condition
-if_of f = record { parts = f ∷ []; mode = None }
+if_of f = record { conjuncts = f ∷ []; mode = None }
 
 -- in the choice 0
 abbrev pub in_choice : List Form → Condition
-in_choice fs = record { parts = fs; mode = Some 0 }
+in_choice fs = record { conjuncts = fs; mode = Some 0 }
 
 abbrev pub named : ℕ → Form
 named i = Single (Symbol (symbol i))

@@ -10,7 +10,7 @@ use Rattle.kc_expr.specs.declared.expression.Kind.{Kind}
 use Rattle.kc_expr.specs.declared.expression.Kind.TheVariants.{Undefined, Bool as IsBool, Tristate, Str, Int, Hex}
 use Rattle.kc_tree.specs.TreeFacts.{SymbolFacts, TreeFacts}
 use Rattle.kc_user.specs.GivenValue.{GivenValue, GivenTruth, GivenText, Member}
-use Rattle.kc_values.specs.Numbers.{if_inside, clamped}
+use Rattle.kc_values.specs.Numbers.{if_within_range, clamped}
 use Rattle.kc_values.specs.Values as v
 
 user_or_uncounted : (user : Option GivenValue) (vis other : Tri) → (is_some user && not (v.is_n vis)) ≡ false → v.user_or user vis other ≡ v.user_or None vis other
@@ -44,7 +44,7 @@ module _ (tree : TreeFacts) (known : SymId → SymbolValue) where
   number_uncounted : (f : SymbolFacts) (user : Option GivenValue) → (is_some user && not (v.is_n (v.visibility tree known f))) ≡ false →
       v.number_equation tree known f user ≡ v.number_equation tree known f None
   number_uncounted f user e =
-      ap (λ t. unwrap_or (if_inside f.kind (v.active_range tree known f) t) (clamped f.kind (v.active_range tree known f) (v.default_text known (v.first_met tree known f.defaults))))
+      ap (λ t. unwrap_or (if_within_range f.kind (v.active_range tree known f) t) (clamped f.kind (v.active_range tree known f) (v.default_text known (v.first_met tree known f.defaults))))
       (visible_text_uncounted user (v.visibility tree known f) e)
 
   -- the equation of a symbol outside a choice gives the same without it

@@ -127,14 +127,11 @@ module _ (l : Layout) where
   context_row_names c = if is_some c.own_condition then when_names (when_view c.own_condition) else mode_names c.mode
 
   -- the definitions of a symbol
-  abbrev pub definition_at : DefinitionId → Option Definition
-  definition_at id = slice_get l.tables.definitions.items id.0
-
-  abbrev pub definition_row : Symbol → ℕ → Option Definition
-  definition_row s i = option_and_then definition_at (slice_get (definition_ids s) i)
+  abbrev pub stored_definition : DefinitionId → Option Definition
+  stored_definition id = slice_get l.tables.definitions.items id.0
 
   abbrev pub definitions_of : List DefinitionId → List Definition
-  definitions_of ids = filter_map definition_at ids
+  definitions_of ids = filter_map stored_definition ids
 
   abbrev pub defaults_of : Definition → List SymbolDefault
   defaults_of d = slice_of l.tables.defaults.items d.defaults
@@ -193,10 +190,10 @@ module _ (l : Layout) where
   source_nodes (Some d) = context_nodes d.within.0
 
   abbrev pub reverses_nodes : Option ReverseId → List ℕ
-  reverses_nodes last = flat_map (λ (r : Reverse). source_nodes (definition_at r.source)) (lines_from last)
+  reverses_nodes last = flat_map (λ (r : Reverse). source_nodes (stored_definition r.source)) (lines_from last)
 
   abbrev pub reverses_names : Option ReverseId → List SymId
-  reverses_names last = flat_map (λ (r : Reverse). source_names r (definition_at r.source)) (lines_from last)
+  reverses_names last = flat_map (λ (r : Reverse). source_names r (stored_definition r.source)) (lines_from last)
 
   abbrev pub last_select : ℕ → Option ReverseId
   last_select s = slice_index_or l.tables.reverses.selects.items s None
@@ -280,8 +277,8 @@ AreChoicesThere l = (i : ℕ) (s : Symbol) (k : ChoiceId) → slice_get l.symbol
 -- a row of a context: of one that asks for nothing, as the top, none; else there is a context of that number that asks for
 -- what the row has
 pub data IsContextRow (l : Layout) (i : ℕ) (row : List ℕ) : Type 0 where
-  asks_nothing : condition_in l.tables.contexts i ≡ top → row ≡ [] → IsContextRow l i row
-  asks_this : (c : Context) → IsContextAt l.tables.contexts i c → row ≡ context_row_nodes l c ++ defined l (context_row_names l c) → IsContextRow l i row
+  of_top : condition_in l.tables.contexts i ≡ top → row ≡ [] → IsContextRow l i row
+  of_inner : (c : Context) → IsContextAt l.tables.contexts i c → row ≡ context_row_nodes l c ++ defined l (context_row_names l c) → IsContextRow l i row
 
 -- the rows of the contexts: of each what a context of that number asks for
 abbrev pub AreContextRows : Layout → List (List ℕ) → Type 0

@@ -18,14 +18,14 @@ no_name s = []
 abbrev pub bounds_names : Bounds → List SymId
 bounds_names r = leaf_symbols r.low ++ leaf_symbols r.high
 
-abbrev pub parts_names : Option Condition → List SymId
-parts_names None = []
-parts_names (Some c) = flat_map symbols c.parts
+abbrev pub conjunct_names : Option Condition → List SymId
+conjunct_names None = []
+conjunct_names (Some c) = flat_map symbols c.conjuncts
 
 -- a mode names what the choice's prompt condition names
 abbrev pub prompt_names : Option ChoiceFacts → List SymId
 prompt_names None = []
-prompt_names (Some c) = parts_names c.prompt
+prompt_names (Some c) = conjunct_names c.prompt
 
 abbrev pub modules_names : Option SymId → List SymId
 modules_names None = []
@@ -42,7 +42,7 @@ module _ (tree : TreeFacts) where
   mode_names (Some c) = prompt_names (choice_at tree c)
 
   abbrev pub condition_names : Condition → List SymId
-  condition_names c = flat_map symbols c.parts ++ mode_names c.mode
+  condition_names c = flat_map symbols c.conjuncts ++ mode_names c.mode
 
   abbrev pub guarded_names : {X : Type 0} → (X → List SymId) → List (Guarded X) → List SymId
   guarded_names names gs = flat_map (λ g. names g.what ++ condition_names g.when) gs
@@ -77,7 +77,7 @@ module _ (tree : TreeFacts) where
   abbrev pub names_of_choice : Option ChoiceFacts → List SymId
   names_of_choice None = []
   names_of_choice (Some c) =
-      flat_map (λ m. prompts_names (facts tree m)) c.members ++ (parts_names c.prompt ++ guarded_names no_name c.defaults)
+      flat_map (λ m. prompts_names (facts tree m)) c.members ++ (conjunct_names c.prompt ++ guarded_names no_name c.defaults)
 
   -- without a type nothing
   abbrev pub names_by_kind : SymbolFacts → Kind → List SymId

@@ -33,9 +33,9 @@ number_text Tristate n = signed_decimal n
 number_text Str n = signed_decimal n
 
 -- Inside the active range, or no range is active.
-abbrev pub is_inside : Kind → Option Interval → List ℕ → Bool
-is_inside kind None t = true
-is_inside kind (Some r) t = not (int_lt (number_or_zero kind t) r.low) && not (int_lt r.high (number_or_zero kind t))
+abbrev pub is_within_range : Kind → Option Interval → List ℕ → Bool
+is_within_range kind None t = true
+is_within_range kind (Some r) t = not (int_lt (number_or_zero kind t) r.low) && not (int_lt r.high (number_or_zero kind t))
 
 -- Below the low bound it becomes that bound, otherwise above the high bound that one; what is inside keeps its text.
 abbrev pub clamped : Kind → Option Interval → List ℕ → List ℕ
@@ -44,6 +44,6 @@ clamped kind (Some r) t =
     if int_lt (number_or_zero kind t) r.low then number_text kind r.low
     else (if int_lt r.high (number_or_zero kind t) then number_text kind r.high else t)
 
-abbrev pub if_inside : Kind → Option Interval → Option (List ℕ) → Option (List ℕ)
-if_inside kind range None = None
-if_inside kind range (Some t) = if is_inside kind range t then Some t else None
+abbrev pub if_within_range : Kind → Option Interval → Option (List ℕ) → Option (List ℕ)
+if_within_range kind range None = None
+if_within_range kind range (Some t) = if is_within_range kind range t then Some t else None

@@ -16,7 +16,7 @@ use Rattle.kc_tree.specs.Common.{is_symbol_of}
 use Rattle.kc_tree.specs.TreeFacts.{Condition, Guarded, Bounds, SymbolFacts, ChoiceFacts, TreeFacts}
 use Rattle.kc_user.specs.GivenValue.{GivenValue, GivenTruth, GivenText, Member}
 use Rattle.kc_values.specs.Lookups.{facts, name, choice_at}
-use Rattle.kc_values.specs.Numbers.{number_or_zero, clamped, if_inside}
+use Rattle.kc_values.specs.Numbers.{number_or_zero, clamped, if_within_range}
 use Rattle.kc_values.specs.declared.numbers.Interval.{Interval}
 
 abbrev pub is_n : Tri → Bool
@@ -60,11 +60,11 @@ prompt_of (Some c) = c.prompt
 -- Under what is known of the symbols alone.
 module _ (known : SymId → SymbolValue) where
   abbrev pub and_value : List Form → Tri
-  and_value parts = least (map (value known) parts)
+  and_value conjuncts = least (map (value known) conjuncts)
 
   abbrev pub prompt_value : Option Condition → Tri
   prompt_value None = N
-  prompt_value (Some c) = and_value c.parts
+  prompt_value (Some c) = and_value c.conjuncts
 
   -- The mode of a choice: y where its prompt's condition is not n (a choice of bools; kconfiglib's `tri_value` of a choice).
   abbrev pub mode_of : Option ChoiceFacts → Tri
@@ -99,9 +99,9 @@ module _ (tree : TreeFacts) (known : SymId → SymbolValue) where
   mode_value None = Y
   mode_value (Some c) = mode_of known (choice_at tree c)
 
-  -- The `&&` of the parts and of the mode (the document's "Menu dependencies").
+  -- The `&&` of the conjuncts and of the mode (the document's "Menu dependencies").
   abbrev pub condition : Condition → Tri
-  condition c = lesser (and_value known c.parts) (mode_value c.mode)
+  condition c = lesser (and_value known c.conjuncts) (mode_value c.mode)
 
   abbrev pub conditions : List Condition → Tri
   conditions cs = greatest (map condition cs)
@@ -166,7 +166,7 @@ module _ (tree : TreeFacts) (known : SymId → SymbolValue) where
   -- `str_value`; the number 0 of what is no number is our own).
   abbrev pub number_equation : SymbolFacts → Option GivenValue → List ℕ
   number_equation f user =
-      unwrap_or (if_inside f.kind (active_range f) (visible_text user (visibility f)))
+      unwrap_or (if_within_range f.kind (active_range f) (visible_text user (visibility f)))
       (clamped f.kind (active_range f) (default_text known (first_met f.defaults)))
 
   abbrev pub visible_facts : Option SymbolFacts → Bool

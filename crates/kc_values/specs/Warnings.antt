@@ -10,7 +10,7 @@ use Rattle.kc_expr.specs.declared.expression.Kind.{Kind}
 use Rattle.kc_expr.specs.declared.expression.Kind.TheVariants.{Undefined, Bool as IsBool, Tristate, Str, Int, Hex}
 use Rattle.kc_tree.specs.TreeFacts.{Guarded, SymbolFacts, TreeFacts}
 use Rattle.kc_values.specs.Lookups.{facts, name}
-use Rattle.kc_values.specs.Numbers.{number_text, is_inside, clamped, if_inside}
+use Rattle.kc_values.specs.Numbers.{number_text, is_within_range, clamped, if_within_range}
 use Rattle.kc_user.specs.GivenValue.{GivenValue, UserPlace, SymbolPlace}
 use Rattle.kc_values.specs.Values.{first_met, direct, reverse, visibility, visible_text, single_text, active_range}
 use Rattle.kc_values.specs.WrittenSymbols.{above}
@@ -40,14 +40,14 @@ default_warning_line kind r name t =
 abbrev pub user_warnings : Kind → List ℕ → Option Interval → Option (List ℕ) → List (List ℕ)
 user_warnings kind name None t = []
 user_warnings kind name (Some r) None = []
-user_warnings kind name (Some r) (Some t) = if is_inside kind (Some r) t then [] else user_warning_line kind r name t ∷ []
+user_warnings kind name (Some r) (Some t) = if is_within_range kind (Some r) t then [] else user_warning_line kind r name t ∷ []
 
 -- a default that applied, since no user value was used, and was clamped
 abbrev pub default_warnings : Kind → List ℕ → Option Interval → Option (List ℕ) → Option (List ℕ) → List (List ℕ)
 default_warnings kind name r (Some used) d = []
 default_warnings kind name None None d = []
 default_warnings kind name (Some r) None None = []
-default_warnings kind name (Some r) None (Some t) = if is_inside kind (Some r) t then [] else default_warning_line kind r name t ∷ []
+default_warnings kind name (Some r) None (Some t) = if is_within_range kind (Some r) t then [] else default_warning_line kind r name t ∷ []
 
 -- the text of the met default, if there is one
 abbrev pub met_text : (SymId → SymbolValue) → Option (Guarded Form) → Option (List ℕ)
@@ -66,7 +66,7 @@ module _ (tree : TreeFacts) (known : SymId → SymbolValue) where
       let range = active_range tree known f in
       let given = visible_text user (visibility tree known f) in
       user_warnings f.kind name range given
-      ++ default_warnings f.kind name range (if_inside f.kind range given) (met_text known (first_met tree known f.defaults))
+      ++ default_warnings f.kind name range (if_within_range f.kind range given) (met_text known (first_met tree known f.defaults))
 
   abbrev pub warnings_by_kind : List ℕ → SymbolFacts → Kind → Option GivenValue → List (List ℕ)
   warnings_by_kind name f Undefined user = []

@@ -50,7 +50,7 @@ pub(crate) fn if_value(when: &Option<Rc<Expr>>, table: &Table<'_>) -> Tri
 // The least of a value and of what the contexts from this one outwards ask for, up to one that is computed.
 fn enclosing_least(table: &Table<'_>, within: ContextId, first: Tri) -> Tri
     requires { lesser first (spec.mode_value table.now.tree.now (known_at table.now) (condition_at table.now within.0).mode) ≡ first }
-    ensures { result ≡ lesser first (spec.and_value (known_at table.now) (condition_at table.now within.0).parts) }
+    ensures { result ≡ lesser first (spec.and_value (known_at table.now) (condition_at table.now within.0).conjuncts) }
 {
     let mut least = first;
     let mut at = within;

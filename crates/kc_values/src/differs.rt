@@ -10,9 +10,8 @@ ghost use Rattle.kc_values.specs.User.{given_in};
 ghost use Rattle.kc_values.specs.Values as value;
 
 use crate::conditions::is_n;
-use crate::lookups::name;
 use crate::numbers::differs_from_default;
-use crate::table::Table;
+use crate::table::{Table, name};
 use crate::texts::default_text;
 use crate::truths::truth_equation;
 use kc_expr::expression::{Kind, SymId, Tri};

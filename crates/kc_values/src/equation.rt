@@ -10,9 +10,8 @@ ghost use Rattle.kc_values.specs.User.{given_in};
 ghost use Rattle.kc_values.specs.Values as spec;
 
 use crate::choices::member_equation;
-use crate::lookups::name;
 use crate::numbers::number_equation;
-use crate::table::{Table, Value};
+use crate::table::{Table, Value, name};
 use crate::texts::text_equation;
 use crate::truths::truth_equation;
 use kc_expr::expression::{Kind, SymId};
@@ -76,7 +75,9 @@ pub fn equation(
     users: &[Option<SymId>],
 ) -> Result<Value, AllocError>
     requires selected { AreSelected table.now users.now }
-    ensures { IfOk result (λ x. known_value symbol.now.kind x ≡ spec.by_choice table.now.tree.now (known_at table.now) id (facts_of table.now.layout.now id.0 symbol.now) (facts_of table.now.layout.now id.0 symbol.now).choice (given_for symbol.now.choice (given_in user.entry) users.now)) }
+    ensures { IfOk result (λ x. known_value symbol.now.kind x
+        ≡ spec.by_choice table.now.tree.now (known_at table.now) id (facts_of table.now.layout.now id.0 symbol.now) (facts_of table.now.layout.now id.0 symbol.now).choice
+        (given_for symbol.now.choice (given_in user.entry) users.now)) }
 {
     match symbol.choice {
         Some(choice) => {

@@ -6,7 +6,6 @@ pub mod conditions;
 pub mod differs;
 pub mod equation;
 pub mod laws;
-pub mod lookups;
 pub mod needs;
 pub mod nodes;
 pub mod numbers;

@@ -93,8 +93,8 @@ pub(crate) fn active_range(table: &Table<'_>, symbol: &Symbol) -> Option<Interva
 
 /// Whether the number of a text is inside the range, both bounds included; where there is no range it is (kconfiglib's
 /// `str_value`). What is no number counts as 0 (our own).
-pub fn is_inside(kind: Kind, range: Option<Interval>, text: &[u8]) -> bool
-    ensures { result ≡ digits.is_inside kind range text.now }
+pub fn is_within_range(kind: Kind, range: Option<Interval>, text: &[u8]) -> bool
+    ensures { result ≡ digits.is_within_range kind range text.now }
 {
     match range {
         Some(bounds) => {
@@ -106,11 +106,11 @@ pub fn is_inside(kind: Kind, range: Option<Interval>, text: &[u8]) -> bool
 }
 
 /// The user's text where its number is inside the range; another is dropped and not clamped (kconfiglib's `str_value`).
-pub fn if_inside(kind: Kind, range: Option<Interval>, given: Option<&[u8]>) -> Option<&[u8]>
-    ensures { text_at result ≡ digits.if_inside kind range (text_at given.entry) }
+pub fn if_within_range(kind: Kind, range: Option<Interval>, given: Option<&[u8]>) -> Option<&[u8]>
+    ensures { text_at result ≡ digits.if_within_range kind range (text_at given.entry) }
 {
     match given {
-        Some(bytes) if is_inside(kind, range, bytes) => Some(bytes),
+        Some(bytes) if is_within_range(kind, range, bytes) => Some(bytes),
         _ => None,
     }
 }
@@ -170,7 +170,7 @@ pub(crate) fn number_equation(
 {
     let range = active_range(table, symbol);
     let given = visible_text_of(table, symbol, user);
-    if let Some(bytes) = if_inside(symbol.kind, range, given) {
+    if let Some(bytes) = if_within_range(symbol.kind, range, given) {
         let copy = Vec::from_slice(alloc, bytes)?;
         return Ok(copy);
     }
@@ -192,7 +192,7 @@ pub(crate) fn differs_from_default(
 {
     let range = active_range(table, symbol);
     let default = default_text(table, symbol);
-    if is_inside(symbol.kind, range, default) {
+    if is_within_range(symbol.kind, range, default) {
         return Ok(text != default);
     }
     let used = clamped(alloc, symbol.kind, range, default)?;

@@ -7,7 +7,6 @@ ghost use Rattle.kc_values.specs.Lookups as lookup;
 ghost use Rattle.kc_values.specs.Computed.{AreContextsComputed};
 ghost use Rattle.kc_values.specs.Table.{kind_in, value_at, value_in, tri_in, text_in};
 
-use crate::lookups::name;
 use kc_expr::expression::{Kind, SymId, Tri};
 use kc_expr::values::Values;
 use kc_tree::layout::Layout;
@@ -23,6 +22,17 @@ pub enum Value {
     Truth(Tri),
     /// Of a string, int or hex as it is spelled, and of a symbol without a type its name.
     Text(Vec<u8>),
+}
+
+/// The name of a number, or no byte where the tree has no such name (our own).
+pub fn name(tree: &Tree, id: SymId) -> &[u8]
+    ensures { result.now ≡ lookup.name tree.now id }
+{
+    if id.0 < tree.name_count() {
+        tree.name(id)
+    } else {
+        b""
+    }
 }
 
 /// The values of the symbols of a tree, of which some places may still be empty. As `Values` an empty place is n, and

@@ -200,7 +200,8 @@ fn implied(table: &Table<'_>, id: SymId, symbol: &Symbol) -> Tri
 
 // The user's truth up to the visibility, where the symbol is visible, and else its default. Only what counts is looked at.
 fn given_or_implied(table: &Table<'_>, id: SymId, symbol: &Symbol, user: Option<&UserValue>) -> Tri
-    ensures { let f = facts_of table.now.layout.now id.0 symbol.now in result ≡ spec.user_or (given_in user.entry) (spec.visibility table.now.tree.now (known_at table.now) f) (spec.implied_value table.now.tree.now (known_at table.now) f) }
+    ensures { let f = facts_of table.now.layout.now id.0 symbol.now in result
+        ≡ spec.user_or (given_in user.entry) (spec.visibility table.now.tree.now (known_at table.now) f) (spec.implied_value table.now.tree.now (known_at table.now) f) }
 {
     match user {
         Some(UserValue::Tri(given)) => match visibility(table, symbol) {

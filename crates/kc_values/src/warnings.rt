@@ -11,9 +11,10 @@ ghost use Rattle.kc_values.specs.Values as value;
 ghost use Rattle.kc_values.specs.Warnings as spec;
 ghost use Rattle.kc_values.specs.WrittenSymbols.{above};
 
-use crate::lookups::name;
-use crate::numbers::{Interval, active_range, clamped, if_inside, is_inside, number_text};
-use crate::table::Table;
+use crate::numbers::{
+    Interval, active_range, clamped, if_within_range, is_within_range, number_text,
+};
+use crate::table::{Table, name};
 use crate::texts::{met_text, visible_text};
 use crate::truths::{direct, reverse};
 use kc_expr::expression::{Kind, SymId, Tri};
@@ -157,7 +158,7 @@ fn user_warning(
     let Some(text) = given else {
         return Ok(());
     };
-    if is_inside(kind, Some(bounds), text) {
+    if is_within_range(kind, Some(bounds), text) {
         return Ok(());
     }
     let line = user_warning_line(alloc, kind, bounds, name, text)?;
@@ -187,7 +188,7 @@ fn default_warning(
     let Some(text) = default else {
         return Ok(());
     };
-    if is_inside(kind, Some(bounds), text) {
+    if is_within_range(kind, Some(bounds), text) {
         return Ok(());
     }
     let line = default_warning_line(alloc, kind, bounds, name, text)?;
@@ -206,11 +207,12 @@ fn range_warnings(
     out: &mut Vec<Vec<u8>>,
 ) -> Result<(), AllocError>
     requires { visibility ≡ value.visibility table.now.tree.now (known_at table.now) (facts_of table.now.layout.now 0 symbol.now) }
-    ensures { OnOk result (map (λ w. w.items) out.new.items ≡ map (λ w. w.items) out.old.items ++ spec.range_warnings table.now.tree.now (known_at table.now) name.now (facts_of table.now.layout.now 0 symbol.now) (given_in user.entry)) }
+    ensures { OnOk result (map (λ w. w.items) out.new.items ≡ map (λ w. w.items) out.old.items ++ spec.range_warnings table.now.tree.now (known_at table.now) name.now
+        (facts_of table.now.layout.now 0 symbol.now) (given_in user.entry)) }
 {
     let range = active_range(table, symbol);
     let given = visible_text(user, visibility);
-    let used = if_inside(symbol.kind, range, given);
+    let used = if_within_range(symbol.kind, range, given);
     let default = met_text(table, symbol);
     user_warning(alloc, symbol.kind, name, range, given, out)?;
     default_warning(alloc, symbol.kind, name, range, used, default, out)?;
@@ -256,7 +258,8 @@ pub fn warnings_into(
     out: &mut Vec<Vec<u8>>,
 ) -> Result<(), AllocError>
     requires { visibility ≡ value.visibility table.now.tree.now (known_at table.now) (facts_of table.now.layout.now id.0 symbol.now) }
-    ensures { OnOk result (map (λ w. w.items) out.new.items ≡ map (λ w. w.items) out.old.items ++ spec.warnings_of table.now.tree.now (known_at table.now) (lookup.name table.now.tree.now id) (Some (facts_of table.now.layout.now id.0 symbol.now)) (given_in user.entry)) }
+    ensures { OnOk result (map (λ w. w.items) out.new.items ≡ map (λ w. w.items) out.old.items ++ spec.warnings_of table.now.tree.now (known_at table.now)
+        (lookup.name table.now.tree.now id) (Some (facts_of table.now.layout.now id.0 symbol.now)) (given_in user.entry)) }
 {
     if symbol.choice.is_some() {
         return Ok(());

@@ -4,8 +4,8 @@ use Rattle.clap.specs.Words.{Row, Text, all_of, first_of}
 use Rattle.kc_conf.specs.declared.options.Options.{Options}
 
 -- the prefix that is asked for
-abbrev pub asked_prefix : List Row → Text
-asked_prefix rows = unwrap_or (first_of (codes "prefix") rows) (codes "CONFIG_")
+abbrev pub prefix_option : List Row → Text
+prefix_option rows = unwrap_or (first_of (codes "prefix") rows) (codes "CONFIG_")
 
 -- a flag stands among the words: its value is then `true`, and else `false`
 abbrev pub is_given : Text → List Row → Bool
@@ -21,7 +21,7 @@ pub record AreOptionsOf (rows : List Row) (options : Options) : Type 0 where
   pub minimal : option_map string_bytes options.minimal ≡ first_of (codes "savedefconfig") rows
   pub depfile : option_map string_bytes options.depfile ≡ first_of (codes "depfile") rows
   pub fragments : map string_bytes options.fragments.items ≡ unwrap_or (all_of (codes "FRAGMENT") rows) []
-  pub prefix : options.prefix ≡ asked_prefix rows
+  pub prefix : options.prefix ≡ prefix_option rows
   pub must_exist : options.must_exist ≡ is_given (codes "must-exist") rows
   pub strict : options.strict ≡ is_given (codes "strict") rows
   pub warn_lost : options.warn_lost ≡ is_given (codes "warn-lost") rows

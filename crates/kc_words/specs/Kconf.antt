@@ -47,9 +47,9 @@ unfoldable pub kconf_app : App
 kconf_app = with_rule (with_rule (with_options empty_app) kconfig_rule) fragment_rule
 
 -- the words as text
-abbrev pub words_of : List (String Global) → List Text
-words_of = map string_bytes
+abbrev pub arguments_of : List (String Global) → List Text
+arguments_of = map string_bytes
 
 -- what the command finds in the words
 abbrev pub rows_for : List (String Global) → List Row
-rows_for words = matches_of kconf_app (words_of words)
+rows_for words = matches_of kconf_app (arguments_of words)

@@ -3,8 +3,8 @@
 ghost use Rattle.std.specs.Prelude.{◌≡◌, [], IfOk, IfErr, map, option_map, string_bytes, unwrap_or, true};
 ghost use Rattle.clap.specs.Words.{takes, rows_of, found_of, kind_of, first_of, all_of, fault_of};
 ghost use Rattle.kc_dot.specs.Prefixes.{is_prefix};
-ghost use Rattle.kc_words.specs.Fields.{AreOptionsOf, is_given, asked_prefix};
-ghost use Rattle.kc_words.specs.Kconf.{kconf_app, words_of, rows_for};
+ghost use Rattle.kc_words.specs.Fields.{AreOptionsOf, is_given, prefix_option};
+ghost use Rattle.kc_words.specs.Kconf.{kconf_app, arguments_of, rows_for};
 ghost use Rattle.kc_words.specs.Refusals.{IsKindOf, IsRefused, IsNoPrefix};
 
 use crate::command::command;
@@ -85,7 +85,7 @@ fn prefix_of(alloc: Global, text: &str) -> Result<Prefix, UsageError>
 // Reads each field from the matches.
 fn read_options(alloc: Global, matches: &ArgMatches<'_>) -> Result<Options, UsageError>
     ensures ok { IfOk result (AreOptionsOf (rows_of (found_of matches.now))) }
-    ensures err { IfErr result (IsNoPrefix (asked_prefix (rows_of (found_of matches.now)))) }
+    ensures err { IfErr result (IsNoPrefix (prefix_option (rows_of (found_of matches.now)))) }
 {
     let root = text_or(alloc, matches, "root", ".")?;
     let config = text_or(alloc, matches, "config", ".config")?;
@@ -146,12 +146,12 @@ pub fn options_of(alloc: Global, words: &[String]) -> Result<Options, UsageError
     // Each field is what the words hold, or what an absent option means.
     ensures ok { IfOk result (AreOptionsOf (rows_for words.now)) }
     // Options are given only where clap finds no fault in the words.
-    ensures faultless { IfOk result (λ _. fault_of kconf_app (words_of words.now) ≡ []) }
+    ensures faultless { IfOk result (λ _. fault_of kconf_app (arguments_of words.now) ≡ []) }
     // Help and the version only where clap finds that they are asked for, Bad only for another of its faults or a prefix that
     // is none.
-    ensures refused { IfErr result (IsRefused (fault_of kconf_app (words_of words.now)) (asked_prefix (rows_for words.now))) }
+    ensures refused { IfErr result (IsRefused (fault_of kconf_app (arguments_of words.now)) (prefix_option (rows_for words.now))) }
     // Words that the command takes, with a prefix that is one, fail only when out of memory.
-    ensures taken { takes kconf_app (words_of words.now) ≡ true → is_prefix (asked_prefix (rows_for words.now)) ≡ true → IfErr result (λ usage. usage ≡ UsageError.Memory) }
+    ensures taken { takes kconf_app (arguments_of words.now) ≡ true → is_prefix (prefix_option (rows_for words.now)) ≡ true → IfErr result (λ usage. usage ≡ UsageError.Memory) }
 {
     let command = command(alloc)?;
     match command.try_get_matches_from(words) {

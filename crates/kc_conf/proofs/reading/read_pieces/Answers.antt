@@ -45,16 +45,16 @@ pieces-preserved g c =
       user = rw tree at ensures.user;
     }
 
-pub returns-in-Err-ConfigLineTooLong-clause-ok : goal.returns-in-Err-ConfigLineTooLong-clause-ok
-returns-in-Err-ConfigLineTooLong-clause-ok g c =
+pub returns-in-Err-DotLineTooLong-clause-ok : goal.returns-in-Err-DotLineTooLong-clause-ok
+returns-in-Err-DotLineTooLong-clause-ok g c =
     let reader = c.args.reader.now in
     let invariant = c.pieces.invariant in
     let tree = ap (λ (r : ReaderState). r.tree) invariant.stands in
     let prefix = ap (λ (r : ReaderState). r.prefix) invariant.stands in
     let name = ap (λ (r : ReaderState). r.name) invariant.stands in
-    rw c.in-Err-ConfigLineTooLong.number-is (TakesPieces-long reader.tree reader.prefix reader.name _ _ _ _ _ reader.position c.pieces.reader.position
+    rw c.in-Err-DotLineTooLong.number-is (TakesPieces-long reader.tree reader.prefix reader.name _ _ _ _ _ reader.position c.pieces.reader.position
     c.feed_piece.new.reader.position c.feed_piece.new.reader.position c.args.user.now c.pieces.user c.feed_piece.new.user _ _ _
-    invariant.taken c.in-Ok.ensures.given (rw (c.in-Err-ConfigLineTooLong.field-0-is, tree, prefix, name) at c.in-Err-ConfigLineTooLong.ensures.refused))
+    invariant.taken c.in-Ok.ensures.given (rw (c.in-Err-DotLineTooLong.field-0-is, tree, prefix, name) at c.in-Err-DotLineTooLong.ensures.refused))
 
 pub returns-in-Err-Sink-clause-err : goal.returns-in-Err-Sink-clause-err
 returns-in-Err-Sink-clause-err g c =

@@ -38,15 +38,15 @@ returns-in-Err-clause-err g c =
 pub returns-in-Err-clause-counted_inputs : goal.returns-in-Err-clause-counted_inputs
 returns-in-Err-clause-counted_inputs g c =
     let within : c.loop-at.at < length c.loop-at.inputs = let test = c.loop-at-test.true in let count = c.loop-at.invariant.count in omega (arith, test, count) in
-    CountsInputs-stream g.I.Input.failures c.in-Err.cause (map g.I.Input.failures c.args.inputs.now)
-    c.loop-at.inputs c.loop-at.at c.read_stream.new.input c.index-inputs-at.result within c.loop-at.invariant.quiet_inputs c.in-Err.ensures.cause
+    CountsInputs-stream g.I.Input.failures c.in-Err.fault (map g.I.Input.failures c.args.inputs.now)
+    c.loop-at.inputs c.loop-at.at c.read_stream.new.input c.index-inputs-at.result within c.loop-at.invariant.quiet_inputs c.in-Err.ensures.fault
     c.in-Err.ensures.input_failures_after
 
 pub returns-in-Err-clause-may : goal.returns-in-Err-clause-may
 returns-in-Err-clause-may g c =
     let within : c.loop-at.at < length c.loop-at.inputs = let test = c.loop-at-test.true in let count = c.loop-at.invariant.count in omega (arith, test, count) in
-    MayStrike-stream g.I.Input.may_fail c.in-Err.cause (map g.I.Input.may_fail c.args.inputs.now)
-    c.loop-at.inputs c.loop-at.at c.index-inputs-at.result within c.loop-at.invariant.may_fail_stays c.in-Err.ensures.cause c.in-Err.ensures.may
+    MayStrike-stream g.I.Input.may_fail c.in-Err.fault (map g.I.Input.may_fail c.args.inputs.now)
+    c.loop-at.inputs c.loop-at.at c.index-inputs-at.result within c.loop-at.invariant.may_fail_stays c.in-Err.ensures.fault c.in-Err.ensures.may
 
 pub loop-at-init : goal.loop-at-init
 loop-at-init g c = record {

@@ -1,5 +1,4 @@
 -- The tree is that of the lines of the files, under the name of the root file.
-use Rattle.std.proofs.Common.{refl}
 use Rattle.kc_read.specs.Files.{bytes_in}
 use Rattle.kc_read.specs.RefusalView.{refusal_view}
 use Rattle.kc_conf.specs.Outcome.{root_file}

@@ -3,7 +3,7 @@ use Rattle.std.proofs.Common.{map, subst, sym}
 use Rattle.std.proofs.lemmas.Result.{IfOk-weaker, IfErr-weaker}
 use Rattle.std.proofs.Common.{List, ℕ}
 use Rattle.kc_conf.specs.Faults.{CountsInputs}
-use Rattle.kc_conf.proofs.RunLemmas.{BreaksRun-accepted, BreaksRun-accepted_rule, CountsInputs-outputs, Finishes-accepted, MayStrike-outputs}
+use Rattle.kc_conf.proofs.RunLemmas.{BreaksRun-accepted, BreaksRun-accepted_rule, CountsInputs-outputs, Completes-accepted, MayStrike-outputs}
 use Rattle.kc_conf.proofs.runs.run_accepted.Goals as goal
 
 pub returns-in-Ok-clause-ok : goal.returns-in-Ok-clause-ok
@@ -12,35 +12,35 @@ returns-in-Ok-clause-ok g c =
     IfOk-weaker c.end_run.result _ _ (λ ended ends tree_files accepted at_hand. (
       all,
       are,
-      Finishes-accepted tree_files c.args.options.now c.args.tree.now all c.in-Ok.status ended
+      Completes-accepted tree_files c.args.options.now c.args.tree.now all c.in-Ok.status ended
           (g.O.Outputs.states c.args.outputs.now) (g.O.Outputs.states c.run_tree.new.outputs) (g.O.Outputs.states c.end_run.new.outputs) accepted part (ends tree_files at_hand),
     )) c.end_run.ensures.ok
 
 pub returns-in-Ok-clause-err : goal.returns-in-Ok-clause-err
 returns-in-Ok-clause-err g c =
     let (all, are, part) = c.in-Ok.ensures.ok in
-    IfErr-weaker c.end_run.result _ _ (λ cause breaks tree_files accepted at_hand. (
+    IfErr-weaker c.end_run.result _ _ (λ fault breaks tree_files accepted at_hand. (
       all,
       are.0,
-      BreaksRun-accepted_rule c.one_answer.ensures c.opened_are_one_list.ensures.one tree_files c.args.options.now c.args.tree.now all c.in-Ok.status cause
+      BreaksRun-accepted_rule c.one_answer.ensures c.opened_are_one_list.ensures.one tree_files c.args.options.now c.args.tree.now all c.in-Ok.status fault
           (g.O.Outputs.states c.args.outputs.now) (g.O.Outputs.states c.run_tree.new.outputs) (g.O.Outputs.states c.end_run.new.outputs) accepted part (breaks tree_files at_hand),
     )) c.end_run.ensures.err
 
 pub returns-in-Ok-clause-counted_inputs : goal.returns-in-Ok-clause-counted_inputs
 returns-in-Ok-clause-counted_inputs g c =
-    IfErr-weaker c.end_run.result _ _ (λ cause is.
-    subst (λ (counts : List ℕ). CountsInputs cause (map g.I.Input.failures c.args.inputs.now) counts) (sym c.in-Ok.ensures.quiet_inputs)
-    (CountsInputs-outputs cause (map g.I.Input.failures c.args.inputs.now) is)) c.end_run.ensures.cause
+    IfErr-weaker c.end_run.result _ _ (λ fault is.
+    subst (λ (counts : List ℕ). CountsInputs fault (map g.I.Input.failures c.args.inputs.now) counts) (sym c.in-Ok.ensures.quiet_inputs)
+    (CountsInputs-outputs fault (map g.I.Input.failures c.args.inputs.now) is)) c.end_run.ensures.fault
 
 pub returns-in-Ok-clause-may : goal.returns-in-Ok-clause-may
 returns-in-Ok-clause-may g c =
-    IfErr-weaker c.end_run.result _ _ (λ cause is. MayStrike-outputs cause (map g.I.Input.may_fail c.args.inputs.now) is) c.end_run.ensures.cause
+    IfErr-weaker c.end_run.result _ _ (λ fault is. MayStrike-outputs fault (map g.I.Input.may_fail c.args.inputs.now) is) c.end_run.ensures.fault
 
 pub returns-in-Err-clause-err : goal.returns-in-Err-clause-err
 returns-in-Err-clause-err g c = λ tree_files accepted at_hand.
     let (all, are, broken) = c.in-Err.ensures.err in (
       all,
       are,
-      BreaksRun-accepted c.one_answer.ensures tree_files c.args.options.now c.args.tree.now all c.in-Err.cause
+      BreaksRun-accepted c.one_answer.ensures tree_files c.args.options.now c.args.tree.now all c.in-Err.fault
           (g.O.Outputs.states c.args.outputs.now) (g.O.Outputs.states c.run_tree.new.outputs) accepted broken,
     )

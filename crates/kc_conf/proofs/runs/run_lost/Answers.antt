@@ -3,7 +3,7 @@ use Rattle.std.proofs.Common.{◌∙◌, ap, ℕ, map, Vec, Global}
 use Rattle.std.proofs.lemmas.Result.{err_from_is_err_and, IfErr-weaker, IfOk-weaker}
 use Rattle.kc_conf.specs.Reads.{behind_warnings, strictly_after}
 use Rattle.kc_conf.proofs.OutcomeLemmas.{BreaksRun-nothing}
-use Rattle.kc_conf.proofs.RunLemmas.{BreaksRun-lost_notes, BreaksRun-lost_files, Finishes-lost}
+use Rattle.kc_conf.proofs.RunLemmas.{BreaksRun-lost_notes, BreaksRun-lost_files, Completes-lost}
 use Rattle.kc_conf.proofs.runs.run_lost.Goals as goal
 
 pub returns-in_err-lost-clause-err : goal.returns-in_err-lost-clause-err
@@ -22,14 +22,14 @@ pub returns-clause-ok : goal.returns-clause-ok
 returns-clause-ok g c =
     let lines_are = ap (map (λ (w : Vec ℕ Global). w.items)) c.as_slice-lines.ensures.value ∙ c.in_ok-lost.ensures in
     IfOk-weaker c.make_or_refuse.result _ _ (λ status finishes.
-    Finishes-lost c.args.options.now c.args.tree.now c.args.is_warned c.is_warned_by-is_warned.result (map (λ w. w.items) c.as_slice-lines.result.now) c.is_warned_by-is_warned.ensures
+    Completes-lost c.args.options.now c.args.tree.now c.args.is_warned c.is_warned_by-is_warned.result (map (λ w. w.items) c.as_slice-lines.result.now) c.is_warned_by-is_warned.ensures
     c.args.solved.now status (g.O.Outputs.states c.args.outputs.now) (g.O.Outputs.states c.note_lines.new.outputs) (g.O.Outputs.states c.make_or_refuse.new.outputs)
     lines_are c.in_default.ensures.ok finishes) c.make_or_refuse.ensures.ok
 
 pub returns-clause-err : goal.returns-clause-err
 returns-clause-err g c =
     let lines_are = ap (map (λ (w : Vec ℕ Global). w.items)) c.as_slice-lines.ensures.value ∙ c.in_ok-lost.ensures in
-    IfErr-weaker c.make_or_refuse.result _ _ (λ cause broken.
+    IfErr-weaker c.make_or_refuse.result _ _ (λ fault broken.
     BreaksRun-lost_files c.args.options.now c.args.tree.now c.args.is_warned c.is_warned_by-is_warned.result (map (λ w. w.items) c.as_slice-lines.result.now) c.is_warned_by-is_warned.ensures
-    c.args.solved.now cause (g.O.Outputs.states c.args.outputs.now) (g.O.Outputs.states c.note_lines.new.outputs) (g.O.Outputs.states c.make_or_refuse.new.outputs)
+    c.args.solved.now fault (g.O.Outputs.states c.args.outputs.now) (g.O.Outputs.states c.note_lines.new.outputs) (g.O.Outputs.states c.make_or_refuse.new.outputs)
     lines_are c.in_default.ensures.ok broken) c.make_or_refuse.ensures.err

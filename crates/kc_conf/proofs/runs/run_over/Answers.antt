@@ -30,8 +30,8 @@ returns-in-Err-clause-leaves g c =
       outcome = outcome;
       is_outcome = is;
       finished = λ un. absurd (un refl);
-      broken = λ _. (c.in-Err.cause, c.in-Err.ensures.counted_inputs, c.in-Err.ensures.may, (g.O.Outputs.states c.run_through.new.outputs, broken outcome is, c.report.ensures));
+      broken = λ _. (c.in-Err.fault, c.in-Err.ensures.counted_inputs, c.in-Err.ensures.may, (g.O.Outputs.states c.run_through.new.outputs, broken outcome is, c.report.ensures));
       refused = λ r refused.
           ChangesOnly-only Notes (g.O.Outputs.states c.args.outputs.now) (g.O.Outputs.states c.run_through.new.outputs) (g.O.Outputs.states c.report.new.outputs)
-          (c.in-Err.ensures.refused_outputs r refused) (Reports-only c.args.options.now c.in-Err.cause _ _ c.report.ensures);
+          (c.in-Err.ensures.refused_outputs r refused) (Reports-only c.args.options.now c.in-Err.fault _ _ c.report.ensures);
     }

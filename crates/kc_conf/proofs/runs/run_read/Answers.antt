@@ -4,7 +4,7 @@ use Rattle.std.proofs.lemmas.Result.{err_from_is_err_and, IfOk-weaker, IfErr-wea
 use Rattle.kc_conf.specs.Reads.{stop_of, strictly_after}
 use Rattle.kc_conf.proofs.OutcomeLemmas.{BreaksRun-nothing}
 use Rattle.kc_conf.proofs.ReadsLemmas.{left_of, AreAllToCome-self}
-use Rattle.kc_conf.proofs.RunLemmas.{Finishes-whole, BreaksRun-whole, Finishes-long, BreaksRun-long, BreaksRun-reading}
+use Rattle.kc_conf.proofs.RunLemmas.{Completes-whole, BreaksRun-whole, Completes-long, BreaksRun-long, BreaksRun-reading}
 use Rattle.kc_conf.proofs.runs.run_read.Goals as goal
 
 pub returns-in_err-user-clause-err : goal.returns-in_err-user-clause-err
@@ -16,14 +16,14 @@ returns-in_err-user-clause-err g c =
 pub returns-in-Err-clause-err : goal.returns-in-Err-clause-err
 returns-in-Err-clause-err g c =
     let ensures = c.in-Err.ensures in
-    BreaksRun-reading c.args.options.now c.args.tree.now c.args.is_warned (map g.I.Input.remaining c.args.inputs.now) _ c.in-Err.cause
-    (g.O.Outputs.states c.args.outputs.now) (g.O.Outputs.states c.tell_streams.new.outputs) c.in_ok-user.ensures ensures.cause ensures.err
+    BreaksRun-reading c.args.options.now c.args.tree.now c.args.is_warned (map g.I.Input.remaining c.args.inputs.now) _ c.in-Err.fault
+    (g.O.Outputs.states c.args.outputs.now) (g.O.Outputs.states c.tell_streams.new.outputs) c.in_ok-user.ensures ensures.fault ensures.err
 
 pub returns-in-None-clause-ok : goal.returns-in-None-clause-ok
 returns-in-None-clause-ok g c =
     let streamed = c.in-Ok.streamed in
     IfOk-weaker c.run_solved.result _ _ (λ status. λ (s, solves, finishes).
-    Finishes-whole c.args.options.now c.args.tree.now (map g.I.Input.remaining c.args.inputs.now)
+    Completes-whole c.args.options.now c.args.tree.now (map g.I.Input.remaining c.args.inputs.now)
     (map g.I.Input.is_there c.args.inputs.now) _ c.tell_streams.new.user c.args.is_warned streamed.is_warned c.is_either-is_warned.result
     (g.O.Outputs.states c.args.outputs.now) (g.O.Outputs.states c.tell_streams.new.outputs) (g.O.Outputs.states c.run_solved.new.outputs) c.in_ok-user.ensures
     status (rw c.in-None.is at c.in-Ok.ensures.ok) c.is_either-is_warned.ensures s solves finishes) c.run_solved.ensures.ok
@@ -31,17 +31,17 @@ returns-in-None-clause-ok g c =
 pub returns-in-None-clause-err : goal.returns-in-None-clause-err
 returns-in-None-clause-err g c =
     let streamed = c.in-Ok.streamed in
-    IfErr-weaker c.run_solved.result _ _ (λ cause broken.
+    IfErr-weaker c.run_solved.result _ _ (λ fault broken.
     BreaksRun-whole c.args.options.now c.args.tree.now (map g.I.Input.remaining c.args.inputs.now)
     (map g.I.Input.is_there c.args.inputs.now) _ c.tell_streams.new.user c.args.is_warned streamed.is_warned c.is_either-is_warned.result
     (g.O.Outputs.states c.args.outputs.now) (g.O.Outputs.states c.tell_streams.new.outputs) (g.O.Outputs.states c.run_solved.new.outputs) c.in_ok-user.ensures
-    cause (rw c.in-None.is at c.in-Ok.ensures.ok) c.is_either-is_warned.ensures broken) c.run_solved.ensures.err
+    fault (rw c.in-None.is at c.in-Ok.ensures.ok) c.is_either-is_warned.ensures broken) c.run_solved.ensures.err
 
 pub returns-clause-ok : goal.returns-clause-ok
 returns-clause-ok g c =
     let streamed = c.in-Ok.streamed in
     IfOk-weaker c.refuse_line.result _ _ (λ status finishes.
-    Finishes-long c.args.options.now c.args.tree.now (map g.I.Input.remaining c.args.inputs.now)
+    Completes-long c.args.options.now c.args.tree.now (map g.I.Input.remaining c.args.inputs.now)
     (map g.I.Input.is_there c.args.inputs.now) _ c.tell_streams.new.user c.args.is_warned streamed.is_warned streamed.is_warned
     (g.O.Outputs.states c.args.outputs.now) (g.O.Outputs.states c.tell_streams.new.outputs) (g.O.Outputs.states c.refuse_line.new.outputs) c.in_ok-user.ensures
     status (stop_of c.in-Some.long) (rw c.in-Some.is at c.in-Ok.ensures.ok) finishes) c.refuse_line.ensures.ok
@@ -49,8 +49,8 @@ returns-clause-ok g c =
 pub returns-clause-err : goal.returns-clause-err
 returns-clause-err g c =
     let streamed = c.in-Ok.streamed in
-    IfErr-weaker c.refuse_line.result _ _ (λ cause broken.
+    IfErr-weaker c.refuse_line.result _ _ (λ fault broken.
     BreaksRun-long c.args.options.now c.args.tree.now (map g.I.Input.remaining c.args.inputs.now)
     (map g.I.Input.is_there c.args.inputs.now) _ c.tell_streams.new.user c.args.is_warned streamed.is_warned streamed.is_warned
     (g.O.Outputs.states c.args.outputs.now) (g.O.Outputs.states c.tell_streams.new.outputs) (g.O.Outputs.states c.refuse_line.new.outputs) c.in_ok-user.ensures
-    cause (stop_of c.in-Some.long) (rw c.in-Some.is at c.in-Ok.ensures.ok) broken) c.refuse_line.ensures.err
+    fault (stop_of c.in-Some.long) (rw c.in-Some.is at c.in-Ok.ensures.ok) broken) c.refuse_line.ensures.err

@@ -8,7 +8,7 @@ use Rattle.kc_conf.specs.OutputStates.{with_text}
 use Rattle.kc_conf.specs.Reads.{strictly_after}
 use Rattle.kc_conf.specs.declared.outputs.Output.TheVariants.{Notes}
 use Rattle.kc_conf.proofs.OutcomeLemmas.{BreaksRun-nothing}
-use Rattle.kc_conf.proofs.RunLemmas.{BreaksRun-solution_notes, BreaksRun-solution_files, Finishes-solution}
+use Rattle.kc_conf.proofs.RunLemmas.{BreaksRun-solution_notes, BreaksRun-solution_files, Completes-solution}
 use Rattle.kc_conf.proofs.runs.run_solved.Goals as goal
 
 pub returns-in_err-solved-clause-err : goal.returns-in_err-solved-clause-err
@@ -35,7 +35,7 @@ returns-clause-ok g c =
     IfOk-weaker c.run_lost.result _ _ (λ status finishes. (
       s,
       here,
-      Finishes-solution c.args.options.now tree c.args.is_warned c.is_warned_by-is_warned.result (warnings s) told s status
+      Completes-solution c.args.options.now tree c.args.is_warned c.is_warned_by-is_warned.result (warnings s) told s status
           (g.O.Outputs.states c.args.outputs.now) (g.O.Outputs.states c.note_lines.new.outputs) (g.O.Outputs.states c.run_lost.new.outputs) refl wrote finishes,
     )) c.run_lost.ensures.ok
 
@@ -46,6 +46,6 @@ returns-clause-err g c =
     let here : IsSolutionFor tree c.args.user.now s = record { tree_is = c.in_ok-solved.ensures.tree; places_are = c.in_ok-solved.ensures.places; solves = c.is_solution.ensures } in
     let told = c.is_warned_by-is_warned.ensures ∙ ap (λ l. c.args.is_warned || has_text (lines_text l)) c.value_warnings-2.ensures in
     let wrote = c.in_default.ensures.ok ∙ ap (λ l. with_text Notes (lines_text l) (g.O.Outputs.states c.args.outputs.now)) c.value_warnings.ensures in
-    IfErr-weaker c.run_lost.result _ _ (λ cause broken. λ solution solves.
-    BreaksRun-solution_files c.args.options.now tree c.args.is_warned c.is_warned_by-is_warned.result (warnings s) told c.args.user.now s solution cause
+    IfErr-weaker c.run_lost.result _ _ (λ fault broken. λ solution solves.
+    BreaksRun-solution_files c.args.options.now tree c.args.is_warned c.is_warned_by-is_warned.result (warnings s) told c.args.user.now s solution fault
     (g.O.Outputs.states c.args.outputs.now) (g.O.Outputs.states c.note_lines.new.outputs) (g.O.Outputs.states c.run_lost.new.outputs) here solves refl wrote broken) c.run_lost.ensures.err

@@ -2,12 +2,12 @@
 use Rattle.std.proofs.Common.{inr, map, refl}
 use Rattle.std.proofs.lemmas.Result.{IfOk-weaker, IfErr-weaker}
 use Rattle.kc_read.specs.RefusalView.{refusal_view}
-use Rattle.kc_conf.specs.Faults.{Finishes}
+use Rattle.kc_conf.specs.Faults.{Completes}
 use Rattle.kc_conf.specs.ErrorLines.{refusal_line}
 use Rattle.kc_conf.specs.Outcome.{refused, root_file}
 use Rattle.kc_conf.specs.TreeFiles.{files_in}
 use Rattle.kc_conf.proofs.RunLemmas.{MayStrike-outputs}
-use Rattle.kc_conf.proofs.StopLemmas.{accepted_as, looped_as, refused_as, BreaksRun-refusal, Finishes-refusal, HoldsTree-accepted, HoldsTree-ended, nothing_accepted}
+use Rattle.kc_conf.proofs.StopLemmas.{accepted_as, looped_as, refused_as, BreaksRun-refusal, Completes-refusal, HoldsTree-accepted, HoldsTree-ended, nothing_accepted}
 use Rattle.kc_conf.proofs.runs.run_through.Goals as goal
 
 -- ---- no tree
@@ -17,7 +17,7 @@ returns-in-Err-clause-ok g c =
     let files = files_in c.args.files in
     let why = refused_as files (root_file c.args.options.now) (root_file c.args.options.now) refl c.in-Err.refusal c.in-Err.ensures.refused in
     IfOk-weaker c.refuse.result _ _
-    (λ status. Finishes-refusal c.one_answer.ensures c.opened_are_one_list.ensures.there files c.args.options.now c.in-Err.refusal why (map g.I.Input.remaining c.args.inputs.now)
+    (λ status. Completes-refusal c.one_answer.ensures c.opened_are_one_list.ensures.there files c.args.options.now c.in-Err.refusal why (map g.I.Input.remaining c.args.inputs.now)
     (map g.I.Input.is_there c.args.inputs.now)
     status (g.O.Outputs.states c.args.outputs.now) (g.O.Outputs.states c.refuse.new.outputs)) c.refuse.ensures.ok
 
@@ -26,19 +26,19 @@ returns-in-Err-clause-err g c =
     let files = files_in c.args.files in
     let why = refused_as files (root_file c.args.options.now) (root_file c.args.options.now) refl c.in-Err.refusal c.in-Err.ensures.refused in
     IfErr-weaker c.refuse.result _ _
-    (λ cause. BreaksRun-refusal c.one_answer.ensures c.opened_are_one_list.ensures.there files c.args.options.now c.in-Err.refusal why (map g.I.Input.remaining c.args.inputs.now)
-    cause (g.O.Outputs.states c.args.outputs.now) (g.O.Outputs.states c.refuse.new.outputs)) c.refuse.ensures.err
+    (λ fault. BreaksRun-refusal c.one_answer.ensures c.opened_are_one_list.ensures.there files c.args.options.now c.in-Err.refusal why (map g.I.Input.remaining c.args.inputs.now)
+    fault (g.O.Outputs.states c.args.outputs.now) (g.O.Outputs.states c.refuse.new.outputs)) c.refuse.ensures.err
 
 pub returns-in-Err-clause-may : goal.returns-in-Err-clause-may
 returns-in-Err-clause-may g c =
-    IfErr-weaker c.refuse.result _ _ (λ cause is. MayStrike-outputs cause (map g.I.Input.may_fail c.args.inputs.now) is) c.refuse.ensures.cause
+    IfErr-weaker c.refuse.result _ _ (λ fault is. MayStrike-outputs fault (map g.I.Input.may_fail c.args.inputs.now) is) c.refuse.ensures.fault
 
 pub returns-in-Err-clause-kept : goal.returns-in-Err-clause-kept
 returns-in-Err-clause-kept g c =
     let files = files_in c.args.files in
     let why = refused_as files (root_file c.args.options.now) (root_file c.args.options.now) refl c.in-Err.refusal c.in-Err.ensures.refused in
     nothing_accepted c.one_answer.ensures c.opened_are_one_list.ensures.there files c.args.options.now c.in-Err.refusal why c.args.kept.now
-    (λ status. Finishes (refused (refusal_line (refusal_view c.in-Err.refusal))) status (g.O.Outputs.states c.args.outputs.now) (g.O.Outputs.states c.refuse.new.outputs))
+    (λ status. Completes (refused (refusal_line (refusal_view c.in-Err.refusal))) status (g.O.Outputs.states c.args.outputs.now) (g.O.Outputs.states c.refuse.new.outputs))
     c.refuse.result c.refuse.ensures.ok
 
 -- ---- a tree that is accepted
@@ -52,7 +52,7 @@ returns-in-Ok-of-clause-ok g c =
 
 pub returns-in-Ok-of-clause-err : goal.returns-in-Ok-of-clause-err
 returns-in-Ok-of-clause-err g c =
-    IfErr-weaker c.run_accepted-ended.result _ _ (λ cause of_files. of_files (files_in c.args.files)
+    IfErr-weaker c.run_accepted-ended.result _ _ (λ fault of_files. of_files (files_in c.args.files)
     (accepted_as (files_in c.args.files) (root_file c.args.options.now) (root_file c.args.options.now) refl c.in-Ok.read.0 c.in-Ok.ensures.built c.in-Ok-of.ensures.accepted) c.in-Ok.ensures.at_hand)
     c.run_accepted-ended.ensures.err
 
@@ -99,7 +99,7 @@ returns-in-Err-of-clause-ok g c =
     let r = c.in-Err-of.refusal in
     let why = looped_as files (root_file c.args.options.now) (root_file c.args.options.now) refl c.in-Ok.read.0 r c.in-Ok.ensures.built c.in-Err-of.ensures.refused in
     IfOk-weaker c.refuse-in-Err-of.result _ _
-    (λ status. Finishes-refusal c.one_answer.ensures c.opened_are_one_list.ensures.there files c.args.options.now r why (map g.I.Input.remaining c.args.inputs.now)
+    (λ status. Completes-refusal c.one_answer.ensures c.opened_are_one_list.ensures.there files c.args.options.now r why (map g.I.Input.remaining c.args.inputs.now)
     (map g.I.Input.is_there c.args.inputs.now)
     status (g.O.Outputs.states c.args.outputs.now) (g.O.Outputs.states c.refuse-in-Err-of.new.outputs)) c.refuse-in-Err-of.ensures.ok
 
@@ -109,12 +109,12 @@ returns-in-Err-of-clause-err g c =
     let r = c.in-Err-of.refusal in
     let why = looped_as files (root_file c.args.options.now) (root_file c.args.options.now) refl c.in-Ok.read.0 r c.in-Ok.ensures.built c.in-Err-of.ensures.refused in
     IfErr-weaker c.refuse-in-Err-of.result _ _
-    (λ cause. BreaksRun-refusal c.one_answer.ensures c.opened_are_one_list.ensures.there files c.args.options.now r why (map g.I.Input.remaining c.args.inputs.now)
-    cause (g.O.Outputs.states c.args.outputs.now) (g.O.Outputs.states c.refuse-in-Err-of.new.outputs)) c.refuse-in-Err-of.ensures.err
+    (λ fault. BreaksRun-refusal c.one_answer.ensures c.opened_are_one_list.ensures.there files c.args.options.now r why (map g.I.Input.remaining c.args.inputs.now)
+    fault (g.O.Outputs.states c.args.outputs.now) (g.O.Outputs.states c.refuse-in-Err-of.new.outputs)) c.refuse-in-Err-of.ensures.err
 
 pub returns-in-Err-of-clause-may : goal.returns-in-Err-of-clause-may
 returns-in-Err-of-clause-may g c =
-    IfErr-weaker c.refuse-in-Err-of.result _ _ (λ cause is. MayStrike-outputs cause (map g.I.Input.may_fail c.args.inputs.now) is) c.refuse-in-Err-of.ensures.cause
+    IfErr-weaker c.refuse-in-Err-of.result _ _ (λ fault is. MayStrike-outputs fault (map g.I.Input.may_fail c.args.inputs.now) is) c.refuse-in-Err-of.ensures.fault
 
 pub returns-in-Err-of-clause-kept : goal.returns-in-Err-of-clause-kept
 returns-in-Err-of-clause-kept g c =
@@ -122,5 +122,5 @@ returns-in-Err-of-clause-kept g c =
     let r = c.in-Err-of.refusal in
     let why = looped_as files (root_file c.args.options.now) (root_file c.args.options.now) refl c.in-Ok.read.0 r c.in-Ok.ensures.built c.in-Err-of.ensures.refused in
     nothing_accepted c.one_answer.ensures c.opened_are_one_list.ensures.there files c.args.options.now r why c.args.kept.now
-    (λ status. Finishes (refused (refusal_line (refusal_view r))) status (g.O.Outputs.states c.args.outputs.now) (g.O.Outputs.states c.refuse-in-Err-of.new.outputs))
+    (λ status. Completes (refused (refusal_line (refusal_view r))) status (g.O.Outputs.states c.args.outputs.now) (g.O.Outputs.states c.refuse-in-Err-of.new.outputs))
     c.refuse-in-Err-of.result c.refuse-in-Err-of.ensures.ok

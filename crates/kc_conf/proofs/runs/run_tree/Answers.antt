@@ -5,7 +5,7 @@ use Rattle.kc_conf.specs.Outcome.{has_text, lines_text}
 use Rattle.kc_conf.specs.OutputStates.{with_text}
 use Rattle.kc_conf.specs.declared.outputs.Output.TheVariants.{Notes}
 use Rattle.kc_conf.proofs.ReadsLemmas.{left_of, AreAllToCome-self}
-use Rattle.kc_conf.proofs.RunLemmas.{Finishes-tree, BreaksRun-tree, BreaksRun-warnings}
+use Rattle.kc_conf.proofs.RunLemmas.{Completes-tree, BreaksRun-tree, BreaksRun-warnings}
 use Rattle.kc_conf.proofs.runs.run_tree.Goals as goal
 
 pub returns-in-Err-clause-err : goal.returns-in-Err-clause-err
@@ -25,7 +25,7 @@ returns-clause-ok g c =
     IfOk-weaker c.run_read.result _ _ (λ status. λ (all, are, finishes). (
       all,
       are,
-      Finishes-tree c.args.options.now tree all tree.warnings c.is_warned_by-is_warned.result told refl status (g.O.Outputs.states c.args.outputs.now)
+      Completes-tree c.args.options.now tree all tree.warnings c.is_warned_by-is_warned.result told refl status (g.O.Outputs.states c.args.outputs.now)
           (g.O.Outputs.states c.note_lines.new.outputs) (g.O.Outputs.states c.run_read.new.outputs) wrote finishes,
     )) c.run_read.ensures.ok
 
@@ -34,9 +34,9 @@ returns-clause-err g c =
     let tree = c.args.tree.now in
     let told = c.is_warned_by-is_warned.ensures ∙ ap (λ l. has_text (lines_text l)) c.parse_warnings-2.ensures in
     let wrote = c.in_default.ensures.ok ∙ ap (λ l. with_text Notes (lines_text l) (g.O.Outputs.states c.args.outputs.now)) c.parse_warnings.ensures in
-    IfErr-weaker c.run_read.result _ _ (λ cause. λ (all, are, broken). (
+    IfErr-weaker c.run_read.result _ _ (λ fault. λ (all, are, broken). (
       all,
       are,
-      BreaksRun-tree c.args.options.now tree all tree.warnings c.is_warned_by-is_warned.result told refl cause (g.O.Outputs.states c.args.outputs.now)
+      BreaksRun-tree c.args.options.now tree all tree.warnings c.is_warned_by-is_warned.result told refl fault (g.O.Outputs.states c.args.outputs.now)
           (g.O.Outputs.states c.note_lines.new.outputs) (g.O.Outputs.states c.run_read.new.outputs) wrote broken,
     )) c.run_read.ensures.err

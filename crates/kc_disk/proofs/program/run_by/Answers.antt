@@ -5,7 +5,7 @@ use Rattle.kc_conf.specs.declared.options.Status.{Status}
 use Rattle.kc_disk.specs.Openers.{ReadDevice}
 use Rattle.kc_disk.specs.Makers.{MakerCall}
 use Rattle.kc_disk.specs.Movers.{MoverCall, MoverState, mover_call}
-use Rattle.kc_disk.specs.Program.{Ends}
+use Rattle.kc_disk.specs.Program.{RunEnds}
 use Rattle.kc_disk.specs.Replacing.{EndsBy, EndsReplacing}
 use Rattle.kc_disk.proofs.program.run_by.Goals as goal
 
@@ -14,7 +14,7 @@ at_the_end : (b : Bool) (folder opened : ReadDevice) (options : Options) (status
 at_the_end b folder opened options status maker mover e h = rw e h
 
 as_they_are_made : (b : Bool) (folder opened : ReadDevice) (options : Options) (status : Status) (maker : MakerCall) (state : Option MoverState)
-    (may_fail : Bool) → b ≡ false → Ends folder opened options status maker → EndsBy b folder opened options status maker (mover_call state state may_fail)
+    (may_fail : Bool) → b ≡ false → RunEnds folder opened options status maker → EndsBy b folder opened options status maker (mover_call state state may_fail)
 as_they_are_made b folder opened options status maker state may_fail e h = rw e (h, refl)
 
 pub returns-then-options : goal.returns-then-options

@@ -3,14 +3,14 @@ use Rattle.std.proofs.lemmas.Result.{IfErr-weaker, on_ok_weaker}
 use Rattle.kc_dot.specs.Reading.{line, assignments}
 use Rattle.kc_dot.specs.ReaderView.{position_of}
 use Rattle.kc_dot.proofs.FedLemmas.{no_bytes, some_bytes}
-use Rattle.kc_dot.proofs.FeedLemmas.{Finishes-nothing, Finishes-line, FailsToEnd-line, OnOk-three}
+use Rattle.kc_dot.proofs.FeedLemmas.{FinishesStream-nothing, FinishesStream-line, FailsToEnd-line, OnOk-three}
 use Rattle.kc_dot.proofs.PlaceLemmas.{ArePlacesOf-given}
 use Rattle.kc_dot.proofs.line_buffer.end_stream.Goals as goal
 
 pub returns-then-is_empty-clause-ok : goal.returns-then-is_empty-clause-ok
 returns-then-is_empty-clause-ok g c =
     let stream = c.args.stream.now in
-    Finishes-nothing stream.tree.now stream.prefix.now stream.name.now (position_of c.args.line_buffer.now) c.args.user.now (g.S.Sink.taken c.args.sink.now)
+    FinishesStream-nothing stream.tree.now stream.prefix.now stream.name.now (position_of c.args.line_buffer.now) c.args.user.now (g.S.Sink.taken c.args.sink.now)
     (no_bytes c.args.line_buffer.now.pending.items c.args.line_buffer.now.pending.len (omega (arith, c.args.line_buffer.now.pending.ok.0)) c.if-is_empty.ensures)
 
 pub returns-clause-ok : goal.returns-clause-ok
@@ -18,7 +18,7 @@ returns-clause-ok g c =
     let stream = c.args.stream.now in
     OnOk-three c.end_line.result _ _ _ _
     (λ places warned next.
-    Finishes-line stream.tree.now stream.prefix.now stream.name.now (position_of c.args.line_buffer.now) c.args.user.now c.end_line.new.user _ _ c.requires.opened
+    FinishesStream-line stream.tree.now stream.prefix.now stream.name.now (position_of c.args.line_buffer.now) c.args.user.now c.end_line.new.user _ _ c.requires.opened
     (some_bytes c.args.line_buffer.now.pending.items c.args.line_buffer.now.pending.len (omega (arith, c.args.line_buffer.now.pending.ok.0)) c.if-is_empty.ensures) places warned)
     c.end_line.ensures.places c.end_line.ensures.warned c.end_line.ensures.next
 

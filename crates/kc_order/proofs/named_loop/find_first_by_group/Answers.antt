@@ -2,7 +2,7 @@ use Rattle.std.proofs.Common.{arith, sym, ◌∙◌, ap, get_or, take, drop, map
 use Rattle.std.specs.List.{flat_map}
 use Rattle.std.proofs.lemmas.List.{length-map, take_more, length-take-le, get_or-drop, map-append}
 use Rattle.std.proofs.lemmas.List.Elements.{Contains-get_or}
-use Rattle.kc_order.specs.FirstUnordered.{least_in, marked_unordered}
+use Rattle.kc_order.specs.FirstUnordered.{least_in, is_unordered_at}
 use Rattle.kc_order.specs.Graph.{stands_for, groups_from}
 use Rattle.kc_order.specs.Needs.{needs_in}
 use Rattle.kc_order.proofs.Groups.{groups_len, groups_push}
@@ -15,9 +15,9 @@ count c =
     let n = c.args.symbols in
     let rest = drop n c.args.rows.now in
     let k = c.loop-group.group - n in
-    let is = ap length c.loop-group.invariant.are ∙ length-map (groups_from n [] (take k rest)) (least_in (marked_unordered c.args.marks.now)) in
+    let is = ap length c.loop-group.invariant.are ∙ length-map (groups_from n [] (take k rest)) (least_in (is_unordered_at c.args.states.now)) in
     let groups = groups_len n [] (take k rest) in
-    let taken = length-take-le k rest (omega (arith, length-drop n c.args.rows.now, c.loop-group-test.true, c.requires.marks)) in
+    let taken = length-take-le k rest (omega (arith, length-drop n c.args.rows.now, c.loop-group-test.true, c.requires.states)) in
     omega (arith, is, groups, taken)
 
 pub first_in_row-first-requires-clause-there : goal.first_in_row-first-requires-clause-there
@@ -35,7 +35,7 @@ loop-group-preserved c =
     let group = c.loop-group.group in
     let rest = drop n rows in
     let k = group - n in
-    let test = marked_unordered c.args.marks.now in
+    let test = is_unordered_at c.args.states.now in
     let groups = groups_from n [] (take k rest) in
     let inv = c.loop-group.invariant in
     let next : group + 1 - n ≡ k + 1 = omega (arith, inv.from) in

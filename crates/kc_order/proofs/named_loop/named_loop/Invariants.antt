@@ -1,6 +1,6 @@
 use Rattle.std.proofs.Common.{◌-◌, length, eqb}
 use Rattle.std.specs.List.{list_any}
-use Rattle.kc_order.specs.Rows.{AreMarks}
+use Rattle.kc_order.specs.Rows.{AreFlags}
 use Rattle.kc_order.proofs.Groups.{flat}
 use Rattle.kc_order.proofs.Walks.{IsOnTheWay}
 use Rattle.kc_order.proofs.named_loop.named_loop.Given as goal
@@ -8,7 +8,7 @@ use Rattle.kc_order.proofs.named_loop.named_loop.Given as goal
 abbrev pub invariant-loop-visited : goal.invariant-loop-visited
 invariant-loop-visited l = record {
   walks : IsOnTheWay l.symbols (flat l.symbols l.rows) l.walk.items l.at;
-  marked_unordered : AreMarks l.symbols (λ s. list_any (eqb s) l.walk.items) l.visited.items;
+  is_unordered_at : AreFlags l.symbols (λ s. list_any (eqb s) l.walk.items) l.visited.items;
 }
 
 abbrev pub decreases-loop-visited : goal.decreases-loop-visited

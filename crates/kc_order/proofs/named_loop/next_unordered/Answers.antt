@@ -2,7 +2,7 @@ use Rattle.std.proofs.Common.{arith, ap, sym, ◌∙◌, length, ◌≡◌, ◌<
 use Rattle.std.specs.List.{flat_map}
 use Rattle.std.proofs.lemmas.List.{length-map}
 use Rattle.std.proofs.lemmas.List.Elements.{Contains-get_or}
-use Rattle.kc_order.specs.FirstUnordered.{least_in, marked_unordered}
+use Rattle.kc_order.specs.FirstUnordered.{least_in, is_unordered_at}
 use Rattle.kc_order.specs.Graph.{stands_for, groups_of}
 use Rattle.kc_order.specs.Loop.{IsNext}
 use Rattle.kc_order.specs.Needs.{needs_in, unordered_after, NeedsBelow}
@@ -20,7 +20,7 @@ count : (c : After-row) → c.args.symbols + length c.args.first_by_group.now �
 count c =
     let rest = drop c.args.symbols c.args.rows.now in
     let is = ap length c.requires.first_by_group
-    ∙ length-map (groups_of (graph c.args.symbols c.args.rows.now)) (least_in (marked_unordered c.args.marks.now))
+    ∙ length-map (groups_of (graph c.args.symbols c.args.rows.now)) (least_in (is_unordered_at c.args.states.now))
     ∙ groups_len c.args.symbols [] rest in
     omega (arith, is, length-drop c.args.symbols c.args.rows.now, c.requires.graph.symbols_there)
 
@@ -39,14 +39,14 @@ found c =
     let rows = c.args.rows.now in
     let needs = flat n rows c.args.symbol in
     let stands = stands_for n (groups_of (graph n rows)) in
-    let test = marked_unordered c.args.marks.now in
+    let test = is_unordered_at c.args.states.now in
     c.first_in_row.ensures (groups_of (graph n rows)) c.requires.first_by_group
     ∙ ap (λ row. least_in test (flat_map stands row)) c.row.ensures
     ∙ ap (least_in test) (sym (needs_stand (graph n rows) c.requires.graph c.args.symbol c.requires.symbol))
     ∙ least_agree test (unordered_after (flat n rows) n) needs (λ k d l.
     let t = get_or needs k d in
     let below : get_or needs k d < n = needs_within (graph n rows) c.requires.graph c.args.symbol t c.requires.symbol (Contains-get_or needs k d l) in
-    c.requires.marks.each t (omega (arith, below, c.requires.graph.symbols_there)) ∙ unordered_alike (graph n rows) c.requires.graph t below)
+    c.requires.states.each t (omega (arith, below, c.requires.graph.symbols_there)) ∙ unordered_alike (graph n rows) c.requires.graph t below)
 
 pub unreachable-requires : goal.unreachable-requires
 unreachable-requires c =

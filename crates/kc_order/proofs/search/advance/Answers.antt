@@ -35,19 +35,19 @@ need_below : (c : After-row-row) → need c < length c.args.rows.now
 need_below c = needs_below c.args.rows.now c.requires.rows_below c.args.top (need c) c.requires.below (need_in c)
 
 mark_is : (c : After-index) → get_or c.row-row.result.now (c.index-left.result.now - 1) 0 < length c.args.rows.now →
-    get_or c.args.search.now.marks.items (get_or c.row-row.result.now (c.index-left.result.now - 1) 0) New ≡ c.index.result.now
-mark_is c below = sym (get_or_read c.args.search.now.marks.items (get_or c.row-row.result.now (c.index-left.result.now - 1) 0) c.index.result.now
-    (omega (arith, c.requires.sound.marks_len, below)) c.index.ensures New)
+    get_or c.args.search.now.states.items (get_or c.row-row.result.now (c.index-left.result.now - 1) 0) New ≡ c.index.result.now
+mark_is c below = sym (get_or_read c.args.search.now.states.items (get_or c.row-row.result.now (c.index-left.result.now - 1) 0) c.index.result.now
+    (omega (arith, c.requires.sound.states_len, below)) c.index.ensures New)
 
 pub index-requires : goal.index-requires
-index-requires c = omega (arith, need_below (goal.at.index-requires c).After-row-row, c.requires.sound.marks_len, c.args.search.now.marks.ok.0)
+index-requires c = omega (arith, need_below (goal.at.index-requires c).After-row-row, c.requires.sound.states_len, c.args.search.now.states.ok.0)
 
 -- the last open symbol needs it
 needed : (c : After-row-row) (k : ℕ) → k + 1 ≡ length c.args.search.now.path.items → Contains (needs_in c.args.rows.now (get_or c.args.search.now.path.items k 0)) (need c)
 needed c k e = subst (λ x. Contains (needs_in c.args.rows.now x) (need c)) (sym (last_is c.args.search.now.path.items c.args.top _ k c.requires.last e)) (need_in c)
 
 pub open-requires : goal.open-requires
-open-requires c = omega (arith, need_below (goal.at.open-requires c).After-row-row, c.requires.sound.marks_len)
+open-requires c = omega (arith, need_below (goal.at.open-requires c).After-row-row, c.requires.sound.states_len)
 
 pub returns-then-left-eq0-clause-sound : goal.returns-then-left-eq0-clause-sound
 returns-then-left-eq0-clause-sound c =
@@ -75,12 +75,12 @@ returns-in_ok-open-in-New-clause-less c =
     opens_less c.args.rows.now s c.open.new.search (need a) c.requires.sound (need_below a) new c.in_ok-open-in-New.ensures
 
 -- the last of the needs that are left is done, and so are those before it down to j
-passed_done : (marks : List NodeState) (row : List ℕ) (left j : ℕ) → get_or marks (get_or row (left - 1) 0) New ≡ Done →
-    ((k : ℕ) → j ≤ k → k < left - 1 → get_or marks (get_or row k 0) New ≡ Done) → (k : ℕ) → j ≤ k → k < left → get_or marks (get_or row k 0) New ≡ Done
-passed_done marks row left j done passed k up b =
+passed_done : (states : List NodeState) (row : List ℕ) (left j : ℕ) → get_or states (get_or row (left - 1) 0) New ≡ Done →
+    ((k : ℕ) → j ≤ k → k < left - 1 → get_or states (get_or row k 0) New ≡ Done) → (k : ℕ) → j ≤ k → k < left → get_or states (get_or row k 0) New ≡ Done
+passed_done states row left j done passed k up b =
     elim (cases_lt k (left - 1)) [
       | inl before ↦ passed k up before
-      | inr last ↦ let is : k ≡ left - 1 = omega arith in ap (λ i. get_or marks (get_or row i 0) New) is ∙ done
+      | inr last ↦ let is : k ≡ left - 1 = omega arith in ap (λ i. get_or states (get_or row i 0) New) is ∙ done
     ]
 
 -- the needs of the row are nodes
@@ -98,7 +98,7 @@ pass_done-requires-clause-count c =
 pub pass_done-requires-clause-row : goal.pass_done-requires-clause-row
 pass_done-requires-clause-row c =
     let a = (goal.at.pass_done-requires-clause-row c).After-row-row in
-    subst (λ n. All (λ t. t < n) a.row-row.result.now) (sym (ap length c.deref.ensures.value ∙ c.requires.sound.marks_len)) (row_below a)
+    subst (λ n. All (λ t. t < n) a.row-row.result.now) (sym (ap length c.deref.ensures.value ∙ c.requires.sound.states_len)) (row_below a)
 
 pub returns-in-Done-clause-sound : goal.returns-in-Done-clause-sound
 returns-in-Done-clause-sound c =
@@ -108,12 +108,12 @@ returns-in-Done-clause-sound c =
     let i = (goal.at.returns-in-Done-clause-sound c).After-index in
     let j = c.pass_done.result in
     record {
-      marks_len = h.marks_len;
+      states_len = h.states_len;
       left_len = length-set s.left.items c.args.top c.pass_done.result ∙ h.left_len;
-      keeps = passed_to _ (needs_in c.args.rows.now) (λ t. get_or s.marks.items t New)
+      keeps = passed_to _ (needs_in c.args.rows.now) (λ t. get_or s.states.items t New)
           (λ t. get_or s.left.items t 0) _ s.path.items s.order.items c.args.top c.pass_done.result h.keeps c.requires.below (omega (arith, left_is a, c.pass_done.ensures.fewer))
-          (λ k up b. ap (λ xs. get_or s.marks.items (get_or xs k 0) New) (sym a.row-row.ensures)
-          ∙ passed_done s.marks.items a.row-row.result.now c.index-left.result.now c.pass_done.result (mark_is i (need_below a) ∙ c.in-Done.is)
+          (λ k up b. ap (λ xs. get_or s.states.items (get_or xs k 0) New) (sym a.row-row.ensures)
+          ∙ passed_done s.states.items a.row-row.result.now c.index-left.result.now c.pass_done.result (mark_is i (need_below a) ∙ c.in-Done.is)
           (subst (λ ms. (i : ℕ) → c.pass_done.result ≤ i → i < c.index-left.result.now - 1 → get_or ms (get_or a.row-row.result.now i 0) New ≡ Done) c.deref.ensures.value
           c.pass_done.ensures.done) k up (omega (arith, b, left_is a)))
           (row_passes_to c.args.rows.now s.left.items c.args.top c.pass_done.result (row_in a));
@@ -128,13 +128,13 @@ returns-in-Done-clause-less c =
 -- the search, its path split at its last
 abbrev split : After-row-row → Type 0
 split c =
-    IsSearch (length c.args.rows.now) (needs_in c.args.rows.now) (λ t. get_or c.args.search.now.marks.items t New)
+    IsSearch (length c.args.rows.now) (needs_in c.args.rows.now) (λ t. get_or c.args.search.now.states.items t New)
     (λ t. get_or c.args.search.now.left.items t 0)
     (take (vec_len c.args.search.now.path - 1) c.args.search.now.path.items ++ c.args.top ∷ []) c.args.search.now.order.items
 
 is_split : (c : After-row-row) → split c
 is_split c =
-    subst (λ p. IsSearch (length c.args.rows.now) (needs_in c.args.rows.now) (λ t. get_or c.args.search.now.marks.items t New)
+    subst (λ p. IsSearch (length c.args.rows.now) (needs_in c.args.rows.now) (λ t. get_or c.args.search.now.states.items t New)
     (λ t. get_or c.args.search.now.left.items t 0) p c.args.search.now.order.items) c.requires.last c.requires.sound.keeps
 
 pub returns-in-Open-clause-sound : goal.returns-in-Open-clause-sound
@@ -142,7 +142,7 @@ returns-in-Open-clause-sound c =
     let s = c.args.search.now in
     let a = (goal.at.returns-in-Open-clause-sound c).After-row-row in
     let i = (goal.at.returns-in-Open-clause-sound c).After-index in
-    let unordered = found _ (needs_in c.args.rows.now) (λ t. get_or s.marks.items t New) (λ t. get_or s.left.items t 0)
+    let unordered = found _ (needs_in c.args.rows.now) (λ t. get_or s.states.items t New) (λ t. get_or s.left.items t 0)
     (take (vec_len s.path - 1) s.path.items) s.order.items c.args.top (need a)
     (is_split a) (need_in a) (need_below a) (mark_is i (need_below a) ∙ c.in-Open.is) in
     gives_up_sound c.args.rows.now s c.give_up.new.search c.args.top c.requires.sound c.requires.below unordered c.give_up.ensures
@@ -156,7 +156,7 @@ returns-in-Unordered-clause-sound c =
     let s = c.args.search.now in
     let a = (goal.at.returns-in-Unordered-clause-sound c).After-row-row in
     let i = (goal.at.returns-in-Unordered-clause-sound c).After-index in
-    let unordered = needs_unordered _ (needs_in c.args.rows.now) (λ t. get_or s.marks.items t New)
+    let unordered = needs_unordered _ (needs_in c.args.rows.now) (λ t. get_or s.states.items t New)
     (λ t. get_or s.left.items t 0) s.path.items s.order.items c.args.top (need a)
     c.requires.sound.keeps (need_in a) (need_below a) (mark_is i (need_below a) ∙ c.in-Unordered.is) in
     gives_up_sound c.args.rows.now s c.give_up-in-Unordered.new.search c.args.top c.requires.sound c.requires.below unordered c.give_up-in-Unordered.ensures

@@ -10,10 +10,10 @@ loop-root-init c =
     let rows = c.args.rows.now in
     record {
       sound = record {
-        marks_len = ap length c.in_ok-new_marks.ensures ∙ length-replicate c.count-count.result New ∙ c.count-count.ensures;
+        states_len = ap length c.in_ok-new_states.ensures ∙ length-replicate c.count-count.result New ∙ c.count-count.ensures;
         left_len = ap length c.in_ok-need_counts.ensures ∙ length-map rows length;
         keeps = rw (c.new.ensures.items, c.in_ok-with_capacity.ensures.items) (starts (length rows) (needs_in rows) _ _
-            (λ s b. rw c.in_ok-new_marks.ensures (get_or-replicate c.count-count.result s New New (omega (arith, b, c.count-count.ensures))))
+            (λ s b. rw c.in_ok-new_states.ensures (get_or-replicate c.count-count.result s New New (omega (arith, b, c.count-count.ensures))))
             (λ s b. rw c.in_ok-need_counts.ensures (counts_are rows s)));
       };
       idle = ap length c.new.ensures.items;

@@ -7,5 +7,5 @@ abbrev pub invariant-loop-root : goal.invariant-loop-root
 invariant-loop-root l = record {
   sound : IsSound l.rows l.search;
   idle : length l.search.path.items ≡ 0;
-  visited : (s : ℕ) → s < l.root → get_or l.search.marks.items s New ≢ New;
+  visited : (s : ℕ) → s < l.root → get_or l.search.states.items s New ≢ New;
 }

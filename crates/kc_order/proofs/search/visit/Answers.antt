@@ -18,11 +18,11 @@ pub loop-top-init : goal.loop-top-init
 loop-top-init c =
     let path : (k : ℕ) → k + 1 ≡ length c.args.search.now.path.items → Contains (needs_in c.args.rows.now (slice_index c.args.search.now.path.items k)) c.args.root =
     λ k e. absurd (omega (arith, c.requires.idle)) in
-    let new = sym (get_or_read c.args.search.now.marks.items c.args.root c.index.result.now (omega (arith, c.requires.sound.marks_len, c.requires.below)) c.index.ensures New) ∙ c.in-New.is in
+    let new = sym (get_or_read c.args.search.now.states.items c.args.root c.index.result.now (omega (arith, c.requires.sound.states_len, c.requires.below)) c.index.ensures New) ∙ c.in-New.is in
     let opens = c.in_ok-open.ensures in
     record {
       sound = opens_sound c.args.rows.now c.args.search.now c.open.new.search c.args.root c.requires.sound c.requires.below new path opens;
       visited = opens_met c.args.rows.now c.args.search.now c.open.new.search c.args.root c.requires.sound c.requires.below opens;
-      root_met = open≢new (get_or c.open.new.search.marks.items c.args.root New)
+      root_met = open≢new (get_or c.open.new.search.states.items c.args.root New)
           (opens_there c.args.rows.now c.args.search.now c.open.new.search c.args.root c.requires.sound c.requires.below opens);
     }

@@ -7,7 +7,7 @@ abbrev pub invariant-loop-top : goal.invariant-loop-top
 invariant-loop-top l = record {
   sound : IsSound l.rows l.search;
   visited : KeepsVisited l.fn.search l.search;
-  root_met : get_or l.search.marks.items l.root New ≢ New;
+  root_met : get_or l.search.states.items l.root New ≢ New;
 }
 
 abbrev pub decreases-loop-top : goal.decreases-loop-top

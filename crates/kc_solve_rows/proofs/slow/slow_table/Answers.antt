@@ -9,7 +9,7 @@ use Rattle.kc_solve.specs.Computing.{AreComputedValues}
 use Rattle.kc_solve.specs.PlaceLists.{valuation}
 use Rattle.kc_solve.proofs.OrderSteps.{tree_accepted}
 use Rattle.kc_solve.proofs.UserSteps.{count_shown, solves_as_shown}
-use Rattle.kc_solve_rows.proofs.SlowSteps.{computed, ended, round_ended}
+use Rattle.kc_solve_rows.proofs.SlowSteps.{computed, ended, iteration_ended}
 use Rattle.kc_solve_rows.proofs.slow.slow_table.Goals as goal
 
 pub compute_anew-requires-clause-given : goal.compute_anew-requires-clause-given
@@ -23,8 +23,8 @@ compute_anew-requires-clause-chosen c =
 pub compute_anew-requires-clause-full : goal.compute_anew-requires-clause-full
 compute_anew-requires-clause-full c = c.loop-i.invariant.count ∙ ap symbol_count (sym c.loop-i.invariant.tree)
 
-pub loop-round-init : goal.loop-round-init
-loop-round-init c =
+pub loop-iteration-init : goal.loop-iteration-init
+loop-iteration-init c =
     let t = c.in_ok-table.table in
     let e = c.in_ok-table.ensures.unsettled in
     record {
@@ -36,7 +36,7 @@ loop-round-init c =
 
 pub loop-i-init : goal.loop-i-init
 loop-i-init c =
-    let now = c.loop-round.invariant in
+    let now = c.loop-iteration.invariant in
     record { tree = now.tree; count = now.count; hold = record { before = now.hold; now = λ s up. absurd (omega arith) }; unsettled = now.unsettled }
 
 pub loop-i-preserved : goal.loop-i-preserved
@@ -51,17 +51,17 @@ loop-i-preserved c =
     record {
       tree = ap (λ t. t.now) f.keeps.tree ∙ now.tree;
       count = f.values.count ∙ now.count;
-      hold = computed c.args.tree.now given chosen c.loop-round._round c.loop-i.i values new.values.items filled now.hold;
+      hold = computed c.args.tree.now given chosen c.loop-iteration._iteration c.loop-i.i values new.values.items filled now.hold;
       unsettled = subst (λ v. v.items ≡ replicate (length v.items) None) (sym f.contexts) now.unsettled;
     }
 
-pub loop-round-preserved : goal.loop-round-preserved
-loop-round-preserved c =
+pub loop-iteration-preserved : goal.loop-iteration-preserved
+loop-iteration-preserved c =
     let now = c.loop-i.invariant in
     record {
       tree = now.tree;
       count = now.count;
-      hold = round_ended c.args.tree.now c.symbols-given.result.now c.choices-chosen.result.now c.loop-round._round c.loop-i.i c.loop-i.table.values.items (omega arith) now.hold;
+      hold = iteration_ended c.args.tree.now c.symbols-given.result.now c.choices-chosen.result.now c.loop-iteration._iteration c.loop-i.i c.loop-i.table.values.items (omega arith) now.hold;
       unsettled = now.unsettled;
     }
 
@@ -73,21 +73,21 @@ returns-clause-solves c =
     let t = c.args.tree.now in
     let given = c.symbols-given.result.now in
     let chosen = c.choices-chosen.result.now in
-    let values = c.loop-round.table.values.items in
+    let values = c.loop-iteration.table.values.items in
     let accepted = tree_accepted t c.args.layout.now c.args.order.now c.nodes-nodes.result.now c.requires.order c.nodes-nodes.ensures in
     solves_as_shown t given chosen c.args.user.now (valuation t values) c.symbols-given.ensures c.choices-chosen.ensures
-    (ended t given chosen c.loop-round._round values (omega arith) accepted c.loop-round.invariant.hold)
+    (ended t given chosen c.loop-iteration._iteration values (omega arith) accepted c.loop-iteration.invariant.hold)
 
 pub returns-clause-only : goal.returns-clause-only
 returns-clause-only c =
     let t = c.args.tree.now in
     let given = c.symbols-given.result.now in
     let chosen = c.choices-chosen.result.now in
-    let values = c.loop-round.table.values.items in
+    let values = c.loop-iteration.table.values.items in
     let V = valuation t values in
     let accepted = tree_accepted t c.args.layout.now c.args.order.now c.nodes-nodes.result.now c.requires.order c.nodes-nodes.ensures in
     let solves =
     solves_as_shown t given chosen c.args.user.now V c.symbols-given.ensures c.choices-chosen.ensures
-    (ended t given chosen c.loop-round._round values (omega arith) accepted c.loop-round.invariant.hold)
+    (ended t given chosen c.loop-iteration._iteration values (omega arith) accepted c.loop-iteration.invariant.hold)
     in
     c.accepted_have_one_solution.ensures.agree t (place_at c.args.user.now) accepted V solves

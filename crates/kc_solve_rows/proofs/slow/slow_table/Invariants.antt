@@ -4,11 +4,11 @@ use Rattle.kc_values.specs.Solution.{symbol_count}
 use Rattle.kc_solve_rows.proofs.SlowSteps.{HoldAfter, HoldUpTo}
 use Rattle.kc_solve_rows.proofs.slow.slow_table.Given as goal
 
-abbrev pub invariant-loop-round : goal.invariant-loop-round
-invariant-loop-round l = record {
+abbrev pub invariant-loop-iteration : goal.invariant-loop-iteration
+invariant-loop-iteration l = record {
   tree : l.table.tree.now ≡ l.tree;
   count : length l.table.values.items ≡ symbol_count l.tree;
-  hold : HoldAfter l.tree l.given l.chosen l._round l.table.values.items;
+  hold : HoldAfter l.tree l.given l.chosen l._iteration l.table.values.items;
   unsettled : l.table.contexts.items ≡ replicate (length l.table.contexts.items) None;
 }
 
@@ -16,6 +16,6 @@ abbrev pub invariant-loop-i : goal.invariant-loop-i
 invariant-loop-i l = record {
   tree : l.table.tree.now ≡ l.tree;
   count : length l.table.values.items ≡ symbol_count l.tree;
-  hold : HoldUpTo l.tree l.given l.chosen l._round l.i l.table.values.items;
+  hold : HoldUpTo l.tree l.given l.chosen l._iteration l.i l.table.values.items;
   unsettled : l.table.contexts.items ≡ replicate (length l.table.contexts.items) None;
 }

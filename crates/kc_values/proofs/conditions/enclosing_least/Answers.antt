@@ -1,7 +1,7 @@
 use Rattle.std.proofs.Common.{sym, ap, ◌∙◌}
 use Rattle.kc_expr.specs.Value.{lesser}
 use Rattle.kc_values.specs.TableFacts.{known_at}
-use Rattle.kc_values.proofs.ConditionLemmas.{asks_for, mode_at, enclosing_least-step, enclosing_least-mode, enclosing_least-computed}
+use Rattle.kc_values.proofs.ConditionLemmas.{conjuncts_value, mode_at, enclosing_least-step, enclosing_least-mode, enclosing_least-computed}
 use Rattle.kc_values.proofs.TriLemmas.{rank-same}
 use Rattle.kc_values.proofs.conditions.enclosing_least.Goals as goal
 
@@ -22,7 +22,7 @@ contexts-preserved c =
     let e = c.lesser-least.ensures ∙ ap (lesser c.contexts.least) c.if_value.ensures in
     record {
       same =
-          ap (λ x. lesser x (asks_for t.tree.now k cs context.outer.0)) e
+          ap (λ x. lesser x (conjuncts_value t.tree.now k cs context.outer.0)) e
           ∙ sym (enclosing_least-step t.tree.now k cs c.contexts.at.0 context c.in-Some.ensures c.contexts.least)
           ∙ c.contexts.invariant.same;
       within =

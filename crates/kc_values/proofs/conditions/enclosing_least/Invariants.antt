@@ -1,13 +1,13 @@
 use Rattle.std.proofs.Common.{◌≡◌}
 use Rattle.kc_expr.specs.Value.{lesser}
 use Rattle.kc_values.specs.TableFacts.{known_at}
-use Rattle.kc_values.proofs.ConditionLemmas.{asks_for, mode_at}
+use Rattle.kc_values.proofs.ConditionLemmas.{conjuncts_value, mode_at}
 use Rattle.kc_values.proofs.conditions.enclosing_least.Given as goal
 
 abbrev pub invariant-contexts : goal.invariant-contexts
 invariant-contexts l = record {
-  same : lesser l.least (asks_for l.table.tree.now (known_at l.table) l.table.layout.now.tables.contexts l.at.0) ≡ lesser l.fn.first
-      (asks_for l.table.tree.now (known_at l.table) l.table.layout.now.tables.contexts l.fn.within.0);
+  same : lesser l.least (conjuncts_value l.table.tree.now (known_at l.table) l.table.layout.now.tables.contexts l.at.0) ≡ lesser l.fn.first
+      (conjuncts_value l.table.tree.now (known_at l.table) l.table.layout.now.tables.contexts l.fn.within.0);
   within : lesser l.least (mode_at l.table.tree.now (known_at l.table) l.table.layout.now.tables.contexts l.at.0) ≡ l.least;
 }
 

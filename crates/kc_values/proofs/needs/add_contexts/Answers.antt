@@ -1,5 +1,5 @@
 use Rattle.std.proofs.Common.{◌≡◌, ap, ◌∙◌, arith, length}
-use Rattle.kc_values.specs.NeedRows.{IsContextRow, asks_this, asks_nothing, row_of}
+use Rattle.kc_values.specs.NeedRows.{IsContextRow, of_inner, of_top, row_of}
 use Rattle.kc_values.proofs.RowsMade.{closed, untouched, one_context}
 use Rattle.kc_values.proofs.needs.add_contexts.Goals as goal
 use Rattle.kc_values.proofs.needs.add_contexts.Goals.{in-Some+in_ok-context_row_into, in_default}
@@ -11,9 +11,9 @@ loop-i-preserved c =
     let row = row_of n c.match-context.row in
     let is : IsContextRow l c.loop-i.i row = elim c.match-context.branch [
       | in-Some+in_ok-context_row_into w ↦
-          asks_this w.in-Some.context.now w.in-Some.ensures
+          of_inner w.in-Some.context.now w.in-Some.ensures
           (closed l n _ _ c.loop-i.row c.match-context.row (ap length c.symbols-defined.ensures) c.loop-i.invariant.1 (rw w.row-is w.in_ok-context_row_into.ensures))
-      | in_default w ↦ asks_nothing w.in_default.ensures (ap (row_of n) w.row-is ∙ untouched n c.loop-i.row c.loop-i.invariant.1)
+      | in_default w ↦ of_top w.in_default.ensures (ap (row_of n) w.row-is ∙ untouched n c.loop-i.row c.loop-i.invariant.1)
     ] in
     (one_context l c.loop-i.i c.args.graph.now c.loop-i.graph c.close_row.new.graph row c.loop-i.invariant.0 c.in_ok-close_row.ensures.graph is, c.in_ok-close_row.ensures.empty)
 

@@ -17,10 +17,10 @@ loop-i-preserved c =
       | in-Some+in_ok-definition_into w ↦
           let d = w.in-Some.definition.now in
           adds_more c.args.out.now now next _ (rows.definition_nodes l kind d) _ _ (rows.definition_names l kind d) _ c.loop-i.invariant (rw w.out-is w.in_ok-definition_into.ensures)
-          (found_more (rows.definition_nodes l kind) (rows.definition_at l) ids c.loop-i.i lt d (sym w.in-Some.ensures))
-          (found_more (rows.definition_names l kind) (rows.definition_at l) ids c.loop-i.i lt d (sym w.in-Some.ensures))
+          (found_more (rows.definition_nodes l kind) (rows.stored_definition l) ids c.loop-i.i lt d (sym w.in-Some.ensures))
+          (found_more (rows.definition_names l kind) (rows.stored_definition l) ids c.loop-i.i lt d (sym w.in-Some.ensures))
       | in_default w ↦
           adds_more c.args.out.now now next _ [] _ _ [] _ c.loop-i.invariant (rw w.out-is (adds_nothing now))
-          (none_more (rows.definition_nodes l kind) (rows.definition_at l) ids c.loop-i.i lt (sym w.in_default.ensures))
-          (none_more (rows.definition_names l kind) (rows.definition_at l) ids c.loop-i.i lt (sym w.in_default.ensures))
+          (none_more (rows.definition_nodes l kind) (rows.stored_definition l) ids c.loop-i.i lt (sym w.in_default.ensures))
+          (none_more (rows.definition_names l kind) (rows.stored_definition l) ids c.loop-i.i lt (sym w.in_default.ensures))
     ]

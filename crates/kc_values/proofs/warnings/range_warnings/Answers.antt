@@ -9,11 +9,11 @@ returns c =
     let t = c.args.table.now in
     range_joined t.tree.now (known_at t) c.args.name.now (facts_of t.layout.now 0 c.args.symbol.now) (given_in c.args.user)
     c.active_range-range.result c.args.visibility (text_at c.visible_text-given.result)
-    (text_at c.if_inside-used.result) (text_at c.met_text-default.result) _ _ _
+    (text_at c.if_within_range-used.result) (text_at c.met_text-default.result) _ _ _
     c.active_range-range.ensures.range
     c.requires
     c.visible_text-given.ensures
-    c.if_inside-used.ensures
+    c.if_within_range-used.ensures
     c.met_text-default.ensures
     c.in_ok-user_warning.ensures
     c.in_ok-default_warning.ensures

@@ -1,7 +1,7 @@
 use Rattle.std.proofs.Common.{ap, subst, List}
 use Rattle.std.proofs.lemmas.Result.{IfOk-weaker, IfErr-weaker}
 use Rattle.clap.specs.Words.{Row}
-use Rattle.kc_words.specs.Fields.{AreOptionsOf, asked_prefix}
+use Rattle.kc_words.specs.Fields.{AreOptionsOf, prefix_option}
 use Rattle.kc_words.specs.Kconf.{rows_for}
 use Rattle.kc_words.proofs.RowLemmas.{rows-matches}
 use Rattle.kc_words.proofs.RefusalLemmas.{no_fault, has_kind, refused_prefix, only_memory, refused_words}
@@ -18,12 +18,12 @@ returns-in-Ok-clause-faultless c =
 pub returns-in-Ok-clause-refused : goal.returns-in-Ok-clause-refused
 returns-in-Ok-clause-refused c =
     IfErr-weaker _ _ _ (refused_prefix _ _ _ (no_fault _ _ c.in_ok-command.ensures c.in-Ok.ensures.kinds)
-    (ap asked_prefix (rows-matches _ _ c.in-Ok.matches c.in_ok-command.ensures c.in-Ok.ensures.matches))) c.read_options.ensures.err
+    (ap prefix_option (rows-matches _ _ c.in-Ok.matches c.in_ok-command.ensures c.in-Ok.ensures.matches))) c.read_options.ensures.err
 
 pub returns-in-Ok-clause-taken : goal.returns-in-Ok-clause-taken
 returns-in-Ok-clause-taken c = λ taken good.
-    IfErr-weaker _ _ _ (only_memory _ _ (ap asked_prefix (rows-matches _ _ c.in-Ok.matches c.in_ok-command.ensures c.in-Ok.ensures.matches)) good) c.read_options.ensures.err
+    IfErr-weaker _ _ _ (only_memory _ _ (ap prefix_option (rows-matches _ _ c.in-Ok.matches c.in_ok-command.ensures c.in-Ok.ensures.matches)) good) c.read_options.ensures.err
 
 pub returns-in-Err-clause-refused : goal.returns-in-Err-clause-refused
 returns-in-Err-clause-refused c =
-    refused_words _ (asked_prefix (rows_for c.args.words.now)) _ c.usage_of.result (has_kind _ _ c.in-Err.error c.in_ok-command.ensures c.in-Err.ensures.kinds) c.usage_of.ensures
+    refused_words _ (prefix_option (rows_for c.args.words.now)) _ c.usage_of.result (has_kind _ _ c.in-Err.error c.in_ok-command.ensures c.in-Err.ensures.kinds) c.usage_of.ensures

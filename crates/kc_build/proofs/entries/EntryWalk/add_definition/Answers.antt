@@ -25,28 +25,28 @@ invariant_of-self-in-Break-1 c =
     let w = c.args.self.now in
     let g = entry_carries w c.entry_context.new.contexts _ (outer_grown w c.innermost-outer.result c.entry_context.new.contexts _ c.innermost-outer.ensures c.entry_context.ensures.kept) in
     let h = held_carries w.tables.contexts c.entry_context.new.contexts w.blocks w.tables.titles.items g (held_by w) in
-    record { asks_nothing = h.asks_nothing; top_plain = h.top_plain; within = h.within; visible = h.visible; plain = h.plain; titles = h.titles }
+    record { top_is_empty = h.top_is_empty; top_plain = h.top_plain; within = h.within; visible = h.visible; plain = h.plain; titles = h.titles }
 
 pub invariant_of-self-in-Break-branch-2 : goal.invariant_of-self-in-Break-branch-2
 invariant_of-self-in-Break-branch-2 c =
     let w = c.args.self.now in
     let g = entry_carries w c.entry_context.new.contexts _ (outer_grown w c.innermost-outer.result c.entry_context.new.contexts _ c.innermost-outer.ensures c.entry_context.ensures.kept) in
     let h = held_carries w.tables.contexts c.entry_context.new.contexts w.blocks w.tables.titles.items g (held_by w) in
-    record { asks_nothing = h.asks_nothing; top_plain = h.top_plain; within = h.within; visible = h.visible; plain = h.plain; titles = h.titles }
+    record { top_is_empty = h.top_is_empty; top_plain = h.top_plain; within = h.within; visible = h.visible; plain = h.plain; titles = h.titles }
 
 pub invariant_of-self-in-Break-branch-3 : goal.invariant_of-self-in-Break-branch-3
 invariant_of-self-in-Break-branch-3 c =
     let w = c.args.self.now in
     let g = entry_carries w c.entry_context.new.contexts _ (outer_grown w c.innermost-outer.result c.entry_context.new.contexts _ c.innermost-outer.ensures c.entry_context.ensures.kept) in
     let h = held_carries w.tables.contexts c.entry_context.new.contexts w.blocks w.tables.titles.items g (held_by w) in
-    record { asks_nothing = h.asks_nothing; top_plain = h.top_plain; within = h.within; visible = h.visible; plain = h.plain; titles = h.titles }
+    record { top_is_empty = h.top_is_empty; top_plain = h.top_plain; within = h.within; visible = h.visible; plain = h.plain; titles = h.titles }
 
 pub invariant_of-self-in-Break-branch-4 : goal.invariant_of-self-in-Break-branch-4
 invariant_of-self-in-Break-branch-4 c =
     let w = c.args.self.now in
     let g = entry_carries w c.entry_context.new.contexts _ (outer_grown w c.innermost-outer.result c.entry_context.new.contexts _ c.innermost-outer.ensures c.entry_context.ensures.kept) in
     let h = held_carries w.tables.contexts c.entry_context.new.contexts w.blocks w.tables.titles.items g (held_by w) in
-    record { asks_nothing = h.asks_nothing; top_plain = h.top_plain; within = h.within; visible = h.visible; plain = h.plain; titles = h.titles }
+    record { top_is_empty = h.top_is_empty; top_plain = h.top_plain; within = h.within; visible = h.visible; plain = h.plain; titles = h.titles }
 
 pub invariant_of-self-4 : goal.invariant_of-self-4
 invariant_of-self-4 c =

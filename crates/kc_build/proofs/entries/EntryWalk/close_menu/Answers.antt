@@ -11,7 +11,7 @@ pub invariant_of-self : goal.invariant_of-self
 invariant_of-self c =
     let made = c.add_end.new.self in
     let h = held_closes made.tables.contexts made.blocks c.close.new.self made.tables.titles.items (held_by made) c.close.ensures in
-    record { asks_nothing = h.asks_nothing; top_plain = h.top_plain; within = h.within; visible = h.visible; plain = h.plain; titles = h.titles }
+    record { top_is_empty = h.top_is_empty; top_plain = h.top_plain; within = h.within; visible = h.visible; plain = h.plain; titles = h.titles }
 
 pub returns : goal.returns
 returns c =

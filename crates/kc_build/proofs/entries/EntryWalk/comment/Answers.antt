@@ -11,7 +11,7 @@ use Rattle.kc_build.specs.Passes.{statements_of}
 use Rattle.kc_build.proofs.HeldLemmas.{carries_entry, keeping_both}
 use Rattle.kc_build.proofs.TitleLemmas.{comment_enters}
 use Rattle.kc_build.proofs.entries.EntryWalk.comment.Goals as goal
-use Rattle.kc_tree.specs.Layouts.{with_parts}
+use Rattle.kc_tree.specs.Layouts.{with_conjuncts}
 
 pub entry_context-requires-clause-there : goal.entry_context-requires-clause-there
 entry_context-requires-clause-there c =
@@ -32,7 +32,7 @@ returns c =
     let grown : IsGrown old.tables.contexts made.tables.contexts (condition_in old.tables.contexts old.blocks.innermost.within.0).mode (length (statements_of c.args.own.now)) =
     rw (t.contexts, n, ← c.innermost-outer.ensures) c.in_ok-within.ensures.kept in
     let stands : Stands made.tables.contexts c.in_ok-within.within.0
-    (with_parts (condition_in old.tables.contexts old.blocks.innermost.within.0) (filter_map depends_form (statements_of c.args.own.now))) =
+    (with_conjuncts (condition_in old.tables.contexts old.blocks.innermost.within.0) (filter_map depends_form (statements_of c.args.own.now))) =
     rw (t.contexts, ← c.innermost-outer.ensures) c.in_ok-within.ensures.made in
     let entries : c.push.new.self.items ≡ old.tables.entries.items ++ entry.Comment c.in_ok-title.title ∷ [] = c.in_ok-push.ensures.items
     ∙ ap (λ v. v.items ++ entry.Comment c.in_ok-title.title ∷ []) t.entries in

@@ -17,7 +17,7 @@ use Rattle.kc_build.proofs.ChoiceOpenLemmas.{choice_enters, extends_block, exten
 use Rattle.kc_build.proofs.GrownLemmas.{further, further_extends, held_extends, keeping, keeping_carries, plain_carries, plain_extends, titles_carry}
 use Rattle.kc_build.proofs.HeldLemmas.{carries_entry, held_fields, held_opens, held_walk, on_ok_both}
 use Rattle.kc_build.proofs.entries.EntryWalk.open_choice.Goals as goal
-use Rattle.kc_tree.specs.Layouts.{with_parts}
+use Rattle.kc_tree.specs.Layouts.{with_conjuncts}
 
 pub entry_context-requires-clause-there : goal.entry_context-requires-clause-there
 entry_context-requires-clause-there c =
@@ -126,7 +126,7 @@ returns c =
     let n : length (statements_of c.args.own.now) ≡ length c.args.own.now = length-map c.args.own.now (λ l. statement_view l.statement) in
     let grown : IsGrown w.tables.contexts middle (condition_in w.tables.contexts w.blocks.innermost.within.0).mode (length (statements_of c.args.own.now)) =
     rw (n, ← c.innermost-outer.ensures) c.in_ok-within.ensures.kept in
-    let stands : Stands middle c.in_ok-within.within.0 (with_parts (condition_in w.tables.contexts w.blocks.innermost.within.0) (filter_map depends_form (statements_of c.args.own.now))) =
+    let stands : Stands middle c.in_ok-within.within.0 (with_conjuncts (condition_in w.tables.contexts w.blocks.innermost.within.0) (filter_map depends_form (statements_of c.args.own.now))) =
     rw (← c.innermost-outer.ensures) c.in_ok-within.ensures.made in
     let visible : c.in_ok-block.block.visible ≡ w.blocks.innermost.visible = c.in_ok-block.ensures.visible ∙ ap (λ (b : BlockScope). b.visible) c.innermost-outer.ensures in
     let added : c.choice_block.new.contexts ≡ middle ++ in_choice (condition_in middle w.blocks.innermost.within.0) c.len.result ∷ [] =

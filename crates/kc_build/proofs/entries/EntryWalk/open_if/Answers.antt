@@ -39,7 +39,7 @@ invariant_of-self-3 c =
     (omega arith)
     (rw visible (let l = g.longer in omega arith))
     (rw visible (plain_carries old.tables.contexts c.if_block.new.contexts g old.blocks.innermost.visible.0 seen plain)) in
-    record { asks_nothing = h.asks_nothing; top_plain = h.top_plain; within = h.within; visible = h.visible; plain = h.plain; titles = h.titles }
+    record { top_is_empty = h.top_is_empty; top_plain = h.top_plain; within = h.within; visible = h.visible; plain = h.plain; titles = h.titles }
 
 pub returns : goal.returns
 returns c =

@@ -13,7 +13,7 @@ use Rattle.kc_build.proofs.GrownLemmas.{carries_both, further, held_by, keeping_
 use Rattle.kc_build.proofs.HeldLemmas.{carries_entry, carries_visible, held_opens, held_walk, keeping_both, on_ok_both, plain_visible}
 use Rattle.kc_build.proofs.TitleLemmas.{menu_enters}
 use Rattle.kc_build.proofs.entries.EntryWalk.open_menu.Goals as goal
-use Rattle.kc_tree.specs.Layouts.{with_parts}
+use Rattle.kc_tree.specs.Layouts.{with_conjuncts}
 
 pub entry_context-requires-clause-there : goal.entry_context-requires-clause-there
 entry_context-requires-clause-there c =
@@ -30,7 +30,7 @@ invariant_of-self-in-Break-1 c =
     let old = c.args.self.now in
     let h = held_walk old c.entry_context.new.contexts
     (carries_entry old c.innermost-outer.result c.entry_context.new.contexts (length c.args.own.now) c.innermost-outer.ensures c.entry_context.ensures.kept) in
-    record { asks_nothing = h.asks_nothing; top_plain = h.top_plain; within = h.within; visible = h.visible; plain = h.plain; titles = h.titles }
+    record { top_is_empty = h.top_is_empty; top_plain = h.top_plain; within = h.within; visible = h.visible; plain = h.plain; titles = h.titles }
 
 pub visible_context-requires-clause-there : goal.visible_context-requires-clause-there
 visible_context-requires-clause-there c =
@@ -70,7 +70,7 @@ invariant_of-self-4 c =
     let h = held_opens made.tables.contexts made.blocks c.open.new.self made.tables.titles.items (held_by made) c.open.result
     (record { within = c.in_ok-within.within; visible = c.in_ok-visible.visible; entry = Some c.next_entry-entry.result }) c.open.ensures.innermost c.open.ensures.outside
     c.open.ensures.unchanged within visible still in
-    record { asks_nothing = h.asks_nothing; top_plain = h.top_plain; within = h.within; visible = h.visible; plain = h.plain; titles = h.titles }
+    record { top_is_empty = h.top_is_empty; top_plain = h.top_plain; within = h.within; visible = h.visible; plain = h.plain; titles = h.titles }
 
 pub returns : goal.returns
 returns c =
@@ -81,12 +81,12 @@ returns c =
     let grown : IsGrown old.tables.contexts c.entry_context.new.contexts (condition_in old.tables.contexts old.blocks.innermost.within.0).mode (length (statements_of c.args.own.now)) =
     rw (n, ← c.innermost-outer.ensures) c.in_ok-within.ensures.kept in
     let stands : Stands c.entry_context.new.contexts c.in_ok-within.within.0
-    (with_parts (condition_in old.tables.contexts old.blocks.innermost.within.0) (filter_map depends_form (statements_of c.args.own.now))) =
+    (with_conjuncts (condition_in old.tables.contexts old.blocks.innermost.within.0) (filter_map depends_form (statements_of c.args.own.now))) =
     rw (← c.innermost-outer.ensures) c.in_ok-within.ensures.made in
     let more : IsGrown c.entry_context.new.contexts made.tables.contexts (condition_in c.entry_context.new.contexts old.blocks.innermost.visible.0).mode
     (length (statements_of c.args.own.now)) = rw (t.contexts, n, ← c.innermost-outer.ensures) c.in_ok-visible.ensures.kept in
     let sees : Stands made.tables.contexts c.in_ok-visible.visible.0
-    (with_parts (condition_in c.entry_context.new.contexts old.blocks.innermost.visible.0) (filter_map visible_form (statements_of c.args.own.now))) =
+    (with_conjuncts (condition_in c.entry_context.new.contexts old.blocks.innermost.visible.0) (filter_map visible_form (statements_of c.args.own.now))) =
     rw (t.contexts, ← c.innermost-outer.ensures) c.in_ok-visible.ensures.made in
     let entries : c.push.new.self.items ≡ old.tables.entries.items ++ entry.Menu c.in_ok-title.title ∷ [] = c.in_ok-push.ensures.items
     ∙ ap (λ v. v.items ++ entry.Menu c.in_ok-title.title ∷ []) t.entries in

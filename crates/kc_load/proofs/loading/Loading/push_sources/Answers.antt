@@ -8,6 +8,6 @@ returns c = record {
   sources = c.in_ok-names.ensures.names;
   waiting_is = waits_more _ _ c.in_ok-names.names.items _ c.in_ok-append.ensures.items c.reverse.ensures.items;
   files_are = refl;
-  asked_are = refl;
+  requested_are = refl;
   lines_are = refl;
 }

@@ -14,6 +14,6 @@ returns c =
       sources = subst (λ (bytes : List ℕ). AreSources bytes lists.names) c.deref-2.ensures.value lists.sources;
       waiting_is = lists.waiting_is;
       puts = λ other. c.in_ok-insert.ensures.ok other ∙ ap (λ (files : Files). if same_name other c.args.name.items then Some c.args.bytes.items else files other) lists.files_are;
-      asked_are = lists.asked_are;
+      requested_are = lists.requested_are;
       lines_are = c.lines_with-lines.ensures ∙ ap (λ bytes. min (c.args.self.now.lines + lines_of bytes) last_count) c.deref.ensures.value;
     }

@@ -1,7 +1,7 @@
 use Rattle.std.proofs.Common.{ℕ, List, Some, IsUtf8, refl, sym, ap, subst, ◌∙◌}
 use Rattle.kc_expr.specs.Names.{mention}
 use Rattle.kc_load.specs.Folders.{AnswersAs, path_of}
-use Rattle.kc_load.specs.Steps.{file, was_asked}
+use Rattle.kc_load.specs.Steps.{file, was_requested}
 use Rattle.kc_load.proofs.loading.Loading.visit.Goals as goal
 
 pub returns-in_ok-take-in-Ok-Some-clause-ok : goal.returns-in_ok-take-in-Ok-Some-clause-ok
@@ -11,13 +11,13 @@ returns-in_ok-take-in-Ok-Some-clause-ok g c =
     file _ c.in-Ok-Some.bytes.items
     (record {
       utf8 = subst IsUtf8 c.deref.ensures.value text.1;
-      is_new = ap (was_asked c.args.self.now.asked) (sym c.deref-2.ensures.value) ∙ sym c.if-was_asked.ensures;
+      is_new = ap (was_requested c.args.self.now.requested) (sym c.deref-2.ensures.value) ∙ sym c.if-was_requested.ensures;
     })
     (subst (λ (name : List ℕ). AnswersAs (g.F.Folder.files c.args.folder.now) (path_of c.args.dir.now name) (Some c.in-Ok-Some.bytes.items)) (text.0 ∙ c.deref.ensures.value) answer)
     (record {
       files_are = refl;
       waiting_is = refl;
-      asked_are = c.in_ok-id.ensures.names ∙ ap (mention c.args.self.now.asked) c.deref-3.ensures.value;
+      requested_are = c.in_ok-id.ensures.names ∙ ap (mention c.args.self.now.requested) c.deref-3.ensures.value;
       lines_are = refl;
     })
     c.in_ok-take-in-Ok-Some.ensures

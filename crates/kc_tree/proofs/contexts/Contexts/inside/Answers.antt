@@ -33,5 +33,5 @@ returns-clause-added c =
     let items = c.self.inside.inner.items in
     let table = conditions_of items in
     let mode : mode_view c.mode-mode.result ≡ (condition_in table c.args.outer.0).mode = rw (c.self.view_is) c.mode-mode.ensures in
-    let more : Option ℕ → List Condition = λ m. table ++ record { parts = (condition_in table c.args.outer.0).parts ++ form_of c.args.condition.value ∷ []; mode = m } ∷ [] in
+    let more : Option ℕ → List Condition = λ m. table ++ record { conjuncts = (condition_in table c.args.outer.0).conjuncts ++ form_of c.args.condition.value ∷ []; mode = m } ∷ [] in
     rw (c.in_ok-push.ensures.items, ← c.self.view_is) (from-snoc (top ∷ []) items _ ∙ ap more mode)

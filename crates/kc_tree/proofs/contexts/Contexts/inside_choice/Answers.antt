@@ -32,4 +32,4 @@ returns-clause-added c =
     let items = c.self.inside.inner.items in
     let table = conditions_of items in
     rw (c.in_ok-push.ensures.items, ← c.self.view_is)
-    (from-snoc (top ∷ []) items _ ∙ ap (λ p. table ++ record { parts = p; mode = Some c.args.choice.0 } ∷ []) (append-nil (condition_in table c.args.outer.0).parts))
+    (from-snoc (top ∷ []) items _ ∙ ap (λ p. table ++ record { conjuncts = p; mode = Some c.args.choice.0 } ∷ []) (append-nil (condition_in table c.args.outer.0).conjuncts))

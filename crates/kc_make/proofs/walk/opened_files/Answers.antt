@@ -6,7 +6,7 @@ use Rattle.kc_load.proofs.ListLemmas.{popped_last}
 use Rattle.kc_read.specs.Files.{bytes_in}
 use Rattle.kc_make.specs.Steps.{State, state_of}
 use Rattle.kc_make.proofs.Walks.{Leads, at_end, falls, leads_first, turned}
-use Rattle.kc_make.proofs.opened.opened_files.Goals as goal
+use Rattle.kc_make.proofs.walk.opened_files.Goals as goal
 
 pub loop-name-init : goal.loop-name-init
 loop-name-init c = subst (λ (s : State). Leads (bytes_in c.args.files.now) c.args.root.now s) (sym c.in_ok-walk.ensures) (leads_first (bytes_in c.args.files.now) c.args.root.now)

@@ -3,7 +3,7 @@ use Rattle.std.proofs.Common.{◌≡◌, ◌∷◌, take, false}
 use Rattle.std.specs.Prelude.{not, map, string_bytes}
 use Rattle.kc_disk.specs.Openers.{contents, is_there, may_fail, read_device, stream}
 use Rattle.kc_disk.specs.Stages.{left}
-use Rattle.kc_disk.proofs.inputs.inputs_of.Given as goal
+use Rattle.kc_disk.proofs.input.inputs_of.Given as goal
 
 abbrev pub invariant-loop-fragment : goal.invariant-loop-fragment
 invariant-loop-fragment g l = record {

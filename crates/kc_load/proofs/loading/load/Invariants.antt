@@ -4,7 +4,7 @@ use Rattle.kc_load.specs.Steps.{state_of}
 use Rattle.kc_load.proofs.EndLemmas.{still_left}
 use Rattle.kc_load.proofs.Ongoing.{Ongoing}
 use Rattle.kc_load.proofs.Walks.{IsOnWay}
-use Rattle.kc_load.proofs.loader.load.Given as goal
+use Rattle.kc_load.proofs.loading.load.Given as goal
 
 abbrev pub invariant-loop-name : goal.invariant-loop-name
 invariant-loop-name g l = record {

@@ -8,7 +8,7 @@ use Rattle.kc_load.proofs.EnoughLemmas.{enough}
 use Rattle.kc_load.proofs.ListLemmas.{popped_last}
 use Rattle.kc_load.proofs.Ongoing.{Ongoing}
 use Rattle.kc_load.proofs.Walks.{IsOnWay, ended_walk, over_walk, walk_begins, walk_turned}
-use Rattle.kc_load.proofs.loader.load.Goals as goal
+use Rattle.kc_load.proofs.loading.load.Goals as goal
 
 pub loop-name-init : goal.loop-name-init
 loop-name-init g c = record {

@@ -1,6 +1,0 @@
--- What the check left open in `asked_files_are_named`.
-use Rattle.kc_read.proofs.OpenedFileLemmas.{asked_are_named, has_one_list_of_names}
-use Rattle.kc_read.proofs.laws.asked_files_are_named.Goals as goal
-
-pub returns : goal.returns
-returns c = record { named = asked_are_named; one_list = has_one_list_of_names }
