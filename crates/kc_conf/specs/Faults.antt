@@ -56,19 +56,19 @@ after_fault (Read input) states = states
 after_fault Memory states = states
 after_fault (Write output) states = with_state states output (failed (at states output))
 
--- this cause can strike while the notes are written
+-- this fault can strike while the notes are written
 abbrev pub StrikesNotes : RunFault → Type 0
 StrikesNotes (Read input) = ⊤
 StrikesNotes Memory = ⊤
 StrikesNotes (Write output) = output ≡ Notes
 
--- this cause can strike while that file is begun and written
+-- this fault can strike while that file is begun and written
 abbrev pub StrikesFile : Output → RunFault → Type 0
 StrikesFile file (Read input) = ⊥
 StrikesFile file Memory = ⊤
 StrikesFile file (Write output) = output ≡ file
 
--- A run that was to leave this outcome broke off, for this cause. All before the point where it broke off is whole. A file
+-- A run that was to leave this outcome broke off, for this fault. All before the point where it broke off is whole. A file
 -- that broke off was not ended: it holds a beginning of its text, or all of it where its end failed.
 pub data BreaksRun (outcome : Outcome) (fault : RunFault) (old new : OutputStates) : Type 0 where
   in_notes : (front : List ℕ) → StrikesNotes fault → BeginsWith outcome.notes front → new ≡ after_fault fault (with_text Notes front old) → BreaksRun outcome fault old new
@@ -76,13 +76,13 @@ pub data BreaksRun (outcome : Outcome) (fault : RunFault) (old new : OutputState
   in_file : (file : Output) (text front : List ℕ) → StrikesFile file fault → file_text outcome file ≡ Some text → BeginsWith text front →
       new ≡ after_fault fault (begun_with file front (up_to file outcome old)) → BreaksRun outcome fault old new
 
--- the cause is no failure of an input
+-- the fault is no failure of an input
 abbrev pub IsNoInputFault : RunFault → Type 0
 IsNoInputFault (Read input) = ⊥
 IsNoInputFault Memory = ⊤
 IsNoInputFault (Write output) = ⊤
 
--- the counts of the inputs after this cause: one failure more of the one that failed, and no other
+-- the counts of the inputs after this fault: one failure more of the one that failed, and no other
 abbrev pub CountsInputs : RunFault → List ℕ → List ℕ → Type 0
 CountsInputs (Read input) old new = (input < length old) × (new ≡ slice_set old input (next_failure (slice_index old input)))
 CountsInputs Memory old new = new ≡ old

@@ -11,7 +11,7 @@ StreamsAreThere [] there = ⊤
 StreamsAreThere (bytes ∷ all) [] = ⊥
 StreamsAreThere (bytes ∷ all) (is_there ∷ others) = (is_there ≡ true) × (HasShortLines bytes → StreamsAreThere all others)
 
--- where the cause is that an input failed, it is one that may fail
+-- where the fault is that an input failed, it is one that may fail
 abbrev pub MayStrike : List Bool → RunFault → Type 0
 MayStrike may_fail (Read input) = slice_get may_fail input ≡ Some true
 MayStrike may_fail Memory = ⊤

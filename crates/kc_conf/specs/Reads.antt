@@ -51,13 +51,13 @@ notes_failures_after (fault.Read input) count = count
 notes_failures_after fault.Memory count = count
 notes_failures_after (fault.Write output) count = next_failure count
 
--- the cause is a read of that input, a failure of the notes, or memory
+-- the fault is a read of that input, a failure of the notes, or memory
 abbrev pub IsStreamFault : ℕ → RunFault → Type 0
 IsStreamFault input (fault.Read other) = other ≡ input
 IsStreamFault input fault.Memory = Unit {0}
 IsStreamFault input (fault.Write output) = output ≡ Notes
 
--- where the cause is a read of an input, that may fail
+-- where the fault is a read of an input, that may fail
 abbrev pub StreamMayFail : Bool → RunFault → Type 0
 StreamMayFail may_fail (fault.Read input) = may_fail ≡ true
 StreamMayFail may_fail fault.Memory = ⊤
@@ -134,7 +134,7 @@ module _ (tree : TreeFacts) (prefix : List ℕ) where
       × (reading tree prefix before (lines_of (streams names all)) ≡ ended_with after warned stopped)
       × (strict ≡ true → is_warned ≡ has_text warned)
 
-  -- and broke off for this cause
+  -- and broke off for this fault
   abbrev pub BreaksTelling : List (List ℕ) → RunFault → List (Option (List ℕ)) → Places → OutputStates → OutputStates → Type 0
   BreaksTelling names fault given before old new =
       (all : List (List ℕ)) × (front : List ℕ) × AreAllToCome given all × (new ≡ after_fault fault (with_text Notes front old))

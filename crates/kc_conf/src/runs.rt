@@ -452,7 +452,7 @@ pub fn run<I: Input, O: Outputs>(
         × ((outcome : Outcome) × IsOutcome (bytes_in files.now) options.now all outcome
         × Completes outcome result (O.states outputs.old) (O.states outputs.new)) }
     ensures quiet_inputs { result ≢ Status.Faulted → map I.failures inputs.new ≡ map I.failures inputs.old }
-    // After a fault there is its cause, whose count rose by one, and of the outcome all before it is whole. No other count
+    // After a fault the count of what failed rose by one, and of the outcome all before it is whole. No other count
     // rose but the notes', where they fail while the error line is written. An input that failed is one that may.
     ensures fault { result ≡ Status.Faulted → (fault : RunFault) × (all : List (List ℕ)) × AreAllToCome (map I.remaining inputs.old) all
         × CountsInputs fault (map I.failures inputs.old) (map I.failures inputs.new)
@@ -489,7 +489,7 @@ pub fn run_keeping<I: Input, O: Outputs>(
     kept: &mut Option<AcceptedTree>,
 ) -> Status
     requires { length inputs.old ≡ length options.now.fragments.items + 1 }
-    // The outcome whole, or a part of it and a cause.
+    // The outcome whole, or a part of it and a fault.
     ensures leaves { Leaves (bytes_in files) options.now (map I.remaining inputs.old) (map I.is_there inputs.old) (map I.may_fail inputs.old)
         (map I.failures inputs.old) (map I.failures inputs.new) result (O.states outputs.old) (O.states outputs.new) }
     // A refused tree leaves the inputs untouched.

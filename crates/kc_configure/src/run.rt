@@ -36,7 +36,7 @@ pub fn configure<F: Folder, I: Input, O: Outputs>(
     kept: &mut Option<AcceptedTree>,
 ) -> Result<Status, LoadFault>
     requires { length inputs.old ≡ length options.now.fragments.items + 1 }
-    // The run leaves the outcome of the folder's files, or a part of it and a cause. A refused tree leaves the inputs
+    // The run leaves the outcome of the folder's files, or a part of it and a fault. A refused tree leaves the inputs
     // untouched.
     ensures ran { IfOk result (λ status. (tree_files : Files) × AreFilesOf (F.files folder.old) (string_bytes options.now.root) tree_files
         × Leaves tree_files options.now (map I.remaining inputs.old) (map I.is_there inputs.old) (map I.may_fail inputs.old) (map I.failures inputs.old) (map I.failures inputs.new) status (O.states outputs.old) (O.states outputs.new)

@@ -31,7 +31,7 @@ LeavesOver files opened options counts status state states = Leaves files option
     (map (is_there opened.files) (streams_of options)) (map (may_fail opened) (streams_of options)) (map (λ _. 0) (names_of options)) counts status
     (unused options state) states
 
--- A run over the folder's files and over the streams: it leaves their outcome, or a part of it and a cause, and what it handed
+-- A run over the folder's files and over the streams: it leaves their outcome, or a part of it and a fault, and what it handed
 -- out reached the files. The notes fail only where the maker may.
 pub record Ran (folder opened : ReadDevice) (options : Options) (status : Status) (maker : MakerCall) : Type 0 where
   pub files : Files

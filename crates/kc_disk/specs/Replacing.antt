@@ -54,7 +54,7 @@ abbrev pub MadeNoFile : MakerState → Type 0
 MadeNoFile t = t ≡ with_made none_made Notes t.notes
 
 -- A run over the folder's files and over what the opener holds under the names of the streams: it leaves their outcome, or a
--- part of it and a cause. What it handed out is in drafts, of which the maker took the notes alone, and the drafts took their
+-- part of it and a fault. What it handed out is in drafts, of which the maker took the notes alone, and the drafts took their
 -- places where the run is done.
 pub record RanReplacing (folder opened : ReadDevice) (options : Options) (result : Result Status ReplaceFault) (maker : MakerCall) (mover : MoverCall) : Type 0 where
   pub files : Files

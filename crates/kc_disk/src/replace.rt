@@ -105,7 +105,7 @@ pub fn replace_over<'n, F: Folder, P: Opener, N: Maker + Drop, M: Mover>(
 ) -> (Result<Result<Status, ReplaceFault<'n>>, LoadFault>, N)
     requires notes { Tells (N.state notes) (λ t. t ≡ none_made) }
     requires clear { Tells (M.state mover.old) IsClear }
-    // The run leaves the outcome of the folder's files and of the streams by their names, or a part of it and a cause; what it
+    // The run leaves the outcome of the folder's files and of the streams by their names, or a part of it and a fault; what it
     // handed out took its places where it is done, and the maker made no file.
     ensures ran { IfOk result.0 (λ ended. RanReplacing (read_device (F.files folder.old) (F.failing folder.old)) (read_device (P.files opener.now) (P.failing opener.now))
         options.now ended (maker_call (N.state notes) (N.state result.1) (N.failing notes Notes))

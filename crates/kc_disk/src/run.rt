@@ -80,7 +80,7 @@ pub fn configure_over<F: Folder, P: Opener, M: Maker + Drop>(
     kept: &mut Option<AcceptedTree>,
 ) -> (Result<Status, LoadFault>, M)
     requires { Tells (M.state maker) (λ t. t ≡ none_made) }
-    // The run leaves the outcome of the folder's files and of the streams by their names, or a part of it and a cause, and
+    // The run leaves the outcome of the folder's files and of the streams by their names, or a part of it and a fault, and
     // what it handed out reached the files.
     ensures ran { IfOk result.0 (λ status. Ran (read_device (F.files folder.old) (F.failing folder.old)) (read_device (P.files opener.now) (P.failing opener.now))
         options.now status (maker_call (M.state maker) (M.state result.1) (M.failing maker Notes))) }

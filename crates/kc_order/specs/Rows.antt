@@ -26,6 +26,6 @@ abbrev pub NeedSmaller : ℕ → List (List ℕ) → Type 0
 NeedSmaller n rows = (r : ℕ) → n ≤ r → r < length rows → All (λ t. t < r) (needs_in rows r)
 
 -- mark s, for each s below n, is the test of s
-pub record AreFlags (n : ℕ) (test : ℕ → Bool) (states : List Bool) : Type 0 where
-  pub length_is : length states ≡ n
-  pub each : (s : ℕ) → s < n → slice_index_or states s false ≡ test s
+pub record AreFlags (n : ℕ) (test : ℕ → Bool) (flags : List Bool) : Type 0 where
+  pub length_is : length flags ≡ n
+  pub each : (s : ℕ) → s < n → slice_index_or flags s false ≡ test s

@@ -108,12 +108,12 @@ fn position_of(walk: &[u32], symbol: u32) -> Option<usize>
     walk.iter().position(|visited| *visited == symbol)
 }
 
-// Marks of symbols, none of them marked.
+// Whether each symbol was visited: none was.
 fn none_visited(alloc: Global, count: usize) -> Result<Vec<bool>, AllocError>
     ensures { IfOk result (λ v. v.items ≡ replicate count false) }
 {
-    let states = vec![in alloc; false; count]?;
-    Ok(states)
+    let visited = vec![in alloc; false; count]?;
+    Ok(visited)
 }
 
 /// The loop that the walk along unordered symbols comes to.

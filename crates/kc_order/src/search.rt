@@ -136,7 +136,7 @@ fn visit(rows: &Rows, search: &mut Search, root: u32) -> Result<(), AllocError>
     Ok(())
 }
 
-// A mark for each node, none of them visited.
+// A state for each node, none of them visited.
 fn new_states(alloc: Global, count: usize) -> Result<Vec<NodeState>, AllocError>
     ensures { IfOk result (λ v. v.items ≡ replicate count NodeState.New) }
 {

@@ -1,4 +1,4 @@
-//! The plain slow solver, beside which the tests hold the solver: every value computed anew, in rounds.
+//! The plain slow solver, beside which the tests hold the solver: every value computed anew, in iterations.
 
 ghost use Rattle.std.specs.Prelude.{◌≡◌, ◌<◌, length, replicate, slice_get, None, Some, IfOk, IfSome, OnOk, []};
 ghost use Rattle.kc_expr.specs.Value.{value_by_kind};
@@ -145,7 +145,7 @@ fn compute_anew(
 }
 
 /// The values that [`kc_solve::solve::solve`] finds, by the plainest way there is. In a table of n and empty texts
-/// every equation is computed anew, one symbol after another in the order of their first definitions, in as many rounds
+/// every equation is computed anew, one symbol after another in the order of their first definitions, in as many iterations
 /// as there are symbols; the order is only asked that there is one (our own). The caller owes the layout, the order and the
 /// places of that tree. Fails only when it is out of memory.
 pub fn slow_table<'t>(

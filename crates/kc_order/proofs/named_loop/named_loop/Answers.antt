@@ -11,7 +11,7 @@ use Rattle.kc_order.proofs.named_loop.named_loop.Goals as goal
 pub loop-visited-init : goal.loop-visited-init
 loop-visited-init c = record {
   walks = rw c.new-walk.ensures.items (sets_out _ (flat c.args.symbols c.args.rows.now) c.args.first c.requires.first);
-  is_unordered_at = subst (λ w. AreFlags c.args.symbols (λ s. list_any (eqb s) w) c.in_ok-visited.visited.items) (sym c.new-walk.ensures.items)
+  flags = subst (λ w. AreFlags c.args.symbols (λ s. list_any (eqb s) w) c.in_ok-visited.visited.items) (sym c.new-walk.ensures.items)
       (none_met c.args.symbols c.in_ok-visited.visited.items c.in_ok-visited.ensures);
 }
 
@@ -19,8 +19,8 @@ loop-visited-init c = record {
 on_walk : (c : After-index) → list_any (eqb c.loop-visited.at) c.loop-visited.walk.items ≡ c.index.result.now
 on_walk c =
     let below = c.loop-visited.invariant.walks.below in
-    sym (c.loop-visited.invariant.is_unordered_at.each c.loop-visited.at below)
-    ∙ sym (get_or_read c.loop-visited.visited.items c.loop-visited.at c.index.result.now (omega (arith, below, c.loop-visited.invariant.is_unordered_at.length_is)) c.index.ensures false)
+    sym (c.loop-visited.invariant.flags.each c.loop-visited.at below)
+    ∙ sym (get_or_read c.loop-visited.visited.items c.loop-visited.at c.index.result.now (omega (arith, below, c.loop-visited.invariant.flags.length_is)) c.index.ensures false)
 
 -- the walk after the push, and what comes next
 further : (c : After-next_unordered-at) → list_any (eqb c.loop-visited.at) c.loop-visited.walk.items ≡ false →
@@ -43,8 +43,8 @@ loop-visited-preserved c =
     let at = c.loop-visited.at in
     record {
       walks = rw c.in_ok-push.ensures.items (further (goal.at.loop-visited-preserved c).After-next_unordered-at new);
-      is_unordered_at = subst (λ w. AreFlags c.args.symbols (λ s. list_any (eqb s) w) (set c.loop-visited.visited.items at true)) (sym c.in_ok-push.ensures.items)
-          (met_push c.args.symbols walk c.loop-visited.visited.items at c.loop-visited.invariant.is_unordered_at c.loop-visited.invariant.walks.below);
+      flags = subst (λ w. AreFlags c.args.symbols (λ s. list_any (eqb s) w) (set c.loop-visited.visited.items at true)) (sym c.in_ok-push.ensures.items)
+          (met_push c.args.symbols walk c.loop-visited.visited.items at c.loop-visited.invariant.flags c.loop-visited.invariant.walks.below);
     }
 
 pub unreachable-requires : goal.unreachable-requires
