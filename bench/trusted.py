@@ -7,7 +7,8 @@ trusted files are listed with their line counts, and a file without such a head 
 With --cited the definitions are followed from the contracts, by name, and each file whose head line says something else
 than was found is printed, with the names that are cited in it; the status is then 1.
 With --run only the files are listed that the contracts of `run`, of the laws over runs and of the program cite: what somebody has to
-trust who uses kconf and calls no crate of it. The other trusted files say what the crates promise each other.
+trust who uses kconf and calls no crate of it, and at the end how many definitions of them these cite and how many lines those
+definitions take alone. The other trusted files say what the crates promise each other.
 """
 import os
 import re
@@ -51,7 +52,7 @@ def imports(text):
 
 
 def definitions(text):
-    """The definitions of a file: each name with the text that it stands in. The parts of a block share its text, and a
+    """The definitions of a file: each name with the blocks that it stands in. The parts of a block share its text, and a
     record is one definition with its fields."""
     blocks, current = [], []
     for line in text.split("\n"):
@@ -66,9 +67,9 @@ def definitions(text):
     found = {}
     for block in blocks:
         records = re.findall(r"^ *(?:pub )?record ([A-Za-z_][\w'-]*)", block, re.M)
-        names = records or re.findall(r"^ *(?:mutual +)?(?:abbrev +|unfoldable +)*(?:pub +)?(?:data +|record +)?([A-Za-z_][\w'-]*)(?: [^:=\n]*)? : ", block, re.M)
+        names = records or re.findall(r"^ *(?!module )(?:mutual +)?(?:abbrev +|unfoldable +)*(?:pub +)?(?:data +|record +)?([A-Za-z_][\w'-]*)(?: [^:=→\n]*)? : ", block, re.M)
         for name in names:
-            found[name] = found.get(name, "") + "\n" + block
+            found.setdefault(name, []).append(block)
     return found
 
 
@@ -87,8 +88,9 @@ def public_items(crate):
 
 
 def contracts(crate, calls=None):
-    """The clauses of public functions, and the views and ghost members of public types, by file; of these calls alone, if some are
-    named."""
+    """The clauses of public functions, and what public types and traits tell of themselves (views, invariants, ghost fields and
+    members), by file; of these calls alone, if some are named. How the logic stores a value (`coded`) says nothing of it, nor do
+    the proofs that an implementation of a trait brings (`stays`, `goes_on`)."""
     modules, items = public_items(crate)
     folder = os.path.join(TOP, "crates", crate, "src")
     for name in sorted(os.listdir(folder)):
@@ -99,39 +101,50 @@ def contracts(crate, calls=None):
             continue
         names = None if calls is None else calls[crate, module]
         text = read(os.path.join(folder, name))
-        clauses, holder, shown, public = [], None, True, False
+        private = set(re.findall(r"^(?:pub\(\w+\) )?(?:struct|enum|trait) (\w+)", text, re.M))
+        clauses, holder, fulfils, shown, public, part = [], None, False, True, False, None
         for line in text.split("\n"):
-            opens = re.match(r"(?:pub )?(?:impl|trait)\b(?:<[^{]*?>)? ?(?:[\w<>', ]+ for )?&?(?:'\w+ )?(\w+)", line)
-            if opens and not line.startswith(" "):
-                holder = opens.group(1)
-                shown = module in modules or holder in items[module] or " for " in line
+            opens = re.match(r"(?:pub(?:\(\w+\))? )?(?:impl|trait|struct|enum)\b(?:<[^{]*?>)? ?(?:[\w<>', ]+ for )?&?(?:'\w+ )?(\w+)", line)
+            if opens and not line.endswith(("}", ";")):
+                holder, fulfils = opens.group(1), " for " in line
+                shown = holder not in private and (module in modules or holder in items[module] or fulfils)
             if line == "}":
-                holder, shown = None, True
-            starts = re.match(r" *(pub )?(?:const )?fn (\w+)", line)
+                holder, fulfils, shown = None, False, True
+            starts = re.match(r" *(pub(?:\(\w+\))? )?(?:const )?fn (\w+)", line)
             if starts:
                 trait = holder is not None and re.search(rf"trait {holder}\b", text) is not None
-                public = bool(starts.group(1)) or trait
+                public = starts.group(1) == "pub " or trait or fulfils
                 if holder is None:
                     public = public and (module in modules or starts.group(2) in items[module])
                 else:
                     public = public and shown
                 public = public and (names is None or starts.group(2) in names)
-            if re.match(r" +(ensures|requires)\b", line) and public or re.match(r" +ghost \w+ = ", line) and shown:
+            # A clause goes on up to the next one or the body, a ghost item or field up to its `;` or `,`.
+            told = re.match(r" +ghost (\w+)( = |: )", line)
+            if told:
+                silent = ("coded", "stays", "goes_on") if told.group(2) == " = " else ("coded",)
+                part = "item" if told.group(1) not in silent and shown else None
+            elif re.match(r" +(ensures|requires)\b", line):
+                part = "clause" if public else None
+            elif part == "clause" and line.strip() in ("{", "{}", ""):
+                part = None
+            if part is not None and not line.lstrip().startswith("//"):
                 clauses.append(line)
-            elif clauses and public and re.match(r" {8,}[^ ]", line) and not re.match(r" +(let|if|match|for|while|return|self)\b", line):
-                clauses.append(line)
+            if part == "item" and line.endswith(("};", "},")) or part == "clause" and line.endswith(";"):
+                part = None
         if clauses:
             yield "\n".join(clauses), imports(text)
 
 
 def cited(calls=None):
-    """The definitions that public contracts cite, or those of these calls, as (crate, module, name)."""
+    """What public contracts cite, or those of these calls, as (crate, module, name); and the definitions among that, which
+    constructors and fields are none of, as (crate, module, name, block of text)."""
     texts = {}
     for crate in crates():
         for name in spec_files(crate):
             text = read(os.path.join(TOP, "crates", crate, "specs", name))
             texts[crate, name[:-5]] = (definitions(text), imports(text))
-    found, waiting = set(), []
+    found, defined, waiting = set(), set(), []
 
     def follow(text, uses, here):
         names, modules = uses
@@ -155,13 +168,12 @@ def cited(calls=None):
     while waiting:
         crate, module, name = waiting.pop()
         known, uses = texts[crate, module]
-        if name in known:
-            follow(known[name], uses, (crate, module))
-        else:
-            for block in known.values():
-                if re.search(rf"(?<![\w.]){re.escape(name)}(?![\w'])", block):
-                    follow(block, uses, (crate, module))
-    return found
+        defined.update((crate, module, name, block) for block in known.get(name, []))
+        # Another name is a constructor or a field: it stands in the block of its type.
+        for block in known.get(name) or [block for blocks in known.values() for block in blocks]:
+            if name in known or re.search(rf"(?<![\w.]){re.escape(name)}(?![\w'])", block):
+                follow(block, uses, (crate, module))
+    return found, defined
 
 
 def missing_calls():
@@ -176,7 +188,7 @@ def main():
     if missing:
         sys.exit("\n".join(missing))
     compare, of_run = "--cited" in sys.argv[1:], "--run" in sys.argv[1:]
-    found = cited(RUN if of_run else None) if compare or of_run else set()
+    found, defined = cited(RUN if of_run else None) if compare or of_run else (set(), set())
     wrong, files, lines = 0, 0, 0
     for crate in crates():
         for name in spec_files(crate):
@@ -197,6 +209,11 @@ def main():
                     print(f"{path}: {'cited' if names else 'not cited'} {' '.join(names)}")
                     wrong += trusted is not None
     print(f"{lines:5} lines in {files} trusted files")
+    if of_run:
+        names = {(crate, module, name) for crate, module, name, _ in defined}
+        texts = {(crate, module, block) for crate, module, _, block in defined}
+        alone = sum(not line.lstrip().startswith("--") for _, _, text in texts for line in text.split("\n"))
+        print(f"{alone:5} lines of them are the {len(names)} definitions that are cited, without comments")
     sys.exit(1 if wrong else 0)
 
 

@@ -302,9 +302,10 @@ OPTIONS = [
 
 def firmware():
     """The example, whose texts the gate compares too: this is the first of the stored runs of kconf_firmware."""
-    folder = TOP / "examples" / "firmware"
+    crate = TOP / "crates" / "kconf_firmware"
+    folder = crate / "data"
     names = ["Kconfig", "board/Kconfig", "drivers/Kconfig", "net/Kconfig", "debug/Kconfig"]
-    stored = (TOP / "crates" / "kconf_firmware" / "stdout").read_text()
+    stored = (crate / "stdout").read_text()
     sections = {}
     for section in stored.split("\nstatus ")[0].split("== ")[1:]:
         name, _, text = section.partition("\n")
