@@ -34,7 +34,6 @@ mod MemberSoundLemmas
 mod MembersLemmas
 mod MenuEndLemmas
 mod MenuEntryLemmas
-mod ModulesSymbolLemmas
 mod NameLemmas
 mod NamedLemmas
 mod NestLemmas

@@ -13,7 +13,8 @@ use Rattle.kc_read.specs.Expansion.{Log, Expands, is_choice}
 use Rattle.kc_read.specs.Files.{Files}
 use Rattle.kc_read.specs.Numbering.{located_numbered}
 use Rattle.kc_build.specs.Facts.{is_block, of_block, block_at, enclosing_block, enclosing_choice, choice_number}
-use Rattle.kc_build.proofs.ExpansionLemmas.{Leaves, turn, Suits, AreNested, expansion_is_nested}
+use Rattle.kc_read.proofs.TurnLemmas.{Leaves, turn}
+use Rattle.kc_build.proofs.ExpansionLemmas.{Suits, AreNested, expansion_is_nested}
 
 -- Statements that are brackets alike have the same blocks.
 module _ {A B : Type 0} (f : A → B) where

@@ -1,13 +1,13 @@
 -- The texts of a tree are those of the expanded list.
 use Rattle.std.proofs.Common.{◌≡◌, ℕ, suc, Bool, true, false, ◌==◌, if◌then◌else◌, List, [], ◌∷◌, ◌++◌, length, drop, map, Option, Some, None, refl, ap, subst, arith, codes}
 use Rattle.std.specs.Prelude.{All}
-use Rattle.std.specs.List.{slice_get, list_any, filter_map, flat_map, prefix_len}
-use Rattle.std.specs.Option.{option_map, option_or, unwrap_or, IfSome}
+use Rattle.std.specs.List.{before_first, slice_get, list_any, filter_map, flat_map, position_or_len, prefix_len}
+use Rattle.std.specs.Option.{option_map, unwrap_or, IfSome}
 use Rattle.std.proofs.lemmas.List.Elements.{All-nil, All-cons, All-head, All-tail, All-append, All-push, All-take, All-drop, All-map, All-contains, All-from_recursion}
 use Rattle.kc_expr.specs.declared.expression.SymId.{SymId}
 use Rattle.kc_expr.specs.Form.{Form}
 use Rattle.kc_expr.specs.Names.{all_mentioned, mention, number_of, same_name, symbol}
-use Rattle.kc_read.specs.Blocks.{attributes, definitions, is_attribute, has_modules_line, last_of, modules_of, defined_name, numbers}
+use Rattle.kc_read.specs.Blocks.{attributes, definitions, is_attribute, is_modules, last_of, modules_of, defined_name, numbers}
 use Rattle.kc_read.specs.Expansion.{defined}
 use Rattle.kc_read.specs.Numbering.{leading_names, modules_id, modules_name, names_of, numbered_lines, located_numbered}
 use Rattle.kc_read.specs.Statements.{Named, Numbered, Located, ConfigLine, CommentLine, MenuLine, EndMenuLine, MainMenuLine, DefaultLine, DefLine, numbered, names_in_statement, statements}
@@ -54,20 +54,16 @@ main_menu_words =
     let long : length (codes "Main menu") ≡ 9 = refl in
     record { within = omega arith; one_line = All-from_recursion (λ b. (b == 10) ≡ false) (codes "Main menu") (refl, (refl, (refl, (refl, (refl, (refl, (refl, (refl, (refl, tt))))))))) }
 
-either : (a b : Option (List ℕ)) → IfSome a IsLineText → IfSome b IsLineText → IfSome (option_or a b) IsLineText
-either None b h k = k
-either (Some n) b h k = h
-
-name_now : (s : Named) (o : Option (List ℕ)) → defined_name s ≡ o → IsInLines s → IfSome o IsLineText
-name_now s None e h = tt
-name_now s (Some n) e h = name_line s n h e
+last_in : (ns : List (List ℕ)) → All IsLineText ns → IfSome (last_of ns) IsLineText
+last_in [] h = tt
+last_in (n ∷ []) h = All-head IsLineText n [] h
+last_in (n ∷ m ∷ ns) h = last_in (m ∷ ns) (All-tail IsLineText n (m ∷ ns) h)
 
 modules_line : (ss : List Named) → All IsInLines ss → IfSome (modules_of ss) IsLineText
-modules_line [] h = tt
-modules_line (s ∷ ss) h = either (if has_modules_line ss then defined_name s else None) (modules_of ss) (by (has_modules_line ss)) (modules_line ss (All-tail IsInLines s ss h))
+modules_line ss h = by (list_any is_modules ss)
   where
-    by : (b : Bool) → IfSome (if b then defined_name s else None) IsLineText
-    by true = name_now s (defined_name s) refl (All-head IsInLines s ss h)
+    by : (b : Bool) → IfSome (if b then last_of (definitions (before_first is_modules ss)) else None) IsLineText
+    by true = last_in (definitions (before_first is_modules ss)) (definition_names (before_first is_modules ss) (All-take IsInLines (position_or_len is_modules ss) ss h))
     by false = tt
 
 unless_named : (o : Option (List ℕ)) (d : List ℕ) → IfSome o IsLineText → IsLineText d → IsLineText (unwrap_or o d)

@@ -24,8 +24,7 @@ same_kind kind.Hex kind.Hex = true
 same_kind _ _ = false
 
 abbrev pub first_of : {A : Type 0} → List A → Option A
-first_of [] = None
-first_of (x ∷ xs) = Some x
+first_of xs = slice_get xs 0
 
 -- What one line says.
 abbrev pub depends_form : Numbered → Option Form

@@ -1,11 +1,11 @@
 -- Trusted: The tree of a file map and a root file.
-use Rattle.std.specs.Prelude.{◌≡◌, ℕ, List, [], ◌∷◌, ◌++◌, map, length, codes, nat_lt, false, Option, Some, None, Result, Ok, Err, if◌then◌else◌, unwrap_or}
-use Rattle.std.specs.List.{filter_map, list_any}
+use Rattle.std.specs.Prelude.{◌≡◌, ℕ, List, [], ◌∷◌, map, length, codes, nat_lt, Some, None, Result, Ok, Err, if◌then◌else◌, unwrap_or}
+use Rattle.std.specs.List.{filter_map}
 use Rattle.kc_expr.specs.declared.expression.SymId.{SymId}
 use Rattle.kc_expr.specs.Names.{symbol}
 use Rattle.kc_read.specs.Files.{Files}
-use Rattle.kc_read.specs.Statements.{Named, Numbered, Located, ModulesLine, statements}
-use Rattle.kc_read.specs.Blocks.{definitions, is_modules, last_of, modules_of, numbers}
+use Rattle.kc_read.specs.Statements.{Named, Numbered, Located, statements}
+use Rattle.kc_read.specs.Blocks.{last_of, numbers}
 use Rattle.kc_read.specs.Expansion.{Log, Refused, Expands, defined}
 use Rattle.kc_read.specs.Numbering.{names_of, modules_id, numbered_lines}
 use Rattle.kc_tree.specs.TreeFacts.{TreeFacts, IsWellFormed}
@@ -55,14 +55,3 @@ OneTree = (files : Files) (root : List ℕ) (r other : Result TreeFacts Refused)
 -- the tree of a root file is well formed
 abbrev pub TreesAreWellFormed : Type 0
 TreesAreWellFormed = (files : Files) (root : List ℕ) (tree : TreeFacts) → IsTreeOf files root (Ok tree) → IsWellFormed tree
-
--- Of these lines, the modules symbol: the symbol of the last `config` line before the first `modules` line; none where no
--- `modules` line stands.
-pub data IsModulesOf (ss : List Named) : Option (List ℕ) → Type 0 where
-  no_line : list_any is_modules ss ≡ false → IsModulesOf ss None
-  first_line : (before after : List Named) (name : List ℕ) → ss ≡ before ++ ModulesLine ∷ after → list_any is_modules before ≡ false →
-      last_of (definitions before) ≡ Some name → IsModulesOf ss (Some name)
-
--- the lines that a root file expands to have this modules symbol
-abbrev pub FirstModulesLineDecides : Type 0
-FirstModulesLineDecides = (files : Files) (root : List ℕ) (log : Log) → Expands files root (Ok log) → IsModulesOf (statements log.lines) (modules_of (statements log.lines))

@@ -81,12 +81,9 @@ has_type k c = is_some c || not (same_kind k kind.Undefined)
 abbrev pub without_type : (SymId → Kind) → (SymId → Option ℕ) → Bool → Numbered → List Warning
 without_type kinds choices first s = flat_map (λ t. when (first && not (has_type (kinds t) (choices t))) (warning.WithoutType t)) (listed (symbol_of (Some s)))
 
--- a line that selects or implies a symbol whose value is a text; a member of a choice
+-- a line that selects or implies a symbol whose value is a text
 abbrev pub text_target : (SymId → Kind) → Numbered → List Warning
 text_target kinds s = flat_map (λ t. when (has_text (kinds (t.1))) (warning.TextTarget (t.1) (t.0))) (listed (target_of s))
-
-abbrev pub member_target : (SymId → Option ℕ) → Numbered → List Warning
-member_target choices s = flat_map (λ t. when (is_some (choices (t.1))) (warning.MemberTarget (t.1) (t.0))) (listed (target_of s))
 
 -- a default of a choice that names no member of it
 abbrev pub default_not_member : (ℕ → SymId → Bool) → MenuEntry → Numbered → List Warning
@@ -94,10 +91,14 @@ default_not_member members o s = flat_map (λ k. flat_map
     (λ g. flat_map (λ t. when (not (members k t)) (warning.DefaultNotMember t)) (listed (single_symbol g.value))) (listed (stated_default s)))
     (listed (entry_choice o))
 
--- by number, but the fourth and the sixth before the fifth
+-- a line that selects or implies a member of a choice
+abbrev pub member_target : (SymId → Option ℕ) → Numbered → List Warning
+member_target choices s = flat_map (λ t. when (is_some (choices (t.1))) (warning.MemberTarget (t.1) (t.0))) (listed (target_of s))
+
+-- by number
 abbrev pub line_warnings_by : (SymId → Kind) → (SymId → Option ℕ) → (ℕ → SymId → Bool) → MenuEntry → Bool → Bool → Numbered → List Warning
 line_warnings_by kinds choices members o before first s =
-    type_redefined kinds o s ++ prompt_redefined o before s ++ without_type kinds choices first s ++ text_target kinds s ++ member_target choices s ++ default_not_member members o s
+    type_redefined kinds o s ++ prompt_redefined o before s ++ without_type kinds choices first s ++ text_target kinds s ++ default_not_member members o s ++ member_target choices s
 
 abbrev pub line_warnings : List Numbered → ℕ → Numbered → List Warning
 line_warnings ss i = line_warnings_by (kind_of ss) (choice_of ss) (is_member ss) (menu_entry_at ss i) (prompt_before ss i) (is_first_definition_at ss i)

@@ -70,8 +70,8 @@ fn build_parts(
 /// files that the lines were read from are not looked at.
 ///
 /// E13 comes at the first `config` line, in order, that defines a choice's member and is not the first to define it, or that
-/// stands in a choice while its symbol is no bool. So of a symbol that is first defined outside its choice the line is the
-/// one in the choice. Without such a line E14 comes at the first default line of a string, int or hex symbol that is no
+/// stands in a choice while its symbol is no bool. So of a symbol that is defined once outside and then in its choice the
+/// line is the one in the choice. Without such a line E14 comes at the first default line of a string, int or hex symbol that is no
 /// single operand, or of a choice that is no single name, parentheses aside. Both name the symbol, or `choice`. E20, which
 /// has no location and no detail, is being out of memory.
 ///

@@ -1,6 +1,6 @@
 //! What holds of every tree.
 
-ghost use Rattle.kc_build.specs.Trees.{FirstModulesLineDecides, OneTree, TreesAreWellFormed};
+ghost use Rattle.kc_build.specs.Trees.{OneTree, TreesAreWellFormed};
 
 use kc_read::laws::one_expansion;
 
@@ -11,12 +11,6 @@ pub fn one_tree()
 {
     one_expansion();
 }
-
-/// The law of the modules symbol: in the lines that a root file expands to it is the symbol of the last `config` line before
-/// the first `modules` line, and there is none where no `modules` line stands. It does nothing. The law is our own.
-pub fn first_modules_line_decides()
-    ensures { FirstModulesLineDecides }
-{}
 
 /// The law of facts: whatever a root file says, its tree is well formed. It does nothing. The law is our own.
 pub fn trees_are_well_formed()

@@ -1,5 +1,5 @@
 -- That no line of the streams goes unaccounted for where lost values are warned of.
-use Rattle.std.proofs.Common.{◌≡◌, ◌⊎◌, inl, inr, ℕ, ◌+◌, ◌<◌, zero, suc, Bool, true, false, List, [], ◌∷◌, ◌++◌, length, Some, None, refl, sym, ap, subst, ◌∙◌, append_assoc, append-nil, arith, codes, eqb}
+use Rattle.std.proofs.Common.{◌≡◌, ◌⊎◌, inl, inr, ℕ, ◌+◌, ◌<◌, zero, suc, Bool, true, false, List, [], ◌∷◌, ◌++◌, length, Some, None, refl, sym, ap, subst, ◌∙◌, append_assoc, arith, codes, eqb}
 use Rattle.std.specs.Prelude.{not, find, is_some, if◌then◌else◌}
 use Rattle.std.specs.List.{flat_map, range_with_len}
 use Rattle.std.specs.Option.{option_map}
@@ -13,7 +13,6 @@ use Rattle.kc_expr.specs.declared.expression.SymId.{SymId}
 use Rattle.kc_expr.specs.declared.expression.Tri.{Tri}
 use Rattle.kc_expr.specs.declared.expression.Tri.TheVariants.{N, M, Y}
 use Rattle.kc_read.specs.Files.{Files}
-use Rattle.kc_read.specs.Sources.{Holds}
 use Rattle.kc_tree.specs.TreeFacts.{SymbolFacts, TreeFacts}
 use Rattle.kc_user.specs.GivenValue.{GivenValue, GivenTruth, GivenText, Member, SymbolPlace}
 use Rattle.kc_user.specs.Places.{ArePlacesOf, Places, no_places, place_at}
@@ -24,28 +23,29 @@ use Rattle.kc_solve.specs.Solved.{Solution, known, warnings as value_warnings}
 use Rattle.kc_dot.specs.Effects.{Effect, Silent, Warns, Assigns, SetAgain, LineWarning, warning_line}
 use Rattle.kc_dot.specs.Reading.{Line, assignments, before_too_long, effect, is_within, lines_of, places_after, reading, stream_location, effect_warning, warning, warning_line_if, warnings}
 use Rattle.kc_dot.proofs.PlaceLemmas.{ArePlacesOf-given, places_given-nothing, places_given-one}
-use Rattle.kc_dot.proofs.ReadingLemmas.{places_after-append}
+use Rattle.kc_dot.proofs.ReadingLemmas.{places_after-append, warnings-append, warnings-cons}
 use Rattle.kc_dot.specs.SolvedView.{solution_view}
 use Rattle.kc_dot.specs.Texts.{config_text}
 use Rattle.kc_conf.specs.declared.options.Options.{Options}
-use Rattle.kc_conf.specs.Accounted.{IsAccountedFor, IsKeptOrWarned, IsSetAgain, NothingIsLost}
+use Rattle.kc_conf.specs.Accounted.{HoldsLine, IsAccountedFor, IsKeptOrWarned, IsSetAgain, NothingIsLost}
 use Rattle.kc_conf.specs.Lost.{has_prompt, lost_at, lost_by, lost_line, lost_lines, lost_of, same_given}
-use Rattle.kc_conf.specs.Outcome.{Outcome, lines_text, lost_warnings, names_of, noted, outcome_of, read_of, streams, with_rule}
+use Rattle.kc_conf.specs.Outcome.{AreLines, Outcome, lines_text, lost_warnings, names_of, noted, outcome_of, read_of, streams, with_rule}
 use Rattle.kc_conf.specs.Reruns.{RefusesNothing, WrittenAreWhole}
+use Rattle.kc_conf.proofs.PartLemmas.{AreLines-append, AreLines-nothing, AreLines-reading, AreLines-warnings}
 
--- ---- texts that stand in others
+-- ---- lines that stand in texts
 
 abbrev StandsIn : List ℕ → List ℕ → Type 0
-StandsIn part text = Holds text part
+StandsIn part text = HoldsLine text part
 
-stands_after : (front part text : List ℕ) → StandsIn part text → StandsIn part (front ++ text)
-stands_after front part text (before, after, is) = (front ++ before, after, ap (λ t. front ++ t) is ∙ simp append_assoc)
+stands_after : (front part text : List ℕ) → AreLines front → StandsIn part text → StandsIn part (front ++ text)
+stands_after front part text whole (before, after, is, lines) = (front ++ before, after, ap (λ t. front ++ t) is ∙ simp append_assoc, AreLines-append front before whole lines)
 
 stands_before : (back part text : List ℕ) → StandsIn part text → StandsIn part (text ++ back)
-stands_before back part text (before, after, is) = (before, after ++ back, ap (λ t. t ++ back) is ∙ append_assoc (before ++ part) after back)
+stands_before back part text (before, after, is, lines) = (before, after ++ back, ap (λ t. t ++ back) is ∙ append_assoc (before ++ part) after back, lines)
 
 stands_first : (part back : List ℕ) → StandsIn part (part ++ back)
-stands_first part back = ([], back, refl)
+stands_first part back = ([], back, refl, AreLines-nothing)
 
 -- ---- one value
 
@@ -85,6 +85,7 @@ line_stands line lines before after is = (
   lines_text before,
   lines_text after,
   ap lines_text is ∙ flat_map-append (λ l. l ++ codes "\n") before (line ∷ after) ∙ sym (append_assoc (lines_text before) (line ++ codes "\n") (lines_text after)),
+  (before, refl),
 )
 
 module _ (s : Solution) (id : SymId) (f : SymbolFacts) (given : GivenValue) (defined : facts s.tree id ≡ Some f) (prompted : has_prompt f.prompts ≡ true)
@@ -112,18 +113,16 @@ module _ (s : Solution) (id : SymId) (f : SymbolFacts) (given : GivenValue) (def
 
 module _ (tree : TreeFacts) (prefix : List ℕ) where
   -- the warning of a line stands in those of all lines
-  warned_at : (p : Places) (done before later : List Line) (l : Line) →
-      StandsIn (warning tree prefix (places_after tree prefix p (done ++ before)) l) (warnings tree prefix p done (before ++ l ∷ later))
-  unfolding warnings
-  warned_at p done [] later l =
-      subst (λ d. StandsIn (warning tree prefix (places_after tree prefix p d) l) (warning tree prefix (places_after tree prefix p done) l ++ warnings tree prefix p (done ++ l ∷ []) later))
-      (sym (append-nil done))
-      (stands_first (warning tree prefix (places_after tree prefix p done) l) (warnings tree prefix p (done ++ l ∷ []) later))
-  warned_at p done (m ∷ before) later l =
-      let same : (done ++ m ∷ []) ++ before ≡ done ++ m ∷ before = append_assoc done (m ∷ []) before in
-      stands_after (warning tree prefix (places_after tree prefix p done) m) _ (warnings tree prefix p (done ++ m ∷ []) (before ++ l ∷ later))
-      (subst (λ d. StandsIn (warning tree prefix (places_after tree prefix p d) l) (warnings tree prefix p (done ++ m ∷ []) (before ++ l ∷ later))) same
-      (warned_at p (done ++ m ∷ []) before later l))
+  warned_at : (p : Places) (before later : List Line) (l : Line) →
+      StandsIn (warning tree prefix (places_after tree prefix p before) l) (warnings tree prefix p (before ++ l ∷ later))
+  warned_at p before later l =
+      let here = places_after tree prefix p before in
+      let split : warnings tree prefix p (before ++ l ∷ later)
+      ≡ warnings tree prefix p before ++ (warning tree prefix here l ++ warnings tree prefix (places_after tree prefix here (l ∷ [])) later) =
+      warnings-append tree prefix p before (l ∷ later) ∙ ap (λ w. warnings tree prefix p before ++ w) (warnings-cons tree prefix here l later) in
+      subst (StandsIn (warning tree prefix here l)) (sym split)
+      (stands_after (warnings tree prefix p before) _ _ (AreLines-warnings tree prefix before p)
+      (stands_first (warning tree prefix here l) (warnings tree prefix (places_after tree prefix here (l ∷ [])) later)))
 
   -- no line is too long: all count
   all_count : (lines : List Line) → option_map stream_location (find (λ l. not (is_within l)) lines) ≡ None → before_too_long lines ≡ lines
@@ -195,39 +194,41 @@ module _ (files : Files) (options : Options) (all : List (List ℕ)) (tree : Tre
   unfolding reading
   places_are = is_whole.solution_is.places_are ∙ ap (places_after tree prefix empty) all_counted
 
-  warned_are : (read_of options tree all).warned ≡ warnings tree prefix empty [] lines
+  warned_are : (read_of options tree all).warned ≡ warnings tree prefix empty lines
   unfolding reading
-  warned_are = ap (warnings tree prefix empty []) all_counted
+  warned_are = ap (warnings tree prefix empty) all_counted
 
   module _ (outcome : Outcome) (opened : List (List ℕ)) (is : outcome ≡ with_rule options opened
       (noted (lines_text tree.warnings) (noted (read_of options tree all).warned (outcome_of options tree solution)))) where
-    notes_are : outcome.notes ≡ lines_text tree.warnings ++ (warnings tree prefix empty [] lines ++ (lines_text (value_warnings solution) ++ lines_text (lost_lines solution)))
+    notes_are : outcome.warned ≡ lines_text tree.warnings ++ (warnings tree prefix empty lines ++ (lines_text (value_warnings solution) ++ lines_text (lost_lines solution)))
     notes_are =
-        ap (λ (o : Outcome). o.notes) is
+        ap (λ (o : Outcome). o.warned) is
         ∙ ap (λ w. lines_text tree.warnings ++ (w ++ (lines_text (value_warnings solution) ++ lines_text (lost_warnings options solution)))) warned_are
-        ∙ ap (λ b. lines_text tree.warnings ++ (warnings tree prefix empty [] lines ++ (lines_text (value_warnings solution) ++ lines_text (if b then lost_lines solution else [])))) asked
+        ∙ ap (λ b. lines_text tree.warnings ++ (warnings tree prefix empty lines ++ (lines_text (value_warnings solution) ++ lines_text (if b then lost_lines solution else [])))) asked
 
     -- what is warned of as the streams are read stands in the notes, and so does what is lost
-    of_streams : (part : List ℕ) → StandsIn part (warnings tree prefix empty [] lines) → StandsIn part outcome.notes
+    of_streams : (part : List ℕ) → StandsIn part (warnings tree prefix empty lines) → StandsIn part outcome.warned
     of_streams part stands =
         subst (StandsIn part) (sym notes_are)
-        (stands_after (lines_text tree.warnings) part _ (stands_before (lines_text (value_warnings solution) ++ lines_text (lost_lines solution)) part _ stands))
+        (stands_after (lines_text tree.warnings) part _ (tree.warnings, refl) (stands_before (lines_text (value_warnings solution) ++ lines_text (lost_lines solution)) part _ stands))
 
-    of_lost : (part : List ℕ) → StandsIn part (lines_text (lost_lines solution)) → StandsIn part outcome.notes
+    of_lost : (part : List ℕ) → StandsIn part (lines_text (lost_lines solution)) → StandsIn part outcome.warned
     of_lost part stands =
         subst (StandsIn part) (sym notes_are)
-        (stands_after (lines_text tree.warnings) part _ (stands_after (warnings tree prefix empty [] lines) part _ (stands_after (lines_text (value_warnings solution)) part _ stands)))
+        (stands_after (lines_text tree.warnings) part _ (tree.warnings, refl)
+        (stands_after (warnings tree prefix empty lines) part _ (subst AreLines warned_are (AreLines-reading tree prefix lines empty))
+        (stands_after (lines_text (value_warnings solution)) part _ (value_warnings solution, refl) stands)))
 
     -- the warning of a line stands in the notes
     line_warning_told : (before later : List Line) (l : Line) (line_warning : LineWarning) → lines ≡ before ++ l ∷ later →
         effect_warning tree (places_after tree prefix empty before) (effect tree prefix l) ≡ Some line_warning →
-        StandsIn (warning_line l.stream l.number line_warning) outcome.notes
+        StandsIn (warning_line l.stream l.number line_warning) outcome.warned
     unfolding warning
     line_warning_told before later l line_warning split has =
         of_streams (warning_line l.stream l.number line_warning)
-        (subst (λ ls. StandsIn (warning_line l.stream l.number line_warning) (warnings tree prefix empty [] ls)) (sym split)
-        (subst (λ w. StandsIn w (warnings tree prefix empty [] (before ++ l ∷ later))) (ap (warning_line_if l.stream l.number) has)
-        (warned_at tree prefix empty [] before later l)))
+        (subst (λ ls. StandsIn (warning_line l.stream l.number line_warning) (warnings tree prefix empty ls)) (sym split)
+        (subst (λ w. StandsIn w (warnings tree prefix empty (before ++ l ∷ later))) (ap (warning_line_if l.stream l.number) has)
+        (warned_at tree prefix empty before later l)))
 
     module _ (before later : List Line) (l : Line) (split : lines ≡ before ++ l ∷ later) (s : SymId) (given : GivenValue) (assigns : effect tree prefix l ≡ Assigns s given)
         (f : SymbolFacts) (defined : facts tree s ≡ Some f) (prompted : has_prompt f.prompts ≡ true) where
@@ -245,7 +246,7 @@ module _ (files : Files) (options : Options) (all : List (List ℕ)) (tree : Tre
           ap (λ (q : Places). place_at q (SymbolPlace s.0)) (places_after-append tree prefix empty before (l ∷ []))
           ∙ assigned tree prefix (places_after tree prefix empty before) l s given assigns below
 
-      kept : place_at (places_after tree prefix here later) (SymbolPlace s.0) ≡ Some given → IsKeptOrWarned tree solution outcome.notes s f given
+      kept : place_at (places_after tree prefix here later) (SymbolPlace s.0) ≡ Some given → IsKeptOrWarned tree solution outcome.warned s f given
       kept stays = elim (kept_or_told solution s f given (subst (λ (t : TreeFacts). facts t s ≡ Some f) (sym is_whole.solution_is.tree_is) defined) prompted there) [
         | inl same ↦ inl same
         | inr told ↦ inr (of_lost (lost_line (name tree s) f.kind given (given_of (known solution s)) ++ codes "\n")
@@ -261,7 +262,7 @@ module _ (files : Files) (options : Options) (all : List (List ℕ)) (tree : Tre
               ap (λ (q : Places). place_at q (SymbolPlace s.0)) (places_are ∙ ap (places_after tree prefix empty) joined ∙ places_after-append tree prefix empty (before ++ l ∷ []) later)
               ∙ stays
 
-      again : SetsAgain tree prefix here s.0 later → IsSetAgain tree prefix outcome.notes s later
+      again : SetsAgain tree prefix here s.0 later → IsSetAgain tree prefix outcome.warned s later
       again (front, back, m, t, old, other, is_later, sets, same, was) =
           (front, back, m, other, is_later, sets ∙ ap (λ x. Assigns x other) (same_symbol t s same), line_warning_told (before ++ l ∷ front) back m (SetAgain (name tree s)) joined line_warning)
         where
@@ -279,15 +280,15 @@ module _ (files : Files) (options : Options) (all : List (List ℕ)) (tree : Tre
               ap (effect_warning tree (places_after tree prefix empty (before ++ l ∷ front))) (sets ∙ ap (λ x. Assigns x other) (same_symbol t s same))
               ∙ ap (λ o. if is_some o then Some (SetAgain (name tree s)) else None) filled_then
 
-      heard : IsSetAgain tree prefix outcome.notes s later ⊎ IsKeptOrWarned tree solution outcome.notes s f given
+      heard : IsSetAgain tree prefix outcome.warned s later ⊎ IsKeptOrWarned tree solution outcome.warned s f given
       heard = elim (stays_or_set tree prefix here later s.0 given filled) [
         | inl stays ↦ inr (kept stays)
         | inr set ↦ inl (again set)
       ]
 
-    each_accounted_for : (before later : List Line) (l : Line) → lines ≡ before ++ l ∷ later → IsAccountedFor tree prefix solution outcome.notes l later (effect tree prefix l)
+    each_accounted_for : (before later : List Line) (l : Line) → lines ≡ before ++ l ∷ later → IsAccountedFor tree prefix solution outcome.warned l later (effect tree prefix l)
     each_accounted_for before later l split = by (effect tree prefix l) refl where
-      by : (e : Effect) → effect tree prefix l ≡ e → IsAccountedFor tree prefix solution outcome.notes l later e
+      by : (e : Effect) → effect tree prefix l ≡ e → IsAccountedFor tree prefix solution outcome.warned l later e
       by Silent is_effect = tt
       by (Warns line_warning) is_effect = line_warning_told before later l line_warning split (ap (effect_warning tree (places_after tree prefix empty before)) is_effect)
       by (Assigns s given) is_effect = heard before later l split s given is_effect

@@ -4,7 +4,9 @@ pub mod ListLemmas
 pub mod LostLemmas
 pub mod PromptLemmas
 pub mod OutputLemmas
+pub mod PartLemmas
 pub mod OutcomeLemmas
+pub mod NoteLemmas
 pub mod Once
 pub mod ReadsLemmas
 pub mod RerunLemmas

@@ -10,7 +10,7 @@ use Rattle.kc_expr.specs.Value.{TextValue}
 use Rattle.kc_expr.specs.declared.expression.Kind.TheVariants.{Undefined}
 use Rattle.kc_order.specs.Laws.{OneNamedLoop}
 use Rattle.kc_order.specs.Solution.{Solves}
-use Rattle.kc_values.specs.Laws.{IsAccepted}
+use Rattle.kc_values.specs.Needs.{IsAccepted}
 use Rattle.kc_values.specs.Needs.{needs}
 use Rattle.kc_values.specs.Solution.{equations, symbol_count}
 use Rattle.kc_solve.specs.LoopText.{loop_text}

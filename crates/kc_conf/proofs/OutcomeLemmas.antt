@@ -8,21 +8,23 @@ use Rattle.kc_tree.specs.TreeFacts.{TreeFacts}
 use Rattle.kc_solve.specs.Solved.{Solution}
 use Rattle.kc_conf.specs.declared.options.Options.{Options}
 use Rattle.kc_conf.specs.ErrorLines.{strict_line}
-use Rattle.kc_conf.specs.Outcome.{Outcome, is_done, has_text, lines_text, lost_warnings, noted, outcome_of, refused, strictly}
-use Rattle.kc_conf.specs.Reads.{behind_warnings, without_notes, strictly_after}
-use Rattle.kc_conf.specs.Faults.{files_before, files_made, file_text, up_to, finished, Completes, after_fault, BreaksRun, in_notes, not_begun, in_file, BreaksNotes, BreaksFile, BreaksFiles}
+use Rattle.kc_conf.specs.Outcome.{AreLines, Outcome, is_done, has_text, lines_text, lost_warnings, noted, notes_of, outcome_of, refused, strictly}
+use Rattle.kc_conf.specs.Reads.{behind_warnings, without_warnings, strictly_after}
+use Rattle.kc_conf.specs.FaultParts.{BreaksFile, BreaksFiles}
+use Rattle.kc_conf.specs.Faults.{files_before, files_made, file_text, up_to, finished, Completes, after_fault, BreaksRun, in_notes, not_begun, in_file, StopsNotes}
 use Rattle.kc_conf.specs.declared.run_fault.RunFault.{RunFault}
-use Rattle.kc_conf.specs.declared.run_fault.RunFault.TheVariants.{Write, Memory}
+use Rattle.kc_conf.specs.declared.run_fault.RunFault.TheVariants.{Read, Write, Memory}
 use Rattle.kc_conf.specs.declared.options.Status.{Status}
 use Rattle.kc_conf.specs.declared.outputs.Output.{Output}
 use Rattle.kc_conf.specs.declared.outputs.Output.TheVariants.{Config, Header, Minimal, Depfile, Notes}
 use Rattle.kc_conf.proofs.OutputLemmas.{with_text-with_text}
+use Rattle.kc_conf.proofs.PartLemmas.{AreLines-append, AreLines-nothing}
 
 -- nothing more is written
 pub with_text-nothing : (states : OutputStates) → states ≡ with_text Notes [] states
 with_text-nothing states =
     ap (λ t. with_state states Notes (let p : OutputState =
-    record { is_begun = states.notes.is_begun; is_ended = states.notes.is_ended; text = t; failures = states.notes.failures } in p))
+    record { begins = states.notes.begins; is_ended = states.notes.is_ended; text = t; failures = states.notes.failures } in p))
     (extended-nothing states.notes.text)
 
 -- notes before a run change none of its files
@@ -33,6 +35,9 @@ files_before-noted Minimal text outcome states = refl
 files_before-noted Depfile text outcome states = refl
 files_before-noted Notes text outcome states = refl
 
+notes-noted : (text : List ℕ) (outcome : Outcome) → text ++ notes_of outcome ≡ notes_of (noted text outcome)
+notes-noted text outcome = sym (append_assoc text outcome.warned outcome.refusal)
+
 file_text-noted : (file : Output) (text : List ℕ) (outcome : Outcome) → file_text (noted text outcome) file ≡ file_text outcome file
 file_text-noted Config text outcome = refl
 file_text-noted Header text outcome = refl
@@ -42,55 +47,61 @@ file_text-noted Notes text outcome = refl
 
 up_to-noted : (file : Output) (text : List ℕ) (outcome : Outcome) (old : OutputStates) → up_to file outcome (with_text Notes text old) ≡ up_to file (noted text outcome) old
 up_to-noted file text outcome old =
-    ap (files_before file outcome) (with_text-with_text text outcome.notes old) ∙ files_before-noted file text outcome (with_text Notes (text ++ outcome.notes) old)
+    ap (files_before file outcome) (with_text-with_text text (notes_of outcome) old ∙ ap (λ t. with_text Notes t old) (notes-noted text outcome))
+    ∙ files_before-noted file text outcome (with_text Notes (notes_of (noted text outcome)) old)
 
 -- a run that began after these notes is one with them before its own
 pub Completes-after : (text : List ℕ) (part : Outcome) (status : Status) (old mid new : OutputStates) → mid ≡ with_text Notes text old →
     Completes part status mid new → Completes (noted text part) status old new
 Completes-after text part status old mid new was (answers, leaves) =
-    (answers, leaves ∙ ap (finished part) was ∙ ap (files_made part) (with_text-with_text text part.notes old))
+    (answers, leaves ∙ ap (finished part) was ∙ ap (files_made part) (with_text-with_text text (notes_of part) old ∙ ap (λ t. with_text Notes t old) (notes-noted text part)))
 
-BreaksRun-noted : (text : List ℕ) (outcome : Outcome) (fault : RunFault) (old new : OutputStates) → BreaksRun outcome fault (with_text Notes text old) new →
+-- what broke off behind whole lines broke off in the notes that hold them too
+StopsNotes-noted : (fault : RunFault) (text : List ℕ) (outcome : Outcome) (front : List ℕ) → AreLines text → StopsNotes fault outcome front → StopsNotes fault (noted text outcome) (text ++ front)
+StopsNotes-noted (Read input) text outcome front lines (are, (rest, begins)) = (AreLines-append text front lines are, (rest, ap (λ t. text ++ t) begins ∙ sym (append_assoc text front rest)))
+StopsNotes-noted Memory text outcome front lines (are, (rest, begins)) = (AreLines-append text front lines are, (rest, ap (λ t. text ++ t) begins ∙ sym (append_assoc text front rest)))
+StopsNotes-noted (Write output) text outcome front lines (is, (b, rest, goes)) =
+    (is, (b, rest, sym (notes-noted text outcome) ∙ ap (λ t. text ++ t) goes ∙ sym (append_assoc text front (b ∷ rest))))
+
+BreaksRun-noted : (text : List ℕ) (outcome : Outcome) (fault : RunFault) (old new : OutputStates) → AreLines text → BreaksRun outcome fault (with_text Notes text old) new →
     BreaksRun (noted text outcome) fault old new
-BreaksRun-noted text outcome fault old new (in_notes front strikes (rest, begins) is) =
-    in_notes (text ++ front) strikes (rest, ap (λ t. text ++ t) begins ∙ sym (append_assoc text front rest)) (is ∙ ap (after_fault fault) (with_text-with_text text front old))
-BreaksRun-noted text outcome fault old new (not_begun file whole strikes there is) =
+BreaksRun-noted text outcome fault old new lines (in_notes front stops is) =
+    in_notes (text ++ front) (StopsNotes-noted fault text outcome front lines stops) (is ∙ ap (after_fault fault) (with_text-with_text text front old))
+BreaksRun-noted text outcome fault old new lines (not_begun file whole strikes there is) =
     not_begun file whole strikes (file_text-noted file text outcome ∙ there) (is ∙ ap (after_fault fault) (up_to-noted file text outcome old))
-BreaksRun-noted text outcome fault old new (in_file file whole front strikes there begins is) =
-    in_file file whole front strikes (file_text-noted file text outcome ∙ there) begins (is ∙ ap (λ p. after_fault fault (begun_with file front p)) (up_to-noted file text outcome old))
+BreaksRun-noted text outcome fault old new lines (in_file file whole front stops there is) =
+    in_file file whole front stops (file_text-noted file text outcome ∙ there) (is ∙ ap (λ p. after_fault fault (begun_with file front p)) (up_to-noted file text outcome old))
 
-pub BreaksRun-after : (text : List ℕ) (part : Outcome) (fault : RunFault) (old mid new : OutputStates) → mid ≡ with_text Notes text old →
+pub BreaksRun-after : (text : List ℕ) (part : Outcome) (fault : RunFault) (old mid new : OutputStates) → AreLines text → mid ≡ with_text Notes text old →
     BreaksRun part fault mid new → BreaksRun (noted text part) fault old new
-BreaksRun-after text part fault old mid new was broke =
-    BreaksRun-noted text part fault old new (subst (λ p. BreaksRun part fault p new) was broke)
+BreaksRun-after text part fault old mid new lines was broke =
+    BreaksRun-noted text part fault old new lines (subst (λ p. BreaksRun part fault p new) was broke)
 
--- the notes broke off in a beginning of their text
-pub BreaksRun-in_notes : (outcome : Outcome) (text : List ℕ) (fault : RunFault) (old new : OutputStates) → BeginsWith outcome.notes text →
-    BreaksNotes text fault old new → BreaksRun outcome fault old new
-BreaksRun-in_notes outcome text fault old new (more, whole) (front, strikes, (rest, begins), is) =
-    in_notes front strikes (rest ++ more, whole ∙ ap (λ t. t ++ more) begins ∙ append_assoc front rest more) is
+-- the notes failed in these first warnings
+pub BreaksRun-in_notes : (outcome : Outcome) (text : List ℕ) (old new : OutputStates) → BeginsWith outcome.warned text → BreaksOutput Notes text old new → BreaksRun outcome (Write Notes) old new
+BreaksRun-in_notes outcome text old new (more, whole) (front, (b, rest, goes), is) =
+    let notes : notes_of outcome ≡ front ++ b ∷ (rest ++ (more ++ outcome.refusal)) =
+    ap (λ t. t ++ outcome.refusal) (whole ∙ ap (λ t. t ++ more) goes) ∙ simp append_assoc refl in
+    in_notes front (refl, (b, rest ++ (more ++ outcome.refusal), notes)) is
 
--- the notes failed
-pub BreaksNotes-broke : (text : List ℕ) (old new : OutputStates) → BreaksOutput Notes text old new → BreaksNotes text (Write Notes) old new
-BreaksNotes-broke text old new (front, begins, is) = (front, refl, begins, is)
-
+-- or in the line of a refusal
 pub BreaksRun-refused : (line : List ℕ) (old new : OutputStates) → BreaksOutput Notes line old new → BreaksRun (refused line) (Write Notes) old new
-BreaksRun-refused line old new (front, begins, is) = in_notes front refl begins is
+BreaksRun-refused line old new (front, beyond, is) = in_notes front (refl, beyond) is
 
 -- nothing was done
 pub BreaksRun-nothing : (outcome : Outcome) (old : OutputStates) → BreaksRun outcome Memory old old
-BreaksRun-nothing outcome old = in_notes [] tt (outcome.notes, refl) (with_text-nothing old)
+BreaksRun-nothing outcome old = in_notes [] (AreLines-nothing, (outcome.warned, refl)) (with_text-nothing old)
 
 -- a file broke off behind the notes
-pub BreaksRun-files : (outcome : Outcome) (fault : RunFault) (old mid new : OutputStates) → mid ≡ with_text Notes outcome.notes old →
+pub BreaksRun-files : (outcome : Outcome) (fault : RunFault) (old mid new : OutputStates) → mid ≡ with_text Notes (notes_of outcome) old →
     BreaksFiles outcome fault mid new → BreaksRun outcome fault old new
 BreaksRun-files outcome fault old mid new was (file, breaks) =
     go (file_text outcome file) refl (subst (λ p. BreaksFile file (file_text outcome file) fault (files_before file outcome p) new) was breaks)
   where
     go : (text : Option (List ℕ)) → file_text outcome file ≡ text → BreaksFile file text fault (up_to file outcome old) new → BreaksRun outcome fault old new
     go None e never = absurd never
-    go (Some text) e (strikes, inl is) = not_begun file text strikes e is
-    go (Some text) e (strikes, inr (front, begins, is)) = in_file file text front strikes e begins is
+    go (Some text) e (inl (strikes, is)) = not_begun file text strikes e is
+    go (Some text) e (inr (front, stops, is)) = in_file file text front stops e is
 
 -- ---- warnings that are refused
 
@@ -104,17 +115,17 @@ and_never true = refl
 and_never false = refl
 
 abbrev refused_if : Bool → Outcome → Outcome
-refused_if b part = if b then refused (part.notes ++ strict_line) else part
+refused_if b part = if b then record (refused strict_line) { warned = part.warned } else part
 
 noted_if : (text : List ℕ) (part : Outcome) (b : Bool) → noted text (refused_if b part) ≡ refused_if b (noted text part)
-noted_if text part true = ap refused (sym (append_assoc text part.notes strict_line))
+noted_if text part true = refl
 noted_if text part false = refl
 
 -- notes before a part of a run that refuses warnings are told before it
 pub strictly_after-noted : (strict before : Bool) (text : List ℕ) (part : Outcome) → noted text (strictly_after strict (before || has_text text) part) ≡ strictly_after strict before (noted text part)
 strictly_after-noted strict before text part =
-    noted_if text part (is_done part.status && (strict && ((before || has_text text) || has_text part.notes)))
-    ∙ ap (λ b. refused_if (is_done part.status && (strict && b)) (noted text part)) (told_three before text part.notes)
+    noted_if text part (is_done part.status && (strict && ((before || has_text text) || has_text part.warned)))
+    ∙ ap (λ b. refused_if (is_done part.status && (strict && b)) (noted text part)) (told_three before text part.warned)
 
 -- where it lets warnings pass, nothing needs to be known of them
 pub noted_strictly : (strict before told : Bool) (text : List ℕ) (part : Outcome) → (strict ≡ true → told ≡ (before || has_text text)) →
@@ -123,23 +134,23 @@ noted_strictly true before told text part is = ap (λ b. noted text (strictly_af
 noted_strictly false before told text part is =
     ap (λ b. noted text (refused_if b part)) (and_never (is_done part.status)) ∙ ap (λ b. refused_if b (noted text part)) (sym (and_never (is_done part.status)))
 
-begins_if : (part : Outcome) (text : List ℕ) (b : Bool) → BeginsWith part.notes text → BeginsWith (refused_if b part).notes text
-begins_if part text true (rest, is) = (rest ++ strict_line, ap (λ t. t ++ strict_line) is ∙ append_assoc text rest strict_line)
+begins_if : (part : Outcome) (text : List ℕ) (b : Bool) → BeginsWith part.warned text → BeginsWith (refused_if b part).warned text
+begins_if part text true begins = begins
 begins_if part text false begins = begins
 
-pub strictly_after-begins : (strict before : Bool) (part : Outcome) (text : List ℕ) → BeginsWith part.notes text → BeginsWith (strictly_after strict before part).notes text
-strictly_after-begins strict before part text begins = begins_if part text (is_done part.status && (strict && (before || has_text part.notes))) begins
+pub strictly_after-begins : (strict before : Bool) (part : Outcome) (text : List ℕ) → BeginsWith part.warned text → BeginsWith (strictly_after strict before part).warned text
+strictly_after-begins strict before part text begins = begins_if part text (is_done part.status && (strict && (before || has_text part.warned))) begins
 
 -- and else the files
-pub without_notes-made : (options : Options) (tree : TreeFacts) (s : Solution) (strict before : Bool) → (strict && before) ≡ false →
-    strictly_after strict before (without_notes (outcome_of options tree s)) ≡ without_notes (outcome_of options tree s)
-without_notes-made options tree s true true e = cc
-without_notes-made options tree s true false e = refl
-without_notes-made options tree s false before e = refl
+pub without_warnings-made : (options : Options) (tree : TreeFacts) (s : Solution) (strict before : Bool) → (strict && before) ≡ false →
+    strictly_after strict before (without_warnings (outcome_of options tree s)) ≡ without_warnings (outcome_of options tree s)
+without_warnings-made options tree s true true e = cc
+without_warnings-made options tree s true false e = refl
+without_warnings-made options tree s false before e = refl
 
 -- the lines of the values that are lost stand before the files
-pub lost-noted : (options : Options) (tree : TreeFacts) (s : Solution) → noted (lines_text (lost_warnings options s)) (without_notes (outcome_of options tree s)) ≡ behind_warnings options tree s
-lost-noted options tree s = ap (λ (t : List ℕ). let o : Outcome = record (outcome_of options tree s) { notes = t } in o) (append-nil (lines_text (lost_warnings options s)))
+pub lost-noted : (options : Options) (tree : TreeFacts) (s : Solution) → noted (lines_text (lost_warnings options s)) (without_warnings (outcome_of options tree s)) ≡ behind_warnings options tree s
+lost-noted options tree s = ap (λ (t : List ℕ). let o : Outcome = record (outcome_of options tree s) { warned = t } in o) (append-nil (lines_text (lost_warnings options s)))
 
 -- lines have text where there is one
 pub told_lines : (line : List ℕ) (lines : List (List ℕ)) → has_text (lines_text (line ∷ lines)) ≡ true
@@ -156,10 +167,10 @@ minimal_if part outcome text true is there = absurd (let e : None ≡ Some text 
 minimal_if part outcome text false is there = is
 
 pub strictly-config : (strict : Bool) (lenient outcome : Outcome) (text : List ℕ) → outcome ≡ strictly strict lenient → outcome.config ≡ Some text → outcome ≡ lenient
-strictly-config strict lenient outcome text = config_if lenient outcome text (is_done lenient.status && (strict && has_text lenient.notes))
+strictly-config strict lenient outcome text = config_if lenient outcome text (is_done lenient.status && (strict && has_text lenient.warned))
 
 pub strictly-minimal : (strict : Bool) (lenient outcome : Outcome) (text : List ℕ) → outcome ≡ strictly strict lenient → outcome.minimal ≡ Some text → outcome ≡ lenient
-strictly-minimal strict lenient outcome text = minimal_if lenient outcome text (is_done lenient.status && (strict && has_text lenient.notes))
+strictly-minimal strict lenient outcome text = minimal_if lenient outcome text (is_done lenient.status && (strict && has_text lenient.warned))
 
 -- without --strict nothing is changed
 pub strictly-off : (strict : Bool) (lenient : Outcome) → strict ≡ false → strictly strict lenient ≡ lenient
@@ -167,16 +178,16 @@ strictly-off true lenient e = cc
 strictly-off false lenient e = ap (λ b. refused_if b lenient) (and_never (is_done lenient.status))
 
 -- its files are those of the same without notes
-pub BreaksFiles-without_notes : (outcome : Outcome) (fault : RunFault) (old new : OutputStates) → BreaksFiles outcome fault old new → BreaksFiles (without_notes outcome) fault old new
-BreaksFiles-without_notes outcome fault old new (Config, breaks) = (Config, breaks)
-BreaksFiles-without_notes outcome fault old new (Header, breaks) = (Header, breaks)
-BreaksFiles-without_notes outcome fault old new (Minimal, breaks) = (Minimal, breaks)
-BreaksFiles-without_notes outcome fault old new (Depfile, breaks) = (Depfile, breaks)
-BreaksFiles-without_notes outcome fault old new (Notes, breaks) = (Notes, breaks)
+pub BreaksFiles-without_warnings : (outcome : Outcome) (fault : RunFault) (old new : OutputStates) → BreaksFiles outcome fault old new → BreaksFiles (without_warnings outcome) fault old new
+BreaksFiles-without_warnings outcome fault old new (Config, breaks) = (Config, breaks)
+BreaksFiles-without_warnings outcome fault old new (Header, breaks) = (Header, breaks)
+BreaksFiles-without_warnings outcome fault old new (Minimal, breaks) = (Minimal, breaks)
+BreaksFiles-without_warnings outcome fault old new (Depfile, breaks) = (Depfile, breaks)
+BreaksFiles-without_warnings outcome fault old new (Notes, breaks) = (Notes, breaks)
 
 -- nothing is refused, and one of the files broke off
 pub BreaksRun-made : (options : Options) (tree : TreeFacts) (s : Solution) (strict before : Bool) (fault : RunFault) (old new : OutputStates) → (strict && before) ≡ false →
-    BreaksFiles (outcome_of options tree s) fault old new → BreaksRun (strictly_after strict before (without_notes (outcome_of options tree s))) fault old new
+    BreaksFiles (outcome_of options tree s) fault old new → BreaksRun (strictly_after strict before (without_warnings (outcome_of options tree s))) fault old new
 BreaksRun-made options tree s strict before fault old new passes breaks =
-    subst (λ o. BreaksRun o fault old new) (sym (without_notes-made options tree s strict before passes))
-    (BreaksRun-files (without_notes (outcome_of options tree s)) fault old old new (with_text-nothing old) (BreaksFiles-without_notes (outcome_of options tree s) fault old new breaks))
+    subst (λ o. BreaksRun o fault old new) (sym (without_warnings-made options tree s strict before passes))
+    (BreaksRun-files (without_warnings (outcome_of options tree s)) fault old old new (with_text-nothing old) (BreaksFiles-without_warnings (outcome_of options tree s) fault old new breaks))

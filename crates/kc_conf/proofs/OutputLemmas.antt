@@ -4,10 +4,9 @@ use Rattle.std.proofs.lemmas.List.{take-append-drop, take_more}
 use Rattle.std.proofs.lemmas.Grind.{flat_map-append}
 use Rattle.std.specs.Prelude.{flat_map}
 use Rattle.kc_dot.proofs.SinkLemmas.{extended-extended}
-use Rattle.kc_dot.specs.Sink.{extended}
 use Rattle.kc_conf.specs.declared.options.Options.{Options}
 use Rattle.kc_conf.specs.Faults.{error_line, NotesLine, Reports}
-use Rattle.kc_conf.specs.OutputStates.{OutputState, OutputStates, at, with_state, grown, failed, with_text, ChangesOnly, BreaksOutput}
+use Rattle.kc_conf.specs.OutputStates.{OutputState, OutputStates, with_state, grown, failed, with_text, ChangesOnly, BreaksOutput}
 use Rattle.kc_conf.specs.ChangeLemmas.{ChangesOnly-same}
 use Rattle.kc_conf.specs.declared.run_fault.RunFault.{RunFault}
 use Rattle.kc_conf.specs.declared.run_fault.RunFault.TheVariants.{Read, Write, Memory}
@@ -21,12 +20,12 @@ with_text-with_text a b states = ap (λ p. with_state states Notes p) (grown-gro
 
 -- the notes broke off in the second text
 pub BreaksOutput-after : (a b : List ℕ) (old new : OutputStates) → BreaksOutput Notes b (with_text Notes a old) new → BreaksOutput Notes (a ++ b) old new
-BreaksOutput-after a b old new (front, (rest, begins), is) =
-    (a ++ front, (rest, ap (λ t. a ++ t) begins ∙ sym (append_assoc a front rest)), is ∙ ap (λ p. with_state old Notes (failed p)) (grown-grown old.notes a front))
+BreaksOutput-after a b old new (front, (x, rest, goes), is) =
+    (a ++ front, (x, rest, ap (λ t. a ++ t) goes ∙ sym (append_assoc a front (x ∷ rest))), is ∙ ap (λ p. with_state old Notes (failed p)) (grown-grown old.notes a front))
 
 -- or in the first
 pub BreaksOutput-before : (a b : List ℕ) (old new : OutputStates) → BreaksOutput Notes a old new → BreaksOutput Notes (a ++ b) old new
-BreaksOutput-before a b old new (front, (rest, begins), is) = (front, (rest ++ b, ap (λ t. t ++ b) begins ∙ append_assoc front rest b), is)
+BreaksOutput-before a b old new (front, (x, rest, goes), is) = (front, (x, rest ++ b, ap (λ t. t ++ b) goes ∙ append_assoc front (x ∷ rest) b), is)
 
 -- one part of many, with those before it and those behind it
 pub flat_map-at : {X : Type 0} (f : X → List ℕ) (xs : List X) (i : ℕ) (d : X) → i < length xs →

@@ -11,7 +11,8 @@ use Rattle.kc_tree.specs.Layouts.{DefinitionFacts, definition_at, definition_fac
 use Rattle.kc_tree.specs.Spans.{definition_ids}
 use Rattle.kc_tree.specs.TreeFacts.{Condition}
 use Rattle.kc_values.proofs.DefinitionLemmas.{definitions_from, definitions-some, definitions-none, definitions-end}
-use Rattle.kc_conf.specs.Lost.{has_prompt, is_prompted}
+use Rattle.kc_conf.specs.Lost.{has_prompt}
+use Rattle.kc_conf.specs.LostView.{is_prompted}
 
 module _ (l : Layout) (s : Symbol) where
   -- whether one of the definitions from one on has a prompt

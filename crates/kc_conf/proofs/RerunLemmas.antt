@@ -1,26 +1,26 @@
 -- What a run's texts give when they are read again.
-use Rattle.std.proofs.Common.{◌≡◌, ℕ, ◌<◌, ◌↔◌, Bool, true, false, List, [], ◌∷◌, ◌++◌, length, Option, Some, None, refl, ap, sym, ◌∙◌, subst, slice_get, map}
+use Rattle.std.proofs.Common.{◌≡◌, ℕ, ◌<◌, true, List, [], ◌∷◌, length, Option, Some, None, refl, ap, sym, ◌∙◌, subst, map}
 use Rattle.std.specs.Prelude.{string_bytes, slice_index_or}
 use Rattle.kc_expr.specs.Value.{SymbolValue, TextValue}
 use Rattle.kc_expr.specs.declared.expression.Kind.TheVariants.{Undefined}
 use Rattle.std.proofs.lemmas.List.{ext_get_or}
 use Rattle.kc_read.specs.Files.{Files}
-use Rattle.kc_tree.specs.TreeFacts.{Shown, SymbolShown, MenuShown, EndShown, CommentShown, TreeFacts}
+use Rattle.kc_tree.specs.TreeFacts.{TreeFacts}
 use Rattle.kc_build.specs.Trees.{TreesAreWellFormed}
 use Rattle.kc_user.specs.GivenValue.{GivenValue, UserPlace}
 use Rattle.kc_user.specs.Places.{ArePlaces, Places, no_places, place_at}
 use Rattle.kc_order.specs.Solution.{Solves}
-use Rattle.kc_values.specs.Differs.{changes_on_reread}
 use Rattle.kc_values.specs.Solution.{equations, symbol_count}
 use Rattle.kc_solve.specs.Solved.{Solution, value_of}
-use Rattle.kc_dot.specs.Laws.{ConfigIsIdempotent, HasShortLines, IsSolutionOf, MinimalHasNothingToSpare, MinimalRestores, WrittenTextsAreShort}
-use Rattle.kc_dot.specs.Plain.{HasPlainTitles}
+use Rattle.kc_dot.specs.Laws.{HasShortLines}
+use Rattle.kc_dot.specs.WrittenLaws.{ConfigIsIdempotent, IsSolutionOf, MinimalHasNothingToSpare, MinimalRestores, WrittenTextsAreShort}
 use Rattle.kc_dot.specs.Reading.{ReadResult, reading_of}
 use Rattle.kc_dot.specs.Reread.{IsOneSolution, read_alone, valuation_view}
 use Rattle.kc_dot.specs.SolvedView.{solution_view}
 use Rattle.kc_dot.specs.Streams.{StreamsLeavePlaces}
-use Rattle.kc_dot.specs.Texts.{config_heading, config_text, entries_text, entry_text, ends_after, minimal_text, shown_title}
+use Rattle.kc_dot.specs.Texts.{config_text, minimal_text}
 use Rattle.kc_dot.specs.Prefixes.{is_prefix}
+use Rattle.kc_dot.proofs.EntryLemmas.{config_text-same}
 use Rattle.kc_dot.proofs.SolutionLemmas.{solution_of}
 use Rattle.kc_conf.specs.declared.options.Options.{Options}
 use Rattle.kc_conf.specs.Outcome.{IsAcceptedTree, IsLenientOutcome, IsOutcomeOfReading, IsRefusedTree, IsSolutionFor, OneAnswer, Outcome, accepted_tree, lines_text, long_line, names_of, noted, outcome_of, read_of, refused_tree, root_file, streams, strictly, text_if, whole, with_rule}
@@ -101,59 +101,32 @@ outcomes_read_again written minimals configs shorts files options all outcome co
     let view : valuation_view tree (place_at solution.places) (value_of solution) ≡ solution_view solution =
     ap (λ (f : TreeFacts). valuation_view f (place_at solution.places) (value_of solution)) (sym is.solution_is.tree_is) in
     let short = shorts files options all tree solution is_pre is in
-    let config_is : config_text tree options.prefix (solution_view solution) ≡ config =
-    some_is _ config (sym (ap (λ (o : Outcome). o.config) from ∙ rule-config options opened part) ∙ there) in (
+    let config_is : config ≡ config_text tree options.prefix (valuation_view tree (place_at solution.places) (value_of solution)) =
+    sym (some_is _ config (sym (ap (λ (o : Outcome). o.config) from ∙ rule-config options opened part) ∙ there)) ∙ ap (config_text tree options.prefix) (sym view) in (
       tree,
       solution,
       is,
-      subst (λ t. HasShortLines t) config_is short.0,
+      config_is,
+      subst (λ t. HasShortLines t) (ap (config_text tree options.prefix) (sym view) ∙ sym config_is) short.0,
+      configs files options all tree solution is_pre is,
       λ minimal wanted.
-          let minimal_is : minimal_text tree options.prefix (solution_view solution) ≡ minimal =
-          text_if_is options.minimal _ minimal (sym (ap (λ (o : Outcome). o.minimal) from ∙ rule-minimal options opened part) ∙ wanted) in (
-            subst (λ t. HasShortLines t) minimal_is short.1,
+          let minimal_is : minimal ≡ minimal_text tree options.prefix (valuation_view tree (place_at solution.places) (value_of solution)) =
+          sym (text_if_is options.minimal _ minimal (sym (ap (λ (o : Outcome). o.minimal) from ∙ rule-minimal options opened part) ∙ wanted)) ∙ ap (minimal_text tree options.prefix) (sym view) in (
+            minimal_is,
+            subst (λ t. HasShortLines t) (ap (minimal_text tree options.prefix) (sym view) ∙ sym minimal_is) short.1,
+            (minimals files options all tree solution is_pre is).0,
             (minimals files options all tree solution is_pre is).1,
-            λ name. subst (λ t. let r = read_alone tree options.prefix name t in (r.stopped ≡ None) × IsOneSolution tree r.places (value_of solution))
-                (ap (minimal_text tree options.prefix) view ∙ minimal_is) ((minimals files options all tree solution is_pre is).0 name),
           ),
-      λ plain titles name.
-          subst (λ t. let r = read_alone tree options.prefix name t in (r.stopped ≡ None)
-          × (IsOneSolution tree r.places (value_of solution) ↔ ((i : ℕ) → i < symbol_count tree → changes_on_reread tree (value_of solution) i ≡ false)))
-          (ap (config_text tree options.prefix) view ∙ config_is)
-          (configs files options all tree solution is_pre is plain (subst (HasPlainTitles tree options.prefix) (sym view) titles) name),
     )
 
 -- ---- a run on the minimal file alone
 
 -- the .config asks nothing of the places
-entries_same : (tree : TreeFacts) (prefix : List ℕ) (user other : UserPlace → Option GivenValue) (V : ℕ → SymbolValue) (after_end : Bool) (entries : List Shown) →
-    entries_text tree prefix (valuation_view tree user V) after_end entries ≡ entries_text tree prefix (valuation_view tree other V) after_end entries
-entries_same tree prefix user other V after_end [] = refl
-entries_same tree prefix user other V after_end (SymbolShown s ∷ entries) =
-    ap (λ t. entry_text tree prefix (valuation_view tree other V) after_end (SymbolShown s) ++ t)
-    (entries_same tree prefix user other V (ends_after tree (valuation_view tree other V) after_end (SymbolShown s)) entries)
-entries_same tree prefix user other V after_end (MenuShown text when ∷ entries) =
-    ap (λ t. entry_text tree prefix (valuation_view tree other V) after_end (MenuShown text when) ++ t)
-    (entries_same tree prefix user other V (ends_after tree (valuation_view tree other V) after_end (MenuShown text when)) entries)
-entries_same tree prefix user other V after_end (EndShown menu ∷ entries) =
-    let title : shown_title (valuation_view tree user V) (slice_get tree.entries menu) ≡ shown_title (valuation_view tree other V) (slice_get tree.entries menu)
-    = title_same (slice_get tree.entries menu) in
-    rw title (ap (λ t. entry_text tree prefix (valuation_view tree other V) after_end (EndShown menu) ++ t)
-    (entries_same tree prefix user other V (ends_after tree (valuation_view tree other V) after_end (EndShown menu)) entries))
-  where
-    title_same : (e : Option Shown) → shown_title (valuation_view tree user V) e ≡ shown_title (valuation_view tree other V) e
-    title_same None = refl
-    title_same (Some (SymbolShown s)) = refl
-    title_same (Some (MenuShown text when)) = refl
-    title_same (Some (EndShown m)) = refl
-    title_same (Some (CommentShown text when)) = refl
-entries_same tree prefix user other V after_end (CommentShown text when ∷ entries) =
-    ap (λ t. entry_text tree prefix (valuation_view tree other V) after_end (CommentShown text when) ++ t)
-    (entries_same tree prefix user other V (ends_after tree (valuation_view tree other V) after_end (CommentShown text when)) entries)
-
 text_same : (tree : TreeFacts) (prefix : List ℕ) (user other : UserPlace → Option GivenValue) (V : ℕ → SymbolValue) →
     config_text tree prefix (valuation_view tree user V) ≡ config_text tree prefix (valuation_view tree other V)
-unfolding config_text
-text_same tree prefix user other V = ap (λ t. config_heading tree.main_menu ++ t) (entries_same tree prefix user other V false tree.entries)
+text_same tree prefix user other V =
+    let view = valuation_view tree user V in
+    config_text-same tree prefix view.value view.written view.differs (valuation_view tree other V).differs view.truth
 
 abbrev valued : List SymbolValue → ℕ → SymbolValue
 valued values i = slice_index_or values i (TextValue Undefined [])

@@ -1,14 +1,16 @@
 -- The rule for make behind the files of a run.
-use Rattle.std.proofs.Common.{◌≡◌, ◌≢◌, ℕ, ◌++◌, Bool, true, false, List, Option, Some, None, refl, sym, ap, ◌∙◌, subst}
+use Rattle.std.proofs.Common.{◌≡◌, ◌≢◌, ℕ, Bool, true, false, List, Option, Some, None, refl, sym, ap, ◌∙◌, subst}
 use Rattle.std.specs.Prelude.{◌&&◌, if◌then◌else◌}
 use Rattle.kc_tree.specs.TreeFacts.{TreeFacts}
 use Rattle.kc_conf.specs.declared.options.Options.{Options}
 use Rattle.kc_conf.specs.ErrorLines.{strict_line}
-use Rattle.kc_conf.specs.Faults.{BreaksRun, BreaksFile, Completes, finished, in_file, in_notes, not_begun, up_to}
-use Rattle.kc_conf.specs.Outcome.{IsOutcomeOfReading, IsOutcomeOfTree, Outcome, depfile_text, is_done, has_text, long_line, read_of, refused, strictly, text_if, whole, with_rule}
+use Rattle.kc_conf.specs.FaultParts.{BreaksFile}
+use Rattle.kc_conf.specs.Faults.{BreaksRun, Completes, StopsNotes, finished, in_file, in_notes, not_begun, up_to}
+use Rattle.kc_conf.specs.Outcome.{IsOutcomeOfReading, IsOutcomeOfTree, Outcome, depfile_text, is_done, has_text, long_line, notes_of, read_of, refused, strictly, text_if, whole, with_rule}
 use Rattle.kc_conf.specs.OutputStates.{OutputStates, made_if, with_text}
 use Rattle.kc_conf.specs.Rules.{BreaksInRule, EndsWithRule}
 use Rattle.kc_conf.specs.declared.run_fault.RunFault.{RunFault}
+use Rattle.kc_conf.specs.declared.run_fault.RunFault.TheVariants.{Memory, Read, Write}
 use Rattle.kc_conf.specs.declared.options.Status.{Status}
 use Rattle.kc_conf.specs.declared.options.Status.TheVariants.{Done, Refused as IsRefused, Usage, Faulted}
 use Rattle.kc_conf.specs.declared.outputs.Output.TheVariants.{Config, Header, Minimal, Depfile, Notes}
@@ -53,18 +55,24 @@ module _ (options : Options) (opened : List (List ℕ)) where
 
   -- ---- a run that breaks off before it
 
+  -- the rule is no part of the notes
+  stops_before : (o : Outcome) (fault : RunFault) (front : List ℕ) → StopsNotes fault o front → StopsNotes fault (ruled o) front
+  stops_before o (Read input) front stops = stops
+  stops_before o Memory front stops = stops
+  stops_before o (Write output) front stops = stops
+
   broken_before : (o : Outcome) (fault : RunFault) (old new : OutputStates) → o.depfile ≡ None → BreaksRun o fault old new → BreaksRun (ruled o) fault old new
-  broken_before o fault old new none (in_notes front strikes begins is) = in_notes front strikes begins is
+  broken_before o fault old new none (in_notes front stops is) = in_notes front (stops_before o fault front stops) is
   broken_before o fault old new none (not_begun Config text_is strikes there is) = not_begun Config text_is strikes there is
   broken_before o fault old new none (not_begun Header text_is strikes there is) = not_begun Header text_is strikes there is
   broken_before o fault old new none (not_begun Minimal text_is strikes there is) = not_begun Minimal text_is strikes there is
   broken_before o fault old new none (not_begun Notes text_is strikes there is) = not_begun Notes text_is strikes there is
   broken_before o fault old new none (not_begun Depfile text_is strikes there is) = absurd (let e : None ≡ Some text_is = sym none ∙ there in cc)
-  broken_before o fault old new none (in_file Config text_is front strikes there begins is) = in_file Config text_is front strikes there begins is
-  broken_before o fault old new none (in_file Header text_is front strikes there begins is) = in_file Header text_is front strikes there begins is
-  broken_before o fault old new none (in_file Minimal text_is front strikes there begins is) = in_file Minimal text_is front strikes there begins is
-  broken_before o fault old new none (in_file Notes text_is front strikes there begins is) = in_file Notes text_is front strikes there begins is
-  broken_before o fault old new none (in_file Depfile text_is front strikes there begins is) = absurd (let e : None ≡ Some text_is = sym none ∙ there in cc)
+  broken_before o fault old new none (in_file Config text_is front stops there is) = in_file Config text_is front stops there is
+  broken_before o fault old new none (in_file Header text_is front stops there is) = in_file Header text_is front stops there is
+  broken_before o fault old new none (in_file Minimal text_is front stops there is) = in_file Minimal text_is front stops there is
+  broken_before o fault old new none (in_file Notes text_is front stops there is) = in_file Notes text_is front stops there is
+  broken_before o fault old new none (in_file Depfile text_is front stops there is) = absurd (let e : None ≡ Some text_is = sym none ∙ there in cc)
 
   broken_if : (b : Bool) (o : Outcome) (fault : RunFault) (old new : OutputStates) → o.depfile ≡ None → BreaksRun o fault old new → BreaksRun (ruled_if b o) fault old new
   broken_if true o fault old new none broken = broken_before o fault old new none broken
@@ -94,7 +102,7 @@ module _ (options : Options) (opened : List (List ℕ)) where
       let wrote : is_done o.status ≡ true = ap is_done (sym is ∙ done) in
       let turn : mid ≡ up_to Depfile o old = turn_of_rule o mid old none was in
       subst (λ b. BreaksRun (ruled_if b o) fault old new) (sym wrote)
-      (BreaksRun-files (ruled o) fault old (with_text Notes o.notes old) new refl (Depfile, subst (λ (p : OutputStates). BreaksFile Depfile text fault p new) turn breaks))
+      (BreaksRun-files (ruled o) fault old (with_text Notes (notes_of o) old) new refl (Depfile, subst (λ (p : OutputStates). BreaksFile Depfile text fault p new) turn breaks))
 
 -- ---- no outcome has a rule before it is written
 
@@ -102,10 +110,10 @@ no_rule_in_rest : (options : Options) (tree : TreeFacts) (all : List (List ℕ))
 no_rule_in_rest options tree all rest (long_line stop stopped is) = ap (λ (o : Outcome). o.depfile) is
 no_rule_in_rest options tree all rest (whole solution none solves is) = ap (λ (o : Outcome). o.depfile) is
 
-no_rule_if : (part : Outcome) (b : Bool) → part.depfile ≡ None → (if b then refused (part.notes ++ strict_line) else part).depfile ≡ None
+no_rule_if : (part : Outcome) (b : Bool) → part.depfile ≡ None → (if b then record (refused strict_line) { warned = part.warned } else part).depfile ≡ None
 no_rule_if part true none = refl
 no_rule_if part false none = none
 
 pub no_rule : (options : Options) (tree : TreeFacts) (all : List (List ℕ)) (part : Outcome) → IsOutcomeOfTree options tree all part → (strictly options.strict part).depfile ≡ None
 no_rule options tree all part (rest, is_rest, is) =
-    no_rule_if part (is_done part.status && (options.strict && has_text part.notes)) (ap (λ (o : Outcome). o.depfile) is ∙ no_rule_in_rest options tree all rest is_rest)
+    no_rule_if part (is_done part.status && (options.strict && has_text part.warned)) (ap (λ (o : Outcome). o.depfile) is ∙ no_rule_in_rest options tree all rest is_rest)

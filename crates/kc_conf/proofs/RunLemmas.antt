@@ -1,6 +1,6 @@
 -- What the parts of a run say of its outcome.
 use Rattle.std.proofs.Common.{◌≡◌, ℕ, Bool, true, false, List, [], ◌++◌, Option, Some, None, refl, sym, ap, subst, ◌∙◌, append_assoc, append-nil}
-use Rattle.std.specs.Prelude.{◌||◌}
+use Rattle.std.specs.Prelude.{◌||◌, if◌then◌else◌}
 use Rattle.kc_make.specs.Opened.{AreOpened, OpenedAreOne}
 use Rattle.kc_read.specs.Expansion.{Refused}
 use Rattle.kc_read.specs.Files.{Files}
@@ -11,12 +11,14 @@ use Rattle.kc_dot.specs.Reading.{ReadResult, StreamLocation, reading, lines_of}
 use Rattle.kc_dot.specs.Sink.{BeginsWith}
 use Rattle.kc_conf.specs.declared.options.Options.{Options}
 use Rattle.kc_conf.specs.ErrorLines.{refusal_line, too_long_line}
-use Rattle.kc_conf.specs.Faults.{Completes, BreaksRun, StrikesNotes, IsNoInputFault, CountsInputs}
+use Rattle.kc_conf.specs.FaultParts.{IsNoInputFault, StrikesNotes}
+use Rattle.kc_conf.specs.Faults.{Completes, BreaksRun, CountsInputs, StopsNotes, after_fault, in_notes}
 use Rattle.kc_conf.specs.InputBytes.{AreAllToCome}
-use Rattle.kc_conf.specs.Outcome.{Outcome, has_text, IsLenientOutcome, strictly, noted, lines_text, refused, outcome_of, lost_warnings, read_of, names_of, streams, IsSolutionFor, IsOutcomeOfReading, long_line, whole, IsOutcomeOfTree, OneAnswer, IsAcceptedTree, IsRefusedTree, IsOutcome, refused_tree, accepted_tree, root_file, with_rule}
+use Rattle.kc_conf.specs.Outcome.{AreLines, Outcome, has_text, IsLenientOutcome, strictly, noted, lines_text, refused, outcome_of, lost_warnings, read_of, names_of, streams, IsSolutionFor, IsOutcomeOfReading, long_line, whole, IsOutcomeOfTree, OneAnswer, IsAcceptedTree, IsRefusedTree, IsOutcome, refused_tree, accepted_tree, root_file, with_rule}
 use Rattle.kc_conf.specs.OutputStates.{OutputStates, BreaksOutput, with_text}
 use Rattle.kc_conf.specs.Presence.{MayStrike}
-use Rattle.kc_conf.specs.Reads.{AreRead, behind_warnings, ended_with, without_notes, strictly_after, TellsStreams, BreaksTelling}
+use Rattle.kc_conf.specs.ReadFaults.{ReadsUpTo, StopsReading}
+use Rattle.kc_conf.specs.Reads.{AreRead, ReadPart, StopsStreams, StopsTree, StopsWarnings, Told, behind_warnings, ended_with, without_warnings, strictly_after, TellsStreams, BreaksTelling}
 use Rattle.kc_conf.specs.declared.run_fault.RunFault.{RunFault}
 use Rattle.kc_conf.specs.declared.run_fault.RunFault.TheVariants.{Write, Memory}
 use Rattle.kc_conf.specs.declared.run_fault.RunFault.TheVariants as why
@@ -25,46 +27,43 @@ use Rattle.kc_conf.specs.declared.outputs.Output.TheVariants.{Notes}
 use Rattle.kc_conf.specs.Rules.{BreaksInRule, EndsWithRule}
 use Rattle.kc_conf.proofs.Once.{one_of_tree, one_opened, one_solution}
 use Rattle.kc_conf.proofs.RuleLemmas.{BreaksRun-before_rule, BreaksRun-in_rule, Completes-rule, no_rule}
-use Rattle.kc_conf.proofs.OutcomeLemmas.{Completes-after, BreaksRun-after, BreaksRun-in_notes, BreaksNotes-broke, noted_strictly, lost-noted, strictly_after-begins, strictly_after-noted}
-
--- the whole is a beginning
-BeginsWith-whole : (text : List ℕ) → BeginsWith text text
-BeginsWith-whole text = ([], sym (append-nil text))
+use Rattle.kc_conf.proofs.OutputLemmas.{with_text-with_text}
+use Rattle.kc_conf.proofs.PartLemmas.{AreLines-reading}
+use Rattle.kc_conf.proofs.OutcomeLemmas.{Completes-after, BreaksRun-after, BreaksRun-in_notes, noted_strictly, lost-noted, strictly_after-begins, strictly_after-noted}
 
 -- ---- a solution
 
 -- the lines of the values that are lost, and then the files
 module _ (options : Options) (tree : TreeFacts) (before told : Bool) (lines : List (List ℕ)) (told_is : told ≡ (before || has_text (lines_text lines))) where
   after_lost : (s : Solution) → lines ≡ lost_warnings options s →
-      noted (lines_text lines) (strictly_after options.strict told (without_notes (outcome_of options tree s))) ≡ strictly_after options.strict before (behind_warnings options tree s)
+      noted (lines_text lines) (strictly_after options.strict told (without_warnings (outcome_of options tree s))) ≡ strictly_after options.strict before (behind_warnings options tree s)
   after_lost s is =
-      ap (λ b. noted (lines_text lines) (strictly_after options.strict b (without_notes (outcome_of options tree s)))) told_is
-      ∙ strictly_after-noted options.strict before (lines_text lines) (without_notes (outcome_of options tree s))
-      ∙ ap (λ l. strictly_after options.strict before (noted (lines_text l) (without_notes (outcome_of options tree s)))) is
+      ap (λ b. noted (lines_text lines) (strictly_after options.strict b (without_warnings (outcome_of options tree s)))) told_is
+      ∙ strictly_after-noted options.strict before (lines_text lines) (without_warnings (outcome_of options tree s))
+      ∙ ap (λ l. strictly_after options.strict before (noted (lines_text l) (without_warnings (outcome_of options tree s)))) is
       ∙ ap (strictly_after options.strict before) (lost-noted options tree s)
 
   pub BreaksRun-lost_files : (s : Solution) (fault : RunFault) (old mid new : OutputStates) → lines ≡ lost_warnings options s → mid ≡ with_text Notes (lines_text lines) old →
-      BreaksRun (strictly_after options.strict told (without_notes (outcome_of options tree s))) fault mid new →
+      BreaksRun (strictly_after options.strict told (without_warnings (outcome_of options tree s))) fault mid new →
       BreaksRun (strictly_after options.strict before (behind_warnings options tree s)) fault old new
   BreaksRun-lost_files s fault old mid new is was breaks =
       subst (λ o. BreaksRun o fault old new) (after_lost s is)
-      (BreaksRun-after (lines_text lines) (strictly_after options.strict told (without_notes (outcome_of options tree s))) fault old mid new was breaks)
+      (BreaksRun-after (lines_text lines) (strictly_after options.strict told (without_warnings (outcome_of options tree s))) fault old mid new (lines, refl) was breaks)
 
   pub Completes-lost : (s : Solution) (status : Status) (old mid new : OutputStates) → lines ≡ lost_warnings options s → mid ≡ with_text Notes (lines_text lines) old →
-      Completes (strictly_after options.strict told (without_notes (outcome_of options tree s))) status mid new →
+      Completes (strictly_after options.strict told (without_warnings (outcome_of options tree s))) status mid new →
       Completes (strictly_after options.strict before (behind_warnings options tree s)) status old new
   Completes-lost s status old mid new is was finishes =
       subst (λ o. Completes o status old new) (after_lost s is)
-      (Completes-after (lines_text lines) (strictly_after options.strict told (without_notes (outcome_of options tree s))) status old mid new was finishes)
+      (Completes-after (lines_text lines) (strictly_after options.strict told (without_warnings (outcome_of options tree s))) status old mid new was finishes)
 
 -- those lines broke off
 pub BreaksRun-lost_notes : (options : Options) (tree : TreeFacts) (before : Bool) (s : Solution) (lines : List (List ℕ)) (old new : OutputStates) →
     lines ≡ lost_warnings options s → BreaksOutput Notes (lines_text lines) old new → BreaksRun (strictly_after options.strict before (behind_warnings options tree s)) (Write Notes) old new
 BreaksRun-lost_notes options tree before s lines old new is broke =
     let same : lines_text lines ≡ lines_text (lost_warnings options s) = ap lines_text is in
-    BreaksRun-in_notes (strictly_after options.strict before (behind_warnings options tree s)) (lines_text lines) (Write Notes) old new
-    (strictly_after-begins options.strict before (behind_warnings options tree s) (lines_text lines) ([], sym same ∙ sym (append-nil (lines_text lines))))
-    (BreaksNotes-broke (lines_text lines) old new broke)
+    BreaksRun-in_notes (strictly_after options.strict before (behind_warnings options tree s)) (lines_text lines) old new
+    (strictly_after-begins options.strict before (behind_warnings options tree s) (lines_text lines) ([], sym same ∙ sym (append-nil (lines_text lines)))) broke
 
 -- the solution's warnings, and then what follows them
 module _ (options : Options) (tree : TreeFacts) (before told : Bool) (lines : List (List ℕ)) (told_is : told ≡ (before || has_text (lines_text lines))) where
@@ -82,7 +81,7 @@ module _ (options : Options) (tree : TreeFacts) (before told : Bool) (lines : Li
   BreaksRun-solution_files user s t fault old mid new solves solves' is was breaks =
       subst (λ x. BreaksRun (strictly_after options.strict before (outcome_of options tree x)) fault old new) (one_solution tree user s t solves solves')
       (subst (λ o. BreaksRun o fault old new) (after_lines s is)
-      (BreaksRun-after (lines_text (warnings s)) (strictly_after options.strict told (behind_warnings options tree s)) fault old mid new
+      (BreaksRun-after (lines_text (warnings s)) (strictly_after options.strict told (behind_warnings options tree s)) fault old mid new (warnings s, refl)
       (was ∙ ap (λ l. with_text Notes (lines_text l) old) is) breaks))
 
   pub Completes-solution : (s : Solution) (status : Status) (old mid new : OutputStates) → lines ≡ warnings s → mid ≡ with_text Notes (lines_text lines) old →
@@ -98,9 +97,9 @@ pub BreaksRun-solution_notes : (options : Options) (tree : TreeFacts) (before : 
     BreaksRun (strictly_after options.strict before (outcome_of options tree t)) (Write Notes) old new
 BreaksRun-solution_notes options tree before user s t lines old new solves solves' is broke =
     let same : lines_text lines ≡ lines_text (warnings t) = ap lines_text is ∙ ap (λ x. lines_text (warnings x)) (one_solution tree user s t solves solves') in
-    BreaksRun-in_notes (strictly_after options.strict before (outcome_of options tree t)) (lines_text lines) (Write Notes) old new
+    BreaksRun-in_notes (strictly_after options.strict before (outcome_of options tree t)) (lines_text lines) old new
     (strictly_after-begins options.strict before (outcome_of options tree t) (lines_text lines) (lines_text (lost_warnings options t), ap (λ x. x ++ lines_text (lost_warnings options t)) (sym same)))
-    (BreaksNotes-broke (lines_text lines) old new broke)
+    broke
 
 -- ---- the streams
 
@@ -109,6 +108,11 @@ module _ (options : Options) (tree : TreeFacts) (given : List (Option (List ℕ)
   read_is : (stopped : Option StreamLocation) (all : List (List ℕ)) (warned : List ℕ) → reading tree options.prefix user (lines_of (streams (names_of options) all)) ≡ ended_with after warned stopped →
       read_of options tree all ≡ ended_with after warned stopped
   read_is stopped all warned is = ap (λ (p : Places). reading tree options.prefix p (lines_of (streams (names_of options) all))) (sym empty) ∙ is
+
+  -- what they warn of is whole lines
+  warned_lines : (stopped : Option StreamLocation) (all : List (List ℕ)) (warned : List ℕ) → read_of options tree all ≡ ended_with after warned stopped → AreLines warned
+  warned_lines stopped all warned read =
+      subst (λ (r : ReadResult). AreLines r.warned) read (AreLines-reading tree options.prefix (lines_of (streams (names_of options) all)) (no_places tree))
 
   -- the warnings of the streams, and then what follows
   after_warned : (warned : List ℕ) (part : Outcome) → (options.strict ≡ true → later ≡ has_text warned) → told ≡ (before || later) →
@@ -148,7 +152,7 @@ module _ (options : Options) (tree : TreeFacts) (given : List (Option (List ℕ)
         let here = broken s (subst (λ (p : Places). IsSolutionFor tree p s) (ap (λ (r : ReadResult). r.places) read) solves) in
         let same : noted warned (outcome_of options tree s) ≡ part = ap (λ (r : ReadResult). noted r.warned (outcome_of options tree s)) (sym read) ∙ sym is_part in
         subst (λ o. BreaksRun o fault old new) (after_warned warned (outcome_of options tree s) known has_text ∙ ap (strictly_after options.strict before) same)
-        (BreaksRun-after warned (strictly_after options.strict told (outcome_of options tree s)) fault old mid new grew here)
+        (BreaksRun-after warned (strictly_after options.strict told (outcome_of options tree s)) fault old mid new (warned_lines None all warned read) grew here)
 
   pub Completes-long : (status : Status) (stop : StreamLocation) → TellsStreams tree options.prefix options.strict (names_of options) (Some stop) later given there user after old mid →
       Completes (refused (too_long_line stop)) status mid new →
@@ -182,33 +186,76 @@ module _ (options : Options) (tree : TreeFacts) (given : List (Option (List ℕ)
         let stops : stop ≡ other = ap some_or (sym (ap (λ (r : ReadResult). r.stopped) read) ∙ long) in
         let same : noted warned (refused (too_long_line stop)) ≡ part =
         ap (λ s. noted warned (refused (too_long_line s))) stops ∙ ap (λ (r : ReadResult). noted r.warned (refused (too_long_line other))) (sym read) ∙ sym is_part in
-        subst (λ o. BreaksRun (strictly_after options.strict before o) fault old new) same (BreaksRun-after warned (refused (too_long_line stop)) fault old mid new grew broken)
+        subst (λ o. BreaksRun (strictly_after options.strict before o) fault old new) same (BreaksRun-after warned (refused (too_long_line stop)) fault old mid new (warned_lines (Some stop) all warned read) grew broken)
     each part (whole s none solves is_part) = absurd (let e : Some stop ≡ None = sym (ap (λ (r : ReadResult). r.stopped) read) ∙ none in cc)
 
 -- every outcome of a reading begins with its warnings
-begins_with_warned : (options : Options) (tree : TreeFacts) (read : ReadResult) (outcome : Outcome) → IsOutcomeOfReading options tree read outcome → BeginsWith outcome.notes read.warned
-begins_with_warned options tree read outcome (long_line stop long is) = (too_long_line stop, ap (λ (o : Outcome). o.notes) is)
-begins_with_warned options tree read outcome (whole s none solves is) = ((outcome_of options tree s).notes, ap (λ (o : Outcome). o.notes) is)
+begins_with_warned : (options : Options) (tree : TreeFacts) (read : ReadResult) (outcome : Outcome) → IsOutcomeOfReading options tree read outcome → BeginsWith outcome.warned read.warned
+begins_with_warned options tree read outcome (long_line stop long is) = ([], ap (λ (o : Outcome). o.warned) is)
+begins_with_warned options tree read outcome (whole s none solves is) = ((outcome_of options tree s).warned, ap (λ (o : Outcome). o.warned) is)
 
 BeginsWith-longer : (text mid front : List ℕ) → BeginsWith text mid → BeginsWith mid front → BeginsWith text front
 BeginsWith-longer text mid front (rest, is) (more, is') = (more ++ rest, is ∙ ap (λ t. t ++ rest) is' ∙ append_assoc front more rest)
 
--- the reading broke off
-pub BreaksRun-reading : (options : Options) (tree : TreeFacts) (before : Bool) (given : List (Option (List ℕ))) (user : Places) (fault : RunFault)
-    (old new : OutputStates) → user ≡ no_places tree → StrikesNotes fault →
-    BreaksTelling tree options.prefix (names_of options) fault given user old new →
+-- what broke off in the first warnings broke off in the notes
+StopsNotes-warnings : (fault : RunFault) (outcome : Outcome) (warned front : List ℕ) → StrikesNotes fault → BeginsWith outcome.warned warned → StopsWarnings fault warned front →
+    StopsNotes fault outcome front
+StopsNotes-warnings (why.Read input) outcome warned front strikes begins (are, more) = (are, BeginsWith-longer outcome.warned warned front begins more)
+StopsNotes-warnings Memory outcome warned front strikes begins (are, more) = (are, BeginsWith-longer outcome.warned warned front begins more)
+StopsNotes-warnings (Write output) outcome warned front strikes (more, begins) (b, rest, goes) =
+    (strikes, (b, rest ++ (more ++ outcome.refusal), ap (λ t. t ++ outcome.refusal) (begins ∙ ap (λ t. t ++ more) goes) ∙ simp append_assoc refl))
+
+-- where an input failed it is known what was read
+StopsStreams-part : (options : Options) (tree : TreeFacts) (given left : List (Option (List ℕ))) (there : List Bool) (all : List (List ℕ)) (user : Places) (fault : RunFault)
+    (front warned : List ℕ) (old new : OutputStates) → user ≡ no_places tree → new ≡ after_fault fault (with_text Notes front old) →
+    ReadPart tree options.prefix (names_of options) fault given left there all user warned → Told options.strict fault warned front →
+    StopsStreams options tree given left there all fault old new
+StopsStreams-part options tree given left there all user (why.Read input) front warned old new empty grew part told = (
+  warned,
+  subst (λ (p : Places). ReadsUpTo tree options.prefix (names_of options) p given left there all input warned) empty part,
+  grew ∙ ap (λ t. with_text Notes t old) told,
+)
+StopsStreams-part options tree given left there all user Memory front warned old new empty grew part told = tt
+StopsStreams-part options tree given left there all user (Write output) front warned old new empty grew part told = tt
+
+-- a fault of no input tells nothing of them
+StopsStreams-outputs : (options : Options) (tree : TreeFacts) (given left : List (Option (List ℕ))) (there : List Bool) (all : List (List ℕ)) (fault : RunFault)
+    (old new : OutputStates) → IsNoInputFault fault → StopsStreams options tree given left there all fault old new
+StopsStreams-outputs options tree given left there all (why.Read input) old new never = absurd never
+StopsStreams-outputs options tree given left there all Memory old new is = tt
+StopsStreams-outputs options tree given left there all (Write output) old new is = tt
+
+pub StopsStreams-added : (options : Options) (tree : TreeFacts) (given left : List (Option (List ℕ))) (there : List Bool) (before : Bool) (fault : RunFault)
+    (old new : OutputStates) → IsNoInputFault fault →
     (all : List (List ℕ)) × AreAllToCome given all × ((part : Outcome) → IsOutcomeOfReading options tree (read_of options tree all) part →
-    BreaksRun (strictly_after options.strict before part) fault old new)
-BreaksRun-reading options tree before given user fault old new empty strikes (all, front, are, grew, begins) = (
+    BreaksRun (strictly_after options.strict before part) fault old new) →
+    (all : List (List ℕ)) × AreAllToCome given all × ((part : Outcome) → IsOutcomeOfReading options tree (read_of options tree all) part →
+    BreaksRun (strictly_after options.strict before part) fault old new) × StopsStreams options tree given left there all fault old new
+StopsStreams-added options tree given left there before fault old new is (all, are, breaks) = (all, are, breaks, StopsStreams-outputs options tree given left there all fault old new is)
+
+pub StopsReading-outputs : (files : Files) (options : Options) (given left : List (Option (List ℕ))) (there : List Bool) (all : List (List ℕ)) (fault : RunFault)
+    (old new : OutputStates) → IsNoInputFault fault → StopsReading files options given left there all fault old new
+StopsReading-outputs files options given left there all (why.Read input) old new never = absurd never
+StopsReading-outputs files options given left there all Memory old new is = tt
+StopsReading-outputs files options given left there all (Write output) old new is = tt
+
+-- the reading broke off
+pub BreaksRun-reading : (options : Options) (tree : TreeFacts) (before : Bool) (given left : List (Option (List ℕ))) (there : List Bool) (user : Places) (fault : RunFault)
+    (old new : OutputStates) → user ≡ no_places tree → StrikesNotes fault →
+    BreaksTelling tree options.prefix options.strict (names_of options) fault given left there user old new →
+    (all : List (List ℕ)) × AreAllToCome given all × ((part : Outcome) → IsOutcomeOfReading options tree (read_of options tree all) part →
+    BreaksRun (strictly_after options.strict before part) fault old new) × StopsStreams options tree given left there all fault old new
+BreaksRun-reading options tree before given left there user fault old new empty strikes (all, front, warned, are, grew, stops, part, told) = (
   all,
   are,
-  λ part is.
-      let begins' : BeginsWith (read_of options tree all).warned front =
-      subst (λ (p : Places). BeginsWith (reading tree options.prefix p (lines_of (streams (names_of options) all))).warned front) empty begins in
-      BreaksRun-in_notes (strictly_after options.strict before part) front fault old new
-      (strictly_after-begins options.strict before part front
-      (BeginsWith-longer part.notes (read_of options tree all).warned front (begins_with_warned options tree (read_of options tree all) part is) begins'))
-      (front, strikes, BeginsWith-whole front, grew),
+  λ outcome is.
+      let stops' : StopsWarnings fault (read_of options tree all).warned front =
+      subst (λ (p : Places). StopsWarnings fault (reading tree options.prefix p (lines_of (streams (names_of options) all))).warned front) empty stops in
+      in_notes front
+      (StopsNotes-warnings fault (strictly_after options.strict before outcome) (read_of options tree all).warned front strikes
+      (strictly_after-begins options.strict before outcome (read_of options tree all).warned (begins_with_warned options tree (read_of options tree all) outcome is)) stops')
+      grew,
+  StopsStreams-part options tree given left there all user fault front warned old new empty grew part told,
 )
 
 -- ---- the tree's warnings
@@ -234,16 +281,37 @@ module _ (options : Options) (tree : TreeFacts) (all : List (List ℕ)) (lines :
       (part : Outcome) → IsOutcomeOfTree options tree all part → BreaksRun (strictly options.strict part) fault old new
   BreaksRun-tree fault old mid new was broken outcome (part, is_part, same) =
       subst (λ o. BreaksRun o fault old new) (after_tree part ∙ ap (strictly options.strict) (sym same))
-      (BreaksRun-after (lines_text tree.warnings) (strictly_after options.strict told part) fault old mid new (was ∙ ap (λ l. with_text Notes (lines_text l) old) is) (broken part is_part))
+      (BreaksRun-after (lines_text tree.warnings) (strictly_after options.strict told part) fault old mid new (tree.warnings, refl) (was ∙ ap (λ l. with_text Notes (lines_text l) old) is) (broken part is_part))
+
+-- where an input failed, the tree's warnings stand before
+pub StopsTree-streams : (options : Options) (tree : TreeFacts) (given left : List (Option (List ℕ))) (there : List Bool) (all : List (List ℕ)) (fault : RunFault)
+    (old mid new : OutputStates) → mid ≡ with_text Notes (lines_text tree.warnings) old → StopsStreams options tree given left there all fault mid new →
+    StopsTree options tree given left there all fault old new
+StopsTree-streams options tree given left there all (why.Read input) old mid new was (warned, read, is) = (
+  warned,
+  read,
+  let told = if options.strict then [] else warned in
+      is ∙ ap (with_text Notes told) was ∙ with_text-with_text (lines_text tree.warnings) told old,
+)
+StopsTree-streams options tree given left there all Memory old mid new was read = tt
+StopsTree-streams options tree given left there all (Write output) old mid new was read = tt
+
+-- and the tree is accepted
+pub StopsReading-tree : (files : Files) (options : Options) (tree : TreeFacts) (given left : List (Option (List ℕ))) (there : List Bool) (all : List (List ℕ)) (fault : RunFault)
+    (old new : OutputStates) → IsAcceptedTree files (root_file options) tree → StopsTree options tree given left there all fault old new →
+    StopsReading files options given left there all fault old new
+StopsReading-tree files options tree given left there all (why.Read input) old new accepted (warned, read, is) = (tree, warned, accepted, read, is)
+StopsReading-tree files options tree given left there all Memory old new accepted read = tt
+StopsReading-tree files options tree given left there all (Write output) old new accepted read = tt
 
 -- the tree's warnings broke off
 pub BreaksRun-warnings : (options : Options) (tree : TreeFacts) (all : List (List ℕ)) (lines : List (List ℕ)) (old new : OutputStates) → lines ≡ tree.warnings →
     BreaksOutput Notes (lines_text lines) old new →
     (outcome : Outcome) → IsOutcomeOfTree options tree all outcome → BreaksRun (strictly options.strict outcome) (Write Notes) old new
 BreaksRun-warnings options tree all lines old new is broke outcome (part, is_part, same) =
-    BreaksRun-in_notes (strictly options.strict outcome) (lines_text lines) (Write Notes) old new
+    BreaksRun-in_notes (strictly options.strict outcome) (lines_text lines) old new
     (strictly_after-begins options.strict false outcome (lines_text lines)
-    (part.notes, ap (λ (o : Outcome). o.notes) same ∙ ap (λ l. lines_text l ++ part.notes) (sym is))) (BreaksNotes-broke (lines_text lines) old new broke)
+    (part.warned, ap (λ (o : Outcome). o.warned) same ∙ ap (λ l. lines_text l ++ part.warned) (sym is))) broke
 
 -- ---- the tree
 

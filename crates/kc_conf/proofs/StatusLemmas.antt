@@ -1,5 +1,5 @@
 -- No outcome's status is that of a fault.
-use Rattle.std.proofs.Common.{◌≡◌, ◌++◌, ℕ, Bool, true, false, true≢false, List, refl, sym, ap, ◌∙◌}
+use Rattle.std.proofs.Common.{◌≡◌, ℕ, Bool, true, false, true≢false, List, refl, sym, ap, ◌∙◌}
 use Rattle.std.specs.Prelude.{if◌then◌else◌, ◌&&◌}
 use Rattle.kc_read.specs.Files.{Files}
 use Rattle.kc_tree.specs.TreeFacts.{TreeFacts}
@@ -24,7 +24,7 @@ of_lenient : (files : Files) (options : Options) (all : List (List ℕ)) (outcom
 of_lenient files options all outcome (refused_tree r x is) = ap (λ o. is_faulted o.status) is
 of_lenient files options all outcome (accepted_tree tree x (rest, read, is)) = ap (λ o. is_faulted o.status) is ∙ of_reading options tree _ rest read
 
-if_strict : (strict : Bool) (text : List ℕ) (o : Outcome) → is_faulted o.status ≡ false → is_faulted (if strict then refused text else o).status ≡ false
+if_strict : (strict : Bool) (text : List ℕ) (o : Outcome) → is_faulted o.status ≡ false → is_faulted (if strict then record (refused strict_line) { warned = text } else o).status ≡ false
 if_strict true text o e = refl
 if_strict false text o e = e
 
@@ -38,5 +38,5 @@ IsOutcome-not_faulted files options all outcome (lenient, opened, x, are, is) fa
     let strict = strictly options.strict lenient in
     let e : is_faulted outcome.status ≡ false =
     ap (λ o. is_faulted o.status) is ∙ if_ruled (is_done strict.status) options opened strict
-    ∙ if_strict (is_done lenient.status && (options.strict && has_text lenient.notes)) (lenient.notes ++ strict_line) lenient (of_lenient files options all lenient x) in
+    ∙ if_strict (is_done lenient.status && (options.strict && has_text lenient.warned)) lenient.warned lenient (of_lenient files options all lenient x) in
     true≢false (sym (ap is_faulted faulted) ∙ e)

@@ -11,7 +11,7 @@ use Rattle.kc_tree.specs.Layouts.{IsLayoutOf}
 use Rattle.kc_tree.specs.TreeFacts.{TreeFacts}
 use Rattle.kc_tree.specs.declared.layout.Layout.{Layout}
 use Rattle.kc_build.specs.Trees.{IsTreeOf}
-use Rattle.kc_values.specs.Laws.{IsAccepted}
+use Rattle.kc_values.specs.Needs.{IsAccepted}
 use Rattle.kc_solve.specs.Graphs.{IsGraphOf}
 use Rattle.kc_solve.specs.Refused.{NamesLoop}
 use Rattle.kc_conf.specs.ErrorLines.{refusal_line}
@@ -21,6 +21,7 @@ use Rattle.kc_conf.specs.AcceptedTree.{HoldsTree}
 use Rattle.kc_conf.specs.Outcome.{IsAcceptedTree, IsOutcome, IsRefusedTree, looped, no_tree, OneAnswer, Outcome, refused, refused_tree, root_file}
 use Rattle.kc_conf.specs.OutputStates.{OutputStates}
 use Rattle.kc_conf.specs.Presence.{StreamsAreThere}
+use Rattle.kc_conf.specs.ReadFaults.{StopsReading}
 use Rattle.kc_conf.specs.Stops.{IsOutOfMemory}
 use Rattle.kc_conf.specs.declared.run_fault.RunFault.{RunFault}
 use Rattle.kc_conf.specs.declared.run_fault.RunFault.TheVariants.{Memory}
@@ -29,7 +30,8 @@ use Rattle.kc_conf.specs.declared.options.Status.{Status}
 use Rattle.kc_conf.specs.declared.runs.AcceptedTree.{AcceptedTree}
 use Rattle.kc_conf.proofs.OutcomeLemmas.{BreaksRun-nothing}
 use Rattle.kc_conf.proofs.ReadsLemmas.{left_of, AreAllToCome-self}
-use Rattle.kc_conf.proofs.RunLemmas.{BreaksRun-refused_tree}
+use Rattle.kc_conf.proofs.RunLemmas.{BreaksRun-refused_tree, StopsReading-outputs}
+use Rattle.kc_conf.specs.FaultParts.{IsNoInputFault}
 
 -- ---- the tree of a root file whose name is known
 
@@ -65,19 +67,22 @@ module _ (law : OneAnswer) (there : OpenedAreThere) (files : Files) (options : O
       )
 
   -- or it breaks off in that line, or for want of memory
-  pub BreaksRun-refusal : (given : List (Option (List ℕ))) (fault : RunFault) (old new : OutputStates) →
+  pub BreaksRun-refusal : (given left : List (Option (List ℕ))) (there : List Bool) (fault : RunFault) (old new : OutputStates) → IsNoInputFault fault →
       IsOutOfMemory r fault old new ⊎ ((r.code ≢ NoMemory) × BreaksRun (refused its_line) fault old new) →
       (all : List (List ℕ)) × AreAllToCome given all × ((outcome : Outcome) → IsOutcome files options all outcome → BreaksRun outcome fault old new)
-  BreaksRun-refusal given fault old new (inl out) = (
+      × StopsReading files options given left there all fault old new
+  BreaksRun-refusal given left there fault old new no_input (inl out) = (
     map left_of given,
     AreAllToCome-self given,
     λ outcome is.
         subst (λ c. BreaksRun outcome c old new) (sym out.fault_is) (subst (λ (p : OutputStates). BreaksRun outcome Memory old p) (sym out.nothing) (BreaksRun-nothing outcome old)),
+    StopsReading-outputs files options given left there (map left_of given) fault old new no_input,
   )
-  BreaksRun-refusal given fault old new (inr (known, broken)) = (
+  BreaksRun-refusal given left there fault old new no_input (inr (known, broken)) = (
     map left_of given,
     AreAllToCome-self given,
     BreaksRun-refused_tree law files options (refusal_view r) (map left_of given) fault old new (why known) broken,
+    StopsReading-outputs files options given left there (map left_of given) fault old new no_input,
   )
 
   -- where it ends, no tree is accepted

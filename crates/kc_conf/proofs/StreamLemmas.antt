@@ -1,5 +1,5 @@
 -- One stream more.
-use Rattle.std.proofs.Common.{◌≡◌, ℕ, zero, suc, ◌+◌, ◌<◌, ◌≤◌, Bool, true, false, List, [], ◌∷◌, length, drop, map, get_or, below_more, subst, sym, ap, ◌∙◌, arith, Option, Some, None, slice_set, slice_index}
+use Rattle.std.proofs.Common.{◌≡◌, ℕ, zero, suc, ◌+◌, ◌<◌, ◌≤◌, Bool, true, false, List, [], ◌∷◌, length, drop, map, get_or, below_more, refl, subst, sym, ap, ◌∙◌, arith, Option, Some, None, slice_set, slice_index}
 use Rattle.std.specs.Prelude.{string_bytes, slice_get}
 use Rattle.std.proofs.lemmas.List.{drop_more, drop_all, get_or-map, length-map, map-set, set-get_or}
 use Rattle.kc_tree.specs.TreeFacts.{TreeFacts}
@@ -15,10 +15,32 @@ use Rattle.kc_conf.specs.declared.run_fault.RunFault.TheVariants.{Read, Write, M
 use Rattle.kc_conf.proofs.ListLemmas.{map-changed, map-unchanged}
 use Rattle.kc_conf.proofs.ReadsLemmas.{ReadSoFar-stream, ReadsStreams-end, ReadsStreams-long, BreaksStreams-stream, there-all}
 
+-- what is known of one input is known of all at its index
+slice_get-map : {X Y : Type 0} (f : X → Y) (xs : List X) (i : ℕ) (d : X) → i < length xs → slice_get (map f xs) i ≡ Some (f (get_or xs i d))
+slice_get-map f [] i d within = absurd (omega (arith, within))
+slice_get-map f (x ∷ xs) zero d within = refl
+slice_get-map f (x ∷ xs) (suc i) d within = slice_get-map f xs i d (omega (arith, within))
+
+pub slice_get-changed : {X Y : Type 0} (f : X → Y) (xs : List X) (i : ℕ) (x : X) → i < length xs → slice_get (map f (slice_set xs i x)) i ≡ Some (f x)
+slice_get-changed f [] i x within = absurd (omega (arith, within))
+slice_get-changed f (y ∷ xs) zero x within = refl
+slice_get-changed f (y ∷ xs) (suc i) x within = slice_get-changed f xs i x (omega (arith, within))
+
 slice_get-flag : {X : Type 0} (f : X → Bool) (xs : List X) (i : ℕ) (d : X) → i < length xs → f (get_or xs i d) ≡ true → slice_get (map f xs) i ≡ Some true
-slice_get-flag f [] i d within is = absurd (omega (arith, within))
-slice_get-flag f (x ∷ xs) zero d within is = ap Some is
-slice_get-flag f (x ∷ xs) (suc i) d within is = slice_get-flag f xs i d (omega (arith, within)) is
+slice_get-flag f xs i d within is = slice_get-map f xs i d within ∙ ap Some is
+
+-- the inputs whose turn has not come are as they were
+module _ {X : Type 0} (inputs old : List X) (at : ℕ) (d : X) (within : at < length inputs) (same_count : length inputs ≡ length old) (untouched : drop at inputs ≡ drop at old) where
+  here : get_or inputs at d ∷ drop (at + 1) inputs ≡ get_or old at d ∷ drop (at + 1) old
+  here = sym (drop_more inputs at d within) ∙ untouched ∙ drop_more old at d (omega (arith, within, same_count))
+
+  pub untouched-behind : drop (at + 1) inputs ≡ drop (at + 1) old
+  untouched-behind = let both = here in cc
+
+  pub gives-untouched : (remaining : X → Option (List ℕ)) → slice_get (map remaining old) at ≡ Some (remaining (get_or inputs at d))
+  gives-untouched remaining =
+      let same : get_or old at d ≡ get_or inputs at d = let both = here in cc in
+      slice_get-map remaining old at d (omega (arith, within, same_count)) ∙ ap (λ x. Some (remaining x)) same
 
 module _ {X : Type 0} (remaining : X → Option (List ℕ)) (tree : TreeFacts) (prefix : List ℕ) (names : List (List ℕ)) (given : List (Option (List ℕ)))
     (before places : Places) (text text_mid : Option (List ℕ)) (inputs : List X) (at : ℕ) (d : X) (name : List ℕ) (named : at < length names)
@@ -41,7 +63,7 @@ module _ {X : Type 0} (remaining : X → Option (List ℕ)) (tree : TreeFacts) (
   ReadSoFar-next later after text_after same read stream =
       subst (λ xs. ReadSoFar tree prefix (at + 1) names (drop (at + 1) names) given (map remaining xs) before after text text_after) (sym same)
       (ReadSoFar-stream tree prefix at names (drop (at + 1) names) name given (map remaining (drop (at + 1) inputs)) (remaining (get_or inputs at d))
-      before places after text text_mid text_after (next read) stream)
+      before places after text text_mid text_after (drop_more names at [] named ∙ ap (λ n. n ∷ drop (at + 1) names) (sym name_is)) (next read) stream)
 
   -- a line of the stream is too long
   pub ReadsStreams-stop : (number : ℕ) (there : List Bool) (after : Places) (text_after : Option (List ℕ)) →
@@ -54,13 +76,14 @@ module _ {X : Type 0} (remaining : X → Option (List ℕ)) (tree : TreeFacts) (
       before places after text text_mid text_after within are_there (next read) stream
 
   -- the stream broke off
-  pub BreaksStreams-stop : (text_after : Option (List ℕ)) →
+  pub BreaksStreams-stop : (fault : RunFault) (left : List (Option (List ℕ))) (there : List Bool) (rest text_after : Option (List ℕ)) → IsStreamFault at fault →
+      slice_get given at ≡ Some (remaining (get_or inputs at d)) → slice_get left at ≡ Some rest → at < length there → ((i : ℕ) → i < at → get_or there i false ≡ true) →
       ReadSoFar tree prefix at names (drop at names) given (map remaining (drop at inputs)) before places text text_mid →
-      BreaksStream tree prefix name (remaining (get_or inputs at d)) places text_mid text_after →
-      BreaksStreams tree prefix names given before text text_after
-  BreaksStreams-stop text_after read stream =
-      BreaksStreams-stream tree prefix at names (drop (at + 1) names) name given (map remaining (drop (at + 1) inputs)) (remaining (get_or inputs at d))
-      before places text text_mid text_after (next read) stream
+      BreaksStream tree prefix name fault (remaining (get_or inputs at d)) rest places text_mid text_after →
+      BreaksStreams tree prefix names fault given left there before text text_after
+  BreaksStreams-stop fault left there rest text_after is gave leaves flagged are_there read stream =
+      BreaksStreams-stream tree prefix fault at names (drop (at + 1) names) name given (map remaining (drop (at + 1) inputs)) left there (remaining (get_or inputs at d)) rest
+      before places text text_mid text_after is (sym name_is) gave leaves flagged are_there (next read) stream
 
 -- one name for each input
 pub names_count : (options : Options) → length (names_of options) ≡ length options.fragments.items + 1

@@ -2,7 +2,6 @@
 use Rattle.std.specs.Prelude.{◌≡◌, ◌⊎◌, ℕ, true, List, ◌∷◌, ◌++◌, Some, codes}
 use Rattle.kc_expr.specs.declared.expression.SymId.{SymId}
 use Rattle.kc_read.specs.Files.{Files}
-use Rattle.kc_read.specs.Sources.{Holds}
 use Rattle.kc_tree.specs.TreeFacts.{SymbolFacts, TreeFacts}
 use Rattle.kc_user.specs.GivenValue.{GivenValue}
 use Rattle.kc_values.specs.Differs.{given_of}
@@ -14,32 +13,36 @@ use Rattle.kc_dot.specs.SolvedView.{solution_view}
 use Rattle.kc_dot.specs.Texts.{config_text}
 use Rattle.kc_conf.specs.declared.options.Options.{Options}
 use Rattle.kc_conf.specs.Lost.{has_prompt, lost_line}
-use Rattle.kc_conf.specs.Outcome.{IsOutcome, Outcome, names_of, streams}
+use Rattle.kc_conf.specs.Outcome.{AreLines, IsOutcome, Outcome, names_of, streams}
 use Rattle.kc_conf.specs.Reruns.{RefusesNothing}
+
+-- the line stands in the text, behind whole lines
+abbrev pub HoldsLine : List ℕ → List ℕ → Type 0
+HoldsLine text line = (before after : List ℕ) × (text ≡ before ++ line ++ after) × AreLines before
 
 -- a later line gives the symbol a value, and is told to set it again
 abbrev pub IsSetAgain : TreeFacts → List ℕ → List ℕ → SymId → List Line → Type 0
-IsSetAgain tree prefix notes s later =
+IsSetAgain tree prefix warned s later =
     (front back : List Line) × (l : Line) × (given : GivenValue) × (later ≡ front ++ l ∷ back) × (effect tree prefix l ≡ Assigns s given)
-    × Holds notes (warning_line l.stream l.number (SetAgain (name tree s)))
+    × HoldsLine warned (warning_line l.stream l.number (SetAgain (name tree s)))
 
 -- what was given is the symbol's value, or it is told that it is not
 abbrev pub IsKeptOrWarned : TreeFacts → Solution → List ℕ → SymId → SymbolFacts → GivenValue → Type 0
-IsKeptOrWarned tree solution notes s f given =
+IsKeptOrWarned tree solution warned s f given =
     (given ≡ given_of (known solution s))
-    ⊎ Holds notes (lost_line (name tree s) f.kind given (given_of (known solution s)) ++ codes "\n")
+    ⊎ HoldsLine warned (lost_line (name tree s) f.kind given (given_of (known solution s)) ++ codes "\n")
 
-module _ (tree : TreeFacts) (prefix : List ℕ) (solution : Solution) (notes : List ℕ) where
+module _ (tree : TreeFacts) (prefix : List ℕ) (solution : Solution) (warned : List ℕ) where
   -- A line that has this effect, before these lines, is accounted for: it is warned of; or what it gives a symbol with a
   -- prompt is replaced, kept or told.
   abbrev pub IsAccountedFor : Line → List Line → Effect → Type 0
   IsAccountedFor l later Silent = Unit {0}
-  IsAccountedFor l later (Warns line_warning) = Holds notes (warning_line l.stream l.number line_warning)
+  IsAccountedFor l later (Warns line_warning) = HoldsLine warned (warning_line l.stream l.number line_warning)
   IsAccountedFor l later (Assigns s given) =
-      (f : SymbolFacts) → facts tree s ≡ Some f → has_prompt f.prompts ≡ true → IsSetAgain tree prefix notes s later ⊎ IsKeptOrWarned tree solution notes s f given
+      (f : SymbolFacts) → facts tree s ≡ Some f → has_prompt f.prompts ≡ true → IsSetAgain tree prefix warned s later ⊎ IsKeptOrWarned tree solution warned s f given
 
--- Where lost values are warned of and files are written, the .config is the text of the solution, and the notes account for
--- each line of the streams by the values of that solution.
+-- Where lost values are warned of and files are written, the .config is the text of the solution, and the warnings account
+-- for each line of the streams by the values of that solution.
 abbrev pub NothingIsLost : Type 0
 NothingIsLost =
     (files : Files) (options : Options) (all : List (List ℕ)) (outcome : Outcome) (text : List ℕ) → IsOutcome files options all outcome → outcome.config ≡ Some text →
@@ -47,4 +50,4 @@ NothingIsLost =
     (tree : TreeFacts) × (solution : Solution) × RefusesNothing files options all tree solution
     × (text ≡ config_text tree options.prefix (solution_view solution))
     × ((before later : List Line) (l : Line) → lines_of (streams (names_of options) all) ≡ before ++ l ∷ later →
-    IsAccountedFor tree options.prefix solution outcome.notes l later (effect tree options.prefix l))
+    IsAccountedFor tree options.prefix solution outcome.warned l later (effect tree options.prefix l))

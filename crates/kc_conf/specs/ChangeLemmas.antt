@@ -1,4 +1,4 @@
--- Trusted: Two lemmas that the trait of outputs cites: calls that each change one output alone change it alone together (proved, so nothing to believe).
+-- For proofs: Calls that each change one output alone change it alone together.
 use Rattle.std.specs.Prelude.{refl}
 use Rattle.kc_conf.specs.OutputStates.{ChangesOnly, OutputStates}
 use Rattle.kc_conf.specs.declared.outputs.Output.{Output}

@@ -1,12 +1,12 @@
 -- Trusted: What a run leaves, with and without a fault.
-use Rattle.std.specs.Prelude.{◌≡◌, ◌⊎◌, ℕ, ◌<◌, List, [], length, Option, None, Some, string_bytes, slice_index, slice_index_or, slice_set, ⊤}
+use Rattle.std.specs.Prelude.{◌≡◌, ◌⊎◌, ℕ, Bool, ◌<◌, List, [], length, Option, None, Some, string_bytes, slice_index, slice_index_or, slice_set, ⊤}
 use Rattle.std.specs.Option.{option_map_or}
-use Rattle.kc_dot.specs.Sink.{BeginsWith, next_failure}
-use Rattle.kc_dot.specs.declared.fault.WriteFault.{WriteFault}
-use Rattle.kc_dot.specs.declared.fault.WriteFault.TheVariants as write
+use Rattle.kc_dot.specs.Sink.{BeginsWith, GoesBeyond, next_failure}
+use Rattle.kc_read.specs.Files.{Files}
 use Rattle.kc_conf.specs.declared.options.Options.{Options}
 use Rattle.kc_conf.specs.ErrorLines.{cannot_read_line, cannot_write_line, out_of_memory_line}
-use Rattle.kc_conf.specs.Outcome.{Outcome, names_of}
+use Rattle.kc_conf.specs.Outcome.{AreLines, Outcome, names_of, notes_of}
+use Rattle.kc_conf.specs.ReadFaults.{StopsReading}
 use Rattle.kc_conf.specs.OutputStates.{OutputStates, at, with_state, failed, with_text, begun_with, made_if, BreaksOutput}
 use Rattle.kc_conf.specs.declared.outputs.Output.{Output}
 use Rattle.kc_conf.specs.declared.outputs.Output.TheVariants.{Config, Header, Minimal, Depfile, Notes}
@@ -30,11 +30,11 @@ files_made outcome states = made_if Depfile outcome.depfile (files_before Depfil
 
 -- the outputs when a file's turn has come: the notes and the files before it are whole
 abbrev pub up_to : Output → Outcome → OutputStates → OutputStates
-up_to file outcome states = files_before file outcome (with_text Notes outcome.notes states)
+up_to file outcome states = files_before file outcome (with_text Notes (notes_of outcome) states)
 
 -- the outputs at the end
 abbrev pub finished : Outcome → OutputStates → OutputStates
-finished outcome states = files_made outcome (with_text Notes outcome.notes states)
+finished outcome states = files_made outcome (with_text Notes (notes_of outcome) states)
 
 -- the run left this outcome, and answered its status
 abbrev pub Completes : Outcome → Status → OutputStates → OutputStates → Type 0
@@ -56,31 +56,32 @@ after_fault (Read input) states = states
 after_fault Memory states = states
 after_fault (Write output) states = with_state states output (failed (at states output))
 
--- this fault can strike while the notes are written
-abbrev pub StrikesNotes : RunFault → Type 0
-StrikesNotes (Read input) = ⊤
-StrikesNotes Memory = ⊤
-StrikesNotes (Write output) = output ≡ Notes
+-- The notes broke off for this fault, with this much of them. Where they failed, it is a beginning and not the whole; else
+-- it is whole lines of the warnings, and the error line of what is refused is not begun.
+abbrev pub StopsNotes : RunFault → Outcome → List ℕ → Type 0
+StopsNotes (Read input) outcome front = AreLines front × BeginsWith outcome.warned front
+StopsNotes Memory outcome front = AreLines front × BeginsWith outcome.warned front
+StopsNotes (Write output) outcome front = (output ≡ Notes) × GoesBeyond (notes_of outcome) front
 
--- this fault can strike while that file is begun and written
+-- this fault can strike before that file is begun
 abbrev pub StrikesFile : Output → RunFault → Type 0
 StrikesFile file (Read input) = ⊥
 StrikesFile file Memory = ⊤
 StrikesFile file (Write output) = output ≡ file
 
--- A run that was to leave this outcome broke off, for this fault. All before the point where it broke off is whole. A file
--- that broke off was not ended: it holds a beginning of its text, or all of it where its end failed.
-pub data BreaksRun (outcome : Outcome) (fault : RunFault) (old new : OutputStates) : Type 0 where
-  in_notes : (front : List ℕ) → StrikesNotes fault → BeginsWith outcome.notes front → new ≡ after_fault fault (with_text Notes front old) → BreaksRun outcome fault old new
-  not_begun : (file : Output) (text : List ℕ) → StrikesFile file fault → file_text outcome file ≡ Some text → new ≡ after_fault fault (up_to file outcome old) → BreaksRun outcome fault old new
-  in_file : (file : Output) (text front : List ℕ) → StrikesFile file fault → file_text outcome file ≡ Some text → BeginsWith text front →
-      new ≡ after_fault fault (begun_with file front (up_to file outcome old)) → BreaksRun outcome fault old new
+-- That file broke off for this fault, with this much of its text: a beginning, and the whole only where its end failed.
+abbrev pub StopsFile : Output → RunFault → List ℕ → List ℕ → Type 0
+StopsFile file (Read input) text front = ⊥
+StopsFile file Memory text front = GoesBeyond text front
+StopsFile file (Write output) text front = (output ≡ file) × BeginsWith text front
 
--- the fault is no failure of an input
-abbrev pub IsNoInputFault : RunFault → Type 0
-IsNoInputFault (Read input) = ⊥
-IsNoInputFault Memory = ⊤
-IsNoInputFault (Write output) = ⊤
+-- A run that was to leave this outcome broke off, for this fault. Before a file was begun, the notes and all files before
+-- it are whole. A file that broke off was not ended.
+pub data BreaksRun (outcome : Outcome) (fault : RunFault) (old new : OutputStates) : Type 0 where
+  in_notes : (front : List ℕ) → StopsNotes fault outcome front → new ≡ after_fault fault (with_text Notes front old) → BreaksRun outcome fault old new
+  not_begun : (file : Output) (text : List ℕ) → StrikesFile file fault → file_text outcome file ≡ Some text → new ≡ after_fault fault (up_to file outcome old) → BreaksRun outcome fault old new
+  in_file : (file : Output) (text front : List ℕ) → StopsFile file fault text front → file_text outcome file ≡ Some text →
+      new ≡ after_fault fault (begun_with file front (up_to file outcome old)) → BreaksRun outcome fault old new
 
 -- the counts of the inputs after this fault: one failure more of the one that failed, and no other
 abbrev pub CountsInputs : RunFault → List ℕ → List ℕ → Type 0
@@ -120,26 +121,10 @@ Reports options (Write Minimal) old new = NotesLine (error_line options (Write M
 Reports options (Write Depfile) old new = NotesLine (error_line options (Write Depfile)) old new
 Reports options (Write Notes) old new = new ≡ old
 
--- broke off, and then reported
-abbrev pub Faults : Options → Outcome → RunFault → OutputStates → OutputStates → Type 0
-Faults options outcome fault old new = (mid : OutputStates) × BreaksRun outcome fault old mid × Reports options fault mid new
-
--- ---- parts of a run
-
--- the notes broke off
-abbrev pub BreaksNotes : List ℕ → RunFault → OutputStates → OutputStates → Type 0
-BreaksNotes text fault old new = (front : List ℕ) × StrikesNotes fault × BeginsWith text front × (new ≡ after_fault fault (with_text Notes front old))
-
--- one file broke off: before it was begun, or with a beginning of its text
-abbrev pub BreaksFile : Output → Option (List ℕ) → RunFault → OutputStates → OutputStates → Type 0
-BreaksFile file None fault old new = ⊥
-BreaksFile file (Some text) fault old new =
-    StrikesFile file fault × ((new ≡ after_fault fault old) ⊎ ((front : List ℕ) × BeginsWith text front × (new ≡ after_fault fault (begun_with file front old))))
-
--- one of the files broke off, behind those before it
-abbrev pub BreaksFiles : Outcome → RunFault → OutputStates → OutputStates → Type 0
-BreaksFiles outcome fault old new = (file : Output) × BreaksFile file (file_text outcome file) fault (files_before file outcome old) new
-
-abbrev pub write_fault : Output → WriteFault → RunFault
-write_fault output write.Sink = Write output
-write_fault output write.Memory = Memory
+-- The run broke off for this fault, and reported it. Where an input failed, it is known what was read until then.
+pub record Faults (files : Files) (options : Options) (given left : List (Option (List ℕ))) (there : List Bool) (all : List (List ℕ)) (outcome : Outcome) (fault : RunFault)
+    (old new : OutputStates) : Type 0 where
+  pub mid : OutputStates
+  pub broke : BreaksRun outcome fault old mid
+  pub read : StopsReading files options given left there all fault old mid
+  pub reported : Reports options fault mid new

@@ -19,7 +19,7 @@ use Rattle.kc_conf.specs.declared.runs.AcceptedTree.{AcceptedTree}
 -- A run over these files: there is an outcome of them, the options and the streams' bytes, and it is left whole, where each
 -- stream whose turn came is there; or a device failed or no memory was to be had, and all before that is whole. A stream that
 -- failed is one that may.
-pub record Leaves (files : Files) (options : Options) (given : List (Option (List ℕ))) (there may_fail : List Bool) (counts counts_after : List ℕ) (status : Status)
+pub record Leaves (files : Files) (options : Options) (given left : List (Option (List ℕ))) (there may_fail : List Bool) (counts counts_after : List ℕ) (status : Status)
     (old new : OutputStates) : Type 0 where
   pub all : List (List ℕ)
   pub to_come : AreAllToCome given all
@@ -27,7 +27,8 @@ pub record Leaves (files : Files) (options : Options) (given : List (Option (Lis
   pub is_outcome : IsOutcome files options all outcome
   pub finished : status ≢ Faulted → Completes outcome status old new × (counts_after ≡ counts)
       × ((tree : TreeFacts) → IsAcceptedTree files (root_file options) tree → StreamsAreThere all there)
-  pub broken : status ≡ Faulted → (fault : RunFault) × CountsInputs fault counts counts_after × MayStrike may_fail fault × Faults options outcome fault old new
+  pub broken : status ≡ Faulted → (fault : RunFault) × CountsInputs fault counts counts_after × MayStrike may_fail fault
+      × Faults files options given left there all outcome fault old new
   pub refused : (r : Refused) → IsRefusedTree files (root_file options) r → ChangesOnly Notes old new
 
 -- Without a fault an accepted tree is kept; a refused one leaves what was there. After a fault it is what was there or the

@@ -1,5 +1,6 @@
 pub mod ErrorLines
 pub mod Existence
+pub mod FaultParts
 pub mod Faults
 pub mod InputBytes
 pub mod Leaves
@@ -11,6 +12,7 @@ pub mod LostView
 pub mod Outcome
 pub mod OutputStates
 pub mod Presence
+pub mod ReadFaults
 pub mod Reads
 pub mod Reruns
 pub mod Rules

@@ -1,12 +1,11 @@
 -- Trusted: The values that were given and are not the symbols': whole lines, without the line feed (our own).
-use Rattle.std.specs.Prelude.{is_some, ℕ, Bool, true, false, if◌then◌else◌, List, [], ◌∷◌, ◌++◌, codes, bytes_eq, Option, Some, None}
+use Rattle.std.specs.Prelude.{ℕ, Bool, true, false, if◌then◌else◌, List, [], ◌∷◌, ◌++◌, codes, bytes_eq, Option, Some, None}
 use Rattle.std.specs.List.{flat_map, range_with_len}
 use Rattle.kc_text.specs.Escapes.{escape}
 use Rattle.kc_expr.specs.Names.{symbol}
 use Rattle.kc_expr.specs.Value.{tri_text}
 use Rattle.kc_expr.specs.declared.expression.Kind.{Kind}
 use Rattle.kc_expr.specs.declared.expression.Kind.TheVariants.{Undefined, Bool as IsBool, Tristate, Str, Int, Hex}
-use Rattle.kc_tree.specs.Layouts.{DefinitionFacts}
 use Rattle.kc_tree.specs.TreeFacts.{Condition, SymbolFacts}
 use Rattle.kc_user.specs.GivenValue.{GivenValue, GivenTruth, GivenText, Member, SymbolPlace}
 use Rattle.kc_user.specs.Places.{place_at}
@@ -48,11 +47,6 @@ same_given (Member m) given = false
 abbrev pub lost_by : List ℕ → Kind → Option GivenValue → GivenValue → List (List ℕ)
 lost_by name kind None value = []
 lost_by name kind (Some given) value = if same_given given value then [] else lost_line name kind given value ∷ []
-
--- a definition has a prompt
-abbrev pub is_prompted : Option DefinitionFacts → Bool
-is_prompted None = false
-is_prompted (Some d) = is_some d.prompt
 
 abbrev pub has_prompt : List Condition → Bool
 has_prompt [] = false

@@ -5,7 +5,7 @@ use Rattle.kc_read.specs.Files.{Files}
 use Rattle.kc_tree.specs.TreeFacts.{TreeFacts}
 use Rattle.kc_build.specs.Trees.{IsTreeOf}
 use Rattle.kc_user.specs.Places.{Places, no_places}
-use Rattle.kc_values.specs.Laws.{IsAccepted}
+use Rattle.kc_values.specs.Needs.{IsAccepted}
 use Rattle.kc_solve.specs.Refused.{IsLoopText, loop_refused}
 use Rattle.kc_solve.specs.Solved.{Solution, IsSolution, warnings}
 use Rattle.kc_dot.specs.Reading.{ReadResult, StreamLocation, Stream, reading_of}
@@ -19,26 +19,36 @@ use Rattle.kc_conf.specs.Lost.{lost_lines}
 use Rattle.kc_conf.specs.declared.options.Status.{Status}
 use Rattle.kc_conf.specs.declared.options.Status.TheVariants.{Done, Refused as IsRefused, Usage, Faulted}
 
--- The texts that a run is to leave: none for an output that is not begun. The notes are what the run adds.
+-- The texts that a run is to leave: none for an output that is not begun. To the notes it adds its warnings, and behind them
+-- the error line of what is refused, where anything is.
 pub record Outcome : Type 0 where
   pub config : Option (List ℕ)
   pub header : Option (List ℕ)
   pub minimal : Option (List ℕ)
   pub depfile : Option (List ℕ)
-  pub notes : List ℕ
+  pub warned : List ℕ
+  pub refusal : List ℕ
   pub status : Status
 
--- with these notes before its own
+-- what it adds to the notes
+abbrev pub notes_of : Outcome → List ℕ
+notes_of outcome = outcome.warned ++ outcome.refusal
+
+-- with these warnings before its own
 abbrev pub noted : List ℕ → Outcome → Outcome
-noted text outcome = record outcome { notes = text ++ outcome.notes }
+noted text outcome = record outcome { warned = text ++ outcome.warned }
 
 -- each line with its LF
 abbrev pub lines_text : List (List ℕ) → List ℕ
 lines_text lines = flat_map (λ line. line ++ codes "\n") lines
 
+-- the text is whole lines
+abbrev pub AreLines : List ℕ → Type 0
+AreLines text = (lines : List (List ℕ)) × (text ≡ lines_text lines)
+
 -- a refusal begins nothing
 abbrev pub refused : List ℕ → Outcome
-refused line = record { config = None; header = None; minimal = None; depfile = None; notes = line; status = IsRefused }
+refused line = record { config = None; header = None; minimal = None; depfile = None; warned = []; refusal = line; status = IsRefused }
 
 -- ---- the tree
 
@@ -96,7 +106,8 @@ outcome_of options tree solution = record {
   header = text_if options.header (header_text tree options.prefix (solution_view solution));
   minimal = text_if options.minimal (minimal_text tree options.prefix (solution_view solution));
   depfile = None;
-  notes = lines_text (warnings solution) ++ lines_text (lost_warnings options solution);
+  warned = lines_text (warnings solution) ++ lines_text (lost_warnings options solution);
+  refusal = [];
   status = Done;
 }
 
@@ -130,10 +141,10 @@ abbrev pub has_text : List ℕ → Bool
 has_text [] = false
 has_text (b ∷ text) = true
 
--- Under --strict, what would write files and has notes begins nothing: these are warnings, and one line refuses them.
+-- Under --strict, what would write files and warns begins nothing: one line refuses the warnings.
 abbrev pub strictly : Bool → Outcome → Outcome
 strictly strict outcome =
-    if is_done outcome.status && (strict && has_text outcome.notes) then refused (outcome.notes ++ strict_line) else outcome
+    if is_done outcome.status && (strict && has_text outcome.warned) then record (refused strict_line) { warned = outcome.warned } else outcome
 
 -- the rule for make: what the file of --out is made of, where the tree opens these files
 abbrev pub depfile_text : Options → List (List ℕ) → List ℕ
@@ -150,6 +161,10 @@ abbrev pub IsOutcome : Files → Options → List (List ℕ) → Outcome → Typ
 IsOutcome files options all outcome =
     (lenient : Outcome) × (opened : List (List ℕ)) × IsLenientOutcome files options all lenient × AreOpened files (root_file options) opened
     × (outcome ≡ with_rule options opened (strictly options.strict lenient))
+
+-- what it adds to the notes is whole lines
+abbrev pub NotesAreLines : Type 0
+NotesAreLines = (files : Files) (options : Options) (all : List (List ℕ)) (outcome : Outcome) → IsOutcome files options all outcome → AreLines (notes_of outcome)
 
 -- there is at most one
 abbrev pub OneOutcome : Type 0

@@ -1,14 +1,15 @@
 -- Trusted: What is known of the five outputs.
-use Rattle.std.specs.Prelude.{◌≡◌, ℕ, Bool, true, false, List, [], Option, None, Some}
+use Rattle.std.specs.Prelude.{◌≡◌, ℕ, Bool, true, false, not, ◌==◌, List, [], Option, None, Some}
 use Rattle.std.specs.Option.{option_map}
-use Rattle.kc_dot.specs.Sink.{extended, next_failure, BeginsWith}
+use Rattle.kc_text.specs.Limits.{one_more}
+use Rattle.kc_dot.specs.Sink.{extended, next_failure, GoesBeyond}
 use Rattle.kc_conf.specs.declared.outputs.Output.{Output}
 use Rattle.kc_conf.specs.declared.outputs.Output.TheVariants.{Config, Header, Minimal, Depfile, Notes}
 
--- the state of an output: whether it was begun, whether its end was told since, its bytes or nothing told, and how often it
--- has failed
+-- the state of an output: how often it was begun, whether its end was told since, its bytes or nothing told, and how often
+-- it has failed
 pub record OutputState : Type 0 where
-  pub is_begun : Bool
+  pub begins : ℕ
   pub is_ended : Bool
   pub text : Option (List ℕ)
   pub failures : ℕ
@@ -37,9 +38,13 @@ with_state states Minimal state = record states { minimal = state }
 with_state states Depfile state = record states { depfile = state }
 with_state states Notes state = record states { notes = state }
 
--- made empty
+-- it was begun
+abbrev pub is_begun : OutputState → Bool
+is_begun state = not (state.begins == 0)
+
+-- begun once more, and made empty
 abbrev pub begun : OutputState → OutputState
-begun state = record state { is_begun = true; is_ended = false; text = option_map (λ _. []) state.text }
+begun state = record state { begins = one_more state.begins; is_ended = false; text = option_map (λ _. []) state.text }
 
 -- with these bytes after its own
 abbrev pub grown : OutputState → List ℕ → OutputState
@@ -56,11 +61,11 @@ failed state = record state { failures = next_failure state.failures }
 -- only the text and the failures of this output changed
 abbrev pub ChangesOnly : Output → OutputStates → OutputStates → Type 0
 ChangesOnly output old new = new ≡ with_state old output
-    (record { is_begun = (at old output).is_begun; is_ended = (at old output).is_ended; text = (at new output).text; failures = (at new output).failures })
+    (record { begins = (at old output).begins; is_ended = (at old output).is_ended; text = (at new output).text; failures = (at new output).failures })
 
--- a beginning of the text was written there, and then the output failed
+-- a beginning of the text was written there, and not the whole, and then the output failed
 abbrev pub BreaksOutput : Output → List ℕ → OutputStates → OutputStates → Type 0
-BreaksOutput output text old new = (front : List ℕ) × BeginsWith text front × (new ≡ with_state old output (failed (grown (at old output) front)))
+BreaksOutput output text old new = (front : List ℕ) × GoesBeyond text front × (new ≡ with_state old output (failed (grown (at old output) front)))
 
 -- with this text after what that output has
 abbrev pub with_text : Output → List ℕ → OutputStates → OutputStates

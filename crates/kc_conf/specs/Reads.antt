@@ -1,17 +1,21 @@
 -- For proofs: What reading the streams does.
-use Rattle.std.specs.Prelude.{◌≡◌, ℕ, Bool, true, ◌&&◌, ◌||◌, if◌then◌else◌, List, [], ◌++◌, length, Option, Some, None, ⊤}
+use Rattle.std.specs.Prelude.{◌≡◌, ℕ, Bool, true, false, ◌&&◌, ◌||◌, if◌then◌else◌, List, [], ◌++◌, length, Option, Some, None, ⊤}
+use Rattle.kc_text.specs.Lines.{is_line_feed}
 use Rattle.kc_tree.specs.TreeFacts.{TreeFacts}
-use Rattle.kc_user.specs.Places.{Places}
+use Rattle.kc_user.specs.Places.{Places, no_places}
 use Rattle.kc_solve.specs.Solved.{Solution}
+use Rattle.std.specs.List.{All}
 use Rattle.kc_dot.specs.Feeding.{StreamPosition, ReadsPiece, to_come}
+use Rattle.kc_dot.specs.Laws.{HasShortLines}
 use Rattle.kc_dot.specs.Reading.{Line, ReadResult, StreamLocation, lines_from, lines_of, reading, with_warnings}
-use Rattle.kc_dot.specs.Sink.{BeginsWith, extended, next_failure}
+use Rattle.kc_dot.specs.Sink.{BeginsWith, GoesBeyond, extended, next_failure}
 use Rattle.kc_conf.specs.InputBytes.{preceded, AreToCome, AreAllToCome}
 use Rattle.kc_conf.specs.ErrorLines.{strict_line}
 use Rattle.kc_conf.specs.Faults.{after_fault}
-use Rattle.kc_conf.specs.Outcome.{Outcome, is_done, has_text, lines_text, lost_warnings, outcome_of, refused, streams}
+use Rattle.kc_conf.specs.Outcome.{AreLines, Outcome, is_done, has_text, lines_text, lost_warnings, names_of, outcome_of, refused, streams}
 use Rattle.kc_conf.specs.OutputStates.{OutputStates, with_text}
 use Rattle.kc_conf.specs.Presence.{StreamsAreThere}
+use Rattle.kc_conf.specs.ReadFaults.{ReadsUpTo, ended_lines, told_by}
 use Rattle.kc_conf.specs.declared.options.Options.{Options}
 use Rattle.kc_conf.specs.declared.run_fault.RunFault.{RunFault}
 use Rattle.kc_conf.specs.declared.run_fault.RunFault.TheVariants as fault
@@ -21,15 +25,15 @@ use Rattle.kc_conf.specs.declared.reading.LongLine.{LongLine}
 -- `strictly`, where a part of the run is left to come, and whether anything was told before it
 abbrev pub strictly_after : Bool → Bool → Outcome → Outcome
 strictly_after strict before part =
-    if is_done part.status && (strict && (before || has_text part.notes)) then refused (part.notes ++ strict_line) else part
+    if is_done part.status && (strict && (before || has_text part.warned)) then record (refused strict_line) { warned = part.warned } else part
 
--- without its notes
-abbrev pub without_notes : Outcome → Outcome
-without_notes outcome = record outcome { notes = [] }
+-- without its warnings
+abbrev pub without_warnings : Outcome → Outcome
+without_warnings outcome = record outcome { warned = [] }
 
 -- the files of a solution behind its warnings: the values that are lost are noted before
 abbrev pub behind_warnings : Options → TreeFacts → Solution → Outcome
-behind_warnings options tree solution = record (outcome_of options tree solution) { notes = lines_text (lost_warnings options solution) }
+behind_warnings options tree solution = record (outcome_of options tree solution) { warned = lines_text (lost_warnings options solution) }
 
 -- the stream and the number of a line that is too long
 abbrev pub stop_of : LongLine → StreamLocation
@@ -51,6 +55,10 @@ notes_failures_after (fault.Read input) count = count
 notes_failures_after fault.Memory count = count
 notes_failures_after (fault.Write output) count = next_failure count
 
+-- no line feed is among the bytes that wait
+abbrev pub WaitsForLf : StreamPosition → Type 0
+WaitsForLf position = All (λ b. is_line_feed b ≡ false) position.pending
+
 -- the fault is a read of that input, a failure of the notes, or memory
 abbrev pub IsStreamFault : ℕ → RunFault → Type 0
 IsStreamFault input (fault.Read other) = other ≡ input
@@ -62,6 +70,19 @@ abbrev pub StreamMayFail : Bool → RunFault → Type 0
 StreamMayFail may_fail (fault.Read input) = may_fail ≡ true
 StreamMayFail may_fail fault.Memory = ⊤
 StreamMayFail may_fail (fault.Write output) = ⊤
+
+-- The warnings broke off for this fault, with this much of them told: where the notes failed a beginning and not the whole,
+-- else whole lines.
+abbrev pub StopsWarnings : RunFault → List ℕ → List ℕ → Type 0
+StopsWarnings (fault.Read input) warned front = AreLines front × BeginsWith warned front
+StopsWarnings fault.Memory warned front = AreLines front × BeginsWith warned front
+StopsWarnings (fault.Write output) warned front = GoesBeyond warned front
+
+-- what is told of these warnings where an input failed: under --strict nothing
+abbrev pub Told : Bool → RunFault → List ℕ → List ℕ → Type 0
+Told strict (fault.Read input) warned front = front ≡ (if strict then [] else warned)
+Told strict fault.Memory warned front = ⊤
+Told strict (fault.Write output) warned front = ⊤
 
 -- the inputs give these bytes, and those whose turn came are there
 abbrev pub AreRead : List (Option (List ℕ)) → List Bool → List (List ℕ) → Type 0
@@ -77,10 +98,6 @@ module _ (tree : TreeFacts) (prefix : List ℕ) where
   abbrev pub StopsAtLongLine : List Line → Places → Places → List ℕ → StreamLocation → Type 0
   StopsAtLongLine lines before after warned stop =
       (more : List Line) → reading tree prefix before (lines ++ more) ≡ ended_with after warned (Some stop)
-
-  -- Whatever lines follow: their warnings begin so.
-  abbrev pub Warns : List Line → Places → List ℕ → Type 0
-  Warns lines before front = (more : List Line) → BeginsWith (reading tree prefix before (lines ++ more)).warned front
 
   module _ (name : List ℕ) where
     -- the input gave these bytes so far, and the reader took them
@@ -100,11 +117,19 @@ module _ (tree : TreeFacts) (prefix : List ℕ) where
     TakesPieces long given old new before after text text_after =
         (bytes warned : List ℕ) × AreToCome given bytes × (text_after ≡ extended text warned) × Takes long bytes old new before after warned
 
-    -- it broke off, with a beginning of the warnings told
-    abbrev pub BreaksPieces : Option (List ℕ) → StreamPosition → Places → Option (List ℕ) → Option (List ℕ) → Type 0
-    BreaksPieces given old before text text_after =
+    -- where the input failed: these bytes were taken until then, and this front was told of them
+    abbrev pub TakenPart : RunFault → Option (List ℕ) → Option (List ℕ) → List ℕ → Places → List ℕ → Type 0
+    TakenPart (fault.Read input) given left bytes before front =
+        (part : List ℕ) × (given ≡ preceded part left) × BeginsWith bytes part × HasShortLines part × (front ≡ (reading tree prefix before (ended_lines name part)).warned)
+    TakenPart fault.Memory given left bytes before front = ⊤
+    TakenPart (fault.Write output) given left bytes before front = ⊤
+
+    -- the stream broke off, with a front of its warnings told
+    abbrev pub BreaksStream : RunFault → Option (List ℕ) → Option (List ℕ) → Places → Option (List ℕ) → Option (List ℕ) → Type 0
+    BreaksStream fault given left before text text_after =
         (bytes front : List ℕ) × AreToCome given bytes × (text_after ≡ extended text front)
-        × ((more : List Line) → BeginsWith (reading tree prefix before (to_come name old bytes more)).warned front)
+        × ((more : List Line) → StopsWarnings fault (reading tree prefix before (lines_from name 1 bytes ++ more)).warned front)
+        × TakenPart fault given left bytes before front
 
     -- the lines of the stream were read, to their end or to one that is too long
     abbrev pub ReadsTo : Option ℕ → List Line → Places → Places → List ℕ → Type 0
@@ -115,11 +140,6 @@ module _ (tree : TreeFacts) (prefix : List ℕ) where
     abbrev pub ReadsStream : Option ℕ → Option (List ℕ) → Places → Places → Option (List ℕ) → Option (List ℕ) → Type 0
     ReadsStream long given before after text text_after =
         (bytes warned : List ℕ) × AreToCome given bytes × (text_after ≡ extended text warned) × ReadsTo long (lines_from name 1 bytes) before after warned
-
-    -- the stream broke off, with a beginning of its warnings told
-    abbrev pub BreaksStream : Option (List ℕ) → Places → Option (List ℕ) → Option (List ℕ) → Type 0
-    BreaksStream given before text text_after =
-        (bytes front : List ℕ) × AreToCome given bytes × (text_after ≡ extended text front) × Warns (lines_from name 1 bytes) before front
 
   -- the streams were read to their end, or to a line that is too long
   abbrev pub ReadsStreams : List (List ℕ) → Option StreamLocation → List (Option (List ℕ)) → List Bool → Places → Places → Option (List ℕ) → Option (List ℕ) → Type 0
@@ -134,17 +154,24 @@ module _ (tree : TreeFacts) (prefix : List ℕ) where
       × (reading tree prefix before (lines_of (streams names all)) ≡ ended_with after warned stopped)
       × (strict ≡ true → is_warned ≡ has_text warned)
 
-  -- and broke off for this fault
-  abbrev pub BreaksTelling : List (List ℕ) → RunFault → List (Option (List ℕ)) → Places → OutputStates → OutputStates → Type 0
-  BreaksTelling names fault given before old new =
-      (all : List (List ℕ)) × (front : List ℕ) × AreAllToCome given all × (new ≡ after_fault fault (with_text Notes front old))
-      × BeginsWith (reading tree prefix before (lines_of (streams names all))).warned front
+  -- where an input failed: the streams were read up to a place of it, and this was warned of
+  abbrev pub ReadPart : List (List ℕ) → RunFault → List (Option (List ℕ)) → List (Option (List ℕ)) → List Bool → List (List ℕ) → Places → List ℕ → Type 0
+  ReadPart names (fault.Read input) given left there all before warned = ReadsUpTo tree prefix names before given left there all input warned
+  ReadPart names fault.Memory given left there all before warned = ⊤
+  ReadPart names (fault.Write output) given left there all before warned = ⊤
 
-  -- the streams broke off, with a beginning of their warnings told
-  abbrev pub BreaksStreams : List (List ℕ) → List (Option (List ℕ)) → Places → Option (List ℕ) → Option (List ℕ) → Type 0
-  BreaksStreams names given before text text_after =
+  -- the streams broke off, with a front of their warnings told
+  abbrev pub BreaksStreams : List (List ℕ) → RunFault → List (Option (List ℕ)) → List (Option (List ℕ)) → List Bool → Places → Option (List ℕ) → Option (List ℕ) → Type 0
+  BreaksStreams names fault given left there before text text_after =
       (all : List (List ℕ)) × (front : List ℕ) × AreAllToCome given all × (text_after ≡ extended text front)
-      × BeginsWith (reading tree prefix before (lines_of (streams names all))).warned front
+      × StopsWarnings fault (reading tree prefix before (lines_of (streams names all))).warned front × ReadPart names fault given left there all before front
+
+  -- the same, with what is told in the notes; under --strict it is nothing where an input failed
+  abbrev pub BreaksTelling : Bool → List (List ℕ) → RunFault → List (Option (List ℕ)) → List (Option (List ℕ)) → List Bool → Places → OutputStates → OutputStates → Type 0
+  BreaksTelling strict names fault given left there before old new =
+      (all : List (List ℕ)) × (front warned : List ℕ) × AreAllToCome given all × (new ≡ after_fault fault (with_text Notes front old))
+      × StopsWarnings fault (reading tree prefix before (lines_of (streams names all))).warned front × ReadPart names fault given left there all before warned
+      × Told strict fault warned front
 
   -- So many streams were read. Whatever bytes the other inputs give, reading all goes on with those from these places.
   abbrev pub ReadSoFar : ℕ → List (List ℕ) → List (List ℕ) → List (Option (List ℕ)) → List (Option (List ℕ)) → Places → Places → Option (List ℕ) → Option (List ℕ) → Type 0
@@ -152,3 +179,19 @@ module _ (tree : TreeFacts) (prefix : List ℕ) where
       (done : List (List ℕ)) × (warned : List ℕ) × (length done ≡ count) × (text_after ≡ extended text warned)
       × ((left : List (List ℕ)) → AreAllToCome given_left left → AreAllToCome given (done ++ left)
       × (reading tree prefix before (lines_of (streams names (done ++ left))) ≡ with_warnings warned (reading tree prefix after (lines_of (streams names_left left)))))
+      × Reads (lines_of (streams names done)) before after warned × All HasShortLines done
+
+-- where an input failed: the streams were read up to a place of it, and what they warn of up to there is told
+abbrev pub StopsStreams : Options → TreeFacts → List (Option (List ℕ)) → List (Option (List ℕ)) → List Bool → List (List ℕ) → RunFault → OutputStates → OutputStates → Type 0
+StopsStreams options tree given left there all (fault.Read input) old new =
+    (warned : List ℕ) × ReadsUpTo tree options.prefix (names_of options) (no_places tree) given left there all input warned
+    × (new ≡ with_text Notes (if options.strict then [] else warned) old)
+StopsStreams options tree given left there all fault.Memory old new = ⊤
+StopsStreams options tree given left there all (fault.Write output) old new = ⊤
+
+-- the same behind the tree's warnings
+abbrev pub StopsTree : Options → TreeFacts → List (Option (List ℕ)) → List (Option (List ℕ)) → List Bool → List (List ℕ) → RunFault → OutputStates → OutputStates → Type 0
+StopsTree options tree given left there all (fault.Read input) old new =
+    (warned : List ℕ) × ReadsUpTo tree options.prefix (names_of options) (no_places tree) given left there all input warned × (new ≡ with_text Notes (told_by options tree warned) old)
+StopsTree options tree given left there all fault.Memory old new = ⊤
+StopsTree options tree given left there all (fault.Write output) old new = ⊤

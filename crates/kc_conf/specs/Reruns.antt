@@ -1,15 +1,13 @@
 -- Trusted: What the texts that a run writes give when they are read again.
-use Rattle.std.specs.Prelude.{◌≡◌, ℕ, ◌<◌, ◌↔◌, List, [], ◌∷◌, Some, None, true, false}
+use Rattle.std.specs.Prelude.{◌≡◌, ℕ, List, [], ◌∷◌, Some, None, true, false}
 use Rattle.kc_make.specs.Opened.{AreOpened}
 use Rattle.kc_read.specs.Files.{Files}
 use Rattle.kc_tree.specs.TreeFacts.{TreeFacts}
-use Rattle.kc_values.specs.Differs.{changes_on_reread}
-use Rattle.kc_values.specs.Solution.{symbol_count}
+use Rattle.kc_user.specs.Places.{place_at}
 use Rattle.kc_solve.specs.Solved.{Solution, value_of}
 use Rattle.kc_dot.specs.Laws.{ConfigGivesBack, HasShortLines, MinimalGivesBack, MinimalNeedsEach}
-use Rattle.kc_dot.specs.Plain.{HasPlainNumbers, HasPlainTitles}
 use Rattle.kc_dot.specs.Prefixes.{is_prefix}
-use Rattle.kc_dot.specs.Reread.{IsOneSolution, read_alone}
+use Rattle.kc_dot.specs.Reread.{valuation_view}
 use Rattle.kc_dot.specs.SolvedView.{solution_view}
 use Rattle.kc_dot.specs.Texts.{config_text, minimal_text}
 use Rattle.kc_conf.specs.declared.options.Options.{Options}
@@ -50,23 +48,19 @@ TextsHaveShortLines =
     RefusesNothing files options all tree solution → HasShortLines (config_text tree options.prefix (solution_view solution))
     × HasShortLines (minimal_text tree options.prefix (solution_view solution))
 
--- The texts of an outcome, each read alone and from empty places: no line of them is too long, the minimal file gives the
--- values back and with any nonempty set of its lines left out others, and the .config gives them back exactly where the
--- rule says.
+-- The texts of an outcome are those of one solution, and each is read again, alone and from empty places: no line of them is
+-- too long, the minimal file gives the values back and with any nonempty set of its lines left out others, and the .config
+-- gives them back exactly where the rule says.
 abbrev pub OutcomesAreReadAgain : Type 0
 OutcomesAreReadAgain =
     (files : Files) (options : Options) (all : List (List ℕ)) (outcome : Outcome) (config : List ℕ) → is_prefix options.prefix ≡ true →
     IsOutcome files options all outcome → outcome.config ≡ Some config →
     (tree : TreeFacts) × (solution : Solution) × RefusesNothing files options all tree solution
-    × HasShortLines config
-    × ((minimal : List ℕ) → outcome.minimal ≡ Some minimal → HasShortLines minimal × MinimalNeedsEach tree options.prefix solution.places (value_of solution)
-    × ((name : List ℕ) →
-    let read = read_alone tree options.prefix name minimal in
-    (read.stopped ≡ None) × IsOneSolution tree read.places (value_of solution)))
-    × (HasPlainNumbers tree (value_of solution) → HasPlainTitles tree options.prefix (solution_view solution) → (name : List ℕ) →
-    let read = read_alone tree options.prefix name config in
-    (read.stopped ≡ None)
-    × (IsOneSolution tree read.places (value_of solution) ↔ ((i : ℕ) → i < symbol_count tree → changes_on_reread tree (value_of solution) i ≡ false)))
+    × (config ≡ config_text tree options.prefix (valuation_view tree (place_at solution.places) (value_of solution)))
+    × HasShortLines config × ConfigGivesBack tree options.prefix solution.places (value_of solution)
+    × ((minimal : List ℕ) → outcome.minimal ≡ Some minimal →
+    (minimal ≡ minimal_text tree options.prefix (valuation_view tree (place_at solution.places) (value_of solution))) × HasShortLines minimal
+    × MinimalGivesBack tree options.prefix solution.places (value_of solution) × MinimalNeedsEach tree options.prefix solution.places (value_of solution))
 
 -- options with the same root file and prefix, and without fragments
 pub record AreAlone (options alone : Options) : Type 0 where

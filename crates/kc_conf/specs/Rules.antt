@@ -1,7 +1,7 @@
 -- For proofs: The rule for make behind the files of a run.
 use Rattle.std.specs.Prelude.{◌≡◌, ℕ, List, if◌then◌else◌}
 use Rattle.kc_conf.specs.declared.options.Options.{Options}
-use Rattle.kc_conf.specs.Faults.{BreaksFile}
+use Rattle.kc_conf.specs.FaultParts.{BreaksFile}
 use Rattle.kc_conf.specs.Outcome.{depfile_text, is_done, text_if}
 use Rattle.kc_conf.specs.OutputStates.{OutputStates, made_if}
 use Rattle.kc_conf.specs.declared.run_fault.RunFault.{RunFault}

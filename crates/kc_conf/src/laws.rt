@@ -1,6 +1,7 @@
 //! What holds of the outcomes of runs, stated as the contracts of functions that do nothing.
 ghost use Rattle.kc_conf.specs.Existence.{AcceptedHaveAnOutcome, AnswerExists, ExactlyOneOutcome, OutcomeExists, SolutionExists};
 ghost use Rattle.kc_conf.specs.Accounted.{NothingIsLost};
+ghost use Rattle.kc_conf.specs.Outcome.{NotesAreLines};
 ghost use Rattle.kc_conf.specs.Reruns.{ConfigIsReadAgain, MinimalIsReadAgain, MinimalIsRunAgain, OutcomesAreReadAgain, TextsHaveShortLines, WrittenAreWhole};
 
 use crate::runs::{one_answer, one_outcome};
@@ -20,11 +21,16 @@ pub fn written_are_whole()
     ensures { WrittenAreWhole }
 {}
 
-/// With `warn_lost`, where files are written: each line of the streams that is warned of stands in the notes with its
-/// warning, and what any other gives a symbol with a prompt is the symbol's value, one of those whose text the written
-/// `.config` is; or the notes tell that it is not; or a later line gives that symbol a value, and the notes tell that it is
-/// set again. (What says nothing is not told: comments, empty lines, and `# NAME is not set` of a string, int or hex. Our
-/// own.)
+/// What an outcome adds to the notes is whole lines, each with its line feed. (Our own.)
+pub fn notes_are_lines()
+    ensures { NotesAreLines }
+{}
+
+/// With `warn_lost`, where files are written: the warning of each line of the streams that is warned of (K7 to K9) is a line
+/// of the notes, and what any other gives a symbol with a prompt is the symbol's value, one of those whose text the written
+/// `.config` is; or it is a line of the notes that it is not (K14); or a later line gives that symbol a value, and it is a
+/// line of the notes that it is set again (K10). (What says nothing is not told: comments, empty lines, and `# NAME is not
+/// set` of a string, int or hex. Our own.)
 pub fn nothing_is_lost()
     ensures { NothingIsLost }
 {
@@ -35,7 +41,7 @@ pub fn nothing_is_lost()
 /// alone and from empty places: the minimal file gives the values back, and with any nonempty set of its lines left out it
 /// does not; the `.config` does exactly where no visible tristate symbol outside a choice stands above both its visibility
 /// and its reverse dependency, under the premises of `config_is_idempotent` of kc_dot. No line of the two is too long to be
-/// read again, under no premise. (Our own.)
+/// read again, whatever the numbers and titles. All this asks that the prefix is one. (Our own.)
 pub fn texts_are_read_again()
     ensures minimal { MinimalIsReadAgain }
     ensures config { ConfigIsReadAgain }

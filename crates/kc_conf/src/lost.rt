@@ -11,7 +11,7 @@ ghost use Rattle.kc_values.specs.Differs.{given_of};
 ghost use Rattle.kc_values.specs.Solution.{symbol_count};
 ghost use Rattle.kc_values.specs.User.{given_in};
 ghost use Rattle.kc_conf.specs.Lost as spec;
-ghost use Rattle.kc_conf.specs.LostView.{given_by};
+ghost use Rattle.kc_conf.specs.LostView.{given_by, is_prompted};
 ghost use Rattle.kc_conf.specs.Outcome.{lost_warnings};
 
 use crate::options::Options;
@@ -143,7 +143,7 @@ fn lost_by(
 
 // Whether a definition has a prompt.
 fn is_prompted(layout: &Layout, id: Option<DefinitionId>) -> bool
-    ensures { result ≡ spec.is_prompted (option_and_then (definition_at layout.now.tables) id) }
+    ensures { result ≡ is_prompted (option_and_then (definition_at layout.now.tables) id) }
 {
     match id {
         Some(id) => match layout.definition(id) {

@@ -19,14 +19,14 @@ pub enum Output {
 
 /// The outputs of a run (our own).
 ///
-/// Outputs over memory tell their bytes; those over files what their maker tells. Each output counts its failures in a
-/// `u64` that stays at its greatest value. No call changes another output, or the name that an output's file is made
+/// Outputs over memory tell their bytes; those over files what their maker tells. Each output counts how often it was begun
+/// and its failures, each in a `u64` that stays at its greatest value. No call changes another output, or the name that an output's file is made
 /// under.
 pub trait Outputs {
     /// What is known of each output.
     ghost states: { Self → OutputStates };
 
-    /// Makes an output empty. On `Fault` it is as it was, and one failure more of it is counted.
+    /// Makes an output empty, which begins it once more. On `Fault` it is as it was, and one failure more of it is counted.
     fn begin(&mut self, output: Output) -> Result<(), Fault>
         ensures ok { OnOk result (states self.new ≡ with_state (states self.old) output (begun (at (states self.old) output))) }
         ensures err { OnErr result (states self.new ≡ with_state (states self.old) output (failed (at (states self.old) output))) };

@@ -2,11 +2,12 @@
 ghost use Rattle.std.specs.Prelude.{◌≡◌, ◌<◌, ◌+◌, true, length, map, None, IfOk, OnOk, IfErr, OnErr};
 ghost use Rattle.std.specs.Option.{option_map};
 ghost use Rattle.kc_user.specs.Places.{ArePlacesOf};
-ghost use Rattle.kc_dot.specs.Feeding.{Feeds, Refuses, FinishesStream, FailsToEnd, stream_start, failures_after};
-ghost use Rattle.kc_conf.specs.Faults.{CountsInputs, StrikesNotes};
+ghost use Rattle.kc_dot.specs.Feeding.{Feeds, Refuses, FinishesStream, FailsToEnd, fed, stream_start, failures_after};
+ghost use Rattle.kc_conf.specs.FaultParts.{StrikesNotes};
+ghost use Rattle.kc_conf.specs.Faults.{CountsInputs};
 ghost use Rattle.kc_conf.specs.Outcome.{names_of};
 ghost use Rattle.kc_conf.specs.Presence.{MayStrike};
-ghost use Rattle.kc_conf.specs.Reads.{stop_of, input_failures_after, notes_failures_after, IsStreamFault, StreamMayFail, TakesPieces, BreaksPieces, ReadsStream, BreaksStream, ReadsStreams, BreaksStreams};
+ghost use Rattle.kc_conf.specs.Reads.{stop_of, input_failures_after, notes_failures_after, IsStreamFault, StreamMayFail, TakesPieces, WaitsForLf, ReadsStream, BreaksStream, ReadsStreams, BreaksStreams};
 
 use crate::input::Input;
 use crate::options::{Options, stream_name};
@@ -38,7 +39,7 @@ fn feed_piece<S: Sink>(
     requires user { ArePlacesOf reader.old.tree user.old }
     requires fresh { reader.old.refusal ≡ None }
     ensures ok { OnOk result (Feeds reader.old.tree reader.old.prefix reader.old.name piece.now reader.old.position reader.new.position user.old user.new (S.taken sink.old) (S.taken sink.new)) }
-    ensures stands { OnOk result (reader.new ≡ record reader.old { position = reader.new.position }) }
+    ensures stands { OnOk result (reader.new ≡ record reader.old { position = fed piece.now reader.old.position }) }
     ensures refused { IfErr result (λ fault. Refuses reader.old.tree reader.old.prefix reader.old.name fault piece.now reader.old.position reader.new.position user.old user.new (S.taken sink.old) (S.taken sink.new)) }
     ensures quiet { OnOk result (S.failures sink.new ≡ S.failures sink.old) }
     ensures counted { IfErr result (λ fault. S.failures sink.new ≡ failures_after fault (S.failures sink.old)) }
@@ -76,9 +77,11 @@ fn read_pieces<I: Input, S: Sink>(
 ) -> Result<Option<u64>, RunFault>
     requires user { ArePlacesOf reader.old.tree user.old }
     requires fresh { reader.old.refusal ≡ None }
-    ensures ok { IfOk result (λ long. TakesPieces reader.old.tree reader.old.prefix reader.old.name long (I.remaining input.old) reader.old.position reader.new.position user.old user.new (S.taken sink.old) (S.taken sink.new)) }
+    requires begins { reader.old.position ≡ stream_start }
+    ensures ok { IfOk result (λ long. TakesPieces reader.old.tree reader.old.prefix reader.old.name long (I.remaining input.old) stream_start reader.new.position user.old user.new (S.taken sink.old) (S.taken sink.new)) }
     ensures stands { IfOk result (λ long. long ≡ None → reader.new ≡ record reader.old { position = reader.new.position }) }
-    ensures err { OnErr result (BreaksPieces reader.old.tree reader.old.prefix reader.old.name (I.remaining input.old) reader.old.position user.old (S.taken sink.old) (S.taken sink.new)) }
+    ensures waits { IfOk result (λ long. long ≡ None → WaitsForLf reader.new.position) }
+    ensures err { IfErr result (λ fault. BreaksStream reader.old.tree reader.old.prefix reader.old.name fault (I.remaining input.old) (I.remaining input.new) user.old (S.taken sink.old) (S.taken sink.new)) }
     ensures fault { IfErr result (IsStreamFault at) }
     ensures quiet { OnOk result (S.failures sink.new ≡ S.failures sink.old) }
     ensures counted { IfErr result (λ fault. S.failures sink.new ≡ notes_failures_after fault (S.failures sink.old)) }
@@ -95,7 +98,10 @@ fn read_pieces<I: Input, S: Sink>(
     'pieces: loop {
         let count = match input.read(&mut buffer) {
             Ok(count) => count,
-            Err(Fault) => return Err(RunFault::Read(at)),
+            Err(Fault) => {
+                let _waiting = reader.pending();
+                return Err(RunFault::Read(at));
+            }
         };
         if count == 0 {
             return Ok(None);
@@ -121,7 +127,7 @@ fn read_stream<I: Input, S: Sink>(
     requires fresh { reader.old.refusal ≡ None }
     requires begins { reader.old.position ≡ stream_start }
     ensures ok { IfOk result (λ long. ReadsStream reader.old.tree reader.old.prefix reader.old.name long (I.remaining input.old) user.old user.new (S.taken sink.old) (S.taken sink.new)) }
-    ensures err { OnErr result (BreaksStream reader.old.tree reader.old.prefix reader.old.name (I.remaining input.old) user.old (S.taken sink.old) (S.taken sink.new)) }
+    ensures err { IfErr result (λ fault. BreaksStream reader.old.tree reader.old.prefix reader.old.name fault (I.remaining input.old) (I.remaining input.new) user.old (S.taken sink.old) (S.taken sink.new)) }
     ensures fault { IfErr result (IsStreamFault at) }
     ensures quiet { OnOk result (S.failures sink.new ≡ S.failures sink.old) }
     ensures counted { IfErr result (λ fault. S.failures sink.new ≡ notes_failures_after fault (S.failures sink.old)) }
@@ -161,7 +167,8 @@ pub fn read_streams<'a, I: Input, S: Sink>(
     requires user { ArePlacesOf tree.now user.old }
     ensures ok { IfOk result (λ long. ReadsStreams tree.now options.now.prefix (names_of options.now) (option_map stop_of long) (map I.remaining inputs.old)
         (map I.is_there inputs.old) user.old user.new (S.taken sink.old) (S.taken sink.new)) }
-    ensures err { OnErr result (BreaksStreams tree.now options.now.prefix (names_of options.now) (map I.remaining inputs.old) user.old (S.taken sink.old) (S.taken sink.new)) }
+    ensures err { IfErr result (λ fault. BreaksStreams tree.now options.now.prefix (names_of options.now) fault (map I.remaining inputs.old) (map I.remaining inputs.new)
+        (map I.is_there inputs.old) user.old (S.taken sink.old) (S.taken sink.new)) }
     ensures quiet { OnOk result (S.failures sink.new ≡ S.failures sink.old) }
     ensures fault { IfErr result StrikesNotes }
     ensures counted { IfErr result (λ fault. S.failures sink.new ≡ notes_failures_after fault (S.failures sink.old)) }

@@ -12,7 +12,8 @@ ghost use Rattle.kc_solve.specs.Graphs.{IsGraphOf};
 ghost use Rattle.kc_solve.specs.Solved.{Solution};
 ghost use Rattle.kc_tree.specs.Layouts.{IsLayoutOf};
 ghost use Rattle.kc_conf.specs.ErrorLines.{refusal_line, strict_line, too_long_line};
-ghost use Rattle.kc_conf.specs.Faults.{Completes, BreaksRun, IsNoInputFault, CountsInputs, Faults};
+ghost use Rattle.kc_conf.specs.FaultParts.{IsNoInputFault};
+ghost use Rattle.kc_conf.specs.Faults.{Completes, BreaksRun, CountsInputs, Faults};
 ghost use Rattle.kc_conf.specs.InputBytes.{AreAllToCome};
 ghost use Rattle.kc_conf.specs.AcceptedTree.{HoldsTree};
 ghost use Rattle.kc_conf.specs.Outcome.{Outcome, has_text, lines_text, outcome_of, refused, strictly, root_file, read_of, IsAcceptedTree, IsRefusedTree, IsSolutionFor, IsOutcome, IsOutcomeOfReading, IsOutcomeOfTree, OneAnswer, OneOutcome};
@@ -22,7 +23,8 @@ ghost use Rattle.kc_conf.specs.Rules.{BreaksInRule, EndsWithRule};
 ghost use Rattle.kc_conf.specs.Stops.{IsOutOfMemory};
 ghost use Rattle.kc_conf.specs.Leaves.{Keeps, Leaves};
 ghost use Rattle.kc_conf.specs.TreeFiles.{AreAtHand, files_in};
-ghost use Rattle.kc_conf.specs.Reads.{AreRead, behind_warnings, without_notes, stop_of, strictly_after};
+ghost use Rattle.kc_conf.specs.ReadFaults.{StopsReading};
+ghost use Rattle.kc_conf.specs.Reads.{AreRead, StopsStreams, StopsTree, behind_warnings, without_warnings, stop_of, strictly_after};
 ghost use Rattle.kc_conf.specs.declared.run_fault.RunFault.{RunFault};
 
 use crate::input::Input;
@@ -107,8 +109,8 @@ fn make_or_refuse<O: Outputs>(
     outputs: &mut O,
 ) -> Result<Status, RunFault>
     requires { solved.now.tree ≡ tree.now }
-    ensures ok { IfOk result (λ status. Completes (strictly_after options.now.strict is_warned (without_notes (outcome_of options.now tree.now solved.now))) status (O.states outputs.old) (O.states outputs.new)) }
-    ensures err { IfErr result (λ fault. BreaksRun (strictly_after options.now.strict is_warned (without_notes (outcome_of options.now tree.now solved.now))) fault (O.states outputs.old) (O.states outputs.new)) }
+    ensures ok { IfOk result (λ status. Completes (strictly_after options.now.strict is_warned (without_warnings (outcome_of options.now tree.now solved.now))) status (O.states outputs.old) (O.states outputs.new)) }
+    ensures err { IfErr result (λ fault. BreaksRun (strictly_after options.now.strict is_warned (without_warnings (outcome_of options.now tree.now solved.now))) fault (O.states outputs.old) (O.states outputs.new)) }
     ensures fault { IfErr result IsNoInputFault }
 {
     if options.strict && is_warned {
@@ -204,7 +206,8 @@ fn run_read<I: Input, O: Outputs>(
         × Completes (strictly_after options.now.strict is_warned part) status (O.states outputs.old) (O.states outputs.new))) }
     ensures err { IfErr result (λ fault. (all : List (List ℕ)) × AreAllToCome (map I.remaining inputs.old) all
         × ((part : Outcome) → IsOutcomeOfReading options.now tree.now (read_of options.now tree.now all) part
-        → BreaksRun (strictly_after options.now.strict is_warned part) fault (O.states outputs.old) (O.states outputs.new))) }
+        → BreaksRun (strictly_after options.now.strict is_warned part) fault (O.states outputs.old) (O.states outputs.new))
+        × StopsStreams options.now tree.now (map I.remaining inputs.old) (map I.remaining inputs.new) (map I.is_there inputs.old) all fault (O.states outputs.old) (O.states outputs.new)) }
     ensures may { IfErr result (MayStrike (map I.may_fail inputs.old)) }
     ensures quiet_inputs { OnOk result (map I.failures inputs.new ≡ map I.failures inputs.old) }
     ensures counted_inputs { IfErr result (λ fault. CountsInputs fault (map I.failures inputs.old) (map I.failures inputs.new)) }
@@ -243,7 +246,8 @@ fn run_tree<I: Input, O: Outputs>(
         × Completes (strictly options.now.strict part) status (O.states outputs.old) (O.states outputs.new))) }
     ensures err { IfErr result (λ fault. (all : List (List ℕ)) × AreAllToCome (map I.remaining inputs.old) all
         × ((part : Outcome) → IsOutcomeOfTree options.now tree.now all part
-        → BreaksRun (strictly options.now.strict part) fault (O.states outputs.old) (O.states outputs.new))) }
+        → BreaksRun (strictly options.now.strict part) fault (O.states outputs.old) (O.states outputs.new))
+        × StopsTree options.now tree.now (map I.remaining inputs.old) (map I.remaining inputs.new) (map I.is_there inputs.old) all fault (O.states outputs.old) (O.states outputs.new)) }
     ensures may { IfErr result (MayStrike (map I.may_fail inputs.old)) }
     ensures quiet_inputs { OnOk result (map I.failures inputs.new ≡ map I.failures inputs.old) }
     ensures counted_inputs { IfErr result (λ fault. CountsInputs fault (map I.failures inputs.old) (map I.failures inputs.new)) }
@@ -306,7 +310,8 @@ fn run_accepted<I: Input, O: Outputs>(
     ensures err { IfErr result (λ fault. (tree_files : Files) → IsAcceptedTree tree_files (root_file options.now) tree.now → AreAtHand options.now.depfile tree_files files.entry
         → (all : List (List ℕ)) × AreAllToCome (map I.remaining inputs.old) all
         × ((outcome : Outcome) → IsOutcome tree_files options.now all outcome
-        → BreaksRun outcome fault (O.states outputs.old) (O.states outputs.new))) }
+        → BreaksRun outcome fault (O.states outputs.old) (O.states outputs.new))
+        × StopsReading tree_files options.now (map I.remaining inputs.old) (map I.remaining inputs.new) (map I.is_there inputs.old) all fault (O.states outputs.old) (O.states outputs.new)) }
     ensures may { IfErr result (MayStrike (map I.may_fail inputs.old)) }
     ensures quiet_inputs { OnOk result (map I.failures inputs.new ≡ map I.failures inputs.old) }
     ensures counted_inputs { IfErr result (λ fault. CountsInputs fault (map I.failures inputs.old) (map I.failures inputs.new)) }
@@ -370,7 +375,9 @@ fn run_through<I: Input, O: Outputs>(
         × Completes outcome status (O.states outputs.old) (O.states outputs.new))) }
     ensures err { IfErr result (λ fault. (all : List (List ℕ)) × AreAllToCome (map I.remaining inputs.old) all
         × ((outcome : Outcome) → IsOutcome (files_in files.entry) options.now all outcome
-        → BreaksRun outcome fault (O.states outputs.old) (O.states outputs.new))) }
+        → BreaksRun outcome fault (O.states outputs.old) (O.states outputs.new))
+        × StopsReading (files_in files.entry) options.now (map I.remaining inputs.old) (map I.remaining inputs.new) (map I.is_there inputs.old) all fault
+        (O.states outputs.old) (O.states outputs.new)) }
     ensures may { IfErr result (MayStrike (map I.may_fail inputs.old)) }
     ensures quiet_inputs { OnOk result (map I.failures inputs.new ≡ map I.failures inputs.old) }
     ensures counted_inputs { IfErr result (λ fault. CountsInputs fault (map I.failures inputs.old) (map I.failures inputs.new)) }
@@ -412,7 +419,7 @@ fn run_over<I: Input, O: Outputs>(
     kept: &mut Option<AcceptedTree>,
 ) -> Status
     requires { length inputs.old ≡ length options.now.fragments.items + 1 }
-    ensures leaves { Leaves (files_in files.entry) options.now (map I.remaining inputs.old) (map I.is_there inputs.old) (map I.may_fail inputs.old)
+    ensures leaves { Leaves (files_in files.entry) options.now (map I.remaining inputs.old) (map I.remaining inputs.new) (map I.is_there inputs.old) (map I.may_fail inputs.old)
         (map I.failures inputs.old) (map I.failures inputs.new) result (O.states outputs.old) (O.states outputs.new) }
     ensures refused_inputs { (r : Refused) → IsRefusedTree (files_in files.entry) (root_file options.now) r → inputs.new ≡ inputs.old }
     ensures keeps { Keeps (files_in files.entry) options.now result kept.old kept.new }
@@ -435,9 +442,11 @@ fn run_over<I: Input, O: Outputs>(
 /// the one solution of the tree's equations. A refused tree (E1 to E16) reads no byte and begins nothing, nor does a line
 /// of more than 65,535 bytes (E17) begin anything; nor, where `options.strict` refuses them, does any warning (E21): those
 /// of the streams are then told once all streams are read. `Faulted` means that an input failed (E18), an output failed (E19) or
-/// no memory was to be had (E20): everything before is whole, the output that was struck is as it was handed in or holds a
-/// beginning of its text, and one error line follows on the notes unless the notes are what failed. `Usage` is never
-/// answered.
+/// no memory was to be had (E20). Where that was before the files, the notes hold whole lines of the warnings, or any
+/// beginning of them where they failed themselves; behind an input that failed they are exactly the tree's and those of the
+/// lines that were read. Where it was in a file, the notes and the files before it are whole, and it is as it was handed in or
+/// holds a beginning of its text. Unless the notes failed, one error line follows on them, or a beginning of it where they fail
+/// then. `Usage` is never answered.
 pub fn run<I: Input, O: Outputs>(
     alloc: Global,
     files: &FileMap,
@@ -453,12 +462,14 @@ pub fn run<I: Input, O: Outputs>(
         × Completes outcome result (O.states outputs.old) (O.states outputs.new)) }
     ensures quiet_inputs { result ≢ Status.Faulted → map I.failures inputs.new ≡ map I.failures inputs.old }
     // After a fault the count of what failed rose by one, and of the outcome all before it is whole. No other count
-    // rose but the notes', where they fail while the error line is written. An input that failed is one that may.
+    // rose but the notes', where they fail while the error line is written. An input that failed is one that may, its turn
+    // had come, and what was read until then is told.
     ensures fault { result ≡ Status.Faulted → (fault : RunFault) × (all : List (List ℕ)) × AreAllToCome (map I.remaining inputs.old) all
         × CountsInputs fault (map I.failures inputs.old) (map I.failures inputs.new)
         × MayStrike (map I.may_fail inputs.old) fault
         × ((outcome : Outcome) × IsOutcome (bytes_in files.now) options.now all outcome
-        × Faults options.now outcome fault (O.states outputs.old) (O.states outputs.new)) }
+        × Faults (bytes_in files.now) options.now (map I.remaining inputs.old) (map I.remaining inputs.new) (map I.is_there inputs.old) all outcome fault
+        (O.states outputs.old) (O.states outputs.new)) }
     // A refused tree leaves the inputs untouched, and begins nothing.
     ensures refused_inputs { (r : Refused) → IsRefusedTree (bytes_in files.now) (root_file options.now) r → inputs.new ≡ inputs.old }
     ensures refused_outputs { (r : Refused) → IsRefusedTree (bytes_in files.now) (root_file options.now) r → ChangesOnly Output.Notes (O.states outputs.old) (O.states outputs.new) }
@@ -490,7 +501,7 @@ pub fn run_keeping<I: Input, O: Outputs>(
 ) -> Status
     requires { length inputs.old ≡ length options.now.fragments.items + 1 }
     // The outcome whole, or a part of it and a fault.
-    ensures leaves { Leaves (bytes_in files) options.now (map I.remaining inputs.old) (map I.is_there inputs.old) (map I.may_fail inputs.old)
+    ensures leaves { Leaves (bytes_in files) options.now (map I.remaining inputs.old) (map I.remaining inputs.new) (map I.is_there inputs.old) (map I.may_fail inputs.old)
         (map I.failures inputs.old) (map I.failures inputs.new) result (O.states outputs.old) (O.states outputs.new) }
     // A refused tree leaves the inputs untouched.
     ensures refused_inputs { (r : Refused) → IsRefusedTree (bytes_in files) (root_file options.now) r → inputs.new ≡ inputs.old }

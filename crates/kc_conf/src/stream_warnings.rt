@@ -1,8 +1,9 @@
 //! The warnings of the streams: told as they come, or held until all streams are read.
-ghost use Rattle.std.specs.Prelude.{◌≡◌, ◌+◌, [], false, length, map, Some, IfOk, OnOk, IfErr, OnErr, ⊤};
+ghost use Rattle.std.specs.Prelude.{◌≡◌, ◌+◌, [], true, false, length, map, Some, IfOk, OnOk, IfErr, OnErr, ⊤};
 ghost use Rattle.std.specs.Option.{option_map};
 ghost use Rattle.kc_user.specs.Places.{ArePlacesOf};
-ghost use Rattle.kc_conf.specs.Faults.{CountsInputs, StrikesNotes};
+ghost use Rattle.kc_conf.specs.FaultParts.{StrikesNotes};
+ghost use Rattle.kc_conf.specs.Faults.{CountsInputs};
 ghost use Rattle.kc_conf.specs.Outcome.{has_text, names_of};
 ghost use Rattle.kc_conf.specs.OutputStates.{ChangesOnly};
 ghost use Rattle.kc_conf.specs.Presence.{MayStrike};
@@ -90,7 +91,8 @@ fn read_to_notes<'a, I: Input, O: Outputs>(
     requires user { ArePlacesOf tree.now user.old }
     ensures ok { IfOk result (λ long. ReadsStreams tree.now options.now.prefix (names_of options.now) (option_map stop_of long) (map I.remaining inputs.old)
         (map I.is_there inputs.old) user.old user.new (O.states outputs.old).notes.text (O.states outputs.new).notes.text) }
-    ensures err { OnErr result (BreaksStreams tree.now options.now.prefix (names_of options.now) (map I.remaining inputs.old) user.old (O.states outputs.old).notes.text (O.states outputs.new).notes.text) }
+    ensures err { IfErr result (λ fault. BreaksStreams tree.now options.now.prefix (names_of options.now) fault (map I.remaining inputs.old) (map I.remaining inputs.new)
+        (map I.is_there inputs.old) user.old (O.states outputs.old).notes.text (O.states outputs.new).notes.text) }
     ensures quiet { OnOk result ((O.states outputs.new).notes.failures ≡ (O.states outputs.old).notes.failures) }
     ensures fault { IfErr result StrikesNotes }
     ensures counted { IfErr result (λ fault. (O.states outputs.new).notes.failures ≡ notes_failures_after fault (O.states outputs.old).notes.failures) }
@@ -118,7 +120,8 @@ fn tell<'a, I: Input, O: Outputs>(
     requires user { ArePlacesOf tree.now user.old }
     ensures ok { IfOk result (λ s. TellsStreams tree.now options.now.prefix options.now.strict (names_of options.now) (option_map stop_of s.long) s.is_warned
         (map I.remaining inputs.old) (map I.is_there inputs.old) user.old user.new (O.states outputs.old) (O.states outputs.new)) }
-    ensures err { IfErr result (λ fault. BreaksTelling tree.now options.now.prefix (names_of options.now) fault (map I.remaining inputs.old) user.old (O.states outputs.old) (O.states outputs.new)) }
+    ensures err { IfErr result (λ fault. BreaksTelling tree.now options.now.prefix options.now.strict (names_of options.now) fault (map I.remaining inputs.old) (map I.remaining inputs.new)
+        (map I.is_there inputs.old) user.old (O.states outputs.old) (O.states outputs.new)) }
     ensures fault { IfErr result StrikesNotes }
     ensures may { IfErr result (MayStrike (map I.may_fail inputs.old)) }
     ensures quiet_inputs { OnOk result (map I.failures inputs.new ≡ map I.failures inputs.old) }
@@ -143,11 +146,13 @@ fn hold<'a, I: Input, O: Outputs>(
     user: &mut User,
     outputs: &mut O,
 ) -> Result<StreamsRead<'a>, RunFault>
+    requires strict { options.now.strict ≡ true }
     requires inputs { length inputs.old ≡ length options.now.fragments.items + 1 }
     requires user { ArePlacesOf tree.now user.old }
     ensures ok { IfOk result (λ s. TellsStreams tree.now options.now.prefix options.now.strict (names_of options.now) (option_map stop_of s.long) s.is_warned
         (map I.remaining inputs.old) (map I.is_there inputs.old) user.old user.new (O.states outputs.old) (O.states outputs.new)) }
-    ensures err { IfErr result (λ fault. BreaksTelling tree.now options.now.prefix (names_of options.now) fault (map I.remaining inputs.old) user.old (O.states outputs.old) (O.states outputs.new)) }
+    ensures err { IfErr result (λ fault. BreaksTelling tree.now options.now.prefix options.now.strict (names_of options.now) fault (map I.remaining inputs.old) (map I.remaining inputs.new)
+        (map I.is_there inputs.old) user.old (O.states outputs.old) (O.states outputs.new)) }
     ensures fault { IfErr result StrikesNotes }
     ensures may { IfErr result (MayStrike (map I.may_fail inputs.old)) }
     ensures quiet_inputs { OnOk result (map I.failures inputs.new ≡ map I.failures inputs.old) }
@@ -157,8 +162,9 @@ fn hold<'a, I: Input, O: Outputs>(
     let mut held = MemorySink::new(alloc);
     let long = match read_streams(alloc, options, tree, inputs, user, &mut held) {
         Ok(long) => long,
+        Err(RunFault::Read(input)) => return Err(RunFault::Read(input)),
         Err(RunFault::Write(_)) => return Err(RunFault::Memory),
-        Err(fault) => return Err(fault),
+        Err(RunFault::Memory) => return Err(RunFault::Memory),
     };
     let is_warned = is_some_text(held.text.as_slice());
     match note_text(outputs, held.text.as_slice()) {
@@ -181,7 +187,8 @@ pub fn tell_streams<'a, I: Input, O: Outputs>(
     requires user { ArePlacesOf tree.now user.old }
     ensures ok { IfOk result (λ s. TellsStreams tree.now options.now.prefix options.now.strict (names_of options.now) (option_map stop_of s.long) s.is_warned
         (map I.remaining inputs.old) (map I.is_there inputs.old) user.old user.new (O.states outputs.old) (O.states outputs.new)) }
-    ensures err { IfErr result (λ fault. BreaksTelling tree.now options.now.prefix (names_of options.now) fault (map I.remaining inputs.old) user.old (O.states outputs.old) (O.states outputs.new)) }
+    ensures err { IfErr result (λ fault. BreaksTelling tree.now options.now.prefix options.now.strict (names_of options.now) fault (map I.remaining inputs.old) (map I.remaining inputs.new)
+        (map I.is_there inputs.old) user.old (O.states outputs.old) (O.states outputs.new)) }
     ensures fault { IfErr result StrikesNotes }
     ensures may { IfErr result (MayStrike (map I.may_fail inputs.old)) }
     ensures quiet_inputs { OnOk result (map I.failures inputs.new ≡ map I.failures inputs.old) }

@@ -4,7 +4,8 @@ ghost use Rattle.kc_dot.specs.SolvedView.{solution_view};
 ghost use Rattle.kc_dot.specs.Texts.{config_text, header_text, minimal_text};
 ghost use Rattle.kc_make.specs.Opened.{AreOpened};
 ghost use Rattle.kc_read.specs.Files.{bytes_in};
-ghost use Rattle.kc_conf.specs.Faults.{files_made, BreaksFile, BreaksFiles, IsNoInputFault, after_fault, write_fault};
+ghost use Rattle.kc_conf.specs.FaultParts.{BreaksFile, BreaksFiles, IsNoInputFault, write_fault};
+ghost use Rattle.kc_conf.specs.Faults.{files_made, after_fault};
 ghost use Rattle.kc_conf.specs.Outcome.{depfile_text, outcome_of, root_file, text_if};
 ghost use Rattle.kc_conf.specs.OutputStates.{at, ended, made_if, with_state};
 

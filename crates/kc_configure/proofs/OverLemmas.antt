@@ -12,6 +12,9 @@ use Rattle.kc_conf.specs.Outcome.{IsAcceptedTree, IsLenientOutcome, IsOutcome, I
 use Rattle.kc_conf.specs.OutputStates.{OutputStates}
 use Rattle.kc_conf.specs.declared.options.Status.{Status}
 use Rattle.kc_conf.specs.Leaves.{Keeps, Leaves}
+use Rattle.kc_conf.specs.ReadFaults.{StopsReading}
+use Rattle.kc_conf.specs.declared.run_fault.RunFault.{RunFault}
+use Rattle.kc_conf.specs.declared.run_fault.RunFault.TheVariants.{Memory, Read, Write}
 use Rattle.kc_conf.specs.declared.runs.AcceptedTree.{AcceptedTree}
 
 pub flipped : (root : List ℕ) (files others : Files) → ExpandsAlike root files others → ExpandsAlike root others files
@@ -44,20 +47,39 @@ pub outcome_over : (files others : Files) (options : Options) → ExpandsAlike (
 outcome_over files others options alike opens all outcome (lenient, opened, is, are, same) =
     (lenient, opened, lenient_over others files options (flipped (root_file options) files others alike) all lenient is, opened_over (root_file options) files others opens opened are, same)
 
+-- what was read where an input failed
+stops_over : (files loaded : Files) (options : Options) → ExpandsAlike (root_file options) files loaded → (given left : List (Option (List ℕ))) (there : List Bool) (all : List (List ℕ))
+    (fault : RunFault) (old new : OutputStates) → StopsReading loaded options given left there all fault old new → StopsReading files options given left there all fault old new
+stops_over files loaded options alike given left there all (Read input) old new (tree, warned, accepted, read, told) =
+    (tree, warned, accepted_over (root_file options) loaded files (flipped (root_file options) files loaded alike) tree accepted, read, told)
+stops_over files loaded options alike given left there all Memory old new read = tt
+stops_over files loaded options alike given left there all (Write output) old new read = tt
+
 -- what a run over the loaded files leaves, said of the folder's
-pub leaves_over : (files loaded : Files) (options : Options) (given : List (Option (List ℕ))) (there may_fail : List Bool) (counts counts_after : List ℕ) (status : Status)
+pub leaves_over : (files loaded : Files) (options : Options) (given left : List (Option (List ℕ))) (there may_fail : List Bool) (counts counts_after : List ℕ) (status : Status)
     (old new : OutputStates) → ExpandsAlike (root_file options) files loaded → OpensAlike (root_file options) files loaded →
-    Leaves loaded options given there may_fail counts counts_after status old new → Leaves files options given there may_fail counts counts_after status old new
-leaves_over files loaded options given there may_fail counts counts_after status old new alike opens left = record {
-  all = left.all;
-  to_come = left.to_come;
-  outcome = left.outcome;
-  is_outcome = outcome_over files loaded options alike opens left.all left.outcome left.is_outcome;
+    Leaves loaded options given left there may_fail counts counts_after status old new → Leaves files options given left there may_fail counts counts_after status old new
+leaves_over files loaded options given left there may_fail counts counts_after status old new alike opens leaves = record {
+  all = leaves.all;
+  to_come = leaves.to_come;
+  outcome = leaves.outcome;
+  is_outcome = outcome_over files loaded options alike opens leaves.all leaves.outcome leaves.is_outcome;
   finished = λ un.
-      let x = left.finished un in
+      let x = leaves.finished un in
       (x.0, x.1, λ tree h. x.2 tree (accepted_over (root_file options) files loaded alike tree h));
-  broken = left.broken;
-  refused = λ r h. left.refused r (refused_over (root_file options) files loaded alike r h);
+  broken = λ faulted.
+      let (fault, counted, strikes, faults) = leaves.broken faulted in (
+        fault,
+        counted,
+        strikes,
+        record {
+          mid = faults.mid;
+          broke = faults.broke;
+          read = stops_over files loaded options alike given left there leaves.all fault old faults.mid faults.read;
+          reported = faults.reported;
+        },
+      );
+  refused = λ r h. leaves.refused r (refused_over (root_file options) files loaded alike r h);
 }
 
 -- and what it keeps

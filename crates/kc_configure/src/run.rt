@@ -39,7 +39,8 @@ pub fn configure<F: Folder, I: Input, O: Outputs>(
     // The run leaves the outcome of the folder's files, or a part of it and a fault. A refused tree leaves the inputs
     // untouched.
     ensures ran { IfOk result (λ status. (tree_files : Files) × AreFilesOf (F.files folder.old) (string_bytes options.now.root) tree_files
-        × Leaves tree_files options.now (map I.remaining inputs.old) (map I.is_there inputs.old) (map I.may_fail inputs.old) (map I.failures inputs.old) (map I.failures inputs.new) status (O.states outputs.old) (O.states outputs.new)
+        × Leaves tree_files options.now (map I.remaining inputs.old) (map I.remaining inputs.new) (map I.is_there inputs.old) (map I.may_fail inputs.old)
+        (map I.failures inputs.old) (map I.failures inputs.new) status (O.states outputs.old) (O.states outputs.new)
         × ((r : Refused) → IsRefusedTree tree_files (root_file options.now) r → inputs.new ≡ inputs.old)
         × Keeps tree_files options.now status kept.old kept.new) }
     // A file that could not be read is one whose turn it was, and at whose path the folder may fail.

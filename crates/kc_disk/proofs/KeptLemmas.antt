@@ -1,11 +1,12 @@
 -- What the outputs keep, step by step.
-use Rattle.std.proofs.Common.{◌≡◌, ◌≢◌, refl, ℕ, Bool, true, false, ◌||◌, cond, List, [], ◌∷◌, ◌++◌, ◌∙◌, sym, ap, Option, None, Some, option_map}
+use Rattle.std.proofs.Common.{◌≡◌, ◌≢◌, refl, ℕ, Bool, true, false, not, ne_eqb, arith, ◌||◌, cond, List, [], ◌∷◌, ◌++◌, ◌∙◌, sym, ap, Option, None, Some, option_map}
+use Rattle.kc_text.specs.Limits.{one_more}
 use Rattle.kc_conf.specs.Faults.{name_of}
 use Rattle.kc_conf.specs.declared.options.Options.{Options}
 use Rattle.kc_conf.specs.declared.outputs.Output.{Output}
 use Rattle.kc_conf.specs.declared.outputs.Output.TheVariants.{Config, Header, Minimal, Depfile, Notes}
 use Rattle.kc_disk.specs.Flushed.{Flushes}
-use Rattle.kc_disk.specs.MakerOutputs.{AreConsistent, IsConsistent, begun_from, begun_of, is_current, record_at, record_begun, record_ended, record_failed, with_record}
+use Rattle.kc_disk.specs.MakerOutputs.{AreConsistent, IsConsistent, begun_from, begun_of, is_current, record_at, record_begun, record_ended, record_failed, was_begun, with_record}
 use Rattle.kc_disk.specs.Makers.{IsOpen, MadeFile, MakerState, Tells, appended, closed, no_file, opened}
 use Rattle.kc_disk.specs.declared.records.OutputRecord.{OutputRecord}
 use Rattle.kc_disk.specs.declared.records.OutputRecords.{OutputRecords}
@@ -86,27 +87,31 @@ neither : (a b : Bool) → (a || b) ≡ false → (a ≡ false) × (b ≡ false)
 neither true b e = absurd (let clash : true ≡ false = e in cc)
 neither false b e = (refl, e)
 
+-- what was begun once more was begun
+begun-more : (r : OutputRecord) → was_begun (record_begun r) ≡ true
+begun-more r = ap not (ne_eqb (one_more r.begins) 0 (λ none. absurd (omega (arith, none))))
+
 -- it stands behind those that were begun before
 begun-last : (w : Output) (r : OutputRecords) → w ≢ Notes → begun_from r w ≡ false → begun_of r ++ w ∷ [] ≡ begun_of (with_record r w (record_begun (record_at r w)))
 begun-last Config r file none =
-    let d = neither (r.config.is_begun || r.header.is_begun || r.minimal.is_begun) r.depfile.is_begun none in
-    let c = neither (r.config.is_begun || r.header.is_begun) r.minimal.is_begun d.0 in
-    let b = neither r.config.is_begun r.header.is_begun c.0 in
-    rw (b.0, b.1, c.1, d.1) refl
+    let d = neither ((was_begun r.config) || (was_begun r.header) || (was_begun r.minimal)) (was_begun r.depfile) none in
+    let c = neither ((was_begun r.config) || (was_begun r.header)) (was_begun r.minimal) d.0 in
+    let b = neither (was_begun r.config) (was_begun r.header) c.0 in
+    rw (b.0, b.1, c.1, d.1, begun-more r.config) refl
 begun-last Header r file none =
-    let d = neither (r.header.is_begun || r.minimal.is_begun) r.depfile.is_begun none in
-    let c = neither r.header.is_begun r.minimal.is_begun d.0 in
-    rw (c.0, c.1, d.1) (behind r.config.is_begun Config [] (Header ∷ []))
+    let d = neither ((was_begun r.header) || (was_begun r.minimal)) (was_begun r.depfile) none in
+    let c = neither (was_begun r.header) (was_begun r.minimal) d.0 in
+    rw (c.0, c.1, d.1, begun-more r.header) (behind (was_begun r.config) Config [] (Header ∷ []))
 begun-last Minimal r file none =
-    let d = neither r.minimal.is_begun r.depfile.is_begun none in
-    rw (d.0, d.1) (behind r.config.is_begun Config _ _ ∙ ap (with_if r.config.is_begun Config) (behind r.header.is_begun Header [] (Minimal ∷ [])))
+    let d = neither (was_begun r.minimal) (was_begun r.depfile) none in
+    rw (d.0, d.1, begun-more r.minimal) (behind (was_begun r.config) Config _ _ ∙ ap (with_if (was_begun r.config) Config) (behind (was_begun r.header) Header [] (Minimal ∷ [])))
 begun-last Depfile r file none =
-    rw none (behind r.config.is_begun Config _ _ ∙ ap (with_if r.config.is_begun Config)
-    (behind r.header.is_begun Header _ _ ∙ ap (with_if r.header.is_begun Header) (behind r.minimal.is_begun Minimal [] (Depfile ∷ []))))
+    rw (none, begun-more r.depfile) (behind (was_begun r.config) Config _ _ ∙ ap (with_if (was_begun r.config) Config)
+    (behind (was_begun r.header) Header _ _ ∙ ap (with_if (was_begun r.header) Header) (behind (was_begun r.minimal) Minimal [] (Depfile ∷ []))))
 begun-last Notes r file none = absurd (file refl)
 
 new-file : (name : List ℕ) (r : OutputRecord) → IsConsistent name (record_begun r) (record { name = name; bytes = []; is_open = true })
-new-file name r = ((λ _. refl), (λ e. let clash : false ≡ true = e in absurd (cc)), λ e. let clash : true ≡ false = e in absurd (cc))
+new-file name r = ((λ _. refl), (λ e. let clash : false ≡ true = e in absurd (cc)), λ e. let clash : true ≡ false = sym (begun-more r) ∙ e in absurd (cc))
 
 kept-new : (options : Options) (w : Output) (r : OutputRecords) (t : MakerState) → w ≢ Notes → begun_from r w ≡ false → AreConsistent options None r t →
     AreConsistent options (Some w) (with_record r w (record_begun (record_at r w))) (opened w (name_of options w) t)

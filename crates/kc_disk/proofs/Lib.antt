@@ -1,3 +1,4 @@
+pub mod AnsweringLemmas
 pub mod DraftLemmas
 pub mod KeptLemmas
 pub mod LineLemmas
@@ -10,3 +11,4 @@ pub mod ReportLemmas
 pub mod MoverLemmas
 pub mod StreamLemmas
 pub mod StateLemmas
+pub mod ToldLemmas

@@ -3,7 +3,7 @@ use Rattle.std.proofs.Common.{◌≡◌, refl, ℕ, ◌+◌, ◌-◌, ◌<◌, L
 use Rattle.std.proofs.Math.Seq.{take-add}
 use Rattle.std.proofs.lemmas.List.{drop_all, take_all, take_rest}
 use Rattle.kc_disk.specs.Makers.{Tells}
-use Rattle.kc_disk.specs.Movers.{Held, IsClear, MoverState, NamedText, changed, cleared, finished, grown_by, has_name, moved, put, put_all, put_first, replaced, replaced_front, started}
+use Rattle.kc_disk.specs.Movers.{Held, IsClear, MakingMayFail, MoverFailing, MoverState, MovingMayFail, NamedText, changed, cleared, finished, grown_by, has_name, moved, put, put_all, put_first, replaced, replaced_front, started}
 use Rattle.kc_disk.specs.Texts.{added, moved_times, staged, texts_of}
 use Rattle.kc_disk.specs.declared.replace_files.NamedText.{NamedText as CodeText}
 use Rattle.std.proofs.lemmas.Slice.Eq.{bytes_eq-Decides}
@@ -33,6 +33,42 @@ pub made : (name bytes : List ℕ) (state : Option MoverState) →
 made name bytes None = refl
 made name bytes (Some s) = refl
 
+-- ---- where making a file fails
+
+-- the file that is being written is for this name
+abbrev IsFor : List ℕ → MoverState → Type 0
+IsFor name s = option_map (λ t. t.name) s.begun ≡ Some name
+
+same-name-grown : (bytes : List ℕ) (begun : Option NamedText) → option_map (λ t. t.name) (option_map (with_more bytes) begun) ≡ option_map (λ t. t.name) begun
+same-name-grown bytes None = refl
+same-name-grown bytes (Some t) = refl
+
+for-grown : (bytes name : List ℕ) (first : Option MoverState) → Tells first (IsFor name) → Tells (option_map (grown_by bytes) first) (IsFor name)
+for-grown bytes name None h = λ s e. absurd (cc)
+for-grown bytes name (Some t) h = λ s e.
+    let same : grown_by bytes t ≡ s = cc in
+    rw (← same) (same-name-grown bytes t.begun ∙ h t refl)
+
+for-started : (name : List ℕ) (first : Option MoverState) → Tells (option_map (started name) first) (IsFor name)
+for-started name None = λ s e. absurd (cc)
+for-started name (Some t) = λ s e.
+    let same : started name t ≡ s = cc in
+    rw (← same) refl
+
+-- what failed after some bytes may fail before
+pub making-grown : (bytes : List ℕ) (failing was : MoverFailing) (first last : Option MoverState) → last ≡ option_map (grown_by bytes) first → failing ≡ was →
+    MakingMayFail failing last → MakingMayFail was first
+making-grown bytes failing was first last grown stays fails = λ name is_for.
+    let still : Tells last (IsFor name) = rw grown (for-grown bytes name first is_for) in
+    ap (λ (f : MoverFailing). f.making name) (sym stays) ∙ fails name still
+
+-- what failed since a file was started may fail at its name
+pub making-started : (name : List ℕ) (failing was : MoverFailing) (first last : Option MoverState) → last ≡ option_map (started name) first → failing ≡ was →
+    MakingMayFail failing last → was.making name ≡ true
+making-started name failing was first last begun stays fails =
+    let here : Tells last (IsFor name) = rw begun (for-started name first) in
+    ap (λ (f : MoverFailing). f.making name) (sym stays) ∙ fails name here
+
 -- ---- moves
 
 put-suc : (i : ℕ) (texts : List NamedText) (held : Held) → put_first (drop i texts) (put_all (take i texts) held) ≡ put_all (take (suc i) texts) held
@@ -53,7 +89,33 @@ moved-suc i (Some s) = rw (put-suc i s.whole s.held, drop-suc i s.whole) refl
 pub moved-next : (i : ℕ) (state : Option MoverState) → option_map moved (option_map (moved_times i) state) ≡ option_map (moved_times (i + 1)) state
 moved-next i state = rw (add-one i) (moved-suc i state)
 
+first-left : (i : ℕ) (texts : List NamedText) → slice_get (map (λ t. t.name) (drop i texts)) 0 ≡ slice_get (map (λ t. t.name) texts) i
+first-left zero texts = refl
+first-left (suc i) [] = refl
+first-left (suc i) (t ∷ texts) = first-left i texts
+
+next-left : (i : ℕ) (name : List ℕ) (first : Option MoverState) → Tells first (λ s. slice_get (map (λ t. t.name) s.whole) i ≡ Some name) →
+    Tells (option_map (moved_times i) first) (λ s. slice_get (map (λ t. t.name) s.whole) 0 ≡ Some name)
+next-left i name None h = λ s e. absurd (cc)
+next-left i name (Some t) h = λ s e.
+    let same : moved_times i t ≡ s = cc in
+    rw (← same) (first-left i t.whole ∙ h t refl)
+
+-- where moving the first of those that are left failed, moving the one at that index may fail
+pub moving-next : (i : ℕ) (failing was : MoverFailing) (first last : Option MoverState) → last ≡ option_map (moved_times i) first → failing ≡ was →
+    MovingMayFail failing 0 last → MovingMayFail was i first
+moving-next i failing was first last moves stays fails = λ name is_at.
+    let next : Tells last (λ s. slice_get (map (λ t. t.name) s.whole) 0 ≡ Some name) = rw moves (next-left i name first is_at) in
+    ap (λ (f : MoverFailing). f.moving name) (sym stays) ∙ fails name next
+
 -- ---- all of it
+
+-- nothing stands beside a place, and nothing did
+pub cleared-still : (first mid last : Option MoverState) → Tells first IsClear → option_map cleared mid ≡ option_map cleared first → last ≡ option_map cleared mid → last ≡ first
+cleared-still None mid last clear same is = is ∙ same
+cleared-still (Some s) mid last clear same is =
+    let none = clear s refl in
+    is ∙ same ∙ rw (none.0, none.1) refl
 
 pub replaced-front : (count : ℕ) (texts some : List NamedText) (first mid last : Option MoverState) → Tells first IsClear →
     Tells first (λ s. some ≡ changed texts s.held) → mid ≡ option_map (staged some) first →
@@ -81,3 +143,12 @@ pub named-at : (texts : List CodeText) (i : ℕ) (d : CodeText) → i < length t
 named-at [] i d h = absurd (omega (arith, h))
 named-at (t ∷ texts) zero d h = refl
 named-at (t ∷ texts) (suc i) d h = named-at texts i d (omega (arith, h))
+
+-- all are made, and stand at the indices of their names
+pub named-staged : (some : List CodeText) (i : ℕ) (d : CodeText) (first mid : Option MoverState) → Tells first IsClear → mid ≡ option_map (staged (texts_of some)) first → i < length some →
+    Tells mid (λ s. slice_get (map (λ t. t.name) s.whole) i ≡ Some (get_or some i d).name.now)
+named-staged some i d None mid clear made within = λ s e. let clash : Some s ≡ None = sym e ∙ made in absurd (cc)
+named-staged some i d (Some t) mid clear made within = λ s e.
+    let none = clear t refl in
+    let same : staged (texts_of some) t ≡ s = cc in
+    rw (← same, none.1) (named-at some i d within)

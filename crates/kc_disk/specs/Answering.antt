@@ -1,38 +1,62 @@
 -- Trusted: What the program answers to its arguments.
-use Rattle.std.specs.Prelude.{◌≡◌, List, None, String, true, codes, string_bytes, ⊤}
+use Rattle.std.specs.Prelude.{◌≡◌, ◌≢◌, ℕ, [], List, None, Option, Result, Ok, Err, String, true, codes, drop, string_bytes, ⊤}
 use Rattle.std.specs.declared.alloc.Global.{Global}
-use Rattle.clap.specs.Words.{fault_of}
+use Rattle.std.specs.declared.io.Error.{Error}
+use Rattle.std.specs.declared.io.ErrorKind.TheVariants.{OutOfMemory}
+use Rattle.std.specs.declared.vec.IntoIter.{IntoIter}
+use Rattle.std.specs.IoError.{error_kind}
+use Rattle.std.specs.Vec.Iter.{into_iter_items}
+use Rattle.clap.specs.Words.{fault_of, takes}
+use Rattle.kc_dot.specs.Prefixes.{is_prefix}
 use Rattle.kc_words.specs.Fields.{AreOptionsOf, prefix_option}
 use Rattle.kc_words.specs.Kconf.{kconf_app, rows_for, arguments_of}
 use Rattle.kc_words.specs.Refusals.{IsRefused}
 use Rattle.kc_conf.specs.declared.options.Options.{Options}
+use Rattle.kc_conf.specs.declared.runs.AcceptedTree.{AcceptedTree}
 use Rattle.kc_words.specs.declared.usage.UsageError.{UsageError as NoOptions}
 use Rattle.kc_words.specs.declared.usage.UsageError.TheVariants.{Help, Version, Bad, Memory}
 use Rattle.kc_conf.specs.declared.options.Status.{Status}
 use Rattle.kc_disk.specs.Openers.{ReadDevice, unknown_device}
 use Rattle.kc_disk.specs.Makers.{MakerCall, maker_call}
-use Rattle.kc_disk.specs.Movers.{IsStill, MoverCall, mover_call}
-use Rattle.kc_disk.specs.Program.{ReportsUsage, usage_status}
+use Rattle.kc_disk.specs.Movers.{IsStill, MoverCall, fails_anywhere, mover_call}
+use Rattle.kc_disk.specs.Program.{IsAsItWas, KeptCall, ReportsUsage, kept_call, usage_status}
 use Rattle.kc_disk.specs.Replacing.{EndsBy}
 
--- the program's arguments: they give options, and the run for these ends so; or they give none, for this cause
-pub data KconfEnds (folder opened : ReadDevice) (arguments : List (String Global)) (status : Status) (maker : MakerCall) (mover : MoverCall) : Type 0 where
-  options : (o : Options) → AreOptionsOf (rows_for arguments) o → EndsBy o.replace folder opened o status maker mover → KconfEnds folder opened arguments status maker mover
-  none : (usage : NoOptions) → IsRefused (fault_of kconf_app (arguments_of arguments)) (prefix_option (rows_for arguments)) usage → status ≡ usage_status usage →
-      ReportsUsage usage maker → IsStill mover → KconfEnds folder opened arguments status maker mover
+-- the arguments give these options: clap finds no fault in them, and each field is what they hold
+abbrev pub GiveOptions : List (String Global) → Options → Type 0
+GiveOptions arguments options = (fault_of kconf_app (arguments_of arguments) ≡ []) × AreOptionsOf (rows_for arguments) options
 
--- the same over the disk, which tells nothing and may fail anywhere
+-- the arguments give none, for this cause: clap finds it, or the prefix is none; and for want of memory, which is the only
+-- cause where the command takes the arguments and the prefix is one
+abbrev pub GiveNone : List (String Global) → NoOptions → Type 0
+GiveNone arguments usage = IsRefused (fault_of kconf_app (arguments_of arguments)) (prefix_option (rows_for arguments)) usage
+    × (takes kconf_app (arguments_of arguments) ≡ true → is_prefix (prefix_option (rows_for arguments)) ≡ true → usage ≡ Memory)
+
+-- The program's arguments: they give options, and the run for these ends so; or they give none, for this cause, and nothing
+-- is made, moved or kept.
+pub data KconfEnds (folder opened : ReadDevice) (arguments : List (String Global)) (status : Status) (maker : MakerCall) (mover : MoverCall) (kept : KeptCall) : Type 0 where
+  options : (o : Options) → GiveOptions arguments o → EndsBy o.replace folder opened o status maker mover kept → KconfEnds folder opened arguments status maker mover kept
+  none : (usage : NoOptions) → GiveNone arguments usage → status ≡ usage_status usage → ReportsUsage usage maker → IsStill mover → IsAsItWas kept →
+      KconfEnds folder opened arguments status maker mover kept
+
+-- the same over the disk, which tells nothing and may fail anywhere, where nothing was kept before
 abbrev pub KconfEndsOnDisk : List (String Global) → Status → Type 0
-KconfEndsOnDisk arguments status = KconfEnds unknown_device unknown_device arguments status (maker_call None None true) (mover_call None None true)
+KconfEndsOnDisk arguments status = (tree : Option AcceptedTree)
+    × KconfEnds unknown_device unknown_device arguments status (maker_call None None true) (mover_call None None fails_anywhere) (kept_call None tree)
 
--- the arguments cannot be read: one is no text, or there is no memory for them
-abbrev pub AreUnread : NoOptions → Type 0
-AreUnread (Help text) = ⊥
-AreUnread (Version text) = ⊥
-AreUnread (Bad text) = string_bytes text ≡ codes "error: invalid UTF-8 was detected in one or more arguments\n\nFor more information, try '--help'.\n"
-AreUnread Memory = ⊤
+-- what is told of words of which one is no text
+abbrev pub no_text : List ℕ
+no_text = codes "error: invalid UTF-8 was detected in one or more arguments\n\nFor more information, try '--help'.\n"
 
--- a process: its arguments are some, and the run for these ends so; or they cannot be read
-pub data ProcessEnds (status : Status) : Type 0 where
-  ran : (arguments : List (String Global)) → KconfEndsOnDisk arguments status → ProcessEnds status
-  unread : (usage : NoOptions) → AreUnread usage → status ≡ usage_status usage → ProcessEnds status
+-- the words of a process cannot be read, for this error: one is no text, or there is no memory for them
+abbrev pub AreUnread : Error → NoOptions → Type 0
+AreUnread error (Help text) = ⊥
+AreUnread error (Version text) = ⊥
+AreUnread error (Bad text) = (error_kind error ≢ OutOfMemory) × (string_bytes text ≡ no_text)
+AreUnread error Memory = ⊤
+
+-- A process with these words, the first of which is the program's name: it ends as the others have it. Or the words could not
+-- be read.
+abbrev pub ProcessEnds : Result (IntoIter (String Global) Global) Error → Status → Type 0
+ProcessEnds (Ok words) status = KconfEndsOnDisk (drop 1 (into_iter_items words)) status
+ProcessEnds (Err error) status = (usage : NoOptions) × AreUnread error usage × (status ≡ usage_status usage)

@@ -1,5 +1,6 @@
 -- For proofs: The states of the outputs over a maker of files.
-use Rattle.std.specs.Prelude.{◌≡◌, ℕ, Bool, true, false, ◌||◌, List, [], ◌∷◌, ◌++◌, filter, Option, Some, option_map}
+use Rattle.std.specs.Prelude.{◌≡◌, ℕ, Bool, true, false, not, ◌==◌, ◌||◌, List, [], ◌∷◌, ◌++◌, filter, Option, Some, option_map}
+use Rattle.kc_text.specs.Limits.{one_more}
 use Rattle.kc_dot.specs.Sink.{next_failure}
 use Rattle.kc_conf.specs.OutputStates.{OutputState, OutputStates}
 use Rattle.kc_conf.specs.Faults.{name_of}
@@ -23,7 +24,7 @@ abbrev pub output_text : Option MakerState → Output → List ℕ → Option (L
 output_text state output bytes = option_map (λ t. (made_of t output).bytes ++ bytes) state
 
 abbrev pub state_of : OutputRecord → Option (List ℕ) → OutputState
-state_of r text = record { is_begun = r.is_begun; is_ended = r.is_ended; text = text; failures = r.failures }
+state_of r text = record { begins = r.begins; is_ended = r.is_ended; text = text; failures = r.failures }
 
 -- the states of the outputs: by the names of the options, what a maker tells, the file that is open, what waits for it and
 -- for the notes, and the records
@@ -41,7 +42,10 @@ states_of options state current bytes line r = record {
 
 -- an output that was not begun and has not failed
 abbrev pub new_record : OutputRecord
-new_record = record { is_begun = false; is_ended = false; failures = 0 }
+new_record = record { begins = 0; is_ended = false; failures = 0 }
+
+abbrev pub was_begun : OutputRecord → Bool
+was_begun r = not (r.begins == 0)
 
 abbrev pub record_at : OutputRecords → Output → OutputRecord
 record_at r Config = r.config
@@ -58,24 +62,24 @@ with_record r Depfile x = record r { depfile = x }
 with_record r Notes x = record r { notes = x }
 
 abbrev pub record_begun : OutputRecord → OutputRecord
-record_begun r = record { is_begun = true; is_ended = false; failures = r.failures }
+record_begun r = record { begins = one_more r.begins; is_ended = false; failures = r.failures }
 
 abbrev pub record_ended : OutputRecord → OutputRecord
-record_ended r = record { is_begun = r.is_begun; is_ended = true; failures = r.failures }
+record_ended r = record { begins = r.begins; is_ended = true; failures = r.failures }
 
 abbrev pub record_failed : OutputRecord → OutputRecord
-record_failed r = record { is_begun = r.is_begun; is_ended = r.is_ended; failures = next_failure r.failures }
+record_failed r = record { begins = r.begins; is_ended = r.is_ended; failures = next_failure r.failures }
 
 -- the files that were begun, in the order in which they are made
 abbrev pub begun_of : OutputRecords → List Output
-begun_of r = filter (λ output. (record_at r output).is_begun) (Config ∷ Header ∷ Minimal ∷ Depfile ∷ [])
+begun_of r = filter (λ output. was_begun (record_at r output)) (Config ∷ Header ∷ Minimal ∷ Depfile ∷ [])
 
 -- whether this file was begun, or one behind it
 abbrev pub begun_from : OutputRecords → Output → Bool
-begun_from r Config = r.config.is_begun || r.header.is_begun || r.minimal.is_begun || r.depfile.is_begun
-begun_from r Header = r.header.is_begun || r.minimal.is_begun || r.depfile.is_begun
-begun_from r Minimal = r.minimal.is_begun || r.depfile.is_begun
-begun_from r Depfile = r.depfile.is_begun
+begun_from r Config = was_begun r.config || was_begun r.header || was_begun r.minimal || was_begun r.depfile
+begun_from r Header = was_begun r.header || was_begun r.minimal || was_begun r.depfile
+begun_from r Minimal = was_begun r.minimal || was_begun r.depfile
+begun_from r Depfile = was_begun r.depfile
 begun_from r Notes = false
 
 -- ---- what the outputs keep
@@ -91,7 +95,7 @@ is_current _ _ = false
 -- record and file of one output agree: a file that was begun has its output's name, one that was ended is closed, and where
 -- none was begun there is none
 abbrev pub IsConsistent : List ℕ → OutputRecord → MadeFile → Type 0
-IsConsistent name r made = (r.is_begun ≡ true → made.name ≡ name) × (r.is_ended ≡ true → made.is_open ≡ false) × (r.is_begun ≡ false → made ≡ no_file)
+IsConsistent name r made = (was_begun r ≡ true → made.name ≡ name) × (r.is_ended ≡ true → made.is_open ≡ false) × (was_begun r ≡ false → made ≡ no_file)
 
 -- those of all outputs agree, only the current file is open, and those were made that were begun
 abbrev pub AreConsistent : Options → Option Output → OutputRecords → MakerState → Type 0

@@ -3,7 +3,8 @@ use Rattle.std.specs.Prelude.{◌≡◌, ℕ, Bool, true, false, List, [], ◌�
 use Rattle.kc_conf.specs.declared.outputs.Output.{Output}
 use Rattle.kc_conf.specs.declared.outputs.Output.TheVariants.{Config, Header, Minimal, Depfile, Notes}
 
--- a file: the name under which it was made, the bytes that it took since, and whether it is open
+-- a file: the name under which it was made, the bytes that it took since, and whether it is open (where another is made under
+-- this name later, the name holds what that one took)
 pub record MadeFile : Type 0 where
   pub name : List ℕ
   pub bytes : List ℕ

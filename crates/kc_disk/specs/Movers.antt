@@ -1,6 +1,7 @@
 -- Trusted: What a mover of files tells, and how the files of a run take their places.
-use Rattle.std.specs.Prelude.{◌≡◌, ℕ, ◌+◌, Bool, false, not, ◌||◌, List, [], ◌∷◌, ◌++◌, drop, take, filter, Option, None, Some, option_map, bytes_eq, if◌then◌else◌}
+use Rattle.std.specs.Prelude.{◌≡◌, ℕ, ◌+◌, Bool, true, false, not, ◌||◌, List, [], ◌∷◌, ◌++◌, drop, take, filter, map, slice_get, Option, None, Some, option_map, bytes_eq, if◌then◌else◌}
 use Rattle.std.specs.Option.{option_map_or}
+use Rattle.kc_disk.specs.Makers.{Tells}
 
 -- a text, and the name of its place
 pub record NamedText : Type 0 where
@@ -19,14 +20,23 @@ pub record MoverState : Type 0 where
   pub begun : Option NamedText
   pub whole : List NamedText
 
--- a mover in a call: what it tells before and after, and whether it may fail
+-- the names at whose places making a file may fail, and those at which moving one may
+pub record MoverFailing : Type 0 where
+  pub making : List ℕ → Bool
+  pub moving : List ℕ → Bool
+
+-- it may fail at any name
+abbrev pub fails_anywhere : MoverFailing
+fails_anywhere = record { making = λ _. true; moving = λ _. true }
+
+-- a mover in a call: what it tells before and after, and where it may fail
 pub record MoverCall : Type 0 where
   pub state : Option MoverState
   pub state_after : Option MoverState
-  pub may_fail : Bool
+  pub failing : MoverFailing
 
-abbrev pub mover_call : Option MoverState → Option MoverState → Bool → MoverCall
-mover_call state state_after may_fail = record { state = state; state_after = state_after; may_fail = may_fail }
+abbrev pub mover_call : Option MoverState → Option MoverState → MoverFailing → MoverCall
+mover_call state state_after failing = record { state = state; state_after = state_after; failing = failing }
 
 -- nothing was moved
 abbrev pub IsStill : MoverCall → Type 0
@@ -67,6 +77,16 @@ cleared s = record { held = s.held; begun = None; whole = [] }
 
 abbrev pub IsClear : MoverState → Type 0
 IsClear s = (s.begun ≡ None) × (s.whole ≡ [])
+
+-- ---- where it fails
+
+-- making the file that is being written may fail: at its name, or at any where nothing is told
+abbrev pub MakingMayFail : MoverFailing → Option MoverState → Type 0
+MakingMayFail failing state = (name : List ℕ) → Tells state (λ s. option_map (λ t. t.name) s.begun ≡ Some name) → failing.making name ≡ true
+
+-- so may moving the whole file at this index
+abbrev pub MovingMayFail : MoverFailing → ℕ → Option MoverState → Type 0
+MovingMayFail failing index state = (name : List ℕ) → Tells state (λ s. slice_get (map (λ t. t.name) s.whole) index ≡ Some name) → failing.moving name ≡ true
 
 -- ---- what is to be
 

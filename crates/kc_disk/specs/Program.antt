@@ -11,12 +11,13 @@ use Rattle.kc_load.specs.Faults.{IsLoadFault}
 use Rattle.kc_load.specs.declared.fault.LoadFault.{LoadFault}
 use Rattle.kc_load.specs.declared.fault.LoadFault.TheVariants.{CannotRead, Memory}
 use Rattle.kc_conf.specs.ErrorLines.{cannot_read_line, out_of_memory_line}
-use Rattle.kc_conf.specs.Outcome.{names_of, root_file}
+use Rattle.kc_conf.specs.Outcome.{Outcome, names_of, notes_of, root_file}
 use Rattle.kc_conf.specs.OutputStates.{OutputStates}
 use Rattle.kc_conf.specs.declared.options.Status.{Status}
 use Rattle.kc_conf.specs.declared.options.Status.TheVariants as ended
 use Rattle.kc_conf.specs.declared.outputs.Output.TheVariants.{Notes}
-use Rattle.kc_conf.specs.Leaves.{Leaves}
+use Rattle.kc_conf.specs.Leaves.{Keeps, Leaves}
+use Rattle.kc_conf.specs.declared.runs.AcceptedTree.{AcceptedTree}
 use Rattle.kc_disk.specs.Makers.{MakerCall, MakerState, Tells, appended}
 use Rattle.kc_disk.specs.Openers.{ReadDevice, Stream, contents, is_there, may_fail, stream}
 use Rattle.kc_disk.specs.Reached.{Reached, unused}
@@ -26,21 +27,40 @@ abbrev pub streams_of : Options → List Stream
 streams_of options = stream (string_bytes options.config) (not options.must_exist) ∷ map (λ f. stream (string_bytes f) false) options.fragments.items
 
 -- what a run leaves over these files and over what the opener holds under the names of the streams
-abbrev pub LeavesOver : Files → ReadDevice → Options → List ℕ → Status → Option MakerState → OutputStates → Type 0
-LeavesOver files opened options counts status state states = Leaves files options (map (contents opened.files) (names_of options))
+abbrev pub LeavesOver : Files → ReadDevice → Options → List (Option (List ℕ)) → List ℕ → Status → Option MakerState → OutputStates → Type 0
+LeavesOver files opened options left counts status state states = Leaves files options (map (contents opened.files) (names_of options)) left
     (map (is_there opened.files) (streams_of options)) (map (may_fail opened) (streams_of options)) (map (λ _. 0) (names_of options)) counts status
     (unused options state) states
 
+-- what a caller keeps, before a call and after it
+pub record KeptCall : Type 0 where
+  pub tree : Option AcceptedTree
+  pub tree_after : Option AcceptedTree
+
+abbrev pub kept_call : Option AcceptedTree → Option AcceptedTree → KeptCall
+kept_call tree tree_after = record { tree = tree; tree_after = tree_after }
+
+-- it is as it was
+abbrev pub IsAsItWas : KeptCall → Type 0
+IsAsItWas kept = kept.tree_after ≡ kept.tree
+
+-- All of its outcome's notes are on standard error, over a maker that tells, where the run is no fault.
+abbrev pub TellsAll : Status → Outcome → MakerCall → Type 0
+TellsAll status outcome maker = status ≢ ended.Faulted → Tells maker.state (λ first. Tells maker.state_after (λ t. t.notes.bytes ≡ notes_of outcome))
+
 -- A run over the folder's files and over the streams: it leaves their outcome, or a part of it and a fault, and what it handed
--- out reached the files. The notes fail only where the maker may.
-pub record Ran (folder opened : ReadDevice) (options : Options) (status : Status) (maker : MakerCall) : Type 0 where
+-- out reached the files. It keeps the tree for its caller. The notes fail only where the maker may.
+pub record Ran (folder opened : ReadDevice) (options : Options) (status : Status) (maker : MakerCall) (kept : KeptCall) : Type 0 where
   pub files : Files
   pub are_files : AreFilesOf folder.files (string_bytes options.root) files
+  pub left : List (Option (List ℕ))
   pub counts : List ℕ
   pub states : OutputStates
-  pub leaves : LeavesOver files opened options counts status maker.state states
+  pub leaves : LeavesOver files opened options left counts status maker.state states
+  pub keeps : Keeps files options status kept.tree kept.tree_after
   pub notes_fail : states.notes.failures ≢ 0 → maker.may_fail ≡ true
   pub reached : Tells maker.state_after (Reached states)
+  pub told : TellsAll status leaves.outcome maker
 
 -- the text was written to standard error, and nothing else was written or made
 abbrev pub Wrote : List ℕ → MakerCall → Type 0
@@ -60,10 +80,10 @@ load_line (CannotRead name) = cannot_read_line name.items
 load_line Memory = out_of_memory_line
 
 -- a run: as above, or the tree could not be loaded, which its one line tells
-pub data RunEnds (folder opened : ReadDevice) (options : Options) (status : Status) (maker : MakerCall) : Type 0 where
-  ran : Ran folder opened options status maker → RunEnds folder opened options status maker
+pub data RunEnds (folder opened : ReadDevice) (options : Options) (status : Status) (maker : MakerCall) (kept : KeptCall) : Type 0 where
+  ran : Ran folder opened options status maker kept → RunEnds folder opened options status maker kept
   unloaded : (fault : LoadFault) → IsLoadFault folder.files folder.failing (string_bytes options.root) (root_file options) fault → status ≡ ended.Faulted →
-      Reports (load_line fault) maker → RunEnds folder opened options status maker
+      Reports (load_line fault) maker → IsAsItWas kept → RunEnds folder opened options status maker kept
 
 -- the status where the arguments give no options
 abbrev pub usage_status : NoOptions → Status

@@ -8,6 +8,7 @@ use Rattle.kc_load.specs.Expanding.{AreFilesOf}
 use Rattle.kc_load.specs.Faults.{IsLoadFault}
 use Rattle.kc_load.specs.declared.fault.LoadFault.{LoadFault}
 use Rattle.kc_conf.specs.ErrorLines.{cannot_write_line, out_of_memory_line}
+use Rattle.kc_conf.specs.Leaves.{Keeps}
 use Rattle.kc_conf.specs.Outcome.{root_file}
 use Rattle.kc_conf.specs.OutputStates.{OutputStates}
 use Rattle.kc_conf.specs.declared.options.Status.{Status}
@@ -16,7 +17,7 @@ use Rattle.kc_conf.specs.declared.outputs.Output.TheVariants.{Notes}
 use Rattle.kc_disk.specs.Makers.{MakerCall, Tells, MakerState, none_made, since, until, with_made}
 use Rattle.kc_disk.specs.Openers.{ReadDevice}
 use Rattle.kc_disk.specs.Movers.{IsStill, MoverCall, NamedText, replaced}
-use Rattle.kc_disk.specs.Program.{RunEnds, LeavesOver, Reports, load_line}
+use Rattle.kc_disk.specs.Program.{IsAsItWas, KeptCall, LeavesOver, Reports, RunEnds, TellsAll, load_line}
 use Rattle.kc_disk.specs.Reached.{Reached}
 use Rattle.kc_disk.specs.ReplaceFaults.{IsReplaceFault}
 use Rattle.kc_disk.specs.declared.replace_files.ReplaceFault.{ReplaceFault}
@@ -55,17 +56,20 @@ MadeNoFile t = t ≡ with_made none_made Notes t.notes
 
 -- A run over the folder's files and over what the opener holds under the names of the streams: it leaves their outcome, or a
 -- part of it and a fault. What it handed out is in drafts, of which the maker took the notes alone, and the drafts took their
--- places where the run is done.
-pub record RanReplacing (folder opened : ReadDevice) (options : Options) (result : Result Status ReplaceFault) (maker : MakerCall) (mover : MoverCall) : Type 0 where
+-- places where the run is done. It keeps the tree for its caller.
+pub record RanReplacing (folder opened : ReadDevice) (options : Options) (result : Result Status ReplaceFault) (maker : MakerCall) (mover : MoverCall) (kept : KeptCall) : Type 0 where
   pub files : Files
   pub are_files : AreFilesOf folder.files (string_bytes options.root) files
+  pub left : List (Option (List ℕ))
   pub counts : List ℕ
   pub ran : Status
   pub states : OutputStates
   pub drafts : MakerState
-  pub leaves : LeavesOver files opened options counts ran maker.state states
+  pub leaves : LeavesOver files opened options left counts ran maker.state states
+  pub keeps : Keeps files options ran kept.tree kept.tree_after
   pub notes_fail : states.notes.failures ≢ 0 → maker.may_fail ≡ true
   pub reached : Tells maker.state_after (λ t. MadeNoFile t × Reached states (with_made drafts Notes t.notes))
+  pub told : TellsAll ran leaves.outcome maker
   pub replaces : Replaces (texts_made options drafts) ran result mover
 
 -- the line of a text that could not take its place
@@ -75,14 +79,14 @@ replace_fault_line (Write name moved) = cannot_write_line name.now
 
 -- A run: as above, or some text could not take its place, which its one line tells; or the tree could not be loaded, and no
 -- place was touched.
-pub data EndsReplacing (folder opened : ReadDevice) (options : Options) (status : Status) (maker : MakerCall) (mover : MoverCall) : Type 0 where
-  ran : RanReplacing folder opened options (Ok status) maker mover → EndsReplacing folder opened options status maker mover
-  stopped : (stop : ReplaceFault) (state : Option MakerState) → RanReplacing folder opened options (Err stop) (until state maker) mover → status ≡ ended.Faulted →
-      Reports (replace_fault_line stop) (since state maker) → EndsReplacing folder opened options status maker mover
+pub data EndsReplacing (folder opened : ReadDevice) (options : Options) (status : Status) (maker : MakerCall) (mover : MoverCall) (kept : KeptCall) : Type 0 where
+  ran : RanReplacing folder opened options (Ok status) maker mover kept → EndsReplacing folder opened options status maker mover kept
+  stopped : (stop : ReplaceFault) (state : Option MakerState) → RanReplacing folder opened options (Err stop) (until state maker) mover kept → status ≡ ended.Faulted →
+      Reports (replace_fault_line stop) (since state maker) → EndsReplacing folder opened options status maker mover kept
   unloaded : (fault : LoadFault) → IsLoadFault folder.files folder.failing (string_bytes options.root) (root_file options) fault → status ≡ ended.Faulted →
-      Reports (load_line fault) maker → IsStill mover → EndsReplacing folder opened options status maker mover
+      Reports (load_line fault) maker → IsStill mover → IsAsItWas kept → EndsReplacing folder opened options status maker mover kept
 
 -- A run with --replace ends so; one without touches no place beside its own.
-abbrev pub EndsBy : Bool → ReadDevice → ReadDevice → Options → Status → MakerCall → MoverCall → Type 0
-EndsBy true folder opened options status maker mover = EndsReplacing folder opened options status maker mover
-EndsBy false folder opened options status maker mover = RunEnds folder opened options status maker × IsStill mover
+abbrev pub EndsBy : Bool → ReadDevice → ReadDevice → Options → Status → MakerCall → MoverCall → KeptCall → Type 0
+EndsBy true folder opened options status maker mover kept = EndsReplacing folder opened options status maker mover kept
+EndsBy false folder opened options status maker mover kept = RunEnds folder opened options status maker kept × IsStill mover

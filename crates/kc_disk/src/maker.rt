@@ -9,7 +9,8 @@ use kc_dot::Fault;
 /// Makes the files of a run and takes their bytes, and those of standard error, which are the notes (our own).
 ///
 /// One over memory tells what it made; the system tells nothing. Each call is about one output, and changes nothing of
-/// another.
+/// another: what is told of a file is what it took since it was made. On a disk two files that were made under one name are
+/// one, which the later one made empty: that name holds what the later one took.
 pub trait Maker {
     /// The files that were made and their bytes, or nothing told.
     ghost state: { Self → Option MakerState };

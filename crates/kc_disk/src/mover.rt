@@ -1,19 +1,22 @@
 //! What makes files beside their places and moves them there.
-ghost use Rattle.std.specs.Prelude.{◌≡◌, ◌<◌, ◌≤◌, Bool, true, Option, length, take, option_map, IfOk, OnOk, OnErr};
+ghost use Rattle.std.specs.Prelude.{◌≡◌, ◌<◌, ◌≤◌, true, Option, length, take, option_map, IfOk, OnOk, OnErr};
 ghost use Rattle.kc_disk.specs.Makers.{Tells};
-ghost use Rattle.kc_disk.specs.Movers.{MoverState, cleared, finished, grown_by, is_held, moved, started};
+ghost use Rattle.kc_disk.specs.Movers.{MakingMayFail, MoverFailing, MoverState, MovingMayFail, cleared, finished, grown_by, is_held, moved, started};
 
 use kc_dot::Fault;
 
 /// Makes files beside the places that they are to take, and moves them there, each in one step (our own).
 ///
-/// One over memory tells what its places hold; the system tells nothing. Only `move_first` changes what a place holds.
+/// One over memory tells what its places hold; the system tells nothing. Only `move_first` changes what a place holds. A disk
+/// keeps that of regular files alone: any other place (a device, a pipe, a terminal) takes its text as it is written, and
+/// nothing is moved there.
 pub trait Mover {
     /// What the places hold and what stands beside them, or nothing told.
     ghost state: { Self → Option MoverState };
 
-    /// Whether a call may fail. No call changes it.
-    ghost failing: { Self → Bool };
+    /// The names at which making a file may fail, and those at which moving one may: it fails at no other. One that tells
+    /// nothing, as a disk, may fail at any where it fails. No call changes them.
+    ghost failing: { Self → MoverFailing };
 
     /// Whether the file of this name holds these bytes and no others.
     fn holds(&self, name: &str, bytes: &[u8]) -> bool
@@ -23,7 +26,7 @@ pub trait Mover {
     fn start(&mut self, name: &str) -> Result<(), Fault>
         ensures ok { OnOk result (state self.new ≡ option_map (started name.now) (state self.old)) }
         ensures err { OnErr result (state self.new ≡ state self.old) }
-        ensures fault { OnErr result (failing self.old ≡ true) }
+        ensures fault { OnErr result ((failing self.old).making name.now ≡ true) }
         ensures failing_stays { failing self.new ≡ failing self.old };
 
     /// Takes a beginning of the bytes for the file that was started, of at least one byte, and answers how many it took.
@@ -35,24 +38,24 @@ pub trait Mover {
         ensures within { IfOk result (λ count. count ≤ length bytes.now) }
         ensures ok { IfOk result (λ count. state self.new ≡ option_map (grown_by (take count bytes.now)) (state self.old)) }
         ensures err { OnErr result (state self.new ≡ state self.old) }
-        ensures fault { OnErr result (failing self.old ≡ true) }
+        ensures fault { OnErr result (MakingMayFail (failing self.old) (state self.old)) }
         ensures failing_stays { failing self.new ≡ failing self.old };
 
     /// Waits until the disk has the file that was started, which is whole from then on. On `Fault` nothing is changed.
     fn finish(&mut self) -> Result<(), Fault>
         ensures ok { OnOk result (state self.new ≡ option_map finished (state self.old)) }
         ensures err { OnErr result (state self.new ≡ state self.old) }
-        ensures fault { OnErr result (failing self.old ≡ true) }
+        ensures fault { OnErr result (MakingMayFail (failing self.old) (state self.old)) }
         ensures failing_stays { failing self.new ≡ failing self.old };
 
     /// Moves the first of the whole files to its place. On `Fault` nothing is changed.
     fn move_first(&mut self) -> Result<(), Fault>
         ensures ok { OnOk result (state self.new ≡ option_map moved (state self.old)) }
         ensures err { OnErr result (state self.new ≡ state self.old) }
-        ensures fault { OnErr result (failing self.old ≡ true) }
+        ensures fault { OnErr result (MovingMayFail (failing self.old) 0 (state self.old)) }
         ensures failing_stays { failing self.new ≡ failing self.old };
 
-    /// Removes each file that stands beside a place.
+    /// Removes each file that stands beside a place. It cannot fail; on a disk a removal can, and that file is left there.
     fn clear(&mut self)
         ensures state { state self.new ≡ option_map cleared (state self.old) }
         ensures failing_stays { failing self.new ≡ failing self.old };

@@ -1,15 +1,15 @@
 //! The work of the program.
-ghost use Rattle.std.specs.Prelude.{◌≡◌};
+ghost use Rattle.std.specs.Prelude.{◌≡◌, ◌≢◌};
 ghost use Rattle.kc_conf.specs.declared.outputs.Output.TheVariants.{Notes};
 ghost use Rattle.kc_disk.specs.Devices.{exit_status};
 ghost use Rattle.kc_disk.specs.Answering.{KconfEnds, KconfEndsOnDisk, ProcessEnds};
 ghost use Rattle.kc_disk.specs.Openers.{read_device};
 ghost use Rattle.kc_disk.specs.Makers.{IsOpen, Tells, maker_call, none_made};
 ghost use Rattle.kc_disk.specs.Movers.{IsClear, mover_call};
-ghost use Rattle.kc_disk.specs.Program.{ReportsUsage, usage_status};
+ghost use Rattle.kc_disk.specs.Program.{ReportsUsage, kept_call, usage_status};
 ghost use Rattle.kc_disk.specs.Replacing.{EndsBy};
 
-use crate::arguments::arguments;
+use crate::arguments::{after_name, unread};
 use crate::folder::SystemFolder;
 use crate::maker::Maker;
 use crate::mover::Mover;
@@ -23,7 +23,8 @@ use kc_conf::{AcceptedTree, Options, Status};
 use kc_load::Folder;
 use kc_words::{UsageError, options_of};
 use std::alloc::Global;
-use std::mem;
+use std::env::Args;
+use std::{io, mem};
 
 // Prints what the arguments ask for, to standard output, or tells what is wrong with them. A fault in it changes no status.
 fn print_usage<M: Maker>(rt: &HostRuntime, maker: &mut M, usage: &UsageError) -> Status
@@ -60,8 +61,11 @@ fn run_by<F: Folder, P: Opener, M: Maker + Drop, V: Mover>(
 ) -> (Status, M)
     requires maker { Tells (M.state maker) (λ t. t ≡ none_made) }
     requires clear { Tells (V.state mover.old) IsClear }
-    ensures { EndsBy options.now.replace (read_device (F.files folder.old) (F.failing folder.old)) (read_device (P.files opener.now) (P.failing opener.now)) options.now
-        result.0 (maker_call (M.state maker) (M.state result.1) (M.failing maker Notes)) (mover_call (V.state mover.old) (V.state mover.new) (V.failing mover.old)) }
+    ensures ends { EndsBy options.now.replace (read_device (F.files folder.old) (F.failing folder.old)) (read_device (P.files opener.now) (P.failing opener.now)) options.now
+        result.0 (maker_call (M.state maker) (M.state result.1) (M.failing maker Notes)) (mover_call (V.state mover.old) (V.state mover.new) (V.failing mover.old))
+        (kept_call kept.old kept.new) }
+    ensures folder_stays { read_device (F.files folder.new) (F.failing folder.new) ≡ read_device (F.files folder.old) (F.failing folder.old) }
+    ensures quiet { result.0 ≢ Status.Faulted → F.failures folder.new ≡ F.failures folder.old }
 {
     if options.replace {
         run_replacing(alloc, folder, opener, options, maker, mover, kept)
@@ -76,7 +80,8 @@ fn run_by<F: Folder, P: Opener, M: Maker + Drop, V: Mover>(
 ///
 /// The caller owes a maker that has made nothing, and a mover beside whose places nothing stands. The help and the version go
 /// to standard output. A bad command line is told on the maker's standard error, and so is a file of the tree that cannot be
-/// read (E18) and being out of memory before the run (E20), each in one line; no file is made then.
+/// read (E18) and being out of memory before the run (E20), each in one line; no file is made then, and `kept` is as it was.
+/// Else it is what the run keeps.
 pub fn kconf_over<F: Folder, P: Opener, M: Maker + Drop, V: Mover>(
     rt: &HostRuntime,
     arguments: &[String],
@@ -88,8 +93,12 @@ pub fn kconf_over<F: Folder, P: Opener, M: Maker + Drop, V: Mover>(
 ) -> (Status, M)
     requires maker { Tells (M.state maker) (λ t. t ≡ none_made) }
     requires clear { Tells (V.state mover.old) IsClear }
-    ensures { KconfEnds (read_device (F.files folder.old) (F.failing folder.old)) (read_device (P.files opener.now) (P.failing opener.now)) arguments.now result.0
-        (maker_call (M.state maker) (M.state result.1) (M.failing maker Notes)) (mover_call (V.state mover.old) (V.state mover.new) (V.failing mover.old)) }
+    ensures ends { KconfEnds (read_device (F.files folder.old) (F.failing folder.old)) (read_device (P.files opener.now) (P.failing opener.now)) arguments.now result.0
+        (maker_call (M.state maker) (M.state result.1) (M.failing maker Notes)) (mover_call (V.state mover.old) (V.state mover.new) (V.failing mover.old))
+        (kept_call kept.old kept.new) }
+    // The folder's files stay, and the paths at which it may fail; a failure of it is counted only after a fault.
+    ensures folder_stays { read_device (F.files folder.new) (F.failing folder.new) ≡ read_device (F.files folder.old) (F.failing folder.old) }
+    ensures quiet { result.0 ≢ Status.Faulted → F.failures folder.new ≡ F.failures folder.old }
 {
     match options_of(rt.alloc(), arguments) {
         Ok(options) => run_by(rt.alloc(), folder, opener, &options, maker, mover, kept),
@@ -132,13 +141,17 @@ pub fn kconf_of(rt: &HostRuntime, arguments: &[String]) -> Status
     status
 }
 
-/// Runs `kconf` with the arguments that the process was started with. One that is not UTF-8 is a bad command line.
-pub fn kconf(rt: &HostRuntime) -> Status
-    ensures { ProcessEnds result }
+/// Runs `kconf` with the words that the process was started with, as `env::args` gives them: the first is the program's name,
+/// and `kconf_of` runs with the others. Where one is not UTF-8, that is a bad command line.
+pub fn kconf(rt: &HostRuntime, words: io::Result<Args>) -> Status
+    ensures { ProcessEnds words result }
 {
-    match arguments(rt) {
-        Ok(arguments) => kconf_of(rt, &arguments),
-        Err(usage) => print_usage(rt, &mut SystemMaker::new(rt), &usage),
+    match words {
+        Ok(words) => match after_name(rt.alloc(), words) {
+            Ok(arguments) => kconf_of(rt, &arguments),
+            Err(_) => print_usage(rt, &mut SystemMaker::new(rt), &UsageError::Memory),
+        },
+        Err(error) => print_usage(rt, &mut SystemMaker::new(rt), &unread(rt.alloc(), error)),
     }
 }
 

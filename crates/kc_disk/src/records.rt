@@ -4,31 +4,37 @@ ghost use Rattle.std.specs.Prelude.{◌≡◌};
 use kc_conf::Output;
 use kc_dot::Fault;
 
-/// Whether an output was begun, whether it was ended since, and how often it has failed.
+/// How often an output was begun, whether it was ended since, and how often it has failed.
 #[derive(Drop)]
 pub(crate) struct OutputRecord {
-    is_begun: bool,
+    begins: u64,
     is_ended: bool,
     failures: u64,
 }
 
 impl OutputRecord {
-    ghost use Rattle.kc_disk.specs.MakerOutputs.{new_record, record_begun, record_ended, record_failed};
+    ghost use Rattle.kc_disk.specs.MakerOutputs.{new_record, record_begun, record_ended, record_failed, was_begun};
 
     fn new() -> OutputRecord
         ensures { result ≡ new_record }
     {
         OutputRecord {
-            is_begun: false,
+            begins: 0,
             is_ended: false,
             failures: 0,
         }
     }
 
+    fn was_begun(&self) -> bool
+        ensures { result ≡ was_begun self.now }
+    {
+        self.begins != 0
+    }
+
     fn begin(&mut self)
         ensures { self.new ≡ record_begun self.old }
     {
-        self.is_begun = true;
+        self.begins = self.begins.saturating_add(1);
         self.is_ended = false;
     }
 
@@ -76,15 +82,15 @@ impl OutputRecords {
         ensures { result ≡ begun_from self.now output }
     {
         match output {
-            Output::Config => self.config.is_begun
-                || self.header.is_begun
-                || self.minimal.is_begun
-                || self.depfile.is_begun,
-            Output::Header => self.header.is_begun
-                || self.minimal.is_begun
-                || self.depfile.is_begun,
-            Output::Minimal => self.minimal.is_begun || self.depfile.is_begun,
-            Output::Depfile => self.depfile.is_begun,
+            Output::Config => self.config.was_begun()
+                || self.header.was_begun()
+                || self.minimal.was_begun()
+                || self.depfile.was_begun(),
+            Output::Header => self.header.was_begun()
+                || self.minimal.was_begun()
+                || self.depfile.was_begun(),
+            Output::Minimal => self.minimal.was_begun() || self.depfile.was_begun(),
+            Output::Depfile => self.depfile.was_begun(),
             Output::Notes => false,
         }
     }

@@ -1,11 +1,12 @@
 //! A run whose files take their places at the end.
-ghost use Rattle.std.specs.Prelude.{◌≡◌, ◌++◌, string_bytes, IfErr, IfOk, OnErr, OnOk};
-ghost use Rattle.kc_load.specs.Faults.{IsLoadFault};
+ghost use Rattle.std.specs.Prelude.{◌≡◌, ◌≢◌, ◌++◌, string_bytes, IfErr, IfOk, OnErr, OnOk};
+ghost use Rattle.kc_load.specs.Faults.{IsLoadFault, load_failures_after};
 ghost use Rattle.kc_conf.specs.Outcome.{root_file};
 ghost use Rattle.kc_conf.specs.declared.outputs.Output.TheVariants.{Notes};
 ghost use Rattle.kc_disk.specs.Openers.{read_device};
 ghost use Rattle.kc_disk.specs.Makers.{Tells, maker_call, none_made};
 ghost use Rattle.kc_disk.specs.Movers.{IsClear, mover_call};
+ghost use Rattle.kc_disk.specs.Program.{kept_call};
 ghost use Rattle.kc_disk.specs.Replacing.{EndsReplacing, RanReplacing, Replaces, text_at, wanted_texts};
 ghost use Rattle.kc_disk.specs.Texts.{texts_of};
 
@@ -93,7 +94,7 @@ fn replace_drafts<'n, N: Maker + Drop, M: Mover>(
 /// The caller owes a maker that has made nothing, and a mover beside whose places nothing stands. After a run that is done
 /// each place holds its file's text; after any other, and after an error, every place is as it was. A `ReplaceFault` says that
 /// the run was done and a text could not take its place: what it leaves is as `replace_files` says. Nothing stands beside a
-/// place in the end.
+/// place in the end. `kept` is what `configure` keeps.
 pub fn replace_over<'n, F: Folder, P: Opener, N: Maker + Drop, M: Mover>(
     alloc: Global,
     folder: &mut F,
@@ -109,13 +110,18 @@ pub fn replace_over<'n, F: Folder, P: Opener, N: Maker + Drop, M: Mover>(
     // handed out took its places where it is done, and the maker made no file.
     ensures ran { IfOk result.0 (λ ended. RanReplacing (read_device (F.files folder.old) (F.failing folder.old)) (read_device (P.files opener.now) (P.failing opener.now))
         options.now ended (maker_call (N.state notes) (N.state result.1) (N.failing notes Notes))
-        (mover_call (M.state mover.old) (M.state mover.new) (M.failing mover.old))) }
+        (mover_call (M.state mover.old) (M.state mover.new) (M.failing mover.old)) (kept_call kept.old kept.new)) }
     // A file of the tree that could not be read is one whose turn it was.
     ensures fault { IfErr result.0 (IsLoadFault (F.files folder.old) (F.failing folder.old) (string_bytes options.now.root) (root_file options.now)) }
-    // After a fault of loading nothing was made, told or moved.
+    // After a fault of loading nothing was made, told or moved, and what is kept stays.
     ensures silent { OnErr result.0 (N.state result.1 ≡ N.state notes) }
     ensures untouched { OnErr result.0 (M.state mover.new ≡ M.state mover.old) }
+    ensures untouched_kept { OnErr result.0 (kept.new ≡ kept.old) }
     ensures failing_stays { N.failing result.1 Notes ≡ N.failing notes Notes }
+    // The folder's files stay, and the paths at which it may fail; a failure of it is counted only where it ended the loading.
+    ensures folder_stays { read_device (F.files folder.new) (F.failing folder.new) ≡ read_device (F.files folder.old) (F.failing folder.old) }
+    ensures quiet { OnOk result.0 (F.failures folder.new ≡ F.failures folder.old) }
+    ensures counted { IfErr result.0 (λ fault. F.failures folder.new ≡ load_failures_after fault (F.failures folder.old)) }
 {
     let drafts = Drafts::new(alloc, notes);
     let (ran, drafts) = configure_over(alloc, folder, opener, options, drafts, kept);
@@ -141,8 +147,12 @@ pub fn run_replacing<F: Folder, P: Opener, N: Maker + Drop, M: Mover>(
 ) -> (Status, N)
     requires notes { Tells (N.state notes) (λ t. t ≡ none_made) }
     requires clear { Tells (M.state mover.old) IsClear }
-    ensures { EndsReplacing (read_device (F.files folder.old) (F.failing folder.old)) (read_device (P.files opener.now) (P.failing opener.now)) options.now result.0
-        (maker_call (N.state notes) (N.state result.1) (N.failing notes Notes)) (mover_call (M.state mover.old) (M.state mover.new) (M.failing mover.old)) }
+    ensures ends { EndsReplacing (read_device (F.files folder.old) (F.failing folder.old)) (read_device (P.files opener.now) (P.failing opener.now)) options.now result.0
+        (maker_call (N.state notes) (N.state result.1) (N.failing notes Notes)) (mover_call (M.state mover.old) (M.state mover.new) (M.failing mover.old))
+        (kept_call kept.old kept.new) }
+    // The folder's files stay, and the paths at which it may fail; a failure of it is counted only after a fault.
+    ensures folder_stays { read_device (F.files folder.new) (F.failing folder.new) ≡ read_device (F.files folder.old) (F.failing folder.old) }
+    ensures quiet { result.0 ≢ Status.Faulted → F.failures folder.new ≡ F.failures folder.old }
 {
     let (ended, mut notes) = replace_over(alloc, folder, opener, options, notes, mover, kept);
     match ended {

@@ -1,7 +1,7 @@
 //! The texts of a run take their places.
 ghost use Rattle.std.specs.Prelude.{◌≡◌, ◌<◌, ◌||◌, not, length, option_map, None, true, IfOk, IfErr, OnOk, OnErr};
 ghost use Rattle.kc_disk.specs.Makers.{Tells};
-ghost use Rattle.kc_disk.specs.Movers.{IsClear, changed, cleared, grown_by, has_name, is_held, mover_call, changed_or_all, replaced, share_name};
+ghost use Rattle.kc_disk.specs.Movers.{IsClear, MakingMayFail, MovingMayFail, changed, cleared, grown_by, has_name, is_held, mover_call, changed_or_all, replaced, share_name};
 ghost use Rattle.kc_disk.specs.ReplaceFaults.{IsReplaceFault};
 ghost use Rattle.kc_disk.specs.Texts.{added, moved_times, staged, text_of, texts_of};
 
@@ -23,7 +23,7 @@ pub(crate) struct NamedText<'n, 'b> {
 pub enum ReplaceFault<'n> {
     /// No memory was to be had (E20): every file is as it was.
     Memory,
-    /// A file could not be made or moved (E19).
+    /// A file could not be made, and then none was moved, or one could not be moved (E19).
     Write {
         /// The name of its place.
         name: &'n str,
@@ -103,7 +103,7 @@ fn changed<'n, 'b, M: Mover>(
 fn write_whole<M: Mover>(bytes: &[u8], mover: &mut M) -> Result<(), Fault>
     ensures ok { OnOk result (M.state mover.new ≡ option_map (grown_by bytes.now) (M.state mover.old)) }
     ensures err { OnErr result (option_map cleared (M.state mover.new) ≡ option_map cleared (M.state mover.old)) }
-    ensures fault { OnErr result (M.failing mover.old ≡ true) }
+    ensures fault { OnErr result (MakingMayFail (M.failing mover.old) (M.state mover.old)) }
     ensures failing_stays { M.failing mover.new ≡ M.failing mover.old }
 {
     let mut at = 0;
@@ -120,7 +120,7 @@ fn write_whole<M: Mover>(bytes: &[u8], mover: &mut M) -> Result<(), Fault>
 fn make<M: Mover>(text: NamedText<'_, '_>, mover: &mut M) -> Result<(), Fault>
     ensures ok { OnOk result (M.state mover.new ≡ option_map (added (text_of text.entry)) (M.state mover.old)) }
     ensures err { OnErr result (option_map cleared (M.state mover.new) ≡ option_map cleared (M.state mover.old)) }
-    ensures fault { OnErr result (M.failing mover.old ≡ true) }
+    ensures fault { OnErr result ((M.failing mover.old).making text.entry.name.now ≡ true) }
     ensures failing_stays { M.failing mover.new ≡ M.failing mover.old }
 {
     mover.start(text.name)?;
@@ -135,7 +135,7 @@ fn make_all<'n, M: Mover>(texts: &[NamedText<'n, '_>], mover: &mut M) -> Result<
     ensures ok { OnOk result (M.state mover.new ≡ option_map (staged (texts_of texts.now)) (M.state mover.old)) }
     ensures err { OnErr result (option_map cleared (M.state mover.new) ≡ option_map cleared (M.state mover.old)) }
     ensures named { IfErr result (λ name. has_name name.now (texts_of texts.now) ≡ true) }
-    ensures fault { OnErr result (M.failing mover.old ≡ true) }
+    ensures fault { IfErr result (λ name. (M.failing mover.old).making name.now ≡ true) }
     ensures failing_stays { M.failing mover.new ≡ M.failing mover.old }
 {
     for text in texts {
@@ -152,7 +152,7 @@ fn move_all<M: Mover>(texts: &[NamedText<'_, '_>], mover: &mut M) -> Result<(), 
     ensures ok { OnOk result (M.state mover.new ≡ option_map (moved_times (length texts.now)) (M.state mover.old)) }
     ensures err { IfErr result (λ moved. M.state mover.new ≡ option_map (moved_times moved) (M.state mover.old)) }
     ensures within { IfErr result (λ moved. moved < length texts.now) }
-    ensures fault { OnErr result (M.failing mover.old ≡ true) }
+    ensures fault { IfErr result (λ moved. MovingMayFail (M.failing mover.old) moved (M.state mover.old)) }
 {
     for moved in 0..texts.len() {
         match mover.move_first() {
@@ -166,8 +166,9 @@ fn move_all<M: Mover>(texts: &[NamedText<'_, '_>], mover: &mut M) -> Result<(), 
 /// Puts each text in its place, where it is not there already: first all files are made beside their places, and then they
 /// are moved, in the order of the texts. Where two texts have one name nothing is compared, and the later one stays.
 ///
-/// The caller owes that nothing stands beside a place. After an error nothing does either: every place holds what it held,
-/// but where a move failed those before it are in their places.
+/// The caller owes that nothing stands beside a place. After an error nothing does either. Where a file could not be made, that
+/// is the one that is named, and every place holds what it held. Where one could not be moved, it is named, and those before it
+/// are in their places.
 pub(crate) fn replace_files<'n, M: Mover>(
     alloc: Global,
     texts: &[NamedText<'n, '_>],

@@ -1,11 +1,11 @@
 //! A run from a folder of files on, over what opens the streams, to the files that a maker makes.
-ghost use Rattle.std.specs.Prelude.{◌≡◌, [], string_bytes, IfErr, IfOk, OnErr};
-ghost use Rattle.kc_load.specs.Faults.{IsLoadFault};
+ghost use Rattle.std.specs.Prelude.{◌≡◌, ◌≢◌, [], string_bytes, IfErr, IfOk, OnErr, OnOk};
+ghost use Rattle.kc_load.specs.Faults.{IsLoadFault, load_failures_after};
 ghost use Rattle.kc_conf.specs.Outcome.{root_file};
 ghost use Rattle.kc_conf.specs.declared.outputs.Output.TheVariants.{Notes};
 ghost use Rattle.kc_disk.specs.Openers.{read_device};
 ghost use Rattle.kc_disk.specs.Makers.{Tells, maker_call, none_made};
-ghost use Rattle.kc_disk.specs.Program.{RunEnds, Ran};
+ghost use Rattle.kc_disk.specs.Program.{RunEnds, Ran, kept_call};
 
 use crate::buffer::Buffer;
 use crate::devices::Devices;
@@ -14,6 +14,7 @@ use crate::maker::Maker;
 use crate::opener::Opener;
 use crate::outputs::FileOutputs;
 use crate::report::report_load_fault;
+use kc_conf::laws::notes_are_lines;
 use kc_conf::{AcceptedTree, Options, Status};
 use kc_configure::configure;
 use kc_load::{Folder, LoadFault};
@@ -39,11 +40,16 @@ fn over_devices<F: Folder, P: Opener, M: Maker + Drop, K: Devices>(
     requires maker { Tells (M.state maker) (λ t. t ≡ none_made) }
     requires notes { K.notes_fail ≡ M.failing maker Notes }
     ensures ran { IfOk result.0 (λ status. Ran (read_device (F.files folder.old) (F.failing folder.old)) (read_device (P.files opener.now) (P.failing opener.now))
-        options.now status (maker_call (M.state maker) (M.state result.1) (M.failing maker Notes))) }
+        options.now status (maker_call (M.state maker) (M.state result.1) (M.failing maker Notes)) (kept_call kept.old kept.new)) }
     ensures fault { IfErr result.0 (IsLoadFault (F.files folder.old) (F.failing folder.old) (string_bytes options.now.root) (root_file options.now)) }
     ensures untouched { OnErr result.0 (M.state result.1 ≡ M.state maker) }
+    ensures untouched_kept { OnErr result.0 (kept.new ≡ kept.old) }
     ensures failing_stays { M.failing result.1 Notes ≡ M.failing maker Notes }
+    ensures folder_stays { read_device (F.files folder.new) (F.failing folder.new) ≡ read_device (F.files folder.old) (F.failing folder.old) }
+    ensures quiet { OnOk result.0 (F.failures folder.new ≡ F.failures folder.old) }
+    ensures counted { IfErr result.0 (λ fault. F.failures folder.new ≡ load_failures_after fault (F.failures folder.old)) }
 {
+    notes_are_lines();
     let Ok((buffer, line)) = buffers(alloc) else {
         return (Err(LoadFault::Memory), maker);
     };
@@ -63,14 +69,15 @@ fn over_devices<F: Folder, P: Opener, M: Maker + Drop, K: Devices>(
 ///
 /// The caller owes a maker that has made nothing. The `.config` and then each fragment is opened at its first read; only the
 /// `.config` may be missing, and only without `--must-exist`. A file is made for each output that the run began, once and in
-/// the order `.config`, header, minimal file, rule for make, and no other. Where the run ended a file, all that it handed out
-/// for it is in the file of that output's name; a file that it did not end holds a beginning of it. A beginning of the notes
-/// is out, and all of them where they end with a line feed and none of them failed. A fault of a byte that waited is one of
-/// its own file, and `Done` is answered only where each file is whole and each stream whose turn came is there. An input fails
-/// only where its stream may fail or is missing, and the notes only where the maker may fail at them.
+/// the order `.config`, header, minimal file, rule for make, and no other. Where the run ended a file, the file that was made
+/// under its output's name took all that the run handed out for it, and holds it unless a later one was made under the same
+/// name; a file that it did not end took a beginning of it. A beginning of the notes is out, and all of them where they end
+/// with a line feed and none of them failed. A fault of a byte that waited is one of its own file, and `Done` is answered only
+/// where each file is whole and each stream whose turn came is there. An input fails only where its stream may fail or is
+/// missing, and the notes only where the maker may fail at them. `kept` is what `configure` keeps.
 ///
-/// An error is a fault of loading, or E20 where there is no memory for the inputs and the buffers. No file was made then, and
-/// nothing was written.
+/// An error is a fault of loading, or E20 where there is no memory for the inputs and the buffers. No file was made then,
+/// nothing was written, and `kept` is as it was.
 pub fn configure_over<F: Folder, P: Opener, M: Maker + Drop>(
     alloc: Global,
     folder: &mut F,
@@ -83,12 +90,17 @@ pub fn configure_over<F: Folder, P: Opener, M: Maker + Drop>(
     // The run leaves the outcome of the folder's files and of the streams by their names, or a part of it and a fault, and
     // what it handed out reached the files.
     ensures ran { IfOk result.0 (λ status. Ran (read_device (F.files folder.old) (F.failing folder.old)) (read_device (P.files opener.now) (P.failing opener.now))
-        options.now status (maker_call (M.state maker) (M.state result.1) (M.failing maker Notes))) }
+        options.now status (maker_call (M.state maker) (M.state result.1) (M.failing maker Notes)) (kept_call kept.old kept.new)) }
     // A file of the tree that could not be read is one whose turn it was.
     ensures fault { IfErr result.0 (IsLoadFault (F.files folder.old) (F.failing folder.old) (string_bytes options.now.root) (root_file options.now)) }
-    // After a fault of loading nothing was made.
+    // After a fault of loading nothing was made, and what is kept stays.
     ensures untouched { OnErr result.0 (M.state result.1 ≡ M.state maker) }
+    ensures untouched_kept { OnErr result.0 (kept.new ≡ kept.old) }
     ensures failing_stays { M.failing result.1 Notes ≡ M.failing maker Notes }
+    // The folder's files stay, and the paths at which it may fail; a failure of it is counted only where it ended the loading.
+    ensures folder_stays { read_device (F.files folder.new) (F.failing folder.new) ≡ read_device (F.files folder.old) (F.failing folder.old) }
+    ensures quiet { OnOk result.0 (F.failures folder.new ≡ F.failures folder.old) }
+    ensures counted { IfErr result.0 (λ fault. F.failures folder.new ≡ load_failures_after fault (F.failures folder.old)) }
 {
     over_devices::<F, P, M, Brand>(alloc, folder, opener, options, maker, kept)
 }
@@ -104,8 +116,11 @@ pub fn run_over<F: Folder, P: Opener, M: Maker + Drop>(
     kept: &mut Option<AcceptedTree>,
 ) -> (Status, M)
     requires { Tells (M.state maker) (λ t. t ≡ none_made) }
-    ensures { RunEnds (read_device (F.files folder.old) (F.failing folder.old)) (read_device (P.files opener.now) (P.failing opener.now)) options.now result.0
-        (maker_call (M.state maker) (M.state result.1) (M.failing maker Notes)) }
+    ensures ends { RunEnds (read_device (F.files folder.old) (F.failing folder.old)) (read_device (P.files opener.now) (P.failing opener.now)) options.now result.0
+        (maker_call (M.state maker) (M.state result.1) (M.failing maker Notes)) (kept_call kept.old kept.new) }
+    // The folder's files stay, and the paths at which it may fail; a failure of it is counted only after a fault.
+    ensures folder_stays { read_device (F.files folder.new) (F.failing folder.new) ≡ read_device (F.files folder.old) (F.failing folder.old) }
+    ensures quiet { result.0 ≢ Status.Faulted → F.failures folder.new ≡ F.failures folder.old }
 {
     let (ended, mut maker) = configure_over(alloc, folder, opener, options, maker, kept);
     match ended {

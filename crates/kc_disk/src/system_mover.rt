@@ -1,5 +1,6 @@
 //! The calls of the system that make files beside their places and move them there.
-ghost use Rattle.std.specs.Prelude.{true, None};
+ghost use Rattle.std.specs.Prelude.{None};
+ghost use Rattle.kc_disk.specs.Movers.{fails_anywhere};
 
 use crate::mover::Mover;
 use crate::same_text::holds_text;
@@ -138,7 +139,7 @@ fn remove(rt: &HostRuntime, temporary: &Option<TemporaryFile>) {
 impl<'a> Mover for SystemMover<'a> {
     ghost state = { λ _. None };
 
-    ghost failing = { λ _. true };
+    ghost failing = { λ _. fails_anywhere };
 
     fn holds(&self, name: &str, bytes: &[u8]) -> bool {
         let Ok(Some(place)) = regular_file_of(self.rt, name) else {

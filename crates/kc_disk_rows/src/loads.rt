@@ -64,7 +64,7 @@ fn a_tree_is_loaded_and_run(rt: HostRuntime) -> Result<(), Fail> {
 fn a_fault_of_loading_leaves_all_as_it_was(rt: HostRuntime) -> Result<(), Fail> {
     let mut outputs = MemoryOutputs::new(rt.alloc(), 400)?;
     let left = left_by(rt.alloc(), "./Kconfig", &mut outputs)?;
-    let is_begun = outputs.config.is_begun || outputs.notes.calls > 0;
+    let is_begun = outputs.config.is_begun() || outputs.notes.calls > 0;
     drop(outputs);
     assert!(rt; !is_begun && left == (None, false));
     Ok(())

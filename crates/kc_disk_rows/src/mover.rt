@@ -1,6 +1,6 @@
 //! Places in memory, and files that are moved there.
-ghost use Rattle.std.specs.Prelude.{◌≡◌, true, Some, option_map, string_bytes, IfOk};
-ghost use Rattle.kc_disk.specs.Movers.{IsClear};
+ghost use Rattle.std.specs.Prelude.{◌≡◌, Some, option_map, string_bytes, IfOk};
+ghost use Rattle.kc_disk.specs.Movers.{IsClear, fails_anywhere};
 
 use kc_disk::Mover;
 use kc_dot::Fault;
@@ -114,7 +114,7 @@ impl Mover for MemoryMover {
     ghost state = { λ s. Some (places_by s) };
 
     // Memory may be refused.
-    ghost failing = { λ _. true };
+    ghost failing = { λ _. fails_anywhere };
 
     fn holds(&self, name: &str, bytes: &[u8]) -> bool {
         match self.bytes_of(name) {

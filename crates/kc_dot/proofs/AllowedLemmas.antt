@@ -1,6 +1,6 @@
 -- What a line gives to a symbol is allowed for it.
 use Rattle.std.proofs.Common.{◌≡◌, ℕ, ◌+◌, ◌-◌, ◌≤◌, suc, List, [], ◌∷◌, ◌++◌, Bool, true, false, not, length, take, drop, get_or, eqb, cond, refl, sym, ap, subst, arith, inl, inr, Option, Some, None}
-use Rattle.std.specs.Prelude.{◌||◌, ◌==◌, ◌&&◌, All, is_some, nat_le, nat_lt, slice_index}
+use Rattle.std.specs.Prelude.{◌||◌, ◌==◌, ◌&&◌, is_some, nat_le, nat_lt, slice_index}
 use Rattle.std.specs.List.{list_any, suffix_len, position_or_len, before_first, after_first}
 use Rattle.std.specs.Str.{bytes_eq}
 use Rattle.std.specs.Str.Lines.{strip_carriage_return}

@@ -20,7 +20,7 @@ use Rattle.kc_user.specs.GivenValue.{GivenValue, GivenTruth, GivenText, Member}
 use Rattle.kc_user.specs.Places.{allowed, allowed_by, allowed_for, allowed_truth, allowed_text}
 use Rattle.kc_dot.specs.Effects.{Assigns, name_of, set_by_kind, assigned_or}
 use Rattle.kc_dot.specs.HasNames.{HasNames}
-use Rattle.kc_dot.specs.Laws.{AllowedAreAssigned}
+use Rattle.kc_dot.specs.WrittenLaws.{AllowedAreAssigned}
 use Rattle.kc_dot.specs.Plain.{EndsPlainly}
 use Rattle.kc_dot.specs.Prefixes.{is_prefix}
 use Rattle.kc_dot.specs.Reading.{Line, line, is_within, effect}

@@ -12,11 +12,11 @@ use Rattle.kc_expr.specs.Names.{symbol}
 use Rattle.kc_expr.specs.Value.{SymbolValue, Truth, TextValue}
 use Rattle.kc_order.specs.Solution.{Solves}
 use Rattle.kc_tree.specs.TreeFacts.{TreeFacts, SymbolFacts, ChoiceFacts, Shown, SymbolShown, MenuShown, EndShown, CommentShown, IsLineText, IsWellFormed, OfTitles, ShowsEach}
-use Rattle.kc_user.specs.GivenValue.{GivenValue, Member, UserPlace, SymbolPlace, ChoicePlace}
+use Rattle.kc_user.specs.GivenValue.{GivenValue, Member, UserPlace, SymbolPlace, ChoicePlace, is_yes}
 use Rattle.kc_user.specs.Places.{Places, place_at, no_places, allowed, allowed_by, allowed_for, members_of}
-use Rattle.kc_values.specs.Differs as value
-use Rattle.kc_values.specs.Differs.{given_of, reread_places}
-use Rattle.kc_values.specs.Laws.{MembersAreTheirs, MembersAreBools}
+use Rattle.kc_values.specs.Differs.{given_of}
+use Rattle.kc_values.specs.GivenLines.{reread_places}
+use Rattle.kc_values.specs.Members.{MembersAreTheirs, MembersAreBools}
 use Rattle.kc_values.specs.Lookups.{choice_at}
 use Rattle.kc_values.specs.Solution.{symbol_count, known_from, user_place, equations}
 use Rattle.kc_values.specs.WrittenSymbols as ls
@@ -24,7 +24,7 @@ use Rattle.kc_values.proofs.FixedLines.{place_cases, place_of_member, Sel}
 use Rattle.kc_values.proofs.Selection.{found}
 use Rattle.kc_dot.specs.Effects.{name_of}
 use Rattle.kc_dot.specs.Prefixes.{is_prefix}
-use Rattle.kc_dot.specs.Reading.{Assignment, is_yes, places_given}
+use Rattle.kc_dot.specs.Reading.{Assignment, places_given}
 use Rattle.kc_dot.specs.Plain.{HasPlainTitles}
 use Rattle.kc_dot.specs.Reread.{valuation_view, read_alone}
 use Rattle.kc_dot.specs.HasNames.{HasNames}
@@ -55,13 +55,7 @@ not_written : (tree : TreeFacts) (known : SymId → SymbolValue) (f : SymbolFact
 not_written tree known f None bools e = ap (ls.written_by_kind tree known f) e
 not_written tree known f (Some c) bools e = let never : kind.Bool ≡ kind.Undefined = sym (bools c refl) ∙ e in cc
 
-yes_known : (k : SymbolValue) → is_yes (given_of k) ≡ value.is_yes k
-yes_known (Truth N) = refl
-yes_known (Truth M) = refl
-yes_known (Truth Y) = refl
-yes_known (TextValue k bytes) = refl
-
-yes_allowed : (k : SymbolValue) → value.is_yes k ≡ true → allowed_by kind.Bool (given_of k) ≡ true
+yes_allowed : (k : SymbolValue) → is_yes (given_of k) ≡ true → allowed_by kind.Bool (given_of k) ≡ true
 yes_allowed (Truth N) e = refl
 yes_allowed (Truth M) e = absurd (true≢false (sym e))
 yes_allowed (Truth Y) e = refl
@@ -161,7 +155,7 @@ module _ (tree : TreeFacts) (user : UserPlace → Option GivenValue) (V : ℕ �
   reread_own i lt = filled_symbol tree value_to has_line config_given config_holds i lt
 
   abbrev Wrote : SymId → Bool
-  Wrote m = ls.written tree K m && value.is_yes (V m.0)
+  Wrote m = ls.written tree K m && is_yes (given_of (V m.0))
 
   candidate_selected : (c : ℕ) (x : SymId) → IsCandidate tree value_to has_line config_given config_holds c x → Sel tree user V solves c ≡ Some x
   candidate_selected c x (lt, pass, choice, is_y) = yes_selected tree user V theirs solves x c lt choice is_y
@@ -170,10 +164,10 @@ module _ (tree : TreeFacts) (user : UserPlace → Option GivenValue) (V : ℕ �
   candidate : (c : ℕ) (f : ChoiceFacts) (m : SymId) → choice_at tree c ≡ Some f → Contains f.members m → Wrote m ≡ true → IsCandidate tree value_to has_line config_given config_holds c m
   candidate c f m at member wrote =
       let (lt, (g, found_g, choice)) = theirs c f m at member in
-      let (w, is_y) = and_parts (ls.written tree K m) (value.is_yes (V m.0)) wrote in
+      let (w, is_y) = and_parts (ls.written tree K m) (is_yes (given_of (V m.0))) wrote in
       let bool : g.kind ≡ kind.Bool = bools m g c found_g choice in
       let ok : allowed tree m (given_of (V m.0)) ≡ true = ap (λ o. allowed_for o (given_of (V m.0))) found_g ∙ ap (λ k. allowed_by k (given_of (V m.0))) bool ∙ yes_allowed (V m.0) is_y in
-      (lt, and_from (ls.written tree K m) (allowed tree m (given_of (V m.0))) w ok, choice_by_place tree m c (place_of_member tree m g c found_g choice), yes_known (V m.0) ∙ is_y)
+      (lt, and_from (ls.written tree K m) (allowed tree m (given_of (V m.0))) w ok, choice_by_place tree m c (place_of_member tree m g c found_g choice), is_y)
 
   -- a candidate is a member that is written and y
   candidate_found : (c : ℕ) (x : SymId) → IsCandidate tree value_to has_line config_given config_holds c x → (f : ChoiceFacts) × (choice_at tree c ≡ Some f) × Contains f.members x × (Wrote x ≡ true)
@@ -182,7 +176,7 @@ module _ (tree : TreeFacts) (user : UserPlace → Option GivenValue) (V : ℕ �
       let e : g.choice ≡ Some c = sym (ap (option_and_then (λ (h : SymbolFacts). h.choice)) at) ∙ choice in
       let (f, found_f, member) = formed.members_listed x.0 g at c e in
       let (w, ok) = and_parts (ls.written tree K x) (allowed tree x (given_of (V x.0))) pass in
-      (f, found_f, member, and_from (ls.written tree K x) (value.is_yes (V x.0)) w (sym (yes_known (V x.0)) ∙ is_y))
+      (f, found_f, member, and_from (ls.written tree K x) (is_yes (given_of (V x.0))) w is_y)
 
   reread_found : (c : ℕ) (o : Option ChoiceFacts) (r : Option SymId) → c < length tree.choices → choice_at tree c ≡ o → find Wrote (members_of o) ≡ r →
       place_at Reread (ChoicePlace c) ≡ option_map Member r

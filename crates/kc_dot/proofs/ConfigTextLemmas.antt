@@ -1,7 +1,7 @@
 -- What the lines of the .config give.
-use Rattle.std.proofs.Common.{◌≡◌, ℕ, ◌≤◌, List, [], ◌∷◌, ◌++◌, Bool, true, false, length, cond, refl, sym, ap, ◌∙◌, subst, arith, Option, Some, None, append_assoc, codes}
+use Rattle.std.proofs.Common.{◌≡◌, ℕ, ◌+◌, ◌≤◌, List, [], ◌∷◌, ◌++◌, Bool, true, false, length, take, cond, refl, sym, ap, ◌∙◌, subst, arith, Option, Some, None, append_assoc, codes}
 use Rattle.std.specs.Prelude.{slice_get}
-use Rattle.std.specs.List.{Contains, flat_map}
+use Rattle.std.specs.List.{Contains, enumerate_from, flat_map}
 use Rattle.std.specs.Str.Lines.{strip_carriage_return}
 use Rattle.std.proofs.lemmas.List.{length-append}
 use Rattle.std.proofs.lemmas.List.Elements.{All-append}
@@ -14,7 +14,7 @@ use Rattle.kc_dot.specs.Effects.{effect_of}
 use Rattle.kc_dot.specs.Prefixes.{is_prefix}
 use Rattle.kc_dot.specs.Reading.{Assignment, assignment_of}
 use Rattle.kc_dot.specs.Plain.{IsNotUnsetLine, HasPlainTitles, title_line}
-use Rattle.kc_dot.specs.Texts.{config_heading, config_text, title_lines, end_line, title_if, end_if, gap, shown_title, ends_after, symbol_config, entry_text, entries_text}
+use Rattle.kc_dot.specs.Texts.{config_heading, config_text, title_lines, end_line, title_if, end_if, gap, shown_title, symbol_config, end_is_last, entry_text, entries_text}
 use Rattle.kc_dot.specs.SolutionView.{SolutionView, is_shown}
 use Rattle.kc_dot.proofs.CommentLemmas.{silent, silent_plain, unset_not_last, end_unsets_nothing}
 use Rattle.kc_dot.proofs.FilledLemmas.{contains_here, contains_later}
@@ -116,15 +116,15 @@ module _ (tree : TreeFacts) (prefix stream : List ℕ) (is_pre : is_prefix prefi
     entry_gives i (CommentShown text when) after_end at line =
         title_if_quiet (is_shown (solution.truth when)) text (texts.entries i (CommentShown text when) at) (plain.entries i (CommentShown text when) at)
 
-    entries_give : (entries : List Shown) (after_end : Bool) →
+    entries_give : (n : ℕ) (after_end : ℕ → Bool) (entries : List Shown) →
         ((entry : Shown) (ends : Bool) → Contains entries entry → Gives tree prefix stream (entry_text tree prefix solution ends entry) (entry_given entry)) →
-        Gives tree prefix stream (entries_text tree prefix solution after_end entries) (flat_map entry_given entries)
-    entries_give [] after_end each = gives_nothing tree prefix stream
-    entries_give (entry ∷ entries) after_end each =
-        gives_append tree prefix stream (entry_text tree prefix solution after_end entry)
-        (entries_text tree prefix solution (ends_after tree solution after_end entry) entries) (entry_given entry) (flat_map entry_given entries)
-        (each entry after_end (contains_here entry entries))
-        (entries_give entries (ends_after tree solution after_end entry) (λ e ends c. each e ends (contains_later entry e entries c)))
+        Gives tree prefix stream (flat_map (λ (i, entry). entry_text tree prefix solution (after_end i) entry) (enumerate_from n entries)) (flat_map entry_given entries)
+    entries_give n after_end [] each = gives_nothing tree prefix stream
+    entries_give n after_end (entry ∷ entries) each =
+        gives_append tree prefix stream (entry_text tree prefix solution (after_end n) entry)
+        (flat_map (λ (i, e). entry_text tree prefix solution (after_end i) e) (enumerate_from (n + 1) entries)) (entry_given entry) (flat_map entry_given entries)
+        (each entry (after_end n) (contains_here entry entries))
+        (entries_give (n + 1) after_end entries (λ e ends c. each e ends (contains_later entry e entries c)))
 
     index_of : (entry : Shown) → Contains tree.entries entry → (i : ℕ) × (slice_get tree.entries i ≡ Some entry)
     index_of entry (i, lt, is) = (i, slice_get-get_or tree.entries i entry lt ∙ ap Some is)
@@ -134,8 +134,8 @@ module _ (tree : TreeFacts) (prefix stream : List ℕ) (is_pre : is_prefix prefi
         Gives tree prefix stream (config_text tree prefix solution) (flat_map entry_given tree.entries)
     unfolding config_text
     config_gives lines =
-        gives_append tree prefix stream (config_heading tree.main_menu) (entries_text tree prefix solution false tree.entries) [] (flat_map entry_given tree.entries)
+        gives_append tree prefix stream (config_heading tree.main_menu) (entries_text tree prefix solution tree.entries) [] (flat_map entry_given tree.entries)
         (heading_quiet tree.main_menu texts.main_menu plain.main_menu)
-        (entries_give tree.entries false (λ entry ends c.
+        (entries_give 0 (λ i. end_is_last tree solution (take i tree.entries)) tree.entries (λ entry ends c.
         let (i, at) = index_of entry c in
         entry_gives i entry ends at (λ s is. lines s (subst (Contains tree.entries) is c))))

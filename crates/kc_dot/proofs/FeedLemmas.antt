@@ -1,5 +1,5 @@
 -- Feeding in pieces is reading at once.
-use Rattle.std.proofs.Common.{◌≡◌, ℕ, ◌<◌, ◌≤◌, List, [], ◌∷◌, ◌++◌, true, false, length, take, drop, refl, sym, ap, ◌∙◌, arith, append_assoc, append-nil, subst, Option, Result, Ok, Err, OnOk}
+use Rattle.std.proofs.Common.{◌≡◌, ℕ, ◌+◌, ◌<◌, ◌≤◌, List, [], ◌∷◌, ◌++◌, true, false, length, take, drop, refl, sym, ap, ◌∙◌, arith, append_assoc, append-nil, length-append, subst, Option, Result, Ok, Err, OnOk}
 use Rattle.std.specs.Prelude.{◌==◌}
 use Rattle.std.proofs.lemmas.Bool.{eqb-true, ne_eqb}
 use Rattle.std.proofs.lemmas.List.{take-append-drop}
@@ -8,9 +8,10 @@ use Rattle.kc_tree.specs.TreeFacts.{TreeFacts}
 use Rattle.kc_user.specs.Places.{Places}
 use Rattle.kc_dot.specs.declared.fault.DotFault.{DotFault}
 use Rattle.kc_dot.specs.declared.fault.DotFault.TheVariants.{DotLineTooLong, Sink, Memory}
-use Rattle.kc_dot.specs.Feeding.{StreamPosition, IsWithinLine, fed, to_come, BreaksAt, ReadsPiece, Feeds, StopsBecause, StopsAt, Refuses, FinishesStream, FailsToEnd}
-use Rattle.kc_dot.specs.LineSteps.{FailsIn}
-use Rattle.kc_dot.specs.Reading.{Line, line, is_within, next_number, lines_from, reading, with_warnings, places_after, warning}
+use Rattle.kc_dot.specs.Feeding.{StreamPosition, IsWithinLine, fed, to_come, BreaksAt, ReadsPiece, Feeds, StopsBecause, Refuses, FinishesStream, FailsToEnd}
+use Rattle.kc_dot.specs.LineSteps.{FailsIn, StopsAt}
+use Rattle.kc_text.specs.Limits.{one_more}
+use Rattle.kc_dot.specs.Reading.{Line, line, is_within, lines_from, reading, with_warnings, places_after, warning}
 use Rattle.kc_dot.specs.Sink.{extended, BeginsWith, GoesBeyond}
 use Rattle.kc_dot.proofs.LineLemmas.{HasNoLf, lines_from-lf, lines_from-last, is_within-line}
 use Rattle.kc_dot.proofs.LongLineLemmas.{MeetsLongLine-long, MeetsLongLine-longer}
@@ -39,11 +40,11 @@ module _ (tree : TreeFacts) (prefix name : List ℕ) where
   -- an LF ends the line
   pub ReadsPiece-lf : (b : ℕ) (old : StreamPosition) (before : Places) → IsWithinLine old → is_line_feed b ≡ true →
       let l = line name old.number old.pending true in
-      ReadsPiece tree prefix name (b ∷ []) old (record { number = next_number old.number; pending = [] }) before (places_after tree prefix before (l ∷ [])) (warning tree prefix before l)
+      ReadsPiece tree prefix name (b ∷ []) old (record { number = one_more old.number; pending = [] }) before (places_after tree prefix before (l ∷ [])) (warning tree prefix before l)
   ReadsPiece-lf b old before open' lf rest more =
       let l = line name old.number old.pending true in
-      let e : lines_from name old.number (old.pending ++ b ∷ rest) ≡ l ∷ lines_from name (next_number old.number) rest = lines_from-lf name old.number old.pending b rest open'.one_line lf in
-      rw e (reading_within tree prefix before l (lines_from name (next_number old.number) rest ++ more) (is_within-line name old.number old.pending true open'.within))
+      let e : lines_from name old.number (old.pending ++ b ∷ rest) ≡ l ∷ lines_from name (one_more old.number) rest = lines_from-lf name old.number old.pending b rest open'.one_line lf in
+      rw e (reading_within tree prefix before l (lines_from name (one_more old.number) rest ++ more) (is_within-line name old.number old.pending true open'.within))
 
   -- the warning of the next line broke off
   pub StopsBecause-lf : (b : ℕ) (old : StreamPosition) (places : Places) (front : List ℕ) → IsWithinLine old → is_line_feed b ≡ true →
@@ -62,27 +63,27 @@ module _ (tree : TreeFacts) (prefix name : List ℕ) where
 
   -- whatever follows, what was handed out begins the warnings of the lines from there on
   pub begins_at_break : (left : List ℕ) (position : StreamPosition) (places : Places) (front : List ℕ) → BreaksAt tree prefix name left position places front →
-      (rest : List ℕ) (more : List Line) → BeginsWith (reading tree prefix places (to_come name position (left ++ rest) more)).warned front
+      (rest : List ℕ) (more : List Line) → GoesBeyond (reading tree prefix places (to_come name position (left ++ rest) more)).warned front
   begins_at_break left position places front breaks rest more =
       let bytes = position.pending ++ breaks.text in
       let l = line name position.number bytes true in
       let (b, beyond, begun) = breaks.begun in
-      let later = lines_from name (next_number position.number) (breaks.later ++ rest) ++ more in
+      let later = lines_from name (one_more position.number) (breaks.later ++ rest) ++ more in
       let after = reading tree prefix (places_after tree prefix places (l ∷ [])) later in
       let split : position.pending ++ (left ++ rest) ≡ bytes ++ 10 ∷ (breaks.later ++ rest) =
       ap (λ t. position.pending ++ (t ++ rest)) breaks.ends ∙ ap (λ t. position.pending ++ t) (append_assoc breaks.text (10 ∷ breaks.later) rest)
       ∙ sym (append_assoc position.pending breaks.text (10 ∷ (breaks.later ++ rest))) in
-      let cut : lines_from name position.number (position.pending ++ (left ++ rest)) ≡ l ∷ lines_from name (next_number position.number) (breaks.later ++ rest) =
+      let cut : lines_from name position.number (position.pending ++ (left ++ rest)) ≡ l ∷ lines_from name (one_more position.number) (breaks.later ++ rest) =
       ap (lines_from name position.number) split ∙ lines_from-lf name position.number bytes 10 (breaks.later ++ rest) breaks.one_line refl in
       let read : reading tree prefix places (to_come name position (left ++ rest) more) ≡ with_warnings (warning tree prefix places l) after =
       ap (λ ls. reading tree prefix places (ls ++ more)) cut ∙ reading_within tree prefix places l later (is_within-line name position.number bytes true breaks.within) in
-      rw read ((b ∷ beyond) ++ after.warned, rw begun (append_assoc front (b ∷ beyond) after.warned))
+      (b, beyond ++ after.warned, rw read (rw begun (append_assoc front (b ∷ beyond) after.warned)))
 
   pub StopsAt-lf : (fault : DotFault) (b : ℕ) (old : StreamPosition) (places : Places) (taken taken_after : Option (List ℕ)) → IsWithinLine old → is_line_feed b ≡ true →
       FailsIn (warning tree prefix places (line name old.number old.pending true)) fault taken taken_after → StopsAt tree prefix name fault (b ∷ []) old places taken taken_after
   StopsAt-lf (DotLineTooLong n) b old places taken taken_after open' lf never = absurd never
   StopsAt-lf Sink b old places taken taken_after open' lf (front, begins, handed) = (front, handed, StopsBecause-lf b old places front open' lf begins)
-  StopsAt-lf Memory b old places taken taken_after open' lf same = ([], same ∙ extended-nothing taken, refl)
+  StopsAt-lf Memory b old places taken taken_after open' lf same = ([], same ∙ extended-nothing taken, (refl, omega arith))
 
   -- the 65,536th byte of a line
   pub StopsAt-long : (b : ℕ) (old : StreamPosition) (places : Places) (taken : Option (List ℕ)) → IsWithinLine old → is_line_feed b ≡ false → 65535 ≤ length old.pending →
@@ -104,7 +105,9 @@ module _ (tree : TreeFacts) (prefix name : List ℕ) where
     within = breaks.within;
     begun = breaks.begun;
   }
-  StopsBecause-longer Memory a b position places front nothing = nothing
+  StopsBecause-longer Memory a b position places front (nothing, some) =
+      let count : length (a ++ b) ≡ length a + length b = length-append a b in
+      (nothing, omega arith)
 
   pub StopsAt-longer : (fault : DotFault) (a b : List ℕ) (position : StreamPosition) (places : Places) (taken taken_after : Option (List ℕ)) →
       StopsAt tree prefix name fault a position places taken taken_after → StopsAt tree prefix name fault (a ++ b) position places taken taken_after
@@ -132,7 +135,7 @@ module _ (tree : TreeFacts) (prefix name : List ℕ) where
   pub Feeds-lf : (b : ℕ) (old new : StreamPosition) (before after : Places) (taken taken_after : Option (List ℕ)) → IsWithinLine old → is_line_feed b ≡ true →
       after ≡ places_after tree prefix before (line name old.number old.pending true ∷ []) →
       taken_after ≡ extended taken (warning tree prefix before (line name old.number old.pending true)) →
-      new ≡ record { number = next_number old.number; pending = [] } →
+      new ≡ record { number = one_more old.number; pending = [] } →
       Feeds tree prefix name (b ∷ []) old new before after taken taken_after
   Feeds-lf b old new before after taken taken_after open' lf places handed next =
       (warning tree prefix before (line name old.number old.pending true), handed, λ rest more. rw (places, next) (ReadsPiece-lf b old before open' lf rest more))
@@ -171,12 +174,12 @@ module _ (tree : TreeFacts) (prefix name : List ℕ) where
   FailsToEnd-line (DotLineTooLong n) position places taken taken_after opened some never = never
   FailsToEnd-line Sink position places taken taken_after opened some broke =
       (line name position.number position.pending false, last_is position opened some, is_within-line name position.number position.pending false opened.within, broke)
-  FailsToEnd-line Memory position places taken taken_after opened some same = same
+  FailsToEnd-line Memory position places taken taken_after opened some same = (same, some)
 
   -- whatever lines follow, what was handed out begins the warnings of the last line and theirs
   pub begins_at_end : (position : StreamPosition) (places : Places) (last : Line) (front : List ℕ) → lines_from name position.number position.pending ≡ last ∷ [] → is_within last ≡ true →
       GoesBeyond (warning tree prefix places last) front →
-      (more : List Line) → BeginsWith (reading tree prefix places (lines_from name position.number position.pending ++ more)).warned front
+      (more : List Line) → GoesBeyond (reading tree prefix places (lines_from name position.number position.pending ++ more)).warned front
   begins_at_end position places last front is within (b, beyond, begun) more =
       let after = reading tree prefix (places_after tree prefix places (last ∷ [])) more in
-      rw (is, reading_within tree prefix places last more within) ((b ∷ beyond) ++ after.warned, rw begun (append_assoc front (b ∷ beyond) after.warned))
+      (b, beyond ++ after.warned, rw (is, reading_within tree prefix places last more within) (rw begun (append_assoc front (b ∷ beyond) after.warned)))

@@ -8,9 +8,9 @@ use Rattle.std.proofs.lemmas.List.Elements.{Contains-append_left, Contains-appen
 use Rattle.kc_expr.specs.declared.expression.SymId.{SymId}
 use Rattle.kc_expr.specs.Names.{symbol}
 use Rattle.kc_tree.specs.TreeFacts.{TreeFacts}
-use Rattle.kc_user.specs.GivenValue.{GivenValue, Member, SymbolPlace, ChoicePlace}
+use Rattle.kc_user.specs.GivenValue.{GivenValue, Member, SymbolPlace, ChoicePlace, is_yes}
 use Rattle.kc_user.specs.Places.{Places, place_at, no_places, member_place}
-use Rattle.kc_dot.specs.Reading.{Assignment, each_from, given_to, chosen_in, is_yes, is_choice, choice_of, places_given}
+use Rattle.kc_dot.specs.Reading.{Assignment, each_from, given_to, chosen_in, is_choice, choice_of, places_given}
 
 -- Elements of a list.
 pub contains_here : {X : Type 0} (x : X) (xs : List X) → Contains (x ∷ xs) x

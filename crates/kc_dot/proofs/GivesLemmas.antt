@@ -1,12 +1,13 @@
 -- What the lines of a text give to the places, wherever it stands in a stream.
-use Rattle.std.proofs.Common.{◌≡◌, ℕ, ◌+◌, ◌<◌, ◌≤◌, suc, List, [], ◌∷◌, ◌++◌, true, length, refl, sym, ap, ◌∙◌, Option, None, append_assoc, append-nil, arith}
+use Rattle.std.proofs.Common.{◌≡◌, ℕ, ◌<◌, ◌≤◌, suc, List, [], ◌∷◌, ◌++◌, true, length, refl, sym, ap, ◌∙◌, Option, None, append_assoc, append-nil, arith}
 use Rattle.std.specs.List.{cons_option, flat_map, Contains}
 use Rattle.std.specs.Str.Lines.{strip_carriage_return}
 use Rattle.kc_tree.specs.TreeFacts.{TreeFacts}
 use Rattle.kc_user.specs.Places.{Places}
 use Rattle.kc_dot.specs.DotLine.{meaning_of}
 use Rattle.kc_dot.specs.Effects.{effect_of}
-use Rattle.kc_dot.specs.Reading.{Assignment, line, next_number, lines_from, reading, with_warnings, warning, places_given, places_after, effect, assignment_of}
+use Rattle.kc_text.specs.Limits.{one_more}
+use Rattle.kc_dot.specs.Reading.{Assignment, line, lines_from, reading, with_warnings, warning, places_given, places_after, effect, assignment_of}
 use Rattle.kc_dot.proofs.LineLemmas.{HasNoLf, lines_from-lf, lines_from-last, is_within-line}
 use Rattle.kc_dot.proofs.PlaceLemmas.{places_given-append, places_given-nothing}
 use Rattle.kc_dot.proofs.ReadingLemmas.{reading_within, reading-nothing, with_warnings-with_warnings}
@@ -41,9 +42,9 @@ module _ (tree : TreeFacts) (prefix stream : List ℕ) where
       let l = line stream n body true in
       let e : (body ++ 10 ∷ []) ++ rest ≡ body ++ 10 ∷ rest = append_assoc body (10 ∷ []) rest in
       let after : places_after tree prefix places (l ∷ []) ≡ places_given tree places (cons_option o []) = ap (λ x. places_given tree places (cons_option x [])) is in (
-        next_number n,
+        one_more n,
         warning tree prefix places l,
-        rw (e, lines_from-lf stream n body 10 rest none refl, reading_within tree prefix places l (lines_from stream (next_number n) rest) (is_within-line stream n body true short), after) refl,
+        rw (e, lines_from-lf stream n body 10 rest none refl, reading_within tree prefix places l (lines_from stream (one_more n) rest) (is_within-line stream n body true short), after) refl,
       )
 
   -- one after another

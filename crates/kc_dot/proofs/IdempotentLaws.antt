@@ -6,8 +6,11 @@ use Rattle.kc_order.specs.Solution.{Solves}
 use Rattle.kc_tree.specs.TreeFacts.{TreeFacts, IsLineText, IsWellFormed, OfTitles, ShowsEach}
 use Rattle.kc_user.specs.GivenValue.{GivenValue, UserPlace}
 use Rattle.kc_user.specs.Places.{place_at}
-use Rattle.kc_values.specs.Differs.{reread_places, changes_on_reread}
-use Rattle.kc_values.specs.Laws.{IsAccepted, MembersAreTheirs, MembersAreBools, SolutionsAgree}
+use Rattle.kc_values.specs.Differs.{changes_on_reread}
+use Rattle.kc_values.specs.GivenLines.{reread_places}
+use Rattle.kc_values.specs.Laws.{SolutionsAgree}
+use Rattle.kc_values.specs.Members.{MembersAreTheirs, MembersAreBools}
+use Rattle.kc_values.specs.Needs.{IsAccepted}
 use Rattle.kc_values.specs.Solution.{symbol_count, known_from, user_place, rhs, equations}
 use Rattle.kc_values.specs.WrittenSymbols.{written}
 use Rattle.kc_dot.specs.Prefixes.{is_prefix}

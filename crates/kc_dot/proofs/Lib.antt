@@ -5,10 +5,12 @@ pub mod CallLemmas
 pub mod CommentLemmas
 pub mod ConfigLaws
 pub mod ConfigTextLemmas
-pub mod FedLemmas
+pub mod EntryLemmas
+mod FedLemmas
 pub mod FeedLemmas
 pub mod FilledLemmas
 pub mod GivesLemmas
+pub mod InTurnLemmas
 pub mod LineLemmas
 pub mod LongLineLemmas
 pub mod PageLemmas

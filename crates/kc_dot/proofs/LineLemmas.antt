@@ -9,7 +9,8 @@ use Rattle.kc_user.specs.Places.{Places}
 use Rattle.kc_dot.specs.DotLine.{meaning_of}
 use Rattle.kc_dot.specs.Effects.{Effect, Silent, Warns, Assigns, effect_of}
 use Rattle.kc_dot.specs.LineSteps.{places_by}
-use Rattle.kc_dot.specs.Reading.{Line, line, is_within, next_number, last_line, lines_from, text_of, effect, assignment_of, places_given, places_after, warning, warning_line_if, effect_warning}
+use Rattle.kc_text.specs.Limits.{one_more}
+use Rattle.kc_dot.specs.Reading.{Line, line, is_within, last_line, lines_from, text_of, effect, assignment_of, places_given, places_after, warning, warning_line_if, effect_warning}
 use Rattle.kc_dot.proofs.PlaceLemmas.{places_given-nothing}
 
 -- there is a first part
@@ -27,7 +28,7 @@ HasNoLf bytes = All (λ b. is_line_feed b ≡ false) bytes
 
 -- an LF ends the line, and the next line follows
 pub lines_from-lf : (stream : List ℕ) (n : ℕ) (bytes : List ℕ) (b : ℕ) (rest : List ℕ) → HasNoLf bytes → is_line_feed b ≡ true →
-    lines_from stream n (bytes ++ b ∷ rest) ≡ line stream n bytes true ∷ lines_from stream (next_number n) rest
+    lines_from stream n (bytes ++ b ∷ rest) ≡ line stream n bytes true ∷ lines_from stream (one_more n) rest
 unfolding lines_from
 lines_from-lf stream n bytes b rest one ends =
     let (part, parts, is) = split_form rest in

@@ -8,9 +8,11 @@ use Rattle.kc_order.specs.Minimal.{kept, Restores, NothingCanGo}
 use Rattle.kc_order.specs.Solution.{Solves}
 use Rattle.kc_tree.specs.TreeFacts.{TreeFacts, IsWellFormed}
 use Rattle.kc_user.specs.GivenValue.{GivenValue, UserPlace, SymbolPlace, ChoicePlace}
-use Rattle.kc_user.specs.Places.{Places, place_at, no_places}
-use Rattle.kc_values.specs.Differs.{differs, default_selection, minimal_line, AllowedPlaces}
-use Rattle.kc_values.specs.Laws.{MembersAreTheirs, MembersAreBools, DifferingAreAllowed}
+use Rattle.kc_user.specs.Places.{Places, place_at, no_places, AllowedPlaces}
+use Rattle.kc_values.specs.Differs.{differs, default_selection}
+use Rattle.kc_values.specs.GivenLines.{minimal_line}
+use Rattle.kc_values.specs.Laws.{DifferingAreAllowed}
+use Rattle.kc_values.specs.Members.{MembersAreTheirs, MembersAreBools}
 use Rattle.kc_values.specs.Solution.{symbol_count, user_place, rhs, equations}
 use Rattle.kc_tree.specs.Common.{is_symbol_of}
 use Rattle.kc_values.proofs.FixedLines.{place_cases, named, Sel, differs-member}

@@ -13,10 +13,12 @@ use Rattle.kc_expr.specs.Value.{SymbolValue, Truth}
 use Rattle.kc_order.specs.Minimal.{kept}
 use Rattle.kc_order.specs.Solution.{Solves}
 use Rattle.kc_tree.specs.TreeFacts.{TreeFacts, SymbolFacts, IsWellFormed}
-use Rattle.kc_user.specs.GivenValue.{GivenValue, Member, UserPlace, SymbolPlace, ChoicePlace}
-use Rattle.kc_user.specs.Places.{place_at, no_places, allowed, allowed_by, allowed_for}
-use Rattle.kc_values.specs.Differs.{given_of, differs, default_selection, minimal_line, TellsDiffering, AllowedPlaces}
-use Rattle.kc_values.specs.Laws.{MembersAreTheirs, MembersAreBools, DifferingAreAllowed}
+use Rattle.kc_user.specs.GivenValue.{GivenValue, Member, UserPlace, SymbolPlace, ChoicePlace, is_yes}
+use Rattle.kc_user.specs.Places.{place_at, no_places, allowed, allowed_by, allowed_for, AllowedPlaces}
+use Rattle.kc_values.specs.Differs.{given_of, differs, default_selection}
+use Rattle.kc_values.specs.GivenLines.{minimal_line, TellsDiffering}
+use Rattle.kc_values.specs.Laws.{DifferingAreAllowed}
+use Rattle.kc_values.specs.Members.{MembersAreTheirs, MembersAreBools}
 use Rattle.kc_values.specs.Lookups.{facts, choice_at}
 use Rattle.kc_values.specs.Solution as sol
 use Rattle.kc_values.specs.Solution.{symbol_count, known_from, user_place, equations}
@@ -25,7 +27,7 @@ use Rattle.kc_values.proofs.FixedLines.{place_cases, place_of_member, names_itse
 use Rattle.kc_values.proofs.Selection.{selected_member}
 use Rattle.kc_dot.specs.Effects.{name_of}
 use Rattle.kc_dot.specs.Prefixes.{is_prefix}
-use Rattle.kc_dot.specs.Reading.{Assignment, choice_of, is_yes, places_given}
+use Rattle.kc_dot.specs.Reading.{Assignment, choice_of, places_given}
 use Rattle.kc_dot.specs.Reread.{valuation_view, kept_lines}
 use Rattle.kc_dot.specs.HasNames.{HasNames}
 use Rattle.kc_dot.specs.Texts.{symbols_of, symbol_config}
@@ -164,7 +166,7 @@ module _ (tree : TreeFacts) (user : UserPlace → Option GivenValue) (V : ℕ �
       Gives tree prefix stream (symbol_config tree prefix (valuation_view tree user V) s) (assignment_to s ∷ [])
   differing_gives stream s lt e =
       let (f, at) = there tree.symbols s.0 lt in
-      let ok : allowed tree s (given_of (V s.0)) ≡ true = law tree user V s.0 lt bools allowed_at solves e in
+      let ok : allowed tree s (given_of (V s.0)) ≡ true = law tree user V s.0 lt formed allowed_at solves e in
       let ok_kind : allowed_by f.kind (given_of (V s.0)) ≡ true = sym (ap (λ o. allowed_for o (given_of (V s.0))) at) ∙ ok in
       let value_is : told_value s ≡ V s.0 = rw (lt-ltb s.0 (length tree.symbols) lt) refl in
       let shape : IsOf f.kind (V s.0) = elim (value_shape tree (known_from tree V) s f (user (user_place tree s.0)) at bools) [

@@ -1,9 +1,16 @@
 -- A text that waits on a page, and is handed out page by page.
-use Rattle.std.proofs.Common.{◌≡◌, List, ℕ, [], ◌++◌, refl, sym, ap, ◌∙◌, append_assoc, append-nil, Option}
+use Rattle.std.proofs.Common.{◌≡◌, ◌<◌, List, ℕ, [], ◌∷◌, ◌++◌, length, refl, sym, ap, ◌∙◌, arith, append_assoc, append-nil, length-append, Option}
 use Rattle.kc_dot.specs.Pages.{HandsOn, Waits}
-use Rattle.kc_dot.specs.Sink.{extended, BreaksOff, HandsOut}
+use Rattle.kc_dot.specs.Sink.{extended, BreaksOff}
 use Rattle.kc_dot.proofs.PartLemmas.{BreaksOff-behind}
 use Rattle.kc_dot.proofs.SinkLemmas.{extended-extended, extended-nothing}
+
+-- a text with a byte has one behind another, and before another
+pub some_behind : (front text : List ℕ) → 0 < length text → 0 < length (front ++ text)
+some_behind front text some = omega (arith, length-append front text)
+
+pub some_before : (text rest : List ℕ) → 0 < length text → 0 < length (text ++ rest)
+some_before text rest some = omega (arith, length-append text rest)
 
 -- nothing was taken yet
 pub waits_from : (page rest next : List ℕ) (old : Option (List ℕ)) → rest ≡ next → Waits (page ++ rest) page next old old
@@ -22,9 +29,13 @@ waits_on text page kept rest old mid new (front, is, taken) (more, split, now) =
     let e : page ++ rest ≡ more ++ (kept ++ rest) = ap (λ t. t ++ rest) split ∙ append_assoc more kept rest in
     (front ++ more, is ∙ ap (λ t. front ++ t) e ∙ sym (append_assoc front more (kept ++ rest)), now ∙ rw taken (extended-extended old front more))
 
--- what was taken so far is a beginning of the text
-pub waits_stop : (text page rest : List ℕ) (old now : Option (List ℕ)) → Waits text page rest old now → HandsOut text old now
-waits_stop text page rest old now (front, is, taken) = (front, (page ++ rest, is), taken)
+-- what was taken so far is a beginning of the text, and not the whole, where some of the text is left
+stops : (text front left : List ℕ) (old now : Option (List ℕ)) → 0 < length left → text ≡ front ++ left → now ≡ extended old front → BreaksOff text old now
+stops text front [] old now some is taken = absurd (omega arith)
+stops text front (b ∷ left) old now some is taken = (front, (b, left, is), taken)
+
+pub waits_stop : (text page rest : List ℕ) (old now : Option (List ℕ)) → 0 < length rest → Waits text page rest old now → BreaksOff text old now
+waits_stop text page rest old now some (front, is, taken) = stops text front (page ++ rest) old now (some_behind page rest some) is taken
 
 pub waits_breaks : (text page rest : List ℕ) (old mid new : Option (List ℕ)) → Waits text page rest old mid → BreaksOff page mid new → BreaksOff text old new
 waits_breaks text page rest old mid new (front, is, taken) broke = rw is (BreaksOff-behind front page rest old mid new taken broke)
@@ -36,8 +47,8 @@ waits_all text page rest old mid new none (front, is, taken) now =
     now ∙ rw taken (extended-extended old front page) ∙ ap (extended old) (sym (is ∙ ap (λ t. front ++ t) e))
 
 -- nothing of the text was taken
-pub HandsOut-nothing : (text : List ℕ) (taken : Option (List ℕ)) → HandsOut text taken taken
-HandsOut-nothing text taken = ([], (text, refl), extended-nothing taken)
+pub BreaksOff-nothing : (text : List ℕ) (taken : Option (List ℕ)) → 0 < length text → BreaksOff text taken taken
+BreaksOff-nothing text taken some = stops text [] text taken taken some refl (extended-nothing taken)
 
 -- two texts were taken, and nothing waits
 pub hands_both : (first second waits : List ℕ) (old mid new : Option (List ℕ)) → mid ≡ extended old first → new ≡ extended mid second → waits ≡ [] → HandsOn (first ++ second) waits old new

@@ -2,7 +2,7 @@
 use Rattle.std.proofs.Common.{◌≡◌, ℕ, ◌+◌, ◌<◌, ◌≤◌, List, [], ◌∷◌, ◌++◌, length, drop, get_or, refl, sym, ap, ◌∙◌, append_assoc, append-nil, subst, Option}
 use Rattle.std.specs.List.{flat_map}
 use Rattle.std.proofs.lemmas.List.{drop_more, drop_all}
-use Rattle.kc_dot.specs.Sink.{extended, BreaksOff, HandsOut}
+use Rattle.kc_dot.specs.Sink.{extended, BreaksOff}
 use Rattle.kc_dot.proofs.SinkLemmas.{extended-extended, extended-nothing}
 
 -- a text that broke off behind another
@@ -21,10 +21,6 @@ pub BreaksOff-second : (first second : List ℕ) (old mid new : Option (List ℕ
 BreaksOff-second first second old mid new before broke =
     let P : List ℕ → Type 0 = λ t. BreaksOff (first ++ t) old new in
     subst P (append-nil second) (BreaksOff-behind first second [] old mid new before broke)
-
--- what broke off handed out a beginning
-pub BreaksOff-HandsOut : (text : List ℕ) (old new : Option (List ℕ)) → BreaksOff text old new → HandsOut text old new
-BreaksOff-HandsOut text old new (front, (b, rest, is), taken) = (front, (b ∷ rest, is), taken)
 
 -- one part more, and none
 pub parts_next : {X : Type 0} (f : X → List ℕ) (xs : List X) (i : ℕ) (d : X) → i < length xs → flat_map f (drop i xs) ≡ f (get_or xs i d) ++ flat_map f (drop (i + 1) xs)

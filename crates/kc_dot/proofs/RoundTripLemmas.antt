@@ -1,5 +1,5 @@
 -- What is written, read again.
-use Rattle.std.proofs.Common.{◌≡◌, ℕ, ◌+◌, ◌-◌, ◌<◌, ◌≤◌, suc, List, [], ◌∷◌, ◌++◌, true, false, length, get_or, eqb, refl, sym, ap, ◌∙◌, arith, inl, inr, Some, None, append_assoc, length-append, codes}
+use Rattle.std.proofs.Common.{◌≡◌, ℕ, ◌-◌, ◌<◌, ◌≤◌, suc, List, [], ◌∷◌, ◌++◌, true, false, length, get_or, eqb, refl, sym, ap, ◌∙◌, arith, inl, inr, Some, None, append_assoc, length-append, codes}
 use Rattle.std.specs.Prelude.{◌||◌, ◌==◌, All}
 use Rattle.std.specs.List.{list_any, suffix_len, position_or_len}
 use Rattle.std.specs.Option.{option_and_then}

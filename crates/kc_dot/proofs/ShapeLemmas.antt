@@ -1,5 +1,5 @@
 -- What a value is by the type of its symbol, and when its text fits a line.
-use Rattle.std.proofs.Common.{◌≡◌, ℕ, ◌+◌, List, Bool, true, false, not, length, refl, sym, ap, ◌∙◌, subst, arith, inl, inr, ◌⊎◌, Option, Some, None}
+use Rattle.std.proofs.Common.{◌≡◌, ℕ, ◌+◌, List, true, false, not, length, refl, sym, ap, ◌∙◌, subst, arith, inl, inr, ◌⊎◌, Option, Some, None}
 use Rattle.std.specs.Prelude.{is_some, nat_le}
 use Rattle.std.specs.List.{list_any}
 use Rattle.std.proofs.lemmas.Bool.{leb-true, and_parts, not-true, true≢false}
@@ -15,7 +15,7 @@ use Rattle.kc_tree.specs.TreeFacts.{TreeFacts, SymbolFacts}
 use Rattle.kc_user.specs.GivenValue.{GivenValue, GivenTruth, GivenText, Member}
 use Rattle.kc_user.specs.Places.{allowed_by}
 use Rattle.kc_values.specs.Differs.{given_of}
-use Rattle.kc_values.specs.Laws.{MembersAreBools}
+use Rattle.kc_values.specs.Members.{MembersAreBools}
 use Rattle.kc_values.specs.Lookups.{facts}
 use Rattle.kc_values.specs.Values as v
 use Rattle.kc_dot.proofs.LineLemmas.{HasNoLf}

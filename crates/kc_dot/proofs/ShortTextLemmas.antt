@@ -1,7 +1,7 @@
 -- The lines of a written text are not too long to be read again.
-use Rattle.std.proofs.Common.{◌≡◌, ℕ, ◌<◌, ◌≤◌, List, [], ◌∷◌, ◌++◌, Bool, true, false, length, cond, refl, sym, ap, ◌∙◌, subst, arith, Option, Some, None, append_assoc, append-nil, codes}
+use Rattle.std.proofs.Common.{◌≡◌, ℕ, ◌+◌, ◌<◌, ◌≤◌, List, [], ◌∷◌, ◌++◌, Bool, true, false, length, take, cond, refl, sym, ap, ◌∙◌, subst, arith, Option, Some, None, append_assoc, append-nil, codes}
 use Rattle.std.specs.Prelude.{All, slice_get}
-use Rattle.std.specs.List.{Contains, flat_map}
+use Rattle.std.specs.List.{Contains, enumerate_from, flat_map}
 use Rattle.std.proofs.lemmas.Bool.{lt-ltb}
 use Rattle.std.proofs.lemmas.List.{length-append}
 use Rattle.std.proofs.lemmas.List.Elements.{All-append, All-cons, All-nil}
@@ -20,10 +20,11 @@ use Rattle.kc_dot.specs.HasNames.{HasNames}
 use Rattle.kc_dot.specs.Laws.{HasShortLines}
 use Rattle.kc_dot.specs.Plain.{title_line}
 use Rattle.kc_dot.specs.Prefixes.{is_prefix}
-use Rattle.kc_dot.specs.Reading.{Line, line, is_within, next_number, lines_from}
+use Rattle.kc_text.specs.Limits.{one_more}
+use Rattle.kc_dot.specs.Reading.{Line, line, is_within, lines_from}
 use Rattle.kc_dot.specs.Reread.{valuation_view}
 use Rattle.kc_dot.specs.SymbolLines.{dot_line}
-use Rattle.kc_dot.specs.Texts.{config_heading, config_text, title_lines, end_line, end_if, gap, shown_title, ends_after, symbol_config, symbols_of, entry_text, entries_text, minimal_if, minimal_text}
+use Rattle.kc_dot.specs.Texts.{config_heading, config_text, title_lines, end_line, end_if, gap, shown_title, symbol_config, symbols_of, end_is_last, entry_text, entries_text, minimal_if, minimal_text}
 use Rattle.kc_dot.specs.SolutionView.{SolutionView, is_shown}
 use Rattle.kc_dot.proofs.FilledLemmas.{contains_here, contains_later}
 use Rattle.kc_dot.proofs.LineLemmas.{HasNoLf, lines_from-lf, lines_from-last, is_within-line}
@@ -63,7 +64,7 @@ module _ (stream : List ℕ) where
 
   short_line : (body text : List ℕ) → text ≡ body ++ 10 ∷ [] → HasNoLf body → length body ≤ 65535 → Short text
   short_line body text is none few n rest = record {
-    next = next_number n;
+    next = one_more n;
     lines = line stream n body true ∷ [];
     short = All-cons Within (line stream n body true) [] (is_within-line stream n body true few) (All-nil Within);
     is = ap (λ t. lines_from stream n (t ++ rest)) is ∙ ap (lines_from stream n) (append_assoc body (10 ∷ []) rest) ∙ lines_from-lf stream n body 10 rest none refl;
@@ -182,20 +183,21 @@ module _ (stream : List ℕ) where
     entry_short i (EndShown menu) after_end at symbol = end_shown menu (slice_get tree.entries menu) refl
     entry_short i (CommentShown text when) after_end at symbol = short_if (is_shown (solution.truth when)) (title_lines text) (title_lines_short text (texts.entries i (CommentShown text when) at))
 
-    entries_short : (entries : List Shown) (after_end : Bool) →
+    entries_short : (n : ℕ) (after_end : ℕ → Bool) (entries : List Shown) →
         ((entry : Shown) (ends : Bool) → Contains entries entry → Short (entry_text tree prefix solution ends entry)) →
-        Short (entries_text tree prefix solution after_end entries)
-    entries_short [] after_end each = short_nothing
-    entries_short (entry ∷ entries) after_end each =
-        short_append (entry_text tree prefix solution after_end entry) (entries_text tree prefix solution (ends_after tree solution after_end entry) entries)
-        (each entry after_end (contains_here entry entries))
-        (entries_short entries (ends_after tree solution after_end entry) (λ e ends c. each e ends (contains_later entry e entries c)))
+        Short (flat_map (λ (i, entry). entry_text tree prefix solution (after_end i) entry) (enumerate_from n entries))
+    entries_short n after_end [] each = short_nothing
+    entries_short n after_end (entry ∷ entries) each =
+        short_append (entry_text tree prefix solution (after_end n) entry)
+        (flat_map (λ (i, e). entry_text tree prefix solution (after_end i) e) (enumerate_from (n + 1) entries))
+        (each entry (after_end n) (contains_here entry entries))
+        (entries_short (n + 1) after_end entries (λ e ends c. each e ends (contains_later entry e entries c)))
 
     config_short : ((i : ℕ) (s : SymId) → slice_get tree.entries i ≡ Some (SymbolShown s) → Short (symbol_config tree prefix solution s)) → Short (config_text tree prefix solution)
     unfolding config_text
     config_short symbol =
-        short_append (config_heading tree.main_menu) (entries_text tree prefix solution false tree.entries) (heading_short tree.main_menu texts.main_menu)
-        (entries_short tree.entries false (λ entry ends (i, lt, is).
+        short_append (config_heading tree.main_menu) (entries_text tree prefix solution tree.entries) (heading_short tree.main_menu texts.main_menu)
+        (entries_short 0 (λ i. end_is_last tree solution (take i tree.entries)) tree.entries (λ entry ends (i, lt, is).
         let at : slice_get tree.entries i ≡ Some entry = slice_get-get_or tree.entries i entry lt ∙ ap Some is in
         entry_short i entry ends at (λ s e. symbol i s (at ∙ ap Some e))))
 

@@ -5,10 +5,10 @@ use Rattle.kc_order.specs.Solution.{Solves}
 use Rattle.kc_solve.specs.Solved.{IsSolution, Solution, value_of}
 use Rattle.kc_tree.specs.TreeFacts.{TreeFacts, IsWellFormed}
 use Rattle.kc_user.specs.Places.{ArePlaces, place_at}
-use Rattle.kc_values.specs.Laws.{IsAccepted}
+use Rattle.kc_values.specs.Needs.{IsAccepted}
 use Rattle.kc_values.specs.Solution.{equations, symbol_count}
 use Rattle.kc_dot.specs.Effects.{name_of}
-use Rattle.kc_dot.specs.Laws.{IsSolutionOf}
+use Rattle.kc_dot.specs.WrittenLaws.{IsSolutionOf}
 use Rattle.kc_dot.specs.HasNames.{HasNames}
 
 pub solution_of : (s : Solution) (tree : TreeFacts) → s.tree ≡ tree → IsWellFormed tree → IsAccepted s.tree → IsSolution s → ArePlaces tree s.places → IsSolutionOf tree s.places (value_of s)

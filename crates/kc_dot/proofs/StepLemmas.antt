@@ -8,13 +8,13 @@ use Rattle.kc_expr.specs.declared.expression.Kind.TheVariants as kind
 use Rattle.kc_tree.specs.TreeFacts.{TreeFacts, SymbolFacts, IsWellFormed}
 use Rattle.kc_tree.specs.Contexts.{mode_view}
 use Rattle.kc_tree.specs.declared.rows.ChoiceId.{ChoiceId}
-use Rattle.kc_user.specs.GivenValue.{GivenValue}
+use Rattle.kc_user.specs.GivenValue.{GivenValue, is_yes}
 use Rattle.kc_user.specs.Places.{Places}
 use Rattle.kc_dot.specs.Effects.{set_effect, set_by_kind, assigned_or, kind_in}
 use Rattle.kc_dot.specs.LineValue.{line_value}
 use Rattle.kc_dot.specs.EffectView.{AssignsDefined}
 use Rattle.kc_dot.specs.LineSteps.{with_member}
-use Rattle.kc_dot.specs.Reading.{places_given, is_yes, choice_of}
+use Rattle.kc_dot.specs.Reading.{places_given, choice_of}
 use Rattle.kc_dot.proofs.PlaceLemmas.{places_given-one}
 
 by_value : (tree : TreeFacts) (name : List ℕ) (s : SymId) (found : Option GivenValue) → s.0 < length tree.symbols → AssignsDefined tree (assigned_or name s found)

@@ -11,7 +11,7 @@ use Rattle.std.specs.Str.Lines.{strip_carriage_return}
 use Rattle.kc_text.specs.Lines.{is_line_feed}
 use Rattle.kc_expr.specs.declared.expression.SymId.{SymId}
 use Rattle.kc_tree.specs.TreeFacts.{TreeFacts, SymbolFacts, IsWellFormed}
-use Rattle.kc_user.specs.GivenValue.{GivenValue}
+use Rattle.kc_user.specs.GivenValue.{GivenValue, is_yes}
 use Rattle.kc_user.specs.Laws.{EmptyArePlaces, SettingKeepsPlaces, SelectingKeepsPlaces}
 use Rattle.kc_user.specs.Places.{ArePlaces, Places, allowed, members_of, no_places}
 use Rattle.kc_dot.specs.Calls.{Call, Feed, Finish, NextStream, Answers, AllAnswered, rest_of, more_of, lines_fed}
@@ -20,7 +20,8 @@ use Rattle.kc_dot.specs.Effects.{Effect, Silent, Warns, Assigns, effect_of}
 use Rattle.kc_dot.specs.Feeding.{StreamPosition, fed, ended, stream_start, ReadsPiece, EndsStream}
 use Rattle.kc_dot.specs.LineSteps.{with_member}
 use Rattle.kc_dot.specs.ReaderState.{ReaderState}
-use Rattle.kc_dot.specs.Reading.{Assignment, Line, ReadResult, Stream, assignment_of, assignments, choice_of, before_too_long, effect, is_within, is_yes, last_line, line, lines_from, lines_of, lines_in_stream, next_number, places_given, reading, text_of, with_warnings}
+use Rattle.kc_text.specs.Limits.{one_more}
+use Rattle.kc_dot.specs.Reading.{Assignment, Line, ReadResult, Stream, assignment_of, assignments, choice_of, before_too_long, effect, is_within, last_line, line, lines_from, lines_of, lines_in_stream, places_given, reading, text_of, with_warnings}
 use Rattle.kc_dot.specs.Streams.{Pieces, stream_of, feeds, calls_after, RefusalsKeepPlaces, StreamsAreRead, StreamsLeavePlaces, ReadingKeepsPlaces}
 use Rattle.kc_dot.proofs.AllowedLemmas.{assigned_allowed, strip_no_lf}
 use Rattle.kc_dot.proofs.CallLemmas.{calls_join}
@@ -174,7 +175,7 @@ last_line_no_lf stream n bytes none = by (length bytes == 0)
 part_lines : (stream : List ℕ) (n : ℕ) (parts : List (List ℕ)) → AllByRecursion HasNoLf parts → AllByRecursion (λ (l : Line). HasNoLf l.bytes) (lines_in_stream stream n parts)
 part_lines stream n [] ok = tt
 part_lines stream n (part ∷ []) ok = last_line_no_lf stream n part ok.0
-part_lines stream n (part ∷ next ∷ parts) ok = (ok.0, part_lines stream (next_number n) (next ∷ parts) ok.1)
+part_lines stream n (part ∷ next ∷ parts) ok = (ok.0, part_lines stream (one_more n) (next ∷ parts) ok.1)
 
 pub stream_lines : (stream : List ℕ) (n : ℕ) (bytes : List ℕ) → AllByRecursion (λ (l : Line). HasNoLf l.bytes) (lines_from stream n bytes)
 unfolding lines_from

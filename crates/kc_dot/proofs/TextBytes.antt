@@ -1,5 +1,5 @@
 -- The bytes of the texts that stand in a line.
-use Rattle.std.proofs.Common.{◌≡◌, ℕ, ◌+◌, ◌<◌, suc, List, [], ◌∷◌, ◌++◌, Bool, true, false, length, drop, get_or, eqb, cond, refl, sym, ap, subst, arith, inl, inr, Option, Some, None}
+use Rattle.std.proofs.Common.{◌≡◌, ℕ, ◌<◌, suc, List, [], ◌∷◌, ◌++◌, Bool, true, false, length, drop, get_or, eqb, cond, refl, sym, ap, subst, arith, inl, inr, Option, Some, None}
 use Rattle.std.specs.Prelude.{◌||◌, ◌==◌, ◌&&◌, All, is_some, nat_lt}
 use Rattle.std.specs.Char.{is_digit, digit_value}
 use Rattle.std.specs.Option.{option_map}

@@ -17,7 +17,8 @@ use Rattle.kc_tree.specs.declared.rows.ShownEntry.{ShownEntry}
 use Rattle.kc_dot.specs.Named.{HasName}
 use Rattle.kc_dot.specs.Effects.{name_of}
 use Rattle.kc_dot.specs.SymbolLines.{dot_line, header_line}
-use Rattle.kc_dot.specs.Texts.{symbols_of, header_if, minimal_if, gap, entry_text, ends_after, entries_text}
+use Rattle.kc_dot.specs.EntryTexts.{ends_after, entries_after}
+use Rattle.kc_dot.specs.Texts.{symbols_of, header_if, minimal_if, gap, entry_text}
 use Rattle.kc_dot.specs.SolutionView.{SolutionView}
 
 -- the name of a symbol, as the tree hands it out
@@ -69,14 +70,14 @@ module _ (tree : TreeFacts) (prefix : List ℕ) (solution : SolutionView) where
     -- one entry more
     pub entries_next : (entries : List ShownEntry) (i : ℕ) (entry : ShownEntry) (after_end next : Bool) → i < length entries → entry ≡ get_or entries i entry →
         next ≡ ends_after tree solution after_end (shown_of t entry) →
-        entries_text tree prefix solution after_end (map (shown_of t) (drop i entries)) ≡
-        entry_text tree prefix solution after_end (shown_of t entry) ++ entries_text tree prefix solution next (map (shown_of t) (drop (i + 1) entries))
+        entries_after tree prefix solution after_end (map (shown_of t) (drop i entries)) ≡
+        entry_text tree prefix solution after_end (shown_of t entry) ++ entries_after tree prefix solution next (map (shown_of t) (drop (i + 1) entries))
     entries_next entries i entry after_end next lt is goes =
         let e : drop i entries ≡ entry ∷ drop (i + 1) entries = drop_more entries i entry lt ∙ ap (λ (x : ShownEntry). x ∷ drop (i + 1) entries) (sym is) in
         rw (e, goes) refl
 
     -- no entry more
-    pub entries_end : (entries : List ShownEntry) (i : ℕ) (after_end : Bool) → length entries ≤ i → entries_text tree prefix solution after_end (map (shown_of t) (drop i entries)) ≡ []
+    pub entries_end : (entries : List ShownEntry) (i : ℕ) (after_end : Bool) → length entries ≤ i → entries_after tree prefix solution after_end (map (shown_of t) (drop i entries)) ≡ []
     entries_end entries i after_end end = rw (drop_all i entries end) refl
 
 -- a symbol among the entries is defined, so that it has a name

@@ -24,12 +24,11 @@ use Rattle.kc_order.specs.Needs.{needs_in, unordered_after}
 use Rattle.kc_order.specs.Solution.{Solves}
 use Rattle.kc_tree.specs.TreeFacts.{TreeFacts, SymbolFacts, Guarded, HasLineTexts, IsLineForm, IsLineText}
 use Rattle.kc_user.specs.GivenValue.{GivenValue, GivenTruth, GivenText, Member, UserPlace, SymbolPlace}
-use Rattle.kc_user.specs.Places.{allowed_by, allowed_for, allowed_text}
+use Rattle.kc_user.specs.Places.{allowed_by, allowed_for, allowed_text, AllowedPlaces}
 use Rattle.kc_values.specs.declared.numbers.Interval.{Interval}
-use Rattle.kc_values.specs.Differs.{AllowedPlaces}
-use Rattle.kc_values.specs.Laws.{IsAccepted, EquationsReadNeeds, NeedsAreDefined}
+use Rattle.kc_values.specs.Laws.{EquationsReadNeeds, NeedsAreDefined}
 use Rattle.kc_values.specs.Lookups.{facts, name, is_defined}
-use Rattle.kc_values.specs.Needs.{needs, needs_of}
+use Rattle.kc_values.specs.Needs.{needs, needs_of, IsAccepted}
 use Rattle.kc_values.specs.Numbers.{number_text, is_within_range, clamped, if_within_range, number_or_zero}
 use Rattle.kc_values.specs.Solution as sol
 use Rattle.kc_values.specs.Solution.{symbol_count, known_from, user_place, equations}

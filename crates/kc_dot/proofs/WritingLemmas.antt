@@ -1,5 +1,5 @@
 -- A text that is written page by page.
-use Rattle.std.proofs.Common.{◌≡◌, List, ℕ, [], ◌++◌, refl, ap, ◌∙◌, Result, Ok, Err}
+use Rattle.std.proofs.Common.{◌≡◌, ◌<◌, List, ℕ, [], ◌++◌, length, refl, ap, ◌∙◌, Result, Ok, Err}
 use Rattle.std.specs.Prelude.{IsErrAnd}
 use Rattle.std.proofs.lemmas.Result.{err_from_is_err_and}
 use Rattle.kc_dot.specs.declared.fault.WriteFault.{WriteFault}
@@ -9,8 +9,7 @@ use Rattle.kc_dot.specs.declared.sink.Sink.{Ghosts}
 use Rattle.kc_dot.specs.Pages.{HandsOn, IsUnderWay}
 use Rattle.kc_dot.specs.Sink.{extended, next_failure, BreaksOff}
 use Rattle.kc_dot.specs.Writing.{Puts, Writes}
-use Rattle.kc_dot.proofs.PageLemmas.{waits_from, waits_more, waits_on, waits_stop, waits_breaks, waits_all, HandsOut-nothing}
-use Rattle.kc_dot.proofs.PartLemmas.{BreaksOff-HandsOut}
+use Rattle.kc_dot.proofs.PageLemmas.{some_before, waits_from, waits_more, waits_on, waits_stop, waits_breaks, waits_all, BreaksOff-nothing}
 
 module _ {S : Type 0} (sink : Ghosts S) where
   -- nothing was taken yet
@@ -23,18 +22,19 @@ module _ {S : Type 0} (sink : Ghosts S) where
   way_more text page grown part rest more old new next grows way =
       record { waits = waits_more text page grown part rest more _ _ next grows way.waits; quiet = way.quiet; keeps = way.keeps }
 
-  -- there was no memory before anything was taken
-  pub writes_nothing : (text : List ℕ) (r : Result (Unit {0}) WriteFault) (s : S) → IsErrAnd r (λ e. e ≡ Memory) → sink.goes_to s s → Writes sink text r s s
-  writes_nothing text r s is stays =
+  -- there was no memory before anything of a text of a byte or more was taken
+  pub writes_nothing : (text : List ℕ) (r : Result (Unit {0}) WriteFault) (s : S) → IsErrAnd r (λ e. e ≡ Memory) → 0 < length text → sink.goes_to s s → Writes sink text r s s
+  writes_nothing text r s is some stays =
       let p = err_from_is_err_and r is in
-      rw (p.1 ∙ ap Err p.2) (record { whole = tt; quiet = tt; beginning = HandsOut-nothing text (sink.taken s); counted = refl; keeps = stays })
+      rw (p.1 ∙ ap Err p.2) (record { whole = tt; quiet = tt; broken = BreaksOff-nothing text (sink.taken s) some; counted = refl; keeps = stays })
 
-  -- or on the way
-  pub writes_front : {text page rest : List ℕ} (r : Result (Unit {0}) WriteFault) {old new : S} → IsErrAnd r (λ e. e ≡ Memory) →
-      IsUnderWay sink text page rest old new → Writes sink text r old new
-  writes_front {text = text} {page = page} {rest = rest} r is way =
+  -- or there was none for the next part
+  pub writes_front : {text page rest : List ℕ} (part more : List ℕ) (r : Result (Unit {0}) WriteFault) {old new : S} → IsErrAnd r (λ e. e ≡ Memory) →
+      rest ≡ part ++ more → 0 < length part → IsUnderWay sink text page rest old new → Writes sink text r old new
+  writes_front {text = text} {page = page} {rest = rest} part more r is next some way =
       let p = err_from_is_err_and r is in
-      rw (p.1 ∙ ap Err p.2) (record { whole = tt; quiet = tt; beginning = waits_stop text page rest _ _ way.waits; counted = way.quiet; keeps = way.keeps })
+      let left : 0 < length rest = rw next (some_before part more some) in
+      rw (p.1 ∙ ap Err p.2) (record { whole = tt; quiet = tt; broken = waits_stop text page rest _ _ left way.waits; counted = way.quiet; keeps = way.keeps })
 
   module _ (goes_on : (s t u : S) → sink.goes_to s t → sink.goes_to t u → sink.goes_to s u) where
     -- a part of what waits is handed out
@@ -54,8 +54,8 @@ module _ {S : Type 0} (sink : Ghosts S) where
         BreaksOff page (sink.taken mid) (sink.taken new) → sink.failures new ≡ next_failure (sink.failures mid) → sink.goes_to mid new → Writes sink text r old new
     writes_broken {text = text} {page = page} {rest = rest} r is way broke counted keeps =
         let p = err_from_is_err_and r is in
-        let beginning = BreaksOff-HandsOut text _ _ (waits_breaks text page rest _ _ _ way.waits broke) in
-        rw (p.1 ∙ ap Err p.2) (record { whole = tt; quiet = tt; beginning = beginning; counted = counted ∙ ap next_failure way.quiet; keeps = goes_on _ _ _ way.keeps keeps })
+        let broken = waits_breaks text page rest _ _ _ way.waits broke in
+        rw (p.1 ∙ ap Err p.2) (record { whole = tt; quiet = tt; broken = broken; counted = counted ∙ ap next_failure way.quiet; keeps = goes_on _ _ _ way.keeps keeps })
 
     -- all was taken
     pub puts_all : {text page rest : List ℕ} {old mid new : S} → rest ≡ [] → IsUnderWay sink text page rest old mid →
@@ -66,4 +66,4 @@ module _ {S : Type 0} (sink : Ghosts S) where
     pub writes_all : {text page rest : List ℕ} {old mid new : S} → rest ≡ [] → IsUnderWay sink text page rest old mid →
         sink.taken new ≡ extended (sink.taken mid) page → sink.failures new ≡ sink.failures mid → sink.goes_to mid new → Writes sink text (Ok tt) old new
     writes_all {text = text} {page = page} {rest = rest} none way whole quiet keeps =
-        record { whole = waits_all text page rest _ _ _ none way.waits whole; quiet = quiet ∙ way.quiet; beginning = tt; counted = tt; keeps = goes_on _ _ _ way.keeps keeps }
+        record { whole = waits_all text page rest _ _ _ none way.waits whole; quiet = quiet ∙ way.quiet; broken = tt; counted = tt; keeps = goes_on _ _ _ way.keeps keeps }

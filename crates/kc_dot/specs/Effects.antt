@@ -1,5 +1,5 @@
 -- Trusted: What a line does for a tree: nothing, a warning, or an assignment.
-use Rattle.std.specs.Prelude.{ℕ, ◌++◌, List, position, Option, Some, None, slice_get, codes, decimal}
+use Rattle.std.specs.Prelude.{ℕ, ◌++◌, List, position, Option, Some, None, codes, decimal}
 use Rattle.std.specs.Option.{option_map}
 use Rattle.kc_expr.specs.declared.expression.SymId.{SymId}
 use Rattle.kc_expr.specs.declared.expression.Tri.TheVariants.{N}
@@ -8,8 +8,8 @@ use Rattle.kc_expr.specs.declared.expression.Kind.TheVariants as kind
 use Rattle.kc_expr.specs.Names.{symbol, same_name}
 use Rattle.kc_tree.specs.TreeFacts.{TreeFacts}
 use Rattle.kc_user.specs.GivenValue.{GivenValue, GivenTruth}
-pub use Rattle.kc_values.specs.Lookups.{name as name_of}
-pub use Rattle.kc_values.specs.Table.{kind_in}
+use Rattle.kc_values.specs.Lookups.{facts}
+pub use Rattle.kc_values.specs.Lookups.{kind_in, name as name_of}
 use Rattle.kc_dot.specs.DotLine.{LineMeaning, Nothing, Unset, Set, Malformed}
 use Rattle.kc_dot.specs.LineValue.{line_value}
 
@@ -27,7 +27,7 @@ pub data Effect : Type 0 where
 
 -- the type of a symbol; a name that is not defined has none
 abbrev pub kind_of : TreeFacts → SymId → Kind
-kind_of tree s = kind_in (slice_get tree.symbols s.0)
+kind_of tree s = kind_in (facts tree s)
 
 abbrev pub symbol_named : TreeFacts → List ℕ → Option SymId
 symbol_named tree name = option_map symbol (position (same_name name) tree.names)

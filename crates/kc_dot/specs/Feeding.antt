@@ -1,15 +1,15 @@
 -- Trusted: What a reader does with the bytes that it is fed, whatever follows them.
-use Rattle.std.specs.Prelude.{◌≡◌, ℕ, ◌+◌, ◌≤◌, ◌++◌, List, [], ◌∷◌, length, min, count_by, All, Option, Some, true, false, if◌then◌else◌, ◌==◌}
+use Rattle.std.specs.Prelude.{◌≡◌, ℕ, ◌+◌, ◌<◌, ◌≤◌, ◌++◌, List, [], ◌∷◌, length, min, count_by, All, Option, Some, true, false, if◌then◌else◌, ◌==◌}
 use Rattle.std.specs.List.{after_last}
 use Rattle.kc_text.specs.Bytes.{byte}
-use Rattle.kc_text.specs.Limits.{last_count}
+use Rattle.kc_text.specs.Limits.{last_count, one_more}
 use Rattle.kc_text.specs.Lines.{is_line_feed}
 use Rattle.kc_tree.specs.TreeFacts.{TreeFacts}
 use Rattle.kc_user.specs.Places.{Places}
 use Rattle.kc_dot.specs.declared.fault.DotFault.{DotFault}
 use Rattle.kc_dot.specs.declared.fault.DotFault.TheVariants.{DotLineTooLong, Sink, Memory}
 use Rattle.kc_dot.specs.Limits.{longest_dot_line}
-use Rattle.kc_dot.specs.Reading.{Line, line, is_within, next_number, lines_from, reading, with_warnings, warning}
+use Rattle.kc_dot.specs.Reading.{Line, line, is_within, lines_from, reading, with_warnings, warning}
 use Rattle.kc_dot.specs.Sink.{extended, next_failure, BreaksOff, GoesBeyond}
 
 -- where a reader stands in its stream: the number of the line not yet ended, and its bytes so far
@@ -37,7 +37,7 @@ fed piece position = record { number = number_after position.number piece; pendi
 
 -- where it stands once the last line is ended
 abbrev pub ended : StreamPosition → StreamPosition
-ended position = record { number = if length position.pending == 0 then position.number else next_number position.number; pending = [] }
+ended position = record { number = if length position.pending == 0 then position.number else one_more position.number; pending = [] }
 
 -- a count of failures after a fault: the sink's alone counts
 abbrev pub failures_after : DotFault → ℕ → ℕ
@@ -84,17 +84,13 @@ module _ (tree : TreeFacts) (prefix name : List ℕ) where
     pub within : length (position.pending ++ text) ≤ longest_dot_line
     pub begun : GoesBeyond (warning tree prefix places (line name position.number (position.pending ++ text) true)) front
 
-  -- why a reader stops before what is left, with a beginning of the next line's warning handed out
+  -- Why a reader stops before what is left, with a beginning of the next line's warning handed out. Memory it wants only where
+  -- something is left.
   abbrev pub StopsBecause : DotFault → List ℕ → StreamPosition → Places → List ℕ → Type 0
   StopsBecause (DotLineTooLong n) left position places front =
       (front ≡ []) × (n ≡ position.number) × (length position.pending ≡ longest_dot_line) × GoesOn left × MeetsLongLine left position places
   StopsBecause Sink left position places front = BreaksAt left position places front
-  StopsBecause Memory left position places front = front ≡ []
-
-  -- nothing of it was taken but a beginning of the next line's warning
-  abbrev pub StopsAt : DotFault → List ℕ → StreamPosition → Places → Option (List ℕ) → Option (List ℕ) → Type 0
-  StopsAt fault left position places taken taken_after =
-      (front : List ℕ) × (taken_after ≡ extended taken front) × StopsBecause fault left position places front
+  StopsBecause Memory left position places front = (front ≡ []) × (0 < length left)
 
   -- The lines before the refused one are read, and their warnings handed out; there the reader stands.
   pub record Refuses (fault : DotFault) (piece : List ℕ) (old new : StreamPosition) (before after : Places) (taken taken_after : Option (List ℕ)) : Type 0 where
@@ -118,10 +114,11 @@ module _ (tree : TreeFacts) (prefix name : List ℕ) where
   FinishesStream old before after taken taken_after =
       (warned : List ℕ) × (taken_after ≡ extended taken warned) × EndsStream old before after warned
 
-  -- the last line could not be ended: where the sink failed, a beginning of its warning was handed out, and not the whole
+  -- The last line could not be ended: where the sink failed, a beginning of its warning was handed out, and not the whole; where
+  -- there was no memory, nothing was, and bytes are pending.
   abbrev pub FailsToEnd : DotFault → StreamPosition → Places → Option (List ℕ) → Option (List ℕ) → Type 0
   FailsToEnd (DotLineTooLong n) position places taken taken_after = ⊥
   FailsToEnd Sink position places taken taken_after =
       (last : Line) × (lines_from name position.number position.pending ≡ last ∷ []) × (is_within last ≡ true)
       × BreaksOff (warning tree prefix places last) taken taken_after
-  FailsToEnd Memory position places taken taken_after = taken_after ≡ taken
+  FailsToEnd Memory position places taken taken_after = (taken_after ≡ taken) × (0 < length position.pending)

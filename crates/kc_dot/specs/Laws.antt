@@ -1,41 +1,15 @@
--- Trusted: What holds of the texts that are written, and of reading, for every tree and every prefix.
+-- Trusted: What reading a written text again gives: the minimal file, and the .config.
 use Rattle.std.specs.Prelude.{◌≡◌, ℕ, ◌<◌, ◌↔◌, List, Bool, true, false, None, All}
-use Rattle.kc_text.specs.Lines.{is_line_feed}
 use Rattle.kc_expr.specs.declared.expression.SymId.{SymId}
 use Rattle.kc_expr.specs.Value.{SymbolValue}
-use Rattle.kc_order.specs.Solution.{Solves}
-use Rattle.kc_tree.specs.TreeFacts.{TreeFacts, IsWellFormed}
-use Rattle.kc_user.specs.GivenValue.{GivenValue}
-use Rattle.kc_user.specs.Places.{ArePlaces, Places, allowed, place_at}
+use Rattle.kc_tree.specs.TreeFacts.{TreeFacts}
+use Rattle.kc_user.specs.Places.{Places, place_at}
 use Rattle.kc_values.specs.Differs.{differs, changes_on_reread}
-use Rattle.kc_values.specs.Laws.{IsAccepted}
-use Rattle.kc_values.specs.Solution.{equations, symbol_count}
-use Rattle.kc_dot.specs.DotLine.{meaning_of}
-use Rattle.kc_dot.specs.Effects.{Assigns, effect_of}
+use Rattle.kc_values.specs.Solution.{symbol_count}
 use Rattle.kc_dot.specs.Plain.{HasPlainNumbers, HasPlainTitles}
-use Rattle.kc_dot.specs.Prefixes.{is_prefix}
-use Rattle.kc_dot.specs.Reading.{Line, effect, is_within, lines_from}
+use Rattle.kc_dot.specs.Reading.{is_within, lines_from}
 use Rattle.kc_dot.specs.Reread.{HasOtherSolution, IsOneSolution, kept_lines, read_alone, valuation_view}
 use Rattle.kc_dot.specs.Texts.{config_text, minimal_text}
-
--- What a line assigns to a symbol is allowed for it.
-abbrev pub AssignedAreAllowed : Type 0
-AssignedAreAllowed =
-    (tree : TreeFacts) (prefix bytes : List ℕ) (s : SymId) (given : GivenValue) → All (λ b. is_line_feed b ≡ false) bytes →
-    effect_of tree (meaning_of prefix bytes) ≡ Assigns s given → allowed tree s given ≡ true
-
--- Every value that is allowed for a symbol is assigned by some line, which is not too long.
-abbrev pub AllowedAreAssigned : Type 0
-AllowedAreAssigned =
-    (tree : TreeFacts) (prefix : List ℕ) (s : SymId) (given : GivenValue) → IsWellFormed tree → is_prefix prefix ≡ true → allowed tree s given ≡ true →
-    (l : Line) × (l.ended ≡ true) × All (λ b. is_line_feed b ≡ false) l.bytes × (is_within l ≡ true) × (effect tree prefix l ≡ Assigns s given)
-
--- the values of an accepted tree solve its equations under places that hold what is allowed
-pub record IsSolutionOf (tree : TreeFacts) (places : Places) (V : ℕ → SymbolValue) : Type 0 where
-  pub formed : IsWellFormed tree
-  pub accepted : IsAccepted tree
-  pub held : ArePlaces tree places
-  pub solves : Solves (symbol_count tree) (equations tree (place_at places)) V
 
 -- Reading the minimal file, from empty places, leaves places of which the values that were written are the one solution.
 abbrev pub MinimalGivesBack : TreeFacts → List ℕ → Places → (ℕ → SymbolValue) → Type 0
@@ -62,24 +36,3 @@ ConfigGivesBack tree prefix places V =
 -- no line of the text, whatever its name, is too long to be read again
 abbrev pub HasShortLines : List ℕ → Type 0
 HasShortLines text = (name : List ℕ) → All (λ l. is_within l ≡ true) (lines_from name 1 text)
-
--- No line of the .config or of the minimal file is too long to be read again, whatever the numbers and titles.
-abbrev pub WrittenTextsAreShort : Type 0
-WrittenTextsAreShort =
-    (tree : TreeFacts) (prefix : List ℕ) (places : Places) (V : ℕ → SymbolValue) → is_prefix prefix ≡ true → IsSolutionOf tree places V →
-    HasShortLines (config_text tree prefix (valuation_view tree (place_at places) V)) × HasShortLines (minimal_text tree prefix (valuation_view tree (place_at places) V))
-
-abbrev pub MinimalRestores : Type 0
-MinimalRestores =
-    (tree : TreeFacts) (prefix : List ℕ) (places : Places) (V : ℕ → SymbolValue) → is_prefix prefix ≡ true →
-    IsSolutionOf tree places V → MinimalGivesBack tree prefix places V
-
-abbrev pub MinimalHasNothingToSpare : Type 0
-MinimalHasNothingToSpare =
-    (tree : TreeFacts) (prefix : List ℕ) (places : Places) (V : ℕ → SymbolValue) → is_prefix prefix ≡ true →
-    IsSolutionOf tree places V → MinimalNeedsEach tree prefix places V
-
-abbrev pub ConfigIsIdempotent : Type 0
-ConfigIsIdempotent =
-    (tree : TreeFacts) (prefix : List ℕ) (places : Places) (V : ℕ → SymbolValue) → is_prefix prefix ≡ true →
-    IsSolutionOf tree places V → ConfigGivesBack tree prefix places V

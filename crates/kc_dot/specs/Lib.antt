@@ -2,6 +2,7 @@ pub mod Calls
 pub mod DotLine
 pub mod EffectView
 pub mod Effects
+pub mod EntryTexts
 pub mod Feeding
 pub mod HasNames
 pub mod Laws
@@ -25,3 +26,4 @@ pub mod Texts
 pub mod SolutionView
 pub mod KnownValue
 pub mod Writing
+pub mod WrittenLaws

@@ -6,8 +6,9 @@ use Rattle.kc_user.specs.Places.{Places}
 use Rattle.kc_dot.specs.declared.fault.DotFault.{DotFault}
 use Rattle.kc_dot.specs.declared.fault.DotFault.TheVariants.{DotLineTooLong, Sink, Memory}
 use Rattle.kc_dot.specs.Effects.{Effect, Silent, Warns, Assigns}
+use Rattle.kc_dot.specs.Feeding.{StreamPosition, StopsBecause}
 use Rattle.kc_dot.specs.Reading.{places_given}
-use Rattle.kc_dot.specs.Sink.{BreaksOff}
+use Rattle.kc_dot.specs.Sink.{BreaksOff, extended}
 
 -- the member in its choice's place, where it is made y
 abbrev pub with_member : Bool → Option ℕ → SymId → List (Option SymId) → List (Option SymId)
@@ -26,3 +27,8 @@ abbrev pub FailsIn : List ℕ → DotFault → Option (List ℕ) → Option (Lis
 FailsIn text (DotLineTooLong n) old new = ⊥
 FailsIn text Sink old new = BreaksOff text old new
 FailsIn text Memory old new = new ≡ old
+
+-- a reader stops before what is left: nothing of it was taken but a beginning of the next line's warning
+abbrev pub StopsAt : TreeFacts → List ℕ → List ℕ → DotFault → List ℕ → StreamPosition → Places → Option (List ℕ) → Option (List ℕ) → Type 0
+StopsAt tree prefix name fault left position places taken taken_after =
+    (front : List ℕ) × (taken_after ≡ extended taken front) × StopsBecause tree prefix name fault left position places front

@@ -1,15 +1,15 @@
 -- Trusted: What reading named streams of .config text gives: the user's places and the warnings.
-use Rattle.std.specs.Prelude.{ℕ, ◌+◌, ◌++◌, List, [], ◌∷◌, length, Bool, true, false, not, ◌&&◌, ◌==◌, nat_le, find, take_while, Option, Some, None, is_some, slice_get, if◌then◌else◌}
+use Rattle.std.specs.Prelude.{ℕ, ◌+◌, ◌++◌, List, [], ◌∷◌, length, take, Bool, true, false, not, ◌&&◌, ◌==◌, nat_le, find, take_while, Option, Some, None, is_some, if◌then◌else◌}
 use Rattle.std.specs.Option.{option_map, option_and_then}
-use Rattle.std.specs.List.{slice_split, filter_map, flat_map, last_or}
+use Rattle.std.specs.List.{slice_split, filter_map, flat_map, enumerate_from, last_or}
 use Rattle.std.specs.Str.Lines.{strip_carriage_return}
 use Rattle.kc_text.specs.Limits.{one_more}
 use Rattle.kc_text.specs.Lines.{is_line_feed}
 use Rattle.kc_expr.specs.declared.expression.SymId.{SymId}
-use Rattle.kc_expr.specs.declared.expression.Tri.TheVariants.{N, M, Y}
 use Rattle.kc_tree.specs.TreeFacts.{TreeFacts}
-use Rattle.kc_user.specs.GivenValue.{GivenValue, GivenTruth, GivenText, Member, SymbolPlace}
+use Rattle.kc_user.specs.GivenValue.{GivenValue, SymbolPlace, is_yes}
 use Rattle.kc_user.specs.Places.{Places, place_at}
+use Rattle.kc_values.specs.Lookups.{facts}
 use Rattle.kc_dot.specs.DotLine.{meaning_of}
 use Rattle.kc_dot.specs.Limits.{longest_dot_line}
 use Rattle.kc_dot.specs.Effects.{Effect, Silent, Warns, Assigns, LineWarning, SetAgain, effect_of, name_of, warning_line}
@@ -21,10 +21,6 @@ pub record Line : Type 0 where
   pub bytes : List ℕ
   pub ended : Bool
 
--- the number of the line after line n; a number that reaches the greatest u64 stays there
-abbrev pub next_number : ℕ → ℕ
-next_number n = one_more n
-
 abbrev pub line : List ℕ → ℕ → List ℕ → Bool → Line
 line stream number bytes ended = record { stream = stream; number = number; bytes = bytes; ended = ended }
 
@@ -35,9 +31,9 @@ last_line stream n bytes = if length bytes == 0 then [] else line stream n bytes
 abbrev pub lines_in_stream : List ℕ → ℕ → List (List ℕ) → List Line
 lines_in_stream stream n [] = []
 lines_in_stream stream n (last ∷ []) = last_line stream n last
-lines_in_stream stream n (part ∷ next ∷ parts) = line stream n part true ∷ lines_in_stream stream (next_number n) (next ∷ parts)
+lines_in_stream stream n (part ∷ next ∷ parts) = line stream n part true ∷ lines_in_stream stream (one_more n) (next ∷ parts)
 
--- the lines of these bytes of a stream, of which the first has number n
+-- the lines of these bytes of a stream, of which the first has number n, and each other one more
 unfoldable pub lines_from : List ℕ → ℕ → List ℕ → List Line
 lines_from stream n bytes = lines_in_stream stream n (slice_split is_line_feed bytes)
 
@@ -59,20 +55,13 @@ assignment_of Silent = None
 assignment_of (Warns line_warning) = None
 assignment_of (Assigns s given) = Some (record { symbol = s; given = given })
 
-abbrev pub is_yes : GivenValue → Bool
-is_yes (GivenTruth N) = false
-is_yes (GivenTruth M) = false
-is_yes (GivenTruth Y) = true
-is_yes (GivenText text) = false
-is_yes (Member m) = false
-
 abbrev pub is_choice : ℕ → Option ℕ → Bool
 is_choice c None = false
 is_choice c (Some d) = d == c
 
 -- the choice that a symbol is a member of
 abbrev pub choice_of : TreeFacts → SymId → Option ℕ
-choice_of tree s = option_and_then (λ facts. facts.choice) (slice_get tree.symbols s.0)
+choice_of tree s = option_and_then (λ f. f.choice) (facts tree s)
 
 -- the value that an assignment gives to symbol i
 abbrev pub given_to : ℕ → Assignment → Option GivenValue
@@ -143,15 +132,14 @@ module _ (tree : TreeFacts) (prefix : List ℕ) where
   unfoldable pub warning : Places → Line → List ℕ
   warning places l = warning_line_if l.stream l.number (effect_warning tree places (effect l))
 
-  -- what the lines warn of, given the places before all of them and the lines before these
-  unfoldable pub warnings : Places → List Line → List Line → List ℕ
-  warnings places before [] = []
-  warnings places before (l ∷ lines) = warning (places_after places before) l ++ warnings places (before ++ l ∷ []) lines
+  -- what the lines warn of, from these places on: each line given the places after the lines before it
+  unfoldable pub warnings : Places → List Line → List ℕ
+  warnings places lines = flat_map (λ (i, l). warning (places_after places (take i lines)) l) (enumerate_from 0 lines)
 
   unfoldable pub reading : Places → List Line → ReadResult
   reading places lines = record {
     places = places_after places (before_too_long lines);
-    warned = warnings places [] (before_too_long lines);
+    warned = warnings places (before_too_long lines);
     stopped = option_map stream_location (find (λ l. not (is_within l)) lines);
   }
 

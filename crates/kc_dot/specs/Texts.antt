@@ -1,6 +1,7 @@
 -- Trusted: The three texts: the .config, the header and the minimal file.
-use Rattle.std.specs.Prelude.{ℕ, ◌++◌, List, [], ◌∷◌, length, map, Bool, true, false, Option, Some, None, codes, slice_get, if◌then◌else◌}
-use Rattle.std.specs.List.{flat_map, range_with_len}
+use Rattle.std.specs.Prelude.{ℕ, ◌++◌, List, [], length, map, take, Bool, true, false, Option, Some, None, is_some, codes, slice_get, if◌then◌else◌}
+use Rattle.std.specs.Option.{option_map_or}
+use Rattle.std.specs.List.{filter, flat_map, enumerate_from, last_or, range_with_len}
 use Rattle.kc_expr.specs.declared.expression.SymId.{SymId}
 use Rattle.kc_expr.specs.Names.{symbol}
 use Rattle.kc_tree.specs.TreeFacts.{TreeFacts, Shown, SymbolShown, MenuShown, EndShown, CommentShown}
@@ -36,10 +37,6 @@ end_if (Some text) = end_line text
 abbrev pub gap : Bool → List ℕ
 gap after_end = if after_end then codes "\n" else []
 
-abbrev pub is_title : Option (List ℕ) → Bool
-is_title None = false
-is_title (Some text) = true
-
 -- the title of the menu of this number among the entries, where it is shown
 abbrev pub shown_title : SolutionView → Option Shown → Option (List ℕ)
 shown_title solution None = None
@@ -48,12 +45,22 @@ shown_title solution (Some (MenuShown text when)) = if is_shown (solution.truth 
 shown_title solution (Some (EndShown menu)) = None
 shown_title solution (Some (CommentShown text when)) = None
 
--- whether the last line is an end line after an entry
-abbrev pub ends_after : TreeFacts → SolutionView → Bool → Shown → Bool
-ends_after tree solution after_end (SymbolShown s) = if solution.written s then false else after_end
-ends_after tree solution after_end (MenuShown text when) = if is_shown (solution.truth when) then false else after_end
-ends_after tree solution after_end (EndShown menu) = if is_title (shown_title solution (slice_get tree.entries menu)) then true else after_end
-ends_after tree solution after_end (CommentShown text when) = if is_shown (solution.truth when) then false else after_end
+-- whether an entry has lines: a symbol that is written, a title that is shown, the end of a menu whose title is shown
+abbrev pub has_lines : TreeFacts → SolutionView → Shown → Bool
+has_lines tree solution (SymbolShown s) = solution.written s
+has_lines tree solution (MenuShown text when) = is_shown (solution.truth when)
+has_lines tree solution (EndShown menu) = is_some (shown_title solution (slice_get tree.entries menu))
+has_lines tree solution (CommentShown text when) = is_shown (solution.truth when)
+
+abbrev pub is_end : Shown → Bool
+is_end (SymbolShown s) = false
+is_end (MenuShown text when) = false
+is_end (EndShown menu) = true
+is_end (CommentShown text when) = false
+
+-- the last of these entries that has lines is an end
+abbrev pub end_is_last : TreeFacts → SolutionView → List Shown → Bool
+end_is_last tree solution entries = option_map_or is_end (last_or None (filter (has_lines tree solution) entries)) false
 
 module _ (tree : TreeFacts) (prefix : List ℕ) (solution : SolutionView) where
   abbrev pub symbol_config : SymId → List ℕ
@@ -69,13 +76,13 @@ module _ (tree : TreeFacts) (prefix : List ℕ) (solution : SolutionView) where
   entry_text after_end (EndShown menu) = end_if (shown_title solution (slice_get tree.entries menu))
   entry_text after_end (CommentShown text when) = title_if (is_shown (solution.truth when)) text
 
-  abbrev pub entries_text : Bool → List Shown → List ℕ
-  entries_text after_end [] = []
-  entries_text after_end (entry ∷ entries) = entry_text after_end entry ++ entries_text (ends_after tree solution after_end entry) entries
+  -- what all give, in order: each after the entries before it
+  abbrev pub entries_text : List Shown → List ℕ
+  entries_text entries = flat_map (λ (i, entry). entry_text (end_is_last tree solution (take i entries)) entry) (enumerate_from 0 entries)
 
   -- the heading, and the lines of the entries in order
   unfoldable pub config_text : List ℕ
-  config_text = config_heading tree.main_menu ++ entries_text false tree.entries
+  config_text = config_heading tree.main_menu ++ entries_text tree.entries
 
   abbrev pub header_if : SymId → List ℕ
   header_if s = if solution.written s then symbol_header s else []

@@ -4,7 +4,7 @@ use Rattle.kc_dot.specs.declared.fault.WriteFault.{WriteFault}
 use Rattle.kc_dot.specs.declared.fault.WriteFault.TheVariants.{Sink, Memory}
 use Rattle.kc_dot.specs.declared.sink.Sink.{Ghosts}
 use Rattle.kc_dot.specs.declared.sink.Fault.{Fault}
-use Rattle.kc_dot.specs.Sink.{extended, next_failure, BreaksOff, HandsOut}
+use Rattle.kc_dot.specs.Sink.{extended, next_failure, BreaksOff}
 
 -- The sink took the whole text, and did not fail. Or it failed, which is counted, and it took a beginning of the text, never the
 -- whole.
@@ -20,11 +20,11 @@ abbrev pub failures_after_write : WriteFault → ℕ → ℕ
 failures_after_write Sink count = next_failure count
 failures_after_write Memory count = count
 
--- The sink took the whole text, and did not fail. Or there is a fault, and it took a beginning of the text: where the fault
--- is the sink's, one failure more is counted.
+-- The sink took the whole text, and did not fail. Or there is a fault, and it took a beginning of the text, never the whole, so
+-- that memory is wanted only where some of the text is left: where the fault is the sink's, one failure more is counted.
 pub record Writes {S : Type 0} (sink : Ghosts S) (text : List ℕ) (result : Result (Unit {0}) WriteFault) (old new : S) : Type 0 where
   pub whole : OnOk result (sink.taken new ≡ extended (sink.taken old) text)
   pub quiet : OnOk result (sink.failures new ≡ sink.failures old)
-  pub beginning : OnErr result (HandsOut text (sink.taken old) (sink.taken new))
+  pub broken : OnErr result (BreaksOff text (sink.taken old) (sink.taken new))
   pub counted : IfErr result (λ fault. sink.failures new ≡ failures_after_write fault (sink.failures old))
   pub keeps : sink.goes_to old new

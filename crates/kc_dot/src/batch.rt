@@ -11,8 +11,8 @@ const ROOM: usize = 256;
 
 /// Hands out the whole text, in as many writes as the sink wants (our own).
 ///
-/// On `Fault` the sink took a beginning of the text, never the whole, and one failure more is counted. Empty bytes are never
-/// handed to `write`, so an empty text makes no call.
+/// On `Fault` the sink took a beginning of the text, never the whole, and the count of failures is one more, or stays at
+/// 2^64 - 1. Empty bytes are never handed to `write`, so an empty text makes no call.
 pub fn put<S: Sink>(text: &[u8], sink: &mut S) -> Result<(), Fault>
     ensures { Puts S.Sink text.now result sink.old sink.new }
 {

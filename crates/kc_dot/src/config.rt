@@ -1,11 +1,12 @@
 //! The writer of the `.config`.
-ghost use Rattle.std.specs.Prelude.{◌≡◌, ◌++◌, ◌<◌, length, slice_get, Some, true, false, OnOk, IfOk, if◌then◌else◌};
+ghost use Rattle.std.specs.Prelude.{◌≡◌, ◌++◌, ◌<◌, length, slice_get, Some, is_some, true, false, OnOk, OnErr, IfOk, if◌then◌else◌};
 ghost use Rattle.std.specs.Option.{option_copied};
 ghost use Rattle.kc_tree.specs.TreeFacts.{SymbolShown};
 ghost use Rattle.kc_tree.specs.Layouts.{IsLayoutOf, shown_of, title_at, title_text};
 ghost use Rattle.kc_dot.specs.Laws.{ConfigGivesBack, HasShortLines};
 ghost use Rattle.kc_dot.specs.SolvedView.{solution_view};
-ghost use Rattle.kc_dot.specs.Texts.{title_if, end_if, gap, is_title, shown_title, entry_text, ends_after, entries_text, config_heading, config_text};
+ghost use Rattle.kc_dot.specs.EntryTexts.{ends_after};
+ghost use Rattle.kc_dot.specs.Texts.{title_if, end_if, gap, shown_title, entry_text, entries_text, config_heading, config_text};
 ghost use Rattle.kc_dot.specs.SolutionView.{is_shown};
 ghost use Rattle.kc_dot.specs.Named.{HasName};
 ghost use Rattle.kc_dot.specs.Writing.{Writes};
@@ -38,7 +39,8 @@ fn is_shown(tri: Tri) -> bool
 
 // Adds an empty line, the title and the lines around it, where it is shown.
 fn add_title_if(shown: bool, text: &[u8], page: &mut Vec<u8>) -> Result<(), AllocError>
-    ensures { OnOk result (page.new.items ≡ page.old.items ++ title_if shown text.now) }
+    ensures title { OnOk result (page.new.items ≡ page.old.items ++ title_if shown text.now) }
+    ensures some { OnErr result (0 < length (title_if shown text.now)) }
 {
     if !shown {
         return Ok(());
@@ -48,7 +50,8 @@ fn add_title_if(shown: bool, text: &[u8], page: &mut Vec<u8>) -> Result<(), Allo
 
 // Adds the end line of a menu, where its title is shown.
 fn add_end_if(title: Option<&[u8]>, page: &mut Vec<u8>) -> Result<(), AllocError>
-    ensures { OnOk result (page.new.items ≡ page.old.items ++ end_if (option_copied title.entry)) }
+    ensures line { OnOk result (page.new.items ≡ page.old.items ++ end_if (option_copied title.entry)) }
+    ensures some { OnErr result (0 < length (end_if (option_copied title.entry))) }
 {
     match title {
         None => Ok(()),
@@ -58,7 +61,8 @@ fn add_end_if(title: Option<&[u8]>, page: &mut Vec<u8>) -> Result<(), AllocError
 
 // Adds an empty line after an end line.
 fn add_gap(after_end: bool, page: &mut Vec<u8>) -> Result<(), AllocError>
-    ensures { OnOk result (page.new.items ≡ page.old.items ++ gap after_end) }
+    ensures gap { OnOk result (page.new.items ≡ page.old.items ++ gap after_end) }
+    ensures some { OnErr result (0 < length (gap after_end)) }
 {
     if !after_end {
         return Ok(());
@@ -106,6 +110,7 @@ fn add_symbol_if(
 ) -> Result<bool, AllocError>
     requires { id.0 < length tree.now.names }
     ensures text { OnOk result (page.new.items ≡ page.old.items ++ entry_text tree.now prefix.now (solution_view solved.now) after_end (SymbolShown id)) }
+    ensures some { OnErr result (0 < length (entry_text tree.now prefix.now (solution_view solved.now) after_end (SymbolShown id))) }
     ensures next { IfOk result (λ next. next ≡ ends_after tree.now (solution_view solved.now) after_end (SymbolShown id)) }
 {
     if !solved.written(id) {
@@ -124,6 +129,7 @@ fn add_title(
     page: &mut Vec<u8>,
 ) -> Result<bool, AllocError>
     ensures text { OnOk result (page.new.items ≡ page.old.items ++ title_if shown text.now) }
+    ensures some { OnErr result (0 < length (title_if shown text.now)) }
     ensures next { IfOk result (λ next. next ≡ (if shown then false else after_end)) }
 {
     add_title_if(shown, text, page)?;
@@ -133,7 +139,8 @@ fn add_title(
 // Adds the end line where there is a title. Answers whether the last line is an end line now.
 fn add_end(title: Option<&[u8]>, after_end: bool, page: &mut Vec<u8>) -> Result<bool, AllocError>
     ensures text { OnOk result (page.new.items ≡ page.old.items ++ end_if (option_copied title.entry)) }
-    ensures next { IfOk result (λ next. next ≡ (if is_title (option_copied title.entry) then true else after_end)) }
+    ensures some { OnErr result (0 < length (end_if (option_copied title.entry))) }
+    ensures next { IfOk result (λ next. next ≡ (if is_some (option_copied title.entry) then true else after_end)) }
 {
     add_end_if(title, page)?;
     Ok(title.is_some() || after_end)
@@ -155,6 +162,7 @@ fn add_entry(
     requires name { HasName tree.now (shown_of layout.now.tables entry.now) }
     requires same { solved.now.tree ≡ tree.now }
     ensures text { OnOk result (page.new.items ≡ page.old.items ++ entry_text tree.now prefix.now (solution_view solved.now) after_end (shown_of layout.now.tables entry.now)) }
+    ensures some { OnErr result (0 < length (entry_text tree.now prefix.now (solution_view solved.now) after_end (shown_of layout.now.tables entry.now))) }
     ensures next { IfOk result (λ next. next ≡ ends_after tree.now (solution_view solved.now) after_end (shown_of layout.now.tables entry.now)) }
 {
     match entry {
@@ -180,7 +188,7 @@ fn put_entries<S: Sink>(
     sink: &mut S,
 ) -> Result<(), WriteFault>
     requires { solved.now.tree ≡ tree.now }
-    ensures { Writes S.Sink (page.old.items ++ entries_text tree.now prefix.now (solution_view solved.now) false tree.now.entries) result sink.old sink.new }
+    ensures { Writes S.Sink (page.old.items ++ entries_text tree.now prefix.now (solution_view solved.now) tree.now.entries) result sink.old sink.new }
 {
     // The entries name symbols of the tree alone: `symbol_count` says so.
     let _ = tree.symbol_count();
@@ -228,8 +236,8 @@ fn put_config<S: Sink>(
 /// Hands out the full `.config`: the heading, then in the order of the entries the line of each written symbol at its
 /// first definition, the titles of the menus and comments that are shown, and `# end of` lines of these menus; an
 /// empty line stands where a symbol's line directly follows such an end line. (Our own layout, in the manner of the
-/// kernel's conf and of kconfiglib.) The caller owes the solution of that tree. After an
-/// error the sink took a beginning of it.
+/// kernel's conf and of kconfiglib.) The caller owes the solution of that tree. After an error, also where there was no
+/// memory, the sink took a beginning of it, never the whole.
 ///
 /// With the places that reading it leaves, from empty places, the one solution is the one that was written exactly where
 /// no visible tristate symbol outside a choice stands above both its visibility and its reverse dependency. This asks

@@ -45,7 +45,7 @@ impl From<Fault> for DotFault {
     }
 }
 
-/// Why a text could not be written to its end. The sink took a beginning of it.
+/// Why a text could not be written to its end. The sink took a beginning of it, never the whole.
 #[derive(Clone, Copy, Debug, PartialEq, Eq, Error)]
 pub enum WriteFault {
     /// The sink failed (E19).

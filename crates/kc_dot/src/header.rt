@@ -1,5 +1,5 @@
 //! The writers of the header and of the minimal file.
-ghost use Rattle.std.specs.Prelude.{◌≡◌, ◌<◌, ◌++◌, length, OnOk, flat_map};
+ghost use Rattle.std.specs.Prelude.{◌≡◌, ◌<◌, ◌++◌, length, OnOk, OnErr, flat_map};
 ghost use Rattle.kc_dot.specs.Laws.{HasShortLines, MinimalGivesBack, MinimalNeedsEach};
 ghost use Rattle.kc_dot.specs.Texts.{header_heading, header_text, minimal_text, header_if, minimal_if, symbols_of};
 ghost use Rattle.kc_dot.specs.SolvedView.{solution_view};
@@ -29,7 +29,8 @@ fn add_header_if(
     page: &mut Vec<u8>,
 ) -> Result<(), AllocError>
     requires { id.0 < length tree.now.names }
-    ensures { OnOk result (page.new.items ≡ page.old.items ++ header_if tree.now prefix.now (solution_view solved.now) id) }
+    ensures line { OnOk result (page.new.items ≡ page.old.items ++ header_if tree.now prefix.now (solution_view solved.now) id) }
+    ensures some { OnErr result (0 < length (header_if tree.now prefix.now (solution_view solved.now) id)) }
 {
     if !solved.written(id) {
         return Ok(());
@@ -47,7 +48,8 @@ fn add_minimal_if(
 ) -> Result<(), AllocError>
     requires named { id.0 < length tree.now.names }
     requires defined { id.0 < symbol_count solved.now.tree }
-    ensures { OnOk result (page.new.items ≡ page.old.items ++ minimal_if tree.now prefix.now (solution_view solved.now) id) }
+    ensures line { OnOk result (page.new.items ≡ page.old.items ++ minimal_if tree.now prefix.now (solution_view solved.now) id) }
+    ensures some { OnErr result (0 < length (minimal_if tree.now prefix.now (solution_view solved.now) id)) }
 {
     if !solved.differs(id) {
         return Ok(());
@@ -98,7 +100,8 @@ fn put_minimal<S: Sink>(
     requires { solved.now.tree ≡ tree.now }
     ensures { Writes S.Sink (minimal_text tree.now prefix.now (solution_view solved.now)) result sink.old sink.new }
 {
-    let mut page = new_page(alloc)?;
+    // A file without a line takes no memory.
+    let mut page = Vec::new(alloc);
     for i in 0..tree.symbol_count() {
         add_minimal_if(tree, solved, prefix, tree.symbol(i), &mut page)?;
         put_full(&mut page, sink)?;
@@ -109,7 +112,7 @@ fn put_minimal<S: Sink>(
 
 /// Hands out the header: the heading, and a `#define` line for each written symbol, in the order of their first
 /// definition. (The kernel's conf writes such lines; the heading is our own.) The caller owes the solution of that
-/// tree. After an error the sink took a beginning of it.
+/// tree. After an error, also where there was no memory, the sink took a beginning of it, never the whole.
 pub fn write_header<S: Sink>(
     alloc: Global,
     tree: &Tree,
@@ -126,7 +129,8 @@ pub fn write_header<S: Sink>(
 }
 
 /// Hands out the minimal file: the lines of the symbols that differ, in the order of their first definition. (Our own
-/// form.) The caller owes the solution of that tree. After an error the sink took a beginning of it.
+/// form.) The caller owes the solution of that tree. After an error, also where there was no memory, the sink took a beginning
+/// of it, never the whole: a file without a line takes no memory.
 ///
 /// With the places that reading it leaves, from empty places, the one solution is the one that was written. With any
 /// nonempty set of its lines left out it is not. No line is too long to be read again. All three ask that the user's

@@ -1,13 +1,13 @@
 //! What holds of reading, stated as the contracts of functions that do nothing.
 ghost use Rattle.kc_dot.specs.Calls.{CallsJoin};
-ghost use Rattle.kc_dot.specs.Laws.{AllowedAreAssigned, AssignedAreAllowed, ConfigIsIdempotent, MinimalHasNothingToSpare, MinimalRestores, WrittenTextsAreShort};
+ghost use Rattle.kc_dot.specs.WrittenLaws.{AllowedAreAssigned, AssignedAreAllowed, ConfigIsIdempotent, MinimalHasNothingToSpare, MinimalRestores, WrittenTextsAreShort};
 ghost use Rattle.kc_dot.specs.RoundTrip.{UnsetLineReadAgain, SetLineReadAgain, StringReadAgain, WrittenLinesAreShort};
 ghost use Rattle.kc_dot.specs.Streams.{ReadingKeepsPlaces, RefusalsKeepPlaces, StreamsAreRead, StreamsLeavePlaces};
 
 use kc_user::laws::places_hold_what_is_allowed;
 use kc_values::laws::{
-    accepted_have_one_solution, choices_stand_alone, differing_are_allowed, equations_read_needs,
-    idempotent_where, minimal_restores, needs_are_defined,
+    accepted_have_one_solution, differing_are_allowed, equations_read_needs, idempotent_where,
+    minimal_restores, needs_are_defined,
 };
 
 /// Any list of calls of a reader, each answered Ok, is one reading: of the lines of all bytes that were fed, each
@@ -45,18 +45,18 @@ pub fn unset_line_read_again()
     ensures { UnsetLineReadAgain }
 {}
 
-/// A set line that is written is read again as that.
+/// A set line that is written is read again as that, where no blank stands at its end, which reading would drop.
 pub fn set_line_read_again()
     ensures { SetLineReadAgain }
 {}
 
-/// A string's text, quoted and escaped, is read as that text.
+/// A string's text, quoted and escaped, is read as that text, where it then has at most 65,000 bytes with its quotes.
 pub fn string_read_again()
     ensures { StringReadAgain }
 {}
 
-/// A written line has at most 65,322 bytes before its LF, so that reading it again never meets a line that is too
-/// long.
+/// A written line has at most 65,322 bytes before its LF, so that reading it again never meets a line that is too long: where
+/// its prefix has at most 64 bytes, its name at most 255, and a string, once it is escaped, or a number at most 65,000.
 pub fn written_lines_are_short()
     ensures { WrittenLinesAreShort }
 {}
@@ -89,7 +89,6 @@ pub fn minimal_gives_back()
 {
     minimal_restores();
     differing_are_allowed();
-    choices_stand_alone();
 }
 
 /// With the places that reading the written `.config` leaves, from empty places, the values are the one solution exactly
@@ -103,5 +102,4 @@ pub fn config_is_idempotent()
     equations_read_needs();
     needs_are_defined();
     idempotent_where();
-    choices_stand_alone();
 }

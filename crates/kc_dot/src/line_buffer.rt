@@ -3,9 +3,10 @@ ghost use Rattle.std.specs.Prelude.{◌≡◌, ◌<◌, ◌≤◌, ◌∷◌, �
 ghost use Rattle.std.specs.Str.Lines.{strip_carriage_return};
 ghost use Rattle.kc_text.specs.Lines.{is_line_feed};
 ghost use Rattle.kc_user.specs.Places.{ArePlacesOf};
-ghost use Rattle.kc_dot.specs.Feeding.{StreamPosition, IsWithinLine, Feeds, Refuses, StopsAt, FinishesStream, FailsToEnd, fed, ended, failures_after};
-ghost use Rattle.kc_dot.specs.LineSteps.{FailsIn};
-ghost use Rattle.kc_dot.specs.Reading.{line, next_number, places_after, warning};
+ghost use Rattle.kc_dot.specs.Feeding.{StreamPosition, IsWithinLine, Feeds, Refuses, FinishesStream, FailsToEnd, fed, ended, failures_after};
+ghost use Rattle.kc_dot.specs.LineSteps.{FailsIn, StopsAt};
+ghost use Rattle.kc_text.specs.Limits.{one_more};
+ghost use Rattle.kc_dot.specs.Reading.{line, places_after, warning};
 ghost use Rattle.kc_dot.specs.ReaderView.{position_of};
 ghost use Rattle.kc_dot.specs.Sink.{extended};
 
@@ -50,7 +51,7 @@ pub fn end_line<S: Sink>(
     requires { ArePlacesOf stream.now.tree.now user.old }
     ensures places { OnOk result (user.new ≡ places_after stream.now.tree.now stream.now.prefix.now user.old (line stream.now.name.now line_buffer.old.number line_buffer.old.pending.items ended ∷ [])) }
     ensures warned { OnOk result (S.taken sink.new ≡ extended (S.taken sink.old) (warning stream.now.tree.now stream.now.prefix.now user.old (line stream.now.name.now line_buffer.old.number line_buffer.old.pending.items ended))) }
-    ensures next { OnOk result (position_of line_buffer.new ≡ record { number = next_number line_buffer.old.number; pending = [] }) }
+    ensures next { OnOk result (position_of line_buffer.new ≡ record { number = one_more line_buffer.old.number; pending = [] }) }
     ensures unchanged { OnErr result (user.new ≡ user.old) }
     ensures stays { OnErr result (position_of line_buffer.new ≡ position_of line_buffer.old) }
     ensures fault { IfErr result (λ fault. FailsIn (warning stream.now.tree.now stream.now.prefix.now user.old

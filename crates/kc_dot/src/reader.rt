@@ -67,7 +67,8 @@ impl<'a> DotReader<'a> {
 
     /// Takes the next piece of the stream. After an error the places are exactly those after the lines before the refused
     /// one, and the sink took their warnings. Where it failed, it did at the next line's warning: it took a beginning of
-    /// that, never the whole, and the line, which the piece ends, assigned nothing.
+    /// that, never the whole, and the line, which the piece ends, assigned nothing. Memory is wanted only before a byte of
+    /// the piece: an empty piece never fails, and one that was taken whole does not.
     pub fn feed<S: Sink>(
         &mut self,
         piece: &[u8],
@@ -108,7 +109,8 @@ impl<'a> DotReader<'a> {
 
     /// Ends the last line; a later `feed` begins the next one. After an error the user's places are as they were, and so
     /// is the reader but that it keeps the fault and answers it to every later call; where the sink failed it took a
-    /// beginning of the line's warning, never the whole, and otherwise nothing.
+    /// beginning of the line's warning, never the whole, and otherwise nothing. Where no byte is pending nothing fails, unless
+    /// the reader keeps a fault.
     pub fn finish<S: Sink>(&mut self, user: &mut User, sink: &mut S) -> Result<(), DotFault>
         requires { ArePlacesOf self.old.tree user.old }
         ensures ok { OnOk result (FinishesStream self.old.tree self.old.prefix self.old.name self.old.position user.old user.new (S.taken sink.old) (S.taken sink.new)) }

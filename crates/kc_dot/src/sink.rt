@@ -22,7 +22,8 @@ pub trait Sink {
 
     /// Takes a beginning of the bytes, of at least one byte, and answers how many it took.
     ///
-    /// The caller owes at least one byte. On `Fault` nothing was taken, and one failure more is counted.
+    /// The caller owes at least one byte. On `Fault` nothing was taken, and the count of failures is one more, or stays at
+    /// 2^64 - 1.
     fn write(&mut self, bytes: &[u8]) -> Result<usize, Fault>
         requires { 0 < length bytes.now }
         ensures some { IfOk result (λ count. 0 < count) }

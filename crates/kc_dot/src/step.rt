@@ -7,7 +7,8 @@ ghost use Rattle.kc_dot.specs.Effects.{effect_of};
 ghost use Rattle.kc_user.specs.Places.{ArePlacesOf};
 ghost use Rattle.kc_dot.specs.Feeding.{failures_after};
 ghost use Rattle.kc_dot.specs.LineSteps.{places_by, with_member, FailsIn};
-ghost use Rattle.kc_dot.specs.Reading.{set_again, effect_warning, warning_line_if, choice_of, is_yes, places_given};
+ghost use Rattle.kc_dot.specs.Reading.{set_again, effect_warning, warning_line_if, choice_of, places_given};
+ghost use Rattle.kc_user.specs.GivenValue.{is_yes};
 ghost use Rattle.kc_dot.specs.Sink.{extended};
 ghost use Rattle.kc_dot.specs.Writing.{Puts};
 

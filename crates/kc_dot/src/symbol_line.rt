@@ -1,5 +1,5 @@
 //! A symbol's value, and the line that tells it.
-ghost use Rattle.std.specs.Prelude.{◌≡◌, ◌++◌, OnOk, codes, flat_map};
+ghost use Rattle.std.specs.Prelude.{◌≡◌, ◌<◌, ◌++◌, length, OnOk, OnErr, codes, flat_map};
 ghost use Rattle.kc_text.specs.Escapes.{escape};
 ghost use Rattle.kc_dot.specs.SolvedView.{solution_view};
 ghost use Rattle.kc_dot.specs.SymbolLines.{dot_line, header_line, hex_text};
@@ -59,14 +59,15 @@ fn before_hex<'a>(text: &'a [u8]) -> &'a [u8]
     if has_hex_prefix(text) { b"" } else { b"0x" }
 }
 
-/// Adds the symbol's line of a `.config`. Its only error is to be out of memory.
+/// Adds the symbol's line of a `.config`. Its only error is to be out of memory, for a line of a byte or more.
 pub fn add_dot_line<'a>(
     prefix: &'a Prefix,
     name: &'a [u8],
     value: WrittenValue<'a>,
     page: &mut Vec<u8>,
 ) -> Result<(), AllocError>
-    ensures { OnOk result (page.new.items ≡ page.old.items ++ dot_line (prefix.now ++ name.now) (value_view value.entry)) }
+    ensures line { OnOk result (page.new.items ≡ page.old.items ++ dot_line (prefix.now ++ name.now) (value_view value.entry)) }
+    ensures some { OnErr result (0 < length (dot_line (prefix.now ++ name.now) (value_view value.entry))) }
 {
     let prefix = prefix.as_bytes();
     match value {
@@ -90,14 +91,15 @@ pub fn add_dot_line<'a>(
     }
 }
 
-/// Adds the symbol's line of a header, where it has one. Its only error is to be out of memory.
+/// Adds the symbol's line of a header, where it has one. Its only error is to be out of memory, for a line of a byte or more.
 pub fn add_header_line<'a>(
     prefix: &'a Prefix,
     name: &'a [u8],
     value: WrittenValue<'a>,
     page: &mut Vec<u8>,
 ) -> Result<(), AllocError>
-    ensures { OnOk result (page.new.items ≡ page.old.items ++ header_line (prefix.now ++ name.now) (value_view value.entry)) }
+    ensures line { OnOk result (page.new.items ≡ page.old.items ++ header_line (prefix.now ++ name.now) (value_view value.entry)) }
+    ensures some { OnErr result (0 < length (header_line (prefix.now ++ name.now) (value_view value.entry))) }
 {
     let prefix = prefix.as_bytes();
     match value {

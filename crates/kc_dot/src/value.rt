@@ -11,9 +11,9 @@ use kc_user::value::{LONGEST_VALUE, UserValue};
 use std::alloc::{AllocError, Global};
 
 /// The value that the text gives to a symbol of this type, or None where it is not allowed: for a bool `y` or `n` as
-/// its first byte, for a tristate `y`, `m` or `n`, each alone; for a string what stands between the `"` that it begins
-/// with and the next one that no `\` takes away, `\c` being c; for an int or hex the whole text, where it is a number
-/// of that type. A text of more than 65,000 bytes gives none, nor does one for a symbol without a type.
+/// its first byte, for a tristate `y`, `m` or `n`, whatever follows that byte; for a string what stands between the `"` that
+/// it begins with and the next one that no `\` takes away, `\c` being c; for an int or hex the whole text, where it is a
+/// number of that type. A text of more than 65,000 bytes gives none, nor does one for a symbol without a type.
 pub fn line_value(alloc: Global, kind: Kind, text: &[u8]) -> Result<Option<UserValue>, AllocError>
     ensures { IfOk result (λ found. option_map given_of_value found ≡ spec.line_value kind text.now) }
 {

@@ -32,7 +32,7 @@ fn chain_text(alloc: Global, count: u32) -> Result<Vec<u8>, Fail> {
 fn has_no_minimal_line(rt: &impl Abort, alloc: Global, long: &Long<'_, '_>) -> Result<(), Fail> {
     let mut outputs = MemoryOutputs::new(alloc, long.room)?;
     run_long(alloc, long, LARGE, &mut outputs)?;
-    assert!(rt; outputs.minimal.is_begun && outputs.minimal.bytes.is_empty());
+    assert!(rt; outputs.minimal.is_begun() && outputs.minimal.bytes.is_empty());
     Ok(())
 }
 

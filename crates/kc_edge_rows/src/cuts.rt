@@ -13,7 +13,9 @@ fn line_ends(text: &[u8]) -> usize {
 
 // All outputs were begun.
 fn is_done(rt: &impl Abort, outputs: &MemoryOutputs) {
-    assert!(rt; outputs.config.is_begun && outputs.header.is_begun && outputs.minimal.is_begun);
+    assert!(rt;
+        outputs.config.is_begun() && outputs.header.is_begun() && outputs.minimal.is_begun()
+    );
 }
 
 // One line says why, and no output was begun.
@@ -21,7 +23,9 @@ fn is_refused(rt: &impl Abort, outputs: &MemoryOutputs) {
     let notes = outputs.notes.bytes.as_slice();
     assert!(rt; notes.starts_with(b"Kconfig:") && notes.ends_with(b"\n"));
     assert_eq!(rt; line_ends(notes), 1);
-    assert!(rt; !outputs.config.is_begun && !outputs.header.is_begun && !outputs.minimal.is_begun);
+    assert!(rt;
+        !outputs.config.is_begun() && !outputs.header.is_begun() && !outputs.minimal.is_begun()
+    );
 }
 
 // The run over this tree, whose status and reads are told.

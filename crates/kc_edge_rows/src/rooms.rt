@@ -24,7 +24,7 @@ fn are_left(rt: &impl Abort, struck: &MemoryOutputs, config: &[u8], notes: &[u8]
     is_text(rt, &struck.config.bytes, config, name);
     is_so(
         rt,
-        !struck.header.is_begun && !struck.minimal.is_begun,
+        !struck.header.is_begun() && !struck.minimal.is_begun(),
         name,
     );
     is_text(rt, &struck.notes.bytes, notes, name);
@@ -63,7 +63,7 @@ fn a_read_fails_behind_a_warning(rt: HostRuntime) -> Result<(), Fail> {
     let ended = run_tree(rt.alloc(), two(), None, input, &mut struck);
     let notes = b".config:1: warning K7: unknown symbol Q\nerror E18: cannot read .config\n";
     are_left(&rt, &struck, b"", notes, "a failed read");
-    is_so(&rt, !struck.config.is_begun, "a failed read");
+    is_so(&rt, !struck.config.is_begun(), "a failed read");
     drop(struck);
     assert_eq!(rt; ended?, (Status::Faulted, 2));
     Ok(())
@@ -116,7 +116,7 @@ fn nothing_is_told_where_the_notes_fail_too(rt: HostRuntime) -> Result<(), Fail>
     struck.notes.fail_at = 1;
     let ended = run_two(rt.alloc(), input, &mut struck);
     is_text(&rt, &struck.notes.bytes, b"", "notes");
-    let is_quiet = struck.notes.calls == 1 && !struck.config.is_begun;
+    let is_quiet = struck.notes.calls == 1 && !struck.config.is_begun();
     drop(struck);
     assert!(rt; is_quiet);
     let (status, _reads) = ended?;

@@ -59,7 +59,9 @@ pub(crate) fn run_long(
 fn has_refused(rt: &impl Abort, status: Status, outputs: &MemoryOutputs, notes: &[u8]) {
     assert_eq!(rt; status, Status::Refused);
     assert_eq!(rt; outputs.notes.bytes.as_slice(), notes);
-    assert!(rt; !outputs.config.is_begun && !outputs.header.is_begun && !outputs.minimal.is_begun);
+    assert!(rt;
+        !outputs.config.is_begun() && !outputs.header.is_begun() && !outputs.minimal.is_begun()
+    );
 }
 
 /// The run is refused with these notes, and begins no output. The answer is how many reads it made.
@@ -87,7 +89,7 @@ fn has_written(
     let config = config_text(alloc, b"Main menu", text)?;
     assert!(rt; outputs.config.bytes == config);
     assert!(rt; outputs.notes.bytes.as_slice() == notes);
-    assert!(rt; !outputs.header.is_begun);
+    assert!(rt; !outputs.header.is_begun());
     Ok(())
 }
 

@@ -63,7 +63,7 @@ fn faultless(
 // The output was never called.
 fn is_untouched(rt: &impl Abort, file: &MemoryFile, name: &str) {
     assert!(rt;
-        !file.is_begun && file.bytes.is_empty() && file.calls == 0,
+        !file.is_begun() && file.bytes.is_empty() && file.calls == 0,
         "{}",
         name
     );
@@ -170,10 +170,10 @@ fn left_behind(
     let text = whole.file(file).bytes.as_slice();
     if rank(file) < rank(output) {
         is_text(rt, &left.bytes, text, name);
-        is_so(rt, left.is_begun, name);
+        is_so(rt, left.is_begun(), name);
     } else if rank(file) == rank(output) {
         is_so(rt, text.starts_with(&left.bytes), name);
-        is_so(rt, left.is_begun == (left.calls > 1), name);
+        is_so(rt, left.is_begun() == (left.calls > 1), name);
     } else {
         is_untouched(rt, left, name);
     }

@@ -58,10 +58,7 @@ terminal_of (AnOp o) = op_terminal o
 abbrev pub terminals : List Lexeme → List Terminal
 terminals = map terminal_of
 
--- the tokens from a place on
-abbrev pub lexemes_from : List Token → ℕ → List Lexeme
-lexemes_from tokens at = map (λ t. lexeme t.kind) (drop at tokens)
-
+-- the tokens from a place on, as the grammar has them
 abbrev pub terminals_from : List Token → ℕ → List Terminal
 terminals_from tokens at = map (λ t. terminal_of (lexeme t.kind)) (drop at tokens)
 

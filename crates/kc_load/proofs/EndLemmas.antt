@@ -1,24 +1,27 @@
 -- The beginning of the loading, its ends, and why it ends.
-use Rattle.std.proofs.Common.{◌≡◌, ℕ, Bool, ◌+◌, ◌-◌, ◌*◌, ◌<◌, ◌≤◌, zero, suc, List, [], ◌∷◌, ◌++◌, reverse, length, min, Contains, IsUtf8, inl, inr, arith, refl, sym, ap, ◌∙◌, subst, length-append, append-nil, nat_lt, true, false, map, vec_len}
+use Rattle.std.proofs.Common.{◌≡◌, ℕ, Bool, ◌+◌, ◌-◌, ◌*◌, ◌<◌, ◌≤◌, zero, suc, List, [], ◌∷◌, ◌++◌, reverse, length, min, Option, None, Contains, IsUtf8, arith, refl, sym, ap, ◌∙◌, subst, length-append, append-nil, nat_lt, true, false, map, vec_len}
 use Rattle.std.proofs.lemmas.Bool.Decides.{nat_tests}
 use Rattle.std.proofs.lemmas.List.{nil_from_length}
+use Rattle.std.proofs.lemmas.List.Elements.{All-nil, Contains-append_left}
 use Rattle.std.proofs.Math.ListN.{length-map}
 use Rattle.std.specs.declared.vec.Vec.{Vec}
 use Rattle.std.specs.declared.alloc.Global.{Global}
-use Rattle.kc_read.specs.Files.{bytes_in}
 use Rattle.kc_load.specs.Faults.{IsLoadFault, IsNext}
-use Rattle.kc_load.specs.Folders.{FolderFiles, path_of}
+use Rattle.kc_load.specs.Folders.{FolderFiles, AnswersAs, path_of}
 use Rattle.kc_read.specs.Limits.{most_lines}
 use Rattle.kc_read.specs.Expansion.{lines_of}
-use Rattle.kc_load.specs.Loaded.{IsReadWhole, Loads, Reached, itself}
+use Rattle.kc_load.specs.Loaded.{Answer, AreAsked, Loads, files_found}
+use Rattle.kc_load.specs.Order.{AreSourcesOf, AskedAlong, ended, asked}
 use Rattle.kc_text.specs.Limits.{last_count}
-use Rattle.kc_load.specs.Steps.{FailsAt, State, Visits, no_text, not_new, no_file, file, initial_state}
+use Rattle.kc_load.specs.Steps.{FailsAt, IsDue, State, Visits, no_text, not_new, no_file, file, initial_state, was_requested}
 use Rattle.kc_load.specs.declared.fault.LoadFault.{LoadFault}
 use Rattle.kc_load.specs.declared.fault.LoadFault.TheVariants.{CannotRead, Memory}
-use Rattle.kc_load.proofs.HeldLemmas.{only_element}
+use Rattle.kc_load.proofs.FoundLemmas.{found_absent, names_of}
+use Rattle.kc_load.proofs.OrderLemmas.{flat}
+use Rattle.kc_load.proofs.RequestedLemmas.{in_requested}
 use Rattle.kc_load.proofs.SourceLemmas.{no_lines_no_sources}
-use Rattle.kc_load.proofs.Ongoing.{IsMet, Ongoing}
-use Rattle.kc_load.proofs.TurnLemmas.{absent_if_new, reached_now, turn}
+use Rattle.kc_load.proofs.Ongoing.{Ongoing}
+use Rattle.kc_load.proofs.TurnLemmas.{is_new, turn, waits_first}
 
 pub not_over : (n : ℕ) → false ≡ nat_lt most_lines n → n ≤ most_lines
 not_over n e = grind (arith, nat_tests)
@@ -38,54 +41,76 @@ fits v =
 pub none_waits : (v : Vec (Vec ℕ Global) Global) → vec_len v ≡ 0 → map (λ n. n.items) v.items ≡ []
 none_waits v e = ap (map (λ (w : Vec ℕ Global). w.items)) (nil_from_length v.items (sym v.ok.0 ∙ e))
 
-pub no_element : {X : Type 0} (x : X) → Contains {X = X} [] x → ⊥
-no_element x h = let lt = h.1 in absurd (omega arith)
-
-pub at_start : (folder_files : FolderFiles) (dir first : List ℕ) → IsUtf8 first → Ongoing folder_files dir first (initial_state first)
-at_start folder_files dir first text = record {
-  read = [];
+pub at_start : (folder_files : FolderFiles) (dir first : List ℕ) → Ongoing folder_files dir first (initial_state first)
+at_start folder_files dir first = record {
+  asked = [];
+  requested_are = refl;
   held = λ name. refl;
-  are_read = record { once = tt; within = tt; reached = λ name bytes e. absurd cc; answers = λ name bytes e. absurd cc };
+  answers = All-nil (λ (a : Answer). AnswersAs folder_files (path_of dir a.name) a.bytes);
+  texts = All-nil (λ (a : Answer). IsUtf8 a.name);
   total = refl;
-  text = text;
-  first_is = inr (0, omega arith, refl);
-  sources_are = λ file bytes e. absurd cc;
-  answers = λ name e. absurd cc;
-  were_requested = λ name bytes e. absurd cc;
-  waiting_are = λ name c t. subst (Reached (bytes_in []) first) (only_element first name c) itself;
+  within = λ before after a e. absurd (let n : 0 ≡ length before + suc (length after) = ap length e ∙ length-append before (a ∷ after) in omega arith);
+  in_order = λ files more agree d. d;
 }
 
 module _ (folder_files : FolderFiles) (dir first : List ℕ) (s : State) (h : Ongoing folder_files dir first s) where
+  -- over what was found, whatever is asked for along the names that wait
+  found_in_order : (more : List (List ℕ)) → AskedAlong (files_found h.asked) (names_of h.asked) (reverse s.waiting) more → AreAsked folder_files dir first h.asked more
+  found_in_order more d = record { in_order = h.in_order (files_found h.asked) more (λ x there. refl) d; answers = h.answers }
+
+  -- a name that was not asked for has no file
+  none_found : (x : List ℕ) → (Contains (names_of h.asked) x → ⊥) → files_found h.asked x ≡ None
+  none_found x new = by (was_requested (names_of h.asked) x) refl
+    where
+      by : (b : Bool) → was_requested (names_of h.asked) x ≡ b → files_found h.asked x ≡ None
+      by true e = absurd (new (in_requested (names_of h.asked) x e))
+      by false e = found_absent h.asked x e
+
   pub at_end : s.waiting ≡ [] → Loads folder_files dir first s.files
   at_end none = record {
-    read = h.read;
+    asked = h.asked;
+    next = [];
+    are_asked = found_in_order [] (subst (λ (l : List (List ℕ)). AskedAlong (files_found h.asked) (names_of h.asked) (reverse l) []) (sym none) (ended (names_of h.asked)));
+    within = h.within;
+    are_all = λ few. refl;
     held = h.held;
-    are_read = h.are_read;
-    are_all = λ within. record { first_is = met first h.first_is; sources_are = λ f bytes e. let m = h.sources_are f bytes e in (m.names, m.sources, λ x among text. met x (m.met x among text)) };
   }
-    where
-      met : (x : List ℕ) → IsMet s x → IsReadWhole folder_files dir h.read x
-      met x (inl requested) = h.answers x requested
-      met x (inr waits) = absurd (no_element x (subst (λ (l : List (List ℕ)). Contains l x) none waits))
 
   pub when_over : most_lines < s.lines → Loads folder_files dir first s.files
-  when_over over = record {
-    read = h.read;
-    held = h.held;
-    are_read = h.are_read;
-    are_all = λ within. absurd (let t = h.total in omega arith);
-  }
+  when_over over =
+      let (next, d) = flat (files_found h.asked) (reverse s.waiting) (names_of h.asked) none_found in
+      record {
+        asked = h.asked;
+        next = next;
+        are_asked = found_in_order next d;
+        within = h.within;
+        are_all = λ few. absurd (let t = h.total in omega arith);
+        held = h.held;
+      }
+
+  -- the name that waits first comes next
+  next_is : (rest : List (List ℕ)) (name : List ℕ) → s.waiting ≡ rest ++ name ∷ [] → IsDue s name → (behind : List (List ℕ)) × AreAsked folder_files dir first h.asked (name ∷ behind)
+  next_is rest name last due =
+      let new = is_new folder_files dir first s h rest name last due in
+      let (behind, d) = flat (files_found h.asked) (reverse rest) (names_of h.asked ++ name ∷ []) (λ x c. none_found x (λ there. c (Contains-append_left (names_of h.asked) (name ∷ []) x there))) in
+      let own = subst (λ (o : Option (List ℕ)). AreSourcesOf o []) (sym (none_found name new.1)) refl in
+      let along : AskedAlong (files_found h.asked) (names_of h.asked) (name ∷ reverse rest) (name ∷ [] ++ behind) =
+      asked (names_of h.asked) (reverse rest) [] [] behind name new own (ended (names_of h.asked ++ name ∷ [])) d in (
+        behind,
+        found_in_order (name ∷ behind)
+            (subst (λ (l : List (List ℕ)). AskedAlong (files_found h.asked) (names_of h.asked) l (name ∷ behind)) (sym (waits_first folder_files dir first s h rest name last)) along),
+      )
 
   pub at_fault : s.lines ≤ most_lines → (failing now : List ℕ → Bool) → now ≡ failing → (rest : List (List ℕ)) (name : List ℕ) → s.waiting ≡ rest ++ name ∷ [] →
       (fault : LoadFault) → FailsAt now dir (record s { waiting = rest }) name fault →
       IsLoadFault folder_files failing dir first fault
   at_fault within failing now same rest name last (CannotRead n) f =
+      let (behind, are) = next_is rest name last (record { utf8 = f.1.utf8; is_new = f.1.is_new }) in
       subst (λ (x : List ℕ). IsNext folder_files failing dir first x) (sym f.0) (record {
-        read = h.read;
-        are_read = h.are_read;
+        asked = h.asked;
+        behind = behind;
+        are_asked = are;
         within = let t = h.total in omega arith;
-        reached = reached_now folder_files dir first s h rest name last (record { utf8 = f.1.utf8; is_new = f.1.is_new });
-        absent = absent_if_new folder_files dir first s h name f.1.is_new;
         may_fail = sym (ap (λ (p : List ℕ → Bool). p (path_of dir name)) same) ∙ f.2;
       })
   at_fault within failing now same rest name last Memory f = tt

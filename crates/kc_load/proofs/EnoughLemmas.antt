@@ -9,7 +9,7 @@ use Rattle.kc_text.specs.Lines.{UnreadLines, unread_lines}
 use Rattle.kc_expr.specs.Names.{same_name}
 use Rattle.kc_read.specs.declared.refusal.Code.TheVariants as code
 use Rattle.kc_read.specs.Expansion.{FileContext, Expands, Log, Refused, Rest, bytes_cause, nothing_read, of_file, with_file, refused, root_context, sourcing_cause, at_end, unclosed, too_long, no_tokens, blank, bad_line, over_limit, statement, bad_source, refused_inside, source}
-use Rattle.kc_read.specs.Files.{Files, bytes_in}
+use Rattle.kc_read.specs.Files.{Files}
 use Rattle.kc_read.specs.Lines.{Cause, cause}
 use Rattle.kc_read.specs.OpenedFiles.{sourced_files}
 use Rattle.kc_read.specs.Statements.{Located, Named}
@@ -17,8 +17,9 @@ use Rattle.kc_read.proofs.ExpansionThere.{has_one_expansion}
 use Rattle.kc_read.proofs.OneExpansion.{one_expansion_law}
 use Rattle.kc_load.specs.Expanding.{ExpandsAlike, OpensAlike, Suffices, named}
 use Rattle.kc_load.specs.Folders.{FolderFiles, path_of}
-use Rattle.kc_load.specs.Loaded.{Reached, itself, sourced}
-use Rattle.kc_load.specs.Steps.{State}
+use Rattle.kc_load.specs.Loaded.{files_found}
+use Rattle.kc_load.specs.Steps.{State, was_requested}
+use Rattle.kc_load.proofs.FoundLemmas.{at_name, found_absent, names_of}
 use Rattle.kc_load.proofs.FollowLemmas.{IsClosed, enter, few_lines, follow}
 use Rattle.kc_load.proofs.Ongoing.{Ongoing}
 use Rattle.kc_load.proofs.Walks.{IsMetIn, Walks, first_is_met}
@@ -78,7 +79,7 @@ module _ (files others : Files) where
 abbrev RootGives : Files → List ℕ → Result Log Refused → Type 0
 RootGives files root r = (bytes : List ℕ) × (files root ≡ Some bytes) × Rest files (root_context root) (unread_lines bytes 1) [] (with_file nothing_read bytes) r
 
-module _ (folder_files : List ℕ → Option (List ℕ)) (dir first : List ℕ) (loaded : Files) (w : List (List ℕ)) (m : ℕ) (b : Bool) (text : IsUtf8 first)
+module _ (folder_files : List ℕ → Option (List ℕ)) (dir first : List ℕ) (loaded : Files) (w : List (List ℕ)) (m : ℕ) (b : Bool)
     (walk : Walks (Some folder_files) dir [] 0 (first ∷ []) w m b) (agree : (y : List ℕ) → IsMetIn w y → loaded y ≡ named folder_files dir y) where
   same_root : loaded first ≡ named folder_files dir first
   same_root = agree first (first_is_met (omega arith) walk)
@@ -119,30 +120,28 @@ module _ (folder_files : List ℕ → Option (List ℕ)) (dir first : List ℕ) 
 
 -- ---- The end of the loading
 
--- what is reached from a text is a text
-reached_text : (files : Files) (first : List ℕ) → IsUtf8 first → (name : List ℕ) → Reached files first name → is_utf8 name ≡ true
-reached_text files first text name itself = is_utf8-from_IsUtf8 first text
-reached_text files first text name (sourced file bytes x names r e s among t) = is_utf8-from_IsUtf8 x t
-
 module _ (folder_files : List ℕ → Option (List ℕ)) (dir first : List ℕ) (s : State) (h : Ongoing (Some folder_files) dir first s) where
   -- each name that was asked for has the folder's file
   requested_are_whole : (y : List ℕ) → IsMetIn s.requested y → s.files y ≡ named folder_files dir y
-  requested_are_whole y met = by (is_utf8 y) refl
+  requested_are_whole y met = h.held y ∙ by (is_utf8 y) refl
     where
-      none : is_utf8 y ≡ false → (o : Option (List ℕ)) → bytes_in h.read y ≡ o → o ≡ None
-      none u None e = refl
-      none u (Some c) e = absurd (false≢true (sym u ∙ reached_text (bytes_in h.read) first h.text y (h.are_read.reached y c e)))
+      there : IsUtf8 y → was_requested (names_of h.asked) y ≡ true
+      there text = ap (λ (l : List (List ℕ)). was_requested l y) (sym h.requested_are) ∙ met text
 
-      by : (b : Bool) → is_utf8 y ≡ b → s.files y ≡ cond b (folder_files (path_of dir y)) None
-      by true u = h.held y ∙ sym (h.answers y (met (IsUtf8-from_is_utf8 y u)))
-      by false u = h.held y ∙ none u (bytes_in h.read y) refl
+      not_requested : is_utf8 y ≡ false → (b : Bool) → was_requested (names_of h.asked) y ≡ b → b ≡ false
+      not_requested u true e = absurd (false≢true (sym u ∙ is_utf8-from_IsUtf8 y (at_name (λ x o. IsUtf8 x) h.asked h.texts y e)))
+      not_requested u false e = refl
+
+      by : (b : Bool) → is_utf8 y ≡ b → files_found h.asked y ≡ cond b (folder_files (path_of dir y)) None
+      by true u = sym (at_name (λ x o. folder_files (path_of dir x) ≡ o) h.asked h.answers y (there (IsUtf8-from_is_utf8 y u)))
+      by false u = found_absent h.asked y (not_requested u (was_requested (names_of h.asked) y) refl)
 
   pub enough_told : (b : Bool) → Walks (Some folder_files) dir [] 0 (first ∷ []) s.requested s.lines b → Suffices (Some folder_files) dir first s.files
   enough_told b walk = (
     named folder_files dir,
     refl,
-    alike folder_files dir first s.files s.requested s.lines b h.text walk requested_are_whole,
-    opens_alike folder_files dir first s.files s.requested s.lines b h.text walk requested_are_whole,
+    alike folder_files dir first s.files s.requested s.lines b walk requested_are_whole,
+    opens_alike folder_files dir first s.files s.requested s.lines b walk requested_are_whole,
   )
 
 pub enough : (folder_files : FolderFiles) (dir first : List ℕ) (s : State) → Ongoing folder_files dir first s → (b : Bool) → Walks folder_files dir [] 0 (first ∷ []) s.requested s.lines b → Suffices folder_files dir first s.files

@@ -25,10 +25,10 @@ use Rattle.kc_read.proofs.SourceWord.{source_begins, begins_source}
 use Rattle.kc_load.specs.Expanding.{named}
 use Rattle.kc_load.specs.Folders.{path_of}
 use Rattle.kc_read.specs.Limits.{most_lines}
-use Rattle.kc_load.specs.Loaded.{AreSources}
+use Rattle.kc_load.specs.Order.{AreSources}
 use Rattle.kc_text.specs.Limits.{last_count}
 use Rattle.kc_load.specs.Steps.{was_requested}
-use Rattle.kc_load.proofs.HeldLemmas.{requested_cases, requested_itself, requested_still, only_element}
+use Rattle.kc_load.proofs.RequestedLemmas.{requested_cases, requested_itself, requested_still, only_element}
 use Rattle.kc_load.proofs.Walks.{IsMetIn, Walks, stopped, passed, missing, taken, all_passed, first_is_met, first_or_later, grows, meets, no_name, split}
 use Rattle.kc_load.proofs.Walks as walks
 

@@ -1,9 +1,14 @@
 pub mod ListLemmas
 pub mod SourceLemmas
-pub mod HeldLemmas
+pub mod RequestedLemmas
+pub mod FoundLemmas
+pub mod OrderLemmas
 pub mod Ongoing
 pub mod TurnLemmas
 pub mod EndLemmas
 pub mod Walks
 pub mod FollowLemmas
 pub mod EnoughLemmas
+pub mod OneOrder
+pub mod OneMap
+pub mod ReachedLemmas

@@ -4,7 +4,7 @@ use Rattle.std.proofs.lemmas.List.{nil_from_length}
 use Rattle.kc_text.specs.Lines.{unread_lines, physical_lines}
 use Rattle.kc_read.proofs.SourceLines.{at_end, one_list}
 use Rattle.kc_read.specs.Expansion.{lines_of}
-use Rattle.kc_load.specs.Loaded.{AreSources}
+use Rattle.kc_load.specs.Order.{AreSources}
 
 pub no_lines_no_sources : (bytes : List ℕ) (names : List (List ℕ)) → AreSources bytes names → lines_of bytes ≡ 0 → names ≡ []
 no_lines_no_sources bytes names sources none =

@@ -7,10 +7,10 @@ use Rattle.kc_expr.specs.Names.{mention}
 use Rattle.kc_load.specs.Folders.{FolderFiles, AnswersAs, path_of}
 use Rattle.kc_read.specs.Limits.{most_lines}
 use Rattle.kc_read.specs.Expansion.{lines_of}
-use Rattle.kc_load.specs.Loaded.{AreSources}
+use Rattle.kc_load.specs.Order.{AreSources}
 use Rattle.kc_text.specs.Limits.{last_count}
 use Rattle.kc_load.specs.Steps.{State, Visits, no_text, not_new, no_file, file, initial_state, was_requested}
-use Rattle.kc_load.proofs.HeldLemmas.{requested_still, requested_itself, only_element}
+use Rattle.kc_load.proofs.RequestedLemmas.{requested_still, requested_itself, only_element}
 
 -- the name was asked for, if it is text
 abbrev pub IsMetIn : List (List ℕ) → List ℕ → Type 0

@@ -1,21 +1,19 @@
 -- Trusted: Why loading ends early.
-use Rattle.std.specs.Prelude.{◌≡◌, ℕ, ◌≤◌, Bool, true, List, None}
-use Rattle.kc_read.specs.Files.{bytes_in}
+use Rattle.std.specs.Prelude.{◌≡◌, ℕ, ◌≤◌, Bool, true, List, ◌∷◌}
 use Rattle.kc_text.specs.Limits.{one_more}
 use Rattle.kc_load.specs.Folders.{FolderFiles, path_of}
 use Rattle.kc_read.specs.Limits.{most_lines}
-use Rattle.kc_load.specs.Loaded.{AreRead, File, Reached, line_total}
+use Rattle.kc_load.specs.Loaded.{Answer, AreAsked, line_total}
 use Rattle.kc_load.specs.declared.fault.LoadFault.{LoadFault}
 use Rattle.kc_load.specs.declared.fault.LoadFault.TheVariants.{CannotRead, Memory}
 
--- a file that could not be read: its name is the next one that is reached by what was read before, and the device may fail at
--- its path
+-- a file that could not be read: its name is the next one to be asked for, there were no more lines than the limit, and the
+-- device may fail at its path
 pub record IsNext (folder_files : FolderFiles) (failing : List ℕ → Bool) (dir first name : List ℕ) : Type 0 where
-  pub read : List File
-  pub are_read : AreRead folder_files dir first read
-  pub within : line_total read ≤ most_lines
-  pub reached : Reached (bytes_in read) first name
-  pub absent : bytes_in read name ≡ None
+  pub asked : List Answer
+  pub behind : List (List ℕ)
+  pub are_asked : AreAsked folder_files dir first asked (name ∷ behind)
+  pub within : line_total asked ≤ most_lines
   pub may_fail : failing (path_of dir name) ≡ true
 
 abbrev pub IsLoadFault : FolderFiles → (List ℕ → Bool) → List ℕ → List ℕ → LoadFault → Type 0

@@ -1,5 +1,5 @@
 -- Trusted: What a folder tells of its files.
-use Rattle.std.specs.Prelude.{◌≡◌, ℕ, ◌+◌, ◌++◌, ◌∷◌, List, [], Bool, true, false, ◌==◌, Option, Some, None, if◌then◌else◌}
+use Rattle.std.specs.Prelude.{◌≡◌, ℕ, ◌++◌, ◌∷◌, List, [], Bool, true, false, ◌==◌, Option, Some, None, if◌then◌else◌}
 use Rattle.kc_text.specs.Bytes.{byte}
 use Rattle.kc_text.specs.Limits.{one_more}
 use Rattle.kc_load.specs.declared.folder.FolderFault.{FolderFault}

@@ -7,7 +7,7 @@ use Rattle.kc_expr.specs.Names.{same_name, mention}
 use Rattle.kc_read.specs.Files.{Files, Puts, bytes_in}
 use Rattle.kc_load.specs.Folders.{FolderFiles, AnswersAs, path_of}
 use Rattle.kc_read.specs.Expansion.{lines_of}
-use Rattle.kc_load.specs.Loaded.{AreSources}
+use Rattle.kc_load.specs.Order.{AreSources}
 use Rattle.kc_load.specs.declared.fault.LoadFault.{LoadFault}
 use Rattle.kc_load.specs.declared.fault.LoadFault.TheVariants.{CannotRead, Memory}
 use Rattle.kc_load.specs.declared.loading.Loading.{Loading}

@@ -3,6 +3,7 @@
 
 mod fault;
 mod folder;
+pub mod laws;
 mod loading;
 mod path;
 

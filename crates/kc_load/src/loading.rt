@@ -143,20 +143,23 @@ impl Loading {
 /// Reads the file `kconfig` and every file that a `source` line of a file so read names (our own; the statement is of
 /// the kernel's kconfig-language document).
 ///
-/// A name is read at the path `dir/NAME`, or at the name itself where it begins with `/`. Each name is read once, depth
-/// first, in the order of the `source` lines. A name that is no UTF-8, or of which there is no file, is left out.
-/// Reading stops after the file with which there are more than 1,000,000 physical lines: such a tree is refused at that
-/// file or before it. So what is read is always enough: over it the root file gives the list, or the refusal, that it gives
-/// over all the files of the folder.
+/// A name is asked for at the path `dir/NAME`, or at the name itself where it begins with `/`. The names are asked for in
+/// one order (`laws::one_order`), each once: depth first, a name before those of its file's `source` lines, and these, in
+/// the order of the lines, before the names behind it. A name that is no UTF-8 is not asked for.
 ///
-/// E18 where the folder's device failed, E20 where memory was refused. Nothing of the map is left then.
+/// The map holds the files that were found. Nothing is asked for behind the file with which there are more than 1,000,000
+/// physical lines; otherwise all is. What was found is always enough: over it the root file gives the list, or the refusal,
+/// that it gives over all the files of the folder, and where it gives a list it opens the same files.
+///
+/// E18, with the name whose turn it was, where the folder's device failed; E20 where memory was refused. Nothing of the
+/// map is left then.
 pub fn load<F: Folder>(
     alloc: Global,
     folder: &mut F,
     dir: &str,
     kconfig: &str,
 ) -> Result<FileMap, LoadFault>
-    // The map holds the files that the first one reaches, with the folder's bytes.
+    // The map holds the files that were found, asked for in order, with the folder's bytes.
     ensures loaded { IfOk result (λ map. Loads (F.files folder.old) dir.now kconfig.now (bytes_in map)) }
     // They are enough: over them the first file gives what it gives over all the folder's files.
     ensures enough { IfOk result (λ map. Suffices (F.files folder.old) dir.now kconfig.now (bytes_in map)) }
@@ -165,7 +168,7 @@ pub fn load<F: Folder>(
     ensures failing_stays { F.failing folder.new ≡ F.failing folder.old }
     // No failure is counted where all was read.
     ensures quiet { OnOk result (F.failures folder.new ≡ F.failures folder.old) }
-    // A file that could not be read is one whose turn it was, and at whose path the device may fail.
+    // The name of a file that could not be read is the next one in that order, and the device may fail at its path.
     ensures fault { IfErr result (IsLoadFault (F.files folder.old) (F.failing folder.old) dir.now kconfig.now) }
     // The device's failure is counted, being out of memory is not.
     ensures counted { IfErr result (λ fault. F.failures folder.new ≡ load_failures_after fault (F.failures folder.old)) }

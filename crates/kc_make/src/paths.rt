@@ -51,7 +51,7 @@ fn add_fragments(fragments: &[String], names: &mut Names) -> Result<(), AllocErr
 /// in the order of their first opening, each by the path at which it was read (`DIR/NAME`, or the name itself where it
 /// begins with `/`), and then the fragments by their names (our own).
 ///
-/// For a tree that is refused, the files that its `source` lines reach. Its only error is to be out of memory.
+/// Of a tree that is refused it promises nothing of the files. Its only error is to be out of memory.
 pub fn prerequisites_of(
     alloc: Global,
     files: &FileMap,

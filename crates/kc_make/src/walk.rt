@@ -66,11 +66,10 @@ impl SourceWalk {
     }
 }
 
-/// The files that the expansion of the root file opens, each once, in the order of their first opening: a file is opened
-/// first, and then those that its `source` lines name, in order, each with those that it sources.
+/// The files that the expansion of the root file opens, where it is accepted, each once, in the order of their first
+/// opening: a file is opened first, and then those that its `source` lines name, in order, each with those that it sources.
 ///
-/// Each file is looked at once. For a tree that is refused, the files that its `source` lines reach. Its only error is to
-/// be out of memory.
+/// It promises nothing of a tree that is refused. Its only error is to be out of memory.
 pub fn opened_files(alloc: Global, files: &FileMap, root: &[u8]) -> Result<Names, AllocError>
     ensures { IfOk result (AreOpened (bytes_in files.now) root.now) }
 {

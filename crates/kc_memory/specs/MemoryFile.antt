@@ -6,7 +6,7 @@ use Rattle.kc_memory.specs.declared.memory.MemoryFile.{MemoryFile}
 use Rattle.kc_memory.specs.declared.memory.MemoryOutputs.{MemoryOutputs}
 
 abbrev pub state_of : MemoryFile → OutputState
-state_of file = record { is_begun = file.is_begun; is_ended = file.is_ended; text = Some file.bytes.items; failures = file.failures }
+state_of file = record { begins = file.begins; is_ended = file.is_ended; text = Some file.bytes.items; failures = file.failures }
 
 abbrev pub states_of : MemoryOutputs → OutputStates
 states_of outputs = record {
@@ -21,7 +21,7 @@ states_of outputs = record {
 
 -- An output that took nothing and was not called, that never fails, and has so much room; each write may take all.
 pub record IsNew (room : ℕ) (file : MemoryFile) : Type 0 where
-  pub unbegun : file.is_begun ≡ false
+  pub unbegun : file.begins ≡ 0
   pub unended : file.is_ended ≡ false
   pub empty : file.bytes.items ≡ []
   pub well : file.failures ≡ 0

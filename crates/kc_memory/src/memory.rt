@@ -1,6 +1,6 @@
 //! Devices in memory, which give and take pieces, and fail at a call of choice.
 ghost use Rattle.std.specs.Prelude.{◌≡◌, ◌<◌, ◌≤◌, ◌-◌, length, take, true, nat_lt, Some, OnOk, OnErr, IfOk};
-ghost use Rattle.kc_conf.specs.OutputStates.{at, grown, begun, ended, failed};
+ghost use Rattle.kc_conf.specs.OutputStates.{at, grown, begun, ended, failed, is_begun};
 
 use kc_conf::{Input, Output, Outputs};
 use kc_dot::Fault;
@@ -76,8 +76,8 @@ impl<'a> Input for MemoryInput<'a> {
 /// One output over memory (our own).
 #[derive(Drop)]
 pub struct MemoryFile {
-    /// Whether it was begun.
-    pub is_begun: bool,
+    /// How often it was begun.
+    pub begins: u64,
     /// Whether it was ended since then.
     pub is_ended: bool,
     /// The bytes that it took since then.
@@ -102,7 +102,7 @@ impl MemoryFile {
         ensures { IfOk result (IsNew reserved) }
     {
         Ok(MemoryFile {
-            is_begun: false,
+            begins: 0,
             is_ended: false,
             bytes: Vec::with_capacity(alloc, reserved)?,
             failures: 0,
@@ -111,6 +111,13 @@ impl MemoryFile {
             piece: usize::MAX,
             room: reserved,
         })
+    }
+
+    /// Whether it was begun.
+    pub fn is_begun(&self) -> bool
+        ensures { result ≡ is_begun (state_of self.now) }
+    {
+        self.begins != 0
     }
 
     fn begin(&mut self) -> Result<(), Fault>
@@ -122,7 +129,7 @@ impl MemoryFile {
             self.failures = self.failures.saturating_add(1);
             return Err(Fault);
         }
-        self.is_begun = true;
+        self.begins = self.begins.saturating_add(1);
         self.is_ended = false;
         self.bytes.clear();
         Ok(())

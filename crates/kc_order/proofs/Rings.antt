@@ -1,16 +1,17 @@
 -- Paths along needs that come back: cycles.
-use Rattle.std.proofs.Common.{zero, suc, All, ◌≡◌, ℕ, ◌<◌, ◌+◌, ◌-◌, ◌++◌, List, length, get_or, sym, ◌∙◌, ap, inl, inr, arith, subst, take, append_assoc}
+use Rattle.std.proofs.Common.{zero, suc, All, true, ◌≡◌, ℕ, ◌<◌, ◌+◌, ◌-◌, ◌++◌, List, length, get_or, sym, ◌∙◌, ap, inl, inr, arith, subst, take, append_assoc}
 use Rattle.std.specs.List.{Contains}
 use Rattle.std.proofs.lemmas.Bool.{cases_lt}
 use Rattle.std.proofs.lemmas.List.{get_or_default, get_or_append_left, get_or-append-add, length-append}
 use Rattle.std.proofs.lemmas.List.Elements.{Contains-get_or}
-use Rattle.kc_order.specs.Needs.{NeedsBelow, unordered_after, SomeUnordered}
+use Rattle.kc_order.specs.Needs.{NeedsBelow, unordered_after}
 use Rattle.kc_order.specs.Loop.{IsPath, IsNamedLoop, IsNext, IsUnorderedWalk}
 use Rattle.kc_order.proofs.SearchSteps.{ring_unordered}
 use Rattle.kc_order.proofs.Walks.{kept_from, next_is_unordered}
 
-pub cycle_of : (n : ℕ) (needs : ℕ → List ℕ) (way : List ℕ) → 1 < length way → get_or way 0 0 < n → IsPath needs way → get_or way (length way - 1) 0 ≡ get_or way 0 0 → SomeUnordered n needs
-cycle_of n needs way l b goes back =
+pub cycle_of : (n : ℕ) (needs : ℕ → List ℕ) (way : List ℕ) → 1 < length way → IsPath needs way → get_or way (length way - 1) 0 ≡ get_or way 0 0 →
+    unordered_after needs n (get_or way 0 0) ≡ true
+cycle_of n needs way l goes back =
     let after : (r : ℕ) → Contains way r → (v : ℕ) × Contains (needs r) v × Contains way v = λ r d.
     elim (cases_lt (d.0 + 1) (length way)) [
       | inl before ↦ (get_or way (d.0 + 1) 0, subst (λ x. Contains (needs x) (get_or way (d.0 + 1) 0)) (get_or_default way d.0 0 r d.1 ∙ d.2) (goes d.0 before), Contains-get_or way (d.0 + 1) 0 before)
@@ -19,7 +20,7 @@ cycle_of n needs way l b goes back =
           let is : get_or way 0 0 ≡ r = sym back ∙ ap (λ k. get_or way k 0) (sym at) ∙ get_or_default way d.0 0 r d.1 ∙ d.2 in
           (get_or way (0 + 1) 0, subst (λ x. Contains (needs x) (get_or way (0 + 1) 0)) is (goes 0 l), Contains-get_or way (0 + 1) 0 l)
     ] in
-    (get_or way 0 0, b, ring_unordered n needs way after n (get_or way 0 0) (Contains-get_or way 0 0 (omega arith)))
+    ring_unordered n needs way after n (get_or way 0 0) (Contains-get_or way 0 0 (omega arith))
 
 pub is_closed : (n : ℕ) (needs : ℕ → List ℕ) (loop : List ℕ) → IsNamedLoop n needs loop → IsPath needs (loop ++ take 1 loop)
 is_closed n needs loop named k l =

@@ -1,8 +1,8 @@
 -- Trusted: What follows of needs, and of equations over them, whatever a value is.
-use Rattle.std.specs.Prelude.{All, ◌≡◌, ◌⊎◌, ℕ, ◌<◌, ◌+◌, ◌-◌, ◌++◌, take, List, length, slice_index, Option, Bool}
+use Rattle.std.specs.Prelude.{All, ◌≡◌, ◌⊎◌, ℕ, ◌<◌, ◌+◌, ◌-◌, ◌++◌, take, List, length, slice_index, true, Option, Bool}
 use Rattle.std.specs.List.{Contains, flat_map}
 use Rattle.kc_order.specs.Graph.{Nodes, IsGraph, groups_of, needs_of, stands_for}
-use Rattle.kc_order.specs.Needs.{needs_in, AreAlike, AreWithin, IsAccepted, SomeUnordered}
+use Rattle.kc_order.specs.Needs.{needs_in, unordered_after, AreAlike, AreWithin, IsAccepted, SomeUnordered}
 use Rattle.kc_order.specs.Loop.{IsNamedLoop, IsPath}
 use Rattle.kc_order.specs.Order.{Orders}
 use Rattle.kc_order.specs.Solution.{Solves, IsOnlySolution, ReadsNeeds, HasOneSolution, IsUpdate, IsIteration}
@@ -12,11 +12,11 @@ use Rattle.kc_order.specs.Minimal.{equations, Restores, NothingCanGo, KeepsWhatD
 abbrev pub OrderedAreAccepted : Type 0
 OrderedAreAccepted = (needs : List (List ℕ)) (symbols : List ℕ) → Orders needs symbols → IsAccepted needs
 
--- where a path along needs comes back to the symbol at which it began, as a cycle, some symbol is unordered
+-- where a path along needs comes back to the symbol at which it began, as a cycle, that symbol is unordered
 abbrev pub CyclesAreUnordered : Type 0
 CyclesAreUnordered =
-    (needs : List (List ℕ)) (way : List ℕ) → 1 < length way → slice_index way 0 < length needs →
-    IsPath (needs_in needs) way → slice_index way (length way - 1) ≡ slice_index way 0 → SomeUnordered (length needs) (needs_in needs)
+    (needs : List (List ℕ)) (way : List ℕ) → 1 < length way → IsPath (needs_in needs) way →
+    slice_index way (length way - 1) ≡ slice_index way 0 → unordered_after (needs_in needs) (length needs) (slice_index way 0) ≡ true
 
 -- each symbol of a loop that is named needs the next, and the last the first
 abbrev pub NamedLoopIsClosed : Type 0

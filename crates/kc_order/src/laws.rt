@@ -7,7 +7,8 @@ pub fn ordered_are_accepted()
     ensures { OrderedAreAccepted }
 {}
 
-/// Where a path along needs comes back to where it began, as a cycle, some symbol is unordered.
+/// Where a path along needs comes back to the symbol at which it began, as a cycle, that symbol is unordered. So each symbol
+/// of a cycle is.
 pub fn cycles_are_unordered()
     ensures { CyclesAreUnordered }
 {}
@@ -17,7 +18,7 @@ pub fn named_loop_is_closed()
     ensures { NamedLoopIsClosed }
 {}
 
-/// Each symbol of a loop that is named is one of the symbols.
+/// Each symbol of a loop that is named is one of the symbols, where each need is.
 pub fn named_loop_is_within()
     ensures { NamedLoopIsWithin }
 {}
@@ -27,7 +28,7 @@ pub fn one_named_loop()
     ensures { OneNamedLoop }
 {}
 
-/// Needs are accepted, or some symbol is unordered, and where one is a loop is named.
+/// Needs are accepted, or some symbol is unordered; and where one is, a loop is named, if each need is a symbol.
 pub fn unordered_have_a_loop()
     ensures either { AcceptedOrUnordered }
     ensures named { UnorderedHaveALoop }
@@ -46,32 +47,35 @@ pub fn groups_stand_for_symbols()
     ensures first { SymbolsStandFirst }
 {}
 
-/// Equations that read only what is needed have one solution where no symbol is unordered.
+/// Equations that read only what is needed have one solution, where there is any value, the needs are accepted and each need is
+/// a symbol.
 pub fn accepted_have_one_solution<A>()
     ensures { AcceptedHaveOneSolution A }
 {}
 
-/// What solves such equations has the values of any other solution.
+/// What solves such equations, over such needs, has the values of any other solution.
 pub fn solutions_agree<A>()
     ensures { SolutionsAgree A }
 {}
 
-/// Values that are computed along an order, each once, solve the equations.
+/// Values that are computed along an order, each once, solve equations that read only what is needed.
 pub fn computing_solves<A>()
     ensures { ComputingSolves A }
 {}
 
-/// As many iterations as there are symbols, each of which computes every equation anew, solve the equations.
+/// As many iterations as there are symbols, each of which computes every equation anew, solve the equations, where these read
+/// only what is needed, the needs are accepted and each need is a symbol.
 pub fn iterations_solve<A>()
     ensures { IterationsSolve A }
 {}
 
-/// The lines of what differs give the values again, and no others.
+/// The lines of what differs give the values again, and no others, where the equations read only what is needed, the needs are
+/// accepted and each need is a symbol.
 pub fn minimal_restores<A, Place, G>()
     ensures { MinimalRestores A Place G }
 {}
 
-/// Without any of those lines the values do not solve.
+/// Without any of those lines the values do not solve, where the equations read only what is needed and each need is a symbol.
 pub fn minimal_has_nothing_to_spare<A, Place, G>()
     ensures { MinimalHasNothingToSpare A Place G }
 {}

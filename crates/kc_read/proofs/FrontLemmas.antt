@@ -7,11 +7,11 @@ use Rattle.kc_expr.specs.declared.expression.SymId.{SymId}
 use Rattle.kc_expr.specs.declared.parse.ExprFault.{ExprFault}
 use Rattle.kc_expr.specs.declared.parse.ExprFault.TheVariants as expr
 use Rattle.kc_expr.specs.Form.{Form}
-use Rattle.kc_expr.specs.Grammar.{LongestFront, terminal_of, terminals, lexemes_from, terminals_from}
+use Rattle.kc_expr.specs.Grammar.{LongestFront, terminal_of, terminals, terminals_from}
 use Rattle.kc_expr.specs.Parsing.{IsParsed, IsRefused}
 use Rattle.kc_read.specs.declared.statement.LineFault.{LineFault}
-use Rattle.kc_read.specs.Lines.{ExpressionFault, code_of}
-use Rattle.kc_read.specs.LineReads.{IsFront, IsFault}
+use Rattle.kc_read.specs.Lines.{ExpressionFault}
+use Rattle.kc_read.specs.LineReads.{IsFront, IsFault, lexemes_from, code_of}
 
 terminals-map : (ts : List Token) → map terminal_of (map (λ t. lexeme t.kind) ts) ≡ map (λ t. terminal_of (lexeme t.kind)) ts
 terminals-map [] = refl

@@ -22,3 +22,4 @@ pub mod SourceLines
 pub mod SourceWord
 pub mod StateLemmas
 pub mod StepLemmas
+pub mod TurnLemmas

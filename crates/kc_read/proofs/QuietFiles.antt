@@ -15,8 +15,8 @@ use Rattle.kc_text.specs.Tokens.{AreBlanks, Cuts, TokenView}
 use Rattle.kc_text.proofs.Physicals.{lf}
 use Rattle.kc_read.specs.Expansion.{NextLine, is_help, lexemes, without_help}
 use Rattle.kc_read.specs.Lines.{begins_with}
-use Rattle.kc_read.specs.QuietFiles.{AreAllBlank, EndsLine, EndsLineBefore, IsQuiet}
-use Rattle.kc_read.specs.Sources.{Holds, IsSource, SourceNames, none, here, past}
+use Rattle.kc_read.specs.QuietFiles.{AreAllBlank, BeginsLine, EndsLine, EndsLineBefore, HasNoJoin, HasNoSource, IsQuiet}
+use Rattle.kc_read.specs.Sources.{IsSource, SourceNames, none, here, past}
 use Rattle.kc_read.specs.Sources as spec
 use Rattle.kc_read.proofs.FileLemmas.{same_name_eq}
 
@@ -27,36 +27,41 @@ front_read text [] fits reads = refl
 front_read [] (b ∷ bytes) fits reads = absurd (omega arith)
 front_read (a ∷ text) (b ∷ bytes) fits reads = λ i. reads 0 (omega arith) i ∷ front_read text bytes (omega arith) (λ j lt. reads (suc j) (omega arith)) i
 
-stands_at : (text bytes : List ℕ) (k : ℕ) → OccursAt text bytes k → Holds text bytes
+stands_at : (text bytes : List ℕ) (k : ℕ) → OccursAt text bytes k → text ≡ take k text ++ bytes ++ drop (length bytes) (drop k text)
 stands_at text bytes k o =
     let long = length-drop k text in
     let fits = o.fits in
     let front = front_read (drop k text) bytes (omega arith) (λ j lt. get_or-drop k text j 0 ∙ o.reads j lt) in
-    (take k text, drop (length bytes) (drop k text), sym (take-append-drop k text) ∙ ap (λ l. take k text ++ l) front ∙ sym (append_assoc (take k text) bytes _))
+    sym (take-append-drop k text) ∙ ap (λ l. take k text ++ l) front ∙ sym (append_assoc (take k text) bytes _)
 
-byte_at : (text : List ℕ) (b k : ℕ) → k < length text → Passes (is_byte b) text k → Holds text (b ∷ [])
-byte_at text b k lt p =
-    let same : get_or text k 0 ≡ b = eqb-true (get_or text k 0) b p in (
-      take k text,
-      drop (suc k) text,
-      sym (take-append-drop k text) ∙ ap (λ l. take k text ++ l) (drop-cons text k 0 lt ∙ ap (λ x. x ∷ drop (suc k) text) same)
-          ∙ sym (append_assoc (take k text) (b ∷ []) _),
-    )
+byte_at : (text : List ℕ) (b k : ℕ) → k < length text → get_or text k 0 ≡ b → text ≡ take k text ++ b ∷ drop (k + 1) text
+byte_at text b k lt same =
+    let next : k + 1 ≡ suc k = omega arith in
+    sym (take-append-drop k text) ∙ ap (λ l. take k text ++ l) (drop-cons text k 0 lt ∙ ap (λ x. x ∷ drop (suc k) text) same ∙ ap (λ n. b ∷ drop n text) (sym next))
 
--- ---- Parts of a text
+-- what stands in the rest of a file stands in the file
+occurs_whole : (file word : List ℕ) (at k : ℕ) → at ≤ length file → OccursAt (drop at file) word k → OccursAt file word (at + k)
+occurs_whole file word at k le o =
+    let short = length-drop at file in
+    let fits = o.fits in
+    let place : (j : ℕ) → at + k + j ≡ at + (k + j) = λ j. omega arith in
+    record {
+      fits = omega arith;
+      reads = λ j lt. ap (λ i. get_or file i 0) (place j) ∙ sym (get_or-drop at file (k + j) 0) ∙ o.reads j lt;
+    }
 
-held_within : (text part bytes : List ℕ) → Holds text part → Holds part bytes → Holds text bytes
-held_within text part bytes (a, d, e) (b, c, f) = (a ++ b, c ++ d, e ∙ ap (λ p. (a ++ p) ++ d) f ∙ simp append_assoc refl)
+-- a line begins with the word that is found
+pub source_found : (file : List ℕ) (at k : ℕ) → at ≤ length file → OccursAt (drop at file) (codes "source") k → BeginsLine (take (at + k) file) → HasNoSource file → ⊥
+source_found file at k le o begins quiet = quiet (take (at + k) file) _ (stands_at file (codes "source") (at + k) (occurs_whole file (codes "source") at k le o)) begins
 
-drop_held : (n : ℕ) (text : List ℕ) → Holds text (drop n text)
-drop_held n text = (take n text, [], sym (append-nil (take n text ++ drop n text) ∙ take-append-drop n text))
-
--- the word stands in a file in whose rest it is found
-pub source_found : (file : List ℕ) (at k : ℕ) → OccursAt (drop at file) (codes "source") k → Holds file (codes "source")
-source_found file at k o = held_within file (drop at file) (codes "source") (drop_held at file) (stands_at (drop at file) (codes "source") k o)
-
-pub backslash_found : (file : List ℕ) (at k : ℕ) → k < length (drop at file) → Passes (is_byte 92) (drop at file) k → Holds file (92 ∷ [])
-backslash_found file at k lt p = held_within file (drop at file) (92 ∷ []) (drop_held at file) (byte_at (drop at file) 92 k lt p)
+-- a line ends with the backslash that is found
+pub backslash_found : (file : List ℕ) (at k : ℕ) → at ≤ length file → k < length (drop at file) → Passes (is_byte 92) (drop at file) k → EndsLine (drop (at + (k + 1)) file) →
+    HasNoJoin file → ⊥
+backslash_found file at k le lt p ends quiet =
+    let short = length-drop at file in
+    let next : at + (k + 1) ≡ at + k + 1 = omega arith in
+    let same : get_or file (at + k) 0 ≡ 92 = sym (get_or-drop at file k 0) ∙ eqb-true (get_or (drop at file) k 0) 92 p in
+    quiet (take (at + k) file) (drop (at + k + 1) file) (byte_at file 92 (at + k) (omega arith) same) (subst (λ n. EndsLine (drop n file)) next ends)
 
 -- ---- The physical lines
 

@@ -14,21 +14,22 @@ use Rattle.kc_read.specs.declared.refusal.Code.TheVariants as code
 use Rattle.kc_read.specs.declared.refusal.Refusal.{Refusal}
 use Rattle.kc_read.specs.declared.statement.EntryKind.TheVariants as entry
 use Rattle.kc_read.specs.declared.statement.Statement.{Statement}
-use Rattle.kc_read.specs.Blocks.{last_of}
+use Rattle.kc_read.specs.Blocks.{entry_of, last_no_attribute, last_of}
 use Rattle.kc_read.specs.Expansion.{FileContext, Log, Rest, refused, context_of, inside, is_help, is_source, lexemes, logged, with_file, source_cause, sourcing_cause, with_line, without_help, NextLine, NextStatement, at_end, unclosed, too_long, no_tokens, blank, bad_line, over_limit, statement, bad_source, refused_inside, source}
 use Rattle.kc_read.specs.Files.{Files}
-use Rattle.kc_read.specs.Lines.{LineContext, Cause, cause}
+use Rattle.kc_read.specs.Lines.{LineContext, Cause, cause, is_config}
 use Rattle.kc_read.specs.Progress.{HasAdvanced, IsNextRead, IsReading, IsStatementRead, IsEnded, IsFileRead, IsOpenAtEnd, IsProgress, IsRestRefusal, IsState, IsTaken, limit_view, open_names}
 use Rattle.kc_read.specs.StatementViews.{statement_view}
 use Rattle.kc_read.specs.LineReads.{IsMade, cause_of}
 use Rattle.kc_read.specs.declared.statement.LineFault.{LineFault}
-use Rattle.kc_read.specs.Statements.{Located, Named, SourceLine}
+use Rattle.kc_read.specs.Statements.{Located, Named, SourceLine, statements}
 use Rattle.kc_read.specs.RefusalView.{refusal_view}
 use Rattle.kc_read.specs.NextStep.{IsStepRefusal, StepFault}
 use Rattle.kc_read.specs.NextStep as step
 use Rattle.kc_read.proofs.BlockLemmas as blocks
-use Rattle.kc_read.proofs.ListLemmas.{but_last, but_last-append, but_last-take}
-use Rattle.kc_read.proofs.StateLemmas.{effect_same, frame_push, state_taken}
+use Rattle.kc_read.proofs.ListLemmas.{but_last, but_last-append, but_last-take, map-push}
+use Rattle.kc_read.proofs.StateLemmas.{effect_same, entry_push, frame_push, state_taken}
+use Rattle.kc_read.proofs.TurnLemmas.{enables, read_suits}
 
 -- A line is taken from what is left of a file.
 pub next_less : (l m : UnreadLines) (ts : List TokenView) (out : Option TextFault) → NextLine l m ts out → length m.lines < length l.lines
@@ -102,7 +103,8 @@ pub statement_goes : (files : Files) (first : List (List ℕ)) (modules : Option
 statement_goes files first modules known names a l m own log f g p q s x line i made next e src t allowed = record {
   own_now = with_line own a line x;
   log_now = logged log a line x;
-  state = state_taken first modules known names a own log f g p q s x line i made t;
+  state = state_taken first modules known names a own log f g p q s x line i made t
+      (enables (context_of a own log) x (read_suits (context_of a own log) (lexemes next.tokens) x next.reads));
   follows = λ r rest.
       statement a l m own log x r next src (sym (effect_same first modules known names a own log f p s x i made) ∙ allowed)
       (subst (λ n. Rest files a m (with_line own a n x) (logged log a n x) r) e rest);
@@ -138,6 +140,16 @@ pub inside_refused : (files : Files) (first : List (List ℕ)) (modules : Option
 inside_refused files first modules names a l m own log f p name bytes r i next allowed found inner ne =
     refused_inside a l m own log name bytes (refusal_view r) next (source_allowed files first modules names a own log f p name i allowed) found (inner ne)
 
+-- no entry goes on behind a `source` line
+no_entry : (a : FileContext) (own : List (Located Named)) (n : ℕ) (name : List ℕ) →
+    is_config (entry_of (last_no_attribute (statements (with_line own a n (SourceLine name))))) ≡ true → ⊥
+no_entry a own n name e =
+    let opener : Located Named = record { file = a.file; line = n; statement = SourceLine name } in
+    let none : entry_of (last_no_attribute (statements (own ++ opener ∷ []))) ≡ entry.Nothing =
+    ap (λ l. entry_of (last_no_attribute l)) (map-push (λ l. l.statement) own opener) ∙ sym (entry_push (statements own) (SourceLine name)) in
+    let f : is_config entry.Nothing ≡ true = subst (λ k. is_config k ≡ true) none e in
+    cc
+
 pub source_goes : (files : Files) (first : List (List ℕ)) (modules : Option SymId) (known names : List (List ℕ)) (a : FileContext) (l m : UnreadLines)
     (own : List (Located Named)) (log : Log) (f g : Frame) (p q done : Progress) (name bytes : List ℕ) (line : ℕ) → IsState first modules known a own log p f →
     NextStatement l m (context_of a own log) (Ok (SourceLine name)) → line ≡ l.number → sourcing_cause files (open_names p) p.total_lines name ≡ None →
@@ -155,10 +167,12 @@ source_goes files first modules known names a l m own log f g p q done name byte
       defined_is = inner.progress.defined_is;
       config = inner.progress.config;
       modules_is = inner.progress.modules_is;
+      marked = inner.progress.marked;
     });
     frame = frame_push a own f g (SourceLine name) line i.frame (ap (λ x. x.file) frame_is) (ap (λ x. x.depth) frame_is) (ap (λ x. x.in_choice) frame_is)
         (ap (λ x. x.blocks.items) frame_is) (ap (λ x. x.entry) frame_is);
     files = files_are ∙ i.files;
+    entered = λ e. absurd (no_entry a own line name e);
   };
   follows = λ r rest.
       source a l m own log inner.log_now name bytes r next (source_allowed files first modules known a own log f p name i allowed) found inner.rest

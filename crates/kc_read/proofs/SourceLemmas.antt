@@ -5,10 +5,11 @@ use Rattle.kc_text.specs.declared.faults.TextFault.TheVariants as fault
 use Rattle.kc_text.specs.declared.tokens.Token.{Token}
 use Rattle.kc_text.specs.Lines.{UnreadLines, TakesLine, IsLineFault}
 use Rattle.kc_text.specs.Tokens.{TokenView, IsCut, IsCutting, IsRefused, token_views}
-use Rattle.kc_expr.specs.Grammar.{lexemes_from}
+use Rattle.kc_read.specs.LineReads.{lexemes_from}
 use Rattle.kc_read.specs.Expansion.{NextLine, is_help, lexemes, without_help}
 use Rattle.kc_read.specs.Lines.{Cause, ReadsSource, begins_with}
-use Rattle.kc_read.specs.Sources.{HasMoreLines, SourceNames, IsFound}
+use Rattle.kc_read.specs.Sources.{SourceNames}
+use Rattle.kc_read.specs.SourceSteps.{HasMoreLines, IsFound}
 use Rattle.kc_read.specs.Statements.{SourceLine}
 use Rattle.kc_read.proofs.FrontLemmas.{after_one}
 use Rattle.kc_read.proofs.StepLemmas.{lexemes-token_views}

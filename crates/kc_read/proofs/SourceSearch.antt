@@ -1,12 +1,12 @@
 -- What a search for lines that begin with `source`, or end with a `\`, says as far as it has come.
-use Rattle.std.proofs.Common.{◌≡◌, inl, inr, ℕ, suc, ◌+◌, ◌-◌, ◌<◌, ◌≤◌, true, false, eqb, List, [], ◌∷◌, ◌++◌, length, take, drop, get_or, codes, sym, ap, ◌∙◌, subst, append_assoc, length-append, length-drop, get_or-drop, arith}
+use Rattle.std.proofs.Common.{◌≡◌, inl, inr, ℕ, suc, ◌+◌, ◌-◌, ◌<◌, ◌≤◌, true, false, eqb, List, [], ◌∷◌, ◌++◌, length, take, drop, get_or, codes, refl, sym, ap, ◌∙◌, subst, append_assoc, length-append, length-drop, get_or-drop, arith}
 use Rattle.std.proofs.lemmas.Bool.{both_ways, cases_lt, cases_order, eq-eqb}
-use Rattle.std.proofs.lemmas.List.{get_or-append-add, get_or_append_left}
+use Rattle.std.proofs.lemmas.List.{get_or-append-add, get_or_append_left, take-append-drop, take_more}
 use Rattle.std.proofs.Math.Seq.{get_or-append_seam, take-append_seam, drop-append_seam, take-length}
 use Rattle.bstr.specs.Bytes.{not_in}
 use Rattle.bstr.specs.Find.{NoneAfter, Nowhere, OccursAt, Passes, is_byte}
 use Rattle.kc_text.specs.Lexemes.{is_blank}
-use Rattle.kc_text.proofs.Blanks.{blanks, not_in_is, passes_not}
+use Rattle.kc_text.proofs.Blanks.{blanks, fails_not, not_in_is, passes_not}
 use Rattle.kc_read.specs.QuietFiles.{BeginsLine, EndsLine}
 
 -- what is looked at is the rest of the file
@@ -124,3 +124,20 @@ not_begun before last after here other (start, blank, e, inr (front, f), all) =
           ∙ get_or-append-add front (10 ∷ blank) (suc (last - (length front + 1))) 0 in
           both_ways _ (passes_not _ here) (ap is_blank read ∙ is)
     ]
+
+-- nothing but blanks
+pub begun_at_first : (before : List ℕ) → Nowhere (Passes (not_in blanks) before) 0 (length before) → BeginsLine before
+begun_at_first before none = ([], before, refl, inl refl, λ k lt. fails_not (get_or before k 0) (none k (omega arith) lt))
+
+-- nothing but blanks behind a line feed
+pub begun_behind : (before : List ℕ) (last : ℕ) → NoneAfter (Passes (not_in blanks) before) 0 (length before) last → get_or before last 0 ≡ 10 → BeginsLine before
+begun_behind before last after feed =
+    let high : last < length before = after.high in
+    let long = length-drop (last + 1) before in (
+      take (last + 1) before,
+      drop (last + 1) before,
+      sym (take-append-drop (last + 1) before),
+      inr (take last before, take_more before last 0 high ∙ ap (λ b. take last before ++ b ∷ []) feed),
+      λ k lt.
+          ap is_blank (get_or-drop (last + 1) before k 0) ∙ fails_not (get_or before (last + 1 + k) 0) (after.after (last + 1 + k) (omega arith) (omega arith)),
+    )

@@ -1,5 +1,6 @@
 -- What is remembered, one statement after another.
 use Rattle.std.proofs.Common.{◌≡◌, ℕ, ◌+◌, Bool, true, false, cond, ◌||◌, List, [], ◌∷◌, ◌++◌, map, filter, length, Option, Some, None, option_map, Result, Err, refl, sym, ap, ◌∙◌, subst, append-nil, length-append}
+use Rattle.std.specs.Prelude.{is_some}
 use Rattle.std.specs.List.{cons_option, flat_map, list_any}
 use Rattle.std.specs.Option.{option_or}
 use Rattle.std.proofs.Math.ListN.{length-map}
@@ -13,22 +14,21 @@ use Rattle.kc_read.specs.declared.frame.Frame.{Frame}
 use Rattle.kc_read.specs.declared.progress.Progress.{Progress}
 use Rattle.kc_read.specs.declared.statement.Statement.{Statement}
 use Rattle.kc_read.specs.Blocks.{bracket, definitions, entry_of, is_attribute, is_modules, is_no_attribute, last_of, last_no_attribute, modules_of, defined_name, open_blocks}
-use Rattle.kc_read.specs.Progress.{name_after}
-use Rattle.kc_read.proofs.ModulesLemmas.{modules_after, modules_same}
+use Rattle.kc_read.proofs.ModulesLemmas.{marked_push, modules_of_push}
 use Rattle.kc_read.specs.Expansion.{FileContext, Log, Rest, context_of, limit_cause, nesting_cause, defined, inside, is_choice, lines_of, logged, with_file, with_line, Expands, Refused, bytes_cause, nothing_read, refused, root_context}
 use Rattle.kc_read.specs.Files.{Files}
-use Rattle.kc_read.specs.Lines.{LineContext, Cause}
+use Rattle.kc_read.specs.Lines.{LineContext, Cause, is_config}
 use Rattle.kc_text.specs.Lines.{unread_lines}
 use Rattle.kc_read.specs.Numbering.{located_numbered}
 use Rattle.kc_read.specs.Progress.{limit_view, IsEntered, IsFrame, IsSourcedFrame, IsProgress, IsState, IsTaken, IsBegun, defined_after, entry_after, ids_match, open_blocks_after}
 use Rattle.kc_read.specs.Expanded.{IsNamed}
 use Rattle.kc_read.specs.StatementViews.{line_view, statement_view}
 use Rattle.kc_read.specs.LineReads.{IsMade}
-use Rattle.kc_read.specs.Statements.{Numbered, Located, Named, names_in_statement, statements}
+use Rattle.kc_read.specs.Statements.{Numbered, Located, Named, ConfigLine, names_in_statement, statements}
 use Rattle.kc_read.proofs.BlockLemmas.{blocks_of_located, located_blocks_push}
 use Rattle.kc_read.proofs.ListLemmas.{last_of-map, last_of-push, list_any-map, map-push}
 use Rattle.kc_read.proofs.NameLemmas.{defining_same, match_same, named_if, named_later, named_or, numbers_after}
-use Rattle.kc_read.proofs.ShapeLemmas.{effect_by, made_name, made_shape, or_none, shape}
+use Rattle.kc_read.proofs.ShapeLemmas.{effect_by, made_name, made_shape, shape}
 
 abbrev ranked : FileContext → ℕ → Named → Located Named
 ranked a n x = record { file = a.file; line = n; statement = x }
@@ -81,46 +81,30 @@ last_defined ds (Some n) = sym (last_of-push ds n)
 last_definition_push : (ss : List Named) (x : Named) → option_or (defined_name x) (last_of (definitions ss)) ≡ last_of (definitions (ss ++ x ∷ []))
 last_definition_push ss x = last_defined (definitions ss) (defined_name x) ∙ ap last_of (sym (definitions_push ss x))
 
-or_assoc : {A : Type 0} (o p q : Option A) → option_or o (option_or p q) ≡ option_or (option_or o p) q
-or_assoc None p q = refl
-or_assoc (Some x) p q = refl
+-- in the entry of a `config` line some symbol is defined, one statement later
+config_defines : (x : Named) → is_config (entry_of (Some x)) ≡ true → is_some (defined_name x) ≡ true
+config_defines (ConfigLine n) e = refl
+config_defines _ e = absurd cc
 
-last_first : (o now : Option (List ℕ)) (ds : List (List ℕ)) → option_or (last_of ds) (option_or o now) ≡ option_or (last_of (cons_option o ds)) now
-last_first None now ds = refl
-last_first (Some n) now [] = refl
-last_first (Some n) now (d ∷ ds) = by (last_of (d ∷ ds)) refl
+entered_push : (own ss : List Named) (x : Named) → (is_config (entry_of (last_no_attribute own)) ≡ true → is_some (last_of (definitions ss)) ≡ true) →
+    is_config (entry_of (last_no_attribute (own ++ x ∷ []))) ≡ true → is_some (last_of (definitions (ss ++ x ∷ []))) ≡ true
+entered_push own ss x before e =
+    ap is_some (sym (last_definition_push ss x)) ∙ by (is_attribute x) (defined_name x) (config_defines x) (subst (λ k. is_config k ≡ true) (sym (entry_push own x)) e)
   where
-    by : (o : Option (List ℕ)) → last_of (d ∷ ds) ≡ o → option_or o (Some n) ≡ option_or o now
-    by None e = absurd (none_last d ds e)
-      where
-        none_last : (d : List ℕ) (ds : List (List ℕ)) → last_of (d ∷ ds) ≡ None → ⊥
-        none_last d [] e = cc
-        none_last d (x ∷ xs) e = none_last x xs e
-    by (Some m) e = refl
-
-modules_push : (ss : List Named) (now : Option (List ℕ)) (x : Named) →
-    modules_after now (ss ++ x ∷ []) ≡ option_or (modules_after now ss) (cond (is_modules x) (option_or (last_of (definitions ss)) now) None)
-modules_push [] now x = or_none (cond (is_modules x) now None)
-modules_push (s ∷ ss) now x =
-    let first = cond (is_modules s) now None in
-    ap (option_or first) (modules_push ss (name_after now s) x)
-    ∙ or_assoc first (modules_after (name_after now s) ss) (cond (is_modules x) (option_or (last_of (definitions ss)) (name_after now s)) None)
-    ∙ ap (λ o. option_or (option_or first (modules_after (name_after now s) ss)) (cond (is_modules x) o None)) (last_first (defined_name s) now (definitions ss))
-
-modules_of_push : (ss : List Named) (x : Named) → modules_of (ss ++ x ∷ []) ≡ option_or (modules_of ss) (cond (is_modules x) (last_of (definitions ss)) None)
-modules_of_push ss x =
-    sym (modules_same (ss ++ x ∷ []))
-    ∙ modules_push ss None x
-    ∙ ap (λ o. option_or (modules_after None ss) (cond (is_modules x) o None)) (or_none (last_of (definitions ss)))
-    ∙ ap (λ o. option_or o (cond (is_modules x) (last_of (definitions ss)) None)) (modules_same ss)
+    by : (b : Bool) (o : Option (List ℕ)) → (is_config (entry_of (Some x)) ≡ true → is_some o ≡ true) → is_config (cond b (entry_of (last_no_attribute own)) (entry_of (Some x))) ≡ true →
+        is_some (option_or o (last_of (definitions ss))) ≡ true
+    by b (Some n) here f = refl
+    by true None here f = before f
+    by false None here f = absurd (let g : false ≡ true = here f in cc)
 
 words_push : (ss : List Named) (x : Named) → flat_map names_in_statement ss ++ names_in_statement x ≡ flat_map names_in_statement (ss ++ x ∷ [])
 words_push ss x = ap (λ ws. flat_map names_in_statement ss ++ ws) (sym (append-nil (names_in_statement x))) ∙ sym (flat_map-append names_in_statement ss (x ∷ []))
 
 progress_taken : (first : List (List ℕ)) (modules : Option SymId) (known names : List (List ℕ)) (a : FileContext) (own : List (Located Named)) (log : Log)
     (f g : Frame) (p q : Progress) (s : Statement) (x : Named) (n : ℕ) → IsProgress first modules known log p → IsFrame a own f →
-    IsMade modules known names s x → IsTaken (statement_view s) n f g p q → IsProgress first modules names (logged log a n x) q
-progress_taken first modules known names a own log f g p q s x n i fr m t =
+    IsMade modules known names s x → IsTaken (statement_view s) n f g p q → (is_modules x ≡ true → is_some (last_of (definitions (statements log.lines))) ≡ true) →
+    IsProgress first modules names (logged log a n x) q
+progress_taken first modules known names a own log f g p q s x n i fr m t begun =
     let ss = statements log.lines in
     let later_names : Extends known names = mentioned_extends known names (names_in_statement x) m.mentions in
     let pushed : statements (log.lines ++ ranked a n x ∷ []) ≡ ss ++ x ∷ [] = map-push (λ l. l.statement) log.lines (ranked a n x) in
@@ -147,18 +131,24 @@ progress_taken first modules known names a own log f g p q s x n i fr m t =
           (named_or names (defined_name (statement_view s)) p.config (defined_name x) (last_of (definitions ss)) name config_now));
       modules_is =
           subst (λ o. IsNamed names o (modules_of (statements (log.lines ++ ranked a n x ∷ [])))) (sym (t.modules_is ∙ ap (λ b. option_or p.modules (cond b p.config None)) is_mod))
-          (subst (IsNamed names (option_or p.modules (cond (is_modules x) p.config None))) (sym (modules_of_push ss x) ∙ ap modules_of (sym pushed))
+          (subst (IsNamed names (option_or p.modules (cond (is_modules x) p.config None))) (sym (modules_of_push ss x i.marked) ∙ ap modules_of (sym pushed))
           (named_or names p.modules (cond (is_modules x) p.config None) (modules_of ss) (cond (is_modules x) (last_of (definitions ss)) None) modules_now
           (named_if names (is_modules x) p.config (last_of (definitions ss)) config_now)));
+      marked = subst (λ l. is_some (modules_of l) ≡ list_any is_modules l) (sym pushed) (marked_push ss x i.marked begun);
     }
 
 pub state_taken : (first : List (List ℕ)) (modules : Option SymId) (known names : List (List ℕ)) (a : FileContext) (own : List (Located Named)) (log : Log)
     (f g : Frame) (p q : Progress) (s : Statement) (x : Named) (n : ℕ) → IsState first modules known a own log p f → IsMade modules known names s x →
-    IsTaken (statement_view s) n f g p q → IsState first modules names a (with_line own a n x) (logged log a n x) q g
-state_taken first modules known names a own log f g p q s x n i m t = record {
-  progress = progress_taken first modules known names a own log f g p q s x n i.progress i.frame m t;
+    IsTaken (statement_view s) n f g p q → (is_modules x ≡ true → is_config (entry_of (last_no_attribute (statements own))) ≡ true) →
+    IsState first modules names a (with_line own a n x) (logged log a n x) q g
+state_taken first modules known names a own log f g p q s x n i m t placed = record {
+  progress = progress_taken first modules known names a own log f g p q s x n i.progress i.frame m t (λ e. i.entered (placed e));
   frame = frame_taken a own f g p q (statement_view s) x n i.frame (made_shape modules known names s x m) t;
   files = ap (λ fs. map (λ f. f.value.items) fs.items) t.open_files ∙ i.files;
+  entered = λ e.
+      subst (λ l. is_some (last_of (definitions l)) ≡ true) (sym (map-push (λ l. l.statement) log.lines (ranked a n x)))
+      (entered_push (statements own) (statements log.lines) x i.entered
+      (subst (λ l. is_config (entry_of (last_no_attribute l)) ≡ true) (map-push (λ l. l.statement) own (ranked a n x)) e));
 }
 
 -- the context of the next line
@@ -192,6 +182,7 @@ state_inside first modules names a own log f g p q name bytes total_lines i n t 
         defined_is = λ later e. t.defined_is ∙ i.progress.defined_is later e;
         config = subst (λ o. IsNamed names o (last_of (definitions (statements log.lines)))) (sym t.config) i.progress.config;
         modules_is = subst (λ o. IsNamed names o (modules_of (statements log.lines))) (sym t.modules_is) i.progress.modules_is;
+        marked = i.progress.marked;
       };
       frame = record {
         file = n.file;
@@ -206,6 +197,7 @@ state_inside first modules names a own log f g p q name bytes total_lines i n t 
       files =
           ap (map (λ f. f.value.items)) t.open_files.2 ∙ map-push (λ f. f.value.items) p.open_files.items fr
           ∙ ap (λ ns. ns ++ fr.value.items ∷ []) i.files ∙ ap (λ w. a.open_files ++ w ∷ []) t.open_files.1;
+      entered = λ e. absurd cc;
     }
 
 -- the limit that a statement passes
@@ -234,6 +226,7 @@ state_begun modules names root bytes total_lines f p b c = record {
     defined_is = λ later e. b.defined_is;
     config = subst (λ o. IsNamed names o None) (sym b.config) tt;
     modules_is = subst (λ o. IsNamed names o None) (sym b.modules_is) tt;
+    marked = refl;
   };
   frame = record {
     file = b.file;
@@ -243,6 +236,7 @@ state_begun modules names root bytes total_lines f p b c = record {
     entry = b.entry;
   };
   files = b.open_files;
+  entered = λ e. absurd cc;
 }
 
 pub expands_read : (files : Files) (root bytes : List ℕ) (r : Result Log Refused) → bytes_cause root 0 (files root) ≡ None → files root ≡ Some bytes →

@@ -10,15 +10,14 @@ use Rattle.kc_read.specs.declared.refusal.Refusal.{Refusal}
 use Rattle.kc_read.specs.declared.refusal.Code.TheVariants as code
 use Rattle.kc_read.specs.Statements.{Named}
 use Rattle.kc_read.specs.declared.statement.LineFault.{LineFault}
-use Rattle.kc_read.specs.LineReads.{IsFault, cause_of}
+use Rattle.kc_read.specs.LineReads.{IsFault, cause_of, lexemes_from}
 use Rattle.kc_read.specs.RefusalView.{refusal_view}
-use Rattle.kc_read.specs.NextStep.{IsStepRefusal, StepFault, too_long, no_tokens, refused_line}
+use Rattle.kc_read.specs.NextStep.{IsStepRefusal, StepFault, too_long, no_tokens, refused_line, long_line}
 use Rattle.kc_text.specs.Lexemes.{Lexeme, lexeme}
 use Rattle.kc_text.specs.Tokens.{token_views}
 use Rattle.kc_text.specs.declared.tokens.Token.{Token}
-use Rattle.kc_expr.specs.Grammar.{lexemes_from}
 use Rattle.kc_read.specs.Lines.{LineContext, Cause, cause, begins_with, ReadsLine}
-use Rattle.kc_read.specs.Expansion.{lexemes, is_help, without_help, NextStatement, refused, text_cause, long_line}
+use Rattle.kc_read.specs.Expansion.{lexemes, is_help, without_help, NextStatement, refused, text_cause}
 
 pub lexemes-token_views : (ts : List Token) → lexemes (token_views ts) ≡ lexemes_from ts 0
 lexemes-token_views [] = refl

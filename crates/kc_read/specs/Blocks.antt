@@ -1,7 +1,6 @@
 -- Trusted: Blocks and entries, by counting brackets on a list of statements.
 use Rattle.std.specs.Prelude.{ℕ, zero, suc, ◌-◌, List, [], ◌∷◌, ◌++◌, length, take, drop, filter, Bool, true, false, ◌&&◌, Option, Some, None, slice_get, is_some, if◌then◌else◌}
-use Rattle.std.specs.List.{take_while, filter_map}
-use Rattle.std.specs.Option.{option_or}
+use Rattle.std.specs.List.{before_first, filter_map, last_or, list_any, take_while}
 use Rattle.kc_read.specs.declared.statement.Block.{Block}
 use Rattle.kc_read.specs.declared.statement.Block.TheVariants as block
 use Rattle.kc_read.specs.declared.statement.EntryKind.{EntryKind}
@@ -21,9 +20,7 @@ numbers (suc n) = numbers n ++ n ∷ []
 
 -- the last element
 abbrev pub last_of : {A : Type 0} → List A → Option A
-last_of [] = None
-last_of (x ∷ []) = Some x
-last_of (x ∷ y ∷ xs) = last_of (y ∷ xs)
+last_of xs = last_or None xs
 
 -- how many brackets are open after one more
 abbrev pub depth_after : ℕ → Bracket → ℕ
@@ -37,11 +34,6 @@ closes_outer zero Closes = true
 closes_outer zero (Opens b) = false
 closes_outer zero NoBracket = false
 closes_outer (suc d) b = false
-
-abbrev pub is_closer : Bracket → Bool
-is_closer (Opens b) = false
-is_closer Closes = true
-is_closer NoBracket = false
 
 abbrev pub opened : Bracket → Option Block
 opened (Opens b) = Some b
@@ -132,13 +124,6 @@ module _ {E L S : Type 0} where
   is_modules ModulesLine = true
   is_modules _ = false
 
-  -- a `modules` line stands before the next `config` line
-  abbrev pub has_modules_line : List (Statement E L S) → Bool
-  has_modules_line [] = false
-  has_modules_line (s ∷ ss) = if is_modules s then true else (if is_some (defined_name s) then false else has_modules_line ss)
-
-  -- The modules symbol's name: that of the first `config` line that a `modules` line follows before the next `config` line. In
-  -- what files say it is the last `config` line before the first `modules` line: kc_build's law `first_modules_line_decides`.
+  -- the modules symbol's name: that of the last `config` line before the first `modules` line
   abbrev pub modules_of : List (Statement E L S) → Option S
-  modules_of [] = None
-  modules_of (s ∷ ss) = option_or (if has_modules_line ss then defined_name s else None) (modules_of ss)
+  modules_of ss = if list_any is_modules ss then last_of (definitions (before_first is_modules ss)) else None

@@ -149,13 +149,6 @@ text_cause fault.BadToken = cause code.BadToken
 text_cause (fault.LineTooLong n) = cause code.LineTooLong
 text_cause fault.Memory = cause code.Memory
 
--- the number of a line that is too long
-abbrev pub long_line : TextFault → ℕ
-long_line (fault.LineTooLong n) = n
-long_line fault.BadToken = 0
-long_line fault.Macro = 0
-long_line fault.Memory = 0
-
 -- the place of the innermost open block's opener
 abbrev pub innermost : List (Located Named) → Option ℕ
 innermost own = last_of (open_block_indices (statements own))

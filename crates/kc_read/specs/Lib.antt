@@ -17,3 +17,4 @@ pub mod Replaced
 pub mod Progress
 pub mod QuietFiles
 pub mod Sources
+pub mod SourceSteps

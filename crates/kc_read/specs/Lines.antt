@@ -1,6 +1,7 @@
 -- Trusted: How a line of tokens is read.
 use Rattle.std.specs.Prelude.{◌≡◌, ℕ, ◌≤◌, ◌⊎◌, List, [], ◌∷◌, ◌++◌, length, Bool, true, false, not, ◌||◌, ◌&&◌, ◌==◌, nat_le, codes, Option, Some, None, Result, Ok, Err, if◌then◌else◌, MatchResult, drop}
 use Rattle.std.specs.List.{list_any, list_all}
+use Rattle.std.specs.Map.{lookup}
 use Rattle.kc_text.specs.Bytes.{byte}
 use Rattle.kc_text.specs.Lexemes.{Lexeme, AWord, AQuoted, AnOp}
 use Rattle.kc_text.specs.Escapes.{unescape}
@@ -10,8 +11,6 @@ use Rattle.kc_expr.specs.Grammar.{Disjunction, Atom, WordAtom, QuotedAtom, spell
 use Rattle.kc_expr.specs.Limits.{longest_name, most_levels}
 use Rattle.kc_expr.specs.Names.{is_name_byte, same_name}
 use Rattle.kc_expr.specs.Parsing.{IsNoExpression, IsTooDeep}
-use Rattle.kc_expr.specs.declared.parse.ExprFault.{ExprFault}
-use Rattle.kc_expr.specs.declared.parse.ExprFault.TheVariants as expr
 use Rattle.kc_read.specs.declared.refusal.Code.{Code}
 use Rattle.kc_read.specs.declared.refusal.Code.TheVariants as code
 use Rattle.kc_read.specs.declared.statement.Keyword.{Keyword}
@@ -41,8 +40,7 @@ left_out w = record { code = code.LeftOut; detail = w }
 
 -- the keyword of a word in a table of words, each with its keyword
 abbrev pub keyword_in : List (List ℕ × Keyword) → List ℕ → Option Keyword
-keyword_in [] w = None
-keyword_in (k ∷ more) w = if same_name w k.0 then Some k.1 else keyword_in more w
+keyword_in keywords w = lookup (same_name w) keywords
 
 -- words that more than the table of words speaks of; `if` stands with the grammar of expressions
 abbrev pub source_word : List ℕ
@@ -228,12 +226,6 @@ pub record StartsExpression (ts : List Lexeme) (f : Front) : Type 0 where
 -- it is none, or opens a level too many
 abbrev pub ExpressionFault : List Lexeme → Cause → Type 0
 ExpressionFault ts c = (IsNoExpression (terminals ts) × (c ≡ syntax_cause)) ⊎ (IsTooDeep (terminals ts) × (c ≡ cause code.TooDeep))
-
--- the code of an expression's fault
-abbrev pub code_of : ExprFault → Code
-code_of expr.Syntax = code.Syntax
-code_of expr.TooDeep = code.TooDeep
-code_of expr.Memory = code.Memory
 
 -- something is left of the line
 abbrev pub IsMore : List Lexeme → Type 0

@@ -13,7 +13,15 @@ use Rattle.kc_read.specs.LineReads.{IsMade}
 use Rattle.kc_text.specs.Lines.{IsTooLong}
 use Rattle.kc_text.specs.Tokens.{TokenView}
 use Rattle.kc_text.specs.declared.faults.TextFault.{TextFault}
+use Rattle.kc_text.specs.declared.faults.TextFault.TheVariants as fault
 use Rattle.kc_read.specs.RefusalView.{refusal_view}
+
+-- the number of a line that is too long
+abbrev pub long_line : TextFault → ℕ
+long_line (fault.LineTooLong n) = n
+long_line fault.BadToken = 0
+long_line fault.Macro = 0
+long_line fault.Memory = 0
 
 -- the end, a line without tokens, or a statement with the number of its line
 abbrev pub IsStep : Option SymId → List (List ℕ) → List (List ℕ) → LineContext → UnreadLines → UnreadLines → Step → Type 0

@@ -1,5 +1,5 @@
 -- For proofs: What the reader of files remembers of what it has read.
-use Rattle.std.specs.Prelude.{◌≡◌, ◌≢◌, ℕ, ◌+◌, ◌≤◌, List, [], ◌∷◌, ◌++◌, map, length, Bool, true, false, Option, Some, None, Result, Ok, Err, option_map, slice_get, take, ◌-◌, ◌||◌, if◌then◌else◌, nat_lt, ⊤}
+use Rattle.std.specs.Prelude.{◌≡◌, ◌≢◌, ℕ, ◌+◌, ◌≤◌, List, [], ◌∷◌, ◌++◌, map, length, Bool, true, false, Option, Some, None, Result, Ok, Err, option_map, slice_get, take, ◌-◌, ◌||◌, if◌then◌else◌, is_some, nat_lt, ⊤}
 use Rattle.std.specs.List.{filter_map, flat_map, list_any}
 use Rattle.std.specs.Option.{option_or}
 use Rattle.std.specs.declared.alloc.Global.{Global}
@@ -20,7 +20,7 @@ use Rattle.kc_read.specs.declared.statement.EntryKind.TheVariants as entry
 use Rattle.kc_read.specs.declared.statement.OpenBlock.{OpenBlock}
 use Rattle.kc_read.specs.Blocks.{Bracket, Opens, Closes, NoBracket, bracket, opened, open_block_indices, last_of, last_no_attribute, entry_of, is_attribute, definitions, modules_of, defined_name, is_modules}
 use Rattle.kc_read.specs.Expansion.{FileContext, Log, Refused, Rest, defined, is_choice, refused, symbol_cause, nesting_cause}
-use Rattle.kc_read.specs.Lines.{LineContext, Cause, cause}
+use Rattle.kc_read.specs.Lines.{LineContext, Cause, cause, is_config}
 use Rattle.kc_read.specs.Files.{Files}
 use Rattle.kc_read.specs.Numbering.{located_numbered}
 use Rattle.kc_read.specs.StatementViews.{ForLater, line_view}
@@ -40,6 +40,11 @@ open_block_of (Some l) = option_map (λ b. record { block = b; line = l.line }) 
 -- the blocks that are open after these lines, each with the line that opened it, the outermost first
 abbrev pub located_blocks : List (Located Named) → List OpenBlock
 located_blocks ls = filter_map (λ j. open_block_of (slice_get ls j)) (open_block_indices (statements ls))
+
+abbrev pub is_closer : Bracket → Bool
+is_closer (Opens b) = false
+is_closer Closes = true
+is_closer NoBracket = false
 
 -- the open blocks after one more line
 abbrev pub open_blocks_after : Bracket → ℕ → List OpenBlock → List OpenBlock
@@ -86,6 +91,8 @@ pub record IsProgress (first : List (List ℕ)) (modules : Option SymId) (names 
   pub defined_is : AreNumbers names p.defined (defined (statements log.lines))
   pub config : IsNamed names p.config (last_of (definitions (statements log.lines)))
   pub modules_is : IsNamed names p.modules (modules_of (statements log.lines))
+  -- each `modules` line stands in the entry of a symbol
+  pub marked : is_some (modules_of (statements log.lines)) ≡ list_any is_modules (statements log.lines)
 
 abbrev pub open_names : Progress → List (List ℕ)
 open_names p = map (λ f. f.value.items) p.open_files.items
@@ -94,6 +101,8 @@ pub record IsState (first : List (List ℕ)) (modules : Option SymId) (names : L
   pub progress : IsProgress first modules names log p
   pub frame : IsFrame a own f
   pub files : open_names p ≡ a.open_files
+  -- in the entry of a `config` line some symbol is defined
+  pub entered : is_config (entry_of (last_no_attribute (statements own))) ≡ true → is_some (last_of (definitions (statements log.lines))) ≡ true
 
 -- no more symbols are defined than there may be
 abbrev pub HasSymbolsWithin : Progress → Type 0

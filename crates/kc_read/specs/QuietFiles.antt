@@ -1,4 +1,4 @@
--- For proofs: Files in which no line can be a `source` line, as it is seen without cutting one into tokens.
+-- Trusted: Files in which no line can be a `source` line, as it is seen without cutting one into tokens.
 use Rattle.std.specs.Prelude.{◌≡◌, ℕ, ◌<◌, ◌⊎◌, List, [], ◌∷◌, ◌++◌, length, slice_index, IsTrue}
 use Rattle.kc_text.specs.Bytes.{byte}
 use Rattle.kc_text.specs.Lexemes.{is_blank}

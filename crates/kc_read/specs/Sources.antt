@@ -1,9 +1,7 @@
 -- Trusted: The names of a file's `source` lines.
-use Rattle.std.specs.Prelude.{◌≡◌, List, [], ◌∷◌, ◌++◌, ℕ, true, false, codes, drop, None, Ok}
+use Rattle.std.specs.Prelude.{◌≡◌, List, [], ◌∷◌, ℕ, true, false, drop, None, Ok}
 use Rattle.kc_text.specs.Lines.{UnreadLines}
 use Rattle.kc_text.specs.Tokens.{TokenView}
-use Rattle.kc_read.specs.declared.sources.NextSource.{NextSource}
-use Rattle.kc_read.specs.declared.sources.NextSource.TheVariants as found
 use Rattle.kc_read.specs.Expansion.{NextLine, lexemes}
 use Rattle.kc_read.specs.Lines.{ReadsSource, begins_with, source_word}
 use Rattle.kc_read.specs.Statements.{SourceLine}
@@ -26,24 +24,3 @@ pub data Passes : UnreadLines → UnreadLines → Type 0 where
 pub data SourceNames : UnreadLines → List (List ℕ) → Type 0 where
   none : (l : UnreadLines) → ((m n : UnreadLines) (name : List ℕ) → Passes l m → IsSource m n name → ⊥) → SourceNames l []
   next : (l m n : UnreadLines) (name : List ℕ) (names : List (List ℕ)) → Passes l m → IsSource m n name → SourceNames n names → SourceNames l (name ∷ names)
-
--- what the next line says: no more names, none, or this one
-abbrev pub IsFound : UnreadLines → UnreadLines → NextSource → Type 0
-IsFound l m found.Nothing = SourceNames l []
-IsFound l m found.Other = IsOther l m
-IsFound l m (found.Name t) = IsSource l m t.items
-
--- another line follows
-abbrev pub HasMoreLines : NextSource → Type 0
-HasMoreLines found.Nothing = ⊥
-HasMoreLines found.Other = Unit {0}
-HasMoreLines (found.Name t) = Unit {0}
-
--- these bytes stand in the text
-abbrev pub Holds : List ℕ → List ℕ → Type 0
-Holds text bytes = (before after : List ℕ) × (text ≡ before ++ bytes ++ after)
-
--- neither the bytes of `source` nor a `\` stand in the text
-pub record IsSilent (text : List ℕ) : Type 0 where
-  pub no_word : Holds text source_word → ⊥
-  pub no_backslash : Holds text (codes "\\") → ⊥

@@ -4,7 +4,7 @@ ghost use Rattle.std.specs.Prelude.{◌≡◌, ◌+◌, ◌||◌, IfErr, OnOk, N
 ghost use Rattle.std.specs.List.{list_any};
 ghost use Rattle.kc_read.specs.Blocks as blocks;
 ghost use Rattle.kc_read.specs.Expansion as expansion;
-ghost use Rattle.kc_read.specs.Progress.{IsShallow, open_blocks_after, entry_after};
+ghost use Rattle.kc_read.specs.Progress.{IsShallow, is_closer, open_blocks_after, entry_after};
 ghost use Rattle.kc_read.specs.StatementViews.{statement_view};
 ghost use Rattle.kc_read.specs.LineReads.{IsFault};
 
@@ -40,7 +40,7 @@ fn opened(statement: &Statement) -> Option<Block>
 
 // Whether a statement closes a block.
 fn is_closer(statement: &Statement) -> bool
-    ensures { result ≡ blocks.is_closer (blocks.bracket (statement_view statement.now)) }
+    ensures { result ≡ is_closer (blocks.bracket (statement_view statement.now)) }
 {
     matches!(
         statement,

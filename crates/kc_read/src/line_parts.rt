@@ -2,13 +2,13 @@
 
 ghost use Rattle.std.specs.Prelude.{◌≡◌, ◌≤◌, [], length, IfOk, IfErr, OnOk, Err, IsTrue, ◌<◌};
 ghost use Rattle.kc_expr.specs.Form.{form_of, leaf_of};
-ghost use Rattle.kc_expr.specs.Grammar.{lexemes_from, if_word, is_tristate_constant};
+ghost use Rattle.kc_expr.specs.Grammar.{if_word, is_tristate_constant};
 ghost use Rattle.kc_expr.specs.Names.{IsNumber, same_name, mention, Extends};
 ghost use Rattle.kc_read.specs.declared.refusal.Code.TheVariants.{Memory};
 ghost use Rattle.kc_read.specs.Lines as spec;
 ghost use Rattle.kc_read.specs.Lines.{syntax_cause, IsMore, ExpressionFault, WholeFault, ConditionFault};
 ghost use Rattle.kc_expr.specs.When.{when_view};
-ghost use Rattle.kc_read.specs.LineReads.{IsToken, IsFault, IsPart, IsFront, IsWholeForm, IsConditionForm, IsOperand, cause_of, unquoted_text};
+ghost use Rattle.kc_read.specs.LineReads.{IsToken, IsFault, IsPart, IsFront, IsWholeForm, IsConditionForm, IsOperand, cause_of, code_of, unquoted_text, lexemes_from};
 
 use crate::refusal::Code;
 use crate::statement::LineFault;
@@ -141,7 +141,7 @@ pub fn target_at<'a>(tokens: &[Token<'a>], at: usize) -> Result<&'a [u8], LineFa
 
 /// The refusal of a line whose expression is refused.
 pub fn fault_of<'a>(fault: ExprFault) -> LineFault<'a>
-    ensures code { result.code ≡ spec.code_of fault }
+    ensures code { result.code ≡ code_of fault }
     ensures detail { result.detail.now ≡ [] }
 {
     match fault {

@@ -1,11 +1,10 @@
 //! Whether a line stands in a right place.
 
 ghost use Rattle.std.specs.Prelude.{◌≡◌, option_map};
-ghost use Rattle.kc_expr.specs.Grammar.{lexemes_from};
 ghost use Rattle.kc_read.specs.Lines as spec;
 ghost use Rattle.kc_read.specs.Lines.{placement_cause};
 ghost use Rattle.kc_read.specs.Progress.{context_in};
-ghost use Rattle.kc_read.specs.LineReads.{cause_of};
+ghost use Rattle.kc_read.specs.LineReads.{cause_of, lexemes_from};
 
 use crate::frame::Frame;
 use crate::line_parts::begins_with;

@@ -1,14 +1,13 @@
 //! The files that a file names in its `source` lines.
 
-ghost use Rattle.std.specs.Prelude.{◌≡◌, ◌≢◌, ◌<◌, ◌≤◌, ◌⊎◌, IfOk, OnErr, codes, length, map, None, false, true};
+ghost use Rattle.std.specs.Prelude.{◌≡◌, ◌≢◌, ◌<◌, ◌≤◌, IfOk, OnErr, length, map, None, false, true};
 ghost use Rattle.kc_text.specs.Limits.{longest_line};
 ghost use Rattle.kc_text.specs.Lines.{UnreadLines, TakesLine, unread_lines};
 ghost use Rattle.kc_text.specs.declared.faults.TextFault.TheVariants.{Memory};
 ghost use Rattle.kc_read.specs.declared.sources.NextSource.TheVariants.{Nothing};
-ghost use Rattle.kc_read.specs.Lines.{source_word};
 ghost use Rattle.kc_read.specs.QuietFiles.{BeginsLine, EndsLine, HasNoJoin, HasNoSource, IsQuiet};
 ghost use Rattle.kc_read.specs.Sources as spec;
-ghost use Rattle.kc_read.specs.Sources.{HasMoreLines, Holds, IsFound, IsSilent};
+ghost use Rattle.kc_read.specs.SourceSteps.{HasMoreLines, IsFound};
 
 use crate::line_parts::begins_with;
 use crate::reader::source_name;
@@ -97,7 +96,8 @@ fn next_source<'a>(
 
 // Whether nothing but blanks stands between a place and the beginning of its line; `before` is what stands before the place.
 fn begins_line(before: &[u8]) -> bool
-    ensures { result ≡ false → BeginsLine before.now → ⊥ }
+    ensures begun { result ≡ true → BeginsLine before.now }
+    ensures not_begun { result ≡ false → BeginsLine before.now → ⊥ }
 {
     match before.rfind_not_byteset(b" \t") {
         Some(last) => before[last] == b'\n',
@@ -107,7 +107,8 @@ fn begins_line(before: &[u8]) -> bool
 
 // Whether these bytes begin with the end of a line.
 fn ends_line(after: &[u8]) -> bool
-    ensures { result ≡ false → EndsLine after.now → ⊥ }
+    ensures ended { result ≡ true → EndsLine after.now }
+    ensures not_ended { result ≡ false → EndsLine after.now → ⊥ }
 {
     matches!(after, [b'\n', ..] | [b'\r', b'\n', ..])
 }
@@ -115,7 +116,7 @@ fn ends_line(after: &[u8]) -> bool
 // Whether a line begins with `source`.
 fn has_source(file: &[u8]) -> bool
     ensures silent { result ≡ false → HasNoSource file.now }
-    ensures heard { result ≡ true → Holds file.now source_word }
+    ensures heard { result ≡ true → HasNoSource file.now → ⊥ }
 {
     let mut at = 0;
     'words: loop {
@@ -133,7 +134,7 @@ fn has_source(file: &[u8]) -> bool
 // Whether a line ends with a `\`, which joins it with the next one.
 fn has_join(file: &[u8]) -> bool
     ensures silent { result ≡ false → HasNoJoin file.now }
-    ensures heard { result ≡ true → Holds file.now (codes "\\") }
+    ensures heard { result ≡ true → HasNoJoin file.now → ⊥ }
 {
     let mut at = 0;
     'backslashes: loop {
@@ -150,7 +151,7 @@ fn has_join(file: &[u8]) -> bool
 // Whether a file may have a `source` line, seen without cutting it into tokens. A `\` may join the parts of the word.
 fn may_source(file: &[u8]) -> bool
     ensures silent { result ≡ false → IsQuiet file.now }
-    ensures heard { result ≡ true → Holds file.now source_word ⊎ Holds file.now (codes "\\") }
+    ensures heard { result ≡ true → IsQuiet file.now → ⊥ }
 {
     has_source(file) || has_join(file)
 }
@@ -158,10 +159,11 @@ fn may_source(file: &[u8]) -> bool
 /// The names of the file's `source` lines in order, up to the first line that is too long or cannot be cut into tokens,
 /// or to the first `source` line whose rest is refused, whichever comes first. Help lines are passed over.
 ///
-/// Its only error is to be out of memory, which no file without the text `source` and without a `\` answers.
+/// Its only error is to be out of memory, which no file answers in which no line begins with the text `source` and none is
+/// joined with the next one.
 pub fn sources_of(alloc: Global, file: &[u8]) -> Result<Vec<Vec<u8>>, AllocError>
     ensures names { IfOk result (λ names. spec.SourceNames (unread_lines file.now 1) (map (λ n. n.items) names.items)) }
-    ensures heard { OnErr result (IsSilent file.now → ⊥) }
+    ensures heard { OnErr result (IsQuiet file.now → ⊥) }
 {
     let mut names = Vec::new(alloc);
     if !may_source(file) {

@@ -5,11 +5,11 @@ ghost use Rattle.kc_text.specs.Limits.{longest_line};
 ghost use Rattle.kc_expr.specs.Names.{Extends};
 ghost use Rattle.kc_text.specs.Lines.{UnreadLines, TakesLine};
 ghost use Rattle.kc_text.specs.Tokens.{token_views};
-ghost use Rattle.kc_read.specs.Expansion.{is_help, long_line, lexemes, text_cause};
+ghost use Rattle.kc_read.specs.Expansion.{is_help, lexemes, text_cause};
 ghost use Rattle.kc_read.specs.LineReads.{cause_of};
 ghost use Rattle.kc_read.specs.Progress.{context_in};
 ghost use Rattle.kc_read.specs.RefusalView.{IsMemory};
-ghost use Rattle.kc_read.specs.NextStep.{IsStep, IsStepRefusal};
+ghost use Rattle.kc_read.specs.NextStep.{IsStep, IsStepRefusal, long_line};
 
 use crate::line_parts::begins_with;
 use crate::reader::{Position, read_line};

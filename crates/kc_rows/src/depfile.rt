@@ -69,7 +69,7 @@ fn is_rule(rt: &impl Abort, outputs: &MemoryOutputs, row: &Row) {
     match row.rule {
         Some(text) => assert!(rt; outputs.depfile.is_ended && rule == text, "{}", row.name),
         None => assert!(rt;
-            !outputs.depfile.is_begun && rule.is_empty(),
+            !outputs.depfile.is_begun() && rule.is_empty(),
             "{}",
             row.name
         ),
@@ -121,7 +121,7 @@ fn leaves_none(rt: &impl Abort, alloc: Global, row: &Row) -> Result<(), Fail> {
     let files = files(alloc, "Kconfig", row.kconfig, row.others)?;
     let mut outputs = MemoryOutputs::new(alloc, ROOM)?;
     let status = run_row(alloc, &files, row, None, &mut outputs);
-    assert!(rt; !outputs.depfile.is_begun && outputs.depfile.calls == 0);
+    assert!(rt; !outputs.depfile.is_begun() && outputs.depfile.calls == 0);
     drop(outputs);
     assert_eq!(rt; status?, row.status, "{}", row.name);
     Ok(())

@@ -25,7 +25,7 @@ pub(crate) fn is_done(rt: &impl Abort, status: Status, name: &str) {
 fn file_holds(rt: &impl Abort, file: &MemoryFile, text: Option<&[u8]>, name: &str) {
     is_text(rt, file.bytes.as_slice(), text.unwrap_or(b""), name);
     let is_called = file.calls > 0;
-    let calls = (file.is_begun, is_called, file.failures);
+    let calls = (file.is_begun(), is_called, file.failures);
     assert_eq!(rt; calls, (text.is_some(), text.is_some(), 0), "{}", name);
 }
 

@@ -34,7 +34,8 @@ use Rattle.kc_values.specs.declared.table.Table.{Table}
 use Rattle.kc_values.specs.declared.table.Value.{Value}
 use Rattle.kc_values.proofs.OnlyNamed.{same_condition, same_selected}
 use Rattle.kc_values.proofs.TreeNeeds.{reads_rows}
-use Rattle.kc_solve.specs.PlaceLists.{places, valuation}
+use Rattle.kc_solve.specs.PlaceLists.{places}
+use Rattle.kc_solve.specs.Kept.{valuation}
 use Rattle.kc_solve.specs.Computing.{IsNodeOrder, IsUnreadIn, AreComputedValues, OnlyAt, IsSelection, IsComputedTo, IsComputedTable, IsComputedSymbol, IsComputedContext, IsComputedSelection}
 
 -- a front of a list

@@ -22,7 +22,7 @@ use Rattle.kc_values.specs.Values.{selected, equation, by_choice, by_kind, is_n,
 use Rattle.kc_values.specs.WrittenSymbols.{written}
 use Rattle.kc_values.specs.declared.table.Value.{Value}
 use Rattle.kc_solve.specs.Flags.{differs_by, is_written, IsSolvedOwn}
-use Rattle.kc_solve.specs.PlaceLists.{valuation}
+use Rattle.kc_solve.specs.Kept.{valuation}
 use Rattle.kc_values.specs.Table.{known_in}
 use Rattle.kc_solve.proofs.WarningSteps.{tables_known}
 

@@ -8,8 +8,7 @@ use Rattle.kc_order.proofs.ByOrder.{nothing_unordered}
 use Rattle.kc_order.proofs.Groups.{needs_count, unordered_alike}
 use Rattle.kc_tree.specs.TreeFacts.{TreeFacts}
 use Rattle.kc_tree.specs.declared.layout.Layout.{Layout}
-use Rattle.kc_values.specs.Laws.{IsAccepted as IsTreeAccepted}
-use Rattle.kc_values.specs.Needs.{needs}
+use Rattle.kc_values.specs.Needs.{needs, IsAccepted as IsTreeAccepted}
 use Rattle.kc_solve.specs.Graphs.{IsGraphOf}
 
 pub accepted_through : (g : Nodes) → IsGraph g → IsAccepted g.rows → IsAccepted (needs_of g)

@@ -24,7 +24,9 @@ use Rattle.kc_values.specs.TableFacts.{known_at}
 use Rattle.kc_values.specs.Solution.{symbol_count}
 use Rattle.kc_values.specs.Values.{condition}
 use Rattle.kc_values.specs.declared.table.Table.{Table}
-use Rattle.kc_solve.specs.Solved.{Solution, known, shown, solution_in}
+use Rattle.kc_solve.specs.Solved.{Solution, known}
+use Rattle.kc_solve.specs.Kept.{solution_in}
+use Rattle.kc_solve.specs.Answers.{shown}
 use Rattle.kc_solve.specs.Titles.{entry_title}
 use Rattle.kc_solve.proofs.SolvedSteps.{table_tells}
 

@@ -14,14 +14,14 @@ use Rattle.kc_expr.specs.declared.expression.Tri.TheVariants.{N}
 use Rattle.kc_expr.specs.declared.expression.Kind.{Kind}
 use Rattle.kc_expr.specs.declared.expression.Kind.TheVariants.{Undefined, Bool as IsBool, Tristate, Str, Int, Hex}
 use Rattle.kc_order.specs.Solution.{Solves, IsOnlySolution}
-use Rattle.kc_tree.specs.TreeFacts.{SymbolFacts, TreeFacts}
+use Rattle.kc_tree.specs.TreeFacts.{SymbolFacts, TreeFacts, IsWellFormed}
 use Rattle.kc_user.specs.GivenValue.{GivenValue, UserPlace, SymbolPlace, ChoicePlace}
 use Rattle.kc_user.specs.Places.{Places, place_at}
 use Rattle.kc_values.specs.Differs.{differs, differs_at, same_value, selection, default_selection}
-use Rattle.kc_values.specs.Laws.{MinimalRestores, MinimalHasNothingToSpare, IdempotentWhere as Law, MembersAreTheirs}
-use Rattle.kc_values.specs.Lookups.{choice_at, is_defined, facts, name}
+use Rattle.kc_values.specs.Laws.{MinimalRestores, MinimalHasNothingToSpare, IdempotentWhere as Law}
+use Rattle.kc_values.specs.Lookups.{choice_at, is_defined, facts, name, kind_in}
 use Rattle.kc_values.specs.Solution.{equations, rhs, known_from, user_place, symbol_count}
-use Rattle.kc_values.specs.Table.{kind_in, value_in, tri_in, text_in}
+use Rattle.kc_values.specs.Table.{value_in, tri_in, text_in}
 use Rattle.kc_tree.specs.Common.{is_symbol_of}
 use Rattle.kc_values.specs.Values.{equation, selected, visibility}
 use Rattle.kc_values.specs.Warnings.{warnings_of}
@@ -29,10 +29,12 @@ use Rattle.kc_values.specs.WrittenSymbols as writing
 use Rattle.kc_values.specs.declared.table.Value.{Value}
 use Rattle.kc_solve.proofs.WarningSteps.{tables_known}
 use Rattle.kc_solve.specs.Flags.{is_written}
-use Rattle.kc_solve.specs.PlaceLists.{valuation}
 use Rattle.kc_values.specs.Table.{known_in}
-use Rattle.kc_solve.specs.Solved as solved
-use Rattle.kc_solve.specs.Solved.{IsMinimal, IsSolution, IsSolved, IdempotentWhere, Solution, TellsKnown, known, solution_in, value_of}
+use Rattle.kc_solve.specs.Answers as solved
+use Rattle.kc_solve.specs.Solved.{IsSolution, Solution, known, value_of, warnings}
+use Rattle.kc_solve.specs.Kept.{IsSolved, solution_in, valuation}
+use Rattle.kc_solve.specs.SolvedLaws.{IsMinimal, IdempotentWhere}
+use Rattle.kc_solve.specs.Answers.{TellsKnown}
 
 -- what is known, by its type, truth value and text
 shape : (k : Kind) (t : Tri) (x : List ℕ) → value_by_kind k (truth_of_value (value_by_kind k t x)) (text_of_value (value_by_kind k t x)) ≡ value_by_kind k t x
@@ -119,14 +121,14 @@ module _ (tree : TreeFacts) (places : Places) (values : List (Option Value)) whe
     pub tells_known : TellsKnown (solution_in tree places values)
     tells_known = tells is.full
 
-    pub is_minimal : MinimalRestores → MinimalHasNothingToSpare → MembersAreTheirs tree → IsMinimal (solution_in tree places values)
-    is_minimal restores nothing members = record {
-      restores = λ keep is_kept. restores tree (place_at places) W keep is.accepted members (solves_too is.solves) is_kept;
-      nothing_to_spare = λ keep is_kept. nothing tree (place_at places) W keep members (solves_too is.solves) is_kept;
+    pub is_minimal : MinimalRestores → MinimalHasNothingToSpare → IsWellFormed tree → IsMinimal (solution_in tree places values)
+    is_minimal restores nothing formed = record {
+      restores = λ keep is_kept. restores tree (place_at places) W keep is.accepted formed (solves_too is.solves) is_kept;
+      nothing_to_spare = λ keep is_kept. nothing tree (place_at places) W keep formed (solves_too is.solves) is_kept;
     }
 
-    pub idempotent : Law → MembersAreTheirs tree → IdempotentWhere (solution_in tree places values)
-    idempotent law members allowed = law tree (place_at places) W members allowed (solves_too is.solves)
+    pub idempotent : Law → IsWellFormed tree → IdempotentWhere (solution_in tree places values)
+    idempotent law formed allowed = law tree (place_at places) W formed allowed (solves_too is.solves)
 
     pub selection_at : (c : ℕ) → c < length tree.choices → slice_index_or selections c None ≡ solved.selection (solution_in tree places values) c
     selection_at c l =
@@ -164,7 +166,7 @@ module _ (tree : TreeFacts) (places : Places) (values : List (Option Value)) whe
               ∙ sym (ap (writing.written_facts tree (known_from tree W)) (slice_get_past tree.symbols s.0 past))
         ]
 
-    pub lines_too : lines ≡ solved.warnings (solution_in tree places values)
+    pub lines_too : lines ≡ warnings (solution_in tree places values)
     lines_too =
         is.lines_are
         ∙ ap (λ (k : SymId → SymbolValue). flat_map (λ i. warnings_of tree k (name tree (symbol i)) (facts tree (symbol i)) (place_at places (SymbolPlace i)))

@@ -30,20 +30,21 @@ use Rattle.kc_tree.proofs.TreeLemmas.{symbols-length, symbols-at}
 use Rattle.kc_user.specs.GivenValue.{GivenValue, SymbolPlace}
 use Rattle.kc_user.specs.declared.value.UserValue.{UserValue}
 use Rattle.kc_values.specs.TableFacts.{IsRowOf, known_at}
-use Rattle.kc_values.specs.Lookups.{is_defined, facts, name}
+use Rattle.kc_values.specs.Lookups.{is_defined, facts, name, kind_in}
 use Rattle.kc_values.specs.Needs.{names_of}
 use Rattle.kc_values.specs.Selections.{given_for}
 use Rattle.kc_values.specs.Solution.{user_place_by, user_place_of, symbol_count, known_from, user_place, equations}
-use Rattle.kc_values.specs.Table.{kind_in, value_in, tri_in, text_in, known_value, known_in}
+use Rattle.kc_values.specs.Table.{value_in, tri_in, text_in, known_value, known_in}
 use Rattle.kc_values.specs.User.{given_in}
 use Rattle.kc_values.specs.Values.{equation, by_choice, by_kind}
 use Rattle.kc_values.specs.declared.table.Table.{Table}
 use Rattle.kc_values.specs.declared.table.Value.{Value}
 use Rattle.kc_values.specs.declared.table.Value.TheVariants as value
-use Rattle.kc_values.proofs.ModeLaws.{well_formed_members}
+use Rattle.kc_values.proofs.ModeLaws.{members_are_bools}
 use Rattle.kc_values.proofs.OnlyNamed.{same_equation}
 use Rattle.kc_solve.specs.Computing.{AreComputedValues}
-use Rattle.kc_solve.specs.PlaceLists.{given_at, places, valuation}
+use Rattle.kc_solve.specs.PlaceLists.{given_at, places}
+use Rattle.kc_solve.specs.Kept.{valuation}
 
 pub each : {X : Type 0} (P : X → Type 0) → ((x : X) → P x) → (xs : List X) → AllByRecursion P xs
 each P h [] = tt
@@ -66,7 +67,7 @@ row_count t = ∥∥₁_elim t.laid (ℕ_set _ _) (λ laid. sym (ap length laid.
 
 -- a member is a bool
 pub member_kind : (t : Table) (s : SymId) (f : SymbolFacts) (c : ℕ) → facts t.tree.now s ≡ Some f → f.choice ≡ Some c → f.kind ≡ IsBool
-member_kind t s f c e h = ∥∥₁_elim t.formed (Coded-set kind_row.the_row.coded _ _) (λ formed. (well_formed_members t.tree.now formed).1 s f c e h)
+member_kind t s f c e h = ∥∥₁_elim t.formed (Coded-set kind_row.the_row.coded _ _) (λ formed. members_are_bools t.tree.now formed s f c e h)
 
 -- what is found of a symbol in a table is what is known of it
 pub known_seen : (tree : TreeFacts) (values : List (Option Value)) → length values ≡ symbol_count tree → (s : SymId) → known_in tree values s ≡ known_from tree (valuation tree values) s

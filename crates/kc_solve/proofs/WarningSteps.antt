@@ -8,7 +8,7 @@ use Rattle.kc_user.specs.GivenValue.{SymbolPlace, GivenValue}
 use Rattle.kc_values.specs.Solution.{symbol_count, known_from}
 use Rattle.kc_values.specs.Warnings.{warnings_of, warnings_at}
 use Rattle.kc_values.specs.declared.table.Value.{Value}
-use Rattle.kc_solve.specs.PlaceLists.{valuation}
+use Rattle.kc_solve.specs.Kept.{valuation}
 use Rattle.kc_values.specs.Table.{known_in}
 use Rattle.kc_user.specs.Places.{Places, place_at}
 use Rattle.kc_solve.proofs.TableSteps.{known_seen}

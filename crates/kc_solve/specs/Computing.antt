@@ -7,7 +7,8 @@ use Rattle.kc_expr.specs.declared.expression.Tri.{Tri}
 use Rattle.kc_order.specs.Graph.{Nodes, IsGraph, needs_of}
 use Rattle.kc_order.specs.Needs.{AreAlike}
 use Rattle.kc_order.specs.Order.{Orders}
-use Rattle.kc_solve.specs.PlaceLists.{places, valuation}
+use Rattle.kc_solve.specs.PlaceLists.{places}
+use Rattle.kc_solve.specs.Kept.{valuation}
 use Rattle.kc_tree.specs.Contexts.{condition_in}
 use Rattle.kc_tree.specs.Layouts.{IsLayoutOf}
 use Rattle.kc_tree.specs.declared.layout.Layout.{Layout}

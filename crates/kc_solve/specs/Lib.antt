@@ -1,8 +1,12 @@
 pub mod PlaceLists
 pub mod LoopText
 pub mod Refused
+pub mod LoopFaults
 pub mod Flags
 pub mod Solved
+pub mod Answers
+pub mod SolvedLaws
+pub mod Kept
 pub mod SolutionCode
 pub mod Computing
 pub mod Graphs

@@ -9,18 +9,11 @@ use Rattle.kc_read.specs.declared.refusal.Refusal.{Refusal}
 use Rattle.kc_tree.specs.TreeFacts.{TreeFacts}
 use Rattle.kc_values.specs.Needs.{needs}
 use Rattle.kc_solve.specs.LoopText.{loop_text}
-use Rattle.kc_solve.specs.declared.order.LoopFault.{LoopFault}
-use Rattle.kc_solve.specs.declared.order.LoopFault.TheVariants.{Loop, Memory}
 
 -- the text of the loop that is named of the tree's needs
 abbrev pub IsLoopText : TreeFacts → List ℕ → Type 0
 IsLoopText tree text =
     (symbols : List ℕ) × IsNamedLoop (length (needs tree)) (needs_in (needs tree)) symbols × (text ≡ loop_text tree symbols)
-
--- nothing is said of memory
-abbrev pub NamesTheLoop : TreeFacts → LoopFault → Type 0
-NamesTheLoop tree (Loop text) = IsLoopText tree text.items
-NamesTheLoop tree Memory = Unit {0}
 
 -- a loop has no location; its text is the detail
 abbrev pub loop_refused : List ℕ → Refused

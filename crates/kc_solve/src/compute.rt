@@ -3,7 +3,8 @@
 ghost use Rattle.std.specs.Prelude.{◌≡◌, ◌<◌, length, slice_get, Some, IfOk, OnOk};
 ghost use Rattle.kc_order.specs.Solution.{Solves};
 ghost use Rattle.kc_solve.specs.Computing.{IsComputedSymbol, IsNodeOrder, IsComputedContext, IsComputedSelection, IsUnread};
-ghost use Rattle.kc_solve.specs.PlaceLists.{places, valuation};
+ghost use Rattle.kc_solve.specs.PlaceLists.{places};
+ghost use Rattle.kc_solve.specs.Kept.{valuation};
 ghost use Rattle.kc_tree.specs.Layouts.{IsLayoutOf};
 ghost use Rattle.kc_values.specs.TableFacts.{AreSelected};
 ghost use Rattle.kc_values.specs.Solution.{symbol_count, equations};

@@ -5,7 +5,7 @@ ghost use Rattle.std.specs.List.{range_with_len};
 ghost use Rattle.kc_order.specs.Solution.{Solves};
 ghost use Rattle.kc_solve.specs.Flags as flag;
 ghost use Rattle.kc_solve.specs.Flags.{IsSolvedOwn};
-ghost use Rattle.kc_solve.specs.PlaceLists.{valuation};
+ghost use Rattle.kc_solve.specs.Kept.{valuation};
 ghost use Rattle.kc_user.specs.Places.{ArePlacesOf, member_place, place_at};
 ghost use Rattle.kc_tree.specs.Layouts.{facts_of};
 ghost use Rattle.kc_values.specs.Differs as spec;

@@ -8,10 +8,10 @@ ghost use Rattle.kc_read.specs.declared.refusal.Code.TheVariants.{Memory};
 ghost use Rattle.kc_solve.specs.LoopText.{arrows, loop_text};
 ghost use Rattle.kc_solve.specs.Graphs.{IsGraphOf};
 ghost use Rattle.kc_solve.specs.Refused as refused;
-ghost use Rattle.kc_solve.specs.Refused.{NamesTheLoop, NamesLoop};
+ghost use Rattle.kc_solve.specs.Refused.{NamesLoop};
+ghost use Rattle.kc_solve.specs.LoopFaults.{NamesTheLoop};
 ghost use Rattle.kc_tree.specs.Layouts.{IsLayoutOf};
-ghost use Rattle.kc_values.specs.Laws.{IsAccepted};
-ghost use Rattle.kc_values.specs.Needs.{needs};
+ghost use Rattle.kc_values.specs.Needs.{needs, IsAccepted};
 
 use kc_expr::expression::SymId;
 use kc_order::{NoOrder, alike_needs, order_of};

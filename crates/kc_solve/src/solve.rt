@@ -3,11 +3,12 @@
 ghost use Rattle.std.specs.Prelude.{◌≡◌, length, IfOk, OnOk};
 ghost use Rattle.kc_order.specs.Solution.{Solves, IsOnlySolution};
 ghost use Rattle.kc_solve.specs.Graphs.{IsGraphOf};
-ghost use Rattle.kc_solve.specs.PlaceLists.{valuation};
-ghost use Rattle.kc_solve.specs.Solved.{IsMinimal, IdempotentWhere, value_of};
+ghost use Rattle.kc_solve.specs.Kept.{valuation};
+ghost use Rattle.kc_solve.specs.Solved.{value_of};
+ghost use Rattle.kc_solve.specs.SolvedLaws.{IsMinimal, IdempotentWhere};
 ghost use Rattle.kc_tree.specs.Layouts.{IsLayoutOf};
 ghost use Rattle.kc_user.specs.Places.{ArePlacesOf, place_at};
-ghost use Rattle.kc_values.specs.Laws.{IsAccepted};
+ghost use Rattle.kc_values.specs.Needs.{IsAccepted};
 ghost use Rattle.kc_values.specs.Solution.{symbol_count, equations};
 ghost use Rattle.kc_values.specs.TableFacts.{AreSelected};
 

@@ -3,10 +3,12 @@
 ghost use Rattle.std.specs.Prelude.{◌≡◌, ◌<◌, length, map, slice_get};
 ghost use Rattle.kc_expr.specs.Value.{text_of_value};
 ghost use Rattle.kc_values.specs.TableFacts.{known_at};
-ghost use Rattle.kc_solve.specs.Solved as spec;
-ghost use Rattle.kc_solve.specs.Solved.{IsMinimal, IsSolution, IdempotentWhere, TellsKnown};
+ghost use Rattle.kc_solve.specs.Answers as spec;
+ghost use Rattle.kc_solve.specs.Solved.{IsSolution, warnings};
+ghost use Rattle.kc_solve.specs.SolvedLaws.{IsMinimal, IdempotentWhere};
+ghost use Rattle.kc_solve.specs.Answers.{TellsKnown};
 ghost use Rattle.kc_solve.specs.Titles.{IsTitleAt};
-ghost use Rattle.kc_values.specs.Laws.{IsAccepted};
+ghost use Rattle.kc_values.specs.Needs.{IsAccepted};
 ghost use Rattle.kc_values.specs.Solution.{symbol_count};
 
 use crate::flags::{at_choice, at_symbol};
@@ -17,7 +19,7 @@ use kc_tree::rows::{ChoiceId, ContextId, ShownEntry, Title};
 use kc_tree::tree::Tree;
 use kc_user::user::User;
 use kc_values::conditions::title_condition;
-use kc_values::laws::{choices_stand_alone, idempotent_where, minimal_restores};
+use kc_values::laws::{idempotent_where, minimal_restores};
 use kc_values::table::Table;
 use kc_values::truths::{truth_of, visibility};
 use std::marker::Model;
@@ -37,7 +39,8 @@ pub struct Solved<'a> {
 
 impl<'a> Model for Solved<'a> {
     ghost use Rattle.std.specs.Prelude.{◌≡◌, map};
-    ghost use Rattle.kc_solve.specs.Solved.{IsSolved, Solution, solution_in};
+    ghost use Rattle.kc_solve.specs.Solved.{Solution};
+    ghost use Rattle.kc_solve.specs.Kept.{IsSolved, solution_in};
     ghost use Rattle.kc_solve.specs.SolutionCode.{solution_code};
 
     ghost Value = { Solution };
@@ -91,7 +94,6 @@ impl<'a> Solved<'a> {
         ensures { IsMinimal self.now }
     {
         minimal_restores();
-        choices_stand_alone();
         let _count = self.table.tree.symbol_count();
     }
 
@@ -102,7 +104,6 @@ impl<'a> Solved<'a> {
         ensures { IdempotentWhere self.now }
     {
         idempotent_where();
-        choices_stand_alone();
         let _count = self.table.tree.symbol_count();
     }
 
@@ -172,7 +173,7 @@ impl<'a> Solved<'a> {
     /// above its dependency (K11), a visible user value outside the active range (K12), a default that was clamped (K13)
     /// (our own lines).
     pub fn value_warnings(&self) -> &[Vec<u8>]
-        ensures { map (λ w. w.items) result.now ≡ spec.warnings self.now }
+        ensures { map (λ w. w.items) result.now ≡ warnings self.now }
     {
         &self.warnings
     }

@@ -17,7 +17,8 @@ use Rattle.kc_values.specs.Solution.{symbol_count, equations}
 use Rattle.kc_values.specs.declared.table.Value.{Value}
 use Rattle.kc_values.proofs.TreeNeeds.{needs_within, below_count, free_count, reads_rows}
 use Rattle.kc_solve.specs.Computing.{AreComputedValues}
-use Rattle.kc_solve.specs.PlaceLists.{places, valuation}
+use Rattle.kc_solve.specs.PlaceLists.{places}
+use Rattle.kc_solve.specs.Kept.{valuation}
 use Rattle.kc_solve.proofs.ComputeSteps.{empty_at}
 
 -- where nothing is computed yet, what is computed is right

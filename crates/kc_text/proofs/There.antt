@@ -9,7 +9,8 @@ use Rattle.kc_text.specs.declared.faults.TextFault.TheVariants as faults
 use Rattle.kc_text.specs.declared.tokens.Op.{Op}
 use Rattle.kc_text.specs.declared.tokens.Op.TheVariants as ops
 use Rattle.kc_text.specs.Lexemes.{is_blank, is_word_byte, IsQuote, IsQuotedBody, op_text, Lexeme, AWord, AQuoted, AnOp}
-use Rattle.kc_text.specs.Tokens.{TokenView, AreBlanks, IsEnd, IsLongest, IsLongestOp, HasNoOp, HasNoToken, IsReason, IsQuoteFault, Cuts, IsCutEnd, IsCut, OneCutting}
+use Rattle.kc_text.specs.Tokens.{TokenView, AreBlanks, IsEnd, IsLongest, HasNoToken, IsReason, Cuts, IsCutEnd, IsCut, OneCutting}
+use Rattle.kc_text.specs.LexerParts.{IsLongestOp, HasNoOp, IsQuoteFault}
 use Rattle.kc_text.proofs.Quoted.{IsScanned, scanned_none, scanned_plain, scanned_taken, holds_dollar, holds_dollar_taken, no_end, no_end_taken, no_dollar_last}
 use Rattle.kc_text.proofs.Spelled.{apart, word_token_more, quoted_token, quoted_fault, op_token, no_token, no_macro_here}
 use Rattle.kc_text.proofs.Cutting.{blanks_none, blanks_join, longest_some}

@@ -1,4 +1,4 @@
--- For proofs: What the tables of a tree keep: rows lead to contexts that are there, and prompts and titles to such in which
+-- Trusted: What the tables of a tree keep: rows lead to contexts that are there, and prompts and titles to such in which
 -- no mode counts. Each fact is a function to an inequality or an equation of truth values, so that a table may hold it as a
 -- ghost field.
 use Rattle.std.specs.Prelude.{◌≡◌, ◌<◌, ℕ, List, length, Option, Some, None, slice_get}

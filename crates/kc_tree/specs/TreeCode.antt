@@ -1,4 +1,4 @@
--- Trusted: How the logic stores what a tree says, by which a model may have it as its value.
+-- For proofs: How the logic stores what a tree says, by which a model may have it as its value.
 use Rattle.std.specs.Prelude.{◌≡◌, ℕ, List, Option, ◌⊎◌, refl}
 use Rattle.std.proofs.Common.{inl, inr}
 use Rattle.std.specs.Coded.{Coded, code_by, coded×, coded⊎, coded_ℕ, coded_list, coded_option}

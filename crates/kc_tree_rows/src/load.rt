@@ -177,6 +177,21 @@ fn a_file_that_cannot_be_read_is_named(rt: HostRuntime) -> Result<(), Fail> {
 }
 
 #[test]
+fn a_file_fails_before_those_behind_it_are_asked_for(rt: HostRuntime) -> Result<(), Fail> {
+    let files = [
+        ("d/K", b"source \"a\"\nsource \"b\"".as_slice()),
+        ("d/a", b"source \"c\"".as_slice()),
+    ];
+    let mut folder = folder_of(rt.alloc(), &files, "d/c")?;
+    let outcome = load(rt.alloc(), &mut folder, "d", "K");
+    cannot_read(&rt, &outcome, "c");
+    folder_was_asked(&rt, &folder, "d/K d/a d/c ", 1);
+    drop(outcome);
+    drop(folder);
+    Ok(())
+}
+
+#[test]
 fn a_root_that_is_not_there_gives_no_files(rt: HostRuntime) -> Result<(), Fail> {
     let mut folder = folder_of(rt.alloc(), &[], "-")?;
     let outcome = load(rt.alloc(), &mut folder, "", "Kconfig");
@@ -188,7 +203,11 @@ fn a_root_that_is_not_there_gives_no_files(rt: HostRuntime) -> Result<(), Fail> 
 }
 
 // A folder with a root that sources `a`, of so many lines, and then `b`.
-fn long_folder(alloc: Global, count: usize) -> Result<MemoryFolder<'static>, AllocError> {
+fn long_folder<'a>(
+    alloc: Global,
+    count: usize,
+    failing: &'a str,
+) -> Result<MemoryFolder<'a>, AllocError> {
     let lines = vec![in alloc; b'\n'; count]?;
     let folder = folder_of(
         alloc,
@@ -196,14 +215,20 @@ fn long_folder(alloc: Global, count: usize) -> Result<MemoryFolder<'static>, All
             ("./K", b"source \"a\"\nsource \"b\"\n".as_slice()),
             ("./a", lines.as_slice()),
         ],
-        "-",
+        failing,
     );
     drop(lines);
     folder
 }
 
-fn long_load_asks(rt: &impl Abort, alloc: Global, count: usize, asked: &str) -> Result<(), Fail> {
-    let mut folder = long_folder(alloc, count)?;
+fn long_load_asks(
+    rt: &impl Abort,
+    alloc: Global,
+    count: usize,
+    failing: &str,
+    asked: &str,
+) -> Result<(), Fail> {
+    let mut folder = long_folder(alloc, count, failing)?;
     let outcome = load(alloc, &mut folder, ".", "K");
     folder_was_asked(rt, &folder, asked, 0);
     holds(rt, &outcome, &[("a", true)]);
@@ -214,8 +239,23 @@ fn long_load_asks(rt: &impl Abort, alloc: Global, count: usize, asked: &str) -> 
 
 #[test]
 fn loading_stops_after_a_million_lines(rt: HostRuntime) -> Result<(), Fail> {
-    for (count, asked) in [(999_998, "./K ./a ./b "), (999_999, "./K ./a ")] {
-        long_load_asks(&rt, rt.alloc(), count, asked)?;
+    for (count, failing, asked) in [
+        (999_998, "-", "./K ./a ./b "),
+        (999_999, "-", "./K ./a "),
+        (999_999, "./b", "./K ./a "),
+    ] {
+        long_load_asks(&rt, rt.alloc(), count, failing, asked)?;
     }
+    Ok(())
+}
+
+#[test]
+fn a_million_lines_are_no_reason_to_stop(rt: HostRuntime) -> Result<(), Fail> {
+    let mut folder = long_folder(rt.alloc(), 999_998, "./b")?;
+    let outcome = load(rt.alloc(), &mut folder, ".", "K");
+    cannot_read(&rt, &outcome, "b");
+    folder_was_asked(&rt, &folder, "./K ./a ./b ", 1);
+    drop(outcome);
+    drop(folder);
     Ok(())
 }

@@ -83,6 +83,10 @@ allowed_for (Some facts) given = allowed_by facts.kind given
 abbrev pub allowed : TreeFacts → SymId → GivenValue → Bool
 allowed tree s given = allowed_for (slice_get tree.symbols s.0) given
 
+-- what stands in the symbols' places is allowed
+abbrev pub AllowedPlaces : TreeFacts → (UserPlace → Option GivenValue) → Type 0
+AllowedPlaces tree user = (i : ℕ) (g : GivenValue) → user (SymbolPlace i) ≡ Some g → allowed tree (symbol i) g ≡ true
+
 abbrev pub members_of : Option ChoiceFacts → List SymId
 members_of None = []
 members_of (Some c) = c.members
@@ -90,5 +94,5 @@ members_of (Some c) = c.members
 -- The places of a tree, where what was given is allowed, and a chosen symbol is a member of its choice.
 pub record ArePlaces (tree : TreeFacts) (places : Places) : Type 0 where
   pub there : ArePlacesOf tree places
-  pub allowed_all : (i : ℕ) (g : GivenValue) → slice_index_or places.symbols i None ≡ Some g → allowed tree (symbol i) g ≡ true
+  pub allowed_all : AllowedPlaces tree (place_at places)
   pub members : (c : ℕ) (m : SymId) → slice_index_or places.choices c None ≡ Some m → Contains (members_of (slice_get tree.choices c)) m

@@ -19,9 +19,11 @@ use Rattle.kc_tree.specs.Common.{is_symbol_of}
 use Rattle.kc_values.specs.Solution as sol
 use Rattle.kc_values.specs.Solution.{known_from, rhs}
 use Rattle.kc_values.specs.Differs.{given_of, default_selection}
-use Rattle.kc_values.specs.Laws.{MembersAreBools, DifferingAreAllowed}
+use Rattle.kc_values.specs.Laws.{DifferingAreAllowed}
+use Rattle.kc_values.specs.Members.{MembersAreBools}
 use Rattle.kc_values.proofs.FixedLines.{place_cases, Sel, member_now, other_value, differs-member}
 use Rattle.kc_values.proofs.IdempotentLines.{upgrade_allowed, is_truth_kind}
+use Rattle.kc_values.proofs.ModeLaws.{members_are_bools}
 
 -- a text is the user's, which was allowed, or is the one without it
 text_allowed : (q : List ℕ → Bool) (u : Option GivenValue) (vis : Tri) (d : List ℕ) → ((t : List ℕ) → u ≡ Some (GivenText t) → q t ≡ true) →
@@ -103,7 +105,8 @@ member_allowed tree i c (Some f) at bools e =
     ap (λ kind. allowed_truth kind Y) (bools (symbol i) f c at (member_choice f i c f.choice e))
 
 pub differing_allowed : DifferingAreAllowed
-differing_allowed tree user V i l bools given solves t =
+differing_allowed tree user V i l formed given solves t =
+    let bools = members_are_bools tree formed in
     let K = known_from tree V in
     elim (place_cases tree i) [
       | inl at ↦

@@ -21,8 +21,9 @@ use Rattle.kc_tree.specs.Common.{is_symbol_of}
 use Rattle.kc_values.specs.Values.{is_n}
 use Rattle.kc_values.specs.Solution as sol
 use Rattle.kc_values.specs.Solution.{symbol_count, known_from, rhs, user_place, equations}
-use Rattle.kc_values.specs.Laws.{MembersAreTheirs}
-use Rattle.kc_values.specs.Differs.{same_value, given_of, selection, default_selection, differs, differs_at, minimal_line, TellsDiffering}
+use Rattle.kc_values.specs.Members.{MembersAreTheirs}
+use Rattle.kc_values.specs.Differs.{same_value, given_of, selection, default_selection, differs, differs_at}
+use Rattle.kc_values.specs.GivenLines.{minimal_line, TellsDiffering}
 use Rattle.kc_values.proofs.SameValue.{same_value_itself, same_again}
 use Rattle.kc_values.proofs.Same.{same_symbol_itself, same_symbol-true}
 use Rattle.kc_values.proofs.TruthLines.{upgrade_if, line_fixed}

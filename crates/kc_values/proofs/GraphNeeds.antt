@@ -19,7 +19,8 @@ use Rattle.kc_tree.specs.declared.rows.Context.{Context}
 use Rattle.kc_tree.specs.declared.rows.EntryPrompt.{EntryPrompt}
 use Rattle.kc_tree.specs.declared.rows.Symbol.{Symbol}
 use Rattle.kc_values.specs.NeedRows as rows
-use Rattle.kc_values.specs.NeedRows.{AreChoicesThere, AreNodeRows, IsContextRow, of_top, of_inner}
+use Rattle.kc_values.specs.NeedRows.{AreNodeRows, IsContextRow, of_top, of_inner}
+use Rattle.kc_values.specs.MadeRows.{AreChoicesThere}
 use Rattle.kc_values.specs.Nodes.{choice_number, first_choice, node_count}
 use Rattle.kc_values.proofs.Laid.{choices_laid, facts_laid}
 use Rattle.kc_values.proofs.NodesBelow.{asked_below, below, choice_below, far, none, symbol_below}

@@ -16,19 +16,22 @@ use Rattle.kc_order.specs.Solution.{Solves}
 use Rattle.kc_values.specs.Lookups.{facts, choice_at}
 use Rattle.kc_values.specs.Numbers.{is_within_range, if_within_range, clamped}
 use Rattle.kc_values.specs.Values as v
-use Rattle.kc_user.specs.GivenValue.{GivenValue, GivenTruth, GivenText, Member, UserPlace, SymbolPlace, ChoicePlace}
-use Rattle.kc_user.specs.Places.{is_m, allowed_truth, allowed_text, allowed_by, allowed_for, allowed, members_of}
+use Rattle.kc_user.specs.GivenValue.{GivenValue, GivenTruth, GivenText, Member, UserPlace, SymbolPlace, ChoicePlace, is_yes}
+use Rattle.kc_user.specs.Places.{is_m, allowed_truth, allowed_text, allowed_by, allowed_for, allowed, members_of, AllowedPlaces}
 use Rattle.kc_tree.specs.Common.{is_symbol_of}
 use Rattle.kc_values.specs.Values.{is_n, upgrade}
 use Rattle.kc_values.specs.Solution as sol
 use Rattle.kc_values.specs.Solution.{symbol_count, known_from, rhs, equations}
 use Rattle.kc_values.specs.WrittenSymbols as ls
 use Rattle.kc_values.specs.WrittenSymbols.{above}
-use Rattle.kc_values.specs.Differs.{given_of, is_yes, reread_places, changes_on_reread, AllowedPlaces}
-use Rattle.kc_values.specs.Laws.{MembersAreTheirs, IdempotentWhere}
+use Rattle.kc_values.specs.Differs.{given_of, changes_on_reread}
+use Rattle.kc_values.specs.GivenLines.{reread_places}
+use Rattle.kc_values.specs.Laws.{IdempotentWhere}
+use Rattle.kc_values.specs.Members.{MembersAreTheirs}
 use Rattle.kc_values.proofs.TruthLines.{upgrade_if, outcome, base_of, line_keeps}
 use Rattle.kc_values.proofs.Selection.{found, selected_again, none_selected, selected_member, selected_visible}
 use Rattle.kc_values.proofs.FixedLines.{member_at, place_cases, place_of_member, names_itself, named, Sel, member_now}
+use Rattle.kc_values.proofs.ModeLaws.{members_are_theirs}
 
 -- the same, and unchanged on rereading; or another, and changed
 abbrev pub Keeps : SymbolValue → SymbolValue → Bool → Type 0
@@ -260,7 +263,7 @@ module _ (tree : TreeFacts) (k : SymId → SymbolValue) where
       ∙ sym (ap (v.visible_facts tree k) e)
       ∙ vis
 
-yes_if : (b : Bool) → is_yes (Truth (cond b Y N)) ≡ true → b ≡ true
+yes_if : (b : Bool) → is_yes (given_of (Truth (cond b Y N))) ≡ true → b ≡ true
 yes_if true e = refl
 yes_if false e = e
 
@@ -279,7 +282,7 @@ module _ (tree : TreeFacts) (user : UserPlace → Option GivenValue) (V : ℕ �
   K = known_from tree V
 
   abbrev Wrote : SymId → Bool
-  Wrote m = ls.written tree K m && is_yes (V m.0)
+  Wrote m = ls.written tree K m && is_yes (given_of (V m.0))
 
   abbrev Selected : ℕ → Option SymId
   Selected c = Sel tree user V solves c
@@ -295,7 +298,7 @@ module _ (tree : TreeFacts) (user : UserPlace → Option GivenValue) (V : ℕ �
   found_one c r x (Some f) at e d =
       let h = found Wrote f.members x d in
       let now = value_of_member c f x at h.1 in
-      let sel = named (Selected c) x (yes_if (is_symbol_of x (Selected c)) (sym (ap is_yes now) ∙ (and_parts (ls.written tree K x) (is_yes (V x.0)) h.0).1)) in
+      let sel = named (Selected c) x (yes_if (is_symbol_of x (Selected c)) (sym (ap (λ k. is_yes (given_of k)) now) ∙ (and_parts (ls.written tree K x) (is_yes (given_of (V x.0))) h.0).1)) in
       selected_again tree K (Some f) (user (ChoicePlace c)) x (sym (ap (λ o. v.selected tree K o (user (ChoicePlace c))) at) ∙ sel) ∙ sym sel ∙ e
 
   again_to : (c : ℕ) (r w : Option SymId) → Selected c ≡ r → find Wrote (members_of (choice_at tree c)) ≡ w → v.selected tree K (choice_at tree c) (option_map Member w) ≡ r
@@ -308,8 +311,8 @@ module _ (tree : TreeFacts) (user : UserPlace → Option GivenValue) (V : ℕ �
       let shown = (and_parts _ (v.visible tree K m) vis).1 in
       let w = member_written tree K m mine.1.0 c mine.1.1 mine.1.2 shown in
       let now = value_of_member c f m at.1 at.2 ∙ ap (λ r. Truth (cond (is_symbol_of m r) Y N)) e in
-      let y : is_yes (V m.0) ≡ true = ap is_yes now ∙ ap (λ b. is_yes (Truth (cond b Y N))) (names_itself m) in
-      absurd (true≢false (sym (and_from (ls.written tree K m) (is_yes (V m.0)) w y) ∙ missing Wrote f.members m (sym (ap (λ o. find Wrote (members_of o)) at.1) ∙ d) at.2))
+      let y : is_yes (given_of (V m.0)) ≡ true = ap (λ k. is_yes (given_of k)) now ∙ ap (λ b. is_yes (given_of (Truth (cond b Y N)))) (names_itself m) in
+      absurd (true≢false (sym (and_from (ls.written tree K m) (is_yes (given_of (V m.0))) w y) ∙ missing Wrote f.members m (sym (ap (λ o. find Wrote (members_of o)) at.1) ∙ d) at.2))
   again_to c r (Some x) e d = found_one c r x (choice_at tree c) refl e d
 
   one_keeps : AllowedPlaces tree user → (i : ℕ) → i < symbol_count tree → Keeps (V i) (equations tree (reread_places tree V) i V) (changes_on_reread tree V i)
@@ -331,7 +334,8 @@ module _ (tree : TreeFacts) (user : UserPlace → Option GivenValue) (V : ℕ �
       ]
 
 pub idempotent_where : IdempotentWhere
-idempotent_where tree user V theirs given solves = (
-  λ w i l. elim (one_keeps tree user V theirs solves given i l) [ inl a ↦ a.1 | inr b ↦ absurd (b.0 (w i l)) ],
-  λ all i l. elim (one_keeps tree user V theirs solves given i l) [ inl a ↦ a.0 | inr b ↦ absurd (true≢false (sym b.1 ∙ all i l)) ],
-)
+idempotent_where tree user V formed given solves =
+    let theirs = members_are_theirs tree formed in (
+      λ w i l. elim (one_keeps tree user V theirs solves given i l) [ inl a ↦ a.1 | inr b ↦ absurd (b.0 (w i l)) ],
+      λ all i l. elim (one_keeps tree user V theirs solves given i l) [ inl a ↦ a.0 | inr b ↦ absurd (true≢false (sym b.1 ∙ all i l)) ],
+    )

@@ -11,7 +11,7 @@ use Rattle.kc_tree.specs.declared.rows.Symbol.{Symbol}
 use Rattle.kc_tree.specs.Layouts.{IsLayoutOf, facts_of, facts_at, choice_facts}
 use Rattle.kc_tree.specs.TreeFacts.{SymbolFacts, ChoiceFacts, TreeFacts}
 use Rattle.kc_tree.proofs.TreeLemmas.{symbols-at, symbols-length}
-use Rattle.kc_values.specs.Table.{kind_in}
+use Rattle.kc_values.specs.Lookups.{kind_in}
 
 module _ (tree : TreeFacts) (l : Layout) (laid : IsLayoutOf tree l) where
   pub facts_laid : (i : ℕ) → slice_get tree.symbols i ≡ facts_at l i

@@ -1,5 +1,4 @@
 pub mod Same
-pub mod Once
 pub mod OnlyNamed
 pub mod TreeNeeds
 pub mod SameValue

@@ -12,7 +12,8 @@ use Rattle.kc_tree.specs.Layouts.{range_view}
 use Rattle.kc_tree.specs.TreeFacts.{Condition, Guarded, Bounds}
 use Rattle.kc_values.specs.declared.table.Table.{Table}
 use Rattle.kc_values.specs.declared.numbers.Interval.{Interval}
-use Rattle.kc_values.specs.TableFacts.{known_at, IsMetDefault, IsMetRange}
+use Rattle.kc_values.specs.TableFacts.{known_at}
+use Rattle.kc_values.specs.FoundRows.{IsMetDefault, IsMetRange}
 use Rattle.kc_values.specs.Numbers.{number_or_zero}
 use Rattle.kc_values.specs.Values.{interval}
 

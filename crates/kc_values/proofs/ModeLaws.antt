@@ -5,9 +5,10 @@ use Rattle.std.proofs.lemmas.List.Elements.{All-contains}
 use Rattle.kc_expr.specs.declared.expression.Tri.{Tri}
 use Rattle.kc_expr.specs.declared.expression.Tri.TheVariants.{N, M, Y}
 use Rattle.kc_expr.specs.Value.{lesser}
-use Rattle.kc_tree.specs.TreeFacts.{SymbolFacts, IsMemberOf}
-use Rattle.kc_values.specs.Values.{and_value, mode_value}
-use Rattle.kc_values.specs.Laws.{ModeIsPromptCondition, WellFormedHaveMembers}
+use Rattle.kc_tree.specs.TreeFacts.{SymbolFacts, TreeFacts, IsMemberOf, IsWellFormed}
+use Rattle.kc_values.specs.Values.{and_value, mode_value, prompt_value}
+use Rattle.kc_values.specs.Laws.{ModeIsPromptCondition}
+use Rattle.kc_values.specs.Members.{MembersAreBools, MembersAreTheirs}
 
 least-y : (a : Tri) → lesser a Y ≡ a
 least-y N = refl
@@ -15,21 +16,22 @@ least-y M = refl
 least-y Y = refl
 
 pub mode_is_prompt : ModeIsPromptCondition
-mode_is_prompt tree known c e =
-    sym (least-y (and_value known c.conjuncts)) ∙ ap (λ m. lesser (and_value known c.conjuncts) (mode_value tree known m)) (sym e)
+mode_is_prompt tree known c f p formed at prompt =
+    let none = (formed.choices_sound c f at).prompt p prompt in
+    ap (prompt_value known) prompt
+    ∙ sym (least-y (and_value known p.conjuncts)) ∙ ap (λ m. lesser (and_value known p.conjuncts) (mode_value tree known m)) (sym none)
 
 some_same : {X : Type 0} (a b : X) → Some a ≡ Some b → a ≡ b
 some_same a b e = cc
 
-pub well_formed_members : WellFormedHaveMembers
-well_formed_members tree formed = (
-  λ c f m e i.
-      let h = All-contains (IsMemberOf tree c) f.members m (formed.choices_sound c f e).members i in
-      (slice_get_within tree.symbols m.0 h.0 h.1, (h.0, h.1, h.2)),
-  λ s g c e h.
-      let listed = formed.members_listed s.0 g e c h in
-      let mine = All-contains (IsMemberOf tree c) listed.0.members s (formed.choices_sound c listed.0 listed.1).members listed.2 in
-      let same : g ≡ mine.0 = some_same g mine.0 (sym e ∙ mine.1) in
-      ap (λ (f : SymbolFacts). f.kind) same ∙ mine.3,
-  λ c f p e h. (formed.choices_sound c f e).prompt p h,
-)
+pub members_are_theirs : (tree : TreeFacts) → IsWellFormed tree → MembersAreTheirs tree
+members_are_theirs tree formed c f m e i =
+    let h = All-contains (IsMemberOf tree c) f.members m (formed.choices_sound c f e).members i in
+    (slice_get_within tree.symbols m.0 h.0 h.1, (h.0, h.1, h.2))
+
+pub members_are_bools : (tree : TreeFacts) → IsWellFormed tree → MembersAreBools tree
+members_are_bools tree formed s g c e h =
+    let listed = formed.members_listed s.0 g e c h in
+    let mine = All-contains (IsMemberOf tree c) listed.0.members s (formed.choices_sound c listed.0 listed.1).members listed.2 in
+    let same : g ≡ mine.0 = some_same g mine.0 (sym e ∙ mine.1) in
+    ap (λ (f : SymbolFacts). f.kind) same ∙ mine.3

@@ -27,13 +27,13 @@ use Rattle.kc_tree.specs.declared.rows.ChoiceId.{ChoiceId}
 use Rattle.kc_tree.specs.declared.rows.EntryPrompt.{EntryPrompt}
 use Rattle.kc_values.specs.Lookups.{choice_at, facts, is_defined}
 use Rattle.kc_values.specs.NeedRows as rows
-use Rattle.kc_values.specs.NeedRows.{AreChoicesThere, AreNodeRows, IsContextRow, of_top, of_inner}
+use Rattle.kc_values.specs.NeedRows.{AreNodeRows, IsContextRow, of_top, of_inner}
+use Rattle.kc_values.specs.MadeRows.{AreChoicesThere}
 use Rattle.kc_values.specs.Needs as spec
 use Rattle.kc_values.specs.Nodes.{choice_number, context_number, node_count}
 use Rattle.kc_values.proofs.AnyLemmas.{any_filter, any_flat, any_map, any_same, in_stands, stands, stands_in}
 use Rattle.kc_values.proofs.GraphNeeds.{behind, row_of_choice, row_of_context, row_of_symbol}
 use Rattle.kc_values.proofs.Laid.{choices_laid, facts_laid, symbols_count}
-use Rattle.kc_values.proofs.Once.{from_once, has_once}
 use Rattle.kc_values.proofs.RowNeeds.{condition_hits, hits_conjuncts, choice_needs, choice_prompt_needs, forms, forms_more, forms_when, hit, mode, names, no_mode, symbol_needs}
 use Rattle.kc_values.proofs.TreeNeeds.{needs_at, needs_length}
 
@@ -206,7 +206,7 @@ module _ (tree : TreeFacts) (l : Layout) (laid : IsLayoutOf tree l) (g : Nodes) 
               let ss = spec.names_of tree (facts tree (symbol i)) in
               let numbers = map (λ (s : SymId). s.0) (filter (is_defined tree) ss) in
               let seen = numbers_seen ss ∙ sym (graph_needs there i b) ∙ in_stands v (needs_in (needs_of g) i) c in
-              subst (λ row. Contains row v) (sym (needs_at tree i)) (has_once numbers v (stands_in v numbers seen))
+              subst (λ row. Contains row v) (sym (needs_at tree i)) (stands_in v numbers seen)
           | inr b ↦ absurd (let e = ap length (get_or_past (needs_of g) i [] (omega (arith, needs_count g is, made.symbols_are))) in let h = c.1 in omega (arith, e, h))
         ]
 
@@ -216,7 +216,7 @@ module _ (tree : TreeFacts) (l : Layout) (laid : IsLayoutOf tree l) (g : Nodes) 
           | inl b ↦
               let ss = spec.names_of tree (facts tree (symbol i)) in
               let numbers = map (λ (s : SymId). s.0) (filter (is_defined tree) ss) in
-              let there' = from_once numbers v (subst (λ row. Contains row v) (needs_at tree i) c) in
+              let there' = subst (λ row. Contains row v) (needs_at tree i) c in
               stands_in v (needs_in (needs_of g) i) (graph_needs there i b ∙ sym (numbers_seen ss) ∙ in_stands v numbers there')
           | inr b ↦ absurd (let e = ap length (get_or_past (spec.needs tree) i [] (omega (arith, needs_length tree, symbols_count tree l laid))) in let h = c.1 in omega (arith, e, h))
         ]

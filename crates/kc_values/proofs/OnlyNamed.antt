@@ -23,7 +23,6 @@ use Rattle.kc_values.specs.Needs as n
 use Rattle.kc_values.specs.Needs.{needs_of}
 use Rattle.kc_values.specs.Solution.{user_place, known_from, equations}
 use Rattle.kc_order.specs.Solution.{ReadsNeeds}
-use Rattle.kc_values.proofs.Once.{has_once}
 use Rattle.kc_values.proofs.Same.{front_of, back_of, map_same, found_same, same_symbol-true}
 
 module _ (law : DependsOnSymbols) (tree : TreeFacts) (k l : SymId → SymbolValue) where
@@ -326,7 +325,7 @@ module _ (tree : TreeFacts) (V W : ℕ → SymbolValue) where
       )
 
   pub same_seen : (all : List SymId) → ((t : ℕ) → Contains (n.defined_numbers tree all) t → V t ≡ W t) → AllByRecursion (λ s. known_from tree V s ≡ known_from tree W s) all
-  same_seen all h = seen_alike all (λ t c. h t (has_once (numbers all) t c))
+  same_seen all h = seen_alike all h
 
 pub reads_needs : DependsOnSymbols → (tree : TreeFacts) (user : UserPlace → Option GivenValue) → ReadsNeeds (needs_of tree) (equations tree user)
 reads_needs law tree user s V W h =

@@ -7,7 +7,7 @@ use Rattle.std.proofs.lemmas.Grind.{flat_map-append}
 use Rattle.kc_expr.specs.declared.expression.SymId.{SymId}
 use Rattle.kc_tree.specs.Common.{listed}
 use Rattle.kc_values.specs.declared.needs.NeedRow.{NeedRow}
-use Rattle.kc_values.specs.NeedRows.{Adds}
+use Rattle.kc_values.specs.MadeRows.{Adds}
 
 cons_some : {Y : Type 0} (o : Option Y) → cons_option o [] ≡ listed o
 cons_some None = refl

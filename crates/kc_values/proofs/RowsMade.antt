@@ -14,7 +14,8 @@ use Rattle.kc_tree.specs.declared.rows.Symbol.{Symbol}
 use Rattle.kc_tree.specs.TreeFacts.{TreeFacts}
 use Rattle.kc_values.specs.declared.needs.NeedRow.{NeedRow}
 use Rattle.kc_values.specs.NeedRows as rows
-use Rattle.kc_values.specs.NeedRows.{IsRow, Adds, AreContextRows, AreNodeRows, IsContextRow, row_of}
+use Rattle.kc_values.specs.NeedRows.{AreContextRows, AreNodeRows, IsContextRow}
+use Rattle.kc_values.specs.MadeRows.{IsRow, Adds, row_of}
 
 abbrev numbers : ℕ → List SymId → List ℕ
 numbers n names = map (λ (s : SymId). s.0) (filter (λ (s : SymId). nat_lt s.0 n) names)

@@ -15,7 +15,6 @@ use Rattle.kc_user.specs.GivenValue.{UserPlace, GivenValue}
 use Rattle.kc_values.specs.Solution.{symbol_count, equations}
 use Rattle.kc_expr.specs.Names.{same_symbol}
 use Rattle.kc_values.specs.Needs.{needs, needs_of, names_of, defined_numbers}
-use Rattle.kc_values.proofs.Once.{from_once}
 use Rattle.kc_values.proofs.Same.{same_symbol-true}
 use Rattle.kc_values.proofs.OnlyNamed.{reads_needs}
 
@@ -32,7 +31,7 @@ numbers_below tree (s ∷ ss) t c =
     (λ d. ltb-true s.0 (symbol_count tree) d) (numbers_below tree ss t) c
 
 pub defined_below : (tree : TreeFacts) (ss : List SymId) (t : ℕ) → Contains (defined_numbers tree ss) t → t < symbol_count tree
-defined_below tree ss t c = numbers_below tree ss t (from_once _ t c)
+defined_below tree ss t c = numbers_below tree ss t c
 
 pub needs_length : (tree : TreeFacts) → length (needs tree) ≡ symbol_count tree
 needs_length tree = length-map-range_with_len (needs_of tree) 0 (symbol_count tree)

@@ -11,7 +11,8 @@ use Rattle.kc_expr.specs.Value.{SymbolValue, Truth, TextValue}
 use Rattle.kc_tree.specs.TreeFacts.{Guarded, SymbolFacts, ChoiceFacts, TreeFacts}
 use Rattle.kc_user.specs.GivenValue.{GivenValue, GivenTruth, SymbolPlace}
 use Rattle.kc_values.specs.Solution.{rhs}
-use Rattle.kc_values.specs.Differs.{changes_on_reread, reread_places, default_selection}
+use Rattle.kc_values.specs.Differs.{changes_on_reread, default_selection}
+use Rattle.kc_values.specs.GivenLines.{reread_places}
 use Rattle.kc_values.proofs.Trees as t
 use Rattle.kc_values.proofs.Trees.{tree, plain, member, always, if_of, in_choice, named, constant, line, by, nothing, at_place, in_first, given_by, written_now, differing, warned, needed}
 
@@ -58,7 +59,7 @@ selects_differ = refl
 selects_warned : warned selects nothing selects_V ≡ codes "warning K11: B is selected to y while its dependency is n" ∷ []
 selects_warned = refl
 
-selects_needs : needed selects nothing selects_V ≡ [] ∷ ((2 ∷ (0 ∷ [])) ∷ ([] ∷ []))
+selects_needs : needed selects nothing selects_V ≡ [] ∷ ((2 ∷ (2 ∷ (0 ∷ []))) ∷ ([] ∷ []))
 selects_needs = refl
 
 -- An imply stays within the direct dependency: FOO implies BAZ, which depends on BAR, which is m.

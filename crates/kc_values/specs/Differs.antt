@@ -1,7 +1,5 @@
--- Trusted: Which symbols differ from what they would be without the user, and the lines that the values give.
-use Rattle.std.specs.Prelude.{bytes_eq, ◌≡◌, ℕ, ◌<◌, ◌&&◌, Bool, true, false, not, if◌then◌else◌, Option, Some, None}
-use Rattle.std.specs.List.{find}
-use Rattle.std.specs.Option.{option_map}
+-- Trusted: Which symbols differ from what they would be without the user, and which change on rereading.
+use Rattle.std.specs.Prelude.{bytes_eq, ℕ, ◌&&◌, Bool, true, false, not, Option, None}
 use Rattle.kc_expr.specs.Names.{symbol}
 use Rattle.kc_expr.specs.Value.{SymbolValue, Truth, TextValue, truth_of_value}
 use Rattle.kc_expr.specs.declared.expression.SymId.{SymId}
@@ -9,12 +7,11 @@ use Rattle.kc_expr.specs.declared.expression.Tri.{Tri}
 use Rattle.kc_expr.specs.declared.expression.Tri.TheVariants.{N, M, Y}
 use Rattle.kc_tree.specs.TreeFacts.{TreeFacts}
 use Rattle.kc_values.specs.Lookups.{facts, choice_at}
-use Rattle.kc_user.specs.GivenValue.{GivenValue, GivenTruth, GivenText, Member, UserPlace, SymbolPlace, ChoicePlace}
-use Rattle.kc_user.specs.Places.{allowed, members_of}
+use Rattle.kc_user.specs.GivenValue.{GivenValue, GivenTruth, GivenText, UserPlace, SymbolPlace, ChoicePlace}
 use Rattle.kc_tree.specs.Common.{is_symbol_of}
 use Rattle.kc_values.specs.Values.{selected}
-use Rattle.kc_values.specs.Solution.{symbol_count, known_from, user_place, rhs}
-use Rattle.kc_values.specs.WrittenSymbols.{written, changes_on_reread_facts}
+use Rattle.kc_values.specs.Solution.{known_from, user_place, rhs}
+use Rattle.kc_values.specs.WrittenSymbols.{changes_on_reread_facts}
 
 abbrev pub same_tri : Tri → Tri → Bool
 same_tri N N = true
@@ -39,16 +36,6 @@ abbrev pub given_of : SymbolValue → GivenValue
 given_of (Truth t) = GivenTruth t
 given_of (TextValue k bytes) = GivenText bytes
 
-abbrev pub is_yes : SymbolValue → Bool
-is_yes (Truth N) = false
-is_yes (Truth M) = false
-is_yes (Truth Y) = true
-is_yes (TextValue k bytes) = false
-
--- What was given was allowed.
-abbrev pub AllowedPlaces : TreeFacts → (UserPlace → Option GivenValue) → Type 0
-AllowedPlaces tree user = (i : ℕ) (g : GivenValue) → user (SymbolPlace i) ≡ Some g → allowed tree (symbol i) g ≡ true
-
 -- The selection of a choice under values V, without the user's member.
 abbrev pub default_selection : TreeFacts → (ℕ → SymbolValue) → ℕ → Option SymId
 default_selection tree V c = selected tree (known_from tree V) (choice_at tree c) None
@@ -68,27 +55,6 @@ module _ (tree : TreeFacts) (user : UserPlace → Option GivenValue) (V : ℕ �
   abbrev pub differs : ℕ → Bool
   differs i = differs_at i (user_place tree i)
 
-  -- a test that tells exactly the places of the symbols that differ
-  pub record TellsDiffering (keep : UserPlace → Bool) : Type 0 where
-    pub differing : (p : UserPlace) → keep p ≡ true → (i : ℕ) × (i < symbol_count tree) × (user_place tree i ≡ p) × (differs i ≡ true)
-    pub every : (i : ℕ) → i < symbol_count tree → differs i ≡ true → keep (user_place tree i) ≡ true
-
-  -- the minimal file's lines: the values, and the selected members
-  abbrev pub minimal_line : UserPlace → Option GivenValue
-  minimal_line (SymbolPlace i) = Some (given_of (V i))
-  minimal_line (ChoicePlace c) = option_map Member (selection c)
-
--- Under values V alone.
-module _ (tree : TreeFacts) (V : ℕ → SymbolValue) where
-  abbrev pub reread_value : ℕ → Option GivenValue
-  reread_value i =
-      if written tree (known_from tree V) (symbol i) && allowed tree (symbol i) (given_of (V i)) then Some (given_of (V i)) else None
-
-  -- The places that the written lines give, where `allowed` accepts their values.
-  abbrev pub reread_places : UserPlace → Option GivenValue
-  reread_places (SymbolPlace i) = reread_value i
-  reread_places (ChoicePlace c) = option_map Member (find (λ m. written tree (known_from tree V) m && is_yes (V m.0)) (members_of (choice_at tree c)))
-
-  -- Outside a choice, of type tristate, visible, and greater than both its visibility and its reverse dependency.
-  abbrev pub changes_on_reread : ℕ → Bool
-  changes_on_reread i = changes_on_reread_facts tree (known_from tree V) (facts tree (symbol i)) (truth_of_value (V i))
+-- Outside a choice, of type tristate, visible, and greater than both its visibility and its reverse dependency, under values V.
+abbrev pub changes_on_reread : TreeFacts → (ℕ → SymbolValue) → ℕ → Bool
+changes_on_reread tree V i = changes_on_reread_facts tree (known_from tree V) (facts tree (symbol i)) (truth_of_value (V i))

@@ -1,35 +1,20 @@
 -- Trusted: What holds of the equations of a tree.
-use Rattle.std.specs.Prelude.{◌≡◌, ℕ, ◌<◌, ◌↔◌, Option, Some, None, Bool, true, false}
-use Rattle.std.specs.List.{Contains}
+use Rattle.std.specs.Prelude.{◌≡◌, ℕ, ◌<◌, ◌↔◌, Option, Some, Bool, true, false}
 use Rattle.kc_expr.specs.Value.{SymbolValue}
 use Rattle.kc_expr.specs.Names.{symbol}
 use Rattle.kc_expr.specs.declared.expression.SymId.{SymId}
-use Rattle.kc_expr.specs.declared.expression.Kind.TheVariants.{Bool as IsBool}
-use Rattle.kc_tree.specs.TreeFacts.{Condition, SymbolFacts, ChoiceFacts, TreeFacts, IsWellFormed}
-use Rattle.kc_order.specs.Needs.{needs_in, AreWithin, IsAccepted as AreAccepted}
+use Rattle.kc_tree.specs.TreeFacts.{Condition, ChoiceFacts, TreeFacts, IsWellFormed}
+use Rattle.kc_order.specs.Needs.{needs_in, AreWithin}
 use Rattle.kc_order.specs.Solution.{Solves, IsOnlySolution, HasOneSolution, ReadsNeeds}
 use Rattle.kc_order.specs.Minimal.{Restores, NothingCanGo}
-use Rattle.kc_values.specs.Lookups.{facts, choice_at}
+use Rattle.kc_values.specs.Lookups.{choice_at}
 use Rattle.kc_user.specs.GivenValue.{GivenValue, UserPlace}
-use Rattle.kc_user.specs.Places.{allowed}
+use Rattle.kc_user.specs.Places.{allowed, AllowedPlaces}
 use Rattle.kc_values.specs.Values.{prompt_value, condition}
-use Rattle.kc_values.specs.Needs.{needs}
+use Rattle.kc_values.specs.Needs.{IsAccepted, needs}
 use Rattle.kc_values.specs.Solution.{symbol_count, equations, rhs, user_place}
-use Rattle.kc_values.specs.Differs.{TellsDiffering, differs, minimal_line, given_of, reread_places, changes_on_reread, AllowedPlaces}
-
--- no symbol is unordered
-abbrev pub IsAccepted : TreeFacts → Type 0
-IsAccepted tree = AreAccepted (needs tree)
-
--- A member of a choice is a bool symbol of that choice.
-abbrev pub MembersAreTheirs : TreeFacts → Type 0
-MembersAreTheirs tree =
-    (c : ℕ) (f : ChoiceFacts) (m : SymId) → choice_at tree c ≡ Some f → Contains f.members m →
-    (m.0 < symbol_count tree) × ((g : SymbolFacts) × (facts tree m ≡ Some g) × (g.choice ≡ Some c))
-
--- a symbol of a choice is a bool
-abbrev pub MembersAreBools : TreeFacts → Type 0
-MembersAreBools tree = (s : SymId) (g : SymbolFacts) (c : ℕ) → facts tree s ≡ Some g → g.choice ≡ Some c → g.kind ≡ IsBool
+use Rattle.kc_values.specs.Differs.{differs, given_of, changes_on_reread}
+use Rattle.kc_values.specs.GivenLines.{TellsDiffering, minimal_line, reread_places}
 
 -- An equation reads only what its symbol needs, whatever the places.
 abbrev pub EquationsReadNeeds : Type 0
@@ -50,8 +35,7 @@ SolutionsAgree =
     (tree : TreeFacts) (user : UserPlace → Option GivenValue) → IsAccepted tree →
     (V : ℕ → SymbolValue) → Solves (symbol_count tree) (equations tree user) V → IsOnlySolution (symbol_count tree) (equations tree user) V
 
--- A value taken from a user place is a fixed point of its own line: without it the symbol has the same value, or with its
--- own line it has it again.
+-- The value of a symbol that differs is a fixed point of its own line: with that line it has it again.
 abbrev pub LinesAreFixed : Type 0
 LinesAreFixed =
     (tree : TreeFacts) (user : UserPlace → Option GivenValue) (V : ℕ → SymbolValue) (i : ℕ) → i < symbol_count tree →
@@ -61,39 +45,32 @@ LinesAreFixed =
 abbrev pub MinimalRestores : Type 0
 MinimalRestores =
     (tree : TreeFacts) (user : UserPlace → Option GivenValue) (V : ℕ → SymbolValue) (keep : UserPlace → Bool) →
-    IsAccepted tree → MembersAreTheirs tree → Solves (symbol_count tree) (equations tree user) V → TellsDiffering tree user V keep →
+    IsAccepted tree → IsWellFormed tree → Solves (symbol_count tree) (equations tree user) V → TellsDiffering tree user V keep →
     Restores (symbol_count tree) (user_place tree) (rhs tree) (minimal_line tree user V) V keep
 
 -- With any nonempty set of those lines left out, what solves is another valuation.
 abbrev pub MinimalHasNothingToSpare : Type 0
 MinimalHasNothingToSpare =
     (tree : TreeFacts) (user : UserPlace → Option GivenValue) (V : ℕ → SymbolValue) (keep : UserPlace → Bool) →
-    MembersAreTheirs tree → Solves (symbol_count tree) (equations tree user) V → TellsDiffering tree user V keep →
+    IsWellFormed tree → Solves (symbol_count tree) (equations tree user) V → TellsDiffering tree user V keep →
     NothingCanGo (symbol_count tree) (user_place tree) (rhs tree) (minimal_line tree user V) V keep
 
 -- The value of a symbol that differs is one that `allowed` accepts.
 abbrev pub DifferingAreAllowed : Type 0
 DifferingAreAllowed =
     (tree : TreeFacts) (user : UserPlace → Option GivenValue) (V : ℕ → SymbolValue) (i : ℕ) → i < symbol_count tree →
-    MembersAreBools tree → AllowedPlaces tree user → Solves (symbol_count tree) (equations tree user) V →
+    IsWellFormed tree → AllowedPlaces tree user → Solves (symbol_count tree) (equations tree user) V →
     differs tree user V i ≡ true → allowed tree (symbol i) (given_of (V i)) ≡ true
 
 -- With the written values as the user's, the values solve again exactly where no symbol changes on rereading.
 abbrev pub IdempotentWhere : Type 0
 IdempotentWhere =
     (tree : TreeFacts) (user : UserPlace → Option GivenValue) (V : ℕ → SymbolValue) →
-    MembersAreTheirs tree → AllowedPlaces tree user → Solves (symbol_count tree) (equations tree user) V →
+    IsWellFormed tree → AllowedPlaces tree user → Solves (symbol_count tree) (equations tree user) V →
     Solves (symbol_count tree) (equations tree (reread_places tree V)) V ↔ ((i : ℕ) → i < symbol_count tree → changes_on_reread tree V i ≡ false)
 
--- Choices don't nest: the prompt of a choice has no mode of another, so its mode is y exactly where its prompt is visible.
+-- Choices don't nest: the prompt of a choice asks for no mode of another, so its mode is y exactly where its prompt is visible.
 abbrev pub ModeIsPromptCondition : Type 0
 ModeIsPromptCondition =
-    (tree : TreeFacts) (known : SymId → SymbolValue) (c : Condition) → c.mode ≡ None →
-    prompt_value known (Some c) ≡ condition tree known c
-
--- In a well-formed tree members are theirs, and bools; the prompt of a choice asks for no mode.
-abbrev pub WellFormedHaveMembers : Type 0
-WellFormedHaveMembers =
-    (tree : TreeFacts) → IsWellFormed tree →
-    MembersAreTheirs tree × MembersAreBools tree
-    × ((c : ℕ) (f : ChoiceFacts) (p : Condition) → choice_at tree c ≡ Some f → f.prompt ≡ Some p → p.mode ≡ None)
+    (tree : TreeFacts) (known : SymId → SymbolValue) (c : ℕ) (f : ChoiceFacts) (p : Condition) → IsWellFormed tree → choice_at tree c ≡ Some f → f.prompt ≡ Some p →
+    prompt_value known f.prompt ≡ condition tree known p

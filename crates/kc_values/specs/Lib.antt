@@ -5,13 +5,17 @@ pub mod Needs
 pub mod Solution
 pub mod WrittenSymbols
 pub mod Differs
+pub mod GivenLines
 pub mod Warnings
 pub mod Laws
+pub mod Members
 pub mod User
 pub mod Small
 pub mod Selections
 pub mod Table
 pub mod NeedRows
+pub mod MadeRows
 pub mod Computed
 pub mod TableFacts
+pub mod FoundRows
 pub mod Nodes

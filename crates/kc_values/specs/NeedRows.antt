@@ -25,22 +25,8 @@ use Rattle.kc_tree.specs.Chains.{chain_of, chains_of}
 use Rattle.kc_tree.specs.Contexts.{IsContextAt, condition_in, top}
 use Rattle.kc_tree.specs.Spans.{definition_ids, slice_of}
 use Rattle.kc_tree.specs.TreeFacts.{TreeFacts}
-use Rattle.kc_values.specs.declared.needs.NeedRow.{NeedRow}
 use Rattle.kc_values.specs.Needs.{kind_names}
 use Rattle.kc_values.specs.Nodes.{choice_number, context_number, node_count}
-
--- a row in the making holds these nodes and names
-pub record IsRow (nodes : List ℕ) (names : List SymId) (row : NeedRow) : Type 0 where
-  pub nodes_are : row.nodes.items ≡ nodes
-  pub names_are : row.names.items ≡ names
-
--- it holds these besides
-abbrev pub Adds : NeedRow → NeedRow → List ℕ → List SymId → Type 0
-Adds old new nodes names = IsRow (old.nodes.items ++ nodes) (old.names.items ++ names) new
-
--- a row as it stands in the graph: the nodes, and of the names the symbols that are defined
-abbrev pub row_of : ℕ → NeedRow → List ℕ
-row_of defined row = row.nodes.items ++ map (λ (s : SymId). s.0) (filter (λ (s : SymId). nat_lt s.0 defined) row.names.items)
 
 -- names
 abbrev pub when_names : Option Form → List SymId
@@ -269,10 +255,6 @@ module _ (tree : TreeFacts) (l : Layout) where
 
   abbrev pub symbol_rows : List (List ℕ)
   symbol_rows = map (λ i. symbol_row i (slice_get l.symbols.items i)) (range_with_len 0 (length l.symbols.items))
-
--- the choices of members are there
-abbrev pub AreChoicesThere : Layout → Type 0
-AreChoicesThere l = (i : ℕ) (s : Symbol) (k : ChoiceId) → slice_get l.symbols.items i ≡ Some s → s.choice ≡ Some k → k.0 < length l.tables.choices.items
 
 -- a row of a context: of one that asks for nothing, as the top, none; else there is a context of that number that asks for
 -- what the row has

@@ -1,11 +1,12 @@
 -- Trusted: What the equation of a symbol reads: the symbols that it needs.
-use Rattle.std.specs.Prelude.{ℕ, ◌==◌, not, List, [], ◌∷◌, ◌++◌, map, length, Option, Some, None}
+use Rattle.std.specs.Prelude.{ℕ, List, [], ◌∷◌, ◌++◌, map, length, Option, Some, None}
 use Rattle.std.specs.List.{filter, flat_map, range_with_len}
 use Rattle.kc_expr.specs.Form.{symbols, leaf_symbols}
 use Rattle.kc_expr.specs.Names.{symbol}
 use Rattle.kc_expr.specs.declared.expression.SymId.{SymId}
 use Rattle.kc_expr.specs.declared.expression.Kind.{Kind}
 use Rattle.kc_expr.specs.declared.expression.Kind.TheVariants.{Undefined, Bool as IsBool, Tristate, Str, Int, Hex}
+use Rattle.kc_order.specs.Needs.{IsAccepted as AreAccepted}
 use Rattle.kc_tree.specs.TreeFacts.{Condition, Guarded, Bounds, SymbolFacts, ChoiceFacts, TreeFacts}
 use Rattle.kc_values.specs.Lookups.{is_defined, facts, choice_at}
 
@@ -30,11 +31,6 @@ prompt_names (Some c) = conjunct_names c.prompt
 abbrev pub modules_names : Option SymId → List SymId
 modules_names None = []
 modules_names (Some m) = m ∷ []
-
--- each number once, where it stands first
-abbrev pub deduplicated : List ℕ → List ℕ
-deduplicated [] = []
-deduplicated (n ∷ ns) = n ∷ filter (λ m. not (n == m)) (deduplicated ns)
 
 module _ (tree : TreeFacts) where
   abbrev pub mode_names : Option ℕ → List SymId
@@ -96,14 +92,18 @@ module _ (tree : TreeFacts) where
   names_of None = []
   names_of (Some f) = names_by_choice f f.choice
 
-  -- the numbers of the defined symbols in a list, each once
+  -- the numbers of the defined symbols in a list
   abbrev pub defined_numbers : List SymId → List ℕ
-  defined_numbers ss = deduplicated (map (λ (s : SymId). s.0) (filter (is_defined tree) ss))
+  defined_numbers ss = map (λ (s : SymId). s.0) (filter (is_defined tree) ss)
 
-  -- What the symbol of a number needs: the defined symbols among what its equation names, each once.
+  -- What the symbol of a number needs: the defined symbols among what its equation names.
   abbrev pub needs_of : ℕ → List ℕ
   needs_of i = defined_numbers (names_of (facts tree (symbol i)))
 
   -- The needs of each symbol, by number.
   abbrev pub needs : List (List ℕ)
   needs = map needs_of (range_with_len 0 (length tree.symbols))
+
+-- A tree is accepted: no symbol is unordered.
+abbrev pub IsAccepted : TreeFacts → Type 0
+IsAccepted tree = AreAccepted (needs tree)

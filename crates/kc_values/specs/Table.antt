@@ -6,15 +6,10 @@ use Rattle.kc_expr.specs.declared.expression.SymId.{SymId}
 use Rattle.kc_expr.specs.declared.expression.Tri.TheVariants.{N}
 use Rattle.kc_expr.specs.declared.expression.Tri as tri
 use Rattle.kc_expr.specs.declared.expression.Kind.{Kind}
-use Rattle.kc_expr.specs.declared.expression.Kind.TheVariants.{Undefined}
-use Rattle.kc_tree.specs.TreeFacts.{SymbolFacts, TreeFacts}
-use Rattle.kc_values.specs.Lookups.{facts, name}
+use Rattle.kc_tree.specs.TreeFacts.{TreeFacts}
+use Rattle.kc_values.specs.Lookups.{facts, kind_in, name}
 use Rattle.kc_values.specs.declared.table.Value.{Value}
 use Rattle.kc_values.specs.declared.table.Value.TheVariants as value
-
-abbrev pub kind_in : Option SymbolFacts → Kind
-kind_in None = Undefined
-kind_in (Some f) = f.kind
 
 abbrev pub value_in : List (Option Value) → SymId → Option Value
 value_in values s = slice_index_or values s.0 None

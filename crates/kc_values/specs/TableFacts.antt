@@ -2,23 +2,19 @@
 use Rattle.std.specs.Prelude.{◌≡◌, ℕ, List, Option, Some, None, slice_get, slice_index_or}
 use Rattle.std.specs.Option.{option_map, option_and_then}
 use Rattle.std.specs.Borrow.{Bor}
-use Rattle.kc_expr.specs.Form.{Form, form_of, leaf_of}
 use Rattle.kc_expr.specs.Value.{SymbolValue}
 use Rattle.kc_expr.specs.declared.expression.SymId.{SymId}
-use Rattle.kc_expr.specs.declared.expression.Tri.{Tri}
 use Rattle.kc_tree.specs.declared.rows.Definition.{Definition}
 use Rattle.kc_tree.specs.declared.rows.DefinitionId.{DefinitionId}
 use Rattle.kc_tree.specs.declared.rows.Symbol.{Symbol}
-use Rattle.kc_tree.specs.declared.rows.SymbolDefault.{SymbolDefault}
-use Rattle.kc_tree.specs.declared.rows.SymbolRange.{SymbolRange}
 use Rattle.kc_tree.specs.Contexts.{condition_in}
 use Rattle.kc_tree.specs.Spans.{definition_ids}
-use Rattle.kc_tree.specs.TreeFacts.{Condition, Guarded, Bounds}
+use Rattle.kc_tree.specs.TreeFacts.{Condition}
 use Rattle.kc_user.specs.Places.{member_place}
 use Rattle.kc_values.specs.declared.table.Table.{Table}
 use Rattle.kc_values.specs.Lookups.{choice_at}
 use Rattle.kc_values.specs.Table.{known_in}
-use Rattle.kc_values.specs.Values.{condition, selected}
+use Rattle.kc_values.specs.Values.{selected}
 
 -- what a table tells of each symbol
 abbrev pub known_at : Table → SymId → SymbolValue
@@ -28,12 +24,9 @@ known_at t = known_in t.tree.now t.values.items
 abbrev pub condition_at : Table → ℕ → Condition
 condition_at t i = condition_in t.layout.now.tables.contexts i
 
--- the row of a definition; one that there is
+-- the row of a definition
 abbrev pub definition_row : Table → DefinitionId → Option Definition
 definition_row t id = slice_get t.layout.now.tables.definitions.items id.0
-
-abbrev pub IsDefinitionAt : Table → Definition → Type 0
-IsDefinitionAt t d = (id : DefinitionId) × (definition_row t id ≡ Some d)
 
 -- the definition of a symbol with a number, if there is one
 abbrev pub IsDefinitionOf : Table → Symbol → ℕ → Option (Bor Definition) → Type 0
@@ -42,18 +35,6 @@ IsDefinitionOf t s i o = option_map (λ (d : Bor Definition). d.now) o ≡ optio
 -- a symbol's row
 abbrev pub IsRowOf : Table → SymId → Symbol → Type 0
 IsRowOf t id s = slice_get t.layout.now.symbols.items id.0 ≡ Some s
-
--- what was found is this default, with its condition's value
-abbrev pub IsMetDefault : Table → Option (Guarded Form) → Option (Bor SymbolDefault × Tri) → Type 0
-IsMetDefault t None o = o ≡ None
-IsMetDefault t (Some g) None = ⊥
-IsMetDefault t (Some g) (Some found) = (form_of found.0.now.value.value ≡ g.what) × (found.1 ≡ condition t.tree.now (known_at t) g.when)
-
--- what was found is this range
-abbrev pub IsMetRange : Table → Option (Guarded Bounds) → Option (Bor SymbolRange) → Type 0
-IsMetRange t None o = o ≡ None
-IsMetRange t (Some g) None = ⊥
-IsMetRange t (Some g) (Some r) = (leaf_of r.now.low ≡ g.what.low) × (leaf_of r.now.high ≡ g.what.high)
 
 -- where the selection of a choice is computed, it is the selection under this member of the user's
 abbrev pub IsSelected : Table → ℕ → Option SymId → Type 0

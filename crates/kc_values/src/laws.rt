@@ -1,6 +1,6 @@
 //! What holds of the equations of every tree.
 
-ghost use Rattle.kc_values.specs.Laws.{EquationsReadNeeds, NeedsAreDefined, AcceptedHaveOneSolution, SolutionsAgree, LinesAreFixed, MinimalRestores, MinimalHasNothingToSpare, IdempotentWhere, DifferingAreAllowed, ModeIsPromptCondition, WellFormedHaveMembers};
+ghost use Rattle.kc_values.specs.Laws.{EquationsReadNeeds, NeedsAreDefined, AcceptedHaveOneSolution, SolutionsAgree, LinesAreFixed, MinimalRestores, MinimalHasNothingToSpare, IdempotentWhere, DifferingAreAllowed, ModeIsPromptCondition};
 
 use kc_expr::values::value_depends_on_symbols;
 
@@ -27,8 +27,8 @@ pub fn accepted_have_one_solution()
     needs_are_defined();
 }
 
-/// The line of a symbol that differs gives its value again: what was taken from the user is a fixed point of its own line (our
-/// own).
+/// The line of a symbol that differs gives its value again: with it as what the user gave, and the same values of all others, the
+/// equation gives the same value (our own).
 pub fn lines_are_fixed()
     ensures { LinesAreFixed }
 {}
@@ -54,9 +54,8 @@ pub fn differing_are_allowed()
     ensures { DifferingAreAllowed }
 {}
 
-/// Choices don't nest: the mode of a choice is y exactly where its prompt's condition is not n. Of every tree each member is a
-/// bool of its own choice (our own; the kernel's kconfig-language document on choices).
+/// Choices don't nest: the prompt of a choice asks for no mode of another, so that the mode of a choice is y exactly where its
+/// prompt's condition is not n (our own; the kernel's kconfig-language document on choices).
 pub fn choices_stand_alone()
-    ensures mode { ModeIsPromptCondition }
-    ensures members { WellFormedHaveMembers }
+    ensures { ModeIsPromptCondition }
 {}

@@ -11,7 +11,7 @@ ghost use Rattle.kc_tree.specs.TreeFacts.{IsWellFormed};
 ghost use Rattle.kc_tree.specs.Soundness.{IsChoiceThere, IsDefinitionThere, IsPromptThere};
 ghost use Rattle.kc_values.specs.Needs as spec;
 ghost use Rattle.kc_values.specs.NeedRows as rows;
-ghost use Rattle.kc_values.specs.NeedRows.{Adds, IsRow};
+ghost use Rattle.kc_values.specs.MadeRows.{Adds, AreChoicesThere, IsRow, row_of};
 
 use crate::nodes::{choice_number, context_number, node_count};
 use kc_expr::expression::{Expr, Kind, Operand, SymId};
@@ -333,7 +333,7 @@ fn choice_into(layout: &Layout, choice: &Choice, out: &mut NeedRow) -> Result<()
 // Adds the row as it stands to the graph, and makes it empty: the nodes, and of the names the symbols that are defined.
 fn close_row(defined: usize, row: &mut NeedRow, graph: &mut Graph) -> Result<(), AllocError>
     requires few { defined < 2 ^ 32 }
-    ensures graph { OnOk result (graph.new ≡ record graph.old { rows = graph.old.rows ++ rows.row_of defined row.old ∷ [] }) }
+    ensures graph { OnOk result (graph.new ≡ record graph.old { rows = graph.old.rows ++ row_of defined row.old ∷ [] }) }
     ensures empty { OnOk result (IsRow [] [] row.new) }
 {
     for name in &row.names {
@@ -354,7 +354,7 @@ fn add_symbols(
     row: &mut NeedRow,
     graph: &mut Graph,
 ) -> Result<(), AllocError>
-    requires choices { rows.AreChoicesThere layout.now }
+    requires choices { AreChoicesThere layout.now }
     requires row { IsRow [] [] row.old }
     ensures graph { OnOk result (graph.new ≡ record graph.old { rows = graph.old.rows ++ rows.symbol_rows tree.now layout.now }) }
     ensures row { OnOk result (IsRow [] [] row.new) }

@@ -4,7 +4,8 @@ ghost use Rattle.std.specs.Prelude.{◌≡◌, ◌<◌, None, Some, IfOk, IfSome
 ghost use Rattle.kc_text.specs.Limits.{hex_limit};
 ghost use Rattle.kc_tree.specs.Layouts.{definition_facts, facts_of, range_view};
 ghost use Rattle.kc_tree.specs.Contexts.{condition_in};
-ghost use Rattle.kc_values.specs.TableFacts.{known_at, IsMetRange};
+ghost use Rattle.kc_values.specs.TableFacts.{known_at};
+ghost use Rattle.kc_values.specs.FoundRows.{IsMetRange};
 ghost use Rattle.kc_values.specs.Numbers as digits;
 ghost use Rattle.kc_values.specs.Small.{HasSmallBounds};
 ghost use Rattle.kc_values.specs.User.{given_in, text_at};

@@ -5,7 +5,8 @@ ghost use Rattle.kc_tree.specs.Layouts.{IsLayoutOf};
 ghost use Rattle.kc_tree.specs.TreeFacts.{IsWellFormed};
 ghost use Rattle.kc_values.specs.Lookups as lookup;
 ghost use Rattle.kc_values.specs.Computed.{AreContextsComputed};
-ghost use Rattle.kc_values.specs.Table.{kind_in, value_at, value_in, tri_in, text_in};
+ghost use Rattle.kc_values.specs.Table.{value_at, value_in, tri_in, text_in};
+ghost use Rattle.kc_values.specs.Lookups.{kind_in};
 
 use kc_expr::expression::{Kind, SymId, Tri};
 use kc_expr::values::Values;

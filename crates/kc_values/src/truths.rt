@@ -4,7 +4,8 @@ ghost use Rattle.std.specs.Prelude.{◌≡◌};
 ghost use Rattle.kc_expr.specs.Value.{values_by, truth_of_value};
 ghost use Rattle.kc_tree.specs.Common.{listed};
 ghost use Rattle.kc_tree.specs.Layouts.{definition_facts, facts_of, reverse_facts, reverses_from};
-ghost use Rattle.kc_values.specs.TableFacts.{known_at, IsDefinitionAt, IsDefinitionOf, IsMetDefault};
+ghost use Rattle.kc_values.specs.TableFacts.{known_at, IsDefinitionOf};
+ghost use Rattle.kc_values.specs.FoundRows.{IsDefinitionAt, IsMetDefault};
 ghost use Rattle.kc_values.specs.User.{given_in};
 ghost use Rattle.kc_values.specs.Values as spec;
 

@@ -7,7 +7,10 @@ ghost use Rattle.kc_words.specs.declared.usage.UsageError.TheVariants.{Memory};
 use kc_conf::error_lines::out_of_memory;
 use std::alloc::AllocError;
 
-/// Why words give no options. The texts are `clap`'s, but for that of a prefix that is none.
+/// Why words give no options.
+///
+/// The help, the version and what is wrong with words that the command does not take are texts of `clap`'s, of which no clause
+/// speaks: they are tested. What is told of a prefix that is none is our own, and a clause says it.
 #[derive(Debug, Drop)]
 pub enum UsageError {
     /// The words ask for help, by `--help` or `-h`: the help, for standard output.

@@ -3,8 +3,9 @@
 #![tactic(auto)]
 
 use kc_disk::{exit_status, kconf};
+use std::env;
 use std::process::ExitCode;
 
 fn main(rt: HostRuntime) -> ExitCode {
-    ExitCode::from(exit_status(kconf(&rt)))
+    ExitCode::from(exit_status(kconf(&rt, env::args(&rt))))
 }

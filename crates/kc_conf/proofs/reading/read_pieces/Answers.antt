@@ -1,15 +1,22 @@
 -- Piece by piece.
-use Rattle.std.proofs.Common.{refl, ap, ◌∙◌}
+use Rattle.std.proofs.Common.{refl, ap, sym, subst, ◌∙◌, ◌++◌, take}
+use Rattle.std.proofs.lemmas.List.Elements.{All-nil}
+use Rattle.kc_text.specs.Lines.{is_line_feed}
+use Rattle.std.proofs.Common.{◌≡◌, false}
+use Rattle.kc_dot.specs.Feeding.{StreamPosition, stream_start}
 use Rattle.kc_dot.specs.ReaderState.{ReaderState}
-use Rattle.kc_dot.specs.declared.fault.DotFault.TheVariants.{Sink, Memory}
-use Rattle.kc_conf.proofs.ReadsLemmas.{TakenSoFar-nothing, TakenSoFar-piece, TakesPieces-long, BreaksPieces-piece, BreaksPieces-so_far, begins_at_sink, begins_at_memory}
+use Rattle.kc_dot.proofs.StreamLemmas.{waiting_no_lf}
+use Rattle.kc_conf.specs.Reads.{BreaksStream, WaitsForLf}
+use Rattle.kc_conf.specs.declared.run_fault.RunFault.TheVariants.{Read}
+use Rattle.kc_conf.proofs.ReadsLemmas.{TakenSoFar-nothing, TakenSoFar-piece, TakesPieces-long, BreaksStream-memory, BreaksStream-sink, BreaksStream-unread}
 use Rattle.kc_conf.proofs.reading.read_pieces.Goals as goal
 
 pub pieces-init : goal.pieces-init
 pieces-init g c =
     let reader = c.args.reader.now in
     record {
-      taken = TakenSoFar-nothing reader.tree reader.prefix reader.name (g.I.Input.remaining c.args.input.now) reader.position c.args.user.now (g.S.Sink.taken c.args.sink.now);
+      taken = rw c.requires.begins (TakenSoFar-nothing reader.tree reader.prefix reader.name (g.I.Input.remaining c.args.input.now) stream_start c.args.user.now (g.S.Sink.taken c.args.sink.now));
+      waits = subst WaitsForLf (sym c.requires.begins) (All-nil (λ b. is_line_feed b ≡ false));
       stands = refl;
       quiet = refl;
       quiet_input = refl;
@@ -22,7 +29,13 @@ pieces-init g c =
 pub returns-in-Err-clause-err : goal.returns-in-Err-clause-err
 returns-in-Err-clause-err g c =
     let reader = c.args.reader.now in
-    BreaksPieces-so_far reader.tree reader.prefix reader.name _ _ reader.position c.pieces.reader.position c.args.user.now c.pieces.user _ _ c.pieces.invariant.taken
+    let rest = c.in-Err.ensures.none_given in
+    let few = c.pending-waiting.ensures.few in
+    let count = c.pending-waiting.ensures.count in
+    subst (λ left. BreaksStream reader.tree reader.prefix reader.name (Read c.args.at) (g.I.Input.remaining c.args.input.now) left c.args.user.now
+    (g.S.Sink.taken c.args.sink.now) (g.S.Sink.taken c.pieces.sink)) (sym rest)
+    (BreaksStream-unread reader.tree reader.prefix reader.name c.args.at _ _ c.pieces.reader.position c.args.user.now c.pieces.user _ _ c.pieces.invariant.waits (rw (sym count) few)
+    c.pieces.invariant.taken)
 
 pub pieces-preserved : goal.pieces-preserved
 pieces-preserved g c =
@@ -32,11 +45,14 @@ pieces-preserved g c =
     let tree = ap (λ (r : ReaderState). r.tree) invariant.stands in
     let prefix = ap (λ (r : ReaderState). r.prefix) invariant.stands in
     let name = ap (λ (r : ReaderState). r.name) invariant.stands in
+    let moved = ap (λ (r : ReaderState). r.position) ensures.stands in
     record {
-      taken = TakenSoFar-piece reader.tree reader.prefix reader.name _ _ _ _ reader.position c.pieces.reader.position c.feed_piece.new.reader.position
+      taken = TakenSoFar-piece reader.tree reader.prefix reader.name _ _ _ _ stream_start c.pieces.reader.position c.feed_piece.new.reader.position
           c.args.user.now c.pieces.user c.feed_piece.new.user _ _ _
           invariant.taken c.in-Ok.ensures.given (rw (tree, prefix, name) at ensures.ok);
-      stands = ensures.stands ∙ ap (λ (r : ReaderState). let s : ReaderState = record r { position = c.feed_piece.new.reader.position } in s) invariant.stands;
+      waits = subst WaitsForLf (sym moved) (waiting_no_lf (c.pieces.reader.position.pending ++ take c.in-Ok.count c.read.new.buffer));
+      stands = ensures.stands ∙ ap (λ (p : StreamPosition). let s : ReaderState = record c.pieces.reader { position = p } in s) (sym moved)
+          ∙ ap (λ (r : ReaderState). let s : ReaderState = record r { position = c.feed_piece.new.reader.position } in s) invariant.stands;
       quiet = ensures.quiet ∙ invariant.quiet;
       quiet_input = c.in-Ok.ensures.quiet ∙ invariant.quiet_input;
       there_stays = c.read.ensures.there_stays ∙ invariant.there_stays;
@@ -52,7 +68,7 @@ returns-in-Err-DotLineTooLong-clause-ok g c =
     let tree = ap (λ (r : ReaderState). r.tree) invariant.stands in
     let prefix = ap (λ (r : ReaderState). r.prefix) invariant.stands in
     let name = ap (λ (r : ReaderState). r.name) invariant.stands in
-    rw c.in-Err-DotLineTooLong.number-is (TakesPieces-long reader.tree reader.prefix reader.name _ _ _ _ _ reader.position c.pieces.reader.position
+    rw c.in-Err-DotLineTooLong.number-is (TakesPieces-long reader.tree reader.prefix reader.name _ _ _ _ _ stream_start c.pieces.reader.position
     c.feed_piece.new.reader.position c.feed_piece.new.reader.position c.args.user.now c.pieces.user c.feed_piece.new.user _ _ _
     invariant.taken c.in-Ok.ensures.given (rw (c.in-Err-DotLineTooLong.field-0-is, tree, prefix, name) at c.in-Err-DotLineTooLong.ensures.refused))
 
@@ -63,9 +79,8 @@ returns-in-Err-Sink-clause-err g c =
     let tree = ap (λ (r : ReaderState). r.tree) invariant.stands in
     let prefix = ap (λ (r : ReaderState). r.prefix) invariant.stands in
     let name = ap (λ (r : ReaderState). r.name) invariant.stands in
-    BreaksPieces-piece reader.tree reader.prefix reader.name Sink _ _ _ _ reader.position c.pieces.reader.position c.feed_piece.new.reader.position
-    c.args.user.now c.pieces.user c.feed_piece.new.user _ _ _
-    (begins_at_sink reader.tree reader.prefix reader.name c.feed_piece.new.reader.position c.feed_piece.new.user)
+    BreaksStream-sink reader.tree reader.prefix reader.name _ _ _ (g.I.Input.remaining c.args.input.now) _ c.pieces.reader.position c.feed_piece.new.reader.position
+    c.args.user.now c.pieces.user c.feed_piece.new.user _ _ _ invariant.waits
     invariant.taken c.in-Ok.ensures.given (rw (c.in-Err-Sink.field-0-is, tree, prefix, name) at c.in-Err-Sink.ensures.refused)
 
 pub returns-in-Err-Memory-clause-err : goal.returns-in-Err-Memory-clause-err
@@ -75,7 +90,6 @@ returns-in-Err-Memory-clause-err g c =
     let tree = ap (λ (r : ReaderState). r.tree) invariant.stands in
     let prefix = ap (λ (r : ReaderState). r.prefix) invariant.stands in
     let name = ap (λ (r : ReaderState). r.name) invariant.stands in
-    BreaksPieces-piece reader.tree reader.prefix reader.name Memory _ _ _ _ reader.position c.pieces.reader.position c.feed_piece.new.reader.position
-    c.args.user.now c.pieces.user c.feed_piece.new.user _ _ _
-    (begins_at_memory reader.tree reader.prefix reader.name c.feed_piece.new.reader.position c.feed_piece.new.user)
+    BreaksStream-memory reader.tree reader.prefix reader.name _ _ _ (g.I.Input.remaining c.args.input.now) _ c.pieces.reader.position c.feed_piece.new.reader.position
+    c.args.user.now c.pieces.user c.feed_piece.new.user _ _ _ invariant.waits
     invariant.taken c.in-Ok.ensures.given (rw (c.in-Err-Memory.field-0-is, tree, prefix, name) at c.in-Err-Memory.ensures.refused)

@@ -1,7 +1,8 @@
 -- The input gave these bytes so far, and the reader took them.
 use Rattle.std.proofs.Common.{◌≡◌}
 use Rattle.kc_user.specs.Places.{ArePlacesOf}
-use Rattle.kc_conf.specs.Reads.{TakenSoFar}
+use Rattle.kc_dot.specs.Feeding.{stream_start}
+use Rattle.kc_conf.specs.Reads.{TakenSoFar, WaitsForLf}
 use Rattle.kc_conf.proofs.reading.read_pieces.Given as goal
 
 abbrev pub invariant-pieces : goal.invariant-pieces
@@ -12,7 +13,8 @@ invariant-pieces g l =
     let failures = g.I.Input.failures in
     record {
       taken : TakenSoFar l.fn.reader.tree l.fn.reader.prefix l.fn.reader.name (remaining l.fn.input) (remaining l.input)
-          l.fn.reader.position l.reader.position l.fn.user l.user (taken l.fn.sink) (taken l.sink);
+          stream_start l.reader.position l.fn.user l.user (taken l.fn.sink) (taken l.sink);
+      waits : WaitsForLf l.reader.position;
       stands : l.reader ≡ record l.fn.reader { position = l.reader.position };
       quiet : faults l.sink ≡ faults l.fn.sink;
       quiet_input : failures l.input ≡ failures l.fn.input;

@@ -4,7 +4,7 @@ use Rattle.std.proofs.lemmas.List.{length-map, length-set}
 use Rattle.kc_conf.specs.Outcome.{names_of}
 use Rattle.kc_conf.proofs.ListLemmas.{drop-changed, map-unchanged}
 use Rattle.kc_conf.proofs.ReadsLemmas.{ReadSoFar-nothing}
-use Rattle.kc_conf.proofs.StreamLemmas.{names_count, flags-unchanged, there-more, ReadSoFar-next, ReadsStreams-stop, BreaksStreams-stop, ReadsStreams-all, CountsInputs-stream, MayStrike-stream}
+use Rattle.kc_conf.proofs.StreamLemmas.{gives-untouched, names_count, slice_get-changed, untouched-behind, flags-unchanged, there-more, ReadSoFar-next, ReadsStreams-stop, BreaksStreams-stop, ReadsStreams-all, CountsInputs-stream, MayStrike-stream}
 use Rattle.kc_conf.proofs.reading.read_streams.Goals as goal
 
 pub returns-in-Ok-Some-clause-ok : goal.returns-in-Ok-Some-clause-ok
@@ -31,9 +31,15 @@ returns-in-Err-clause-err g c =
     let options = c.args.options.now in
     let within : c.loop-at.at < length c.loop-at.inputs = let test = c.loop-at-test.true in let count = c.loop-at.invariant.count in omega (arith, test, count) in
     let named : c.loop-at.at < length (names_of options) = let count = names_count options in let inputs = c.requires.inputs in let test = c.loop-at-test.true in omega (arith, count, inputs, test) in
+    let flagged : c.loop-at.at < length (map g.I.Input.is_there c.args.inputs.now) =
+    let count = length-map c.args.inputs.now g.I.Input.is_there in let test = c.loop-at-test.true in omega (arith, count, test) in
     BreaksStreams-stop g.I.Input.remaining c.args.tree.now options.prefix (names_of options) (map g.I.Input.remaining c.args.inputs.now)
     c.args.user.now c.loop-at.user _ _ c.loop-at.inputs c.loop-at.at c.index-inputs-at.result c.stream_name-name.result.now
-    named within c.stream_name-name.ensures _ c.loop-at.invariant.read (rw c.new-reader.ensures at c.in-Err.ensures.err)
+    named within c.stream_name-name.ensures c.in-Err.fault (map g.I.Input.remaining (slice_set c.loop-at.inputs c.loop-at.at c.read_stream.new.input))
+    (map g.I.Input.is_there c.args.inputs.now) (g.I.Input.remaining c.read_stream.new.input) _ c.in-Err.ensures.fault
+    (gives-untouched c.loop-at.inputs c.args.inputs.now c.loop-at.at c.index-inputs-at.result within c.loop-at.invariant.count c.loop-at.invariant.untouched g.I.Input.remaining)
+    (slice_get-changed g.I.Input.remaining c.loop-at.inputs c.loop-at.at c.read_stream.new.input within) flagged c.loop-at.invariant.there
+    c.loop-at.invariant.read (rw c.new-reader.ensures at c.in-Err.ensures.err)
 
 pub returns-in-Err-clause-counted_inputs : goal.returns-in-Err-clause-counted_inputs
 returns-in-Err-clause-counted_inputs g c =
@@ -51,6 +57,7 @@ returns-in-Err-clause-may g c =
 pub loop-at-init : goal.loop-at-init
 loop-at-init g c = record {
   read = ReadSoFar-nothing c.args.tree.now c.args.options.now.prefix (names_of c.args.options.now) (map g.I.Input.remaining c.args.inputs.now) c.args.user.now (g.S.Sink.taken c.args.sink.now);
+  untouched = refl;
   count = refl;
   quiet = refl;
   quiet_inputs = refl;
@@ -73,6 +80,8 @@ loop-at-preserved g c =
           c.args.user.now c.loop-at.user _ _ c.loop-at.inputs c.loop-at.at c.index-inputs-at.result c.stream_name-name.result.now
           named within c.stream_name-name.ensures (slice_set c.loop-at.inputs c.loop-at.at c.read_stream.new.input) c.read_stream.new.user _
           (drop-changed c.loop-at.inputs c.loop-at.at c.read_stream.new.input) invariant.read (rw (c.in-Ok-None.field-0-is, c.new-reader.ensures) at ensures.ok);
+      untouched = drop-changed c.loop-at.inputs c.loop-at.at c.read_stream.new.input
+          ∙ untouched-behind c.loop-at.inputs c.args.inputs.now c.loop-at.at c.index-inputs-at.result within invariant.count invariant.untouched;
       count = length-set c.loop-at.inputs c.loop-at.at c.read_stream.new.input ∙ invariant.count;
       quiet = ensures.quiet ∙ invariant.quiet;
       quiet_inputs = map-unchanged g.I.Input.failures c.loop-at.inputs c.loop-at.at c.read_stream.new.input c.index-inputs-at.result within ensures.quiet_input ∙ invariant.quiet_inputs;

@@ -15,6 +15,7 @@ invariant-loop-at g l =
     record {
       read : ReadSoFar l.tree l.options.prefix l.at (names_of l.options) (drop l.at (names_of l.options)) (map remaining l.fn.inputs)
           (map remaining (drop l.at l.inputs)) l.fn.user l.user (taken l.fn.sink) (taken l.sink);
+      untouched : drop l.at l.inputs ≡ drop l.at l.fn.inputs;
       count : length l.inputs ≡ length l.fn.inputs;
       quiet : faults l.sink ≡ faults l.fn.sink;
       quiet_inputs : map failures l.inputs ≡ map failures l.fn.inputs;

@@ -22,7 +22,7 @@ returns-in-Ok-clause-leaves g c =
 
 pub returns-in-Err-clause-leaves : goal.returns-in-Err-clause-leaves
 returns-in-Err-clause-leaves g c =
-    let (all, to_come, broken) = c.in-Err.ensures.err in
+    let (all, to_come, broken, read) = c.in-Err.ensures.err in
     let (outcome, is, one) = c.exactly_one_outcome.ensures (files_in c.args.files) c.args.options.now all in
     record {
       all = all;
@@ -30,7 +30,12 @@ returns-in-Err-clause-leaves g c =
       outcome = outcome;
       is_outcome = is;
       finished = λ un. absurd (un refl);
-      broken = λ _. (c.in-Err.fault, c.in-Err.ensures.counted_inputs, c.in-Err.ensures.may, (g.O.Outputs.states c.run_through.new.outputs, broken outcome is, c.report.ensures));
+      broken = λ _. (
+        c.in-Err.fault,
+        c.in-Err.ensures.counted_inputs,
+        c.in-Err.ensures.may,
+        record { mid = g.O.Outputs.states c.run_through.new.outputs; broke = broken outcome is; read = read; reported = c.report.ensures },
+      );
       refused = λ r refused.
           ChangesOnly-only Notes (g.O.Outputs.states c.args.outputs.now) (g.O.Outputs.states c.run_through.new.outputs) (g.O.Outputs.states c.report.new.outputs)
           (c.in-Err.ensures.refused_outputs r refused) (Reports-only c.args.options.now c.in-Err.fault _ _ c.report.ensures);

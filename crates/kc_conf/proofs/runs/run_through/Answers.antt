@@ -6,6 +6,7 @@ use Rattle.kc_conf.specs.Faults.{Completes}
 use Rattle.kc_conf.specs.ErrorLines.{refusal_line}
 use Rattle.kc_conf.specs.Outcome.{refused, root_file}
 use Rattle.kc_conf.specs.TreeFiles.{files_in}
+use Rattle.kc_conf.proofs.ListLemmas.{IfErr-both}
 use Rattle.kc_conf.proofs.RunLemmas.{MayStrike-outputs}
 use Rattle.kc_conf.proofs.StopLemmas.{accepted_as, looped_as, refused_as, BreaksRun-refusal, Completes-refusal, HoldsTree-accepted, HoldsTree-ended, nothing_accepted}
 use Rattle.kc_conf.proofs.runs.run_through.Goals as goal
@@ -25,9 +26,10 @@ pub returns-in-Err-clause-err : goal.returns-in-Err-clause-err
 returns-in-Err-clause-err g c =
     let files = files_in c.args.files in
     let why = refused_as files (root_file c.args.options.now) (root_file c.args.options.now) refl c.in-Err.refusal c.in-Err.ensures.refused in
-    IfErr-weaker c.refuse.result _ _
+    IfErr-both c.refuse.result _ _ _
     (λ fault. BreaksRun-refusal c.one_answer.ensures c.opened_are_one_list.ensures.there files c.args.options.now c.in-Err.refusal why (map g.I.Input.remaining c.args.inputs.now)
-    fault (g.O.Outputs.states c.args.outputs.now) (g.O.Outputs.states c.refuse.new.outputs)) c.refuse.ensures.err
+    (map g.I.Input.remaining c.args.inputs.now) (map g.I.Input.is_there c.args.inputs.now)
+    fault (g.O.Outputs.states c.args.outputs.now) (g.O.Outputs.states c.refuse.new.outputs)) c.refuse.ensures.fault c.refuse.ensures.err
 
 pub returns-in-Err-clause-may : goal.returns-in-Err-clause-may
 returns-in-Err-clause-may g c =
@@ -108,9 +110,10 @@ returns-in-Err-of-clause-err g c =
     let files = files_in c.args.files in
     let r = c.in-Err-of.refusal in
     let why = looped_as files (root_file c.args.options.now) (root_file c.args.options.now) refl c.in-Ok.read.0 r c.in-Ok.ensures.built c.in-Err-of.ensures.refused in
-    IfErr-weaker c.refuse-in-Err-of.result _ _
+    IfErr-both c.refuse-in-Err-of.result _ _ _
     (λ fault. BreaksRun-refusal c.one_answer.ensures c.opened_are_one_list.ensures.there files c.args.options.now r why (map g.I.Input.remaining c.args.inputs.now)
-    fault (g.O.Outputs.states c.args.outputs.now) (g.O.Outputs.states c.refuse-in-Err-of.new.outputs)) c.refuse-in-Err-of.ensures.err
+    (map g.I.Input.remaining c.args.inputs.now) (map g.I.Input.is_there c.args.inputs.now)
+    fault (g.O.Outputs.states c.args.outputs.now) (g.O.Outputs.states c.refuse-in-Err-of.new.outputs)) c.refuse-in-Err-of.ensures.fault c.refuse-in-Err-of.ensures.err
 
 pub returns-in-Err-of-clause-may : goal.returns-in-Err-of-clause-may
 returns-in-Err-of-clause-may g c =

@@ -18,7 +18,7 @@ returns-clause-ran g c =
     let k = c.run_keeping.ensures in (
       files,
       e.1,
-      leaves_over files loaded c.args.options.now _ _ _ _ _ c.run_keeping.result _ _ e.2 e.3 k.leaves,
+      leaves_over files loaded c.args.options.now _ _ _ _ _ _ c.run_keeping.result _ _ e.2 e.3 k.leaves,
       λ r h. k.refused_inputs r (refused_over root files loaded e.2 r h),
       keeps_over files loaded c.args.options.now c.run_keeping.result _ _ e.2 k.keeps,
     )

@@ -1,8 +1,6 @@
 -- There is no memory for the buffer of the files.
-use Rattle.std.proofs.Common.{refl}
-use Rattle.kc_words.specs.declared.usage.UsageError.TheVariants.{Memory}
-use Rattle.kc_disk.specs.Answering.{none}
+use Rattle.kc_disk.proofs.AnsweringLemmas.{no-memory}
 use Rattle.kc_disk.proofs.program.kconf_of.Goals as goal
 
 pub returns-in_default : goal.returns-in_default
-returns-in_default c = none Memory tt c.print_usage.ensures.status c.print_usage.ensures.tells refl
+returns-in_default c = no-memory _ _ c.print_usage.ensures.status c.print_usage.ensures.tells

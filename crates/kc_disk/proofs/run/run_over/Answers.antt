@@ -2,7 +2,7 @@
 use Rattle.kc_disk.proofs.RanLemmas.{unloaded-of}
 use Rattle.kc_disk.proofs.run.run_over.Goals as goal
 
-pub returns-in-Err : goal.returns-in-Err
-returns-in-Err g c =
+pub returns-in-Err-clause-ends : goal.returns-in-Err-clause-ends
+returns-in-Err-clause-ends g c =
     let o = c.configure_over-ended.ensures in
-    unloaded-of _ _ _ _ c.in-Err.fault _ _ _ _ _ c.in-Err.is o.fault o.untouched o.failing_stays c.report_load_fault.ensures
+    unloaded-of _ _ _ _ c.in-Err.fault _ _ _ _ _ _ _ c.in-Err.is o.fault o.untouched o.untouched_kept o.failing_stays c.report_load_fault.ensures

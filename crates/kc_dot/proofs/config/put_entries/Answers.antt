@@ -1,9 +1,10 @@
-use Rattle.std.proofs.Common.{false, ap, get_or}
+use Rattle.std.proofs.Common.{false, ap, get_or, refl, ◌∙◌}
 use Rattle.std.proofs.lemmas.List.{get_or_default}
 use Rattle.kc_expr.specs.Names.{symbol}
 use Rattle.kc_tree.specs.Layouts.{shown_of}
 use Rattle.kc_tree.specs.declared.rows.ShownEntry.TheVariants.{Symbol}
-use Rattle.kc_dot.specs.Texts.{entries_text}
+use Rattle.kc_dot.specs.EntryTexts.{entries_after}
+use Rattle.kc_dot.proofs.EntryLemmas.{entries_text-after}
 use Rattle.kc_dot.proofs.TextLemmas.{entries_are, entries_next, entries_end, entry_at, entry_has_name}
 use Rattle.kc_dot.proofs.WritingLemmas.{way_from, way_more, way_on, writes_front, writes_broken, writes_all}
 use Rattle.kc_dot.specs.SolvedView.{solution_view}
@@ -28,7 +29,8 @@ pub loop-index-init : goal.loop-index-init
 loop-index-init g c =
     let told = solution_view c.args.solved.now in
     way_from g.S.Sink _ _ _ c.args.sink.now
-    (ap (entries_text c.args.tree.now c.args.prefix.now told false)
+    (entries_text-after c.args.tree.now c.args.prefix.now told c.args.tree.now.entries
+    ∙ ap (entries_after c.args.tree.now c.args.prefix.now told false)
     (entries_are c.args.tree.now c.layout-layout.result.now c.entries-entries.result.now c.layout-layout.ensures.laid c.entries-entries.ensures))
     (g.met.S.Sink.stays c.args.sink.now)
 
@@ -51,7 +53,13 @@ returns g c =
     writes_all g.S.Sink g.met.S.Sink.goes_on none c.loop-index.invariant (rw c.deref.ensures.value at put.whole) put.quiet put.keeps
 
 pub returns-in_err-after_end : goal.returns-in_err-after_end
-returns-in_err-after_end g c = writes_front g.S.Sink _ c.from_residual.ensures.1 c.loop-index.invariant
+returns-in_err-after_end g c =
+    let entries = c.entries-entries.result.now in
+    let entry = get_or entries c.loop-index.index (Symbol (symbol 0)) in
+    let next = entries_next c.args.tree.now c.args.prefix.now (solution_view c.args.solved.now)
+    c.layout-layout.result.now.tables entries c.loop-index.index entry c.loop-index.after_end _
+    c.loop-index-test.true (get_or_default entries c.loop-index.index (Symbol (symbol 0)) entry c.loop-index-test.true) refl in
+    writes_front g.S.Sink _ _ _ c.from_residual.ensures.1 next c.in_err-after_end.ensures.some c.loop-index.invariant
 
 pub returns-in_err-put_full : goal.returns-in_err-put_full
 returns-in_err-put_full g c =

@@ -16,7 +16,7 @@ loop-i-preserved g c =
     let put = c.in_ok-put_full.ensures in
     let lt : c.loop-i.i < length c.args.tree.now.symbols = omega arith in
     let next = symbols_next c.args.tree.now (header_if c.args.tree.now c.args.prefix.now (solution_view c.args.solved.now)) c.loop-i.i lt in
-    let way = way_more g.S.Sink _ _ _ _ _ _ _ _ next (rw c.symbol.ensures at c.in_ok-add_header_if.ensures) c.loop-i.invariant in
+    let way = way_more g.S.Sink _ _ _ _ _ _ _ _ next (rw c.symbol.ensures at c.in_ok-add_header_if.ensures.line) c.loop-i.invariant in
     way_on g.S.Sink g.met.S.Sink.goes_on way put.on put.quiet put.keeps
 
 pub returns : goal.returns
@@ -27,14 +27,17 @@ returns g c =
     writes_all g.S.Sink g.met.S.Sink.goes_on none c.loop-i.invariant (rw c.deref.ensures.value at put.whole) put.quiet put.keeps
 
 pub returns-in_err-add_header_if : goal.returns-in_err-add_header_if
-returns-in_err-add_header_if g c = writes_front g.S.Sink _ c.from_residual.ensures.1 c.loop-i.invariant
+returns-in_err-add_header_if g c =
+    let lt : c.loop-i.i < length c.args.tree.now.symbols = omega arith in
+    let next = symbols_next c.args.tree.now (header_if c.args.tree.now c.args.prefix.now (solution_view c.args.solved.now)) c.loop-i.i lt in
+    writes_front g.S.Sink _ _ _ c.from_residual.ensures.1 next (rw c.symbol.ensures at c.in_err-add_header_if.ensures.some) c.loop-i.invariant
 
 pub returns-in_err-put_full : goal.returns-in_err-put_full
 returns-in_err-put_full g c =
     let put = c.in_err-put_full.ensures in
     let lt : c.loop-i.i < length c.args.tree.now.symbols = omega arith in
     let next = symbols_next c.args.tree.now (header_if c.args.tree.now c.args.prefix.now (solution_view c.args.solved.now)) c.loop-i.i lt in
-    let way = way_more g.S.Sink _ _ _ _ _ _ _ _ next (rw c.symbol.ensures at c.in_ok-add_header_if.ensures) c.loop-i.invariant in
+    let way = way_more g.S.Sink _ _ _ _ _ _ _ _ next (rw c.symbol.ensures at c.in_ok-add_header_if.ensures.line) c.loop-i.invariant in
     writes_broken g.S.Sink g.met.S.Sink.goes_on _ c.from_residual-in_err-put_full.ensures.1 way put.broken put.counted put.keeps
 
 pub returns-in_err-put : goal.returns-in_err-put

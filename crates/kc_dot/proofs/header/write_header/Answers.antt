@@ -1,4 +1,4 @@
-use Rattle.std.proofs.Common.{◌++◌, List, ℕ, ap, subst}
+use Rattle.std.proofs.Common.{◌++◌, List, ℕ, ap, subst, arith}
 use Rattle.std.specs.Prelude.{flat_map}
 use Rattle.kc_dot.specs.Texts.{header_text, header_if, symbols_of}
 use Rattle.kc_dot.specs.Writing.{Writes}
@@ -7,10 +7,14 @@ use Rattle.kc_dot.specs.SolvedView.{solution_view}
 use Rattle.kc_dot.proofs.header.write_header.Goals as goal
 
 pub returns-in_err-page : goal.returns-in_err-page
-returns-in_err-page g c = writes_nothing g.S.Sink _ _ _ c.from_residual.ensures.1 (g.met.S.Sink.stays c.args.sink.now)
+unfolding header_text
+returns-in_err-page g c =
+    writes_nothing g.S.Sink (header_text c.args.tree.now c.args.prefix.now (solution_view c.args.solved.now)) _ _ c.from_residual.ensures.1 (omega arith) (g.met.S.Sink.stays c.args.sink.now)
 
 pub returns-in_err-add_heading : goal.returns-in_err-add_heading
-returns-in_err-add_heading g c = writes_nothing g.S.Sink _ _ _ c.from_residual-in_err-add_heading.ensures.1 (g.met.S.Sink.stays c.args.sink.now)
+unfolding header_text
+returns-in_err-add_heading g c =
+    writes_nothing g.S.Sink (header_text c.args.tree.now c.args.prefix.now (solution_view c.args.solved.now)) _ _ c.from_residual-in_err-add_heading.ensures.1 (omega arith) (g.met.S.Sink.stays c.args.sink.now)
 
 pub returns : goal.returns
 unfolding header_text

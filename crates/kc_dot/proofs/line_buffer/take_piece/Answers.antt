@@ -1,7 +1,8 @@
 use Rattle.std.proofs.Common.{◌≡◌, ◌-◌, ℕ, List, subst, ◌∙◌, ◌++◌, length, length-drop, refl, arith, take, drop}
 use Rattle.std.proofs.lemmas.List.{take_all}
 use Rattle.std.proofs.lemmas.Result.{err_from_is_err_and}
-use Rattle.kc_dot.specs.Feeding.{StreamPosition, Feeds, StopsAt, fed}
+use Rattle.kc_dot.specs.Feeding.{StreamPosition, Feeds, fed}
+use Rattle.kc_dot.specs.LineSteps.{StopsAt}
 use Rattle.kc_dot.specs.ReaderView.{position_of}
 use Rattle.kc_dot.proofs.FedLemmas.{fed-nothing, take_on}
 use Rattle.kc_dot.proofs.FeedLemmas.{Feeds-nothing, Feeds-append, Refuses-at}

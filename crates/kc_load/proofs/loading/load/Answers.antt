@@ -1,4 +1,4 @@
-use Rattle.std.proofs.Common.{◌≡◌, ℕ, true, false, refl, ap, sym, subst, ◌∙◌, arith}
+use Rattle.std.proofs.Common.{◌≡◌, ℕ, true, false, rules, refl, ap, sym, subst, arith}
 use Rattle.std.proofs.lemmas.Result.{err_from_is_err_and}
 use Rattle.std.specs.declared.vec.Vec.{Vec}
 use Rattle.std.specs.declared.alloc.Global.{Global}
@@ -13,7 +13,7 @@ use Rattle.kc_load.proofs.loading.load.Goals as goal
 pub loop-name-init : goal.loop-name-init
 loop-name-init g c = record {
   ongoing = subst (λ (s : State). Ongoing (g.F.Folder.files c.args.folder.now) c.args.dir.now c.args.kconfig.now s) (sym c.in_ok-loading.ensures)
-      (at_start _ c.args.dir.now c.args.kconfig.now c.utf8.kconfig);
+      (at_start _ c.args.dir.now c.args.kconfig.now);
   on_way = subst (λ (s : State). IsOnWay (g.F.Folder.files c.args.folder.now) c.args.dir.now c.args.kconfig.now s) (sym c.in_ok-loading.ensures) (walk_begins _ c.args.dir.now c.args.kconfig.now);
   within = let none : c.in_ok-loading.loading.lines ≡ 0 = ap (λ s. s.lines) c.in_ok-loading.ensures in omega arith;
   stays = refl;
@@ -63,9 +63,9 @@ loop-name-preserved g c =
           (popped_last (λ (v : Vec ℕ Global). v.items) c.pop.new.self.items c.in-Some.name _ c.in-Some.ensures.items) (state_of c.visit.new.self)
           c.in_ok-visit.ensures.ok;
       within = not_over _ c.if-is_over.ensures;
-      stays = c.in_ok-visit.ensures.stays ∙ i.stays;
-      failing_stays = c.in_ok-visit.ensures.failing_stays ∙ i.failing_stays;
-      quiet = c.in_ok-visit.ensures.quiet ∙ i.quiet;
+      stays = search rules;
+      failing_stays = search rules;
+      quiet = search rules;
     }
 
 pub returns-clause-loaded : goal.returns-clause-loaded

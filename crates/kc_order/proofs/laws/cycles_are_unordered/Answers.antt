@@ -4,4 +4,4 @@ use Rattle.kc_order.proofs.Rings.{cycle_of}
 use Rattle.kc_order.proofs.laws.cycles_are_unordered.Goals as goal
 
 pub returns : goal.returns
-returns c = λ needs way some below goes back. cycle_of (length needs) (needs_in needs) way some below goes back
+returns c = λ needs way some goes back. cycle_of (length needs) (needs_in needs) way some goes back

@@ -1,5 +1,5 @@
 use Rattle.kc_expr.specs.Form.{form_of}
-use Rattle.kc_expr.specs.Grammar.{lexemes_from}
+use Rattle.kc_read.specs.LineReads.{lexemes_from}
 use Rattle.std.proofs.Common.{◌∙◌, ◌+◌, sym}
 use Rattle.kc_read.proofs.FrontLemmas.{after_one}
 use Rattle.kc_read.proofs.PartLemmas.{fault_passed, condition_fault, condition_if}

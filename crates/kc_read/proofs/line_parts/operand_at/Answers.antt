@@ -1,6 +1,6 @@
 use Rattle.std.proofs.Common.{◌∙◌, ap, sym}
 use Rattle.std.specs.Prelude.{is_some}
-use Rattle.kc_expr.specs.Grammar.{lexemes_from}
+use Rattle.kc_read.specs.LineReads.{lexemes_from}
 use Rattle.kc_read.proofs.PartLemmas.{operand_constant, operand_name, operand_quoted}
 use Rattle.kc_read.proofs.line_parts.operand_at.Goals as goal
 

@@ -5,7 +5,7 @@ use Rattle.kc_read.proofs.PartLemmas.{read_passed, value_fault}
 use Rattle.std.proofs.Common.{refl}
 use Rattle.kc_expr.specs.Grammar.{names_in}
 use Rattle.kc_read.specs.Statements.{names_in_condition}
-use Rattle.kc_expr.specs.Grammar.{lexemes_from}
+use Rattle.kc_read.specs.LineReads.{lexemes_from}
 use Rattle.kc_read.specs.Statements.{DefLine}
 use Rattle.kc_read.specs.Lines.{front}
 use Rattle.kc_expr.proofs.NamesLemmas.{extends_on, mentioned_on}

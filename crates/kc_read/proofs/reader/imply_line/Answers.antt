@@ -4,7 +4,7 @@ use Rattle.kc_read.specs.Statements.{names_in_condition}
 use Rattle.kc_expr.proofs.NamesLemmas.{extends_on}
 use Rattle.kc_read.specs.Statements.{ImplyLine}
 use Rattle.std.proofs.Common.{◌∙◌, ap}
-use Rattle.kc_expr.specs.Grammar.{lexemes_from}
+use Rattle.kc_read.specs.LineReads.{lexemes_from}
 use Rattle.kc_read.proofs.FrontLemmas.{after_one}
 use Rattle.kc_read.proofs.PartLemmas.{read_passed, target_ok, target_fault}
 use Rattle.kc_read.proofs.reader.imply_line.Goals as goal

@@ -1,5 +1,5 @@
 use Rattle.std.proofs.Common.{◌∙◌, refl}
-use Rattle.kc_expr.specs.Grammar.{lexemes_from}
+use Rattle.kc_read.specs.LineReads.{lexemes_from}
 use Rattle.kc_read.specs.Statements.{MenuLine}
 use Rattle.kc_read.proofs.FrontLemmas.{after_one}
 use Rattle.kc_read.proofs.PartLemmas.{text_line_ok}

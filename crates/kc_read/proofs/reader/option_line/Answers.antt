@@ -1,7 +1,7 @@
 use Rattle.kc_read.specs.Statements.{ModulesLine, IgnoredLine}
 use Rattle.kc_read.proofs.PartLemmas.{option_modules, option_ignored}
 use Rattle.std.proofs.Common.{◌∙◌, sym, refl}
-use Rattle.kc_expr.specs.Grammar.{lexemes_from}
+use Rattle.kc_read.specs.LineReads.{lexemes_from}
 use Rattle.kc_read.proofs.FrontLemmas.{after_one}
 use Rattle.kc_read.proofs.reader.option_line.Goals as goal
 

@@ -4,7 +4,7 @@ use Rattle.kc_expr.specs.Form.{leaf_of}
 use Rattle.kc_read.specs.declared.statement.Bounds.{Bounds}
 use Rattle.kc_expr.specs.When.{when_view}
 use Rattle.kc_read.specs.Statements.{names_in_condition}
-use Rattle.kc_expr.specs.Grammar.{lexemes_from}
+use Rattle.kc_read.specs.LineReads.{lexemes_from}
 use Rattle.kc_expr.proofs.NamesLemmas.{extends_on, mentioned_on}
 use Rattle.kc_read.specs.Statements.{RangeLine}
 use Rattle.kc_read.specs.Lines.{ReadsRange}

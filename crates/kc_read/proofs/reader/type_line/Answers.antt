@@ -1,5 +1,5 @@
 use Rattle.std.proofs.Common.{refl, inl}
-use Rattle.kc_expr.specs.Grammar.{lexemes_from}
+use Rattle.kc_read.specs.LineReads.{lexemes_from}
 use Rattle.kc_read.specs.Statements.{TypeLine}
 use Rattle.std.proofs.Common.{None}
 use Rattle.kc_read.proofs.PartLemmas.{typed_read}

@@ -1,5 +1,5 @@
 use Rattle.std.proofs.Common.{◌∙◌, sym, ap}
-use Rattle.kc_expr.specs.Grammar.{lexemes_from}
+use Rattle.kc_read.specs.LineReads.{lexemes_from}
 use Rattle.kc_read.specs.Statements.{VisibleLine}
 use Rattle.kc_read.specs.Lines.{ReadsVisible}
 use Rattle.kc_read.proofs.FrontLemmas.{after_one}

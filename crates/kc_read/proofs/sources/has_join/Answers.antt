@@ -13,7 +13,8 @@ pub returns-then-ends_line-clause-heard : goal.returns-then-ends_line-clause-hea
 returns-then-ends_line-clause-heard c = λ _.
     let whole = rest_whole c.args.file.now c.backslashes.at in
     let high = c.in-Some.ensures.0.high in
-    backslash_found c.args.file.now c.backslashes.at c.in-Some.found (rw whole at high) (rw whole at c.in-Some.ensures.1)
+    backslash_found c.args.file.now c.backslashes.at c.in-Some.found c.backslashes.invariant.within (rw whole at high) (rw whole at c.in-Some.ensures.1)
+    (rw (rest_whole c.args.file.now (c.backslashes.at + (c.in-Some.found + 1))) at (c.if-ends_line.ensures.ended refl))
 
 pub backslashes-preserved : goal.backslashes-preserved
 backslashes-preserved c = record {
@@ -22,5 +23,5 @@ backslashes-preserved c = record {
       let high = rw whole at c.in-Some.ensures.0.high in
       omega (arith, high, length-drop c.backslashes.at c.args.file.now);
   none = join_passed c.args.file.now c.backslashes.at c.in-Some.found c.backslashes.invariant.none (rw (rest_whole c.args.file.now c.backslashes.at) at c.in-Some.ensures.0.before)
-      (rw (rest_whole c.args.file.now (c.backslashes.at + (c.in-Some.found + 1))) at (c.if-ends_line.ensures refl));
+      (rw (rest_whole c.args.file.now (c.backslashes.at + (c.in-Some.found + 1))) at (c.if-ends_line.ensures.not_ended refl));
 }

@@ -1,4 +1,4 @@
-use Rattle.kc_expr.specs.Grammar.{lexemes_from}
+use Rattle.kc_read.specs.LineReads.{lexemes_from}
 use Rattle.kc_read.proofs.StepLemmas.{lexemes-token_views, help_first, help_second}
 use Rattle.kc_read.proofs.step.begins_help.Goals as goal
 

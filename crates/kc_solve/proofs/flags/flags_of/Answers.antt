@@ -9,7 +9,7 @@ use Rattle.kc_values.specs.Table.{known_in}
 use Rattle.kc_values.specs.User.{given_in}
 use Rattle.kc_values.specs.Warnings.{warnings_of}
 use Rattle.kc_values.specs.WrittenSymbols.{written_facts}
-use Rattle.kc_solve.specs.PlaceLists.{valuation}
+use Rattle.kc_solve.specs.Kept.{valuation}
 use Rattle.kc_solve.proofs.FlagSteps.{one_more_differs, one_more_written, solved_here}
 use Rattle.kc_solve.proofs.TableSteps.{choice_at_most, choice_below, row_count, row_facts}
 use Rattle.kc_solve.proofs.UserSteps.{place_mapped}

@@ -4,7 +4,7 @@ use Rattle.kc_user.specs.Places.{place_at}
 use Rattle.kc_values.specs.Differs.{differs}
 use Rattle.kc_values.specs.Warnings.{warnings_at}
 use Rattle.kc_solve.specs.Flags.{is_written}
-use Rattle.kc_solve.specs.PlaceLists.{valuation}
+use Rattle.kc_solve.specs.Kept.{valuation}
 use Rattle.kc_solve.proofs.flags.flags_of.Given as goal
 
 abbrev pub invariant-loop-i : goal.invariant-loop-i

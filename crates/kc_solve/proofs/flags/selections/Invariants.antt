@@ -1,7 +1,7 @@
 use Rattle.std.proofs.Common.{◌≡◌, map}
 use Rattle.std.specs.List.{range_with_len}
 use Rattle.kc_values.specs.Differs.{selection, default_selection}
-use Rattle.kc_solve.specs.PlaceLists.{valuation}
+use Rattle.kc_solve.specs.Kept.{valuation}
 use Rattle.kc_user.specs.Places.{place_at}
 use Rattle.kc_solve.proofs.flags.selections.Given as goal
 

@@ -2,9 +2,9 @@ use Rattle.std.proofs.Common.{refl, sym, ◌∙◌, ap, subst}
 use Rattle.kc_order.specs.Solution.{Solves, IsOnlySolution}
 use Rattle.kc_tree.specs.TreeFacts.{TreeFacts}
 use Rattle.kc_user.specs.Places.{ArePlacesOf, place_at}
-use Rattle.kc_values.specs.Laws.{IsAccepted}
+use Rattle.kc_values.specs.Needs.{IsAccepted}
 use Rattle.kc_values.specs.Solution.{symbol_count, equations}
-use Rattle.kc_solve.specs.PlaceLists.{valuation}
+use Rattle.kc_solve.specs.Kept.{valuation}
 use Rattle.kc_solve.proofs.SolvedSteps.{only_here}
 use Rattle.kc_solve.proofs.solve.solve.Goals as goal
 

@@ -6,7 +6,7 @@ use Rattle.kc_tree.specs.TreeFacts.{TreeFacts}
 use Rattle.kc_user.specs.Places.{place_at}
 use Rattle.kc_values.specs.Solution.{symbol_count}
 use Rattle.kc_solve.specs.Computing.{AreComputedValues}
-use Rattle.kc_solve.specs.PlaceLists.{valuation}
+use Rattle.kc_solve.specs.Kept.{valuation}
 use Rattle.kc_solve.proofs.OrderSteps.{tree_accepted}
 use Rattle.kc_solve.proofs.UserSteps.{count_shown, solves_as_shown}
 use Rattle.kc_solve_rows.proofs.SlowSteps.{computed, ended, iteration_ended}

@@ -2,8 +2,7 @@ use Rattle.std.proofs.Common.{◌≡◌, Some, rules, sym}
 use Rattle.std.proofs.Math.Logic.{∥∥₁_elim}
 use Rattle.std.specs.Coded.{Coded-set}
 use Rattle.kc_expr.specs.contracts.expression.Kind as kind
-use Rattle.kc_values.specs.Lookups.{facts}
-use Rattle.kc_values.specs.Table.{kind_in}
+use Rattle.kc_values.specs.Lookups.{facts, kind_in}
 use Rattle.kc_values.proofs.Laid.{kind_laid}
 use Rattle.kc_values.proofs.differs.own_differs.Goals as goal
 

@@ -1,5 +1,6 @@
 use Rattle.std.proofs.Common.{◌≡◌, ◌++◌, [], map, take}
-use Rattle.kc_values.specs.NeedRows.{IsRow, choice_row_of}
+use Rattle.kc_values.specs.NeedRows.{choice_row_of}
+use Rattle.kc_values.specs.MadeRows.{IsRow}
 use Rattle.kc_values.proofs.needs.add_choices.Given as goal
 
 abbrev pub invariant-loop-choice : goal.invariant-loop-choice

@@ -1,5 +1,6 @@
 use Rattle.std.proofs.Common.{◌≡◌, ap, ◌∙◌, arith, length}
-use Rattle.kc_values.specs.NeedRows.{IsContextRow, of_inner, of_top, row_of}
+use Rattle.kc_values.specs.NeedRows.{IsContextRow, of_inner, of_top}
+use Rattle.kc_values.specs.MadeRows.{row_of}
 use Rattle.kc_values.proofs.RowsMade.{closed, untouched, one_context}
 use Rattle.kc_values.proofs.needs.add_contexts.Goals as goal
 use Rattle.kc_values.proofs.needs.add_contexts.Goals.{in-Some+in_ok-context_row_into, in_default}

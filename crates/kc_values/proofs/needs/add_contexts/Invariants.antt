@@ -1,5 +1,6 @@
 use Rattle.std.proofs.Common.{◌≡◌, ℕ, ◌<◌, ◌++◌, List, [], length, get_or}
-use Rattle.kc_values.specs.NeedRows.{IsRow, IsContextRow}
+use Rattle.kc_values.specs.NeedRows.{IsContextRow}
+use Rattle.kc_values.specs.MadeRows.{IsRow}
 use Rattle.kc_values.proofs.needs.add_contexts.Given as goal
 
 abbrev pub invariant-loop-i : goal.invariant-loop-i

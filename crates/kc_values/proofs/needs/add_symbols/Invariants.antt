@@ -1,7 +1,8 @@
 use Rattle.std.proofs.Common.{◌≡◌, ◌++◌, [], map}
 use Rattle.std.specs.Prelude.{slice_get}
 use Rattle.std.specs.List.{range_with_len}
-use Rattle.kc_values.specs.NeedRows.{IsRow, symbol_row}
+use Rattle.kc_values.specs.NeedRows.{symbol_row}
+use Rattle.kc_values.specs.MadeRows.{IsRow}
 use Rattle.kc_values.proofs.needs.add_symbols.Given as goal
 
 abbrev pub invariant-loop-i : goal.invariant-loop-i

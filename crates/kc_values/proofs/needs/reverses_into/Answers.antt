@@ -1,7 +1,7 @@
 use Rattle.std.proofs.Common.{◌++◌, [], ◌∷◌, ap, ◌∙◌, sym, append-nil}
 use Rattle.kc_expr.specs.When.{when_view}
 use Rattle.kc_values.specs.NeedRows as rows
-use Rattle.kc_values.specs.NeedRows.{Adds}
+use Rattle.kc_values.specs.MadeRows.{Adds}
 use Rattle.kc_values.specs.declared.needs.NeedRow.{NeedRow}
 use Rattle.kc_values.proofs.ReverseRows.{nodes_next, names_next, nodes_past, names_past}
 use Rattle.kc_values.proofs.RowSteps.{adds_both, adds_of_left, adds_nothing}

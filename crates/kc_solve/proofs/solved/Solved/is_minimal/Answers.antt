@@ -1,11 +1,10 @@
 use Rattle.std.proofs.Common.{subst}
-use Rattle.kc_solve.specs.Solved.{IsMinimal}
+use Rattle.kc_solve.specs.SolvedLaws.{IsMinimal}
 use Rattle.kc_solve.proofs.SolvedSteps.{is_minimal}
 use Rattle.kc_solve.proofs.solved.Solved.is_minimal.Goals as goal
 
 pub returns : goal.returns
 returns c =
-    let members = (c.choices_stand_alone.ensures.members c.self.inside.table.tree.now c.symbol_count-count.ensures.formed).0 in
     subst IsMinimal c.self.view_is
     (is_minimal c.self.inside.table.tree.now c.self.inside.user.now c.self.inside.table.values.items _ _ _ _ _ c.self.invariant c.minimal_restores.ensures.restores
-    c.minimal_restores.ensures.nothing_to_spare members)
+    c.minimal_restores.ensures.nothing_to_spare c.symbol_count-count.ensures.formed)

@@ -1,5 +1,5 @@
 use Rattle.std.proofs.Common.{subst}
-use Rattle.kc_solve.specs.Solved.{TellsKnown}
+use Rattle.kc_solve.specs.Answers.{TellsKnown}
 use Rattle.kc_solve.proofs.SolvedSteps.{tells_known}
 use Rattle.kc_solve.proofs.solved.Solved.tells_known.Goals as goal
 

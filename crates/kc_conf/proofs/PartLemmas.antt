@@ -1,0 +1,229 @@
+-- What was read and told of a stream up to a place of it.
+use Rattle.std.proofs.Common.{◌≡◌, inl, inr, ℕ, zero, suc, ◌<◌, ◌≤◌, Bool, true, false, List, [], ◌∷◌, ◌++◌, length, codes, refl, sym, ap, subst, ◌∙◌, append_assoc, append-nil, length-append, arith, Option, Some, None}
+use Rattle.std.specs.Prelude.{◌==◌, filter, decimal, if◌then◌else◌}
+use Rattle.std.specs.List.{All, slice_split}
+use Rattle.std.proofs.lemmas.Bool.{cases_Bool, lt-leb}
+use Rattle.std.proofs.lemmas.Grind.{flat_map-append}
+use Rattle.std.proofs.lemmas.List.Elements.{All-nil, All-cons, All-append}
+use Rattle.kc_text.specs.Limits.{one_more}
+use Rattle.kc_text.specs.Lines.{is_line_feed}
+use Rattle.kc_tree.specs.TreeFacts.{TreeFacts}
+use Rattle.kc_user.specs.Places.{Places}
+use Rattle.kc_dot.specs.Effects.{LineWarning, warning_line, warning_text}
+use Rattle.kc_dot.specs.Feeding.{StreamPosition, stream_start, ReadsPiece}
+use Rattle.kc_dot.specs.Laws.{HasShortLines}
+use Rattle.kc_dot.specs.Reading.{Line, ReadResult, before_too_long, effect, effect_warning, is_within, last_line, line, lines_from, lines_in_stream, places_after, reading, warning, warning_line_if, warnings, with_warnings}
+use Rattle.kc_dot.proofs.LineLemmas.{HasNoLf, is_within-line, lines_from-last, lines_from-lf}
+use Rattle.kc_dot.proofs.ReadingLemmas.{reading-nothing, reading_long, reading_within, warnings-cons, warnings-nothing}
+use Rattle.kc_conf.specs.Outcome.{AreLines, lines_text}
+use Rattle.kc_conf.specs.ReadFaults.{ended_lines}
+
+-- ---- whole lines
+
+pub AreLines-nothing : AreLines []
+AreLines-nothing = ([], refl)
+
+pub AreLines-append : (a b : List ℕ) → AreLines a → AreLines b → AreLines (a ++ b)
+AreLines-append a b (ls, is) (ms, is') =
+    (ls ++ ms, ap (λ t. t ++ b) is ∙ ap (λ t. lines_text ls ++ t) is' ∙ sym (flat_map-append (λ line. line ++ codes "\n") ls ms))
+
+AreLines-warning_if : (stream : List ℕ) (number : ℕ) (told : Option LineWarning) → AreLines (warning_line_if stream number told)
+AreLines-warning_if stream number None = AreLines-nothing
+AreLines-warning_if stream number (Some told) =
+    ((stream ++ codes ":" ++ decimal number ++ codes ": warning " ++ warning_text told) ∷ [], sym (append-nil (warning_line stream number told)))
+
+module _ (tree : TreeFacts) (prefix : List ℕ) where
+  AreLines-warning : (places : Places) (l : Line) → AreLines (warning tree prefix places l)
+  unfolding warning
+  AreLines-warning places l = AreLines-warning_if l.stream l.number (effect_warning tree places (effect tree prefix l))
+
+  -- what lines warn of is whole lines
+  pub AreLines-warnings : (lines : List Line) (places : Places) → AreLines (warnings tree prefix places lines)
+  AreLines-warnings [] places = subst AreLines (sym (warnings-nothing tree prefix places)) AreLines-nothing
+  AreLines-warnings (l ∷ lines) places =
+      let after = places_after tree prefix places (l ∷ []) in
+      subst AreLines (sym (warnings-cons tree prefix places l lines))
+      (AreLines-append (warning tree prefix places l) (warnings tree prefix after lines) (AreLines-warning places l) (AreLines-warnings lines after))
+
+  -- and so is what a reading warns of
+  pub AreLines-reading : (lines : List Line) (places : Places) → AreLines (reading tree prefix places lines).warned
+  unfolding reading
+  AreLines-reading lines places = AreLines-warnings (before_too_long lines) places
+
+  -- a line that is too long, behind the others, warns of nothing
+  warned-long_end : (lines : List Line) (places : Places) (l : Line) → is_within l ≡ false → (reading tree prefix places (lines ++ l ∷ [])).warned ≡ (reading tree prefix places lines).warned
+  warned-long_end [] places l long =
+      ap (λ (r : ReadResult). r.warned) (reading_long tree prefix places l [] long) ∙ sym (ap (λ (r : ReadResult). r.warned) (reading-nothing tree prefix places))
+  warned-long_end (m ∷ lines) places l long = elim (cases_Bool (is_within m)) [
+    | inl e ↦
+        let after = places_after tree prefix places (m ∷ []) in
+        ap (λ (r : ReadResult). r.warned) (reading_within tree prefix places m (lines ++ l ∷ []) e)
+        ∙ ap (λ w. warning tree prefix places m ++ w) (warned-long_end lines after l long)
+        ∙ sym (ap (λ (r : ReadResult). r.warned) (reading_within tree prefix places m lines e))
+    | inr e ↦
+        ap (λ (r : ReadResult). r.warned) (reading_long tree prefix places m (lines ++ l ∷ []) e)
+        ∙ sym (ap (λ (r : ReadResult). r.warned) (reading_long tree prefix places m lines e))
+  ]
+
+-- ---- the lines that have ended
+
+-- so many bytes that hold no line feed
+tail_of : (n : ℕ) → (tail : List ℕ) × HasNoLf tail × (length tail ≡ n)
+tail_of zero = ([], All-nil (λ b. is_line_feed b ≡ false), refl)
+tail_of (suc n) =
+    let (tail, one, long) = tail_of n in
+    (120 ∷ tail, All-cons (λ b. is_line_feed b ≡ false) 120 tail refl one, ap suc long)
+
+last_ended : (name : List ℕ) (n : ℕ) (bytes : List ℕ) → filter (λ (l : Line). l.ended) (last_line name n bytes) ≡ []
+last_ended name n bytes = by (length bytes == 0)
+  where
+    by : (b : Bool) → filter (λ (l : Line). l.ended) (if b then [] else line name n bytes false ∷ []) ≡ []
+    by true = refl
+    by false = refl
+
+last_some : (name : List ℕ) (n : ℕ) (bytes : List ℕ) → 0 < length bytes → last_line name n bytes ≡ line name n bytes false ∷ []
+last_some name n [] some = absurd (omega arith)
+last_some name n (b ∷ bytes) some =
+    let e : (length (b ∷ bytes) == 0) ≡ false = grind arith in
+    ap (λ t. if t then [] else line name n (b ∷ bytes) false ∷ []) e
+
+module _ (name tail : List ℕ) (one : HasNoLf tail) (some : 0 < length tail) where
+  -- behind bytes the lines that have ended are followed by one line, which ends with the tail
+  ended_before : (bytes front : List ℕ) (n : ℕ) → HasNoLf front →
+      (l : Line) × (lines_from name n ((front ++ bytes) ++ tail) ≡ filter (λ (m : Line). m.ended) (lines_from name n (front ++ bytes)) ++ l ∷ []) × (length tail ≤ length l.bytes)
+  ended_before [] front n waits =
+      let whole : lines_from name n ((front ++ []) ++ tail) ≡ line name n (front ++ tail) false ∷ [] =
+      ap (λ t. lines_from name n (t ++ tail)) (append-nil front) ∙ lines_from-last name n (front ++ tail) (All-append (λ b. is_line_feed b ≡ false) front tail waits one)
+      ∙ last_some name n (front ++ tail) (omega (arith, length-append front tail)) in
+      let none : filter (λ (m : Line). m.ended) (lines_from name n (front ++ [])) ≡ [] =
+      ap (λ t. filter (λ (m : Line). m.ended) (lines_from name n t)) (append-nil front)
+      ∙ ap (filter (λ (m : Line). m.ended)) (lines_from-last name n front waits) ∙ last_ended name n front in (
+        line name n (front ++ tail) false,
+        whole ∙ ap (λ ls. ls ++ line name n (front ++ tail) false ∷ []) (sym none),
+        omega (arith, length-append front tail),
+      )
+  ended_before (b ∷ bytes) front n waits = elim (cases_Bool (is_line_feed b)) [
+    | inl e ↦
+        let (l, is, most) = ended_before bytes [] (one_more n) (All-nil (λ x. is_line_feed x ≡ false)) in
+        let whole : lines_from name n ((front ++ b ∷ bytes) ++ tail) ≡ line name n front true ∷ lines_from name (one_more n) (bytes ++ tail) =
+        ap (lines_from name n) (append_assoc front (b ∷ bytes) tail) ∙ lines_from-lf name n front b (bytes ++ tail) waits e in
+        let part : filter (λ (m : Line). m.ended) (lines_from name n (front ++ b ∷ bytes)) ≡ line name n front true ∷ filter (λ (m : Line). m.ended) (lines_from name (one_more n) bytes) =
+        ap (filter (λ (m : Line). m.ended)) (lines_from-lf name n front b bytes waits e) in
+        (l, whole ∙ ap (λ ls. line name n front true ∷ ls) is ∙ ap (λ ls. ls ++ l ∷ []) (sym part), most)
+    | inr e ↦
+        let more : HasNoLf (front ++ b ∷ []) =
+        All-append (λ x. is_line_feed x ≡ false) front (b ∷ []) waits (All-cons (λ x. is_line_feed x ≡ false) b [] e (All-nil (λ x. is_line_feed x ≡ false))) in
+        let (l, is, most) = ended_before bytes (front ++ b ∷ []) n more in
+        let same : (front ++ b ∷ []) ++ bytes ≡ front ++ b ∷ bytes = append_assoc front (b ∷ []) bytes in (
+          l,
+          ap (λ t. lines_from name n (t ++ tail)) (sym same) ∙ is ∙ ap (λ t. filter (λ (m : Line). m.ended) (lines_from name n t) ++ l ∷ []) same,
+          most,
+        )
+  ]
+
+module _ (tree : TreeFacts) (prefix name : List ℕ) where
+  -- what was told of these bytes is what their lines warn of that have ended
+  pub warned-ended : (bytes : List ℕ) (new : StreamPosition) (before after : Places) (warned : List ℕ) → HasNoLf new.pending →
+      ReadsPiece tree prefix name bytes stream_start new before after warned → warned ≡ (reading tree prefix before (ended_lines name bytes)).warned
+  warned-ended bytes new before after warned one goes =
+      let (tail, none, long) = tail_of 65536 in
+      let (l, split, most) = ended_before name tail none (omega (arith, long)) bytes [] 1 (All-nil (λ b. is_line_feed b ≡ false)) in
+      let last = line name new.number (new.pending ++ tail) false in
+      let l_long : is_within l ≡ false = lt-leb (length l.bytes) 65535 (omega (arith, long, most)) in
+      let last_long : is_within last ≡ false = lt-leb (length (new.pending ++ tail)) 65535 (omega (arith, long, length-append new.pending tail)) in
+      let left : (reading tree prefix before (lines_from name 1 (bytes ++ tail) ++ [])).warned ≡ (reading tree prefix before (ended_lines name bytes)).warned =
+      ap (λ ls. (reading tree prefix before ls).warned) (append-nil (lines_from name 1 (bytes ++ tail)) ∙ split)
+      ∙ warned-long_end tree prefix (ended_lines name bytes) before l l_long in
+      let lines : lines_from name new.number (new.pending ++ tail) ++ [] ≡ last ∷ [] =
+      append-nil (lines_from name new.number (new.pending ++ tail))
+      ∙ lines_from-last name new.number (new.pending ++ tail) (All-append (λ b. is_line_feed b ≡ false) new.pending tail one none)
+      ∙ last_some name new.number (new.pending ++ tail) (omega (arith, long, length-append new.pending tail)) in
+      let right : warned ++ (reading tree prefix after (lines_from name new.number (new.pending ++ tail) ++ [])).warned ≡ warned =
+      ap (λ ls. warned ++ (reading tree prefix after ls).warned) lines
+      ∙ ap (λ (r : ReadResult). warned ++ r.warned) (reading_long tree prefix after last [] last_long) ∙ append-nil warned in
+      sym right ∙ sym (ap (λ (r : ReadResult). r.warned) (goes tail [])) ∙ left
+
+  pub AreLines-piece : (bytes : List ℕ) (new : StreamPosition) (before after : Places) (warned : List ℕ) → HasNoLf new.pending →
+      ReadsPiece tree prefix name bytes stream_start new before after warned → AreLines warned
+  AreLines-piece bytes new before after warned one goes =
+      subst AreLines (sym (warned-ended bytes new before after warned one goes)) (AreLines-reading tree prefix (ended_lines name bytes) before)
+
+-- ---- short lines
+
+abbrev AreShort : List Line → Type 0
+AreShort [] = Unit {0}
+AreShort (l ∷ lines) = (is_within l ≡ true) × AreShort lines
+
+AreShort-all : (lines : List Line) → AreShort lines → All (λ l. is_within l ≡ true) lines
+AreShort-all [] short = All-nil (λ l. is_within l ≡ true)
+AreShort-all (l ∷ lines) short = All-cons (λ m. is_within m ≡ true) l lines short.0 (AreShort-all lines short.1)
+
+-- the name of a stream makes no line of it longer
+short_last : (a b : List ℕ) (n : ℕ) (part : List ℕ) → AreShort (last_line a n part) → AreShort (last_line b n part)
+short_last a b n part = by (length part == 0)
+  where
+    by : (e : Bool) → AreShort (if e then [] else line a n part false ∷ []) → AreShort (if e then [] else line b n part false ∷ [])
+    by true short = tt
+    by false short = short
+
+short_parts : (a b : List ℕ) (n : ℕ) (parts : List (List ℕ)) → AreShort (lines_in_stream a n parts) → AreShort (lines_in_stream b n parts)
+short_parts a b n [] short = tt
+short_parts a b n (part ∷ []) short = short_last a b n part short
+short_parts a b n (part ∷ next ∷ parts) short = (short.0, short_parts a b (one_more n) (next ∷ parts) short.1)
+
+short_lines : (a b : List ℕ) (n : ℕ) (bytes : List ℕ) → AreShort (lines_from a n bytes) → AreShort (lines_from b n bytes)
+unfolding lines_from
+short_lines a b n bytes = short_parts a b n (slice_split is_line_feed bytes)
+
+module _ (tree : TreeFacts) (prefix : List ℕ) where
+  -- a reading that does not stop met no line that is too long
+  short-unstopped : (lines : List Line) (places : Places) → (reading tree prefix places lines).stopped ≡ None → AreShort lines
+  short-unstopped [] places none = tt
+  short-unstopped (l ∷ lines) places none = elim (cases_Bool (is_within l)) [
+    | inl e ↦
+        (e, short-unstopped lines (places_after tree prefix places (l ∷ [])) (sym (ap (λ (r : ReadResult). r.stopped) (reading_within tree prefix places l lines e)) ∙ none))
+    | inr e ↦ absurd (let stops = sym (ap (λ (r : ReadResult). r.stopped) (reading_long tree prefix places l lines e)) ∙ none in cc)
+  ]
+
+  -- a line that waits, and is not too long, stops nothing
+  unstopped-last : (name : List ℕ) (n : ℕ) (pending : List ℕ) (places : Places) → HasNoLf pending → length pending ≤ 65535 →
+      (reading tree prefix places (lines_from name n (pending ++ []) ++ [])).stopped ≡ None
+  unstopped-last name n pending places one few =
+      ap (λ ls. (reading tree prefix places ls).stopped)
+      (append-nil (lines_from name n (pending ++ [])) ∙ ap (lines_from name n) (append-nil pending) ∙ lines_from-last name n pending one)
+      ∙ by (length pending == 0)
+    where
+      by : (e : Bool) → (reading tree prefix places (if e then [] else line name n pending false ∷ [])).stopped ≡ None
+      by true = ap (λ (r : ReadResult). r.stopped) (reading-nothing tree prefix places)
+      by false =
+          let l = line name n pending false in
+          ap (λ (r : ReadResult). r.stopped) (reading_within tree prefix places l [] (is_within-line name n pending false few))
+          ∙ ap (λ (r : ReadResult). r.stopped) (reading-nothing tree prefix (places_after tree prefix places (l ∷ [])))
+
+  -- no line is too long of bytes that were taken and wait
+  pub short-piece : (name bytes : List ℕ) (new : StreamPosition) (before after : Places) (warned : List ℕ) → HasNoLf new.pending → length new.pending ≤ 65535 →
+      ReadsPiece tree prefix name bytes stream_start new before after warned → HasShortLines bytes
+  short-piece name bytes new before after warned one few goes other =
+      let lines : lines_from name 1 (bytes ++ []) ++ [] ≡ lines_from name 1 bytes =
+      append-nil (lines_from name 1 (bytes ++ [])) ∙ ap (lines_from name 1) (append-nil bytes) in
+      let none : (reading tree prefix before (lines_from name 1 bytes)).stopped ≡ None =
+      ap (λ ls. (reading tree prefix before ls).stopped) (sym lines) ∙ ap (λ (r : ReadResult). r.stopped) (goes [] [])
+      ∙ unstopped-last name new.number new.pending after one few in
+      AreShort-all (lines_from other 1 bytes) (short_lines name other 1 bytes (short-unstopped (lines_from name 1 bytes) before none))
+
+  -- nor of a stream that was read to its end
+  pub short-stream : (name bytes : List ℕ) (before after : Places) (warned : List ℕ) →
+      ((more : List Line) → reading tree prefix before (lines_from name 1 bytes ++ more) ≡ with_warnings warned (reading tree prefix after more)) → HasShortLines bytes
+  short-stream name bytes before after warned reads other =
+      let none : (reading tree prefix before (lines_from name 1 bytes)).stopped ≡ None =
+      ap (λ ls. (reading tree prefix before ls).stopped) (sym (append-nil (lines_from name 1 bytes))) ∙ ap (λ (r : ReadResult). r.stopped) (reads [])
+      ∙ ap (λ (r : ReadResult). r.stopped) (reading-nothing tree prefix after) in
+      AreShort-all (lines_from other 1 bytes) (short_lines name other 1 bytes (short-unstopped (lines_from name 1 bytes) before none))
+
+  -- the warnings of lines that were read to their end are whole lines
+  pub AreLines-reads : (lines : List Line) (before after : Places) (warned : List ℕ) →
+      ((more : List Line) → reading tree prefix before (lines ++ more) ≡ with_warnings warned (reading tree prefix after more)) → AreLines warned
+  AreLines-reads lines before after warned reads =
+      let is : (reading tree prefix before (lines ++ [])).warned ≡ warned =
+      ap (λ (r : ReadResult). r.warned) (reads []) ∙ ap (λ (r : ReadResult). warned ++ r.warned) (reading-nothing tree prefix after) ∙ append-nil warned in
+      subst AreLines is (AreLines-reading tree prefix (lines ++ []) before)

@@ -1,0 +1,18 @@
+-- For proofs: What the next line of a file names.
+use Rattle.std.specs.Prelude.{[]}
+use Rattle.kc_text.specs.Lines.{UnreadLines}
+use Rattle.kc_read.specs.declared.sources.NextSource.{NextSource}
+use Rattle.kc_read.specs.declared.sources.NextSource.TheVariants as found
+use Rattle.kc_read.specs.Sources.{IsOther, IsSource, SourceNames}
+
+-- what the next line says: no more names, none, or this one
+abbrev pub IsFound : UnreadLines → UnreadLines → NextSource → Type 0
+IsFound l m found.Nothing = SourceNames l []
+IsFound l m found.Other = IsOther l m
+IsFound l m (found.Name t) = IsSource l m t.items
+
+-- another line follows
+abbrev pub HasMoreLines : NextSource → Type 0
+HasMoreLines found.Nothing = ⊥
+HasMoreLines found.Other = Unit {0}
+HasMoreLines (found.Name t) = Unit {0}

@@ -1,0 +1,63 @@
+-- Trusted: What a solution answers of symbols, conditions, entries and choices.
+use Rattle.std.specs.Prelude.{◌≡◌, ℕ, Bool, List, Option, Some, None}
+use Rattle.kc_expr.specs.Value.{values_by, truth_of_value, text_of_value}
+use Rattle.kc_expr.specs.declared.expression.SymId.{SymId}
+use Rattle.kc_expr.specs.declared.expression.Tri.{Tri}
+use Rattle.kc_expr.specs.declared.expression.Tri.TheVariants.{N, Y}
+use Rattle.kc_expr.specs.declared.expression.Kind.{Kind}
+use Rattle.kc_tree.specs.TreeFacts.{Condition, SymbolFacts, Shown, SymbolShown, MenuShown, EndShown, CommentShown}
+use Rattle.kc_user.specs.Places.{place_at}
+use Rattle.kc_values.specs.Differs as values
+use Rattle.kc_values.specs.Lookups.{facts, kind_in}
+use Rattle.kc_values.specs.Values as value
+use Rattle.kc_values.specs.WrittenSymbols as writing
+use Rattle.kc_solve.specs.Solved.{Solution, known, value_of}
+
+-- the type of a symbol, its truth value and its text, as values that expressions read
+abbrev pub kind_of : Solution → SymId → Kind
+kind_of s id = kind_in (facts s.tree id)
+
+abbrev pub tri_of : Solution → SymId → Tri
+tri_of s id = truth_of_value (known s id)
+
+abbrev pub text_of : Solution → SymId → List ℕ
+text_of s id = text_of_value (known s id)
+
+-- these three tell what is known
+abbrev pub TellsKnown : Solution → Type 0
+TellsKnown s = (id : SymId) → values_by (kind_of s) (tri_of s) (text_of s) id ≡ known s id
+
+abbrev pub visibility_by : Solution → Option SymbolFacts → Tri
+visibility_by s None = N
+visibility_by s (Some f) = value.visibility s.tree (known s) f
+
+-- the greatest condition of a symbol's prompts (kconfiglib's `visibility`); a name that is not defined has none
+abbrev pub visibility : Solution → SymId → Tri
+visibility s id = visibility_by s (facts s.tree id)
+
+-- what a condition is worth
+abbrev pub truth : Solution → Condition → Tri
+truth s when = value.condition s.tree (known s) when
+
+-- when an entry is shown: a menu or comment under its condition
+abbrev pub shown : Solution → Option Shown → Tri
+shown s None = Y
+shown s (Some (SymbolShown id)) = Y
+shown s (Some (MenuShown text when)) = truth s when
+shown s (Some (EndShown menu)) = Y
+shown s (Some (CommentShown text when)) = truth s when
+
+-- whether a symbol has a line in the .config
+abbrev pub written : Solution → SymId → Bool
+written s id = writing.written s.tree (known s) id
+
+-- the selection of a choice, and the one without the user's member
+abbrev pub selection : Solution → ℕ → Option SymId
+selection s c = values.selection s.tree (place_at s.places) (value_of s) c
+
+abbrev pub default_selection : Solution → ℕ → Option SymId
+default_selection s c = values.default_selection s.tree (value_of s) c
+
+-- whether a symbol has a line in the minimal file
+abbrev pub differs : Solution → SymId → Bool
+differs s id = values.differs s.tree (place_at s.places) (value_of s) id.0

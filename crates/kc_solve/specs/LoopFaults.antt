@@ -1,0 +1,10 @@
+-- For proofs: Why no order was made.
+use Rattle.kc_tree.specs.TreeFacts.{TreeFacts}
+use Rattle.kc_solve.specs.Refused.{IsLoopText}
+use Rattle.kc_solve.specs.declared.order.LoopFault.{LoopFault}
+use Rattle.kc_solve.specs.declared.order.LoopFault.TheVariants.{Loop, Memory}
+
+-- nothing is said of memory
+abbrev pub NamesTheLoop : TreeFacts → LoopFault → Type 0
+NamesTheLoop tree (Loop text) = IsLoopText tree text.items
+NamesTheLoop tree Memory = Unit {0}

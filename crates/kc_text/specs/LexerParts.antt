@@ -1,0 +1,33 @@
+-- For proofs: What the parts of the lexer find: plain bytes, signs, and why a quoted text is none.
+use Rattle.std.specs.Prelude.{◌≡◌, ◌≢◌, ℕ, ◌<◌, ◌≤◌, List, length, take, slice_index, All, Bool, not, ◌||◌, ◌==◌, IsTrue}
+use Rattle.kc_text.specs.Bytes.{byte}
+use Rattle.kc_text.specs.declared.faults.TextFault.{TextFault}
+use Rattle.kc_text.specs.declared.faults.TextFault.TheVariants as faults
+use Rattle.kc_text.specs.declared.tokens.Op.{Op}
+use Rattle.kc_text.specs.Lexemes.{EndsQuoted, op_text}
+use Rattle.kc_text.specs.Tokens.{HoldsDollar}
+
+-- any byte but `"`, `'`, `$` and `\`
+abbrev pub is_plain : ℕ → Bool
+is_plain b = not (b == byte "\"" || b == byte "'" || b == byte "$" || b == byte "\\")
+
+-- each byte from i up to j is plain
+abbrev pub ArePlain : List ℕ → ℕ → ℕ → Type 0
+ArePlain text i j = (k : ℕ) → i ≤ k → k < j → IsTrue (is_plain (slice_index text k))
+
+-- the first n bytes spell the sign, and no longer front spells one
+pub record IsLongestOp (rest : List ℕ) (n : ℕ) (o : Op) : Type 0 where
+  pub fits : n ≤ length rest
+  pub spelled : take n rest ≡ op_text o
+  pub longest : (m : ℕ) (p : Op) → m ≤ length rest → take m rest ≡ op_text p → m ≤ n
+
+-- no front spells a sign
+abbrev pub HasNoOp : List ℕ → Type 0
+HasNoOp rest = (m : ℕ) (p : Op) → m ≤ length rest → take m rest ≡ op_text p → ⊥
+
+-- The quoted text after the quote q is none: it holds a `$`, or it has no end and no `$`.
+abbrev pub IsQuoteFault : ℕ → List ℕ → TextFault → Type 0
+IsQuoteFault q body faults.Macro = HoldsDollar q body
+IsQuoteFault q body faults.BadToken = ((inside : List ℕ) → EndsQuoted q body inside → ⊥) × All (λ b. b ≢ byte "$") body
+IsQuoteFault q body (faults.LineTooLong n) = ⊥
+IsQuoteFault q body faults.Memory = ⊥

@@ -1,0 +1,29 @@
+-- For proofs: What was found among the rows that a table is asked of.
+use Rattle.std.specs.Prelude.{◌≡◌, Option, Some, None}
+use Rattle.std.specs.Borrow.{Bor}
+use Rattle.kc_expr.specs.Form.{Form, form_of, leaf_of}
+use Rattle.kc_expr.specs.declared.expression.Tri.{Tri}
+use Rattle.kc_tree.specs.declared.rows.Definition.{Definition}
+use Rattle.kc_tree.specs.declared.rows.DefinitionId.{DefinitionId}
+use Rattle.kc_tree.specs.declared.rows.SymbolDefault.{SymbolDefault}
+use Rattle.kc_tree.specs.declared.rows.SymbolRange.{SymbolRange}
+use Rattle.kc_tree.specs.TreeFacts.{Guarded, Bounds}
+use Rattle.kc_values.specs.declared.table.Table.{Table}
+use Rattle.kc_values.specs.TableFacts.{definition_row, known_at}
+use Rattle.kc_values.specs.Values.{condition}
+
+-- the row of a definition that there is
+abbrev pub IsDefinitionAt : Table → Definition → Type 0
+IsDefinitionAt t d = (id : DefinitionId) × (definition_row t id ≡ Some d)
+
+-- what was found is this default, with its condition's value
+abbrev pub IsMetDefault : Table → Option (Guarded Form) → Option (Bor SymbolDefault × Tri) → Type 0
+IsMetDefault t None o = o ≡ None
+IsMetDefault t (Some g) None = ⊥
+IsMetDefault t (Some g) (Some found) = (form_of found.0.now.value.value ≡ g.what) × (found.1 ≡ condition t.tree.now (known_at t) g.when)
+
+-- what was found is this range
+abbrev pub IsMetRange : Table → Option (Guarded Bounds) → Option (Bor SymbolRange) → Type 0
+IsMetRange t None o = o ≡ None
+IsMetRange t (Some g) None = ⊥
+IsMetRange t (Some g) (Some r) = (leaf_of r.now.low ≡ g.what.low) × (leaf_of r.now.high ≡ g.what.high)

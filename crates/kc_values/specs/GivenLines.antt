@@ -1,0 +1,36 @@
+-- Trusted: The lines that values give to the user: those of the minimal file, and those of all that is written.
+use Rattle.std.specs.Prelude.{◌≡◌, ℕ, ◌<◌, ◌&&◌, Bool, true, find, Option, Some, None, if◌then◌else◌}
+use Rattle.std.specs.Option.{option_map}
+use Rattle.kc_expr.specs.Names.{symbol}
+use Rattle.kc_expr.specs.Value.{SymbolValue}
+use Rattle.kc_tree.specs.TreeFacts.{TreeFacts}
+use Rattle.kc_user.specs.GivenValue.{GivenValue, Member, UserPlace, SymbolPlace, ChoicePlace, is_yes}
+use Rattle.kc_user.specs.Places.{allowed, members_of}
+use Rattle.kc_values.specs.Differs.{differs, given_of, selection}
+use Rattle.kc_values.specs.Lookups.{choice_at}
+use Rattle.kc_values.specs.Solution.{symbol_count, known_from, user_place}
+use Rattle.kc_values.specs.WrittenSymbols.{written}
+
+-- Under the user's places and values V.
+module _ (tree : TreeFacts) (user : UserPlace → Option GivenValue) (V : ℕ → SymbolValue) where
+  -- a test that tells exactly the places of the symbols that differ
+  pub record TellsDiffering (keep : UserPlace → Bool) : Type 0 where
+    pub differing : (p : UserPlace) → keep p ≡ true → (i : ℕ) × (i < symbol_count tree) × (user_place tree i ≡ p) × (differs tree user V i ≡ true)
+    pub every : (i : ℕ) → i < symbol_count tree → differs tree user V i ≡ true → keep (user_place tree i) ≡ true
+
+  -- the minimal file's lines: the values, and the selected members
+  abbrev pub minimal_line : UserPlace → Option GivenValue
+  minimal_line (SymbolPlace i) = Some (given_of (V i))
+  minimal_line (ChoicePlace c) = option_map Member (selection tree user V c)
+
+-- Under values V alone.
+module _ (tree : TreeFacts) (V : ℕ → SymbolValue) where
+  -- the value of a symbol, where it is written and `allowed` accepts it
+  abbrev pub reread_value : ℕ → Option GivenValue
+  reread_value i =
+      if written tree (known_from tree V) (symbol i) && allowed tree (symbol i) (given_of (V i)) then Some (given_of (V i)) else None
+
+  -- the places that the written lines give, where `allowed` accepts their values
+  abbrev pub reread_places : UserPlace → Option GivenValue
+  reread_places (SymbolPlace i) = reread_value i
+  reread_places (ChoicePlace c) = option_map Member (find (λ m. written tree (known_from tree V) m && is_yes (given_of (V m.0))) (members_of (choice_at tree c)))
