@@ -11,7 +11,7 @@ use Rattle.kc_user.specs.Places.{Places}
 use Rattle.kc_dot.specs.Feeding.{StreamPosition, stream_start, to_come, ReadsPiece, Feeds, StopsBecause, Refuses, FinishesStream, FailsToEnd}
 use Rattle.kc_dot.specs.Laws.{HasShortLines}
 use Rattle.kc_dot.specs.Reading.{Line, ReadResult, Stream, StreamLocation, is_within, lines_from, lines_of, places_after, reading, with_warnings}
-use Rattle.kc_dot.specs.Sink.{BeginsWith, GoesBeyond, extended}
+use Rattle.kc_dot.specs.Sink.{BeginsWith, GoesBeyond, extended, preceded}
 use Rattle.kc_dot.specs.declared.fault.DotFault.{DotFault}
 use Rattle.kc_dot.specs.declared.fault.DotFault.TheVariants.{DotLineTooLong, Sink, Memory}
 use Rattle.kc_dot.proofs.FeedLemmas.{begins_at_break, begins_at_end}
@@ -19,7 +19,7 @@ use Rattle.kc_dot.proofs.LineLemmas.{HasNoLf}
 use Rattle.kc_dot.proofs.ReadingLemmas.{reading-nothing, reading_within, with_warnings-with_warnings}
 use Rattle.kc_dot.proofs.SinkLemmas.{extended-extended, extended-nothing}
 use Rattle.kc_dot.proofs.StreamLemmas.{waiting_no_lf}
-use Rattle.kc_conf.specs.InputBytes.{preceded, AreToCome, AreAllToCome}
+use Rattle.kc_conf.specs.InputBytes.{AreToCome, AreAllToCome}
 use Rattle.kc_conf.specs.Outcome.{AreLines, streams}
 use Rattle.kc_conf.specs.Presence.{StreamsAreThere}
 use Rattle.kc_conf.specs.ReadFaults.{ended_lines}

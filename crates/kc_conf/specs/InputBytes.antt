@@ -1,10 +1,5 @@
 -- Trusted: The bytes that inputs give.
-use Rattle.std.specs.Prelude.{◌≡◌, ℕ, List, [], ◌∷◌, ◌++◌, Option, Some, None, ⊤}
-use Rattle.std.specs.Option.{option_map}
-
--- what is still to come, with these bytes before it
-abbrev pub preceded : List ℕ → Option (List ℕ) → Option (List ℕ)
-preceded bytes told = option_map (λ rest. bytes ++ rest) told
+use Rattle.std.specs.Prelude.{◌≡◌, ℕ, List, [], ◌∷◌, Option, Some, None, ⊤}
 
 -- nothing is still to come, where that is told
 abbrev pub IsAtEnd : Option (List ℕ) → Type 0

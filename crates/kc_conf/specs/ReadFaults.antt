@@ -5,8 +5,7 @@ use Rattle.kc_tree.specs.TreeFacts.{TreeFacts}
 use Rattle.kc_user.specs.Places.{Places, no_places}
 use Rattle.kc_dot.specs.Laws.{HasShortLines}
 use Rattle.kc_dot.specs.Reading.{Line, lines_from, lines_of, reading}
-use Rattle.kc_dot.specs.Sink.{BeginsWith}
-use Rattle.kc_conf.specs.InputBytes.{preceded}
+use Rattle.kc_dot.specs.Sink.{BeginsWith, preceded}
 use Rattle.kc_conf.specs.Outcome.{IsAcceptedTree, lines_text, names_of, root_file, streams}
 use Rattle.kc_conf.specs.OutputStates.{OutputStates, with_text}
 use Rattle.kc_conf.specs.declared.options.Options.{Options}

@@ -8,8 +8,8 @@ use Rattle.std.specs.List.{All}
 use Rattle.kc_dot.specs.Feeding.{StreamPosition, ReadsPiece, to_come}
 use Rattle.kc_dot.specs.Laws.{HasShortLines}
 use Rattle.kc_dot.specs.Reading.{Line, ReadResult, StreamLocation, lines_from, lines_of, reading, with_warnings}
-use Rattle.kc_dot.specs.Sink.{BeginsWith, GoesBeyond, extended, next_failure}
-use Rattle.kc_conf.specs.InputBytes.{preceded, AreToCome, AreAllToCome}
+use Rattle.kc_dot.specs.Sink.{BeginsWith, GoesBeyond, extended, next_failure, preceded}
+use Rattle.kc_conf.specs.InputBytes.{AreToCome, AreAllToCome}
 use Rattle.kc_conf.specs.ErrorLines.{strict_line}
 use Rattle.kc_conf.specs.Faults.{after_fault}
 use Rattle.kc_conf.specs.Outcome.{AreLines, Outcome, is_done, has_text, lines_text, lost_warnings, names_of, outcome_of, refused, streams}

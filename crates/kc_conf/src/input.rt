@@ -1,7 +1,7 @@
 //! Where the `.config` comes from.
 ghost use Rattle.std.specs.Prelude.{◌≡◌, ◌<◌, ◌≤◌, List, ℕ, Bool, true, Option, length, take, IfOk, OnOk, OnErr};
-ghost use Rattle.kc_dot.specs.Sink.{next_failure};
-ghost use Rattle.kc_conf.specs.InputBytes.{preceded, IsAtEnd};
+ghost use Rattle.kc_dot.specs.Sink.{next_failure, preceded};
+ghost use Rattle.kc_conf.specs.InputBytes.{IsAtEnd};
 
 use kc_dot::Fault;
 

@@ -3,8 +3,8 @@ use Rattle.std.proofs.Common.{◌≡◌, refl, ℕ, ◌&&◌, Bool, true, false,
 use Rattle.std.proofs.Math.Seq.{take-append_seam}
 use Rattle.std.proofs.lemmas.List.{take-append-drop}
 use Rattle.std.proofs.lemmas.Slice.Eq.{bytes_eq-Decides}
+use Rattle.kc_dot.specs.Sink.{preceded}
 use Rattle.kc_load.specs.Folders.{FolderFiles}
-use Rattle.kc_conf.specs.InputBytes.{preceded}
 use Rattle.kc_disk.specs.Openers.{to_come}
 
 same-behind : (c x y : List ℕ) → bytes_eq (c ++ x) (c ++ y) ≡ bytes_eq x y

@@ -1,8 +1,8 @@
 -- How far a stream was read.
 use Rattle.std.proofs.Common.{◌≡◌, refl, ℕ, ◌+◌, ◌≤◌, Bool, true, false, ◌||◌, List, ◌++◌, length, ap, ◌∙◌, Option, None, Some, arith, length-append}
 use Rattle.std.proofs.lemmas.Bool.{le-leb}
+use Rattle.kc_dot.specs.Sink.{preceded}
 use Rattle.kc_load.specs.Folders.{FolderFiles}
-use Rattle.kc_conf.specs.InputBytes.{preceded}
 use Rattle.kc_disk.specs.Devices.{most_reads}
 use Rattle.kc_disk.specs.Openers.{contents, may_be_endless}
 use Rattle.kc_disk.specs.Stages.{ReadsWithin, left}

@@ -1,7 +1,7 @@
 //! The inputs of a run: files that are read a piece at a time.
 ghost use Rattle.std.specs.Prelude.{◌≡◌, ◌≢◌, ◌<◌, ◌-◌, ◌≤◌, length, map, take, true, IfOk, OnOk, OnErr};
-ghost use Rattle.kc_dot.specs.Sink.{next_failure};
-ghost use Rattle.kc_conf.specs.InputBytes.{preceded, IsAtEnd};
+ghost use Rattle.kc_dot.specs.Sink.{next_failure, preceded};
+ghost use Rattle.kc_conf.specs.InputBytes.{IsAtEnd};
 ghost use Rattle.kc_conf.specs.Outcome.{names_of};
 ghost use Rattle.kc_disk.specs.Devices.{most_reads};
 ghost use Rattle.kc_disk.specs.Openers.{contents, is_there, may_fail, read_device, stream};

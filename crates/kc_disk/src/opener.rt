@@ -1,7 +1,8 @@
 //! What opens files by name and reads them.
 ghost use Rattle.std.specs.Prelude.{◌≡◌, ◌≢◌, ◌<◌, ◌≤◌, List, ℕ, Bool, true, Some, None, length, take, IfOk, IfErr, OnErr};
 ghost use Rattle.kc_load.specs.Folders.{AnswersAs, FolderFiles};
-ghost use Rattle.kc_conf.specs.InputBytes.{preceded, IsAtEnd};
+ghost use Rattle.kc_dot.specs.Sink.{preceded};
+ghost use Rattle.kc_conf.specs.InputBytes.{IsAtEnd};
 ghost use Rattle.kc_disk.specs.Openers.{to_come};
 
 use kc_dot::Fault;

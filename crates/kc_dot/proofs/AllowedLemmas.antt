@@ -23,12 +23,13 @@ use Rattle.kc_user.specs.Places.{allowed, allowed_by, allowed_for, fits_quoted}
 use Rattle.std.specs.Prelude.{slice_get}
 use Rattle.kc_dot.specs.DotLine.{LineMeaning, Nothing, Unset, Set, Malformed, meaning_of, meaning_of_text, not_unset, unset_name, unset_or, is_comment, set_or_malformed, name_and_value, split_at_equals, is_equals, trimmed}
 use Rattle.kc_dot.specs.Effects.{Assigns, effect_of, set_effect, unset_effect, set_by_kind, unset_by_kind, assigned_or, kind_in, symbol_named}
-use Rattle.kc_dot.specs.LineValue.{until_quote, with_front, string_value, number_value, value_by, line_value, yes_m_or_no}
+use Rattle.kc_dot.specs.LineValue.{until_quote, string_value, number_value, value_by, line_value, yes_m_or_no}
+use Rattle.kc_dot.specs.Sink.{preceded}
 use Rattle.kc_dot.proofs.LineLemmas.{HasNoLf}
 
-with_front_some : (front : List ℕ) (o : Option (List ℕ)) (raw : List ℕ) → with_front front o ≡ Some raw → (rest : List ℕ) × (o ≡ Some rest) × (front ++ rest ≡ raw)
-with_front_some front None raw e = cc
-with_front_some front (Some rest) raw e = (rest, refl, cc)
+preceded_some : (front : List ℕ) (o : Option (List ℕ)) (raw : List ℕ) → preceded front o ≡ Some raw → (rest : List ℕ) × (o ≡ Some rest) × (front ++ rest ≡ raw)
+preceded_some front None raw e = cc
+preceded_some front (Some rest) raw e = (rest, refl, cc)
 
 unescape_plain : (b : ℕ) (bs : List ℕ) → eqb b 92 ≡ false → unescape (b ∷ bs) ≡ b ∷ unescape bs
 unescape_plain b [] ne = refl
@@ -77,12 +78,12 @@ inner (b ∷ c ∷ bs) raw e = elim (cases_Bool (eqb b 34)) [
       let h : [] ≡ raw = cc in subst (Inner (b ∷ c ∷ bs)) h (inner_empty b (c ∷ bs))
   | inr other ↦ elim (cases_Bool (eqb b 92)) [
     | inl slash ↦
-        let (rest, found, is) = with_front_some (b ∷ c ∷ []) (until_quote bs) raw (rw (other, slash) at e) in
+        let (rest, found, is) = preceded_some (b ∷ c ∷ []) (until_quote bs) raw (rw (other, slash) at e) in
         let taken : Inner (92 ∷ c ∷ bs) (92 ∷ c ∷ rest) = inner_taken c bs rest (inner bs rest found) in
         let b_is : 92 ≡ b = sym (eqb-true b 92 slash) in
         subst (Inner (b ∷ c ∷ bs)) is (subst (λ x. Inner (x ∷ c ∷ bs) (x ∷ c ∷ rest)) b_is taken)
     | inr plain ↦
-        let (rest, found, is) = with_front_some (b ∷ []) (until_quote (c ∷ bs)) raw (rw (other, plain) at e) in
+        let (rest, found, is) = preceded_some (b ∷ []) (until_quote (c ∷ bs)) raw (rw (other, plain) at e) in
         subst (Inner (b ∷ c ∷ bs)) is (inner_plain b (c ∷ bs) rest other plain (inner (c ∷ bs) rest found))
   ]
 ]

@@ -10,7 +10,7 @@ use Rattle.kc_expr.specs.Names.{symbol}
 use Rattle.kc_tree.specs.TreeFacts.{TreeFacts}
 use Rattle.kc_user.specs.GivenValue.{GivenValue, Member, SymbolPlace, ChoicePlace, is_yes}
 use Rattle.kc_user.specs.Places.{Places, place_at, no_places, member_place}
-use Rattle.kc_dot.specs.Reading.{Assignment, each_from, given_to, chosen_in, is_choice, choice_of, places_given}
+use Rattle.kc_dot.specs.Reading.{Assignment, each_from, given_to, chosen_in, is_this_choice, choice_of, places_given}
 
 -- Elements of a list.
 pub contains_here : {X : Type 0} (x : X) (xs : List X) → Contains (x ∷ xs) x
@@ -99,11 +99,11 @@ module _ (tree : TreeFacts) (given : List Assignment) where
 same_number : (s : SymId) (i : ℕ) → s.0 ≡ i → s ≡ symbol i
 same_number s i e = ap symbol e
 
-is_choice-true : (c : ℕ) (o : Option ℕ) → is_choice c o ≡ true → o ≡ Some c
-is_choice-true c None e = cc
-is_choice-true c (Some d) e = ap Some (eqb-true d c e)
+is_this_choice-true : (c : ℕ) (o : Option ℕ) → is_this_choice c o ≡ true → o ≡ Some c
+is_this_choice-true c None e = cc
+is_this_choice-true c (Some d) e = ap Some (eqb-true d c e)
 
-choice-is : (c : ℕ) (o : Option ℕ) → o ≡ Some c → is_choice c o ≡ true
+choice-is : (c : ℕ) (o : Option ℕ) → o ≡ Some c → is_this_choice c o ≡ true
 choice-is c o e = rw e (eq-eqb c c refl)
 
 -- Assignments of their values to the symbols that pass a test.
@@ -147,18 +147,18 @@ module _ (tree : TreeFacts) (value : SymId → GivenValue) (has : SymId → Bool
   abbrev pub IsCandidate : ℕ → SymId → Type 0
   IsCandidate c x = (x.0 < length tree.symbols) × (has x ≡ true) × (choice_of tree x ≡ Some c) × (is_yes (value x) ≡ true)
 
-  candidate_of : (c : ℕ) (a : Assignment) → Contains given a → (is_yes a.given && is_choice c (choice_of tree a.symbol)) ≡ true → IsCandidate c a.symbol
+  candidate_of : (c : ℕ) (a : Assignment) → Contains given a → (is_yes a.given && is_this_choice c (choice_of tree a.symbol)) ≡ true → IsCandidate c a.symbol
   candidate_of c a at e =
       let h = holds.sound a at in
-      let (is_y, choice) = and_parts (is_yes a.given) (is_choice c (choice_of tree a.symbol)) e in
-      (h.2, h.0, is_choice-true c (choice_of tree a.symbol) choice, ap is_yes (sym h.1) ∙ is_y)
+      let (is_y, choice) = and_parts (is_yes a.given) (is_this_choice c (choice_of tree a.symbol)) e in
+      (h.2, h.0, is_this_choice-true c (choice_of tree a.symbol) choice, ap is_yes (sym h.1) ∙ is_y)
 
   pub filled_member : (c : ℕ) (m : SymId) → c < length tree.choices → IsCandidate c m → ((x : SymId) → IsCandidate c x → x ≡ m) → place_at Filled (ChoicePlace c) ≡ Some (Member m)
   filled_member c m lt is only =
       choice_place tree given c lt
       ∙ ap member_place (
       last_same (chosen_in tree c) m given None
-      (λ a at. elim (cases_Bool (is_yes a.given && is_choice c (choice_of tree a.symbol))) [
+      (λ a at. elim (cases_Bool (is_yes a.given && is_this_choice c (choice_of tree a.symbol))) [
         | inl e ↦ inr (rw e (ap Some (only a.symbol (candidate_of c a at e))))
         | inr e ↦ inl (rw e refl)
       ])
@@ -166,7 +166,7 @@ module _ (tree : TreeFacts) (value : SymId → GivenValue) (has : SymId → Bool
       let (a, at, same) = holds.complete m is.0 is.1 in
       let h = holds.sound a at in
       let is_y : is_yes a.given ≡ true = ap is_yes h.1 ∙ ap (λ x. is_yes (value x)) same ∙ is.3 in
-      let choice : is_choice c (choice_of tree a.symbol) ≡ true = choice-is c (choice_of tree a.symbol) (ap (choice_of tree) same ∙ is.2) in
+      let choice : is_this_choice c (choice_of tree a.symbol) ≡ true = choice-is c (choice_of tree a.symbol) (ap (choice_of tree) same ∙ is.2) in
       (a, at, rw (is_y, choice) (ap Some same))
       ))
       )
@@ -176,7 +176,7 @@ module _ (tree : TreeFacts) (value : SymId → GivenValue) (has : SymId → Bool
       choice_place tree given c lt
       ∙ ap member_place (
       last_none (chosen_in tree c) given None
-      (λ a at. elim (cases_Bool (is_yes a.given && is_choice c (choice_of tree a.symbol))) [
+      (λ a at. elim (cases_Bool (is_yes a.given && is_this_choice c (choice_of tree a.symbol))) [
         | inl e ↦ absurd (none a.symbol (candidate_of c a at e))
         | inr e ↦ rw e refl
       ])

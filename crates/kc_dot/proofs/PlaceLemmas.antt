@@ -9,7 +9,7 @@ use Rattle.kc_tree.specs.TreeFacts.{TreeFacts}
 use Rattle.kc_user.specs.GivenValue.{GivenValue, is_yes}
 use Rattle.kc_user.specs.Places.{Places, ArePlacesOf}
 use Rattle.kc_dot.specs.LineSteps.{with_member}
-use Rattle.kc_dot.specs.Reading.{Assignment, each_from, given_to, chosen_in, places_given, choice_of, is_choice}
+use Rattle.kc_dot.specs.Reading.{Assignment, each_from, given_to, chosen_in, places_given, choice_of, is_this_choice}
 
 pub each_from-each_from : {A B C : Type 0} (f : ℕ → B → C) (g : ℕ → A → B) (n : ℕ) (xs : List A) → each_from f n (each_from g n xs) ≡ each_from (λ i x. f i (g i x)) n xs
 each_from-each_from f g n [] = refl
@@ -64,7 +64,7 @@ one_place s n (suc k) x (o ∷ xs) is =
     rw other (ap (λ ys. o ∷ ys) (one_place s (n + 1) k x xs later))
 
 member_place : (yes : Bool) (choice : Option ℕ) (s : SymId) (choices : List (Option SymId)) →
-    each_from (λ c old. last_or old (cons_option (cond (yes && is_choice c choice) (Some s) None) [])) 0 choices ≡ with_member yes choice s choices
+    each_from (λ c old. last_or old (cons_option (cond (yes && is_this_choice c choice) (Some s) None) [])) 0 choices ≡ with_member yes choice s choices
 member_place false choice s choices = each_same 0 choices
 member_place true None s choices = each_same 0 choices
 member_place true (Some c) s choices = one_place c 0 c s choices (omega arith)

@@ -3,24 +3,25 @@ use Rattle.std.proofs.Common.{◌≡◌, ◌≢◌, ℕ, ◌+◌, ◌<◌, List,
 use Rattle.std.proofs.Math.Seq.{take-add}
 use Rattle.std.proofs.lemmas.Bool.{ne_eqb}
 use Rattle.std.proofs.lemmas.List.{drop_more, drop-drop}
-use Rattle.kc_dot.specs.LineValue.{until_quote, with_front}
+use Rattle.kc_dot.specs.LineValue.{until_quote}
+use Rattle.kc_dot.specs.Sink.{preceded}
 
-with_front-with_front : (a b : List ℕ) (found : Option (List ℕ)) → with_front a (with_front b found) ≡ with_front (a ++ b) found
-with_front-with_front a b None = refl
-with_front-with_front a b (Some text) = ap Some (sym (append_assoc a b text))
+preceded-preceded : (a b : List ℕ) (found : Option (List ℕ)) → preceded a (preceded b found) ≡ preceded (a ++ b) found
+preceded-preceded a b None = refl
+preceded-preceded a b (Some text) = ap Some (sym (append_assoc a b text))
 
-pub with_front-nothing : (found : Option (List ℕ)) → with_front [] found ≡ found
-with_front-nothing None = refl
-with_front-nothing (Some text) = refl
+pub preceded-nothing : (found : Option (List ℕ)) → preceded [] found ≡ found
+preceded-nothing None = refl
+preceded-nothing (Some text) = refl
 
 -- one byte that ends nothing and takes none away
-pub inside_plain : (rest : List ℕ) → get_or rest 0 0 ≢ 34 → get_or rest 0 0 ≢ 92 → until_quote rest ≡ with_front (take 1 rest) (until_quote (drop 1 rest))
+pub inside_plain : (rest : List ℕ) → get_or rest 0 0 ≢ 34 → get_or rest 0 0 ≢ 92 → until_quote rest ≡ preceded (take 1 rest) (until_quote (drop 1 rest))
 inside_plain [] quote slash = refl
 inside_plain (b ∷ []) quote slash = rw (ne_eqb b 34 quote) refl
 inside_plain (b ∷ c ∷ bs) quote slash = rw (ne_eqb b 34 quote, ne_eqb b 92 slash) refl
 
 -- a `\` and the byte that it takes away
-pub inside_taken : (rest : List ℕ) → get_or rest 0 0 ≡ 92 → until_quote rest ≡ with_front (take 2 rest) (until_quote (drop 2 rest))
+pub inside_taken : (rest : List ℕ) → get_or rest 0 0 ≡ 92 → until_quote rest ≡ preceded (take 2 rest) (until_quote (drop 2 rest))
 inside_taken [] slash = refl
 inside_taken (b ∷ []) slash = rw slash refl
 inside_taken (b ∷ c ∷ bs) slash = rw slash refl
@@ -31,29 +32,29 @@ inside_closed b [] quote = rw quote refl
 inside_closed b (c ∷ bs) quote = rw quote refl
 
 -- some bytes further on
-pub inside_further : (body : List ℕ) (at n : ℕ) → until_quote (drop at body) ≡ with_front (take n (drop at body)) (until_quote (drop n (drop at body))) →
-    with_front (take at body) (until_quote (drop at body)) ≡ until_quote body → with_front (take (at + n) body) (until_quote (drop (at + n) body)) ≡ until_quote body
+pub inside_further : (body : List ℕ) (at n : ℕ) → until_quote (drop at body) ≡ preceded (take n (drop at body)) (until_quote (drop n (drop at body))) →
+    preceded (take at body) (until_quote (drop at body)) ≡ until_quote body → preceded (take (at + n) body) (until_quote (drop (at + n) body)) ≡ until_quote body
 inside_further body at n step before =
     let d : drop (at + n) body ≡ drop n (drop at body) = sym (drop-drop n at body) in
-    rw (take-add at n body, d) (sym (with_front-with_front (take at body) (take n (drop at body)) (until_quote (drop n (drop at body)))) ∙ ap (with_front (take at body)) (sym step) ∙ before)
+    rw (take-add at n body, d) (sym (preceded-preceded (take at body) (take n (drop at body)) (until_quote (drop n (drop at body)))) ∙ ap (preceded (take at body)) (sym step) ∙ before)
 
 pub inside_found : (body : List ℕ) (at : ℕ) → at < length body → get_or body at 0 ≡ 34 →
-    with_front (take at body) (until_quote (drop at body)) ≡ until_quote body → Some (take at body) ≡ until_quote body
+    preceded (take at body) (until_quote (drop at body)) ≡ until_quote body → Some (take at body) ≡ until_quote body
 inside_found body at within quote before =
     let e : until_quote (drop at body) ≡ Some [] = rw (drop_more body at 0 within) (inside_closed (get_or body at 0) (drop (at + 1) body) quote) in
-    let w : with_front (take at body) (Some []) ≡ Some (take at body) = ap Some (append-nil (take at body)) in
-    sym w ∙ ap (with_front (take at body)) (sym e) ∙ before
+    let w : preceded (take at body) (Some []) ≡ Some (take at body) = ap Some (append-nil (take at body)) in
+    sym w ∙ ap (preceded (take at body)) (sym e) ∙ before
 
 at_drop : (body : List ℕ) (at : ℕ) → at < length body → get_or (drop at body) 0 0 ≡ get_or body at 0
 at_drop body at within = rw (drop_more body at 0 within) refl
 
 pub inside_over : (body : List ℕ) (at n : ℕ) → n ≡ 1 → at < length body → get_or body at 0 ≢ 34 → get_or body at 0 ≢ 92 →
-    with_front (take at body) (until_quote (drop at body)) ≡ until_quote body → with_front (take (at + n) body) (until_quote (drop (at + n) body)) ≡ until_quote body
+    preceded (take at body) (until_quote (drop at body)) ≡ until_quote body → preceded (take (at + n) body) (until_quote (drop (at + n) body)) ≡ until_quote body
 inside_over body at n is within quote slash before =
     let e = at_drop body at within in
     rw is (inside_further body at 1 (inside_plain (drop at body) (λ q. quote (sym e ∙ q)) (λ s. slash (sym e ∙ s))) before)
 
 pub inside_over_taken : (body : List ℕ) (at n : ℕ) → n ≡ 2 → at < length body → get_or body at 0 ≡ 92 →
-    with_front (take at body) (until_quote (drop at body)) ≡ until_quote body → with_front (take (at + n) body) (until_quote (drop (at + n) body)) ≡ until_quote body
+    preceded (take at body) (until_quote (drop at body)) ≡ until_quote body → preceded (take (at + n) body) (until_quote (drop (at + n) body)) ≡ until_quote body
 inside_over_taken body at n is within slash before =
     rw is (inside_further body at 2 (inside_taken (drop at body) (at_drop body at within ∙ slash)) before)

@@ -1,5 +1,5 @@
 -- Trusted: The value that the text right of a line's `=` gives to a symbol of a type.
-use Rattle.std.specs.Prelude.{ℕ, List, [], ◌∷◌, ◌++◌, length, drop, slice_index, Bool, ◌==◌, nat_le, Option, Some, None, is_some, if◌then◌else◌}
+use Rattle.std.specs.Prelude.{ℕ, List, [], ◌∷◌, length, drop, slice_index, Bool, ◌==◌, nat_le, Option, Some, None, is_some, if◌then◌else◌}
 use Rattle.std.specs.Option.{option_map}
 use Rattle.kc_text.specs.Bytes.{byte}
 use Rattle.kc_text.specs.Escapes.{unescape}
@@ -10,6 +10,7 @@ use Rattle.kc_expr.specs.declared.expression.Kind.{Kind}
 use Rattle.kc_expr.specs.declared.expression.Kind.TheVariants as kind
 use Rattle.kc_user.specs.Limits.{longest_value}
 use Rattle.kc_user.specs.GivenValue.{GivenValue, GivenTruth, GivenText}
+use Rattle.kc_dot.specs.Sink.{preceded}
 
 -- y and n, by the first byte alone
 abbrev pub yes_or_no : ℕ → Option Tri
@@ -19,15 +20,12 @@ yes_or_no b = if b == byte "y" then Some Y else (if b == byte "n" then Some N el
 abbrev pub yes_m_or_no : ℕ → Option Tri
 yes_m_or_no b = if b == byte "m" then Some M else yes_or_no b
 
-abbrev pub with_front : List ℕ → Option (List ℕ) → Option (List ℕ)
-with_front front found = option_map (λ text. front ++ text) found
-
 -- what stands before the first `"` that no `\` takes away: a `\` takes away the byte after it
 abbrev pub until_quote : List ℕ → Option (List ℕ)
 until_quote [] = None
 until_quote (b ∷ []) = if b == byte "\"" then Some [] else None
 until_quote (b ∷ c ∷ bs) =
-    if b == byte "\"" then Some [] else (if b == byte "\\" then with_front (b ∷ c ∷ []) (until_quote bs) else with_front (b ∷ []) (until_quote (c ∷ bs)))
+    if b == byte "\"" then Some [] else (if b == byte "\\" then preceded (b ∷ c ∷ []) (until_quote bs) else preceded (b ∷ []) (until_quote (c ∷ bs)))
 
 -- what stands between the `"` that the text begins with and the one that closes it
 abbrev pub quoted : List ℕ → Option (List ℕ)

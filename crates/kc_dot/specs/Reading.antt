@@ -55,9 +55,9 @@ assignment_of Silent = None
 assignment_of (Warns line_warning) = None
 assignment_of (Assigns s given) = Some (record { symbol = s; given = given })
 
-abbrev pub is_choice : ℕ → Option ℕ → Bool
-is_choice c None = false
-is_choice c (Some d) = d == c
+abbrev pub is_this_choice : ℕ → Option ℕ → Bool
+is_this_choice c None = false
+is_this_choice c (Some d) = d == c
 
 -- the choice that a symbol is a member of
 abbrev pub choice_of : TreeFacts → SymId → Option ℕ
@@ -69,7 +69,7 @@ given_to i a = if a.symbol.0 == i then Some a.given else None
 
 -- the member of choice c that an assignment makes y
 abbrev pub chosen_in : TreeFacts → ℕ → Assignment → Option SymId
-chosen_in tree c a = if is_yes a.given && is_choice c (choice_of tree a.symbol) then Some a.symbol else None
+chosen_in tree c a = if is_yes a.given && is_this_choice c (choice_of tree a.symbol) then Some a.symbol else None
 
 -- each element under its index from n on
 abbrev pub each_from : {A B : Type 0} → (ℕ → A → B) → ℕ → List A → List B

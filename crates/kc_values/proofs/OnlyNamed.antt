@@ -17,7 +17,7 @@ use Rattle.kc_values.specs.Lookups.{facts, name, choice_at, is_defined}
 use Rattle.kc_values.specs.Numbers.{number_or_zero}
 use Rattle.kc_values.specs.Values as v
 use Rattle.kc_user.specs.GivenValue.{GivenValue, GivenTruth, GivenText, Member, UserPlace}
-use Rattle.kc_tree.specs.Common.{is_symbol_of}
+use Rattle.kc_tree.specs.Common.{is_symbol_of, listed}
 use Rattle.kc_values.specs.Values.{is_n, upgrade}
 use Rattle.kc_values.specs.Needs as n
 use Rattle.kc_values.specs.Needs.{needs_of}
@@ -80,7 +80,7 @@ module _ (law : DependsOnSymbols) (tree : TreeFacts) (k l : SymId → SymbolValu
       (λ g hs. each g (front (names g.what) (n.condition_names tree g.when) hs) (back (names g.what) (n.condition_names tree g.when) hs))
       gs h
 
-  same_modules : (m : Option SymId) → Sames (n.modules_names m) → v.modules_value k m ≡ v.modules_value l m
+  same_modules : (m : Option SymId) → Sames (listed m) → v.modules_value k m ≡ v.modules_value l m
   same_modules None h = refl
   same_modules (Some m) h = ap truth_of_value h.0
 

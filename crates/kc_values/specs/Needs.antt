@@ -7,6 +7,7 @@ use Rattle.kc_expr.specs.declared.expression.SymId.{SymId}
 use Rattle.kc_expr.specs.declared.expression.Kind.{Kind}
 use Rattle.kc_expr.specs.declared.expression.Kind.TheVariants.{Undefined, Bool as IsBool, Tristate, Str, Int, Hex}
 use Rattle.kc_order.specs.Needs.{IsAccepted as AreAccepted}
+use Rattle.kc_tree.specs.Common.{listed}
 use Rattle.kc_tree.specs.TreeFacts.{Condition, Guarded, Bounds, SymbolFacts, ChoiceFacts, TreeFacts}
 use Rattle.kc_values.specs.Lookups.{is_defined, facts, choice_at}
 
@@ -28,10 +29,6 @@ abbrev pub prompt_names : Option ChoiceFacts → List SymId
 prompt_names None = []
 prompt_names (Some c) = conjunct_names c.prompt
 
-abbrev pub modules_names : Option SymId → List SymId
-modules_names None = []
-modules_names (Some m) = m ∷ []
-
 module _ (tree : TreeFacts) where
   abbrev pub mode_names : Option ℕ → List SymId
   mode_names None = []
@@ -51,7 +48,7 @@ module _ (tree : TreeFacts) where
   abbrev pub kind_names : Kind → List SymId
   kind_names Undefined = []
   kind_names IsBool = []
-  kind_names Tristate = modules_names tree.modules
+  kind_names Tristate = listed tree.modules
   kind_names Str = []
   kind_names Int = []
   kind_names Hex = []

@@ -1,6 +1,5 @@
 -- Trusted: A table of values by the numbers of the symbols, of which some places may be empty.
 use Rattle.std.specs.Prelude.{ℕ, List, Option, Some, None, slice_index_or}
-use Rattle.std.specs.Borrow.{Bor}
 use Rattle.kc_expr.specs.Value.{SymbolValue, Truth, TextValue, value_by_kind}
 use Rattle.kc_expr.specs.declared.expression.SymId.{SymId}
 use Rattle.kc_expr.specs.declared.expression.Tri.TheVariants.{N}
@@ -13,10 +12,6 @@ use Rattle.kc_values.specs.declared.table.Value.TheVariants as value
 
 abbrev pub value_in : List (Option Value) → SymId → Option Value
 value_in values s = slice_index_or values s.0 None
-
-abbrev pub value_at : Option (Bor Value) → Option Value
-value_at None = None
-value_at (Some v) = Some v.now
 
 -- an empty place is n, and as a text its name
 abbrev pub tri_in : Option Value → tri.Tri

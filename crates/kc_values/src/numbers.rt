@@ -1,6 +1,7 @@
 //! Ranges of numbers, and the equation of an int or hex symbol.
 
 ghost use Rattle.std.specs.Prelude.{◌≡◌, ◌<◌, None, Some, IfOk, IfSome, bytes_eq, not, unsigned_abs};
+ghost use Rattle.std.specs.Option.{option_copied};
 ghost use Rattle.kc_text.specs.Limits.{hex_limit};
 ghost use Rattle.kc_tree.specs.Layouts.{definition_facts, facts_of, range_view};
 ghost use Rattle.kc_tree.specs.Contexts.{condition_in};
@@ -8,7 +9,7 @@ ghost use Rattle.kc_values.specs.TableFacts.{known_at};
 ghost use Rattle.kc_values.specs.FoundRows.{IsMetRange};
 ghost use Rattle.kc_values.specs.Numbers as digits;
 ghost use Rattle.kc_values.specs.Small.{HasSmallBounds};
-ghost use Rattle.kc_values.specs.User.{given_in, text_at};
+ghost use Rattle.kc_values.specs.User.{given_in};
 ghost use Rattle.kc_values.specs.Values as spec;
 
 use crate::conditions::{condition, is_n};
@@ -108,7 +109,7 @@ pub fn is_within_range(kind: Kind, range: Option<Interval>, text: &[u8]) -> bool
 
 /// The user's text where its number is inside the range; another is dropped and not clamped (kconfiglib's `str_value`).
 pub fn if_within_range(kind: Kind, range: Option<Interval>, given: Option<&[u8]>) -> Option<&[u8]>
-    ensures { text_at result ≡ digits.if_within_range kind range (text_at given.entry) }
+    ensures { option_copied result ≡ digits.if_within_range kind range (option_copied given.entry) }
 {
     match given {
         Some(bytes) if is_within_range(kind, range, bytes) => Some(bytes),

@@ -1,11 +1,12 @@
 //! The values found so far: those of the symbols, of the contexts and of the choices, by their numbers.
 
 ghost use Rattle.std.specs.Prelude.{◌≡◌, None, length, replicate, slice_index_or, IfOk};
+ghost use Rattle.std.specs.Option.{option_copied};
 ghost use Rattle.kc_tree.specs.Layouts.{IsLayoutOf};
 ghost use Rattle.kc_tree.specs.TreeFacts.{IsWellFormed};
 ghost use Rattle.kc_values.specs.Lookups as lookup;
 ghost use Rattle.kc_values.specs.Computed.{AreContextsComputed};
-ghost use Rattle.kc_values.specs.Table.{value_at, value_in, tri_in, text_in};
+ghost use Rattle.kc_values.specs.Table.{value_in, tri_in, text_in};
 ghost use Rattle.kc_values.specs.Lookups.{kind_in};
 
 use kc_expr::expression::{Kind, SymId, Tri};
@@ -103,7 +104,7 @@ impl<'t> Table<'t> {
 
 /// The value of a symbol, if it is found (our own).
 pub fn value_of(values: &[Option<Value>], id: SymId) -> Option<&Value>
-    ensures { value_at result ≡ value_in values.now id }
+    ensures { option_copied result ≡ value_in values.now id }
 {
     match values.get(id.0) {
         Some(Some(value)) => Some(value),

@@ -1,11 +1,12 @@
 //! The equation of a string symbol.
 
 ghost use Rattle.std.specs.Prelude.{◌≡◌, IfOk};
+ghost use Rattle.std.specs.Option.{option_copied};
 ghost use Rattle.kc_expr.specs.Form.{form_of};
 ghost use Rattle.kc_expr.specs.Value.{values_by};
 ghost use Rattle.kc_tree.specs.Layouts.{facts_of};
 ghost use Rattle.kc_values.specs.TableFacts.{known_at};
-ghost use Rattle.kc_values.specs.User.{given_in, text_at};
+ghost use Rattle.kc_values.specs.User.{given_in};
 ghost use Rattle.kc_values.specs.Values as spec;
 ghost use Rattle.kc_values.specs.Warnings.{met_text};
 
@@ -31,7 +32,7 @@ pub fn single_text<'a, V: Values>(expr: &'a Expr, values: &'a V) -> &'a [u8]
 
 /// The text of the first default whose condition is not n, if there is one.
 pub(crate) fn met_text<'a>(table: &'a Table<'_>, symbol: &Symbol) -> Option<&'a [u8]>
-    ensures { text_at result ≡ met_text (known_at table.now) (spec.first_met table.now.tree.now (known_at table.now) (facts_of table.now.layout.now 0 symbol.now).defaults) }
+    ensures { option_copied result ≡ met_text (known_at table.now) (spec.first_met table.now.tree.now (known_at table.now) (facts_of table.now.layout.now 0 symbol.now).defaults) }
 {
     match met_default(table, symbol) {
         Some((default, _)) => Some(single_text(&default.value, table)),
@@ -49,7 +50,7 @@ pub(crate) fn default_text<'a>(table: &'a Table<'_>, symbol: &Symbol) -> &'a [u8
 
 /// The user's text where the symbol is visible (kconfiglib's `str_value`).
 pub(crate) fn visible_text(user: Option<&UserValue>, visibility: Tri) -> Option<&[u8]>
-    ensures { text_at result ≡ spec.visible_text (given_in user.entry) visibility }
+    ensures { option_copied result ≡ spec.visible_text (given_in user.entry) visibility }
 {
     if is_n(visibility) {
         return None;
@@ -66,7 +67,7 @@ pub(crate) fn visible_text_of<'a>(
     symbol: &Symbol,
     user: Option<&'a UserValue>,
 ) -> Option<&'a [u8]>
-    ensures { text_at result ≡ spec.visible_text (given_in user.entry) (spec.visibility table.now.tree.now (known_at table.now) (facts_of table.now.layout.now 0 symbol.now)) }
+    ensures { option_copied result ≡ spec.visible_text (given_in user.entry) (spec.visibility table.now.tree.now (known_at table.now) (facts_of table.now.layout.now 0 symbol.now)) }
 {
     match user {
         Some(UserValue::Text(_)) => visible_text(user, visibility(table, symbol)),

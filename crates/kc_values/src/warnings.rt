@@ -1,12 +1,13 @@
 //! What the values of a tree are warned of.
 
 ghost use Rattle.std.specs.Prelude.{◌≡◌, ◌++◌, codes, Some, map, IfOk, IfSome, OnOk};
+ghost use Rattle.std.specs.Option.{option_copied};
 ghost use Rattle.kc_tree.specs.Layouts.{facts_of};
 ghost use Rattle.kc_values.specs.TableFacts.{known_at};
 ghost use Rattle.kc_values.specs.Lookups as lookup;
 ghost use Rattle.kc_values.specs.Numbers.{number_text};
 ghost use Rattle.kc_values.specs.Small.{HasSmallBounds};
-ghost use Rattle.kc_values.specs.User.{given_in, text_at};
+ghost use Rattle.kc_values.specs.User.{given_in};
 ghost use Rattle.kc_values.specs.Values as value;
 ghost use Rattle.kc_values.specs.Warnings as spec;
 ghost use Rattle.kc_values.specs.WrittenSymbols.{above};
@@ -150,7 +151,7 @@ fn user_warning(
     out: &mut Vec<Vec<u8>>,
 ) -> Result<(), AllocError>
     requires { IfSome range HasSmallBounds }
-    ensures { OnOk result (map (λ w. w.items) out.new.items ≡ map (λ w. w.items) out.old.items ++ spec.user_warnings kind name.now range (text_at given.entry)) }
+    ensures { OnOk result (map (λ w. w.items) out.new.items ≡ map (λ w. w.items) out.old.items ++ spec.user_warnings kind name.now range (option_copied given.entry)) }
 {
     let Some(bounds) = range else {
         return Ok(());
@@ -177,7 +178,7 @@ fn default_warning(
     out: &mut Vec<Vec<u8>>,
 ) -> Result<(), AllocError>
     requires { IfSome range HasSmallBounds }
-    ensures { OnOk result (map (λ w. w.items) out.new.items ≡ map (λ w. w.items) out.old.items ++ spec.default_warnings kind name.now range (text_at used.entry) (text_at default.entry)) }
+    ensures { OnOk result (map (λ w. w.items) out.new.items ≡ map (λ w. w.items) out.old.items ++ spec.default_warnings kind name.now range (option_copied used.entry) (option_copied default.entry)) }
 {
     if used.is_some() {
         return Ok(());

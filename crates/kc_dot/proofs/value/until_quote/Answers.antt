@@ -1,10 +1,10 @@
-use Rattle.kc_dot.proofs.QuotedLemmas.{with_front-nothing, inside_found, inside_over, inside_over_taken}
+use Rattle.kc_dot.proofs.QuotedLemmas.{preceded-nothing, inside_found, inside_over, inside_over_taken}
 use Rattle.kc_dot.specs.LineValue.{until_quote}
 use Rattle.kc_dot.proofs.value.until_quote.Goals as goal
 use Rattle.kc_dot.proofs.value.until_quote.Goals.{then-body-at-eq92, else-body-at-eq92}
 
 pub bytes-init : goal.bytes-init
-bytes-init c = with_front-nothing (until_quote c.args.body.now)
+bytes-init c = preceded-nothing (until_quote c.args.body.now)
 
 pub returns-then-body-at-eq34 : goal.returns-then-body-at-eq34
 returns-then-body-at-eq34 c = inside_found c.args.body.now c.bytes.at c.bytes-test.true c.if-body-at-eq34.true c.bytes.invariant
