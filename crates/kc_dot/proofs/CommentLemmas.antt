@@ -19,7 +19,8 @@ use Rattle.kc_dot.specs.Prefixes.{is_prefix}
 use Rattle.kc_dot.specs.Reading.{assignment_of}
 use Rattle.kc_dot.specs.Plain.{IsNotUnsetLine}
 use Rattle.kc_dot.proofs.RoundTripLemmas.{prefix_bytes, name_no_blank}
-use Rattle.kc_dot.proofs.SymbolLineLemmas.{last_byte, strip_solid}
+use Rattle.kc_dot.proofs.RoundTripLemmas.{strip_solid}
+use Rattle.kc_dot.proofs.SymbolLineLemmas.{last_byte}
 
 -- What a byte that is no blank and no carriage return keeps in front of it.
 prefix_stop : (p : ℕ → Bool) (xs : List ℕ) (b : ℕ) (ys : List ℕ) → p b ≡ false → prefix_len p (xs ++ b ∷ ys) ≤ length xs

@@ -1,10 +1,11 @@
 -- What is written, read again.
-use Rattle.std.proofs.Common.{◌≡◌, ℕ, ◌-◌, ◌<◌, ◌≤◌, suc, List, [], ◌∷◌, ◌++◌, true, false, length, get_or, eqb, refl, sym, ap, ◌∙◌, arith, inl, inr, Some, None, append_assoc, length-append, codes}
+use Rattle.std.proofs.Common.{◌≡◌, ℕ, ◌-◌, ◌<◌, ◌≤◌, ◌⊎◌, suc, List, [], ◌∷◌, ◌++◌, true, false, length, get_or, eqb, refl, sym, ap, ◌∙◌, subst, arith, inl, inr, Some, None, append_assoc, length-append, codes}
 use Rattle.std.specs.Prelude.{◌||◌, ◌==◌, All}
 use Rattle.std.specs.List.{list_any, suffix_len, position_or_len}
 use Rattle.std.specs.Option.{option_and_then}
 use Rattle.std.specs.Str.{bytes_eq}
-use Rattle.std.proofs.Math.Seq.{take-append_seam, drop-append_seam, drop-append-add}
+use Rattle.std.specs.Str.Lines.{strip_carriage_return}
+use Rattle.std.proofs.Math.Seq.{take-append_seam, drop-append_seam, drop-append-add, get_or-append_seam}
 use Rattle.std.proofs.lemmas.Bool.{ne_eqb, lt-ltb, le-leb, and_parts, or_from, cases_Bool, or_parts}
 use Rattle.std.proofs.lemmas.List.{reverse-append, take_all}
 use Rattle.std.proofs.lemmas.List.Elements.{All-append}
@@ -18,9 +19,11 @@ use Rattle.kc_dot.specs.SymbolLines.{dot_line}
 use Rattle.kc_text.specs.Escapes.{escape}
 use Rattle.kc_text.specs.Lexemes.{is_blank}
 use Rattle.kc_text.proofs.Unescaping.{unescape_law}
-use Rattle.kc_dot.specs.DotLine.{trimmed, without_prefix, without_suffix, plain, unset_name, is_equals, split_at_equals, name_and_value, is_comment}
-use Rattle.kc_dot.specs.LineValue.{until_quote, with_front}
+use Rattle.kc_dot.specs.DotLine.{Set, Unset, meaning_of, trimmed, without_prefix, without_suffix, plain, unset_name, is_equals, split_at_equals, name_and_value, is_comment}
+use Rattle.kc_dot.specs.LineValue.{until_quote}
+use Rattle.kc_dot.specs.Sink.{preceded}
 use Rattle.kc_expr.specs.Names.{is_name_byte}
+use Rattle.kc_dot.specs.Plain.{is_end_byte, EndsPlainly}
 use Rattle.kc_dot.specs.Prefixes.{is_prefix}
 use Rattle.kc_dot.specs.RoundTrip.{IsName, IsShortText, UnsetLineReadAgain, SetLineReadAgain, StringReadAgain}
 
@@ -54,6 +57,35 @@ trimmed-solid front b solid =
     let s : suffix_len is_blank (front ++ b ∷ []) ≡ 0 = rw (reverse-append, solid) refl in
     rw s (take_all (length (front ++ b ∷ []) - 0) (front ++ b ∷ []) (omega arith))
 
+-- A text as its front and its last byte.
+last_cases : (text : List ℕ) → (text ≡ []) ⊎ ((front : List ℕ) × (b : ℕ) × (text ≡ front ++ b ∷ []))
+last_cases [] = inl refl
+last_cases (x ∷ text) = elim (last_cases text) [
+  | inl e ↦ inr ([], x, ap (λ t. x ∷ t) e)
+  | inr (front, b, e) ↦ inr (x ∷ front, b, ap (λ t. x ∷ t) e)
+]
+
+pub strip_solid : (front : List ℕ) (b : ℕ) → eqb b 13 ≡ false → strip_carriage_return (front ++ b ∷ []) ≡ front ++ b ∷ []
+strip_solid front b other =
+    let n : length (front ++ b ∷ []) - 1 ≡ length front = omega (arith, length-append front (b ∷ [])) in
+    rw (n, get_or-append_seam front b [] 0, other) refl
+
+-- a line that ends plainly keeps all of its bytes
+pub record Whole (text : List ℕ) : Type 0 where
+  pub trimmed_is : trimmed text ≡ text
+  pub strip_is : strip_carriage_return text ≡ text
+
+whole_by : (front : List ℕ) (b : ℕ) (text : List ℕ) → text ≡ front ++ b ∷ [] → is_end_byte b ≡ false → Whole text
+whole_by front b text is plain =
+    let (blank, return) = or_parts _ _ plain in
+    subst Whole (sym is) (record { trimmed_is = trimmed-solid front b blank; strip_is = strip_solid front b return })
+
+whole_set : (front value : List ℕ) → EndsPlainly value → Whole (front ++ 61 ∷ value)
+whole_set front value plain = elim (last_cases value) [
+  | inl e ↦ whole_by front 61 (front ++ 61 ∷ value) (ap (λ t. front ++ 61 ∷ t) e) refl
+  | inr (init, b, e) ↦ whole_by (front ++ 61 ∷ init) b (front ++ 61 ∷ value) (ap (λ t. front ++ 61 ∷ t) e ∙ sym (append_assoc front (61 ∷ init) (b ∷ []))) (plain init b e)
+]
+
 regroup : (a p n t : List ℕ) → (a ++ (p ++ n)) ++ t ≡ a ++ (p ++ (n ++ t))
 regroup a p n t = simp append_assoc
 
@@ -63,8 +95,8 @@ unset_by : (hash prefix name tail : List ℕ) → IsName name →
 unset_by hash prefix name tail is =
     rw (regroup hash prefix name tail, without_prefix-front hash (prefix ++ (name ++ tail)), without_prefix-front prefix (name ++ tail), without_suffix-end name tail) (plain-name name is)
 
-pub unset_read_again : UnsetLineReadAgain
-unset_read_again prefix name is =
+unset_text_read : (prefix name : List ℕ) → IsName name → meaning_of prefix ((codes "# " ++ (prefix ++ name)) ++ codes " is not set") ≡ Unset name
+unset_text_read prefix name is =
     let front : List ℕ = (codes "# " ++ (prefix ++ name)) ++ codes " is not se" in
     let e : (codes "# " ++ (prefix ++ name)) ++ codes " is not set" ≡ front ++ 116 ∷ [] = sym (append_assoc (codes "# " ++ (prefix ++ name)) (codes " is not se") (116 ∷ [])) in
     let whole : trimmed ((codes "# " ++ (prefix ++ name)) ++ codes " is not set") ≡ (codes "# " ++ (prefix ++ name)) ++ codes " is not set" =
@@ -73,6 +105,13 @@ unset_read_again prefix name is =
     let long : (length ((codes "# " ++ (prefix ++ name)) ++ codes " is not set") == 0) ≡ false =
     ne_eqb (length ((codes "# " ++ (prefix ++ name)) ++ codes " is not set")) 0 (let l = length-append (codes "# " ++ (prefix ++ name)) (codes " is not set") in omega arith) in
     rw (whole, long, unset) refl
+
+pub unset_read_again : UnsetLineReadAgain
+unset_read_again prefix name is =
+    let front : List ℕ = (codes "# " ++ (prefix ++ name)) ++ codes " is not se" in
+    let e : (codes "# " ++ (prefix ++ name)) ++ codes " is not set" ≡ front ++ 116 ∷ [] = sym (append_assoc (codes "# " ++ (prefix ++ name)) (codes " is not se") (116 ∷ [])) in
+    let whole = whole_by front 116 ((codes "# " ++ (prefix ++ name)) ++ codes " is not set") e refl in
+    rw whole.strip_is (unset_text_read prefix name is)
 
 first_byte : (all : List ℕ) → 0 < length all → All (λ b. is_name_byte b ≡ true) all → (b : ℕ) × (rest : List ℕ) × (all ≡ b ∷ rest) × (is_name_byte b ≡ true)
 first_byte [] some named = absurd (omega arith)
@@ -111,8 +150,9 @@ not_other prefix b rest named =
     let solid : is_blank b ≡ false = name_no_blank b named in
     (rw hash refl, rw (solid, hash) refl)
 
-pub set_read_again : SetLineReadAgain
-set_read_again prefix name value is_pre is whole =
+set_text_read : (prefix name value : List ℕ) → is_prefix prefix ≡ true → IsName name →
+    trimmed ((prefix ++ name) ++ 61 ∷ value) ≡ (prefix ++ name) ++ 61 ∷ value → meaning_of prefix ((prefix ++ name) ++ 61 ∷ value) ≡ Set name value
+set_text_read prefix name value is_pre is whole =
     let both : All (λ b. is_name_byte b ≡ true) (prefix ++ name) = All-append (λ b. is_name_byte b ≡ true) prefix name (prefix_bytes prefix is_pre) is.bytes in
     let some : 0 < length (prefix ++ name) = let n = is.some in omega (arith, length-append prefix name) in
     let (b, rest, begins, named) = first_byte (prefix ++ name) some both in
@@ -125,15 +165,20 @@ set_read_again prefix name value is_pre is whole =
     let long : (length ((prefix ++ name) ++ 61 ∷ value) == 0) ≡ false = ne_eqb (length ((prefix ++ name) ++ 61 ∷ value)) 0 (let l = length-append (prefix ++ name) (61 ∷ value) in omega arith) in
     rw (whole, long, unset, comment, parts) refl
 
+pub set_read_again : SetLineReadAgain
+set_read_again prefix name value is_pre is plain =
+    let whole = whole_set (prefix ++ name) value plain in
+    rw whole.strip_is (set_text_read prefix name value is_pre is whole.trimmed_is)
+
 -- an escaped text ends at the quote after it
 until_quote-escaped : (text : List ℕ) → until_quote (escape text ++ 34 ∷ []) ≡ Some (escape text)
 until_quote-escaped [] = refl
 until_quote-escaped (b ∷ text) = elim (cases_Bool (eqb b 34 || eqb b 92)) [
-  | inl e ↦ rw e (ap (with_front (92 ∷ b ∷ [])) (until_quote-escaped text))
-  | inr e ↦ rw e (plain_byte b (escape text ++ 34 ∷ []) (or_parts _ _ e).0 (or_parts _ _ e).1 ∙ ap (with_front (b ∷ [])) (until_quote-escaped text))
+  | inl e ↦ rw e (ap (preceded (92 ∷ b ∷ [])) (until_quote-escaped text))
+  | inr e ↦ rw e (plain_byte b (escape text ++ 34 ∷ []) (or_parts _ _ e).0 (or_parts _ _ e).1 ∙ ap (preceded (b ∷ [])) (until_quote-escaped text))
 ]
   where
-    plain_byte : (c : ℕ) (rest : List ℕ) → eqb c 34 ≡ false → eqb c 92 ≡ false → until_quote (c ∷ rest) ≡ with_front (c ∷ []) (until_quote rest)
+    plain_byte : (c : ℕ) (rest : List ℕ) → eqb c 34 ≡ false → eqb c 92 ≡ false → until_quote (c ∷ rest) ≡ preceded (c ∷ []) (until_quote rest)
     plain_byte c [] quote slash = rw quote refl
     plain_byte c (d ∷ rest) quote slash = rw (quote, slash) refl
 

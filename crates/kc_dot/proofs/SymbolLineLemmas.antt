@@ -38,37 +38,8 @@ use Rattle.kc_dot.specs.RoundTrip.{IsShortText}
 use Rattle.kc_dot.specs.SymbolLines.{dot_line}
 use Rattle.kc_dot.proofs.GivesLemmas.{Gives, gives_line}
 use Rattle.kc_dot.proofs.LineLemmas.{HasNoLf}
-use Rattle.kc_dot.proofs.RoundTripLemmas.{trimmed-solid, prefix_bytes, unset_read_again, set_read_again, string_read_again, written_short}
+use Rattle.kc_dot.proofs.RoundTripLemmas.{prefix_bytes, unset_read_again, set_read_again, string_read_again, written_short}
 use Rattle.kc_dot.proofs.TextBytes.{no_lf_by, escape_no_lf}
-
--- A text as its front and its last byte.
-pub last_cases : (text : List ℕ) → (text ≡ []) ⊎ ((front : List ℕ) × (b : ℕ) × (text ≡ front ++ b ∷ []))
-last_cases [] = inl refl
-last_cases (x ∷ text) = elim (last_cases text) [
-  | inl e ↦ inr ([], x, ap (λ t. x ∷ t) e)
-  | inr (front, b, e) ↦ inr (x ∷ front, b, ap (λ t. x ∷ t) e)
-]
-
-pub strip_solid : (front : List ℕ) (b : ℕ) → eqb b 13 ≡ false → strip_carriage_return (front ++ b ∷ []) ≡ front ++ b ∷ []
-strip_solid front b other =
-    let n : length (front ++ b ∷ []) - 1 ≡ length front = omega (arith, length-append front (b ∷ [])) in
-    rw (n, get_or-append_seam front b [] 0, other) refl
-
--- a line that ends plainly keeps all of its bytes
-record Whole (text : List ℕ) : Type 0 where
-  trimmed_is : trimmed text ≡ text
-  strip_is : strip_carriage_return text ≡ text
-
-whole_by : (front : List ℕ) (b : ℕ) (text : List ℕ) → text ≡ front ++ b ∷ [] → is_end_byte b ≡ false → Whole text
-whole_by front b text is plain =
-    let (blank, return) = or_parts _ _ plain in
-    subst Whole (sym is) (record { trimmed_is = trimmed-solid front b blank; strip_is = strip_solid front b return })
-
-whole_set : (front value : List ℕ) → EndsPlainly value → Whole (front ++ 61 ∷ value)
-whole_set front value plain = elim (last_cases value) [
-  | inl e ↦ whole_by front 61 (front ++ 61 ∷ value) (ap (λ t. front ++ 61 ∷ t) e) refl
-  | inr (init, b, e) ↦ whole_by (front ++ 61 ∷ init) b (front ++ 61 ∷ value) (ap (λ t. front ++ 61 ∷ t) e ∙ sym (append_assoc front (61 ∷ init) (b ∷ []))) (plain init b e)
-]
 
 -- Names.
 get_name : (tree : TreeFacts) (i : ℕ) → i < length tree.names → slice_get tree.names i ≡ Some (get_or tree.names i [])
@@ -147,19 +118,15 @@ module _ (tree : TreeFacts) (prefix stream : List ℕ) (is_pre : is_prefix prefi
 
   pub set_says : (value : List ℕ) → EndsPlainly value → effect_of tree (meaning_of prefix (strip_carriage_return (full ++ 61 ∷ value))) ≡ set_by_kind (name_of tree s) s value f.kind
   set_says value plain =
-      let whole = whole_set full value plain in
       let n = named s defined in
-      let said : meaning_of prefix (full ++ 61 ∷ value) ≡ Set (name_of tree s) value = set_read_again prefix (name_of tree s) value is_pre n.0 whole.trimmed_is in
-      rw (whole.strip_is, said, named_itself tree s formed defined, at) refl
+      let said : meaning_of prefix (strip_carriage_return (full ++ 61 ∷ value)) ≡ Set (name_of tree s) value = set_read_again prefix (name_of tree s) value is_pre n.0 plain in
+      rw (said, named_itself tree s formed defined, at) refl
 
   unset_says : effect_of tree (meaning_of prefix (strip_carriage_return ((codes "# " ++ full) ++ codes " is not set"))) ≡ unset_by_kind (name_of tree s) s f.kind
   unset_says =
-      let front : List ℕ = (codes "# " ++ full) ++ codes " is not se" in
-      let e : (codes "# " ++ full) ++ codes " is not set" ≡ front ++ 116 ∷ [] = sym (append_assoc (codes "# " ++ full) (codes " is not se") (116 ∷ [])) in
-      let whole = whole_by front 116 ((codes "# " ++ full) ++ codes " is not set") e refl in
       let n = named s defined in
-      let said : meaning_of prefix ((codes "# " ++ full) ++ codes " is not set") ≡ Unset (name_of tree s) = unset_read_again prefix (name_of tree s) n.0 in
-      rw (whole.strip_is, said, named_itself tree s formed defined, at) refl
+      let said : meaning_of prefix (strip_carriage_return ((codes "# " ++ full) ++ codes " is not set")) ≡ Unset (name_of tree s) = unset_read_again prefix (name_of tree s) n.0 in
+      rw (said, named_itself tree s formed defined, at) refl
 
   -- the value's own assignment, where it is allowed
   abbrev pub assignment : SymbolValue → Assignment

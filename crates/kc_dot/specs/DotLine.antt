@@ -3,6 +3,7 @@ use Rattle.std.specs.Prelude.{ℕ, ◌-◌, List, length, take, drop, Bool, fals
 use Rattle.std.specs.Option.{option_and_then, option_map_or}
 use Rattle.std.specs.List.{suffix_len, list_any, position_or_len, before_first, after_first}
 use Rattle.std.specs.Str.{bytes_eq}
+use Rattle.std.specs.Str.Lines.{strip_carriage_return}
 use Rattle.kc_text.specs.Bytes.{byte}
 use Rattle.kc_text.specs.Lexemes.{is_blank}
 use Rattle.kc_dot.specs.declared.line.DotLine.{DotLine}
@@ -85,3 +86,7 @@ meaning_of_text prefix text = if length text == 0 then Nothing else unset_or (un
 -- the meaning of a line: blanks at its end are dropped
 abbrev pub meaning_of : List ℕ → List ℕ → LineMeaning
 meaning_of prefix bytes = meaning_of_text prefix (trimmed bytes)
+
+-- the meaning of a line that has these bytes before its line feed: a carriage return directly before that belongs to the end
+abbrev pub ended_meaning : List ℕ → List ℕ → LineMeaning
+ended_meaning prefix bytes = meaning_of prefix (strip_carriage_return bytes)

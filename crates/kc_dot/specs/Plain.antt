@@ -1,6 +1,5 @@
 -- Trusted: Plain numbers and plain titles: what reads again as it was written.
 use Rattle.std.specs.Prelude.{◌≡◌, ℕ, ◌<◌, List, [], ◌∷◌, ◌++◌, Bool, true, false, ◌||◌, ◌==◌, Some, slice_get, codes}
-use Rattle.std.specs.Str.Lines.{strip_carriage_return}
 use Rattle.kc_text.specs.Bytes.{byte}
 use Rattle.kc_text.specs.Lexemes.{is_blank}
 use Rattle.kc_expr.specs.declared.expression.Kind.TheVariants as kind
@@ -9,7 +8,7 @@ use Rattle.kc_expr.specs.Value.{SymbolValue, Truth, TextValue}
 use Rattle.kc_tree.specs.TreeFacts.{TreeFacts, Shown, SymbolShown, MenuShown, EndShown, CommentShown}
 use Rattle.kc_values.specs.Solution.{known_from, symbol_count}
 use Rattle.kc_values.specs.WrittenSymbols.{written}
-use Rattle.kc_dot.specs.DotLine.{Unset, meaning_of}
+use Rattle.kc_dot.specs.DotLine.{Unset, ended_meaning}
 use Rattle.kc_dot.specs.SolutionView.{SolutionView, is_shown}
 
 -- a blank or a carriage return
@@ -26,7 +25,7 @@ title_line text = codes "# " ++ text
 
 -- the line does not read as an unset line
 abbrev pub IsNotUnsetLine : List ℕ → List ℕ → Type 0
-IsNotUnsetLine prefix bytes = (name : List ℕ) → meaning_of prefix (strip_carriage_return bytes) ≡ Unset name → ⊥
+IsNotUnsetLine prefix bytes = (name : List ℕ) → ended_meaning prefix bytes ≡ Unset name → ⊥
 
 -- the title of an entry, where it is shown, is not written as such a line
 abbrev pub HasPlainTitle : List ℕ → SolutionView → Shown → Type 0

@@ -9,9 +9,10 @@ use Rattle.kc_expr.specs.Names.{is_name_byte}
 use Rattle.kc_expr.specs.Value.{SymbolValue, Truth, TextValue}
 use Rattle.kc_expr.specs.declared.expression.Kind.TheVariants as kind
 use Rattle.kc_dot.specs.SymbolLines.{dot_line}
-use Rattle.kc_dot.specs.DotLine.{Set, Unset, meaning_of, trimmed}
+use Rattle.kc_dot.specs.DotLine.{Set, Unset, ended_meaning}
 use Rattle.kc_dot.specs.LineValue.{line_value}
 use Rattle.kc_dot.specs.Limits.{longest_prefix}
+use Rattle.kc_dot.specs.Plain.{EndsPlainly}
 use Rattle.kc_dot.specs.Prefixes.{is_prefix}
 
 -- one byte or more, each of which may stand in a name
@@ -22,14 +23,13 @@ pub record IsName (name : List ℕ) : Type 0 where
 -- `# CONFIG_NAME is not set` unsets NAME, whatever the prefix
 abbrev pub UnsetLineReadAgain : Type 0
 UnsetLineReadAgain =
-    (prefix name : List ℕ) → IsName name → meaning_of prefix ((codes "# " ++ (prefix ++ name)) ++ codes " is not set") ≡ Unset name
+    (prefix name : List ℕ) → IsName name → ended_meaning prefix ((codes "# " ++ (prefix ++ name)) ++ codes " is not set") ≡ Unset name
 
--- `CONFIG_NAME=value` sets NAME to the value, whatever the prefix, where no blank ends the line
+-- `CONFIG_NAME=value` sets NAME to the value, whatever the prefix, where the value ends in no blank and no carriage return
 abbrev pub SetLineReadAgain : Type 0
 SetLineReadAgain =
-    (prefix name value : List ℕ) → is_prefix prefix ≡ true → IsName name →
-    trimmed ((prefix ++ name) ++ byte "=" ∷ value) ≡ (prefix ++ name) ++ byte "=" ∷ value →
-    meaning_of prefix ((prefix ++ name) ++ byte "=" ∷ value) ≡ Set name value
+    (prefix name value : List ℕ) → is_prefix prefix ≡ true → IsName name → EndsPlainly value →
+    ended_meaning prefix ((prefix ++ name) ++ byte "=" ∷ value) ≡ Set name value
 
 -- a string's text, quoted and escaped, is read as that text
 abbrev pub StringReadAgain : Type 0

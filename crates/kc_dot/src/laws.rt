@@ -45,7 +45,8 @@ pub fn unset_line_read_again()
     ensures { UnsetLineReadAgain }
 {}
 
-/// A set line that is written is read again as that, where no blank stands at its end, which reading would drop.
+/// A set line that is written is read again as that, where its value ends in no blank and no carriage return, which reading
+/// would take off.
 pub fn set_line_read_again()
     ensures { SetLineReadAgain }
 {}
