@@ -48,7 +48,7 @@ tree_of_log (Err r) = Err r
 abbrev pub IsTreeOf : Files → List ℕ → Result TreeFacts Refused → Type 0
 IsTreeOf files root r = (e : Result Log Refused) × Expands files root e × (r ≡ tree_of_log e)
 
--- a root file gives one tree, or one refusal
+-- a root file gives at most one tree or refusal
 abbrev pub OneTree : Type 0
 OneTree = (files : Files) (root : List ℕ) (r other : Result TreeFacts Refused) → IsTreeOf files root r → IsTreeOf files root other → r ≡ other
 

@@ -4,7 +4,7 @@ ghost use Rattle.kc_build.specs.Trees.{OneTree, TreesAreWellFormed};
 
 use kc_read::laws::one_expansion;
 
-/// The law of trees: a root file over a file map gives one tree or one refusal. It does nothing, and so cannot fail.
+/// The law of trees: a root file over a file map gives at most one tree or refusal. It does nothing, and so cannot fail.
 /// The law is our own.
 pub fn one_tree()
     ensures { OneTree }

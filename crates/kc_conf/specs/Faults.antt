@@ -69,7 +69,8 @@ StrikesFile file (Read input) = ⊥
 StrikesFile file Memory = ⊤
 StrikesFile file (Write output) = output ≡ file
 
--- That file broke off for this fault, with this much of its text: a beginning, and the whole only where its end failed.
+-- That file broke off for this fault, with this much of its text: a beginning, or where it failed itself perhaps all of it, as
+-- where its end failed.
 abbrev pub StopsFile : Output → RunFault → List ℕ → List ℕ → Type 0
 StopsFile file (Read input) text front = ⊥
 StopsFile file Memory text front = GoesBeyond text front

@@ -171,7 +171,7 @@ abbrev pub OneOutcome : Type 0
 OneOutcome =
     (files : Files) (options : Options) (all : List (List ℕ)) (a b : Outcome) → IsOutcome files options all a → IsOutcome files options all b → a ≡ b
 
--- a root file has one refusal or one accepted tree, and not both
+-- a root file has at most one refusal, at most one accepted tree, and not both
 pub record OneAnswer : Type 0 where
   pub one_refusal : (files : Files) (root : List ℕ) (r s : Refused) → IsRefusedTree files root r → IsRefusedTree files root s → r ≡ s
   pub one_accepted : (files : Files) (root : List ℕ) (tree other : TreeFacts) → IsAcceptedTree files root tree → IsAcceptedTree files root other → tree ≡ other

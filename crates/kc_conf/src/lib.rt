@@ -20,4 +20,4 @@ pub use kc_read::{Code, FileMap, Refusal};
 pub use options::{Options, Status};
 pub use outputs::{Output, Outputs};
 pub use run_fault::RunFault;
-pub use runs::{AcceptedTree, one_outcome, run, run_keeping};
+pub use runs::{AcceptedTree, one_answer, one_outcome, run, run_keeping};

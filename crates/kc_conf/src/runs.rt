@@ -511,7 +511,7 @@ pub fn run_keeping<I: Input, O: Outputs>(
     run_over(alloc, TreeFiles::Own(files), options, inputs, outputs, kept)
 }
 
-// No tree is both accepted and refused, and none is refused in two ways.
+/// The law of the tree: a root file has at most one accepted tree, at most one refusal, and not both. It does nothing.
 pub fn one_answer()
     ensures { OneAnswer }
 {

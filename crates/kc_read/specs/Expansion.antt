@@ -200,6 +200,6 @@ Expands files root r = MatchOption (bytes_cause root 0 (files root))
     ((bytes : List ℕ) × (files root ≡ Some bytes) × Rest files (root_context root) (unread_lines bytes 1) [] (with_file nothing_read bytes) r)
     (λ c. r ≡ Err (refused c root 0))
 
--- a root file gives one list, or one refusal
+-- a root file gives at most one list or refusal
 abbrev pub OneExpansion : Type 0
 OneExpansion = (files : Files) (root : List ℕ) (r other : Result Log Refused) → Expands files root r → Expands files root other → r ≡ other

@@ -12,12 +12,12 @@ pub fn one_statement()
     ensures { OneStatement }
 {}
 
-/// The law of expansions: a root file over a file map gives one list or one refusal. It does nothing.
+/// The law of expansions: a root file over a file map gives at most one list or refusal. It does nothing.
 pub fn one_expansion()
     ensures { OneExpansion }
 {}
 
-/// The law of outcomes: over any files a root file gives a list or a refusal, and nothing else. It does nothing.
+/// The law of answers: over any files a root file gives a list or a refusal, and no other. It does nothing.
 pub fn has_one_expansion()
     ensures { HasOneExpansion }
 {}

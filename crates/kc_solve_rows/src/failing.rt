@@ -109,6 +109,7 @@ fn breaks_off(rt: &impl Abort, alloc: Global, tree: &Tree, room: usize) -> Resul
     let again = reader.feed(b"\n", &mut user, &mut sink);
     assert_eq!(rt; again, Err(DotFault::Sink), "{}", room);
     assert_eq!(rt; value_of_a(tree, &user)?, Tri::Y, "{}", room);
+    assert_eq!(rt; sink.failures, 1, "{}", room);
     Ok(())
 }
 
@@ -145,7 +146,29 @@ fn the_last_line_waits_where_its_warning_broke_off(rt: HostRuntime) -> Result<()
     let mut reader = DotReader::new(alloc, &tree, &prefix, b".config");
     reader.feed(b"CONFIG_A=y\nfoo", &mut user, &mut sink)?;
     assert_eq!(rt; reader.finish(&mut user, &mut sink), Err(DotFault::Sink));
+    assert_eq!(rt; reader.finish(&mut user, &mut sink), Err(DotFault::Sink));
     assert_eq!(rt; sink.bytes.as_slice(), b".conf".as_slice());
+    assert_eq!(rt; sink.failures, 1);
+    assert_eq!(rt; value_of_a(&tree, &user)?, Tri::Y);
+    assert_eq!(rt; reader.pending(), 3);
+    Ok(())
+}
+
+#[test]
+fn no_other_stream_begins_where_the_last_warning_broke_off(rt: HostRuntime) -> Result<(), Fail> {
+    let alloc = rt.alloc();
+    let tree = tree_of(alloc)?;
+    let prefix = Prefix::new(alloc, b"CONFIG_")?.ok_or("a prefix")?;
+    let mut user = User::new(alloc, &tree)?;
+    let mut sink = with_room(alloc, 5);
+    let mut reader = DotReader::new(alloc, &tree, &prefix, b".config");
+    reader.feed(b"CONFIG_A=y\nfoo", &mut user, &mut sink)?;
+    let next = reader.next_stream(b"x.cfg", &mut user, &mut sink);
+    assert_eq!(rt; next, Err(DotFault::Sink));
+    let line = reader.feed(b"# CONFIG_A is not set\n", &mut user, &mut sink);
+    assert_eq!(rt; line, Err(DotFault::Sink));
+    assert_eq!(rt; sink.bytes.as_slice(), b".conf".as_slice());
+    assert_eq!(rt; sink.failures, 1);
     assert_eq!(rt; value_of_a(&tree, &user)?, Tri::Y);
     assert_eq!(rt; reader.pending(), 3);
     Ok(())

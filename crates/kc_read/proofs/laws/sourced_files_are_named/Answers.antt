@@ -1,4 +1,4 @@
--- What the check left open in `asked_files_are_named`.
+-- What the check left open in `sourced_files_are_named`.
 use Rattle.kc_read.proofs.OpenedFileLemmas.{sourced_are_named, has_one_list_of_names}
 use Rattle.kc_read.proofs.laws.sourced_files_are_named.Goals as goal
 
