@@ -6,7 +6,7 @@ definitions, directly or through other definitions, and with `-- For proofs: ` w
 trusted files are listed with their line counts, and a file without such a head line ends the run with status 1.
 With --cited the definitions are followed from the contracts, by name, and each file whose head line says something else
 than was found is printed, with the names that are cited in it; the status is then 1.
-With --run only the files are listed that the contracts of `run`, of the laws over runs and of the program cite: what somebody has to
+With --run only the files are listed that the contracts of `run`, of the laws over runs, of the program and of the traits of its devices cite: what somebody has to
 trust who uses kconf and calls no crate of it, and at the end how many definitions of them these cite and how many lines those
 definitions take alone. The other trusted files say what the crates promise each other.
 """
@@ -15,8 +15,20 @@ import re
 import sys
 
 TOP = os.path.dirname(os.path.dirname(os.path.abspath(__file__)))
-# The calls that a user of the program rests on: the run, the laws over runs (all of that room), the program.
-RUN = {("kc_conf", "runs"): {"run"}, ("kc_conf", "laws"): None, ("kc_disk", "program"): {"kconf", "kconf_of", "kconf_over", "exit_status"}}
+# The calls that a user of the program rests on: the run, the laws over runs, the program; and what the traits of the devices
+# ask of these, and a tree tells of itself. None is all of a room, an empty set what its types and traits tell of themselves.
+RUN = {
+    ("kc_conf", "runs"): {"run"},
+    ("kc_conf", "laws"): None,
+    ("kc_disk", "program"): {"kconf", "kconf_of", "kconf_over", "exit_status"},
+    ("kc_conf", "input"): None,
+    ("kc_conf", "outputs"): None,
+    ("kc_load", "folder"): None,
+    ("kc_disk", "opener"): None,
+    ("kc_disk", "maker"): None,
+    ("kc_disk", "mover"): None,
+    ("kc_tree", "tree"): set(),
+}
 HEADS = {"-- Trusted: ": True, "-- For proofs: ": False}
 WORD = re.compile(r"[A-Za-z_][\w'«»-]*(?:\.[A-Za-z_0-9][\w'-]*)*")
 
