@@ -68,10 +68,10 @@ const PREFIX: OptionTexts = OptionTexts {
 const MUST_EXIST: &str =
     "Fail with E18, once the tree is accepted, where the file of --config does not exist";
 
-const STRICT: &str = "Refuse to write where any warning was told";
+const STRICT: &str = "Begin no file where any warning was told";
 
 const WARN_LOST: &str =
-    "Warn of each value read of a symbol with a prompt that is not the symbol's value";
+    "Warn where the value last read for a symbol with a prompt is not its value";
 
 const REPLACE: &str = "Replace each file in one step, at the end and only where its text changes";
 
