@@ -11,4 +11,5 @@ pub mod FollowLemmas
 pub mod EnoughLemmas
 pub mod OneOrder
 pub mod OneMap
+pub mod MapExists
 pub mod ReachedLemmas

@@ -49,3 +49,7 @@ abbrev pub OneMap : Type 0
 OneMap =
     (folder_files : List ℕ → Option (List ℕ)) (dir first : List ℕ) (files others : Files) → Loads (Some folder_files) dir first files →
     Loads (Some folder_files) dir first others → (name : List ℕ) → files name ≡ others name
+
+-- over a folder that tells its files there is such a map
+abbrev pub MapExists : Type 0
+MapExists = (folder_files : List ℕ → Option (List ℕ)) (dir first : List ℕ) → (files : Files) × Loads (Some folder_files) dir first files

@@ -1,6 +1,6 @@
 //! What holds of the order in which names are asked for, and of what is loaded.
 
-ghost use Rattle.kc_load.specs.Loaded.{OneMap};
+ghost use Rattle.kc_load.specs.Loaded.{MapExists, OneMap};
 ghost use Rattle.kc_load.specs.Order.{OneOrder};
 ghost use Rattle.kc_load.specs.Reached.{HasOrder, OrderIsReached};
 
@@ -12,7 +12,8 @@ pub fn one_order()
     ensures reached { OrderIsReached }
 {}
 
-/// The law of loading: over a folder that tells its files, the map that `load` gives is one, and no other. It does nothing.
+/// The law of loading: over a folder that tells its files there is exactly one map that `load` gives. It does nothing.
 pub fn one_map()
-    ensures { OneMap }
+    ensures there { MapExists }
+    ensures one { OneMap }
 {}
