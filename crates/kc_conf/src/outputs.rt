@@ -1,5 +1,5 @@
 //! Where the files and the diagnostics go.
-ghost use Rattle.std.specs.Prelude.{◌≡◌, ◌<◌, ◌≤◌, length, take, IfOk, OnOk, OnErr, flat_map};
+ghost use Rattle.std.specs.Prelude.{◌≡◌, ◌≢◌, ◌<◌, ◌≤◌, length, take, IfOk, OnOk, OnErr, flat_map};
 ghost use Rattle.kc_conf.specs.OutputStates.{OutputStates, at, with_state, begun, ended, failed, grown, ChangesOnly, BreaksOutput};
 ghost use Rattle.kc_conf.specs.ChangeLemmas.{ChangesOnly-same, ChangesOnly-only};
 ghost use Rattle.std.proofs.Common.{refl, ◌∙◌};
@@ -7,7 +7,7 @@ ghost use Rattle.std.proofs.Common.{refl, ◌∙◌};
 use kc_dot::batch::put_parts;
 use kc_dot::{Fault, Sink};
 
-/// One of the outputs (our own). `Notes` takes the diagnostics: it is there from the start and is never begun.
+/// One of the outputs (our own). `Notes` takes the diagnostics: it is there from the start, and is never begun or ended.
 #[derive(Clone, Copy, Debug, PartialEq, Eq)]
 pub enum Output {
     Config,
@@ -26,8 +26,11 @@ pub trait Outputs {
     /// What is known of each output.
     ghost states: { Self → OutputStates };
 
-    /// Makes an output empty, which begins it once more. On `Fault` it is as it was, and one failure more of it is counted.
+    /// Makes an output empty, which begins it once more. The caller owes that it is not the notes.
+    ///
+    /// On `Fault` it is as it was, and one failure more of it is counted.
     fn begin(&mut self, output: Output) -> Result<(), Fault>
+        requires { output ≢ Output.Notes }
         ensures ok { OnOk result (states self.new ≡ with_state (states self.old) output (begun (at (states self.old) output))) }
         ensures err { OnErr result (states self.new ≡ with_state (states self.old) output (failed (at (states self.old) output))) };
 
@@ -43,8 +46,10 @@ pub trait Outputs {
 
     /// Ends an output: its text is whole. A fault that the bytes taken so far meet comes here at the latest.
     ///
-    /// On `Fault` one failure more of that output is counted, and nothing else is changed.
+    /// The caller owes that it is not the notes. On `Fault` one failure more of that output is counted, and nothing else is
+    /// changed.
     fn end(&mut self, output: Output) -> Result<(), Fault>
+        requires { output ≢ Output.Notes }
         ensures ok { OnOk result (states self.new ≡ with_state (states self.old) output (ended (at (states self.old) output))) }
         ensures err { OnErr result (states self.new ≡ with_state (states self.old) output (failed (at (states self.old) output))) };
 }

@@ -1,5 +1,5 @@
 //! The files of a solution.
-ghost use Rattle.std.specs.Prelude.{◌≡◌, List, ℕ, Some, OnOk, IfErr, IfOk};
+ghost use Rattle.std.specs.Prelude.{◌≡◌, ◌≢◌, List, ℕ, Some, OnOk, IfErr, IfOk};
 ghost use Rattle.kc_dot.specs.SolvedView.{solution_view};
 ghost use Rattle.kc_dot.specs.Texts.{config_text, header_text, minimal_text};
 ghost use Rattle.kc_make.specs.Opened.{AreOpened};
@@ -17,7 +17,7 @@ use kc_dot::config::write_config;
 use kc_dot::fault::WriteFault;
 use kc_dot::header::{write_header, write_minimal};
 use kc_make::laws::opened_are_one_list;
-use kc_make::{add_rule, prerequisites_of};
+use kc_make::{prerequisites_of, rule_text};
 use kc_read::file_map::FileMap;
 use kc_solve::solved::Solved;
 use kc_tree::tree::Tree;
@@ -33,8 +33,9 @@ fn fault_of(fault: WriteFault, output: Output) -> RunFault
     }
 }
 
-// Ends an output.
+// Ends a file.
 fn end<O: Outputs>(output: Output, outputs: &mut O) -> Result<(), RunFault>
+    requires { output ≢ Output.Notes }
     ensures ok { OnOk result (O.states outputs.new ≡ with_state (O.states outputs.old) output (ended (at (O.states outputs.old) output))) }
     ensures err { IfErr result (λ fault. (fault ≡ RunFault.Write output) × (O.states outputs.new ≡ after_fault fault (O.states outputs.old))) }
 {
@@ -145,9 +146,7 @@ fn rule_for(alloc: Global, options: &Options, files: &FileMap) -> Result<Vec<u8>
         options.kconfig.as_bytes(),
         options.fragments.as_slice(),
     )?;
-    let mut text = Vec::new(alloc);
-    add_rule(options.out.as_bytes(), &names, &mut text)?;
-    Ok(text)
+    rule_text(alloc, options.out.as_bytes(), &names)
 }
 
 // Begins Depfile, writes this text and ends it.

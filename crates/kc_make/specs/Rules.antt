@@ -15,7 +15,7 @@ needs_backslash (b ∷ rest) = if b == byte "\\" then needs_backslash rest else 
 abbrev pub escaped_byte : Bool → ℕ → List ℕ
 escaped_byte with_backslash b = (if with_backslash then codes "\\" else []) ++ (if b == byte "$" then codes "$" else []) ++ b ∷ []
 
--- a name as make reads it
+-- a name that make reads as it is, but for some that no escape tells it
 abbrev pub escaped : List ℕ → List ℕ
 escaped [] = []
 escaped (b ∷ rest) = escaped_byte (needs_backslash (b ∷ rest)) b ++ escaped rest

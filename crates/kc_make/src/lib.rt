@@ -7,5 +7,5 @@ mod rule;
 mod walk;
 
 pub use paths::prerequisites_of;
-pub use rule::add_rule;
+pub use rule::rule_text;
 pub use walk::opened_files;

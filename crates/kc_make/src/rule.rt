@@ -1,11 +1,12 @@
 //! The text of a rule for make.
 
-ghost use Rattle.std.specs.Prelude.{◌≡◌, ◌++◌, OnOk, flat_map};
-ghost use Rattle.kc_make.specs.Rules.{empty_rule, escaped, escaped_byte, is_special, needs_backslash, prerequisite, rule_text};
+ghost use Rattle.std.specs.Prelude.{◌≡◌, ◌++◌, IfOk, OnOk, flat_map};
+ghost use Rattle.kc_make.specs.Rules.{empty_rule, escaped, escaped_byte, is_special, needs_backslash, prerequisite};
+ghost use Rattle.kc_make.specs.Rules as spec;
 
 use kc_expr::expression::SymId;
 use kc_expr::names::Names;
-use std::alloc::AllocError;
+use std::alloc::{AllocError, Global};
 
 // Whether make reads this byte as more than a part of a name, if no `\` stands before it.
 fn is_special(byte: u8) -> bool
@@ -77,19 +78,21 @@ fn add_empty_rules(files: &Names, text: &mut Vec<u8>) -> Result<(), AllocError>
     Ok(())
 }
 
-/// Adds the rule that makes `out` anew where one of the files is newer, and an empty rule for each file, so that make goes
-/// on where one of them went away.
+/// The rule that makes `out` anew where one of the files is newer, and an empty rule for each file, so that make goes on
+/// where one of them went away. Its only error is to be out of memory.
 ///
 /// A `\` stands before each blank, tab, `#` and `:` of a name, and before each `\` of a run that ends before one of them or
-/// at the name's end; a `$` is doubled. So GNU make reads each name as it is, but for one with a line feed, `=`, `;`, `|` or
-/// a blank at its end, which no escape tells it. A name with `%` is read among the files, but its empty rule is a pattern.
-pub fn add_rule(out: &[u8], files: &Names, text: &mut Vec<u8>) -> Result<(), AllocError>
-    ensures { OnOk result (text.new.items ≡ text.old.items ++ rule_text out.now files.now) }
+/// at the name's end; a `$` is doubled. So GNU make reads each name as it is, but for those that no escape tells it: with a
+/// line feed, `=`, `;`, `|`, `*`, `?` or `[` in it, a `~` in front, or a blank, `&` or `(..)` at the end. A name with `%` is
+/// read among the files, but its empty rule is a pattern.
+pub fn rule_text(alloc: Global, out: &[u8], files: &Names) -> Result<Vec<u8>, AllocError>
+    ensures { IfOk result (λ text. text.items ≡ spec.rule_text out.now files.now) }
 {
-    add_escaped(out, text)?;
+    let mut text = Vec::new(alloc);
+    add_escaped(out, &mut text)?;
     text.extend_from_slice(b":")?;
-    add_prerequisites(files, text)?;
+    add_prerequisites(files, &mut text)?;
     text.extend_from_slice(b"\n")?;
-    add_empty_rules(files, text)?;
-    Ok(())
+    add_empty_rules(files, &mut text)?;
+    Ok(text)
 }

@@ -1,7 +1,7 @@
 //! Worked rows of the rule for make.
 use kc_expr::expression::SymId;
 use kc_expr::names::Names;
-use kc_make::{add_rule, opened_files};
+use kc_make::{opened_files, rule_text};
 use kc_read::FileMap;
 use std::alloc::{AllocError, Global};
 use std::process::Abort;
@@ -103,8 +103,7 @@ fn rule_is(
     rule: &str,
 ) -> Result<(), Fail> {
     let names = names_of(alloc, files)?;
-    let mut text = Vec::from_slice(alloc, b"# \n")?;
-    add_rule(out.as_bytes(), &names, &mut text)?;
+    let text = rule_text(alloc, out.as_bytes(), &names)?;
     assert!(rt; text.as_slice() == rule.as_bytes(), "not {rule}");
     drop(text);
     drop(names);
@@ -114,7 +113,7 @@ fn rule_is(
 #[test]
 fn a_rule_names_each_file_twice(rt: HostRuntime) -> Result<(), Fail> {
     let rule =
-        "# \n.config: \\\n Kconfig \\\n a/Kconfig \\\n b.config\n\nKconfig:\n\na/Kconfig:\n\nb.config:\n";
+        ".config: \\\n Kconfig \\\n a/Kconfig \\\n b.config\n\nKconfig:\n\na/Kconfig:\n\nb.config:\n";
     rule_is(
         &rt,
         rt.alloc(),
@@ -122,7 +121,7 @@ fn a_rule_names_each_file_twice(rt: HostRuntime) -> Result<(), Fail> {
         &["Kconfig", "a/Kconfig", "b.config"],
         rule,
     )?;
-    rule_is(&rt, rt.alloc(), "o", &[], "# \no:\n")
+    rule_is(&rt, rt.alloc(), "o", &[], "o:\n")
 }
 
 #[test]
@@ -142,7 +141,7 @@ fn a_name_is_escaped(rt: HostRuntime) -> Result<(), Fail> {
         ("a%b,\"c'", "a%b,\"c'"),
     ];
     for (name, escaped) in rows {
-        let rule = format!(in rt.alloc(); "# \n{escaped}: \\\n {escaped}\n\n{escaped}:\n")?;
+        let rule = format!(in rt.alloc(); "{escaped}: \\\n {escaped}\n\n{escaped}:\n")?;
         rule_is(&rt, rt.alloc(), name, &[name], rule.as_str())?;
     }
     Ok(())
