@@ -1,5 +1,5 @@
 //! What stands before the name of a symbol in the files that are read and written.
-ghost use Rattle.std.specs.Prelude.{◌≡◌, true, IfOk};
+ghost use Rattle.std.specs.Prelude.{◌≡◌, ◌<◌, length, true, IfOk, OnErr};
 ghost use Rattle.kc_dot.specs.Prefixes as spec;
 
 use kc_expr::names::are_name_bytes;
@@ -28,14 +28,19 @@ impl Model for Prefix {
 }
 
 impl Prefix {
-    /// The text as a prefix, or None where it is none. Its only error is to be out of memory.
+    /// The text as a prefix, or None where it is none. Its only error is to be out of memory, for a prefix of a byte or more.
     pub fn new(alloc: Global, text: &[u8]) -> Result<Option<Prefix>, AllocError>
-        ensures { IfOk result (λ found. found ≡ spec.prefix_of text.now) }
+        ensures prefix { IfOk result (λ found. found ≡ spec.prefix_of text.now) }
+        ensures some { OnErr result ((0 < length text.now) × (spec.is_prefix text.now ≡ true)) }
     {
         if !is_prefix(text) {
             return Ok(None);
         }
-        let bytes = Vec::from_slice(alloc, text)?;
+        let bytes = if text.is_empty() {
+            Vec::new(alloc)
+        } else {
+            Vec::from_slice(alloc, text)?
+        };
         Ok(Some(Prefix { bytes }))
     }
 
