@@ -1,5 +1,6 @@
 -- Reading piece by piece, and stream by stream.
-use Rattle.std.proofs.Common.{◌≡◌, ℕ, zero, suc, ◌+◌, ◌<◌, ◌≤◌, Bool, true, false, List, [], ◌∷◌, ◌++◌, length, map, take, drop, get_or, refl, sym, ap, subst, ◌∙◌, append_assoc, append-nil, length-append, arith, Option, Some, None}
+use Rattle.std.proofs.Common.{◌≡◌, ℕ, zero, suc, ◌+◌, ◌<◌, ◌≤◌, Bool, true, false, List, [], ◌∷◌, ◌++◌, length, map, take, drop, get_or, refl, sym, ap, subst, ◌∙◌, append_assoc, append-nil, length-append, arith, inl, inr, Option, Some, None}
+use Rattle.std.proofs.lemmas.Bool.{cases_lt}
 use Rattle.std.specs.Prelude.{slice_get}
 use Rattle.std.specs.List.{All}
 use Rattle.std.proofs.Math.Seq.{get_or-append_seam, take-append_seam}
@@ -65,24 +66,33 @@ AreToCome-all (Some all) None bytes is = cc
 
 -- ---- which streams are there
 
+flag_at : (flags : List Bool) (i : ℕ) → i < length flags → get_or flags i false ≡ true → slice_get flags i ≡ Some true
+flag_at [] i within is = absurd (omega (arith, within))
+flag_at (f ∷ flags) zero within is = ap Some is
+flag_at (f ∷ flags) (suc i) within is = flag_at flags i (omega (arith, within)) is
+
+AreAllToCome-length : (given : List (Option (List ℕ))) (all : List (List ℕ)) → AreAllToCome given all → length given ≡ length all
+AreAllToCome-length [] [] are = refl
+AreAllToCome-length [] (bytes ∷ all) are = absurd are
+AreAllToCome-length (this ∷ given) [] are = absurd are
+AreAllToCome-length (this ∷ given) (bytes ∷ all) are = ap suc (AreAllToCome-length given all are.1)
+
 -- all of them
 pub there-all : (given : List (Option (List ℕ))) (all : List (List ℕ)) (there : List Bool) → length there ≡ length given → AreAllToCome given all →
     ((i : ℕ) → i < length there → get_or there i false ≡ true) → StreamsAreThere all there
-there-all [] [] there same are is = tt
-there-all [] (bytes ∷ all) there same are is = absurd are
-there-all (this ∷ given) [] there same are is = absurd are
-there-all (this ∷ given) (bytes ∷ all) [] same are is = absurd (omega (arith, same))
-there-all (this ∷ given) (bytes ∷ all) (first ∷ there) same are is =
-    (is 0 (omega arith), λ short. there-all given all there (omega (arith, same)) are.1 (λ i within. is (suc i) (omega (arith, within))))
+there-all given all there same are is = λ i within turn.
+    let count = AreAllToCome-length given all are in
+    let here : i < length there = omega (arith, same, count, within) in
+    flag_at there i here (is i here)
 
 -- those up to one with a line that is too long
 there-stopped : (done : List (List ℕ)) (bytes : List ℕ) (left : List (List ℕ)) (there : List Bool) → length done < length there →
     ((i : ℕ) → i < length done + 1 → get_or there i false ≡ true) → (HasShortLines bytes → ⊥) → StreamsAreThere (done ++ bytes ∷ left) there
-there-stopped [] bytes left [] within is long = absurd (omega (arith, within))
-there-stopped [] bytes left (first ∷ there) within is long = (is 0 (omega arith), λ short. absurd (long short))
-there-stopped (read ∷ done) bytes left [] within is long = absurd (omega (arith, within))
-there-stopped (read ∷ done) bytes left (first ∷ there) within is long =
-    (is 0 (omega arith), λ short. there-stopped done bytes left there (omega (arith, within)) (λ i below. is (suc i) (omega (arith, below))) long)
+there-stopped done bytes left there within is long = λ i inside turn.
+    elim (cases_lt (length done) i) [
+      | inl behind ↦ absurd (long (subst HasShortLines (get_or-append_seam done bytes left []) (turn (length done) behind)))
+      | inr upto ↦ flag_at there i (omega (arith, upto, within)) (is i (omega (arith, upto)))
+    ]
 
 -- a stream behind those before it
 streams-none : (names : List (List ℕ)) → streams names [] ≡ []
@@ -96,11 +106,6 @@ streams-more (n ∷ names) [] left later name bytes at = ap (λ ns. streams ns (
 streams-more [] (d ∷ done) left later name bytes at = absurd cc
 streams-more (n ∷ names) (d ∷ done) left later name bytes at =
     ap (λ ls. record { name = n; bytes = d } ∷ ls) (streams-more names done left later name bytes at)
-
-flag_at : (flags : List Bool) (i : ℕ) → i < length flags → get_or flags i false ≡ true → slice_get flags i ≡ Some true
-flag_at [] i within is = absurd (omega (arith, within))
-flag_at (f ∷ flags) zero within is = ap Some is
-flag_at (f ∷ flags) (suc i) within is = flag_at flags i (omega (arith, within)) is
 
 -- ---- what was told
 
@@ -390,10 +395,8 @@ module _ (tree : TreeFacts) (prefix : List ℕ) where
       let at : input ≡ length done = is ∙ sym counted in
       let all = done ++ bytes ∷ behind in
       record {
-        turn = λ j below. (
-          flag_at there j (omega (arith, below, is, within)) (are_there j (omega (arith, below, is))),
-          subst HasShortLines (sym (get_or_append_left done (bytes ∷ behind) [] j (omega (arith, below, at)))) (short j [] (omega (arith, below, at))),
-        );
+        turn = λ j below. subst HasShortLines (sym (get_or_append_left done (bytes ∷ behind) [] j (omega (arith, below, at)))) (short j [] (omega (arith, below, at)));
+        there_before = λ j below. flag_at there j (omega (arith, below, is, within)) (are_there j (omega (arith, below, is)));
         bytes = part;
         gave = (rest, ap (slice_get given) is ∙ gave ∙ ap Some given_is, ap (slice_get left) is ∙ leaves);
         begins = subst (λ b. BeginsWith b part) (sym (ap (λ n. get_or all n []) at ∙ get_or-append_seam done bytes behind [])) begins;

@@ -11,12 +11,12 @@ use Rattle.kc_dot.specs.Reading.{ReadResult, StreamLocation, reading, lines_of}
 use Rattle.kc_dot.specs.Sink.{BeginsWith}
 use Rattle.kc_conf.specs.declared.options.Options.{Options}
 use Rattle.kc_conf.specs.ErrorLines.{refusal_line, too_long_line}
-use Rattle.kc_conf.specs.FaultParts.{IsNoInputFault, StrikesNotes}
+use Rattle.kc_conf.specs.FaultParts.{IsNoInputFault, StrikesNotes, IsNotesFault}
 use Rattle.kc_conf.specs.Faults.{Completes, BreaksRun, CountsInputs, StopsNotes, after_fault, in_notes}
 use Rattle.kc_conf.specs.InputBytes.{AreAllToCome}
 use Rattle.kc_conf.specs.Outcome.{AreLines, Outcome, has_text, IsLenientOutcome, strictly, noted, lines_text, refused, outcome_of, lost_warnings, read_of, names_of, streams, IsSolutionFor, IsOutcomeOfReading, long_line, whole, IsOutcomeOfTree, OneAnswer, IsAcceptedTree, IsRefusedTree, IsOutcome, refused_tree, accepted_tree, root_file, with_rule}
 use Rattle.kc_conf.specs.OutputStates.{OutputStates, BreaksOutput, with_text}
-use Rattle.kc_conf.specs.Presence.{MayStrike}
+use Rattle.kc_conf.specs.Presence.{MayStrike, StreamsAreThere}
 use Rattle.kc_conf.specs.ReadFaults.{ReadsUpTo, StopsReading}
 use Rattle.kc_conf.specs.Reads.{AreRead, ReadPart, StopsStreams, StopsTree, StopsWarnings, Told, behind_warnings, ended_with, without_warnings, strictly_after, TellsStreams, BreaksTelling}
 use Rattle.kc_conf.specs.declared.run_fault.RunFault.{RunFault}
@@ -140,9 +140,9 @@ module _ (options : Options) (tree : TreeFacts) (given : List (Option (List ℕ)
 
   pub BreaksRun-whole : (fault : RunFault) → TellsStreams tree options.prefix options.strict (names_of options) None later given there user after old mid → told ≡ (before || later) →
       ((s : Solution) → IsSolutionFor tree after s → BreaksRun (strictly_after options.strict told (outcome_of options tree s)) fault mid new) →
-      (all : List (List ℕ)) × AreAllToCome given all × ((part : Outcome) → IsOutcomeOfReading options tree (read_of options tree all) part →
+      (all : List (List ℕ)) × AreRead given there all × ((part : Outcome) → IsOutcomeOfReading options tree (read_of options tree all) part →
       BreaksRun (strictly_after options.strict before part) fault old new)
-  BreaksRun-whole fault (all, warned, are, grew, is, known) has_text broken = (all, are.0, each) where
+  BreaksRun-whole fault (all, warned, are, grew, is, known) has_text broken = (all, are, each) where
     read : read_of options tree all ≡ ended_with after warned None
     read = read_is None all warned is
 
@@ -171,9 +171,9 @@ module _ (options : Options) (tree : TreeFacts) (given : List (Option (List ℕ)
 
   pub BreaksRun-long : (fault : RunFault) (stop : StreamLocation) → TellsStreams tree options.prefix options.strict (names_of options) (Some stop) later given there user after old mid →
       BreaksRun (refused (too_long_line stop)) fault mid new →
-      (all : List (List ℕ)) × AreAllToCome given all × ((part : Outcome) → IsOutcomeOfReading options tree (read_of options tree all) part →
+      (all : List (List ℕ)) × AreRead given there all × ((part : Outcome) → IsOutcomeOfReading options tree (read_of options tree all) part →
       BreaksRun (strictly_after options.strict before part) fault old new)
-  BreaksRun-long fault stop (all, warned, are, grew, is, known) broken = (all, are.0, each) where
+  BreaksRun-long fault stop (all, warned, are, grew, is, known) broken = (all, are, each) where
     read : read_of options tree all ≡ ended_with after warned (Some stop)
     read = read_is (Some stop) all warned is
 
@@ -207,37 +207,49 @@ StopsNotes-warnings (Write output) outcome warned front strikes (more, begins) (
 
 -- where an input failed it is known what was read
 StopsStreams-part : (options : Options) (tree : TreeFacts) (given left : List (Option (List ℕ))) (there : List Bool) (all : List (List ℕ)) (user : Places) (fault : RunFault)
-    (front warned : List ℕ) (old new : OutputStates) → user ≡ no_places tree → new ≡ after_fault fault (with_text Notes front old) →
+    (front warned : List ℕ) (old new : OutputStates) → user ≡ no_places tree → StrikesNotes fault → new ≡ after_fault fault (with_text Notes front old) →
     ReadPart tree options.prefix (names_of options) fault given left there all user warned → Told options.strict fault warned front →
     StopsStreams options tree given left there all fault old new
-StopsStreams-part options tree given left there all user (why.Read input) front warned old new empty grew part told = (
+StopsStreams-part options tree given left there all user (why.Read input) front warned old new empty strikes grew part told = (
   warned,
   subst (λ (p : Places). ReadsUpTo tree options.prefix (names_of options) p given left there all input warned) empty part,
   grew ∙ ap (λ t. with_text Notes t old) told,
 )
-StopsStreams-part options tree given left there all user Memory front warned old new empty grew part told = tt
-StopsStreams-part options tree given left there all user (Write output) front warned old new empty grew part told = tt
+StopsStreams-part options tree given left there all user Memory front warned old new empty strikes grew part told = tt
+StopsStreams-part options tree given left there all user (Write output) front warned old new empty strikes grew part told = λ other. absurd (other strikes)
 
--- a fault of no input tells nothing of them
+-- a fault of no input comes behind all of them
 StopsStreams-outputs : (options : Options) (tree : TreeFacts) (given left : List (Option (List ℕ))) (there : List Bool) (all : List (List ℕ)) (fault : RunFault)
-    (old new : OutputStates) → IsNoInputFault fault → StopsStreams options tree given left there all fault old new
-StopsStreams-outputs options tree given left there all (why.Read input) old new never = absurd never
-StopsStreams-outputs options tree given left there all Memory old new is = tt
-StopsStreams-outputs options tree given left there all (Write output) old new is = tt
+    (old new : OutputStates) → IsNoInputFault fault → StreamsAreThere all there → StopsStreams options tree given left there all fault old new
+StopsStreams-outputs options tree given left there all (why.Read input) old new never are = absurd never
+StopsStreams-outputs options tree given left there all Memory old new is are = tt
+StopsStreams-outputs options tree given left there all (Write output) old new is are = λ other. are
 
 pub StopsStreams-added : (options : Options) (tree : TreeFacts) (given left : List (Option (List ℕ))) (there : List Bool) (before : Bool) (fault : RunFault)
     (old new : OutputStates) → IsNoInputFault fault →
-    (all : List (List ℕ)) × AreAllToCome given all × ((part : Outcome) → IsOutcomeOfReading options tree (read_of options tree all) part →
+    (all : List (List ℕ)) × AreRead given there all × ((part : Outcome) → IsOutcomeOfReading options tree (read_of options tree all) part →
     BreaksRun (strictly_after options.strict before part) fault old new) →
     (all : List (List ℕ)) × AreAllToCome given all × ((part : Outcome) → IsOutcomeOfReading options tree (read_of options tree all) part →
     BreaksRun (strictly_after options.strict before part) fault old new) × StopsStreams options tree given left there all fault old new
-StopsStreams-added options tree given left there before fault old new is (all, are, breaks) = (all, are, breaks, StopsStreams-outputs options tree given left there all fault old new is)
+StopsStreams-added options tree given left there before fault old new is (all, are, breaks) = (all, are.0, breaks, StopsStreams-outputs options tree given left there all fault old new is are.1)
 
 pub StopsReading-outputs : (files : Files) (options : Options) (given left : List (Option (List ℕ))) (there : List Bool) (all : List (List ℕ)) (fault : RunFault)
-    (old new : OutputStates) → IsNoInputFault fault → StopsReading files options given left there all fault old new
-StopsReading-outputs files options given left there all (why.Read input) old new never = absurd never
-StopsReading-outputs files options given left there all Memory old new is = tt
-StopsReading-outputs files options given left there all (Write output) old new is = tt
+    (old new : OutputStates) → IsNoInputFault fault → StreamsAreThere all there → StopsReading files options given left there all fault old new
+StopsReading-outputs files options given left there all (why.Read input) old new never are = absurd never
+StopsReading-outputs files options given left there all Memory old new is are = tt
+StopsReading-outputs files options given left there all (Write output) old new is are = λ other. are
+
+-- and one that strikes the notes alone may come before them
+pub StopsReading-notes : (files : Files) (options : Options) (given left : List (Option (List ℕ))) (there : List Bool) (all : List (List ℕ)) (fault : RunFault)
+    (old new : OutputStates) → IsNotesFault fault → StopsReading files options given left there all fault old new
+StopsReading-notes files options given left there all (why.Read input) old new never = absurd never
+StopsReading-notes files options given left there all Memory old new is = tt
+StopsReading-notes files options given left there all (Write output) old new is = λ other. absurd (other is)
+
+pub IsNoInputFault-notes : (fault : RunFault) → IsNotesFault fault → IsNoInputFault fault
+IsNoInputFault-notes (why.Read input) never = never
+IsNoInputFault-notes Memory is = tt
+IsNoInputFault-notes (Write output) is = tt
 
 -- the reading broke off
 pub BreaksRun-reading : (options : Options) (tree : TreeFacts) (before : Bool) (given left : List (Option (List ℕ))) (there : List Bool) (user : Places) (fault : RunFault)
@@ -255,7 +267,7 @@ BreaksRun-reading options tree before given left there user fault old new empty 
       (StopsNotes-warnings fault (strictly_after options.strict before outcome) (read_of options tree all).warned front strikes
       (strictly_after-begins options.strict before outcome (read_of options tree all).warned (begins_with_warned options tree (read_of options tree all) outcome is)) stops')
       grew,
-  StopsStreams-part options tree given left there all user fault front warned old new empty grew part told,
+  StopsStreams-part options tree given left there all user fault front warned old new empty strikes grew part told,
 )
 
 -- ---- the tree's warnings
@@ -294,7 +306,7 @@ StopsTree-streams options tree given left there all (why.Read input) old mid new
       is ∙ ap (with_text Notes told) was ∙ with_text-with_text (lines_text tree.warnings) told old,
 )
 StopsTree-streams options tree given left there all Memory old mid new was read = tt
-StopsTree-streams options tree given left there all (Write output) old mid new was read = tt
+StopsTree-streams options tree given left there all (Write output) old mid new was read = read
 
 -- and the tree is accepted
 pub StopsReading-tree : (files : Files) (options : Options) (tree : TreeFacts) (given left : List (Option (List ℕ))) (there : List Bool) (all : List (List ℕ)) (fault : RunFault)
@@ -302,7 +314,7 @@ pub StopsReading-tree : (files : Files) (options : Options) (tree : TreeFacts) (
     StopsReading files options given left there all fault old new
 StopsReading-tree files options tree given left there all (why.Read input) old new accepted (warned, read, is) = (tree, warned, accepted, read, is)
 StopsReading-tree files options tree given left there all Memory old new accepted read = tt
-StopsReading-tree files options tree given left there all (Write output) old new accepted read = tt
+StopsReading-tree files options tree given left there all (Write output) old new accepted read = read
 
 -- the tree's warnings broke off
 pub BreaksRun-warnings : (options : Options) (tree : TreeFacts) (all : List (List ℕ)) (lines : List (List ℕ)) (old new : OutputStates) → lines ≡ tree.warnings →

@@ -7,12 +7,9 @@ use Rattle.kc_read.specs.Files.{Files}
 use Rattle.kc_read.specs.RefusalView.{refusal_view}
 use Rattle.kc_read.specs.declared.refusal.Code.TheVariants.{Memory as NoMemory}
 use Rattle.kc_read.specs.declared.refusal.Refusal.{Refusal}
-use Rattle.kc_tree.specs.Layouts.{IsLayoutOf}
 use Rattle.kc_tree.specs.TreeFacts.{TreeFacts}
-use Rattle.kc_tree.specs.declared.layout.Layout.{Layout}
 use Rattle.kc_build.specs.Trees.{IsTreeOf}
 use Rattle.kc_values.specs.Needs.{IsAccepted}
-use Rattle.kc_solve.specs.Graphs.{IsGraphOf}
 use Rattle.kc_solve.specs.Refused.{NamesLoop}
 use Rattle.kc_conf.specs.ErrorLines.{refusal_line}
 use Rattle.kc_conf.specs.Faults.{BreaksRun, Completes}
@@ -30,8 +27,8 @@ use Rattle.kc_conf.specs.declared.options.Status.{Status}
 use Rattle.kc_conf.specs.declared.runs.AcceptedTree.{AcceptedTree}
 use Rattle.kc_conf.proofs.OutcomeLemmas.{BreaksRun-nothing}
 use Rattle.kc_conf.proofs.ReadsLemmas.{left_of, AreAllToCome-self}
-use Rattle.kc_conf.proofs.RunLemmas.{BreaksRun-refused_tree, StopsReading-outputs}
-use Rattle.kc_conf.specs.FaultParts.{IsNoInputFault}
+use Rattle.kc_conf.proofs.RunLemmas.{BreaksRun-refused_tree, StopsReading-notes}
+use Rattle.kc_conf.specs.FaultParts.{IsNotesFault}
 
 -- ---- the tree of a root file whose name is known
 
@@ -67,22 +64,22 @@ module _ (law : OneAnswer) (there : OpenedAreThere) (files : Files) (options : O
       )
 
   -- or it breaks off in that line, or for want of memory
-  pub BreaksRun-refusal : (given left : List (Option (List ℕ))) (there : List Bool) (fault : RunFault) (old new : OutputStates) → IsNoInputFault fault →
+  pub BreaksRun-refusal : (given left : List (Option (List ℕ))) (there : List Bool) (fault : RunFault) (old new : OutputStates) → IsNotesFault fault →
       IsOutOfMemory r fault old new ⊎ ((r.code ≢ NoMemory) × BreaksRun (refused its_line) fault old new) →
       (all : List (List ℕ)) × AreAllToCome given all × ((outcome : Outcome) → IsOutcome files options all outcome → BreaksRun outcome fault old new)
       × StopsReading files options given left there all fault old new
-  BreaksRun-refusal given left there fault old new no_input (inl out) = (
+  BreaksRun-refusal given left there fault old new is (inl out) = (
     map left_of given,
     AreAllToCome-self given,
     λ outcome is.
         subst (λ c. BreaksRun outcome c old new) (sym out.fault_is) (subst (λ (p : OutputStates). BreaksRun outcome Memory old p) (sym out.nothing) (BreaksRun-nothing outcome old)),
-    StopsReading-outputs files options given left there (map left_of given) fault old new no_input,
+    StopsReading-notes files options given left there (map left_of given) fault old new is,
   )
-  BreaksRun-refusal given left there fault old new no_input (inr (known, broken)) = (
+  BreaksRun-refusal given left there fault old new is (inr (known, broken)) = (
     map left_of given,
     AreAllToCome-self given,
     BreaksRun-refused_tree law files options (refusal_view r) (map left_of given) fault old new (why known) broken,
-    StopsReading-outputs files options given left there (map left_of given) fault old new no_input,
+    StopsReading-notes files options given left there (map left_of given) fault old new is,
   )
 
   -- where it ends, no tree is accepted
@@ -93,12 +90,11 @@ module _ (law : OneAnswer) (there : OpenedAreThere) (files : Files) (options : O
 
 -- ---- kept
 
-module _ (law : OneAnswer) (files : Files) (root : List ℕ) (tree : TreeFacts) (accepted : IsAcceptedTree files root tree)
-    (layout : Layout) (order : Nodes) (laid : IsLayoutOf tree layout) (graph : IsGraphOf tree layout order) where
+module _ (law : OneAnswer) (files : Files) (root : List ℕ) (tree : TreeFacts) (accepted : IsAcceptedTree files root tree) (order : Nodes) where
   -- the accepted tree, whatever is known of it
   pub HoldsTree-accepted : (other : TreeFacts) → IsAcceptedTree files root other → HoldsTree other (Some record { tree = tree; order = order })
   HoldsTree-accepted other is =
-      subst (λ (t : TreeFacts). HoldsTree t (Some record { tree = tree; order = order })) (law.one_accepted files root tree other accepted is) (refl, (layout, laid, graph))
+      subst (λ (t : TreeFacts). HoldsTree t (Some record { tree = tree; order = order })) (law.one_accepted files root tree other accepted is) refl
 
   pub HoldsTree-ended : (result : Result Status RunFault) → OnOk result ((other : TreeFacts) → IsAcceptedTree files root other → HoldsTree other (Some record { tree = tree; order = order }))
   HoldsTree-ended (Ok status) = HoldsTree-accepted

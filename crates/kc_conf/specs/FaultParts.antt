@@ -16,6 +16,12 @@ IsNoInputFault (Read input) = ⊥
 IsNoInputFault Memory = ⊤
 IsNoInputFault (Write output) = ⊤
 
+-- this fault is a failure of the notes, or no memory was to be had
+abbrev pub IsNotesFault : RunFault → Type 0
+IsNotesFault (Read input) = ⊥
+IsNotesFault Memory = ⊤
+IsNotesFault (Write output) = output ≡ Notes
+
 -- this fault can strike while the notes are written
 abbrev pub StrikesNotes : RunFault → Type 0
 StrikesNotes (Read input) = ⊤

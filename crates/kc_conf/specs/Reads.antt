@@ -1,5 +1,5 @@
 -- For proofs: What reading the streams does.
-use Rattle.std.specs.Prelude.{◌≡◌, ℕ, Bool, true, false, ◌&&◌, ◌||◌, if◌then◌else◌, List, [], ◌++◌, length, Option, Some, None, ⊤}
+use Rattle.std.specs.Prelude.{◌≡◌, ◌≢◌, ℕ, Bool, true, false, ◌&&◌, ◌||◌, if◌then◌else◌, List, [], ◌++◌, length, Option, Some, None, ⊤}
 use Rattle.kc_text.specs.Lines.{is_line_feed}
 use Rattle.kc_tree.specs.TreeFacts.{TreeFacts}
 use Rattle.kc_user.specs.Places.{Places, no_places}
@@ -181,17 +181,18 @@ module _ (tree : TreeFacts) (prefix : List ℕ) where
       × (reading tree prefix before (lines_of (streams names (done ++ left))) ≡ with_warnings warned (reading tree prefix after (lines_of (streams names_left left)))))
       × Reads (lines_of (streams names done)) before after warned × All HasShortLines done
 
--- where an input failed: the streams were read up to a place of it, and what they warn of up to there is told
+-- where an input failed: the streams were read up to a place of it, and what they warn of up to there is told; where a file
+-- failed: all of them were read
 abbrev pub StopsStreams : Options → TreeFacts → List (Option (List ℕ)) → List (Option (List ℕ)) → List Bool → List (List ℕ) → RunFault → OutputStates → OutputStates → Type 0
 StopsStreams options tree given left there all (fault.Read input) old new =
     (warned : List ℕ) × ReadsUpTo tree options.prefix (names_of options) (no_places tree) given left there all input warned
     × (new ≡ with_text Notes (if options.strict then [] else warned) old)
 StopsStreams options tree given left there all fault.Memory old new = ⊤
-StopsStreams options tree given left there all (fault.Write output) old new = ⊤
+StopsStreams options tree given left there all (fault.Write output) old new = output ≢ Notes → StreamsAreThere all there
 
 -- the same behind the tree's warnings
 abbrev pub StopsTree : Options → TreeFacts → List (Option (List ℕ)) → List (Option (List ℕ)) → List Bool → List (List ℕ) → RunFault → OutputStates → OutputStates → Type 0
 StopsTree options tree given left there all (fault.Read input) old new =
     (warned : List ℕ) × ReadsUpTo tree options.prefix (names_of options) (no_places tree) given left there all input warned × (new ≡ with_text Notes (told_by options tree warned) old)
 StopsTree options tree given left there all fault.Memory old new = ⊤
-StopsTree options tree given left there all (fault.Write output) old new = ⊤
+StopsTree options tree given left there all (fault.Write output) old new = output ≢ Notes → StreamsAreThere all there

@@ -12,7 +12,7 @@ ghost use Rattle.kc_solve.specs.Graphs.{IsGraphOf};
 ghost use Rattle.kc_solve.specs.Solved.{Solution};
 ghost use Rattle.kc_tree.specs.Layouts.{IsLayoutOf};
 ghost use Rattle.kc_conf.specs.ErrorLines.{refusal_line, strict_line, too_long_line};
-ghost use Rattle.kc_conf.specs.FaultParts.{IsNoInputFault};
+ghost use Rattle.kc_conf.specs.FaultParts.{IsNoInputFault, IsNotesFault};
 ghost use Rattle.kc_conf.specs.Faults.{Completes, BreaksRun, CountsInputs, Faults};
 ghost use Rattle.kc_conf.specs.InputBytes.{AreAllToCome};
 ghost use Rattle.kc_conf.specs.AcceptedTree.{HoldsTree};
@@ -53,20 +53,19 @@ use kc_tree::tree::Tree;
 use kc_user::user::User;
 use std::alloc::Global;
 
-/// The tree that a run accepted, and an order of it.
+/// The tree that a run accepted, with the order that the run used, which is let go where the tree is.
 #[derive(Drop)]
 pub struct AcceptedTree {
     /// The tree.
     pub tree: Tree,
-    /// An order of its symbols, in which each comes after those that it needs.
-    pub order: EvaluationOrder,
+    order: EvaluationOrder,
 }
 
 // Writes the refusal of a tree.
 fn refuse_tree<O: Outputs>(outputs: &mut O, refusal: &Refusal) -> Result<Status, RunFault>
     ensures ok { IfOk result (λ status. Completes (refused (refusal_line (refusal_view refusal.now))) status (O.states outputs.old) (O.states outputs.new)) }
     ensures err { IfErr result (λ fault. BreaksRun (refused (refusal_line (refusal_view refusal.now))) fault (O.states outputs.old) (O.states outputs.new)) }
-    ensures fault { IfErr result IsNoInputFault }
+    ensures fault { IfErr result IsNotesFault }
     ensures only { ChangesOnly Output.Notes (O.states outputs.old) (O.states outputs.new) }
 {
     match note_refusal(outputs, refusal) {
@@ -350,7 +349,7 @@ fn refuse<O: Outputs>(outputs: &mut O, refusal: &Refusal) -> Result<Status, RunF
     ensures ok { IfOk result (λ status. (refusal.now.code ≢ Memory) × Completes (refused (refusal_line (refusal_view refusal.now))) status (O.states outputs.old) (O.states outputs.new)) }
     ensures err { IfErr result (λ fault. IsOutOfMemory refusal.now fault (O.states outputs.old) (O.states outputs.new)
         ⊎ ((refusal.now.code ≢ Memory) × BreaksRun (refused (refusal_line (refusal_view refusal.now))) fault (O.states outputs.old) (O.states outputs.new))) }
-    ensures fault { IfErr result IsNoInputFault }
+    ensures fault { IfErr result IsNotesFault }
     ensures only { ChangesOnly Output.Notes (O.states outputs.old) (O.states outputs.new) }
 {
     match refusal.code {

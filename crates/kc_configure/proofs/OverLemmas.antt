@@ -53,7 +53,7 @@ stops_over : (files loaded : Files) (options : Options) → ExpandsAlike (root_f
 stops_over files loaded options alike given left there all (Read input) old new (tree, warned, accepted, read, told) =
     (tree, warned, accepted_over (root_file options) loaded files (flipped (root_file options) files loaded alike) tree accepted, read, told)
 stops_over files loaded options alike given left there all Memory old new read = tt
-stops_over files loaded options alike given left there all (Write output) old new read = tt
+stops_over files loaded options alike given left there all (Write output) old new read = read
 
 -- what a run over the loaded files leaves, said of the folder's
 pub leaves_over : (files loaded : Files) (options : Options) (given left : List (Option (List ℕ))) (there may_fail : List Bool) (counts counts_after : List ℕ) (status : Status)

@@ -26,7 +26,7 @@ returns-in-Ok-clause-err g c =
       BreaksRun-accepted_rule c.one_answer.ensures c.opened_are_one_list.ensures.one tree_files c.args.options.now c.args.tree.now all c.in-Ok.status fault
           (g.O.Outputs.states c.args.outputs.now) (g.O.Outputs.states c.run_tree.new.outputs) (g.O.Outputs.states c.end_run.new.outputs) accepted part (breaks tree_files at_hand),
       StopsReading-outputs tree_files c.args.options.now (map g.I.Input.remaining c.args.inputs.now) (map g.I.Input.remaining c.run_tree.new.inputs) (map g.I.Input.is_there c.args.inputs.now)
-          all fault (g.O.Outputs.states c.args.outputs.now) (g.O.Outputs.states c.end_run.new.outputs) no_input,
+          all fault (g.O.Outputs.states c.args.outputs.now) (g.O.Outputs.states c.end_run.new.outputs) no_input are.1,
     )) c.end_run.ensures.fault c.end_run.ensures.err
 
 pub returns-in-Ok-clause-counted_inputs : goal.returns-in-Ok-clause-counted_inputs

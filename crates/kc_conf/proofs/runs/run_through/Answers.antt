@@ -7,7 +7,7 @@ use Rattle.kc_conf.specs.ErrorLines.{refusal_line}
 use Rattle.kc_conf.specs.Outcome.{refused, root_file}
 use Rattle.kc_conf.specs.TreeFiles.{files_in}
 use Rattle.kc_conf.proofs.ListLemmas.{IfErr-both}
-use Rattle.kc_conf.proofs.RunLemmas.{MayStrike-outputs}
+use Rattle.kc_conf.proofs.RunLemmas.{IsNoInputFault-notes, MayStrike-outputs}
 use Rattle.kc_conf.proofs.StopLemmas.{accepted_as, looped_as, refused_as, BreaksRun-refusal, Completes-refusal, HoldsTree-accepted, HoldsTree-ended, nothing_accepted}
 use Rattle.kc_conf.proofs.runs.run_through.Goals as goal
 
@@ -33,7 +33,7 @@ returns-in-Err-clause-err g c =
 
 pub returns-in-Err-clause-may : goal.returns-in-Err-clause-may
 returns-in-Err-clause-may g c =
-    IfErr-weaker c.refuse.result _ _ (λ fault is. MayStrike-outputs fault (map g.I.Input.may_fail c.args.inputs.now) is) c.refuse.ensures.fault
+    IfErr-weaker c.refuse.result _ _ (λ fault is. MayStrike-outputs fault (map g.I.Input.may_fail c.args.inputs.now) (IsNoInputFault-notes fault is)) c.refuse.ensures.fault
 
 pub returns-in-Err-clause-kept : goal.returns-in-Err-clause-kept
 returns-in-Err-clause-kept g c =
@@ -77,7 +77,7 @@ returns-in-Ok-of-clause-kept g c =
     let files = files_in c.args.files in
     let root = root_file c.args.options.now in
     let accepted = accepted_as files root root refl c.in-Ok.read.0 c.in-Ok.ensures.built c.in-Ok-of.ensures.accepted in
-    HoldsTree-ended c.one_answer.ensures files root c.in-Ok.read.0 accepted c.layout-layout.result.now c.in-Ok-of.order c.layout-layout.ensures.laid c.in-Ok-of.ensures.same c.run_accepted-ended.result
+    HoldsTree-ended c.one_answer.ensures files root c.in-Ok.read.0 accepted c.in-Ok-of.order c.run_accepted-ended.result
 
 pub returns-in-Ok-of-clause-refused_kept : goal.returns-in-Ok-of-clause-refused_kept
 returns-in-Ok-of-clause-refused_kept g c = λ r refused.
@@ -91,7 +91,7 @@ returns-in-Ok-of-clause-either_kept g c = λ tree is.
     let files = files_in c.args.files in
     let root = root_file c.args.options.now in
     let accepted = accepted_as files root root refl c.in-Ok.read.0 c.in-Ok.ensures.built c.in-Ok-of.ensures.accepted in
-    inr (HoldsTree-accepted c.one_answer.ensures files root c.in-Ok.read.0 accepted c.layout-layout.result.now c.in-Ok-of.order c.layout-layout.ensures.laid c.in-Ok-of.ensures.same tree is)
+    inr (HoldsTree-accepted c.one_answer.ensures files root c.in-Ok.read.0 accepted c.in-Ok-of.order tree is)
 
 -- ---- a loop
 
@@ -117,7 +117,7 @@ returns-in-Err-of-clause-err g c =
 
 pub returns-in-Err-of-clause-may : goal.returns-in-Err-of-clause-may
 returns-in-Err-of-clause-may g c =
-    IfErr-weaker c.refuse-in-Err-of.result _ _ (λ fault is. MayStrike-outputs fault (map g.I.Input.may_fail c.args.inputs.now) is) c.refuse-in-Err-of.ensures.fault
+    IfErr-weaker c.refuse-in-Err-of.result _ _ (λ fault is. MayStrike-outputs fault (map g.I.Input.may_fail c.args.inputs.now) (IsNoInputFault-notes fault is)) c.refuse-in-Err-of.ensures.fault
 
 pub returns-in-Err-of-clause-kept : goal.returns-in-Err-of-clause-kept
 returns-in-Err-of-clause-kept g c =

@@ -15,7 +15,7 @@ returns-in-Err-clause-err g c =
       AreAllToCome-self given,
       BreaksRun-warnings c.args.options.now c.args.tree.now (map left_of given) _ (g.O.Outputs.states c.args.outputs.now)
           (g.O.Outputs.states c.note_lines.new.outputs) c.parse_warnings.ensures c.in-Err.ensures.err,
-      tt,
+      λ other. absurd (other refl),
     )
 
 pub returns-clause-ok : goal.returns-clause-ok
