@@ -1,5 +1,5 @@
 #!/usr/bin/env python3
-"""Lists the definitions that the contracts of public functions cite, which a reader has to trust: bench/trusted.py [--cited | --run]
+"""Lists the definitions that the contracts of public functions cite, which a reader has to trust: bench/trusted.py [--cited | --run | --table]
 
 Each file of a crate's specs/ begins with `-- Trusted: ` where the contract of a public function cites some of its
 definitions, directly or through other definitions, and with `-- For proofs: ` where none does. Without an argument the
@@ -9,6 +9,7 @@ than was found is printed, with the names that are cited in it; the status is th
 With --run only the files are listed that the contracts of `run`, of the laws over runs, of the program and of the traits of its devices cite: what somebody has to
 trust who uses kconf and calls no crate of it, and at the end how many definitions of them these cite and how many lines those
 definitions take alone. The other trusted files say what the crates promise each other.
+With --table the table of docs/architecture.md is printed, and the lines and files that serve proofs.
 """
 import os
 import re
@@ -195,7 +196,24 @@ def missing_calls():
         yield from (f"{crate} {module} has no {name}" for name in sorted(names or ()) if not re.search(rf"^pub fn {name}\b", text, re.M))
 
 
+def table():
+    """The trusted files of each crate, with their lines, and how much serves proofs."""
+    print("| Crate | Trusted files, with their lines | Lines | Lines for proofs |\n|---|---|---|---|")
+    serving = []
+    for crate in (line.split(":")[0].split()[0] for line in read(os.path.join(TOP, "crates.txt")).split("\n") if re.match(r"\w", line)):
+        texts = [(name[:-5], read(os.path.join(TOP, "crates", crate, "specs", name))) for name in spec_files(crate)]
+        trusted = [(name, text.count("\n")) for name, text in texts if text.startswith("-- Trusted: ")]
+        proofs = [text.count("\n") for _, text in texts if not text.startswith("-- Trusted: ")]
+        serving += proofs
+        if texts:
+            names = ", ".join(f"`{name}` {count}" for name, count in trusted) or "none"
+            print(f"| `{crate}` | {names} | {sum(count for _, count in trusted):,} | {f'{sum(proofs)} in {len(proofs)}' if proofs else 'none'} |")
+    print(f"{sum(serving):,} lines in {len(serving)} files serve proofs")
+
+
 def main():
+    if "--table" in sys.argv[1:]:
+        return table()
     missing = list(missing_calls())
     if missing:
         sys.exit("\n".join(missing))

@@ -12,7 +12,7 @@ use Rattle.kc_disk.specs.Program.{ReportsUsage, usage_status}
 
 -- no memory was to be had before there were devices
 pub no-memory : (arguments : List (String Global)) (status : Status) → status ≡ usage_status Memory → ReportsUsage Memory (maker_call None None true) → KconfEndsOnDisk arguments status
-no-memory arguments status is tells = (None, none Memory (tt, λ takes good. refl) is tells refl refl)
+no-memory arguments status is tells = (None, 0, none Memory (tt, λ takes good. refl) is tells refl refl refl)
 
 -- the words behind the first are the arguments
 pub for-words : (words : Result (IntoIter (String Global) Global) Error) (all : IntoIter (String Global) Global) (arguments items : List (String Global)) (status : Status) → words ≡ Ok all →

@@ -3,8 +3,8 @@ use Rattle.std.proofs.Common.{◌≡◌, refl, ℕ, ◌+◌, ◌-◌, ◌<◌, L
 use Rattle.std.proofs.Math.Seq.{take-add}
 use Rattle.std.proofs.lemmas.List.{drop_all, take_all, take_rest}
 use Rattle.kc_disk.specs.Makers.{Tells}
-use Rattle.kc_disk.specs.Movers.{Held, IsClear, MakingMayFail, MoverFailing, MoverState, MovingMayFail, NamedText, changed, cleared, finished, grown_by, has_name, moved, put, put_all, put_first, replaced, replaced_front, started}
-use Rattle.kc_disk.specs.Texts.{added, moved_times, staged, texts_of}
+use Rattle.kc_disk.specs.Movers.{Held, IsClear, MakingMayFail, MoverFailing, MoverState, MovingMayFail, NamedText, changed, cleared, finished, grown_by, has_name, moved, put, put_all, put_first, replaced, replaced_front, started, uncounted}
+use Rattle.kc_disk.specs.Texts.{added, held_by, moved_times, staged, texts_of}
 use Rattle.kc_disk.specs.declared.replace_files.NamedText.{NamedText as CodeText}
 use Rattle.std.proofs.lemmas.Slice.Eq.{bytes_eq-Decides}
 use Rattle.kc_disk.proofs.StreamLemmas.{or-right}
@@ -18,7 +18,7 @@ text-text a b (Some t) = simp append_assoc
 
 pub grown-grown : (a b : List ℕ) (state : Option MoverState) → option_map (grown_by b) (option_map (grown_by a) state) ≡ option_map (grown_by (a ++ b)) state
 grown-grown a b None = refl
-grown-grown a b (Some s) = ap (λ t. let u : MoverState = record { held = s.held; begun = t; whole = s.whole } in Some u) (text-text a b s.begun)
+grown-grown a b (Some s) = ap (λ t. let u : MoverState = record { held = s.held; begun = t; whole = s.whole; made = s.made } in Some u) (text-text a b s.begun)
 
 -- the next bytes of a text
 pub grown-next : (text : List ℕ) (at count : ℕ) (first mid last : Option MoverState) → mid ≡ option_map (grown_by (take at text)) first →
@@ -32,6 +32,13 @@ pub made : (name bytes : List ℕ) (state : Option MoverState) →
     option_map finished (option_map (grown_by bytes) (option_map (started name) state)) ≡ option_map (added (record { name = name; bytes = bytes })) state
 made name bytes None = refl
 made name bytes (Some s) = refl
+
+-- none is being written
+pub none-begun : (texts : List NamedText) (first last : Option MoverState) → last ≡ option_map (staged texts) first → Tells last (λ s. s.begun ≡ None)
+none-begun texts None last is = λ s e. let clash : Some s ≡ None = sym e ∙ is in absurd (cc)
+none-begun texts (Some t) last is = λ s e.
+    let same : staged texts t ≡ s = cc in
+    rw (← same) refl
 
 -- ---- where making a file fails
 
@@ -111,11 +118,15 @@ moving-next i failing was first last moves stays fails = λ name is_at.
 -- ---- all of it
 
 -- nothing stands beside a place, and nothing did
-pub cleared-still : (first mid last : Option MoverState) → Tells first IsClear → option_map cleared mid ≡ option_map cleared first → last ≡ option_map cleared mid → last ≡ first
-cleared-still None mid last clear same is = is ∙ same
-cleared-still (Some s) mid last clear same is =
+pub cleared-keeps : (first mid last : Option MoverState) → Tells first IsClear → option_map held_by mid ≡ option_map held_by first → last ≡ option_map cleared mid →
+    option_map uncounted last ≡ option_map uncounted first
+cleared-keeps None None last clear same is = rw is refl
+cleared-keeps None (Some m) last clear same is = absurd (cc)
+cleared-keeps (Some s) None last clear same is = absurd (cc)
+cleared-keeps (Some s) (Some m) last clear same is =
     let none = clear s refl in
-    is ∙ same ∙ rw (none.0, none.1) refl
+    let held : m.held ≡ s.held = cc in
+    rw (is, none.0, none.1, held) refl
 
 pub replaced-front : (count : ℕ) (texts some : List NamedText) (first mid last : Option MoverState) → Tells first IsClear →
     Tells first (λ s. some ≡ changed texts s.held) → mid ≡ option_map (staged some) first →

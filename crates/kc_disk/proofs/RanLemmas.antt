@@ -4,7 +4,7 @@ use Rattle.std.specs.Prelude.{IfErr, OnErr}
 use Rattle.kc_read.specs.Files.{Files}
 use Rattle.kc_conf.specs.declared.options.Options.{Options}
 use Rattle.kc_load.specs.Expanding.{AreFilesOf}
-use Rattle.kc_load.specs.Faults.{IsLoadFault}
+use Rattle.kc_load.specs.Faults.{IsLoadFault, load_failures_after}
 use Rattle.kc_load.specs.declared.fault.LoadFault.{LoadFault}
 use Rattle.kc_conf.specs.Outcome.{NotesAreLines, names_of, root_file}
 use Rattle.kc_conf.specs.OutputStates.{OutputStates}
@@ -13,7 +13,7 @@ use Rattle.kc_conf.specs.declared.options.Status.TheVariants.{Faulted}
 use Rattle.kc_conf.specs.Leaves.{Keeps, Leaves}
 use Rattle.kc_conf.specs.declared.runs.AcceptedTree.{AcceptedTree}
 use Rattle.kc_disk.specs.Makers.{Tells, MakerState, maker_call}
-use Rattle.kc_disk.specs.Openers.{ReadDevice, contents, is_there, may_fail}
+use Rattle.kc_disk.specs.Openers.{FolderCall, ReadDevice, contents, is_there, may_fail}
 use Rattle.kc_disk.specs.Program.{RunEnds, Ran, Reports, kept_call, load_line, streams_of, unloaded}
 use Rattle.kc_disk.specs.Reached.{Reached, unused}
 use Rattle.kc_disk.proofs.ReportLemmas.{reports-from}
@@ -60,12 +60,14 @@ ran-of rest there may fails folder opened options status state state_after fail_
     }
 
 -- the tree could not be loaded
-pub unloaded-of : (folder opened : ReadDevice) (options : Options) (ended : Result Status LoadFault) (fault : LoadFault) (state mid new : Option MakerState) (was may_fail : Bool)
+pub unloaded-of : (folder : FolderCall) (opened : ReadDevice) (options : Options) (ended : Result Status LoadFault) (fault : LoadFault) (state mid new : Option MakerState) (was may_fail : Bool)
     (tree tree_after : Option AcceptedTree) → ended ≡ Err fault →
-    IfErr ended (IsLoadFault folder.files folder.failing (string_bytes options.root) (root_file options)) → OnErr ended (mid ≡ state) → OnErr ended (tree_after ≡ tree) → was ≡ may_fail →
+    IfErr ended (IsLoadFault folder.device.files folder.device.failing (string_bytes options.root) (root_file options)) →
+    IfErr ended (λ f. folder.failures_after ≡ load_failures_after f folder.failures) → OnErr ended (mid ≡ state) → OnErr ended (tree_after ≡ tree) → was ≡ may_fail →
     Reports (load_line fault) (maker_call mid new was) → RunEnds folder opened options Faulted (maker_call state new may_fail) (kept_call tree tree_after)
-unloaded-of folder opened options ended fault state mid new was may_fail tree tree_after is at_fault same kept stays reports =
-    let f : IsLoadFault folder.files folder.failing (string_bytes options.root) (root_file options) fault = rw is at at_fault in
+unloaded-of folder opened options ended fault state mid new was may_fail tree tree_after is at_fault counted same kept stays reports =
+    let f : IsLoadFault folder.device.files folder.device.failing (string_bytes options.root) (root_file options) fault = rw is at at_fault in
+    let n : folder.failures_after ≡ load_failures_after fault folder.failures = rw is at counted in
     let e : mid ≡ state = rw is at same in
     let k : tree_after ≡ tree = rw is at kept in
-    unloaded fault f refl (reports-from (load_line fault) state mid new was may_fail e stays reports) k
+    unloaded fault (f, n) refl (reports-from (load_line fault) state mid new was may_fail e stays reports) k

@@ -16,7 +16,7 @@ use Rattle.kc_conf.specs.declared.runs.AcceptedTree.{AcceptedTree}
 use Rattle.kc_words.specs.declared.usage.UsageError.{UsageError as NoOptions}
 use Rattle.kc_words.specs.declared.usage.UsageError.TheVariants.{Help, Version, Bad, Memory}
 use Rattle.kc_conf.specs.declared.options.Status.{Status}
-use Rattle.kc_disk.specs.Openers.{ReadDevice, unknown_device}
+use Rattle.kc_disk.specs.Openers.{FolderCall, IsQuiet, ReadDevice, folder_call, unknown_device}
 use Rattle.kc_disk.specs.Makers.{MakerCall, maker_call}
 use Rattle.kc_disk.specs.Movers.{IsStill, MoverCall, fails_anywhere, mover_call}
 use Rattle.kc_disk.specs.Program.{IsAsItWas, KeptCall, ReportsUsage, kept_call, usage_status}
@@ -34,15 +34,15 @@ GiveNone arguments usage = IsRefused (fault_of kconf_app (arguments_of arguments
 
 -- The program's arguments: they give options, and the run for these ends so; or they give none, for this cause, and nothing
 -- is made, moved or kept.
-pub data KconfEnds (folder opened : ReadDevice) (arguments : List (String Global)) (status : Status) (maker : MakerCall) (mover : MoverCall) (kept : KeptCall) : Type 0 where
+pub data KconfEnds (folder : FolderCall) (opened : ReadDevice) (arguments : List (String Global)) (status : Status) (maker : MakerCall) (mover : MoverCall) (kept : KeptCall) : Type 0 where
   options : (o : Options) → GiveOptions arguments o → EndsBy o.replace folder opened o status maker mover kept → KconfEnds folder opened arguments status maker mover kept
-  none : (usage : NoOptions) → GiveNone arguments usage → status ≡ usage_status usage → ReportsUsage usage maker → IsStill mover → IsAsItWas kept →
+  none : (usage : NoOptions) → GiveNone arguments usage → status ≡ usage_status usage → ReportsUsage usage maker → IsStill mover → IsAsItWas kept → IsQuiet folder →
       KconfEnds folder opened arguments status maker mover kept
 
 -- the same over the disk, which tells nothing and may fail anywhere, where nothing was kept before
 abbrev pub KconfEndsOnDisk : List (String Global) → Status → Type 0
-KconfEndsOnDisk arguments status = (tree : Option AcceptedTree)
-    × KconfEnds unknown_device unknown_device arguments status (maker_call None None true) (mover_call None None fails_anywhere) (kept_call None tree)
+KconfEndsOnDisk arguments status = (tree : Option AcceptedTree) × (failures : ℕ)
+    × KconfEnds (folder_call unknown_device 0 failures) unknown_device arguments status (maker_call None None true) (mover_call None None fails_anywhere) (kept_call None tree)
 
 -- what is told of words of which one is no text
 abbrev pub no_text : List ℕ

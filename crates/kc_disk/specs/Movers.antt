@@ -13,12 +13,14 @@ pub record Held : Type 0 where
   pub bytes : List ℕ → Option (List ℕ)
   pub moves : List ℕ → ℕ
 
--- the state of a mover: what is held; the file beside its place that is being written; and those beside their places that
--- are whole and on the disk, in the order in which they were made
+-- the state of a mover: what is held; the file beside its place that is being written; those beside their places that are
+-- whole and on the disk, in the order in which they were made; and for each file that was ever made beside a place, in order,
+-- the name of that place
 pub record MoverState : Type 0 where
   pub held : Held
   pub begun : Option NamedText
   pub whole : List NamedText
+  pub made : List (List ℕ)
 
 -- the names at whose places making a file may fail, and those at which moving one may
 pub record MoverFailing : Type 0 where
@@ -38,23 +40,31 @@ pub record MoverCall : Type 0 where
 abbrev pub mover_call : Option MoverState → Option MoverState → MoverFailing → MoverCall
 mover_call state state_after failing = record { state = state; state_after = state_after; failing = failing }
 
--- nothing was moved
+-- nothing was made or moved
 abbrev pub IsStill : MoverCall → Type 0
 IsStill mover = mover.state_after ≡ mover.state
+
+-- all but what was made
+abbrev pub uncounted : MoverState → MoverState
+uncounted s = record { held = s.held; begun = s.begun; whole = s.whole; made = [] }
+
+-- every place is as it was, and what stands beside one; files may have been made and removed
+abbrev pub KeepsPlaces : MoverCall → Type 0
+KeepsPlaces mover = option_map uncounted mover.state_after ≡ option_map uncounted mover.state
 
 -- ---- what a mover does
 
 -- an empty file is made beside the place of this name
 abbrev pub started : List ℕ → MoverState → MoverState
-started name s = record { held = s.held; begun = Some (record { name = name; bytes = [] }); whole = s.whole }
+started name s = record { held = s.held; begun = Some (record { name = name; bytes = [] }); whole = s.whole; made = s.made ++ name ∷ [] }
 
 -- the file that is being written has these bytes after its own
 abbrev pub grown_by : List ℕ → MoverState → MoverState
-grown_by bytes s = record { held = s.held; begun = option_map (λ t. record { name = t.name; bytes = t.bytes ++ bytes }) s.begun; whole = s.whole }
+grown_by bytes s = record { held = s.held; begun = option_map (λ t. record { name = t.name; bytes = t.bytes ++ bytes }) s.begun; whole = s.whole; made = s.made }
 
 -- it is whole, and on the disk
 abbrev pub finished : MoverState → MoverState
-finished s = record { held = s.held; begun = None; whole = s.whole ++ option_map_or (λ t. t ∷ []) s.begun [] }
+finished s = record { held = s.held; begun = None; whole = s.whole ++ option_map_or (λ t. t ∷ []) s.begun []; made = s.made }
 
 -- this text is what its place holds: a file more took that place
 abbrev pub put : NamedText → Held → Held
@@ -69,11 +79,11 @@ put_first (t ∷ texts) held = put t held
 
 -- the first of the whole files took its place
 abbrev pub moved : MoverState → MoverState
-moved s = record { held = put_first s.whole s.held; begun = s.begun; whole = drop 1 s.whole }
+moved s = record { held = put_first s.whole s.held; begun = s.begun; whole = drop 1 s.whole; made = s.made }
 
 -- nothing stands beside a place
 abbrev pub cleared : MoverState → MoverState
-cleared s = record { held = s.held; begun = None; whole = [] }
+cleared s = record { held = s.held; begun = None; whole = []; made = s.made }
 
 abbrev pub IsClear : MoverState → Type 0
 IsClear s = (s.begun ≡ None) × (s.whole ≡ [])
@@ -121,10 +131,14 @@ abbrev pub put_all : List NamedText → Held → Held
 put_all [] held = held
 put_all (t ∷ texts) held = put_all texts (put t held)
 
--- Each text is in its place: where it was there before, the file was not touched.
-abbrev pub replaced : List NamedText → MoverState → MoverState
-replaced texts s = record { held = put_all (changed texts s.held) s.held; begun = s.begun; whole = s.whole }
+-- the names that were made, with those of the texts that are not in their places
+abbrev pub made_with : List NamedText → MoverState → List (List ℕ)
+made_with texts s = s.made ++ map (λ t. t.name) (changed texts s.held)
 
--- the first of those that were to change are in their places, and the others are as they were
+-- Each text is in its place: where it was there before, the file was not touched, and none was made.
+abbrev pub replaced : List NamedText → MoverState → MoverState
+replaced texts s = record { held = put_all (changed texts s.held) s.held; begun = s.begun; whole = s.whole; made = made_with texts s }
+
+-- all that were to change were made; the first of them are in their places, and the others are as they were
 abbrev pub replaced_front : ℕ → List NamedText → MoverState → MoverState
-replaced_front count texts s = record { held = put_all (take count (changed texts s.held)) s.held; begun = s.begun; whole = s.whole }
+replaced_front count texts s = record { held = put_all (take count (changed texts s.held)) s.held; begun = s.begun; whole = s.whole; made = made_with texts s }

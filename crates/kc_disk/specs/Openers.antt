@@ -1,5 +1,5 @@
 -- Trusted: What files give that are opened by name.
-use Rattle.std.specs.Prelude.{ℕ, Bool, true, not, ◌&&◌, ◌||◌, List, [], length, nat_le, Option, None, Some, is_none, is_some, option_map, unwrap_or}
+use Rattle.std.specs.Prelude.{◌≡◌, ℕ, Bool, true, not, ◌&&◌, ◌||◌, List, [], length, nat_le, Option, None, Some, is_none, is_some, option_map, unwrap_or}
 use Rattle.kc_load.specs.Folders.{FolderFiles}
 use Rattle.kc_disk.specs.Devices.{most_reads}
 
@@ -14,6 +14,19 @@ read_device files failing = record { files = files; failing = failing }
 -- a device of which nothing is known: it tells nothing, and may fail at any path
 abbrev pub unknown_device : ReadDevice
 unknown_device = record { files = None; failing = λ _. true }
+
+-- a folder in a call: what is read of it, and how often it had failed before the call and after it
+pub record FolderCall : Type 0 where
+  pub device : ReadDevice
+  pub failures : ℕ
+  pub failures_after : ℕ
+
+abbrev pub folder_call : ReadDevice → ℕ → ℕ → FolderCall
+folder_call device failures failures_after = record { device = device; failures = failures; failures_after = failures_after }
+
+-- it did not fail
+abbrev pub IsQuiet : FolderCall → Type 0
+IsQuiet folder = folder.failures_after ≡ folder.failures
 
 -- what a file has still to give, where the files are told
 abbrev pub to_come : FolderFiles → List ℕ → Option (List ℕ)

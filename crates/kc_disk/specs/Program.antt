@@ -7,7 +7,7 @@ use Rattle.kc_conf.specs.declared.options.Options.{Options}
 use Rattle.kc_words.specs.declared.usage.UsageError.{UsageError as NoOptions}
 use Rattle.kc_words.specs.declared.usage.UsageError.TheVariants.{Help, Version, Bad, Memory as NoMemory}
 use Rattle.kc_load.specs.Expanding.{AreFilesOf}
-use Rattle.kc_load.specs.Faults.{IsLoadFault}
+use Rattle.kc_load.specs.Faults.{IsLoadFault, load_failures_after}
 use Rattle.kc_load.specs.declared.fault.LoadFault.{LoadFault}
 use Rattle.kc_load.specs.declared.fault.LoadFault.TheVariants.{CannotRead, Memory}
 use Rattle.kc_conf.specs.ErrorLines.{cannot_read_line, out_of_memory_line}
@@ -19,7 +19,7 @@ use Rattle.kc_conf.specs.declared.outputs.Output.TheVariants.{Notes}
 use Rattle.kc_conf.specs.Leaves.{Keeps, Leaves}
 use Rattle.kc_conf.specs.declared.runs.AcceptedTree.{AcceptedTree}
 use Rattle.kc_disk.specs.Makers.{MakerCall, MakerState, Tells, appended}
-use Rattle.kc_disk.specs.Openers.{ReadDevice, Stream, contents, is_there, may_fail, stream}
+use Rattle.kc_disk.specs.Openers.{FolderCall, IsQuiet, ReadDevice, Stream, contents, is_there, may_fail, stream}
 use Rattle.kc_disk.specs.Reached.{Reached, unused}
 
 -- the streams of a run: the `.config`, and then the fragments, each of which has to be there
@@ -79,11 +79,17 @@ abbrev pub load_line : LoadFault → List ℕ
 load_line (CannotRead name) = cannot_read_line name.items
 load_line Memory = out_of_memory_line
 
+-- the tree could not be loaded for this fault: a file of it whose turn it was, which is a failure more of the folder, or want
+-- of memory
+abbrev pub IsUnloaded : FolderCall → Options → LoadFault → Type 0
+IsUnloaded folder options fault = IsLoadFault folder.device.files folder.device.failing (string_bytes options.root) (root_file options) fault
+    × (folder.failures_after ≡ load_failures_after fault folder.failures)
+
 -- a run: as above, or the tree could not be loaded, which its one line tells
-pub data RunEnds (folder opened : ReadDevice) (options : Options) (status : Status) (maker : MakerCall) (kept : KeptCall) : Type 0 where
-  ran : Ran folder opened options status maker kept → RunEnds folder opened options status maker kept
-  unloaded : (fault : LoadFault) → IsLoadFault folder.files folder.failing (string_bytes options.root) (root_file options) fault → status ≡ ended.Faulted →
-      Reports (load_line fault) maker → IsAsItWas kept → RunEnds folder opened options status maker kept
+pub data RunEnds (folder : FolderCall) (opened : ReadDevice) (options : Options) (status : Status) (maker : MakerCall) (kept : KeptCall) : Type 0 where
+  ran : Ran folder.device opened options status maker kept → IsQuiet folder → RunEnds folder opened options status maker kept
+  unloaded : (fault : LoadFault) → IsUnloaded folder options fault → status ≡ ended.Faulted → Reports (load_line fault) maker → IsAsItWas kept →
+      RunEnds folder opened options status maker kept
 
 -- the status where the arguments give no options
 abbrev pub usage_status : NoOptions → Status

@@ -5,19 +5,17 @@ use Rattle.std.specs.declared.alloc.Global.{Global}
 use Rattle.kc_read.specs.Files.{Files}
 use Rattle.kc_conf.specs.declared.options.Options.{Options}
 use Rattle.kc_load.specs.Expanding.{AreFilesOf}
-use Rattle.kc_load.specs.Faults.{IsLoadFault}
 use Rattle.kc_load.specs.declared.fault.LoadFault.{LoadFault}
 use Rattle.kc_conf.specs.ErrorLines.{cannot_write_line, out_of_memory_line}
 use Rattle.kc_conf.specs.Leaves.{Keeps}
-use Rattle.kc_conf.specs.Outcome.{root_file}
 use Rattle.kc_conf.specs.OutputStates.{OutputStates}
 use Rattle.kc_conf.specs.declared.options.Status.{Status}
 use Rattle.kc_conf.specs.declared.options.Status.TheVariants as ended
 use Rattle.kc_conf.specs.declared.outputs.Output.TheVariants.{Notes}
 use Rattle.kc_disk.specs.Makers.{MakerCall, Tells, MakerState, none_made, since, until, with_made}
-use Rattle.kc_disk.specs.Openers.{ReadDevice}
+use Rattle.kc_disk.specs.Openers.{FolderCall, IsQuiet, ReadDevice}
 use Rattle.kc_disk.specs.Movers.{IsStill, MoverCall, NamedText, replaced}
-use Rattle.kc_disk.specs.Program.{IsAsItWas, KeptCall, LeavesOver, Reports, RunEnds, TellsAll, load_line}
+use Rattle.kc_disk.specs.Program.{IsAsItWas, IsUnloaded, KeptCall, LeavesOver, Reports, RunEnds, TellsAll, load_line}
 use Rattle.kc_disk.specs.Reached.{Reached}
 use Rattle.kc_disk.specs.ReplaceFaults.{IsReplaceFault}
 use Rattle.kc_disk.specs.declared.replace_files.ReplaceFault.{ReplaceFault}
@@ -79,14 +77,13 @@ replace_fault_line (Write name moved) = cannot_write_line name.now
 
 -- A run: as above, or some text could not take its place, which its one line tells; or the tree could not be loaded, and no
 -- place was touched.
-pub data EndsReplacing (folder opened : ReadDevice) (options : Options) (status : Status) (maker : MakerCall) (mover : MoverCall) (kept : KeptCall) : Type 0 where
-  ran : RanReplacing folder opened options (Ok status) maker mover kept → EndsReplacing folder opened options status maker mover kept
-  stopped : (stop : ReplaceFault) (state : Option MakerState) → RanReplacing folder opened options (Err stop) (until state maker) mover kept → status ≡ ended.Faulted →
+pub data EndsReplacing (folder : FolderCall) (opened : ReadDevice) (options : Options) (status : Status) (maker : MakerCall) (mover : MoverCall) (kept : KeptCall) : Type 0 where
+  ran : RanReplacing folder.device opened options (Ok status) maker mover kept → IsQuiet folder → EndsReplacing folder opened options status maker mover kept
+  stopped : (stop : ReplaceFault) (state : Option MakerState) → RanReplacing folder.device opened options (Err stop) (until state maker) mover kept → IsQuiet folder → status ≡ ended.Faulted →
       Reports (replace_fault_line stop) (since state maker) → EndsReplacing folder opened options status maker mover kept
-  unloaded : (fault : LoadFault) → IsLoadFault folder.files folder.failing (string_bytes options.root) (root_file options) fault → status ≡ ended.Faulted →
-      Reports (load_line fault) maker → IsStill mover → IsAsItWas kept → EndsReplacing folder opened options status maker mover kept
+  unloaded : (fault : LoadFault) → IsUnloaded folder options fault → status ≡ ended.Faulted → Reports (load_line fault) maker → IsStill mover → IsAsItWas kept → EndsReplacing folder opened options status maker mover kept
 
 -- A run with --replace ends so; one without touches no place beside its own.
-abbrev pub EndsBy : Bool → ReadDevice → ReadDevice → Options → Status → MakerCall → MoverCall → KeptCall → Type 0
+abbrev pub EndsBy : Bool → FolderCall → ReadDevice → Options → Status → MakerCall → MoverCall → KeptCall → Type 0
 EndsBy true folder opened options status maker mover kept = EndsReplacing folder opened options status maker mover kept
 EndsBy false folder opened options status maker mover kept = RunEnds folder opened options status maker kept × IsStill mover

@@ -136,7 +136,7 @@ impl<M: Maker + Drop> Maker for Drafts<M> {
             Output::Header => self.header.begin(self.alloc, name, output, &mut self.made),
             Output::Minimal => self.minimal.begin(self.alloc, name, output, &mut self.made),
             Output::Depfile => self.depfile.begin(self.alloc, name, output, &mut self.made),
-            Output::Notes => self.notes.create(Output::Notes, name),
+            Output::Notes => unreachable!(),
         }
     }
 
@@ -156,7 +156,7 @@ impl<M: Maker + Drop> Maker for Drafts<M> {
             Output::Header => self.header.end(),
             Output::Minimal => self.minimal.end(),
             Output::Depfile => self.depfile.end(),
-            Output::Notes => return self.notes.close(Output::Notes),
+            Output::Notes => unreachable!(),
         }
         Ok(())
     }

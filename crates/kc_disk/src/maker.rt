@@ -6,7 +6,8 @@ ghost use Rattle.kc_disk.specs.Makers.{AreClosed, IsOpen, Tells, MakerState, app
 use kc_conf::Output;
 use kc_dot::Fault;
 
-/// Makes the files of a run and takes their bytes, and those of standard error, which are the notes (our own).
+/// Makes the files of a run and takes their bytes, and those of standard error, which are the notes: it is open from the start,
+/// and never made or closed (our own).
 ///
 /// One over memory tells what it made; the system tells nothing. Each call is about one output, and changes nothing of
 /// another: what is told of a file is what it took since it was made. On a disk two files that were made under one name are
@@ -20,9 +21,10 @@ pub trait Maker {
 
     /// Makes the file of this name for an output: it is empty, and open.
     ///
-    /// The caller owes that no file is open, but for the notes. On `Fault` nothing was made.
+    /// The caller owes an output that is a file, and that no file is open. On `Fault` nothing was made.
     fn create(&mut self, output: Output, name: &str) -> Result<(), Fault>
-        requires { output ≢ Output.Notes → Tells (state self.old) AreClosed }
+        requires file { output ≢ Output.Notes }
+        requires closed { Tells (state self.old) AreClosed }
         ensures ok { OnOk result (state self.new ≡ option_map (opened output name.now) (state self.old)) }
         ensures err { OnErr result (state self.new ≡ state self.old) }
         ensures fault { OnErr result (failing self.old output ≡ true) }
@@ -43,9 +45,10 @@ pub trait Maker {
 
     /// Closes the file of an output. On `Fault` nothing is changed.
     ///
-    /// The caller owes that it is open.
+    /// The caller owes an output that is a file, and that it is open.
     fn close(&mut self, output: Output) -> Result<(), Fault>
-        requires { Tells (state self.old) (IsOpen output) }
+        requires file { output ≢ Output.Notes }
+        requires is_open { Tells (state self.old) (IsOpen output) }
         ensures ok { OnOk result (state self.new ≡ option_map (closed output) (state self.old)) }
         ensures err { OnErr result (state self.new ≡ state self.old) }
         ensures fault { OnErr result (failing self.old output ≡ true) }

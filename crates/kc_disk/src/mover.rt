@@ -1,5 +1,5 @@
 //! What makes files beside their places and moves them there.
-ghost use Rattle.std.specs.Prelude.{◌≡◌, ◌<◌, ◌≤◌, true, Option, length, take, option_map, IfOk, OnOk, OnErr};
+ghost use Rattle.std.specs.Prelude.{◌≡◌, ◌<◌, ◌≤◌, true, None, Option, length, take, option_map, IfOk, OnOk, OnErr};
 ghost use Rattle.kc_disk.specs.Makers.{Tells};
 ghost use Rattle.kc_disk.specs.Movers.{MakingMayFail, MoverFailing, MoverState, MovingMayFail, cleared, finished, grown_by, is_held, moved, started};
 
@@ -23,7 +23,10 @@ pub trait Mover {
         ensures { Tells (state self.now) (λ s. result ≡ is_held s.held name.now bytes.now) };
 
     /// Makes an empty file beside the place of this name. On `Fault` none was made.
+    ///
+    /// The caller owes that none is being written.
     fn start(&mut self, name: &str) -> Result<(), Fault>
+        requires { Tells (state self.old) (λ s. s.begun ≡ None) }
         ensures ok { OnOk result (state self.new ≡ option_map (started name.now) (state self.old)) }
         ensures err { OnErr result (state self.new ≡ state self.old) }
         ensures fault { OnErr result ((failing self.old).making name.now ≡ true) }

@@ -77,7 +77,7 @@ fn name_of(options: &Options, output: Output) -> &str
 }
 
 impl<'a, M: Maker + Drop, K: Devices> FileOutputs<'a, M, K> {
-    ghost use Rattle.kc_disk.specs.FileStates.{begun_at, ended_at, failed_at, states_in, states_with};
+    ghost use Rattle.kc_disk.specs.FileStates.{ended_at, failed_at, states_in, states_with};
 
     /// Outputs of which none was begun or has failed, over a maker that has made nothing. The caller owes two empty buffers.
     pub(crate) fn new(
@@ -190,36 +190,6 @@ impl<'a, M: Maker + Drop, K: Devices> FileOutputs<'a, M, K> {
         }
     }
 
-    // Makes standard error empty, where the maker can.
-    fn begin_notes(&mut self) -> Result<(), Fault>
-        ensures ok { OnOk result (states_in self.new ≡ begun_at Output.Notes (states_in self.old)) }
-        ensures err { OnErr result (states_in self.new ≡ failed_at Output.Notes (states_in self.old)) }
-    {
-        match self
-            .maker
-            .create(Output::Notes, name_of(self.options, Output::Notes))
-        {
-            Ok(()) => {
-                self.line.clear();
-                self.records.begin(Output::Notes);
-                Ok(())
-            }
-            Err(Fault) => Err(self.records.fail(Output::Notes)),
-        }
-    }
-
-    // Writes what waits of the notes.
-    fn end_notes(&mut self) -> Result<(), Fault>
-        ensures ok { OnOk result (states_in self.new ≡ ended_at Output.Notes (states_in self.old)) }
-        ensures err { OnErr result (states_in self.new ≡ failed_at Output.Notes (states_in self.old)) }
-    {
-        if self.line.flush(Output::Notes, &mut self.maker).is_err() {
-            return Err(self.records.fail(Output::Notes));
-        }
-        self.records.end(Output::Notes);
-        Ok(())
-    }
-
     /// The maker, which tells what reached the files. What still waits is let go.
     pub(crate) fn into_maker(self) -> M
         ensures same { M.state result ≡ M.state self.entry.maker }
@@ -237,9 +207,6 @@ impl<'a, M: Maker + Drop, K: Devices> Outputs for FileOutputs<'a, M, K> {
     ghost states = { λ s. states_in s };
 
     fn begin(&mut self, output: Output) -> Result<(), Fault> {
-        if output == Output::Notes {
-            return self.begin_notes();
-        }
         if self.records.is_begun_from(output) {
             return Err(self.records.fail(output));
         }
@@ -270,9 +237,6 @@ impl<'a, M: Maker + Drop, K: Devices> Outputs for FileOutputs<'a, M, K> {
     }
 
     fn end(&mut self, output: Output) -> Result<(), Fault> {
-        if output == Output::Notes {
-            return self.end_notes();
-        }
         if self.close(output).is_err() {
             return Err(self.records.fail(output));
         }

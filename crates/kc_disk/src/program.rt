@@ -1,9 +1,9 @@
 //! The work of the program.
-ghost use Rattle.std.specs.Prelude.{◌≡◌, ◌≢◌};
+ghost use Rattle.std.specs.Prelude.{◌≡◌};
 ghost use Rattle.kc_conf.specs.declared.outputs.Output.TheVariants.{Notes};
 ghost use Rattle.kc_disk.specs.Devices.{exit_status};
 ghost use Rattle.kc_disk.specs.Answering.{KconfEnds, KconfEndsOnDisk, ProcessEnds};
-ghost use Rattle.kc_disk.specs.Openers.{read_device};
+ghost use Rattle.kc_disk.specs.Openers.{folder_call, read_device};
 ghost use Rattle.kc_disk.specs.Makers.{IsOpen, Tells, maker_call, none_made};
 ghost use Rattle.kc_disk.specs.Movers.{IsClear, mover_call};
 ghost use Rattle.kc_disk.specs.Program.{ReportsUsage, kept_call, usage_status};
@@ -61,11 +61,10 @@ fn run_by<F: Folder, P: Opener, M: Maker + Drop, V: Mover>(
 ) -> (Status, M)
     requires maker { Tells (M.state maker) (λ t. t ≡ none_made) }
     requires clear { Tells (V.state mover.old) IsClear }
-    ensures ends { EndsBy options.now.replace (read_device (F.files folder.old) (F.failing folder.old)) (read_device (P.files opener.now) (P.failing opener.now)) options.now
+    ensures ends { EndsBy options.now.replace (folder_call (read_device (F.files folder.old) (F.failing folder.old)) (F.failures folder.old) (F.failures folder.new)) (read_device (P.files opener.now) (P.failing opener.now)) options.now
         result.0 (maker_call (M.state maker) (M.state result.1) (M.failing maker Notes)) (mover_call (V.state mover.old) (V.state mover.new) (V.failing mover.old))
         (kept_call kept.old kept.new) }
     ensures folder_stays { read_device (F.files folder.new) (F.failing folder.new) ≡ read_device (F.files folder.old) (F.failing folder.old) }
-    ensures quiet { result.0 ≢ Status.Faulted → F.failures folder.new ≡ F.failures folder.old }
 {
     if options.replace {
         run_replacing(alloc, folder, opener, options, maker, mover, kept)
@@ -93,12 +92,11 @@ pub fn kconf_over<F: Folder, P: Opener, M: Maker + Drop, V: Mover>(
 ) -> (Status, M)
     requires maker { Tells (M.state maker) (λ t. t ≡ none_made) }
     requires clear { Tells (V.state mover.old) IsClear }
-    ensures ends { KconfEnds (read_device (F.files folder.old) (F.failing folder.old)) (read_device (P.files opener.now) (P.failing opener.now)) arguments.now result.0
+    ensures ends { KconfEnds (folder_call (read_device (F.files folder.old) (F.failing folder.old)) (F.failures folder.old) (F.failures folder.new)) (read_device (P.files opener.now) (P.failing opener.now)) arguments.now result.0
         (maker_call (M.state maker) (M.state result.1) (M.failing maker Notes)) (mover_call (V.state mover.old) (V.state mover.new) (V.failing mover.old))
         (kept_call kept.old kept.new) }
-    // The folder's files stay, and the paths at which it may fail; a failure of it is counted only after a fault.
+    // The folder's files stay, and the paths at which it may fail.
     ensures folder_stays { read_device (F.files folder.new) (F.failing folder.new) ≡ read_device (F.files folder.old) (F.failing folder.old) }
-    ensures quiet { result.0 ≢ Status.Faulted → F.failures folder.new ≡ F.failures folder.old }
 {
     match options_of(rt.alloc(), arguments) {
         Ok(options) => run_by(rt.alloc(), folder, opener, &options, maker, mover, kept),

@@ -1,9 +1,9 @@
 //! A run whose files take their places at the end.
-ghost use Rattle.std.specs.Prelude.{◌≡◌, ◌≢◌, ◌++◌, string_bytes, IfErr, IfOk, OnErr, OnOk};
+ghost use Rattle.std.specs.Prelude.{◌≡◌, ◌++◌, string_bytes, IfErr, IfOk, OnErr, OnOk};
 ghost use Rattle.kc_load.specs.Faults.{IsLoadFault, load_failures_after};
 ghost use Rattle.kc_conf.specs.Outcome.{root_file};
 ghost use Rattle.kc_conf.specs.declared.outputs.Output.TheVariants.{Notes};
-ghost use Rattle.kc_disk.specs.Openers.{read_device};
+ghost use Rattle.kc_disk.specs.Openers.{folder_call, read_device};
 ghost use Rattle.kc_disk.specs.Makers.{Tells, maker_call, none_made};
 ghost use Rattle.kc_disk.specs.Movers.{IsClear, mover_call};
 ghost use Rattle.kc_disk.specs.Program.{kept_call};
@@ -92,9 +92,9 @@ fn replace_drafts<'n, N: Maker + Drop, M: Mover>(
 /// their text is not there already (our own). The maker takes the notes alone, and is handed back.
 ///
 /// The caller owes a maker that has made nothing, and a mover beside whose places nothing stands. After a run that is done
-/// each place holds its file's text; after any other, and after an error, every place is as it was. A `ReplaceFault` says that
-/// the run was done and a text could not take its place: what it leaves is as `replace_files` says. Nothing stands beside a
-/// place in the end. `kept` is what `configure` keeps.
+/// each place holds its file's text; after any other, and after an error, every place is as it was, and no file was made beside
+/// one. A `ReplaceFault` says that the run was done and a text could not take its place: what it leaves is as `replace_files`
+/// says. Nothing stands beside a place in the end. `kept` is what `configure` keeps.
 pub fn replace_over<'n, F: Folder, P: Opener, N: Maker + Drop, M: Mover>(
     alloc: Global,
     folder: &mut F,
@@ -147,12 +147,11 @@ pub fn run_replacing<F: Folder, P: Opener, N: Maker + Drop, M: Mover>(
 ) -> (Status, N)
     requires notes { Tells (N.state notes) (λ t. t ≡ none_made) }
     requires clear { Tells (M.state mover.old) IsClear }
-    ensures ends { EndsReplacing (read_device (F.files folder.old) (F.failing folder.old)) (read_device (P.files opener.now) (P.failing opener.now)) options.now result.0
+    ensures ends { EndsReplacing (folder_call (read_device (F.files folder.old) (F.failing folder.old)) (F.failures folder.old) (F.failures folder.new)) (read_device (P.files opener.now) (P.failing opener.now)) options.now result.0
         (maker_call (N.state notes) (N.state result.1) (N.failing notes Notes)) (mover_call (M.state mover.old) (M.state mover.new) (M.failing mover.old))
         (kept_call kept.old kept.new) }
-    // The folder's files stay, and the paths at which it may fail; a failure of it is counted only after a fault.
+    // The folder's files stay, and the paths at which it may fail.
     ensures folder_stays { read_device (F.files folder.new) (F.failing folder.new) ≡ read_device (F.files folder.old) (F.failing folder.old) }
-    ensures quiet { result.0 ≢ Status.Faulted → F.failures folder.new ≡ F.failures folder.old }
 {
     let (ended, mut notes) = replace_over(alloc, folder, opener, options, notes, mover, kept);
     match ended {

@@ -1,9 +1,9 @@
 //! The texts of a run take their places.
 ghost use Rattle.std.specs.Prelude.{◌≡◌, ◌<◌, ◌||◌, not, length, option_map, None, true, IfOk, IfErr, OnOk, OnErr};
 ghost use Rattle.kc_disk.specs.Makers.{Tells};
-ghost use Rattle.kc_disk.specs.Movers.{IsClear, MakingMayFail, MovingMayFail, changed, cleared, grown_by, has_name, is_held, mover_call, changed_or_all, replaced, share_name};
+ghost use Rattle.kc_disk.specs.Movers.{IsClear, MakingMayFail, MovingMayFail, changed, grown_by, has_name, is_held, mover_call, changed_or_all, replaced, share_name};
 ghost use Rattle.kc_disk.specs.ReplaceFaults.{IsReplaceFault};
-ghost use Rattle.kc_disk.specs.Texts.{added, moved_times, staged, text_of, texts_of};
+ghost use Rattle.kc_disk.specs.Texts.{added, held_by, moved_times, staged, text_of, texts_of};
 
 use crate::mover::Mover;
 use kc_dot::Fault;
@@ -102,7 +102,7 @@ fn changed<'n, 'b, M: Mover>(
 // Writes the bytes to the file that was started. On `Fault` a beginning of them is written.
 fn write_whole<M: Mover>(bytes: &[u8], mover: &mut M) -> Result<(), Fault>
     ensures ok { OnOk result (M.state mover.new ≡ option_map (grown_by bytes.now) (M.state mover.old)) }
-    ensures err { OnErr result (option_map cleared (M.state mover.new) ≡ option_map cleared (M.state mover.old)) }
+    ensures err { OnErr result (option_map held_by (M.state mover.new) ≡ option_map held_by (M.state mover.old)) }
     ensures fault { OnErr result (MakingMayFail (M.failing mover.old) (M.state mover.old)) }
     ensures failing_stays { M.failing mover.new ≡ M.failing mover.old }
 {
@@ -118,8 +118,9 @@ fn write_whole<M: Mover>(bytes: &[u8], mover: &mut M) -> Result<(), Fault>
 
 // Makes the file of a text beside its place, whole and on the disk. On `Fault` it may stand there in part.
 fn make<M: Mover>(text: NamedText<'_, '_>, mover: &mut M) -> Result<(), Fault>
+    requires { Tells (M.state mover.old) (λ s. s.begun ≡ None) }
     ensures ok { OnOk result (M.state mover.new ≡ option_map (added (text_of text.entry)) (M.state mover.old)) }
-    ensures err { OnErr result (option_map cleared (M.state mover.new) ≡ option_map cleared (M.state mover.old)) }
+    ensures err { OnErr result (option_map held_by (M.state mover.new) ≡ option_map held_by (M.state mover.old)) }
     ensures fault { OnErr result ((M.failing mover.old).making text.entry.name.now ≡ true) }
     ensures failing_stays { M.failing mover.new ≡ M.failing mover.old }
 {
@@ -133,7 +134,7 @@ fn make<M: Mover>(text: NamedText<'_, '_>, mover: &mut M) -> Result<(), Fault>
 fn make_all<'n, M: Mover>(texts: &[NamedText<'n, '_>], mover: &mut M) -> Result<(), &'n str>
     requires { Tells (M.state mover.old) (λ s. s.begun ≡ None) }
     ensures ok { OnOk result (M.state mover.new ≡ option_map (staged (texts_of texts.now)) (M.state mover.old)) }
-    ensures err { OnErr result (option_map cleared (M.state mover.new) ≡ option_map cleared (M.state mover.old)) }
+    ensures err { OnErr result (option_map held_by (M.state mover.new) ≡ option_map held_by (M.state mover.old)) }
     ensures named { IfErr result (λ name. has_name name.now (texts_of texts.now) ≡ true) }
     ensures fault { IfErr result (λ name. (M.failing mover.old).making name.now ≡ true) }
     ensures failing_stays { M.failing mover.new ≡ M.failing mover.old }
@@ -166,8 +167,8 @@ fn move_all<M: Mover>(texts: &[NamedText<'_, '_>], mover: &mut M) -> Result<(), 
 /// Puts each text in its place, where it is not there already: first all files are made beside their places, and then they
 /// are moved, in the order of the texts. Where two texts have one name nothing is compared, and the later one stays.
 ///
-/// The caller owes that nothing stands beside a place. After an error nothing does either. Where a file could not be made, that
-/// is the one that is named, and every place holds what it held. Where one could not be moved, it is named, and those before it
+/// The caller owes that nothing stands beside a place. After an error nothing does either. Of a text that is in its place no file
+/// is made. Where a file could not be made, that is the one that is named, and every place holds what it held. Where one could not be moved, it is named, and those before it
 /// are in their places.
 pub(crate) fn replace_files<'n, M: Mover>(
     alloc: Global,

@@ -1,9 +1,9 @@
 //! A run from a folder of files on, over what opens the streams, to the files that a maker makes.
-ghost use Rattle.std.specs.Prelude.{◌≡◌, ◌≢◌, [], string_bytes, IfErr, IfOk, OnErr, OnOk};
+ghost use Rattle.std.specs.Prelude.{◌≡◌, [], string_bytes, IfErr, IfOk, OnErr, OnOk};
 ghost use Rattle.kc_load.specs.Faults.{IsLoadFault, load_failures_after};
 ghost use Rattle.kc_conf.specs.Outcome.{root_file};
 ghost use Rattle.kc_conf.specs.declared.outputs.Output.TheVariants.{Notes};
-ghost use Rattle.kc_disk.specs.Openers.{read_device};
+ghost use Rattle.kc_disk.specs.Openers.{folder_call, read_device};
 ghost use Rattle.kc_disk.specs.Makers.{Tells, maker_call, none_made};
 ghost use Rattle.kc_disk.specs.Program.{RunEnds, Ran, kept_call};
 
@@ -116,11 +116,10 @@ pub fn run_over<F: Folder, P: Opener, M: Maker + Drop>(
     kept: &mut Option<AcceptedTree>,
 ) -> (Status, M)
     requires { Tells (M.state maker) (λ t. t ≡ none_made) }
-    ensures ends { RunEnds (read_device (F.files folder.old) (F.failing folder.old)) (read_device (P.files opener.now) (P.failing opener.now)) options.now result.0
+    ensures ends { RunEnds (folder_call (read_device (F.files folder.old) (F.failing folder.old)) (F.failures folder.old) (F.failures folder.new)) (read_device (P.files opener.now) (P.failing opener.now)) options.now result.0
         (maker_call (M.state maker) (M.state result.1) (M.failing maker Notes)) (kept_call kept.old kept.new) }
-    // The folder's files stay, and the paths at which it may fail; a failure of it is counted only after a fault.
+    // The folder's files stay, and the paths at which it may fail.
     ensures folder_stays { read_device (F.files folder.new) (F.failing folder.new) ≡ read_device (F.files folder.old) (F.failing folder.old) }
-    ensures quiet { result.0 ≢ Status.Faulted → F.failures folder.new ≡ F.failures folder.old }
 {
     let (ended, mut maker) = configure_over(alloc, folder, opener, options, maker, kept);
     match ended {

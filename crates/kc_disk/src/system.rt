@@ -12,7 +12,7 @@ use std::os::fd::AsFd;
 // What the system answers where a descriptor is not open.
 const NOT_OPEN: i32 = 9;
 
-/// The files of a disk, and standard error for the notes, which is not made or closed. It tells nothing.
+/// The files of a disk, and standard error for the notes. It tells nothing.
 ///
 /// Where standard error was closed when this was made, the notes fail: its descriptor may be that of a file that was opened
 /// since.
@@ -43,10 +43,7 @@ impl<'a> Maker for SystemMaker<'a> {
 
     ghost failing = { λ _ _. true };
 
-    fn create(&mut self, output: Output, name: &str) -> Result<(), Fault> {
-        if output == Output::Notes {
-            return Err(Fault);
-        }
+    fn create(&mut self, _output: Output, name: &str) -> Result<(), Fault> {
         match File::create(self.rt, name) {
             Ok(file) => {
                 self.file = Some(file);
@@ -69,10 +66,7 @@ impl<'a> Maker for SystemMaker<'a> {
         }
     }
 
-    fn close(&mut self, output: Output) -> Result<(), Fault> {
-        if output == Output::Notes {
-            return Err(Fault);
-        }
+    fn close(&mut self, _output: Output) -> Result<(), Fault> {
         self.file = None;
         Ok(())
     }

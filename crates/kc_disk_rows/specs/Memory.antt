@@ -33,4 +33,5 @@ places_by mover = record {
   held = put_all (map text_by mover.placed.items) nothing_held;
   begun = option_map text_by mover.begun;
   whole = map text_by mover.whole.items;
+  made = map string_bytes mover.made.items;
 }

@@ -165,7 +165,7 @@ impl Maker for MemoryMaker {
             Output::Header => self.header.open(name),
             Output::Minimal => self.minimal.open(name),
             Output::Depfile => self.depfile.open(name),
-            Output::Notes => self.notes.open(name),
+            Output::Notes => unreachable!(),
         }
         Ok(())
     }
@@ -195,7 +195,7 @@ impl Maker for MemoryMaker {
             Output::Header => self.header.is_open = false,
             Output::Minimal => self.minimal.is_open = false,
             Output::Depfile => self.depfile.is_open = false,
-            Output::Notes => self.notes.is_open = false,
+            Output::Notes => unreachable!(),
         }
         Ok(())
     }

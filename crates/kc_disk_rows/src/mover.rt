@@ -27,6 +27,8 @@ pub(crate) struct MemoryMover {
     first: usize,
     pub begun: Option<HeldFile>,
     pub whole: Vec<HeldFile>,
+    /// The names of the places beside which files were made, in order.
+    pub made: Vec<String>,
     calls: u64,
     fail_at: u64,
 }
@@ -62,6 +64,7 @@ impl MemoryMover {
             first: held.len(),
             begun: None,
             whole: Vec::new(alloc),
+            made: Vec::new(alloc),
             calls: 0,
             fail_at,
         })
@@ -125,13 +128,17 @@ impl Mover for MemoryMover {
 
     fn start(&mut self, name: &str) -> Result<(), Fault> {
         self.call()?;
-        match made(self.alloc, name, b"") {
-            Ok(file) => {
-                self.begun = Some(file);
-                Ok(())
-            }
-            Err(_) => Err(Fault),
+        let Ok(file) = made(self.alloc, name, b"") else {
+            return Err(Fault);
+        };
+        let Ok(name) = String::from_str(self.alloc, name) else {
+            return Err(Fault);
+        };
+        if self.made.push(name).is_err() {
+            return Err(Fault);
         }
+        self.begun = Some(file);
+        Ok(())
     }
 
     fn write(&mut self, bytes: &[u8]) -> Result<usize, Fault> {

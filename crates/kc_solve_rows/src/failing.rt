@@ -1,5 +1,6 @@
 //! Reading with a sink that fails: the lines before the one whose warning broke off count, and no other.
 ghost use Rattle.std.specs.Prelude.{None, ⊤};
+ghost use Rattle.kc_user.specs.Places.{ArePlacesOf};
 
 use kc_build::build_tree;
 use kc_dot::fault::DotFault;
@@ -12,7 +13,6 @@ use kc_tree::tree::Tree;
 use kc_user::user::User;
 use kc_user::value::UserValue;
 use std::alloc::{AllocError, Global};
-use std::process::Abort;
 use std::test::Fail;
 
 const KCONFIG: &[u8] = b"config A\n\tbool \"a\"\n";
@@ -79,114 +79,145 @@ fn tree_of(alloc: Global) -> Result<Tree, Fail> {
     }
 }
 
-// A, as the user has it.
-fn value_of_a(tree: &Tree, user: &User) -> Result<Tri, Fail> {
-    let id = tree.find(b"A").ok_or("A")?;
-    match user.symbols().get(id.0) {
-        Some(Some(UserValue::Tri(value))) => Ok(*value),
-        _ => Err(Fail::from("no truth value")),
+fn prefix_of(alloc: Global) -> Result<Prefix, Fail> {
+    let prefix = Prefix::new(alloc, b"CONFIG_")?.ok_or("a prefix")?;
+    Ok(prefix)
+}
+
+// A reader of `.config` over empty places, and a sink. Its calls have no contract of their own: what each one leaves is looked at.
+#[derive(Drop)]
+struct Trial<'a> {
+    reader: DotReader<'a>,
+    user: User,
+    sink: LimitedSink,
+    ghost places: { ArePlacesOf reader.tree user },
+}
+
+impl<'a> Trial<'a> {
+    fn new(
+        alloc: Global,
+        tree: &'a Tree,
+        prefix: &'a Prefix,
+        room: usize,
+    ) -> Result<Trial<'a>, AllocError> {
+        Ok(Trial {
+            reader: DotReader::new(alloc, tree, prefix, b".config"),
+            user: User::new(alloc, tree)?,
+            sink: with_room(alloc, room),
+        })
+    }
+
+    fn feed(&mut self, piece: &[u8]) -> Result<(), DotFault> {
+        self.reader.feed(piece, &mut self.user, &mut self.sink)
+    }
+
+    fn finish(&mut self) -> Result<(), DotFault> {
+        self.reader.finish(&mut self.user, &mut self.sink)
+    }
+
+    fn next_stream(&mut self, name: &'a [u8]) -> Result<(), DotFault> {
+        self.reader
+            .next_stream(name, &mut self.user, &mut self.sink)
+    }
+
+    // A, as the user has it.
+    fn value_of_a(&self, tree: &Tree) -> Result<Tri, Fail> {
+        let id = tree.find(b"A").ok_or("A")?;
+        match self.user.symbols().get(id.0) {
+            Some(Some(UserValue::Tri(value))) => Ok(*value),
+            _ => Err(Fail::from("no truth value")),
+        }
+    }
+
+    // A has this value, and so many bytes wait.
+    fn is_at(&self, tree: &Tree, a: Tri, waits: usize) -> Result<bool, Fail> {
+        let value = self.value_of_a(tree)?;
+        Ok(value == a && self.reader.pending() == waits)
+    }
+
+    fn took(&self, text: &[u8]) -> bool {
+        self.sink.bytes.as_slice() == text
     }
 }
 
-// The sink fails within one of the warnings: A is as the first line says, and the line that is warned of waits.
-fn breaks_off(rt: &impl Abort, alloc: Global, tree: &Tree, room: usize) -> Result<(), Fail> {
-    let prefix = Prefix::new(alloc, b"CONFIG_")?.ok_or("a prefix")?;
-    let mut user = User::new(alloc, tree)?;
-    let mut sink = with_room(alloc, room);
-    let mut reader = DotReader::new(alloc, tree, &prefix, b".config");
-    let answer = reader.feed(LINES, &mut user, &mut sink);
-    assert_eq!(rt; answer, Err(DotFault::Sink), "{}", room);
-    assert!(rt; WARNINGS.starts_with(&sink.bytes), "{}", room);
-    assert_eq!(rt; sink.bytes.len(), room, "{}", room);
-    assert_eq!(rt; value_of_a(tree, &user)?, Tri::Y, "{}", room);
+fn is_sink_fault(answer: Result<(), DotFault>) -> bool {
+    answer == Err(DotFault::Sink)
+}
+
+// What waits where the sink has so much room: of the line behind the one whose warning broke off.
+fn waiting_at(room: usize) -> usize {
     let second = b".config:2: warning K9: malformed line\n".len();
-    let waits = if room < 2 * second {
+    if room < 2 * second {
         b"bar".len()
     } else {
         b"# CONFIG_A is not set".len()
-    };
-    assert_eq!(rt; reader.pending(), waits, "{}", room);
-    let again = reader.feed(b"\n", &mut user, &mut sink);
-    assert_eq!(rt; again, Err(DotFault::Sink), "{}", room);
-    assert_eq!(rt; value_of_a(tree, &user)?, Tri::Y, "{}", room);
-    assert_eq!(rt; sink.failures, 1, "{}", room);
-    Ok(())
+    }
+}
+
+// Whether the sink fails within one of the warnings: A is as the first line says, and the line that is warned of waits.
+fn breaks_off(alloc: Global, tree: &Tree, prefix: &Prefix, room: usize) -> Result<bool, Fail> {
+    let mut trial = Trial::new(alloc, tree, prefix, room)?;
+    let is_first = is_sink_fault(trial.feed(LINES)) && is_sink_fault(trial.feed(b"\n"));
+    let is_at = trial.is_at(tree, Tri::Y, waiting_at(room))?;
+    let is_front = WARNINGS.starts_with(&trial.sink.bytes) && trial.sink.bytes.len() == room;
+    Ok(is_first && is_at && is_front && trial.sink.failures == 1)
 }
 
 #[test]
 fn the_lines_before_a_broken_warning_count(rt: HostRuntime) -> Result<(), Fail> {
     let tree = tree_of(rt.alloc())?;
+    let prefix = prefix_of(rt.alloc())?;
     for room in 0..WARNINGS.len() {
-        breaks_off(&rt, rt.alloc(), &tree, room)?;
+        assert!(rt; breaks_off(rt.alloc(), &tree, &prefix, room)?, "{}", room);
     }
     Ok(())
 }
 
 #[test]
 fn a_sink_with_room_takes_all(rt: HostRuntime) -> Result<(), Fail> {
-    let alloc = rt.alloc();
-    let tree = tree_of(alloc)?;
-    let prefix = Prefix::new(alloc, b"CONFIG_")?.ok_or("a prefix")?;
-    let mut user = User::new(alloc, &tree)?;
-    let mut sink = with_room(alloc, WARNINGS.len());
-    let mut reader = DotReader::new(alloc, &tree, &prefix, b".config");
-    reader.feed(LINES, &mut user, &mut sink)?;
-    assert_eq!(rt; sink.bytes.as_slice(), WARNINGS);
-    assert_eq!(rt; value_of_a(&tree, &user)?, Tri::N);
+    let tree = tree_of(rt.alloc())?;
+    let prefix = prefix_of(rt.alloc())?;
+    let mut trial = Trial::new(rt.alloc(), &tree, &prefix, WARNINGS.len())?;
+    trial.feed(LINES)?;
+    assert!(rt; trial.is_at(&tree, Tri::N, 0)? && trial.took(WARNINGS));
     Ok(())
 }
 
 #[test]
 fn the_last_line_waits_where_its_warning_broke_off(rt: HostRuntime) -> Result<(), Fail> {
-    let alloc = rt.alloc();
-    let tree = tree_of(alloc)?;
-    let prefix = Prefix::new(alloc, b"CONFIG_")?.ok_or("a prefix")?;
-    let mut user = User::new(alloc, &tree)?;
-    let mut sink = with_room(alloc, 5);
-    let mut reader = DotReader::new(alloc, &tree, &prefix, b".config");
-    reader.feed(b"CONFIG_A=y\nfoo", &mut user, &mut sink)?;
-    assert_eq!(rt; reader.finish(&mut user, &mut sink), Err(DotFault::Sink));
-    assert_eq!(rt; reader.finish(&mut user, &mut sink), Err(DotFault::Sink));
-    assert_eq!(rt; sink.bytes.as_slice(), b".conf".as_slice());
-    assert_eq!(rt; sink.failures, 1);
-    assert_eq!(rt; value_of_a(&tree, &user)?, Tri::Y);
-    assert_eq!(rt; reader.pending(), 3);
+    let tree = tree_of(rt.alloc())?;
+    let prefix = prefix_of(rt.alloc())?;
+    let mut trial = Trial::new(rt.alloc(), &tree, &prefix, 5)?;
+    trial.feed(b"CONFIG_A=y\nfoo")?;
+    let fails = is_sink_fault(trial.finish()) && is_sink_fault(trial.finish());
+    let is_at = trial.is_at(&tree, Tri::Y, 3)?;
+    assert!(rt; fails && is_at && trial.took(b".conf") && trial.sink.failures == 1);
     Ok(())
 }
 
 #[test]
 fn no_other_stream_begins_where_the_last_warning_broke_off(rt: HostRuntime) -> Result<(), Fail> {
-    let alloc = rt.alloc();
-    let tree = tree_of(alloc)?;
-    let prefix = Prefix::new(alloc, b"CONFIG_")?.ok_or("a prefix")?;
-    let mut user = User::new(alloc, &tree)?;
-    let mut sink = with_room(alloc, 5);
-    let mut reader = DotReader::new(alloc, &tree, &prefix, b".config");
-    reader.feed(b"CONFIG_A=y\nfoo", &mut user, &mut sink)?;
-    let next = reader.next_stream(b"x.cfg", &mut user, &mut sink);
-    assert_eq!(rt; next, Err(DotFault::Sink));
-    let line = reader.feed(b"# CONFIG_A is not set\n", &mut user, &mut sink);
-    assert_eq!(rt; line, Err(DotFault::Sink));
-    assert_eq!(rt; sink.bytes.as_slice(), b".conf".as_slice());
-    assert_eq!(rt; sink.failures, 1);
-    assert_eq!(rt; value_of_a(&tree, &user)?, Tri::Y);
-    assert_eq!(rt; reader.pending(), 3);
+    let tree = tree_of(rt.alloc())?;
+    let prefix = prefix_of(rt.alloc())?;
+    let mut trial = Trial::new(rt.alloc(), &tree, &prefix, 5)?;
+    trial.feed(b"CONFIG_A=y\nfoo")?;
+    let next = trial.next_stream(b"x.cfg");
+    let line = trial.feed(b"# CONFIG_A is not set\n");
+    let is_at = trial.is_at(&tree, Tri::Y, 3)?;
+    let fails = is_sink_fault(next) && is_sink_fault(line);
+    assert!(rt; fails && is_at && trial.took(b".conf") && trial.sink.failures == 1);
     Ok(())
 }
 
 #[test]
 fn the_next_stream_begins_at_line_1(rt: HostRuntime) -> Result<(), Fail> {
-    let alloc = rt.alloc();
-    let tree = tree_of(alloc)?;
-    let prefix = Prefix::new(alloc, b"CONFIG_")?.ok_or("a prefix")?;
-    let mut user = User::new(alloc, &tree)?;
-    let mut sink = with_room(alloc, WARNINGS.len());
-    let mut reader = DotReader::new(alloc, &tree, &prefix, b".config");
-    reader.feed(b"CONFIG_A=y\nfoo", &mut user, &mut sink)?;
-    reader.next_stream(b"x.cfg", &mut user, &mut sink)?;
-    reader.feed(b"bar\n", &mut user, &mut sink)?;
+    let tree = tree_of(rt.alloc())?;
+    let prefix = prefix_of(rt.alloc())?;
+    let mut trial = Trial::new(rt.alloc(), &tree, &prefix, WARNINGS.len())?;
+    trial.feed(b"CONFIG_A=y\nfoo")?;
+    trial.next_stream(b"x.cfg")?;
+    trial.feed(b"bar\n")?;
     let warnings = b".config:2: warning K9: malformed line\nx.cfg:1: warning K9: malformed line\n";
-    assert_eq!(rt; sink.bytes.as_slice(), warnings.as_slice());
-    assert_eq!(rt; value_of_a(&tree, &user)?, Tri::Y);
+    assert!(rt; trial.is_at(&tree, Tri::Y, 0)? && trial.took(warnings));
     Ok(())
 }

@@ -8,4 +8,4 @@ returns-in-Ok-clause-ends g c = options c.in-Ok.options (c.in-Ok.ensures.faultle
 
 pub returns-in-Err-clause-ends : goal.returns-in-Err-clause-ends
 returns-in-Err-clause-ends g c =
-    none c.in-Err.usage (c.in-Err.ensures.refused, c.in-Err.ensures.taken) c.print_usage-status.ensures.status c.print_usage-status.ensures.tells refl refl
+    none c.in-Err.usage (c.in-Err.ensures.refused, c.in-Err.ensures.taken) c.print_usage-status.ensures.status c.print_usage-status.ensures.tells refl refl refl

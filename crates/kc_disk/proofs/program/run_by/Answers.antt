@@ -2,18 +2,18 @@
 use Rattle.std.proofs.Common.{◌≡◌, refl, Bool, true, false, Option}
 use Rattle.kc_conf.specs.declared.options.Options.{Options}
 use Rattle.kc_conf.specs.declared.options.Status.{Status}
-use Rattle.kc_disk.specs.Openers.{ReadDevice}
+use Rattle.kc_disk.specs.Openers.{FolderCall, ReadDevice}
 use Rattle.kc_disk.specs.Makers.{MakerCall}
 use Rattle.kc_disk.specs.Movers.{MoverCall, MoverFailing, MoverState, mover_call}
 use Rattle.kc_disk.specs.Program.{KeptCall, RunEnds}
 use Rattle.kc_disk.specs.Replacing.{EndsBy, EndsReplacing}
 use Rattle.kc_disk.proofs.program.run_by.Goals as goal
 
-at_the_end : (b : Bool) (folder opened : ReadDevice) (options : Options) (status : Status) (maker : MakerCall) (mover : MoverCall) (kept : KeptCall) → b ≡ true →
+at_the_end : (b : Bool) (folder : FolderCall) (opened : ReadDevice) (options : Options) (status : Status) (maker : MakerCall) (mover : MoverCall) (kept : KeptCall) → b ≡ true →
     EndsReplacing folder opened options status maker mover kept → EndsBy b folder opened options status maker mover kept
 at_the_end b folder opened options status maker mover kept e h = rw e h
 
-as_they_are_made : (b : Bool) (folder opened : ReadDevice) (options : Options) (status : Status) (maker : MakerCall) (state : Option MoverState)
+as_they_are_made : (b : Bool) (folder : FolderCall) (opened : ReadDevice) (options : Options) (status : Status) (maker : MakerCall) (state : Option MoverState)
     (failing : MoverFailing) (kept : KeptCall) → b ≡ false → RunEnds folder opened options status maker kept →
     EndsBy b folder opened options status maker (mover_call state state failing) kept
 as_they_are_made b folder opened options status maker state failing kept e h = rw e (h, refl)

@@ -2,14 +2,14 @@
 use Rattle.std.proofs.Common.{◌∙◌, ◌<◌, ap, inl, inr, length, option_map, refl, sym}
 use Rattle.std.proofs.lemmas.List.{length-map}
 use Rattle.kc_disk.specs.Texts.{staged, text_of, texts_of}
-use Rattle.kc_disk.proofs.MoverLemmas.{cleared-still, named-at, named-staged, replaced-all, replaced-front}
+use Rattle.kc_disk.proofs.MoverLemmas.{cleared-keeps, named-at, named-staged, replaced-all, replaced-front}
 use Rattle.kc_disk.proofs.replace_files.replace_files.Goals as goal
 
 pub returns-in-Err-clause-err : goal.returns-in-Err-clause-err
 returns-in-Err-clause-err g c = inl (
   c.in-Err.ensures.fault,
   refl,
-  cleared-still _ _ _ c.requires c.in-Err.ensures.err c.clear.ensures.state,
+  cleared-keeps _ _ _ c.requires c.in-Err.ensures.err c.clear.ensures.state,
   λ s is. rw (sym (c.in_ok-some.ensures s is)) (rw c.deref.ensures.value at c.in-Err.ensures.named),
 )
 
