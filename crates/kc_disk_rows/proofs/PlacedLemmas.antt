@@ -49,9 +49,9 @@ found-before items placed i file name shown r was found same h is named r_is oth
     ∙ sym (next-found items i file name h is ∙ put-elsewhere (text_by file) (held_by (take i items)) name has))
 
 -- the first of the whole files took its place
-pub moved-first : (placed placed_after whole whole_after : List HeldFile) (file : HeldFile) (begun : Option NamedText) → 0 < length whole → file ≡ get_or whole 0 file →
+pub moved-first : (placed placed_after whole whole_after : List HeldFile) (file : HeldFile) (begun : Option NamedText) (made : List (List ℕ)) → 0 < length whole → file ≡ get_or whole 0 file →
     whole_after ≡ remove whole 0 → placed_after ≡ placed ++ file ∷ [] →
-    ◌≡◌ {A = MoverState} (record { held = held_by placed_after; begun = begun; whole = map text_by whole_after })
-    (moved (record { held = held_by placed; begun = begun; whole = map text_by whole }))
-moved-first placed placed_after [] whole_after file begun some is rest next = absurd (omega (arith, some))
-moved-first placed placed_after (f ∷ whole) whole_after file begun some is rest next = rw (next, rest, is) (rw (held-last placed f) refl)
+    ◌≡◌ {A = MoverState} (record { held = held_by placed_after; begun = begun; whole = map text_by whole_after; made = made })
+    (moved (record { held = held_by placed; begun = begun; whole = map text_by whole; made = made }))
+moved-first placed placed_after [] whole_after file begun made some is rest next = absurd (omega (arith, some))
+moved-first placed placed_after (f ∷ whole) whole_after file begun made some is rest next = rw (next, rest, is) (rw (held-last placed f) refl)

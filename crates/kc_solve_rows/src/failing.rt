@@ -84,13 +84,21 @@ fn prefix_of(alloc: Global) -> Result<Prefix, Fail> {
     Ok(prefix)
 }
 
-// A reader of `.config` over empty places, and a sink. Its calls have no contract of their own: what each one leaves is looked at.
+// A reader of `.config` over empty places, and a sink. Its calls have no contract of their own: what they leave is looked at.
 #[derive(Drop)]
 struct Trial<'a> {
     reader: DotReader<'a>,
     user: User,
     sink: LimitedSink,
     ghost places: { ArePlacesOf reader.tree user },
+}
+
+// A call of the reader.
+#[derive(Clone, Copy)]
+enum Call {
+    Feed(&'static [u8]),
+    Finish,
+    NextStream(&'static [u8]),
 }
 
 impl<'a> Trial<'a> {
@@ -107,44 +115,116 @@ impl<'a> Trial<'a> {
         })
     }
 
-    fn feed(&mut self, piece: &[u8]) -> Result<(), DotFault> {
-        self.reader.feed(piece, &mut self.user, &mut self.sink)
-    }
-
-    fn finish(&mut self) -> Result<(), DotFault> {
-        self.reader.finish(&mut self.user, &mut self.sink)
-    }
-
-    fn next_stream(&mut self, name: &'a [u8]) -> Result<(), DotFault> {
-        self.reader
-            .next_stream(name, &mut self.user, &mut self.sink)
-    }
-
-    // A, as the user has it.
-    fn value_of_a(&self, tree: &Tree) -> Result<Tri, Fail> {
-        let id = tree.find(b"A").ok_or("A")?;
-        match self.user.symbols().get(id.0) {
-            Some(Some(UserValue::Tri(value))) => Ok(*value),
-            _ => Err(Fail::from("no truth value")),
+    fn call(&mut self, call: Call) -> Result<(), DotFault> {
+        match call {
+            Call::Feed(piece) => self.reader.feed(piece, &mut self.user, &mut self.sink),
+            Call::Finish => self.reader.finish(&mut self.user, &mut self.sink),
+            Call::NextStream(name) => self
+                .reader
+                .next_stream(name, &mut self.user, &mut self.sink),
         }
     }
 
-    // A has this value, and so many bytes wait.
-    fn is_at(&self, tree: &Tree, a: Tri, waits: usize) -> Result<bool, Fail> {
-        let value = self.value_of_a(tree)?;
-        Ok(value == a && self.reader.pending() == waits)
+    // How many of the calls answer that the sink failed.
+    fn failed_calls(&mut self, calls: &[Call]) -> usize {
+        let mut failed = 0_usize;
+        for call in calls {
+            if self.call(*call) == Err(DotFault::Sink) {
+                failed = failed.saturating_add(1);
+            }
+        }
+        failed
     }
 
-    fn took(&self, text: &[u8]) -> bool {
-        self.sink.bytes.as_slice() == text
+    // A, as the user has it.
+    fn value_of_a(&self, tree: &Tree) -> Option<Tri> {
+        let id = tree.find(b"A")?;
+        match self.user.symbols().get(id.0) {
+            Some(Some(UserValue::Tri(value))) => Some(*value),
+            _ => None,
+        }
+    }
+
+    // Whether what is left is what the row says.
+    fn is_at(&self, tree: &Tree, row: &Row) -> bool {
+        self.value_of_a(tree) == Some(row.a)
+            && self.reader.pending() == row.waits
+            && self.sink.bytes.as_slice() == row.taken
+            && self.sink.failures == row.failures
     }
 }
 
-fn is_sink_fault(answer: Result<(), DotFault>) -> bool {
-    answer == Err(DotFault::Sink)
+// Calls over a sink with so much room: how many of them fail, what A is then, what the sink took, and how much of a line waits.
+#[derive(Clone, Copy)]
+struct Row {
+    name: &'static str,
+    calls: &'static [Call],
+    room: usize,
+    failed: usize,
+    failures: u64,
+    a: Tri,
+    taken: &'static [u8],
+    waits: usize,
 }
 
-// What waits where the sink has so much room: of the line behind the one whose warning broke off.
+const ALL: Row = Row {
+    name: "a sink with room takes all",
+    calls: &[Call::Feed(LINES)],
+    room: 200,
+    failed: 0,
+    failures: 0,
+    a: Tri::N,
+    taken: WARNINGS,
+    waits: 0,
+};
+
+const LAST: Row = Row {
+    name: "the last line waits where its warning broke off",
+    calls: &[Call::Feed(b"CONFIG_A=y\nfoo"), Call::Finish, Call::Finish],
+    room: 5,
+    failed: 2,
+    failures: 1,
+    a: Tri::Y,
+    taken: b".conf",
+    waits: 3,
+};
+
+const ROWS: &[Row] = &[
+    ALL,
+    LAST,
+    Row {
+        name: "no other stream begins where the last warning broke off",
+        calls: &[
+            Call::Feed(b"CONFIG_A=y\nfoo"),
+            Call::NextStream(b"x.cfg"),
+            Call::Feed(b"# CONFIG_A is not set\n"),
+        ],
+        ..LAST
+    },
+    Row {
+        name: "the next stream begins at line 1",
+        calls: &[
+            Call::Feed(b"CONFIG_A=y\nfoo"),
+            Call::NextStream(b"x.cfg"),
+            Call::Feed(b"bar\n"),
+        ],
+        a: Tri::Y,
+        taken: b".config:2: warning K9: malformed line\nx.cfg:1: warning K9: malformed line\n",
+        ..ALL
+    },
+];
+
+// The four lines, and then one more, where the sink fails within the warning of one of them.
+const BROKEN: Row = Row {
+    name: "the lines before a broken warning count",
+    calls: &[Call::Feed(LINES), Call::Feed(b"\n")],
+    failed: 2,
+    failures: 1,
+    a: Tri::Y,
+    ..ALL
+};
+
+// What waits where the sink has so much room: the line whose warning broke off.
 fn waiting_at(room: usize) -> usize {
     let second = b".config:2: warning K9: malformed line\n".len();
     if room < 2 * second {
@@ -154,70 +234,35 @@ fn waiting_at(room: usize) -> usize {
     }
 }
 
-// Whether the sink fails within one of the warnings: A is as the first line says, and the line that is warned of waits.
-fn breaks_off(alloc: Global, tree: &Tree, prefix: &Prefix, room: usize) -> Result<bool, Fail> {
-    let mut trial = Trial::new(alloc, tree, prefix, room)?;
-    let is_first = is_sink_fault(trial.feed(LINES)) && is_sink_fault(trial.feed(b"\n"));
-    let is_at = trial.is_at(tree, Tri::Y, waiting_at(room))?;
-    let is_front = WARNINGS.starts_with(&trial.sink.bytes) && trial.sink.bytes.len() == room;
-    Ok(is_first && is_at && is_front && trial.sink.failures == 1)
+// Whether the calls leave what the row says.
+fn gives(alloc: Global, tree: &Tree, prefix: &Prefix, row: &Row) -> Result<bool, AllocError> {
+    let mut trial = Trial::new(alloc, tree, prefix, row.room)?;
+    let failed = trial.failed_calls(row.calls);
+    Ok(failed == row.failed && trial.is_at(tree, row))
 }
 
 #[test]
-fn the_lines_before_a_broken_warning_count(rt: HostRuntime) -> Result<(), Fail> {
+fn a_sink_that_fails_leaves_what_the_lines_before_gave(rt: HostRuntime) -> Result<(), Fail> {
     let tree = tree_of(rt.alloc())?;
     let prefix = prefix_of(rt.alloc())?;
-    for room in 0..WARNINGS.len() {
-        assert!(rt; breaks_off(rt.alloc(), &tree, &prefix, room)?, "{}", room);
+    for row in ROWS {
+        assert!(rt; gives(rt.alloc(), &tree, &prefix, row)?, "{}", row.name);
     }
     Ok(())
 }
 
 #[test]
-fn a_sink_with_room_takes_all(rt: HostRuntime) -> Result<(), Fail> {
+fn each_warning_breaks_off_at_each_byte(rt: HostRuntime) -> Result<(), Fail> {
     let tree = tree_of(rt.alloc())?;
     let prefix = prefix_of(rt.alloc())?;
-    let mut trial = Trial::new(rt.alloc(), &tree, &prefix, WARNINGS.len())?;
-    trial.feed(LINES)?;
-    assert!(rt; trial.is_at(&tree, Tri::N, 0)? && trial.took(WARNINGS));
-    Ok(())
-}
-
-#[test]
-fn the_last_line_waits_where_its_warning_broke_off(rt: HostRuntime) -> Result<(), Fail> {
-    let tree = tree_of(rt.alloc())?;
-    let prefix = prefix_of(rt.alloc())?;
-    let mut trial = Trial::new(rt.alloc(), &tree, &prefix, 5)?;
-    trial.feed(b"CONFIG_A=y\nfoo")?;
-    let fails = is_sink_fault(trial.finish()) && is_sink_fault(trial.finish());
-    let is_at = trial.is_at(&tree, Tri::Y, 3)?;
-    assert!(rt; fails && is_at && trial.took(b".conf") && trial.sink.failures == 1);
-    Ok(())
-}
-
-#[test]
-fn no_other_stream_begins_where_the_last_warning_broke_off(rt: HostRuntime) -> Result<(), Fail> {
-    let tree = tree_of(rt.alloc())?;
-    let prefix = prefix_of(rt.alloc())?;
-    let mut trial = Trial::new(rt.alloc(), &tree, &prefix, 5)?;
-    trial.feed(b"CONFIG_A=y\nfoo")?;
-    let next = trial.next_stream(b"x.cfg");
-    let line = trial.feed(b"# CONFIG_A is not set\n");
-    let is_at = trial.is_at(&tree, Tri::Y, 3)?;
-    let fails = is_sink_fault(next) && is_sink_fault(line);
-    assert!(rt; fails && is_at && trial.took(b".conf") && trial.sink.failures == 1);
-    Ok(())
-}
-
-#[test]
-fn the_next_stream_begins_at_line_1(rt: HostRuntime) -> Result<(), Fail> {
-    let tree = tree_of(rt.alloc())?;
-    let prefix = prefix_of(rt.alloc())?;
-    let mut trial = Trial::new(rt.alloc(), &tree, &prefix, WARNINGS.len())?;
-    trial.feed(b"CONFIG_A=y\nfoo")?;
-    trial.next_stream(b"x.cfg")?;
-    trial.feed(b"bar\n")?;
-    let warnings = b".config:2: warning K9: malformed line\nx.cfg:1: warning K9: malformed line\n";
-    assert!(rt; trial.is_at(&tree, Tri::Y, 0)? && trial.took(warnings));
+    for room in 0..WARNINGS.len() {
+        let row = Row {
+            room,
+            taken: &WARNINGS[..room],
+            waits: waiting_at(room),
+            ..BROKEN
+        };
+        assert!(rt; gives(rt.alloc(), &tree, &prefix, &row)?, "{}", room);
+    }
     Ok(())
 }

@@ -13,7 +13,7 @@ returns-clause-ok c =
     let first = ap (λ (m : MoverState). Some (moved m)) c.call.ensures in
     elim c.match-push.branch [
       | in-Ok w ↦ rw w.result-is
-          (ap Some (moved-first s.placed.items _ s.whole.items _ c.remove-file.result _ some c.remove-file.ensures.value c.remove-file.ensures.items
+          (ap Some (moved-first s.placed.items _ s.whole.items _ c.remove-file.result _ _ some c.remove-file.ensures.value c.remove-file.ensures.items
           (w.in-Ok.ensures.items ∙ ap (λ (l : List HeldFile). l ++ c.remove-file.result ∷ []) c.reserve.ensures.items)) ∙ first)
       | in-Err w ↦ rw w.result-is tt
     ]
