@@ -1,38 +1,14 @@
 //! Worked rows: what lines of tokens read as, and what they are worth under values given by hand.
 
-ghost use Rattle.std.specs.Prelude.{◌≤◌, length};
-
 use kc_expr::expression::{Expr, Kind, SymId, Tri};
 use kc_expr::names::Names;
 use kc_expr::parse::{ExprFault, parse};
 use kc_expr::values::{Values, eval, eval_depends_on_symbols, symbols_into};
 use kc_text::{Token, lex};
-use std::alloc::Global;
-use std::process::Abort;
-use std::test::Fail;
+use std::alloc::{AllocError, Global};
 
-// Names, expressions and tables are handed to `drop` or to a helper as a reference: the code that drops one is long, and
-// would else stand once more at each early exit. For the same reason what is compared goes to a helper.
-
-fn is_text(rt: &impl Abort, got: &str, want: &str) {
-    assert_eq!(rt; got, want);
-}
-
-fn is_symbol(rt: &impl Abort, got: Option<SymId>, want: Option<SymId>) {
-    assert_eq!(rt; got, want);
-}
-
-fn is_count(rt: &impl Abort, got: Option<usize>, want: Option<usize>) {
-    assert_eq!(rt; got, want);
-}
-
-fn is_value(rt: &impl Abort, got: Option<Tri>, want: Option<Tri>) {
-    assert_eq!(rt; got, want);
-}
-
-fn are_symbols(rt: &impl Abort, got: &[SymId], want: &[SymId]) {
-    assert_eq!(rt; got, want);
-}
+// What is compared is compared in functions that answer whether a row holds: the code that drops names, an expression or a
+// table is long, and would else stand once more at each early exit.
 
 // The values of the symbols, by number.
 #[derive(Drop)]
@@ -76,38 +52,46 @@ impl Values for Table {
     }
 }
 
-// The expression with the place after it, or why there is none.
-fn shown(alloc: Global, answer: &Result<(Expr, usize), ExprFault>) -> Result<String, Fail> {
-    match answer {
-        Ok((expr, end)) => Ok(format!(in alloc; "{expr:?} {end}")?),
-        Err(fault) => Ok(format!(in alloc; "{fault}")?),
+// Whether the expression, with the place after it, is shown so.
+fn is_shown(alloc: Global, expr: &Expr, end: usize, want: &str) -> bool {
+    match format!(in alloc; "{expr:?} {end}") {
+        Ok(text) => text.as_str() == want,
+        Err(_) => false,
     }
 }
 
-fn shape_of_tokens(
+fn is_fault_shown(alloc: Global, fault: &ExprFault, want: &str) -> bool {
+    match format!(in alloc; "{fault}") {
+        Ok(text) => text.as_str() == want,
+        Err(_) => false,
+    }
+}
+
+fn tokens_read_as(
     alloc: Global,
     tokens: &[Token],
     condition: Option<SymId>,
     names: &mut Names,
-) -> Result<String, Fail> {
-    let answer = parse(alloc, tokens, 0, condition, names);
-    let text = shown(alloc, &answer);
-    drop(answer);
-    text
+    want: &str,
+) -> bool {
+    match parse(alloc, tokens, 0, condition, names) {
+        Ok((expr, end)) => is_shown(alloc, &expr, end, want),
+        Err(fault) => is_fault_shown(alloc, &fault, want),
+    }
 }
 
-// The tokens of the line as an expression, shown with the place after it, or why there is none.
-fn shape(
+// Whether the tokens of the line are an expression that is shown so, with the place after it, or why they are none.
+fn line_reads_as(
     alloc: Global,
     line: &[u8],
     condition: Option<SymId>,
     names: &mut Names,
-) -> Result<String, Fail>
-    requires { length line.now ≤ 8191 }
-{
+    want: &str,
+) -> bool {
     let mut tokens = Vec::new(alloc);
-    lex(line, &mut tokens)?;
-    shape_of_tokens(alloc, &tokens, condition, names)
+    line.len() <= 8191
+        && lex(line, &mut tokens).is_ok()
+        && tokens_read_as(alloc, &tokens, condition, names, want)
 }
 
 // The line, then what it reads as where A, B, C, .. get the next numbers from 1 on.
@@ -156,48 +140,23 @@ const SHAPES: &[(&[u8], &str)] = &[
     (b"", "syntax"),
 ];
 
-// What the line, or condition, reads as after the name MODULES.
-fn shape_after_modules(
-    alloc: Global,
-    line: &[u8],
-    is_condition: bool,
-    names: &mut Names,
-) -> Result<String, Fail>
-    requires { length line.now ≤ 8191 }
-{
-    let modules = names.id(b"MODULES")?;
-    let condition = if is_condition { Some(modules) } else { None };
-    shape(alloc, line, condition, names)
-}
-
-fn shape_in_new_names(alloc: Global, line: &[u8], is_condition: bool) -> Result<String, Fail>
-    requires { length line.now ≤ 8191 }
-{
+// Whether the line, or condition, reads so after the name MODULES.
+fn reads_as(alloc: Global, line: &[u8], is_condition: bool, want: &str) -> bool {
     let mut names = Names::new(alloc);
-    let text = shape_after_modules(alloc, line, is_condition, &mut names);
-    drop(names);
-    text
-}
-
-fn reads_as(
-    rt: &impl Abort,
-    alloc: Global,
-    line: &[u8],
-    is_condition: bool,
-    want: &str,
-) -> Result<(), Fail> {
-    assert!(rt; line.len() <= 8191);
-    let text = shape_in_new_names(alloc, line, is_condition)?;
-    is_text(rt, &text, want);
-    Ok(())
+    match names.id(b"MODULES") {
+        Ok(modules) => {
+            let condition = if is_condition { Some(modules) } else { None };
+            line_reads_as(alloc, line, condition, &mut names, want)
+        }
+        Err(_) => false,
+    }
 }
 
 #[test]
-fn lines_follow_the_grammar(rt: HostRuntime) -> Result<(), Fail> {
+fn lines_follow_the_grammar(rt: HostRuntime) {
     for (line, want) in SHAPES {
-        reads_as(&rt, rt.alloc(), line, false, want)?;
+        assert!(rt; reads_as(rt.alloc(), line, false, want), "{want}");
     }
-    Ok(())
 }
 
 // The line, then what it reads as in a condition.
@@ -228,11 +187,10 @@ const CONDITIONS: &[(&[u8], &str)] = &[
 ];
 
 #[test]
-fn plain_m_asks_for_modules(rt: HostRuntime) -> Result<(), Fail> {
+fn plain_m_asks_for_modules(rt: HostRuntime) {
     for (line, want) in CONDITIONS {
-        reads_as(&rt, rt.alloc(), line, true, want)?;
+        assert!(rt; reads_as(rt.alloc(), line, true, want), "{want}");
     }
-    Ok(())
 }
 
 const NUMBERS: &[(&[u8], Option<SymId>)] = &[
@@ -246,84 +204,79 @@ const NUMBERS: &[(&[u8], Option<SymId>)] = &[
     (b"x", None),
 ];
 
-fn finds_numbers(rt: &impl Abort, names: &Names) {
+fn finds_numbers(names: &Names) -> bool {
     for (name, number) in NUMBERS {
-        is_symbol(rt, names.find(name), *number);
-    }
-}
-
-fn is_numbered(rt: &impl Abort, names: &mut Names, name: &[u8], number: usize) -> Result<(), Fail> {
-    let id = names.id(name)?;
-    is_symbol(rt, Some(id), Some(SymId(number)));
-    Ok(())
-}
-
-fn read_mentions(alloc: Global, names: &mut Names) -> Result<(), Fail> {
-    let line = b"B && A = B || n || \"Q\" || X || C D";
-    drop(shape(alloc, line, None, names)?);
-    Ok(())
-}
-
-fn numbers_at_first_mention(rt: &impl Abort, alloc: Global, names: &mut Names) -> Result<(), Fail> {
-    is_numbered(rt, names, b"X", 0)?;
-    read_mentions(alloc, names)?;
-    finds_numbers(rt, names);
-    is_numbered(rt, names, b"D", 4)?;
-    is_numbered(rt, names, b"A", 2)
-}
-
-#[test]
-fn names_are_numbered_at_their_first_mention(rt: HostRuntime) -> Result<(), Fail> {
-    let mut names = Names::new(rt.alloc());
-    let outcome = numbers_at_first_mention(&rt, rt.alloc(), &mut names);
-    drop(names);
-    outcome
-}
-
-fn is_name(rt: &impl Abort, got: &[u8], want: &[u8]) {
-    assert_eq!(rt; got, want);
-}
-
-#[test]
-fn a_number_has_its_name(rt: HostRuntime) -> Result<(), Fail> {
-    let mut names = Names::new(rt.alloc());
-    if let Err(fault) = names.id(b"A") {
-        drop(names);
-        return Err(fault.into());
-    }
-    let id = match names.id(b"B_2") {
-        Ok(id) => id,
-        Err(fault) => {
-            drop(names);
-            return Err(fault.into());
+        if names.find(name) != *number {
+            return false;
         }
-    };
-    names.are_distinct();
-    is_name(&rt, names.name(id), b"B_2");
-    drop(names);
-    Ok(())
+    }
+    true
 }
 
-fn repeat_into(line: &mut Vec<u8>, count: usize, part: &[u8]) -> Result<(), Fail> {
+fn is_numbered(names: &mut Names, name: &[u8], number: usize) -> bool {
+    match names.id(name) {
+        Ok(id) => id == SymId(number),
+        Err(_) => false,
+    }
+}
+
+fn read_mentions(alloc: Global, names: &mut Names) -> bool {
+    let mut tokens = Vec::new(alloc);
+    lex(b"B && A = B || n || \"Q\" || X || C D", &mut tokens).is_ok()
+        && parse(alloc, &tokens, 0, None, names).is_ok()
+}
+
+fn are_numbered_at_first_mention(alloc: Global) -> bool {
+    let mut names = Names::new(alloc);
+    is_numbered(&mut names, b"X", 0)
+        && read_mentions(alloc, &mut names)
+        && finds_numbers(&names)
+        && is_numbered(&mut names, b"D", 4)
+        && is_numbered(&mut names, b"A", 2)
+}
+
+#[test]
+fn names_are_numbered_at_their_first_mention(rt: HostRuntime) {
+    assert!(rt; are_numbered_at_first_mention(rt.alloc()));
+}
+
+fn the_second_has_its_name(alloc: Global) -> bool {
+    let mut names = Names::new(alloc);
+    if names.id(b"A").is_err() {
+        return false;
+    }
+    match names.id(b"B_2") {
+        Ok(id) => {
+            names.are_distinct();
+            names.name(id) == b"B_2".as_slice()
+        }
+        Err(_) => false,
+    }
+}
+
+#[test]
+fn a_number_has_its_name(rt: HostRuntime) {
+    assert!(rt; the_second_has_its_name(rt.alloc()));
+}
+
+fn repeat_into(line: &mut Vec<u8>, count: usize, part: &[u8]) -> Result<(), AllocError> {
     for _ in 0..count {
         line.extend_from_slice(part)?;
     }
     Ok(())
 }
 
-// A line of so many openers, with what follows them.
-fn opened(
-    alloc: Global,
+// Adds so many openers, with what follows them.
+fn open_into(
+    line: &mut Vec<u8>,
     count: usize,
     opener: &[u8],
     operand: &[u8],
     closer: &[u8],
-) -> Result<Vec<u8>, Fail> {
-    let mut line = Vec::new(alloc);
-    repeat_into(&mut line, count, opener)?;
+) -> Result<(), AllocError> {
+    repeat_into(line, count, opener)?;
     line.extend_from_slice(operand)?;
-    repeat_into(&mut line, count, closer)?;
-    Ok(line)
+    repeat_into(line, count, closer)
 }
 
 // How many openers, the opener, what follows them, the closer, and what the line reads as.
@@ -350,47 +303,32 @@ const LEVELS: &[Level] = &[
     (65, b"A (", b"", b"", "One(Sym(SymId(0))) 1"),
 ];
 
-fn shape_without_names(alloc: Global, line: &[u8], condition: Option<SymId>) -> Result<String, Fail>
-    requires { length line.now ≤ 8191 }
-{
-    let mut names = Names::new(alloc);
-    let text = shape(alloc, line, condition, &mut names);
-    drop(names);
-    text
-}
-
-fn reads_without_names(
-    rt: &impl Abort,
-    alloc: Global,
-    line: &[u8],
-    condition: Option<SymId>,
-    want: &str,
-) -> Result<(), Fail> {
-    assert!(rt; line.len() <= 8191);
-    let text = shape_without_names(alloc, line, condition)?;
-    is_text(rt, &text, want);
-    Ok(())
-}
-
-fn reads_level(rt: &impl Abort, alloc: Global, level: &Level) -> Result<(), Fail> {
+fn level_reads(alloc: Global, level: &Level, condition: Option<SymId>) -> bool {
     let (count, opener, operand, closer, want) = level;
-    let line = opened(alloc, *count, opener, operand, closer)?;
-    reads_without_names(rt, alloc, &line, None, want)
+    let mut line = Vec::new(alloc);
+    let mut names = Names::new(alloc);
+    open_into(&mut line, *count, opener, operand, closer).is_ok()
+        && line_reads_as(alloc, &line, condition, &mut names, want)
 }
 
 #[test]
-fn the_65th_level_is_too_deep(rt: HostRuntime) -> Result<(), Fail> {
+fn the_65th_level_is_too_deep(rt: HostRuntime) {
     for level in LEVELS {
-        reads_level(&rt, rt.alloc(), level)?;
+        assert!(rt; level_reads(rt.alloc(), level, None), "{}", level.4);
     }
-    Ok(())
 }
 
+const PLAIN_M: Level = (
+    64,
+    b"(",
+    b"m",
+    b")",
+    "All([One(TristateConstant(M)), One(Sym(SymId(3)))]) 129",
+);
+
 #[test]
-fn a_plain_m_opens_no_level(rt: HostRuntime) -> Result<(), Fail> {
-    let line = opened(rt.alloc(), 64, b"(", b"m", b")")?;
-    let want = "All([One(TristateConstant(M)), One(Sym(SymId(3)))]) 129";
-    reads_without_names(&rt, rt.alloc(), &line, Some(SymId(3)), want)
+fn a_plain_m_opens_no_level(rt: HostRuntime) {
+    assert!(rt; level_reads(rt.alloc(), &PLAIN_M, Some(SymId(3))));
 }
 
 // How many parts the expression joins.
@@ -402,56 +340,38 @@ fn joined(expr: &Expr) -> Option<usize> {
     }
 }
 
-// How many parts the expression of all the tokens joins.
-fn parts_of_tokens(
-    alloc: Global,
-    tokens: &[Token],
-    names: &mut Names,
-) -> Result<Option<usize>, Fail> {
-    let (expr, end) = parse(alloc, tokens, 0, None, names)?;
-    let parts = joined(&expr);
-    drop(expr);
-    if end < tokens.len() {
-        return Ok(None);
+// Whether all the tokens are an expression of so many parts.
+fn tokens_have_parts(alloc: Global, tokens: &[Token], names: &mut Names, count: usize) -> bool {
+    match parse(alloc, tokens, 0, None, names) {
+        Ok((expr, end)) => end >= tokens.len() && joined(&expr) == Some(count),
+        Err(_) => false,
     }
-    Ok(parts)
 }
 
-// How many parts the line's expression joins, if all of the line is one.
-fn parts_of(alloc: Global, line: &[u8]) -> Result<Option<usize>, Fail>
-    requires { length line.now ≤ 8191 }
-{
+// Whether the line's expression joins so many parts, and all of the line is one.
+fn has_parts(alloc: Global, line: &[u8], count: usize) -> bool {
     let mut tokens = Vec::new(alloc);
-    lex(line, &mut tokens)?;
     let mut names = Names::new(alloc);
-    let parts = parts_of_tokens(alloc, &tokens, &mut names);
-    drop(names);
-    parts
+    line.len() <= 8191
+        && lex(line, &mut tokens).is_ok()
+        && tokens_have_parts(alloc, &tokens, &mut names, count)
 }
 
 // What is joined to an `a`, and how many parts there are then.
 const REPEATED: &[(&[u8], usize)] = &[(b" && a", 1639), (b"||a=b", 1639), (b"&&(((a)))", 911)];
 
-fn has_parts(rt: &impl Abort, alloc: Global, line: &[u8], count: usize) -> Result<(), Fail> {
-    assert!(rt; line.len() <= 8191);
-    let parts = parts_of(alloc, line)?;
-    is_count(rt, parts, Some(count));
-    Ok(())
-}
-
-fn reads_repeated(rt: &impl Abort, alloc: Global, part: &[u8], count: usize) -> Result<(), Fail> {
+fn repeated_has_parts(alloc: Global, part: &[u8], count: usize) -> bool {
     let mut line = Vec::new(alloc);
-    line.extend_from_slice(b"a")?;
-    repeat_into(&mut line, count.saturating_sub(1), part)?;
-    has_parts(rt, alloc, &line, count)
+    line.extend_from_slice(b"a").is_ok()
+        && repeat_into(&mut line, count.saturating_sub(1), part).is_ok()
+        && has_parts(alloc, &line, count)
 }
 
 #[test]
-fn the_longest_lines_are_read_at_once(rt: HostRuntime) -> Result<(), Fail> {
+fn the_longest_lines_are_read_at_once(rt: HostRuntime) {
     for (part, count) in REPEATED {
-        reads_repeated(&rt, rt.alloc(), part, *count)?;
+        assert!(rt; repeated_has_parts(rt.alloc(), part, *count), "{count}");
     }
-    Ok(())
 }
 
 // Each symbol with a type: its name, type, truth value and text.
@@ -495,20 +415,18 @@ const WORDS: &[&[u8]] = &[
     b"0x10000000000000000",
 ];
 
-fn name_symbols(names: &mut Names) -> Result<(), Fail> {
+fn name_symbols(names: &mut Names) -> bool {
     for (name, _, _, _) in SYMBOLS {
-        names.id(name)?;
+        if names.id(name).is_err() {
+            return false;
+        }
     }
     for word in WORDS {
-        names.id(word)?;
+        if names.id(word).is_err() {
+            return false;
+        }
     }
-    Ok(())
-}
-
-fn push_text(alloc: Global, text: &[u8], texts: &mut Vec<Vec<u8>>) -> Result<(), Fail> {
-    let owned = Vec::from_slice(alloc, text)?;
-    texts.push(owned)?;
-    Ok(())
+    true
 }
 
 fn push_symbol(
@@ -517,14 +435,15 @@ fn push_symbol(
     tri: Tri,
     text: &[u8],
     table: &mut Table,
-) -> Result<(), Fail> {
+) -> Result<(), AllocError> {
     table.kinds.push(kind)?;
     table.tris.push(tri)?;
-    push_text(alloc, text, &mut table.texts)
+    table.texts.push(Vec::from_slice(alloc, text)?)?;
+    Ok(())
 }
 
 // Puts the values of the symbols into an empty table.
-fn fill(alloc: Global, table: &mut Table) -> Result<(), Fail> {
+fn fill(alloc: Global, table: &mut Table) -> Result<(), AllocError> {
     for (_, kind, tri, text) in SYMBOLS {
         push_symbol(alloc, *kind, *tri, text, table)?;
     }
@@ -539,69 +458,37 @@ fn value_of_expression(expr: &Expr, table: &Table) -> Tri {
     eval(expr, table)
 }
 
-// The value of the tokens under the table, if all of them are an expression.
-fn value_of_tokens(
+// Whether all of the tokens are an expression of this value.
+fn tokens_are_worth(
     alloc: Global,
     tokens: &[Token],
     names: &mut Names,
     table: &Table,
-) -> Result<Option<Tri>, Fail> {
-    let (expr, end) = parse(alloc, tokens, 0, None, names)?;
-    let value = value_of_expression(&expr, table);
-    drop(expr);
-    if end < tokens.len() {
-        return Ok(None);
+    want: Tri,
+) -> bool {
+    match parse(alloc, tokens, 0, None, names) {
+        Ok((expr, end)) => end >= tokens.len() && value_of_expression(&expr, table) == want,
+        Err(_) => false,
     }
-    Ok(Some(value))
 }
 
-fn value_of_line(
-    alloc: Global,
-    line: &[u8],
-    names: &mut Names,
-    table: &Table,
-) -> Result<Option<Tri>, Fail>
-    requires { length line.now ≤ 8191 }
-{
+fn is_worth_in(alloc: Global, line: &[u8], table: &Table, want: Tri) -> bool {
     let mut tokens = Vec::new(alloc);
-    lex(line, &mut tokens)?;
-    value_of_tokens(alloc, &tokens, names, table)
-}
-
-fn value_in_table(alloc: Global, line: &[u8], table: &Table) -> Result<Option<Tri>, Fail>
-    requires { length line.now ≤ 8191 }
-{
     let mut names = Names::new(alloc);
-    let value = match name_symbols(&mut names) {
-        Ok(()) => value_of_line(alloc, line, &mut names, table),
-        Err(fault) => Err(fault),
-    };
-    drop(names);
-    value
+    line.len() <= 8191
+        && lex(line, &mut tokens).is_ok()
+        && name_symbols(&mut names)
+        && tokens_are_worth(alloc, &tokens, &mut names, table, want)
 }
 
-// The value of the line, if all of it is an expression.
-fn value_of(alloc: Global, line: &[u8]) -> Result<Option<Tri>, Fail>
-    requires { length line.now ≤ 8191 }
-{
+// Whether all of the line is an expression of this value.
+fn is_worth(alloc: Global, line: &[u8], want: Tri) -> bool {
     let mut table = Table {
         kinds: Vec::new(alloc),
         tris: Vec::new(alloc),
         texts: Vec::new(alloc),
     };
-    let value = match fill(alloc, &mut table) {
-        Ok(()) => value_in_table(alloc, line, &table),
-        Err(fault) => Err(fault),
-    };
-    drop(table);
-    value
-}
-
-fn is_worth(rt: &impl Abort, alloc: Global, line: &[u8], want: Tri) -> Result<(), Fail> {
-    assert!(rt; line.len() <= 8191);
-    let value = value_of(alloc, line)?;
-    is_value(rt, value, Some(want));
-    Ok(())
+    fill(alloc, &mut table).is_ok() && is_worth_in(alloc, line, &table, want)
 }
 
 const TRUTHS: &[(&[u8], Tri)] = &[
@@ -630,11 +517,10 @@ const TRUTHS: &[(&[u8], Tri)] = &[
 ];
 
 #[test]
-fn truth_values(rt: HostRuntime) -> Result<(), Fail> {
+fn truth_values(rt: HostRuntime) {
     for (line, want) in TRUTHS {
-        is_worth(&rt, rt.alloc(), line, *want)?;
+        assert!(rt; is_worth(rt.alloc(), line, *want), "{line:?}");
     }
-    Ok(())
 }
 
 // Relations that hold, each also tried with a `!` in front: truth values as 0, 1, 2.
@@ -736,92 +622,57 @@ const HEX_RELATIONS: &[&[u8]] = &[
 // No types.
 const UNTYPED_RELATIONS: &[&[u8]] = &[b"U = \"U\"", b"U < n", b"\"\" < 0"];
 
-fn holds(rt: &impl Abort, alloc: Global, line: &[u8]) -> Result<(), Fail> {
-    is_worth(rt, alloc, line, Tri::Y)?;
-    let negated = opened(alloc, 1, b"!", line, b"")?;
-    is_worth(rt, alloc, &negated, Tri::N)
-}
+const RELATIONS: &[&[&[u8]]] = &[
+    TRUTH_RELATIONS,
+    STRING_RELATIONS,
+    NUMERAL_RELATIONS,
+    TEXT_RELATIONS,
+    INT_RELATIONS,
+    HEX_RELATIONS,
+    UNTYPED_RELATIONS,
+];
 
-fn each_holds(rt: &impl Abort, alloc: Global, lines: &[&[u8]]) -> Result<(), Fail> {
-    for line in lines {
-        holds(rt, alloc, line)?;
-    }
-    Ok(())
-}
-
-fn relations() -> [&'static [&'static [u8]]; 7] {
-    [
-        TRUTH_RELATIONS,
-        STRING_RELATIONS,
-        NUMERAL_RELATIONS,
-        TEXT_RELATIONS,
-        INT_RELATIONS,
-        HEX_RELATIONS,
-        UNTYPED_RELATIONS,
-    ]
+// Whether the line holds, and does not with a `!` in front.
+fn holds(alloc: Global, line: &[u8]) -> bool {
+    let mut negated = Vec::new(alloc);
+    is_worth(alloc, line, Tri::Y)
+        && open_into(&mut negated, 1, b"!", line, b"").is_ok()
+        && is_worth(alloc, &negated, Tri::N)
 }
 
 #[test]
-fn relations_hold(rt: HostRuntime) -> Result<(), Fail> {
-    for lines in relations() {
-        each_holds(&rt, rt.alloc(), lines)?;
+fn relations_hold(rt: HostRuntime) {
+    for lines in RELATIONS {
+        for line in *lines {
+            assert!(rt; holds(rt.alloc(), line), "{line:?}");
+        }
     }
-    Ok(())
 }
 
 // Adds the symbols that the tokens name to those that are there.
-fn named_by_tokens(
-    alloc: Global,
-    tokens: &[Token],
-    names: &mut Names,
-    ids: &mut Vec<SymId>,
-) -> Result<(), Fail> {
-    let (expr, _) = parse(alloc, tokens, 0, Some(SymId(7)), names)?;
-    let outcome = symbols_into(&expr, ids);
-    drop(expr);
-    outcome?;
-    Ok(())
+fn named_into(alloc: Global, tokens: &[Token], names: &mut Names, ids: &mut Vec<SymId>) -> bool {
+    match parse(alloc, tokens, 0, Some(SymId(7)), names) {
+        Ok((expr, _)) => symbols_into(&expr, ids).is_ok(),
+        Err(_) => false,
+    }
 }
 
-fn named_into(
-    alloc: Global,
-    line: &[u8],
-    names: &mut Names,
-    ids: &mut Vec<SymId>,
-) -> Result<(), Fail>
-    requires { length line.now ≤ 8191 }
-{
+const NAMED: &[SymId] = &[SymId(9), SymId(0), SymId(1), SymId(0), SymId(2), SymId(7)];
+
+// Whether the symbols that a line names stand behind the number 9, from left to right.
+fn are_named(alloc: Global) -> bool {
     let mut tokens = Vec::new(alloc);
-    lex(line, &mut tokens)?;
-    named_by_tokens(alloc, &tokens, names, ids)
-}
-
-// The number 9, and then the symbols that the line names.
-fn named_after_9(alloc: Global, line: &[u8], names: &mut Names) -> Result<Vec<SymId>, Fail>
-    requires { length line.now ≤ 8191 }
-{
-    let mut ids = Vec::new(alloc);
-    ids.push(SymId(9))?;
-    named_into(alloc, line, names, &mut ids)?;
-    Ok(ids)
-}
-
-fn named_in_new_names(alloc: Global, line: &[u8]) -> Result<Vec<SymId>, Fail>
-    requires { length line.now ≤ 8191 }
-{
     let mut names = Names::new(alloc);
-    let ids = named_after_9(alloc, line, &mut names);
-    drop(names);
-    ids
+    let mut ids = Vec::new(alloc);
+    ids.push(SymId(9)).is_ok()
+        && lex(b"C && !(A = C) || B <= \"B\" || m", &mut tokens).is_ok()
+        && named_into(alloc, &tokens, &mut names, &mut ids)
+        && ids.as_slice() == NAMED
 }
 
 #[test]
-fn symbols_are_named_from_left_to_right(rt: HostRuntime) -> Result<(), Fail> {
-    let line = b"C && !(A = C) || B <= \"B\" || m";
-    let ids = named_in_new_names(rt.alloc(), line)?;
-    let wanted = [SymId(9), SymId(0), SymId(1), SymId(0), SymId(2), SymId(7)];
-    are_symbols(&rt, &ids, &wanted);
-    Ok(())
+fn symbols_are_named_from_left_to_right(rt: HostRuntime) {
+    assert!(rt; are_named(rt.alloc()));
 }
 
 // Names as long as stand in place, one byte longer, and much longer; the last two differ in their last byte.
@@ -834,25 +685,31 @@ static LONG_NAMES: &[&[u8]] = &[
     b"ABCDEFGHIJKLMNOPQRSTUVWXYZABCDEFGHIJKLMNOPQRSTUVWXYZABCDEFGH_2",
 ];
 
-fn numbers_long_names(rt: &impl Abort, names: &mut Names) -> Result<(), Fail> {
+fn number_long_names(names: &mut Names) -> bool {
     for (number, name) in LONG_NAMES.iter().enumerate() {
-        is_numbered(rt, names, name, number)?;
+        if !is_numbered(names, name, number) {
+            return false;
+        }
     }
-    Ok(())
+    true
 }
 
-fn finds_long_names(rt: &impl Abort, names: &Names) {
+fn finds_long_names(names: &Names) -> bool {
     for (number, name) in LONG_NAMES.iter().enumerate() {
-        is_symbol(rt, names.find(name), Some(SymId(number)));
-        is_name(rt, names.get(SymId(number)).unwrap_or(b""), name);
+        let id = SymId(number);
+        if names.find(name) != Some(id) || names.get(id) != Some(*name) {
+            return false;
+        }
     }
+    true
+}
+
+fn are_long_names_kept(alloc: Global) -> bool {
+    let mut names = Names::new(alloc);
+    number_long_names(&mut names) && finds_long_names(&names)
 }
 
 #[test]
-fn long_names_are_kept_whole(rt: HostRuntime) -> Result<(), Fail> {
-    let mut names = Names::new(rt.alloc());
-    let outcome = numbers_long_names(&rt, &mut names);
-    finds_long_names(&rt, &names);
-    drop(names);
-    outcome
+fn long_names_are_kept_whole(rt: HostRuntime) {
+    assert!(rt; are_long_names_kept(rt.alloc()));
 }

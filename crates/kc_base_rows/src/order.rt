@@ -6,7 +6,6 @@ use kc_order::{
     named_loop_is_within, one_named_loop, order_of, ordered_are_accepted, solutions_agree,
 };
 use std::alloc::{AllocError, Global};
-use std::test::Fail;
 
 // An order, for a graph that may be asked for.
 fn order_if_within(alloc: Global, graph: Graph) -> Result<Order, NoOrder> {
@@ -38,142 +37,223 @@ fn graph_from(alloc: Global, symbols: usize, rows: &[&[u32]]) -> Result<Graph, A
     Ok(graph)
 }
 
-// A graph of symbols alone.
-fn needs_from(alloc: Global, rows: &[&[u32]]) -> Result<Graph, AllocError> {
-    graph_from(alloc, rows.len(), rows)
+// A graph whose first nodes are symbols, what each node needs, and the loop that is named; none where there is an order.
+struct LoopRow {
+    name: &'static str,
+    symbols: usize,
+    needs: &'static [&'static [u32]],
+    named: &'static [u32],
 }
 
-#[test]
-fn a_way_in_is_left_out(rt: HostRuntime) -> Result<(), Fail> {
-    // X is the default of none, but has A as its default, A has B and B has A
-    let needs = needs_from(rt.alloc(), &[&[1], &[2], &[1]])?;
-    assert_eq!(rt; loop_of(rt.alloc(), needs)?.as_slice(), [1, 2].as_slice());
-    Ok(())
-}
+const LOOPS: &[LoopRow] = &[
+    LoopRow {
+        name: "a way in is left out: 0 has 1 as its default, 1 has 2 and 2 has 1",
+        symbols: 3,
+        needs: &[&[1], &[2], &[1]],
+        named: &[1, 2],
+    },
+    LoopRow {
+        name: "a symbol needs itself",
+        symbols: 1,
+        needs: &[&[0]],
+        named: &[0],
+    },
+    LoopRow {
+        name: "the first of two loops: 0 is free; 1 needs 4 and 2, which lie on two",
+        symbols: 6,
+        needs: &[&[], &[4, 0, 2], &[3], &[2], &[5], &[4]],
+        named: &[2, 3],
+    },
+    LoopRow {
+        name: "two ways lead into a loop: 0 and 4 need what goes round 2 and 3; 1 is free",
+        symbols: 5,
+        needs: &[&[1, 3], &[], &[3], &[2], &[1, 0]],
+        named: &[3, 2],
+    },
+    LoopRow {
+        name: "two members of a choice, the first with a prompt under the second",
+        symbols: 2,
+        needs: &[&[2], &[2], &[1]],
+        named: &[1],
+    },
+    LoopRow {
+        name: "a loop through groups names symbols: 0 needs what 2 and 1 are in a group within another; 2 needs 0",
+        symbols: 3,
+        needs: &[&[4], &[], &[0], &[2], &[1, 3]],
+        named: &[0, 2],
+    },
+    LoopRow {
+        name: "a group beside a loop is passed: it asks for 1, which is free, and for 2, which needs itself",
+        symbols: 3,
+        needs: &[&[3], &[], &[2], &[2, 1]],
+        named: &[2],
+    },
+];
 
-#[test]
-fn a_symbol_needs_itself(rt: HostRuntime) -> Result<(), Fail> {
-    let needs = needs_from(rt.alloc(), &[&[0]])?;
-    assert_eq!(rt; loop_of(rt.alloc(), needs)?.as_slice(), [0].as_slice());
-    Ok(())
-}
-
-#[test]
-fn the_first_of_two_loops(rt: HostRuntime) -> Result<(), Fail> {
-    // 0 is free; 1 needs 4 and 2, which lie on two loops
-    let needs = needs_from(rt.alloc(), &[&[], &[4, 0, 2], &[3], &[2], &[5], &[4]])?;
-    assert_eq!(rt; loop_of(rt.alloc(), needs)?.as_slice(), [2, 3].as_slice());
-    Ok(())
-}
-
-#[test]
-fn members_share_a_group(rt: HostRuntime) -> Result<(), Fail> {
-    // two members of a choice, the first with a prompt under the second
-    let graph = graph_from(rt.alloc(), 2, &[&[2], &[2], &[1]])?;
-    assert!(rt; graph.count() == 3);
-    assert!(rt; graph.symbols() == 2);
-    assert_eq!(rt; loop_of(rt.alloc(), graph)?.as_slice(), [1].as_slice());
-    Ok(())
-}
-
-#[test]
-fn a_loop_through_groups_names_symbols(rt: HostRuntime) -> Result<(), Fail> {
-    // 0 needs what 2 and 1 are in a group within another; 2 needs 0
-    let graph = graph_from(rt.alloc(), 3, &[&[4], &[], &[0], &[2], &[1, 3]])?;
-    assert_eq!(rt; loop_of(rt.alloc(), graph)?.as_slice(), [0, 2].as_slice());
-    Ok(())
-}
-
-#[test]
-fn a_group_beside_a_loop_is_passed(rt: HostRuntime) -> Result<(), Fail> {
-    // the group asks for 1, which is free, and for 2, which needs itself
-    let graph = graph_from(rt.alloc(), 3, &[&[3], &[], &[2], &[2, 1]])?;
-    assert_eq!(rt; loop_of(rt.alloc(), graph)?.as_slice(), [2].as_slice());
-    Ok(())
-}
-
-#[test]
-fn groups_stand_behind_what_they_need(rt: HostRuntime) -> Result<(), Fail> {
-    let graph = graph_from(rt.alloc(), 2, &[&[3], &[], &[1], &[2]])?;
-    match order_if_within(rt.alloc(), graph) {
-        Ok(order) => assert_eq!(rt; order.nodes(), [1, 2, 3, 0].as_slice()),
-        Err(_) => assert!(rt; false),
+fn has_loop(alloc: Global, graph: Graph, named: &[u32]) -> bool {
+    match loop_of(alloc, graph) {
+        Ok(found) => found.as_slice() == named,
+        Err(_) => false,
     }
-    Ok(())
+}
+
+fn has_named_loop(alloc: Global, row: &LoopRow) -> bool {
+    match graph_from(alloc, row.symbols, row.needs) {
+        Ok(graph) => has_loop(alloc, graph, row.named),
+        Err(_) => false,
+    }
 }
 
 #[test]
-fn a_group_does_not_need_a_later_one(rt: HostRuntime) -> Result<(), Fail> {
-    let graph = graph_from(rt.alloc(), 1, &[&[1], &[2], &[0]])?;
-    assert!(rt; !graph.is_within());
-    let other = graph_from(rt.alloc(), 1, &[&[1], &[0], &[1]])?;
-    assert!(rt; other.is_within());
-    Ok(())
+fn the_first_loop_is_named(rt: HostRuntime) {
+    for row in LOOPS {
+        assert!(rt; has_named_loop(rt.alloc(), row), "{}", row.name);
+    }
+}
+
+fn has_counts(alloc: Global, symbols: usize, needs: &[&[u32]]) -> bool {
+    match graph_from(alloc, symbols, needs) {
+        Ok(graph) => graph.count() == needs.len() && graph.symbols() == symbols,
+        Err(_) => false,
+    }
 }
 
 #[test]
-fn a_long_chain_in_reverse(rt: HostRuntime) -> Result<(), Fail> {
-    let mut graph = Graph::with_room(rt.alloc(), 20_000, 0)?;
+fn symbols_and_groups_are_counted(rt: HostRuntime) {
+    assert!(rt; has_counts(rt.alloc(), 2, &[&[2], &[2], &[1]]));
+}
+
+fn is_ordered_as(alloc: Global, symbols: usize, needs: &[&[u32]], nodes: &[u32]) -> bool {
+    match graph_from(alloc, symbols, needs) {
+        Ok(graph) => match order_if_within(alloc, graph) {
+            Ok(order) => order.nodes() == nodes,
+            Err(_) => false,
+        },
+        Err(_) => false,
+    }
+}
+
+#[test]
+fn groups_stand_behind_what_they_need(rt: HostRuntime) {
+    assert!(rt; is_ordered_as(rt.alloc(), 2, &[&[3], &[], &[1], &[2]], &[1, 2, 3, 0]));
+}
+
+fn is_within(alloc: Global, symbols: usize, needs: &[&[u32]]) -> Option<bool> {
+    match graph_from(alloc, symbols, needs) {
+        Ok(graph) => Some(graph.is_within()),
+        Err(_) => None,
+    }
+}
+
+#[test]
+fn a_group_does_not_need_a_later_one(rt: HostRuntime) {
+    assert!(rt; is_within(rt.alloc(), 1, &[&[1], &[2], &[0]]) == Some(false));
+    assert!(rt; is_within(rt.alloc(), 1, &[&[1], &[0], &[1]]) == Some(true));
+}
+
+// Each symbol of the chain needs the next, the last none.
+fn add_chain(graph: &mut Graph) -> Result<(), AllocError> {
     for symbol in 1..20_000u32 {
         graph.add(&[symbol])?;
     }
-    graph.add(&[])?;
-    assert_eq!(rt; graph.count(), 20_000);
-    match order_if_within(rt.alloc(), graph) {
-        Ok(order) => {
-            let nodes = order.nodes();
-            assert_eq!(rt; nodes.len(), 20_000);
-            for place in 0..nodes.len() {
-                assert_eq!(rt; nodes[place] as usize, nodes.len() - 1 - place);
-            }
+    graph.add(&[])
+}
+
+fn is_reversed(nodes: &[u32]) -> bool {
+    for place in 0..nodes.len() {
+        if nodes[place] as usize != nodes.len() - 1 - place {
+            return false;
         }
-        Err(_) => assert!(rt; false),
     }
-    Ok(())
+    nodes.len() == 20_000
+}
+
+fn is_ordered_in_reverse(alloc: Global, graph: Graph) -> bool {
+    match order_if_within(alloc, graph) {
+        Ok(order) => is_reversed(order.nodes()),
+        Err(_) => false,
+    }
+}
+
+fn chain(alloc: Global, symbols: usize) -> Result<Graph, AllocError> {
+    let mut graph = Graph::with_room(alloc, symbols, 0)?;
+    add_chain(&mut graph)?;
+    Ok(graph)
+}
+
+fn a_chain_is_ordered(alloc: Global) -> bool {
+    match chain(alloc, 20_000) {
+        Ok(graph) => graph.count() == 20_000 && is_ordered_in_reverse(alloc, graph),
+        Err(_) => false,
+    }
 }
 
 #[test]
-fn a_loop_beside_a_long_chain(rt: HostRuntime) -> Result<(), Fail> {
-    // each symbol of the chain needs the next, the last none; behind them stands one that needs itself
-    let mut graph = Graph::with_room(rt.alloc(), 20_001, 0)?;
-    for symbol in 1..20_000u32 {
-        graph.add(&[symbol])?;
-    }
-    graph.add(&[])?;
+fn a_long_chain_in_reverse(rt: HostRuntime) {
+    assert!(rt; a_chain_is_ordered(rt.alloc()));
+}
+
+// Behind the chain stands a symbol that needs itself.
+fn chain_and_loop(alloc: Global) -> Result<Graph, AllocError> {
+    let mut graph = chain(alloc, 20_001)?;
     graph.add(&[20_000])?;
-    assert_eq!(rt; loop_of(rt.alloc(), graph)?.as_slice(), [20_000].as_slice());
-    Ok(())
+    Ok(graph)
+}
+
+fn a_loop_is_named_behind_a_chain(alloc: Global) -> bool {
+    match chain_and_loop(alloc) {
+        Ok(graph) => has_loop(alloc, graph, &[20_000]),
+        Err(_) => false,
+    }
 }
 
 #[test]
-fn a_loop_that_two_ways_lead_into(rt: HostRuntime) -> Result<(), Fail> {
-    // 0 and 4 need what goes round 2 and 3; 1 is free
-    let needs = needs_from(rt.alloc(), &[&[1, 3], &[], &[3], &[2], &[1, 0]])?;
-    assert_eq!(rt; loop_of(rt.alloc(), needs)?.as_slice(), [3, 2].as_slice());
-    Ok(())
+fn a_loop_beside_a_long_chain(rt: HostRuntime) {
+    assert!(rt; a_loop_is_named_behind_a_chain(rt.alloc()));
 }
 
-#[test]
-fn many_members_share_a_long_row(rt: HostRuntime) -> Result<(), Fail> {
-    // 20,000 members that need 20,000 further symbols
-    let mut row = Vec::new(rt.alloc());
+fn numbers_into(row: &mut Vec<u32>) -> Result<(), AllocError> {
     for symbol in 20_000..40_000u32 {
         row.push(symbol)?;
     }
-    let mut graph = Graph::with_room(rt.alloc(), 40_000, 40_001)?;
+    Ok(())
+}
+
+fn add_members(graph: &mut Graph, row: &[u32]) -> Result<(), AllocError> {
     for _member in 0..20_000 {
         graph.add(&[40_000])?;
     }
     for _symbol in 0..20_000 {
         graph.add(&[])?;
     }
-    graph.add(&row)?;
-    assert_eq!(rt; loop_of(rt.alloc(), graph)?.len(), 0);
-    Ok(())
+    graph.add(row)
+}
+
+// 20,000 members that need 20,000 further symbols.
+fn members_and_row(alloc: Global, row: &[u32]) -> Result<Graph, AllocError> {
+    let mut graph = Graph::with_room(alloc, 40_000, 40_001)?;
+    add_members(&mut graph, row)?;
+    Ok(graph)
+}
+
+fn are_members_ordered(alloc: Global) -> bool {
+    let mut row = Vec::new(alloc);
+    if numbers_into(&mut row).is_err() {
+        return false;
+    }
+    match members_and_row(alloc, &row) {
+        Ok(graph) => has_loop(alloc, graph, &[]),
+        Err(_) => false,
+    }
 }
 
 #[test]
-fn laws_hold_of_bytes(_rt: HostRuntime) -> Result<(), Fail> {
+fn many_members_share_a_long_row(rt: HostRuntime) {
+    assert!(rt; are_members_ordered(rt.alloc()));
+}
+
+#[test]
+fn laws_hold_of_bytes(_rt: HostRuntime) {
     ordered_are_accepted();
     cycles_are_unordered();
     named_loop_is_closed();
@@ -185,5 +265,4 @@ fn laws_hold_of_bytes(_rt: HostRuntime) -> Result<(), Fail> {
     iterations_solve::<u8>();
     minimal_restores::<u8, usize, u8>();
     minimal_has_nothing_to_spare::<u8, usize, u8>();
-    Ok(())
 }
