@@ -2,18 +2,16 @@
 ghost use Rattle.std.specs.Prelude.{None, ⊤};
 ghost use Rattle.kc_user.specs.Places.{ArePlacesOf};
 
-use kc_build::build_tree;
+use crate::trial::{Claim, is_true_of};
 use kc_dot::fault::DotFault;
 use kc_dot::prefix::Prefix;
 use kc_dot::reader::DotReader;
 use kc_dot::{Fault, Sink};
 use kc_expr::expression::Tri;
-use kc_read::file_map::FileMap;
 use kc_tree::tree::Tree;
 use kc_user::user::User;
 use kc_user::value::UserValue;
 use std::alloc::{AllocError, Global};
-use std::test::Fail;
 
 const KCONFIG: &[u8] = b"config A\n\tbool \"a\"\n";
 
@@ -54,36 +52,6 @@ impl Sink for LimitedSink {
     ghost goes_on = { λ s t u st tu. tt };
 }
 
-fn with_room(alloc: Global, room: usize) -> LimitedSink {
-    LimitedSink {
-        bytes: Vec::new(alloc),
-        room,
-        failures: 0,
-    }
-}
-
-fn files_of(alloc: Global) -> Result<FileMap, AllocError> {
-    let mut files = FileMap::new(alloc);
-    files.insert(
-        Vec::from_slice(alloc, b"Kconfig")?,
-        Vec::from_slice(alloc, KCONFIG)?,
-    )?;
-    Ok(files)
-}
-
-fn tree_of(alloc: Global) -> Result<Tree, Fail> {
-    let files = files_of(alloc)?;
-    match build_tree(alloc, &files, b"Kconfig") {
-        Ok(tree) => Ok(tree),
-        Err(_refusal) => Err(Fail::from("a refusal")),
-    }
-}
-
-fn prefix_of(alloc: Global) -> Result<Prefix, Fail> {
-    let prefix = Prefix::new(alloc, b"CONFIG_")?.ok_or("a prefix")?;
-    Ok(prefix)
-}
-
 // A reader of `.config` over empty places, and a sink. Its calls have no contract of their own: what they leave is looked at.
 #[derive(Drop)]
 struct Trial<'a> {
@@ -94,7 +62,6 @@ struct Trial<'a> {
 }
 
 // A call of the reader.
-#[derive(Clone, Copy)]
 enum Call {
     Feed(&'static [u8]),
     Finish,
@@ -108,14 +75,19 @@ impl<'a> Trial<'a> {
         prefix: &'a Prefix,
         room: usize,
     ) -> Result<Trial<'a>, AllocError> {
+        let user = User::new(alloc, tree)?;
         Ok(Trial {
             reader: DotReader::new(alloc, tree, prefix, b".config"),
-            user: User::new(alloc, tree)?,
-            sink: with_room(alloc, room),
+            user,
+            sink: LimitedSink {
+                bytes: Vec::new(alloc),
+                room,
+                failures: 0,
+            },
         })
     }
 
-    fn call(&mut self, call: Call) -> Result<(), DotFault> {
+    fn call(&mut self, call: &Call) -> Result<(), DotFault> {
         match call {
             Call::Feed(piece) => self.reader.feed(piece, &mut self.user, &mut self.sink),
             Call::Finish => self.reader.finish(&mut self.user, &mut self.sink),
@@ -129,7 +101,7 @@ impl<'a> Trial<'a> {
     fn failed_calls(&mut self, calls: &[Call]) -> usize {
         let mut failed = 0_usize;
         for call in calls {
-            if self.call(*call) == Err(DotFault::Sink) {
+            if self.call(call) == Err(DotFault::Sink) {
                 failed = failed.saturating_add(1);
             }
         }
@@ -235,26 +207,31 @@ fn waiting_at(room: usize) -> usize {
 }
 
 // Whether the calls leave what the row says.
-fn gives(alloc: Global, tree: &Tree, prefix: &Prefix, row: &Row) -> Result<bool, AllocError> {
-    let mut trial = Trial::new(alloc, tree, prefix, row.room)?;
-    let failed = trial.failed_calls(row.calls);
-    Ok(failed == row.failed && trial.is_at(tree, row))
-}
-
-#[test]
-fn a_sink_that_fails_leaves_what_the_lines_before_gave(rt: HostRuntime) -> Result<(), Fail> {
-    let tree = tree_of(rt.alloc())?;
-    let prefix = prefix_of(rt.alloc())?;
-    for row in ROWS {
-        assert!(rt; gives(rt.alloc(), &tree, &prefix, row)?, "{}", row.name);
+fn leaves(alloc: Global, tree: &Tree, prefix: &Prefix, row: &Row) -> bool {
+    match Trial::new(alloc, tree, prefix, row.room) {
+        Ok(mut trial) => trial.failed_calls(row.calls) == row.failed && trial.is_at(tree, row),
+        Err(_) => false,
     }
-    Ok(())
+}
+
+impl Claim for Row {
+    fn holds_of(&self, alloc: Global, tree: &Tree) -> bool {
+        match Prefix::new(alloc, b"CONFIG_") {
+            Ok(Some(prefix)) => leaves(alloc, tree, &prefix, self),
+            _ => false,
+        }
+    }
 }
 
 #[test]
-fn each_warning_breaks_off_at_each_byte(rt: HostRuntime) -> Result<(), Fail> {
-    let tree = tree_of(rt.alloc())?;
-    let prefix = prefix_of(rt.alloc())?;
+fn a_sink_that_fails_leaves_what_the_lines_before_gave(rt: HostRuntime) {
+    for row in ROWS {
+        assert!(rt; is_true_of(rt.alloc(), KCONFIG, row), "{}", row.name);
+    }
+}
+
+#[test]
+fn each_warning_breaks_off_at_each_byte(rt: HostRuntime) {
     for room in 0..WARNINGS.len() {
         let row = Row {
             room,
@@ -262,7 +239,6 @@ fn each_warning_breaks_off_at_each_byte(rt: HostRuntime) -> Result<(), Fail> {
             waits: waiting_at(room),
             ..BROKEN
         };
-        assert!(rt; gives(rt.alloc(), &tree, &prefix, &row)?, "{}", room);
+        assert!(rt; is_true_of(rt.alloc(), KCONFIG, &row), "{}", room);
     }
-    Ok(())
 }

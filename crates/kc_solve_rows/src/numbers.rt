@@ -4,11 +4,9 @@
 ghost use Rattle.std.specs.Prelude.{[]};
 ghost use Rattle.kc_expr.specs.declared.expression.Kind.TheVariants as kind;
 
-use kc_build::build_tree;
+use crate::trial::{Claim, is_true_of};
 use kc_expr::expression::{Expr, Kind, Operand, SymId, Tri};
 use kc_expr::values::Values;
-use kc_read::file_map::FileMap;
-use kc_tree::layout::Layout;
 use kc_tree::rows::{ChoiceId, ContextId};
 use kc_tree::tree::Tree;
 use kc_values::conditions::{context, mode_of};
@@ -18,7 +16,6 @@ use kc_values::numbers::{Interval, clamped, if_within_range, is_within_range, nu
 use kc_values::table::{Table, Value};
 use kc_values::texts::single_text;
 use std::alloc::{AllocError, Global};
-use std::test::Fail;
 
 // Every symbol is a bool of one value.
 struct Alike(Tri);
@@ -43,63 +40,79 @@ impl Values for Alike {
     }
 }
 
-// The tree of a file.
-fn tree_of(alloc: Global, text: &str) -> Result<Tree, Fail> {
-    let name = Vec::from_slice(alloc, b"Kconfig")?;
-    let bytes = Vec::from_slice(alloc, text.as_bytes())?;
-    let mut files = FileMap::new(alloc);
-    files.insert(name, bytes)?;
-    match build_tree(alloc, &files, b"Kconfig") {
-        Ok(tree) => Ok(tree),
-        Err(_refusal) => Err(Fail::from("a refusal")),
+// A number, and how it is written for a type.
+const WRITTEN: &[(Kind, i64, &[u8])] = &[
+    (Kind::Int, 10, b"10"),
+    (Kind::Int, -5, b"-5"),
+    (
+        Kind::Int,
+        -9_223_372_036_854_775_808,
+        b"-9223372036854775808",
+    ),
+    (Kind::Hex, 31, b"0x1f"),
+    (Kind::Hex, 0, b"0x0"),
+];
+
+// Whether the number is written so.
+fn is_written(alloc: Global, kind: Kind, number: i64, want: &[u8]) -> bool {
+    match number_text(alloc, kind, i128::from(number)) {
+        Ok(text) => text.as_slice() == want,
+        Err(_) => false,
     }
 }
 
 #[test]
 fn numbers_are_written_by_type(rt: HostRuntime) {
-    let rows: [(Kind, i128, &[u8]); 5] = [
-        (Kind::Int, 10, b"10"),
-        (Kind::Int, -5, b"-5"),
-        (
-            Kind::Int,
-            -9_223_372_036_854_775_808,
-            b"-9223372036854775808",
-        ),
-        (Kind::Hex, 31, b"0x1f"),
-        (Kind::Hex, 0, b"0x0"),
-    ];
-    for (kind, number, want) in rows {
-        let text = number_text(rt.alloc(), kind, number).expect(&rt, "memory");
-        assert_eq!(rt; text.as_slice(), want);
+    for (kind, number, want) in WRITTEN {
+        assert!(rt; is_written(rt.alloc(), *kind, *number, want), "{number}");
+    }
+}
+
+// The bounds of a range, a text, and what it becomes.
+const CLAMPED: &[(Kind, i64, i64, &str, &[u8])] = &[
+    (Kind::Int, 5, 10, "20", b"10"),
+    (Kind::Int, 5, 10, "010", b"010"),
+    (Kind::Int, -5, -2, "FOO", b"-2"),
+    (Kind::Int, -5, 5, "FOO", b"FOO"),
+    (Kind::Int, 10, 5, "7", b"10"),
+    (Kind::Int, 10, 5, "11", b"5"),
+    (Kind::Hex, 16, 31, "", b"0x10"),
+];
+
+// Whether the text becomes this within the range.
+fn is_clamped(alloc: Global, kind: Kind, low: i64, high: i64, text: &str, want: &[u8]) -> bool {
+    let range = Interval {
+        low: i128::from(low),
+        high: i128::from(high),
+    };
+    match clamped(alloc, kind, Some(range), text.as_bytes()) {
+        Ok(value) => value.as_slice() == want,
+        Err(_) => false,
     }
 }
 
 #[test]
 fn a_number_outside_becomes_the_bound(rt: HostRuntime) {
-    let rows: [(Kind, i128, i128, &[u8], &[u8]); 7] = [
-        (Kind::Int, 5, 10, b"20", b"10"),
-        (Kind::Int, 5, 10, b"010", b"010"),
-        (Kind::Int, -5, -2, b"FOO", b"-2"),
-        (Kind::Int, -5, 5, b"FOO", b"FOO"),
-        (Kind::Int, 10, 5, b"7", b"10"),
-        (Kind::Int, 10, 5, b"11", b"5"),
-        (Kind::Hex, 16, 31, b"", b"0x10"),
-    ];
-    for (kind, low, high, text, want) in rows {
-        let value = clamped(rt.alloc(), kind, Some(Interval { low, high }), text).expect(
-            &rt, "memory",
+    for (kind, low, high, text, want) in CLAMPED {
+        assert!(rt;
+            is_clamped(rt.alloc(), *kind, *low, *high, text, want),
+            "{high} {text}"
         );
-        assert_eq!(rt; value.as_slice(), want);
     }
+}
+
+// Whether numbers count as inside where they are, and no others.
+fn are_inside_alone() -> bool {
+    let range = Some(Interval { low: 16, high: 31 });
+    is_within_range(Kind::Hex, range, b"0X1f")
+        && !is_within_range(Kind::Hex, range, b"20")
+        && is_within_range(Kind::Hex, None, b"20")
+        && if_within_range(Kind::Int, range, Some(b"3".as_slice())).is_none()
 }
 
 #[test]
 fn what_is_inside_counts(rt: HostRuntime) {
-    let range = Some(Interval { low: 16, high: 31 });
-    assert!(rt; is_within_range(Kind::Hex, range, b"0X1f"));
-    assert!(rt; !is_within_range(Kind::Hex, range, b"20"));
-    assert!(rt; is_within_range(Kind::Hex, None, b"20"));
-    assert!(rt; if_within_range(Kind::Int, range, Some(b"3".as_slice())).is_none());
+    assert!(rt; are_inside_alone());
 }
 
 // So many values, each this one.
@@ -118,84 +131,132 @@ fn table_where<'t>(alloc: Global, tree: &'t Tree, value: Tri) -> Result<Table<'t
     Ok(table)
 }
 
-// The mode of the first choice of a tree where each symbol is worth this, and what the context of its first prompt is; n
-// where there is no choice.
-fn mode_where(alloc: Global, tree: &Tree, value: Tri) -> Result<(Tri, Tri), AllocError> {
-    let table = table_where(alloc, tree, value)?;
-    match tree.choices().first() {
-        Some(choice) => Ok((mode_of(&table, ChoiceId(0)), context(&table, choice.within))),
-        None => Ok((Tri::N, Tri::N)),
+// A tree whose symbols are worth the same each, and what holds of it then.
+struct Condition {
+    name: &'static str,
+    kconfig: &'static [u8],
+    worth: Tri,
+    found: Found,
+}
+
+enum Found {
+    // The first choice has this mode, and the context of its prompt is worth this.
+    Choice(Tri, Tri),
+    // The first context is worth this, and the second, which is inside it, this.
+    Contexts(Tri, Tri),
+}
+
+const CHOICE: &[u8] =
+    b"config A\ntristate\nchoice\nprompt \"c\"\ndepends on A\nconfig B\nbool \"b\"\nendchoice\n";
+
+const CONDITIONS: &[Condition] = &[
+    Condition {
+        name: "a prompt that is m gives the mode y",
+        kconfig: CHOICE,
+        worth: Tri::M,
+        found: Found::Choice(Tri::Y, Tri::M),
+    },
+    Condition {
+        name: "a prompt that is n gives the mode n",
+        kconfig: CHOICE,
+        worth: Tri::N,
+        found: Found::Choice(Tri::N, Tri::N),
+    },
+    Condition {
+        name: "a context asks for what encloses it",
+        kconfig: b"config A\nbool\nif A\nconfig B\nbool \"b\"\ndepends on !A\nendif\n",
+        worth: Tri::Y,
+        found: Found::Contexts(Tri::Y, Tri::N),
+    },
+];
+
+// Whether this is found in the table.
+fn is_found(table: &Table<'_>, found: &Found) -> bool {
+    match (found, table.tree.choices().first()) {
+        (Found::Choice(mode, within), Some(choice)) => {
+            mode_of(table, ChoiceId(0)) == *mode && context(table, choice.within) == *within
+        }
+        (Found::Contexts(outer, inner), _) => {
+            context(table, ContextId(1)) == *outer && context(table, ContextId(2)) == *inner
+        }
+        _ => false,
+    }
+}
+
+impl Claim for Condition {
+    fn holds_of(&self, alloc: Global, tree: &Tree) -> bool {
+        match table_where(alloc, tree, self.worth) {
+            Ok(table) => is_found(&table, &self.found),
+            Err(_) => false,
+        }
     }
 }
 
 #[test]
-fn a_prompt_that_is_m_gives_the_mode_y(rt: HostRuntime) -> Result<(), Fail> {
-    let text =
-        "config A\ntristate\nchoice\nprompt \"c\"\ndepends on A\nconfig B\nbool \"b\"\nendchoice\n";
-    let tree = tree_of(rt.alloc(), text)?;
-    assert!(rt; mode_where(rt.alloc(), &tree, Tri::M)? == (Tri::Y, Tri::M));
-    assert!(rt; mode_where(rt.alloc(), &tree, Tri::N)? == (Tri::N, Tri::N));
-    drop(tree);
-    Ok(())
+fn conditions_are_worth_what_encloses_them(rt: HostRuntime) {
+    for row in CONDITIONS {
+        assert!(rt; is_true_of(rt.alloc(), row.kconfig, row), "{}", row.name);
+    }
 }
 
-// What the contexts of a tree are worth where each symbol is y: the first, and then the second, which is inside it.
-fn contexts_of(alloc: Global, tree: &Tree) -> Result<(Tri, Tri), AllocError> {
-    let table = table_where(alloc, tree, Tri::Y)?;
-    Ok((context(&table, ContextId(1)), context(&table, ContextId(2))))
-}
+// Two symbols, the top, the `if`, the members of the choice, and the choice.
+const NODES: &[u8] =
+    b"config A\nbool\nif A\nchoice\nprompt \"c\"\nconfig B\nbool \"b\"\nendchoice\nendif\n";
 
-#[test]
-fn a_context_asks_for_what_encloses_it(rt: HostRuntime) -> Result<(), Fail> {
-    let text = "config A\nbool\nif A\nconfig B\nbool \"b\"\ndepends on !A\nendif\n";
-    let tree = tree_of(rt.alloc(), text)?;
-    assert!(rt; contexts_of(rt.alloc(), &tree)? == (Tri::Y, Tri::N));
-    drop(tree);
-    Ok(())
-}
+// There are six nodes, and those of the second context, the first choice and the second symbol are found by their numbers.
+struct NodesFound;
 
-// Whether the nodes of the second context, the first choice and the second symbol are found by their numbers.
-fn are_nodes_found(layout: &Layout) -> bool {
-    if layout.context_count() > 1 {
-        if !layout.choices().is_empty() {
+impl Claim for NodesFound {
+    fn holds_of(&self, _alloc: Global, tree: &Tree) -> bool {
+        let layout = tree.layout();
+        if layout.context_count() > 1 && !layout.choices().is_empty() {
             let within = context_number(layout, ContextId(1));
             let choice = choice_number(layout, ChoiceId(0));
-            return node_of(layout, within) == Node::Context(ContextId(1))
+            return node_count(layout) == 6
+                && node_of(layout, within) == Node::Context(ContextId(1))
                 && node_of(layout, choice) == Node::Choice(ChoiceId(0))
                 && node_of(layout, 1) == Node::Symbol(SymId(1));
         }
+        false
     }
-    false
 }
 
 #[test]
-fn nodes_have_numbers(rt: HostRuntime) -> Result<(), Fail> {
-    let text =
-        "config A\nbool\nif A\nchoice\nprompt \"c\"\nconfig B\nbool \"b\"\nendchoice\nendif\n";
-    let tree = tree_of(rt.alloc(), text)?;
-    // two symbols, the top, the `if`, the members of the choice, and the choice
-    assert!(rt; node_count(tree.layout()) == 6);
-    assert!(rt; are_nodes_found(tree.layout()));
-    drop(tree);
-    Ok(())
+fn nodes_have_numbers(rt: HostRuntime) {
+    assert!(rt; is_true_of(rt.alloc(), NODES, &NodesFound));
+}
+
+// Whether the operand has this text among the values.
+fn has_text(operand: Operand, values: &Alike, want: &[u8]) -> bool {
+    single_text(&Expr::One(operand), values) == want
+}
+
+// Whether a constant is its own text.
+fn is_constant_its_text(alloc: Global) -> bool {
+    match Vec::from_slice(alloc, b"a b") {
+        Ok(text) => has_text(Operand::Const(text), &Alike(Tri::N), b"a b"),
+        Err(_) => false,
+    }
 }
 
 #[test]
 fn a_default_is_one_operand(rt: HostRuntime) {
-    let text = Vec::from_slice(rt.alloc(), b"a b").expect(&rt, "memory");
-    let constant = Expr::One(Operand::Const(text));
-    assert_eq!(rt; single_text(&constant, &Alike(Tri::N)), b"a b".as_slice());
-    let letter = Expr::One(Operand::TristateConstant(Tri::Y));
-    assert_eq!(rt; single_text(&letter, &Alike(Tri::N)), b"y".as_slice());
-    let symbol = Expr::One(Operand::Sym(SymId(0)));
-    assert_eq!(rt; single_text(&symbol, &Alike(Tri::M)), b"m".as_slice());
+    assert!(rt; is_constant_its_text(rt.alloc()));
+    assert!(rt; has_text(Operand::TristateConstant(Tri::Y), &Alike(Tri::N), b"y"));
+    assert!(rt; has_text(Operand::Sym(SymId(0)), &Alike(Tri::M), b"m"));
 }
+
+// The selected member of a choice, the default one, a member, and whether it differs.
+const MEMBERS: &[(Option<SymId>, Option<SymId>, SymId, bool)] = &[
+    (Some(SymId(0)), Some(SymId(1)), SymId(0), true),
+    (Some(SymId(1)), Some(SymId(1)), SymId(1), false),
+    (Some(SymId(0)), Some(SymId(1)), SymId(1), false),
+    (Some(SymId(0)), None, SymId(0), true),
+];
 
 #[test]
 fn the_selected_member_differs_from_the_default_one(rt: HostRuntime) {
-    let (a, b) = (SymId(0), SymId(1));
-    assert!(rt; member_differs(Some(a), Some(b), a));
-    assert!(rt; !member_differs(Some(b), Some(b), b));
-    assert!(rt; !member_differs(Some(a), Some(b), b));
-    assert!(rt; member_differs(Some(a), None, a));
+    for (selected, default, member, wanted) in MEMBERS {
+        assert!(rt; member_differs(*selected, *default, *member) == *wanted);
+    }
 }

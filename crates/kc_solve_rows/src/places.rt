@@ -1,142 +1,183 @@
 //! The places of a user, and what they may hold.
 
 use crate::row::Setting;
-use crate::trial::{tree_of, user_of};
+use crate::trial::{Claim, give_all, is_true_of};
 use kc_expr::expression::{SymId, Tri};
 use kc_tree::tree::Tree;
 use kc_user::user::User;
 use kc_user::value::{UserValue, allowed};
-use std::alloc::Global;
-use std::process::Abort;
-use std::test::Fail;
+use std::alloc::{AllocError, Global};
 
+// Its symbols by number: A, T, S, I, X, U and M.
 const TREE: &[u8] =
     b"config A\n\tbool \"a\"\nconfig T\n\ttristate \"t\"\nconfig S\n\tstring \"s\"\nconfig I\n\tint \"i\"\n\
 config X\n\thex \"x\"\nconfig U\nchoice\n\tprompt \"c\"\nconfig M\n\tbool \"m\"\nendchoice\n";
 
-// Each of n, m and y is allowed for a symbol, or is not.
-fn truths_allowed(rt: &impl Abort, tree: &Tree, symbol: usize, wanted: (bool, bool, bool)) {
-    let id = SymId(symbol);
-    let found = (
-        allowed(tree, id, &UserValue::Tri(Tri::N)),
-        allowed(tree, id, &UserValue::Tri(Tri::M)),
-        allowed(tree, id, &UserValue::Tri(Tri::Y)),
-    );
-    assert_eq!(rt; found, wanted);
+// A value of a user: a truth value, a text, or a text of so many quotes.
+enum Sample {
+    Truth(Tri),
+    Text(&'static [u8]),
+    Quotes(usize),
 }
 
-#[test]
-fn only_a_tristate_may_be_m(rt: HostRuntime) -> Result<(), Fail> {
-    let tree = tree_of(rt.alloc(), TREE)?;
-    truths_allowed(&rt, &tree, 0, (true, false, true));
-    truths_allowed(&rt, &tree, 1, (true, true, true));
-    truths_allowed(&rt, &tree, 2, (false, false, false));
-    truths_allowed(&rt, &tree, 5, (false, false, false));
-    truths_allowed(&rt, &tree, 6, (true, false, true));
-    truths_allowed(&rt, &tree, 7, (false, false, false));
-    Ok(())
-}
+// Whether the symbol of this number may have the value.
+struct Allowed(usize, Sample, bool);
 
-// The text is allowed for a symbol, or is not.
-fn text_allowed(
-    rt: &impl Abort,
-    alloc: Global,
-    tree: &Tree,
-    symbol: usize,
-    text: &[u8],
-    wanted: bool,
-) -> Result<(), Fail> {
-    let value = UserValue::Text(Vec::from_slice(alloc, text)?);
-    assert_eq!(rt; allowed(tree, SymId(symbol), &value), wanted);
-    Ok(())
-}
-
-const TEXTS: &[(usize, &[u8], bool)] = &[
-    (0, b"y", false),
-    (2, b"a \"b\"", true),
-    (2, b"a\nb", false),
-    (3, b"-010", true),
-    (3, b"0x10", false),
-    (4, b"fF", true),
-    (4, b"-1", false),
-    (5, b"U", false),
+const SAMPLES: &[(&str, Allowed)] = &[
+    ("a bool, n", Allowed(0, Sample::Truth(Tri::N), true)),
+    ("a bool, m", Allowed(0, Sample::Truth(Tri::M), false)),
+    ("a bool, y", Allowed(0, Sample::Truth(Tri::Y), true)),
+    ("a tristate, n", Allowed(1, Sample::Truth(Tri::N), true)),
+    ("a tristate, m", Allowed(1, Sample::Truth(Tri::M), true)),
+    ("a tristate, y", Allowed(1, Sample::Truth(Tri::Y), true)),
+    ("a string, n", Allowed(2, Sample::Truth(Tri::N), false)),
+    ("a string, m", Allowed(2, Sample::Truth(Tri::M), false)),
+    ("a string, y", Allowed(2, Sample::Truth(Tri::Y), false)),
+    (
+        "a symbol without a type, n",
+        Allowed(5, Sample::Truth(Tri::N), false),
+    ),
+    (
+        "a symbol without a type, m",
+        Allowed(5, Sample::Truth(Tri::M), false),
+    ),
+    (
+        "a symbol without a type, y",
+        Allowed(5, Sample::Truth(Tri::Y), false),
+    ),
+    ("a member, n", Allowed(6, Sample::Truth(Tri::N), true)),
+    ("a member, m", Allowed(6, Sample::Truth(Tri::M), false)),
+    ("a member, y", Allowed(6, Sample::Truth(Tri::Y), true)),
+    (
+        "a symbol that is not defined, n",
+        Allowed(7, Sample::Truth(Tri::N), false),
+    ),
+    (
+        "a symbol that is not defined, m",
+        Allowed(7, Sample::Truth(Tri::M), false),
+    ),
+    (
+        "a symbol that is not defined, y",
+        Allowed(7, Sample::Truth(Tri::Y), false),
+    ),
+    ("a bool, a text", Allowed(0, Sample::Text(b"y"), false)),
+    (
+        "a string, quotes",
+        Allowed(2, Sample::Text(b"a \"b\""), true),
+    ),
+    (
+        "a string, a line end",
+        Allowed(2, Sample::Text(b"a\nb"), false),
+    ),
+    ("an int, a number", Allowed(3, Sample::Text(b"-010"), true)),
+    (
+        "an int, a hex number",
+        Allowed(3, Sample::Text(b"0x10"), false),
+    ),
+    ("a hex, a number", Allowed(4, Sample::Text(b"fF"), true)),
+    (
+        "a hex, a negative number",
+        Allowed(4, Sample::Text(b"-1"), false),
+    ),
+    (
+        "a symbol without a type, its name",
+        Allowed(5, Sample::Text(b"U"), false),
+    ),
+    // a quote counts twice
+    (
+        "a string, as many quotes as fit",
+        Allowed(2, Sample::Quotes(32_499), true),
+    ),
+    (
+        "a string, one quote more",
+        Allowed(2, Sample::Quotes(32_500), false),
+    ),
 ];
 
-// Each text is allowed, or is not.
-fn texts_allowed(rt: &impl Abort, alloc: Global, tree: &Tree) -> Result<(), Fail> {
-    for (symbol, text, wanted) in TEXTS {
-        text_allowed(rt, alloc, tree, *symbol, text, *wanted)?;
+fn value_of(alloc: Global, sample: &Sample) -> Result<UserValue, AllocError> {
+    match sample {
+        Sample::Truth(value) => Ok(UserValue::Tri(*value)),
+        Sample::Text(text) => Ok(UserValue::Text(Vec::from_slice(alloc, text)?)),
+        Sample::Quotes(count) => Ok(UserValue::Text(vec![in alloc; b'"'; *count]?)),
     }
-    Ok(())
+}
+
+impl Claim for Allowed {
+    fn holds_of(&self, alloc: Global, tree: &Tree) -> bool {
+        let Allowed(symbol, sample, wanted) = self;
+        match value_of(alloc, sample) {
+            Ok(value) => allowed(tree, SymId(*symbol), &value) == *wanted,
+            Err(_) => false,
+        }
+    }
 }
 
 #[test]
-fn a_text_is_read_by_the_type(rt: HostRuntime) -> Result<(), Fail> {
-    let tree = tree_of(rt.alloc(), TREE)?;
-    texts_allowed(&rt, rt.alloc(), &tree)
+fn the_type_says_what_a_symbol_may_have(rt: HostRuntime) {
+    for (name, row) in SAMPLES {
+        assert!(rt; is_true_of(rt.alloc(), TREE, row), "{name}");
+    }
 }
 
-// A string may be this many quotes, or may not.
-fn quotes_allowed(
-    rt: &impl Abort,
-    alloc: Global,
-    tree: &Tree,
-    count: usize,
-    wanted: bool,
-) -> Result<(), Fail> {
-    let quotes = vec![in alloc; b'"'; count]?;
-    text_allowed(rt, alloc, tree, 2, &quotes, wanted)
+// What is given, how many symbols' places are filled then, and whether the choice's place is.
+struct Filled {
+    name: &'static str,
+    given: &'static [Setting],
+    symbols: usize,
+    is_chosen: bool,
 }
 
-// One quote more than fits is not allowed.
-fn most_quotes(rt: &impl Abort, alloc: Global, tree: &Tree) -> Result<(), Fail> {
-    quotes_allowed(rt, alloc, tree, 32_499, true)?;
-    quotes_allowed(rt, alloc, tree, 32_500, false)
+const FILLED: &[Filled] = &[
+    Filled {
+        name: "nothing",
+        given: &[],
+        symbols: 0,
+        is_chosen: false,
+    },
+    Filled {
+        name: "a value",
+        given: &[Setting::Truth(b"A", Tri::Y)],
+        symbols: 1,
+        is_chosen: false,
+    },
+    Filled {
+        name: "a member",
+        given: &[Setting::Member(b"M")],
+        symbols: 0,
+        is_chosen: true,
+    },
+];
+
+// How many symbols' places are filled.
+fn filled_count(user: &User) -> usize {
+    let mut count = 0_usize;
+    for place in user.symbols() {
+        if place.is_some() {
+            count = count.saturating_add(1);
+        }
+    }
+    count
+}
+
+// Whether, of the places of seven symbols and one choice, those are filled that the row says.
+fn has_filled(user: &User, row: &Filled) -> bool {
+    user.symbols().len() == 7
+        && filled_count(user) == row.symbols
+        && matches!(user.choices(), [place] if place.is_some() == row.is_chosen)
+}
+
+impl Claim for Filled {
+    fn holds_of(&self, alloc: Global, tree: &Tree) -> bool {
+        match User::new(alloc, tree) {
+            Ok(mut user) => give_all(alloc, tree, &mut user, self.given) && has_filled(&user, self),
+            Err(_) => false,
+        }
+    }
 }
 
 #[test]
-fn quotes_count_twice(rt: HostRuntime) -> Result<(), Fail> {
-    let tree = tree_of(rt.alloc(), TREE)?;
-    most_quotes(&rt, rt.alloc(), &tree)
-}
-
-// Some symbol's place is filled, or none; and the choice's place.
-fn are_filled(rt: &impl Abort, user: &User, wanted: (bool, bool)) {
-    assert_eq!(rt; user.symbols().len(), 7);
-    assert_eq!(rt; user.choices().len(), 1);
-    let is_given = user.symbols().iter().any(|place| place.is_some());
-    let is_chosen = user.choices().iter().any(|place| place.is_some());
-    assert_eq!(rt; (is_given, is_chosen), wanted);
-}
-
-// So are the places with what is given.
-fn fills(
-    rt: &impl Abort,
-    alloc: Global,
-    tree: &Tree,
-    given: &[Setting],
-    wanted: (bool, bool),
-) -> Result<(), Fail> {
-    let user = user_of(alloc, tree, given)?;
-    are_filled(rt, &user, wanted);
-    Ok(())
-}
-
-// Only what is given fills a place.
-fn places_fill(rt: &impl Abort, alloc: Global, tree: &Tree) -> Result<(), Fail> {
-    fills(rt, alloc, tree, &[], (false, false))?;
-    fills(
-        rt,
-        alloc,
-        tree,
-        &[Setting::Truth(b"A", Tri::Y)],
-        (true, false),
-    )?;
-    fills(rt, alloc, tree, &[Setting::Member(b"M")], (false, true))
-}
-
-#[test]
-fn places_are_empty_until_they_are_filled(rt: HostRuntime) -> Result<(), Fail> {
-    let tree = tree_of(rt.alloc(), TREE)?;
-    places_fill(&rt, rt.alloc(), &tree)
+fn places_are_empty_until_they_are_filled(rt: HostRuntime) {
+    for row in FILLED {
+        assert!(rt; is_true_of(rt.alloc(), TREE, row), "{}", row.name);
+    }
 }

@@ -3,7 +3,6 @@
 use kc_expr::expression::Tri;
 
 /// What a user gives.
-#[derive(Clone, Copy)]
 pub(crate) enum Setting {
     /// For a bool or tristate symbol of this name.
     Truth(&'static [u8], Tri),
@@ -15,6 +14,8 @@ pub(crate) enum Setting {
 
 /// A tree, what is given, and the lines that must come out.
 pub(crate) struct Row {
+    /// What it shows.
+    pub name: &'static str,
     /// The Kconfig file.
     pub kconfig: &'static [u8],
     /// What the user gives.

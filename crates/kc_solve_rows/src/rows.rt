@@ -1,5 +1,6 @@
 //! The rows, by what they show.
 
 pub(crate) mod choices;
+pub(crate) mod limits;
 pub(crate) mod numbers;
 pub(crate) mod truths;

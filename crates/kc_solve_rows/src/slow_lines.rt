@@ -53,8 +53,10 @@ fn differs(
         let default = selected_in(table, choice, None);
         return Ok(member_differs(selection, default, id));
     }
-    let without = own_equation(alloc, table, id, symbol, None)?;
-    Ok(!holds(value_of(&table.values, id), &without))
+    match own_equation(alloc, table, id, symbol, None) {
+        Ok(without) => Ok(!holds(value_of(&table.values, id), &without)),
+        Err(fault) => Err(fault),
+    }
 }
 
 // The value as a text.
@@ -85,28 +87,28 @@ fn symbol_line(
         is_written: written(table, id, symbol, shown),
         differs: differs(alloc, table, user, id, symbol)?,
     };
-    symbol_into(&report, out)?;
+    symbol_into(report, out)?;
     let own = given(user, id);
     warnings::warnings_into(alloc, table, id, symbol, shown, own, lines)
 }
 
-/// What the values in a table tell.
-pub(crate) fn lines_of(
+/// What the values in a table tell, behind what stands in the text; the warnings stand behind those in the lines, and go
+/// into the text with them.
+pub(crate) fn lines_into(
     alloc: Global,
     table: &Table<'_>,
     user: &User,
-) -> Result<Vec<u8>, AllocError> {
-    let mut out = Vec::new(alloc);
-    let mut lines = Vec::new(alloc);
+    out: &mut Vec<u8>,
+    lines: &mut Vec<Vec<u8>>,
+) -> Result<(), AllocError> {
     for i in 0..table.tree.symbol_count() {
-        symbol_line(alloc, table, user, SymId(i), &mut out, &mut lines)?;
+        symbol_line(alloc, table, user, SymId(i), out, lines)?;
     }
     for c in 0..choice_count(table.tree) {
         let choice = ChoiceId(c);
         let selection = selected_in(table, choice, chosen(user, choice));
         let default = selected_in(table, choice, None);
-        choice_into(table.tree, selection, default, &mut out)?;
+        choice_into(table.tree, selection, default, out)?;
     }
-    warnings_into(&lines, &mut out)?;
-    Ok(out)
+    warnings_into(lines, out)
 }

@@ -6,12 +6,7 @@ use kc_expr::values::Values;
 use kc_solve::solved::Solved;
 use kc_tree::rows::ChoiceId;
 use kc_values::table::name;
-use std::alloc::{AllocError, Global};
-
-// Whether the symbol has a line in the minimal file.
-fn differs(solved: &Solved<'_>, id: SymId) -> bool {
-    id.0 < solved.tree().symbol_count() && solved.differs(id)
-}
+use std::alloc::AllocError;
 
 // The line of a symbol.
 fn symbol_line(solved: &Solved<'_>, id: SymId, out: &mut Vec<u8>) -> Result<(), AllocError> {
@@ -20,9 +15,9 @@ fn symbol_line(solved: &Solved<'_>, id: SymId, out: &mut Vec<u8>) -> Result<(), 
         value: solved.text(id),
         visibility: solved.visibility(id),
         is_written: solved.written(id),
-        differs: differs(solved, id),
+        differs: id.0 < solved.tree().symbol_count() && solved.differs(id),
     };
-    symbol_into(&report, out)
+    symbol_into(report, out)
 }
 
 // The line of a choice.
@@ -35,15 +30,13 @@ fn choice_line(solved: &Solved<'_>, choice: ChoiceId, out: &mut Vec<u8>) -> Resu
     choice_into(solved.tree(), selection, default, out)
 }
 
-/// What a solution tells.
-pub(crate) fn lines_of(alloc: Global, solved: &Solved<'_>) -> Result<Vec<u8>, AllocError> {
-    let mut out = Vec::new(alloc);
+/// What a solution tells, behind what stands in the text.
+pub(crate) fn lines_into(solved: &Solved<'_>, out: &mut Vec<u8>) -> Result<(), AllocError> {
     for i in 0..solved.tree().symbol_count() {
-        symbol_line(solved, SymId(i), &mut out)?;
+        symbol_line(solved, SymId(i), out)?;
     }
     for c in 0..choice_count(solved.tree()) {
-        choice_line(solved, ChoiceId(c), &mut out)?;
+        choice_line(solved, ChoiceId(c), out)?;
     }
-    warnings_into(solved.value_warnings(), &mut out)?;
-    Ok(out)
+    warnings_into(solved.value_warnings(), out)
 }

@@ -1,6 +1,6 @@
-//! The tree and the places of a row.
+//! What holds of a tree, the places of a user, and the lines that are told of them.
 
-ghost use Rattle.std.specs.Prelude.{◌≡◌, ◌<◌, length, IfOk, OnOk};
+ghost use Rattle.std.specs.Prelude.{◌≡◌, length};
 ghost use Rattle.kc_user.specs.Places.{ArePlacesOf};
 
 use crate::row::Setting;
@@ -14,33 +14,34 @@ use kc_user::user::User;
 use kc_user::value::UserValue;
 use kc_values::table::name;
 use std::alloc::{AllocError, Global};
-use std::test::Fail;
 
-// The map that holds this one file.
-fn files_of(alloc: Global, kconfig: &[u8]) -> Result<FileMap, Fail> {
-    let name = Vec::from_slice(alloc, b"Kconfig")?;
-    let bytes = Vec::from_slice(alloc, kconfig)?;
-    let mut files = FileMap::new(alloc);
-    files.insert(name, bytes)?;
-    Ok(files)
+/// What may be true of a tree.
+pub(crate) trait Claim {
+    /// Whether it is.
+    fn holds_of(&self, alloc: Global, tree: &Tree) -> bool;
 }
 
-/// The tree of this file.
-pub(crate) fn tree_of(alloc: Global, kconfig: &[u8]) -> Result<Tree, Fail> {
-    let files = files_of(alloc, kconfig)?;
-    match build_tree(alloc, &files, b"Kconfig") {
-        Ok(tree) => Ok(tree),
-        Err(_refusal) => Err(Fail::from("a refusal")),
+// Puts a file of this text into the map.
+fn put_file(alloc: Global, kconfig: &[u8], files: &mut FileMap) -> Result<(), AllocError> {
+    let bytes = Vec::from_slice(alloc, kconfig)?;
+    files.insert(Vec::from_slice(alloc, b"Kconfig")?, bytes)
+}
+
+// The tree of this file; none where it is refused.
+fn tree_of(alloc: Global, kconfig: &[u8]) -> Option<Tree> {
+    let mut files = FileMap::new(alloc);
+    match put_file(alloc, kconfig, &mut files) {
+        Ok(()) => build_tree(alloc, &files, b"Kconfig").ok(),
+        Err(_) => None,
     }
 }
 
-// The symbol of this name.
-fn symbol_of(tree: &Tree, name: &[u8]) -> Result<SymId, Fail>
-    ensures { IfOk result (λ id. id.0 < length tree.now.symbols) }
-{
-    match tree.find(name) {
-        Some(id) if id.0 < tree.symbol_count() => Ok(id),
-        _ => Err(Fail::from("no such symbol")),
+// No other function has the tree as its own: the code that drops it would stand in each of them.
+/// Whether the claim is true of the tree of this file.
+pub(crate) fn is_true_of(alloc: Global, kconfig: &[u8], claim: &dyn Claim) -> bool {
+    match tree_of(alloc, kconfig) {
+        Some(tree) => claim.holds_of(alloc, &tree),
+        None => false,
     }
 }
 
@@ -51,61 +52,65 @@ pub(crate) fn choice_count(tree: &Tree) -> usize
     tree.choices().len()
 }
 
-// Fills the symbol's place.
+// Fills the place of the symbol of this name, if there is one.
 #[tactic(auto, using(crate::proofs::PlaceLemmas::set_stays))]
-fn set(tree: &Tree, user: &mut User, id: SymId, value: UserValue)
-    requires defined { id.0 < length tree.now.symbols }
-    requires user { ArePlacesOf tree.now user.old }
-    ensures { ArePlacesOf tree.now user.new }
-{
-    user.set(id, value);
-}
-
-// Fills the first choice's place.
-#[tactic(auto, using(crate::proofs::PlaceLemmas::select_stays))]
-fn select(tree: &Tree, user: &mut User, member: SymId)
-    requires there { 0 < length tree.now.choices }
-    requires user { ArePlacesOf tree.now user.old }
-    ensures { ArePlacesOf tree.now user.new }
-{
-    user.select(ChoiceId(0), member);
-}
-
-// Fills one place.
-fn give(alloc: Global, tree: &Tree, user: &mut User, given: &Setting) -> Result<(), Fail>
+fn set(tree: &Tree, user: &mut User, name: &[u8], value: UserValue) -> bool
     requires { ArePlacesOf tree.now user.old }
-    ensures { OnOk result (ArePlacesOf tree.now user.new) }
+    ensures { ArePlacesOf tree.now user.new }
+{
+    match tree.find(name) {
+        Some(id) if id.0 < tree.symbol_count() => {
+            user.set(id, value);
+            true
+        }
+        _ => false,
+    }
+}
+
+// Fills the first choice's place, if there is one, with the symbol of this name.
+#[tactic(auto, using(crate::proofs::PlaceLemmas::select_stays))]
+fn select(tree: &Tree, user: &mut User, name: &[u8]) -> bool
+    requires { ArePlacesOf tree.now user.old }
+    ensures { ArePlacesOf tree.now user.new }
+{
+    match tree.find(name) {
+        Some(member) if choice_count(tree) > 0 => {
+            user.select(ChoiceId(0), member);
+            true
+        }
+        _ => false,
+    }
+}
+
+// Fills one place. The answer is whether it is there.
+fn give(alloc: Global, tree: &Tree, user: &mut User, given: &Setting) -> bool
+    requires { ArePlacesOf tree.now user.old }
+    ensures { ArePlacesOf tree.now user.new }
 {
     match given {
-        Setting::Truth(name, tri) => set(tree, user, symbol_of(tree, name)?, UserValue::Tri(*tri)),
-        Setting::Text(name, text) => {
-            let bytes = Vec::from_slice(alloc, text)?;
-            set(tree, user, symbol_of(tree, name)?, UserValue::Text(bytes));
-        }
-        Setting::Member(name) => {
-            let member = symbol_of(tree, name)?;
-            if choice_count(tree) == 0 {
-                return Err(Fail::from("no choice"));
-            }
-            select(tree, user, member);
-        }
+        Setting::Truth(name, tri) => set(tree, user, name, UserValue::Tri(*tri)),
+        Setting::Text(name, text) => match Vec::from_slice(alloc, text) {
+            Ok(bytes) => set(tree, user, name, UserValue::Text(bytes)),
+            Err(_) => false,
+        },
+        Setting::Member(name) => select(tree, user, name),
     }
-    Ok(())
 }
 
-/// The places with what is given, one after another.
-pub(crate) fn user_of(alloc: Global, tree: &Tree, given: &[Setting]) -> Result<User, Fail>
-    ensures { IfOk result (λ user. ArePlacesOf tree.now user) }
+/// Fills the places with what is given, one after another. The answer is whether all of them are there.
+pub(crate) fn give_all(alloc: Global, tree: &Tree, user: &mut User, given: &[Setting]) -> bool
+    requires { ArePlacesOf tree.now user.old }
+    ensures { ArePlacesOf tree.now user.new }
 {
-    let mut user = User::new(alloc, tree)?;
     for one in given {
-        give(alloc, tree, &mut user, one)?;
+        if !give(alloc, tree, user, one) {
+            return false;
+        }
     }
-    Ok(user)
+    true
 }
 
 /// What is shown of a symbol.
-#[derive(Clone, Copy)]
 pub(crate) struct SymbolReport<'a> {
     pub name: &'a [u8],
     pub value: &'a [u8],
@@ -115,20 +120,21 @@ pub(crate) struct SymbolReport<'a> {
 }
 
 /// The line of a symbol, behind what stands in the text.
-pub(crate) fn symbol_into(report: &SymbolReport<'_>, out: &mut Vec<u8>) -> Result<(), AllocError> {
-    out.extend_from_slice(report.name)?;
+pub(crate) fn symbol_into(report: SymbolReport<'_>, out: &mut Vec<u8>) -> Result<(), AllocError> {
+    let SymbolReport {
+        name,
+        value,
+        visibility,
+        is_written,
+        differs,
+    } = report;
+    out.extend_from_slice(name)?;
     out.push(b'=')?;
-    out.extend_from_slice(report.value)?;
+    out.extend_from_slice(value)?;
     out.push(b' ')?;
-    out.extend_from_slice(tri_text(report.visibility))?;
-    if report.is_written {
-        out.extend_from_slice(b" written")?;
-    }
-    if report.differs {
-        out.extend_from_slice(b" differs")?;
-    }
-    out.push(b'\n')?;
-    Ok(())
+    out.extend_from_slice(tri_text(visibility))?;
+    out.extend_from_slice(if is_written { b" written" } else { b"" })?;
+    out.extend_from_slice(if differs { b" differs\n" } else { b"\n" })
 }
 
 // The name of what is selected.
