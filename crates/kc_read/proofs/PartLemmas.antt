@@ -11,8 +11,9 @@ use Rattle.kc_expr.specs.Value.{tristate_constant}
 use Rattle.kc_expr.proofs.ConstantLemmas.{constant_text}
 use Rattle.kc_expr.specs.Grammar.{Atom, Disjunction, WordAtom, QuotedAtom, is_tristate_constant, if_word}
 use Rattle.kc_expr.specs.Names.{IsNumber, same_name, mention}
+use Rattle.kc_read.specs.declared.refusal.Code.TheVariants as code
 use Rattle.kc_read.specs.declared.statement.LineFault.{LineFault}
-use Rattle.kc_read.specs.Lines.{LineContext, Cause, ReadsValue, front, syntax_cause, begins_with, operand_of, IsWhole, IsCondition, WholeFault, ConditionFault, text_of, word_of, named_target, is_pattern, is_good_name, ReadsTextLine, ReadsSource, ReadsConfig, ReadsPrompt, ReadsDepends, ReadsTarget, ReadsVisible, ReadsType, ReadsRange, ReadsRest, ReadsLine, IsMore, keyword_of, placement_cause, option_line}
+use Rattle.kc_read.specs.Lines.{LineContext, Cause, ReadsValue, front, syntax_cause, begins_with, operand_of, IsWhole, IsCondition, WholeFault, ConditionFault, ExpressionFault, text_of, word_of, named_target, is_pattern, is_good_name, ReadsTextLine, ReadsSource, ReadsConfig, ReadsPrompt, ReadsDepends, ReadsTarget, ReadsVisible, ReadsType, ReadsRange, ReadsRest, ReadsLine, IsMore, keyword_of, placement_cause, option_line}
 use Rattle.kc_expr.specs.declared.expression.Kind.{Kind}
 use Rattle.kc_read.specs.declared.statement.Keyword.{Keyword}
 use Rattle.kc_read.specs.Statements.{Named, InputPrompt, SourceLine, ConfigLine, DependsLine, VisibleLine, ModulesLine, IgnoredLine, TypeLine, RangeLine}
@@ -66,6 +67,16 @@ condition_if modules old names ls ts e b d w = record {
 pub read_passed : (modules : Option SymId) (old names : List (List ℕ)) (Reads : Result Named Cause → Type 0) (r : Result Statement LineFault) (e : LineFault) →
     IsErrAnd r (λ y. y ≡ e) → IsFault e (λ c. Reads (Err c)) → IsRead modules old names Reads r
 read_passed modules old names Reads r e a h = let p = err_from_is_err_and r a in rw (p.1, p.2) h
+
+-- memory ran out
+pub memory_passed : (modules : Option SymId) (old names : List (List ℕ)) (Reads : Result Named Cause → Type 0) (r : Result Statement LineFault) →
+    IsErrAnd r (λ y. y.code ≡ code.Memory) → IsRead modules old names Reads r
+memory_passed modules old names Reads r a = let p = err_from_is_err_and r a in rw p.1 (λ n. absurd (n p.2))
+
+-- a value is refused
+pub value_refused : (modules : Option SymId) (old names : List (List ℕ)) (make : Disjunction → Option Disjunction → Named) (ts : List Lexeme)
+    (r : Result Statement LineFault) (e : LineFault) → IsErrAnd r (λ y. y ≡ e) → IsFault e (ExpressionFault ts) → IsRead modules old names (ReadsValue make ts) r
+value_refused modules old names make ts r e a h = read_passed modules old names (ReadsValue make ts) r e a (λ n. inl (h n))
 
 pub text_line_ok : (make : List ℕ → Named) (ls : List Lexeme) (t : List ℕ) → text_of ls ≡ Ok t → drop 1 ls ≡ [] → ReadsTextLine make ls (Ok (make t))
 text_line_ok make ls t e d = rw (e, d) refl

@@ -1,11 +1,12 @@
 -- What the check left open in the cycle of `parse`.
-use Rattle.std.proofs.Common.{ℕ, ◌∙◌, ap, ◌++◌, ◌∷◌, []}
+use Rattle.std.proofs.Common.{ℕ, ◌≤◌, ◌+◌, ◌∙◌, ap, ◌++◌, ◌∷◌, [], length, arith}
 use Rattle.std.proofs.lemmas.Result.{IfOk-weaker}
 use Rattle.kc_expr.specs.declared.expression.Expr.{Expr}
 use Rattle.kc_expr.specs.Form.{form_of}
 use Rattle.kc_expr.specs.Grammar.{terminals_from, spell, spell_not, spell_part, Bang}
 use Rattle.kc_expr.proofs.ParseLemmas.{fault_passed, deep_bang_at, deep_group_at, fails_bang_at, fails_group_at, parsed_bang, unclosed_at, parsed_group, parsed_negation, parsed_conjunction, parsed_only, parts_one, parts_next, parsed_last, fails_after}
 use Rattle.kc_expr.specs.declared.parse.ExprFault.TheVariants.{Memory}
+use Rattle.kc_expr.specs.Reading.{FailsNot, ParsedNot}
 use Rattle.kc_expr.proofs.OperandLemmas.{chain_operand, not_operand, operand_in, operand_on, part_operand}
 use Rattle.kc_expr.proofs.NamesLemmas.{extends_on}
 use Rattle.kc_expr.proofs.ReadingLemmas.{fails_negation, fails_conjunction, fails_first}
@@ -108,3 +109,42 @@ negation-returns-in_err-new-clause-fails t c =
     let p = c.in_ok-operand.ensures.parsed in
     fault_passed c.from_residual-in_err-new.result _ Memory c.from_residual-in_err-new.ensures.1
     (operand_on _ (Bang ∷ []) _ c.if-is_op.ensures.1 (operand_in _ (spell_not p.tree) _ p.whole (not_operand p.tree)))
+
+pub chain-returns-in_err-push-clause-fails : goal.chain-returns-in_err-push-clause-fails
+chain-returns-in_err-push-clause-fails t c =
+    let p = c.in_ok-first.ensures.parsed in
+    fault_passed c.from_residual-in_err-push.result _ Memory c.from_residual-in_err-push.ensures.1 (operand_in _ (spell_part p.tree) _ p.whole (part_operand p.tree))
+
+pub negation-relation-requires : goal.negation-relation-requires
+negation-relation-requires t c = record { no_op = (c.if-is_op.ensures, c.if-is_op-2.ensures) }
+
+pub negation-returns-clause-parsed : goal.negation-returns-clause-parsed
+negation-returns-clause-parsed t c =
+    let ts = terminals_from c.args.tokens.now in
+    let k = c.args.levels in
+    IfOk-weaker c.relation.result (λ (r : Expr × ℕ). (n : ℕ) → ParsedNot c.args.condition n (ts c.args.at) (ts r.1) c.args.names.now c.relation.new.names (form_of r.0))
+    (λ (r : Expr × ℕ). ParsedNot c.args.condition k (ts c.args.at) (ts r.1) c.args.names.now c.relation.new.names (form_of r.0)) (λ r p. p k) c.relation.ensures.parsed
+
+pub negation-returns-clause-fails : goal.negation-returns-clause-fails
+negation-returns-clause-fails t c =
+    let ts = terminals_from c.args.tokens.now c.args.at in
+    let k = c.args.levels in
+    IfErr-weaker c.relation.result (λ f. (n : ℕ) → FailsNot f n ts) (λ f. FailsNot f k ts) (λ f p. p k) c.relation.ensures.fails
+
+-- a part ends behind where its first begins
+within_from : (at begin end n : ℕ) → at ≤ begin → begin + 1 ≤ end → end ≤ n → (at ≤ end) × (end ≤ n)
+within_from at begin end n h i j = (omega arith, j)
+
+pub chain-returns-then-not-is_joined-2-clause-within : goal.chain-returns-then-not-is_joined-2-clause-within
+chain-returns-then-not-is_joined-2-clause-within t c =
+    within_from c.args.at c.loop-parts.place c.in_ok-next.end (length c.args.tokens.now)
+    c.loop-parts.invariant.parts.after c.in_ok-next.ensures.within.0 c.in_ok-next.ensures.within.1
+
+pub chain-returns-in_err-next-clause-names : goal.chain-returns-in_err-next-clause-names
+chain-returns-in_err-next-clause-names t c = extends_on c.args.names.now c.loop-parts.names c.part-in-loop-parts.new.names c.loop-parts.invariant.names c.in_err-next.ensures.names
+
+pub chain-returns-in_err-push-2-clause-names : goal.chain-returns-in_err-push-2-clause-names
+chain-returns-in_err-push-2-clause-names t c = extends_on c.args.names.now c.loop-parts.names c.part-in-loop-parts.new.names c.loop-parts.invariant.names c.in_ok-next.ensures.names
+
+pub chain-returns-then-not-is_joined-2-clause-names : goal.chain-returns-then-not-is_joined-2-clause-names
+chain-returns-then-not-is_joined-2-clause-names t c = extends_on c.args.names.now c.loop-parts.names c.part-in-loop-parts.new.names c.loop-parts.invariant.names c.in_ok-next.ensures.names

@@ -1,9 +1,10 @@
 -- What the check left open in `relation`.
-use Rattle.std.proofs.Common.{ℕ, ◌≡◌, ◌+◌, ◌∙◌, ap, ◌∷◌, arith}
+use Rattle.std.proofs.Common.{ℕ, ◌≡◌, ◌≤◌, ◌<◌, ◌+◌, ◌∙◌, ap, ◌∷◌, length, arith}
 use Rattle.kc_expr.specs.Grammar.{terminals_from, Plain, Compares}
 use Rattle.kc_expr.specs.Reading.{starts_plain}
 use Rattle.kc_expr.specs.declared.parse.ExprFault.TheVariants.{Memory}
 use Rattle.kc_expr.specs.Reading.{FailsNot}
+use Rattle.kc_expr.proofs.NamesLemmas.{extends_on}
 use Rattle.kc_expr.proofs.OperandLemmas.{is_memory, memory_at, memory_not, operand_here}
 use Rattle.kc_expr.proofs.ParseLemmas.{fault_passed, no_left, no_right_side, parsed_lone, parsed_compare}
 use Rattle.kc_expr.proofs.parse.relation.Goals as goal
@@ -60,3 +61,40 @@ returns-in_err-operands-clause-fails c =
     let ts = terminals_from c.args.tokens.now c.args.at in
     let left = rw c.in-Some.is at c.in_ok-left.ensures.reads in
     fault_passed c.from_residual-in_err-operands.result (λ f. (k : ℕ) → FailsNot f k ts) Memory c.from_residual-in_err-operands.ensures.1 (λ k. operand_here ts _ left.atom left.next)
+
+-- the place after a token
+one_on : (at n : ℕ) → at < n → (at ≤ at + 1) × (at + 1 ≤ n)
+one_on at n h = (omega arith, omega arith)
+
+three_on : (at n : ℕ) → at + 2 < n → (at ≤ at + 3) × (at + 3 ≤ n)
+three_on at n h = (omega arith, omega arith)
+
+pub overflow_add-at : goal.overflow_add-at
+overflow_add-at c = let left = (rw c.in-Some.is at c.in_ok-left.ensures.reads).there in omega arith
+
+pub overflow_add-result : goal.overflow_add-result
+overflow_add-result c = let left = (rw c.in-Some.is at c.in_ok-left.ensures.reads).there in omega arith
+
+pub overflow_add-at-2 : goal.overflow_add-at-2
+overflow_add-at-2 c = let op = c.in-Some-relation_op.ensures.0 in omega arith
+
+pub overflow_add-result-2 : goal.overflow_add-result-2
+overflow_add-result-2 c = let right = (rw c.in-Some-2.is at c.in_ok-right.ensures.reads).there in omega arith
+
+pub returns-in_default-relation_op-clause-within : goal.returns-in_default-relation_op-clause-within
+returns-in_default-relation_op-clause-within c = one_on c.args.at (length c.args.tokens.now) (rw c.in-Some.is at c.in_ok-left.ensures.reads).there
+
+pub returns-clause-within : goal.returns-clause-within
+returns-clause-within c = three_on c.args.at (length c.args.tokens.now) (rw c.in-Some-2.is at c.in_ok-right.ensures.reads).there
+
+pub returns-in_err-right-clause-names : goal.returns-in_err-right-clause-names
+returns-in_err-right-clause-names c = extends_on c.args.names.now c.operand.new.names c.operand-2.new.names c.operand.ensures.names c.operand-2.ensures.names
+
+pub returns-in_default-2-clause-names : goal.returns-in_default-2-clause-names
+returns-in_default-2-clause-names c = extends_on c.args.names.now c.operand.new.names c.operand-2.new.names c.operand.ensures.names c.operand-2.ensures.names
+
+pub returns-in_err-operands-clause-names : goal.returns-in_err-operands-clause-names
+returns-in_err-operands-clause-names c = extends_on c.args.names.now c.operand.new.names c.operand-2.new.names c.operand.ensures.names c.operand-2.ensures.names
+
+pub returns-clause-names : goal.returns-clause-names
+returns-clause-names c = extends_on c.args.names.now c.operand.new.names c.operand-2.new.names c.operand.ensures.names c.operand-2.ensures.names

@@ -185,3 +185,15 @@ source-returns-clause-read t c = λ first a own log l m i next line.
     c.args.progress.now q (record q { open_files = c.pop.new.self }) name bytes c.args.line i next line
     (rw c.deref.ensures.value at c.in-Ok.ensures.allowed) (rw c.deref.ensures.value at c.in-Ok.ensures.bytes)
     (c.in_ok-read_file.ensures.read first (inside a own name) (with_file log bytes) within) refl (ap (map (λ f. f.value.items)) same_files) refl
+
+pub read_file-returns-in_err-read_next-clause-names : goal.read_file-returns-in_err-read_next-clause-names
+read_file-returns-in_err-read_next-clause-names t c = extends_on _ _ _ c.loop-tokens.invariant.names c.in_err-read_next.ensures.names
+
+pub read_file-returns-clause-names : goal.read_file-returns-clause-names
+read_file-returns-clause-names t c = extends_on _ _ _ c.loop-tokens.invariant.names c.in_ok-read_next.ensures.names
+
+pub read_next-returns-in_err-read_statement-in-Next-clause-names : goal.read_next-returns-in_err-read_statement-in-Next-clause-names
+read_next-returns-in_err-read_statement-in-Next-clause-names t c = extends_on _ _ _ c.in_ok-next_step.ensures.names c.in_err-read_statement-in-Next.ensures.names
+
+pub read_next-returns-in_ok-read_statement-in-Next-clause-names : goal.read_next-returns-in_ok-read_statement-in-Next-clause-names
+read_next-returns-in_ok-read_statement-in-Next-clause-names t c = extends_on _ _ _ c.in_ok-next_step.ensures.names c.in_ok-read_statement-in-Next.ensures.names

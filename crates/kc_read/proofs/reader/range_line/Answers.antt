@@ -9,7 +9,7 @@ use Rattle.kc_expr.proofs.NamesLemmas.{extends_on, mentioned_on}
 use Rattle.kc_read.specs.Statements.{RangeLine}
 use Rattle.kc_read.specs.Lines.{ReadsRange}
 use Rattle.kc_read.proofs.FrontLemmas.{after_one, after_two}
-use Rattle.kc_read.proofs.PartLemmas.{read_passed, range_ok, range_fault}
+use Rattle.kc_read.proofs.PartLemmas.{read_passed, memory_passed, range_ok, range_fault}
 use Rattle.kc_read.proofs.reader.range_line.Goals as goal
 
 pub returns-clause-read : goal.returns-clause-read
@@ -38,3 +38,26 @@ returns-in_err-when-clause-read c =
     let b = c.in_ok-high.ensures.operand in
     read_passed c.args.modules c.args.names.now c.condition.new.names (ReadsRange (lexemes_from ts 1)) c.from_residual-in_err-when.result c.in_err-when.field-0.0 c.from_residual-in_err-when.ensures.1
     (range_fault (lexemes_from ts 1) (lexemes_from ts 2) (lexemes_from ts 3) a.atom b.atom c.in_err-when.field-0.0 a.part_is (after_one ts 1) b.part_is (after_two ts 1) c.in_err-when.ensures.fault)
+
+pub returns-in_err-bounds-clause-read : goal.returns-in_err-bounds-clause-read
+returns-in_err-bounds-clause-read c =
+    memory_passed c.args.modules c.args.names.now c.condition.new.names (ReadsRange (lexemes_from c.args.tokens.now 1))
+    c.from_residual-in_err-bounds.result c.from_residual-in_err-bounds.ensures.1
+
+pub returns-in_err-high-clause-names : goal.returns-in_err-high-clause-names
+returns-in_err-high-clause-names c = extends_on c.args.names.now c.operand_at.new.names c.operand_at-2.new.names c.in_ok-low.ensures.names c.in_err-high.ensures.names
+
+pub returns-in_err-when-clause-names : goal.returns-in_err-when-clause-names
+returns-in_err-when-clause-names c =
+    extends_on c.args.names.now c.operand_at.new.names c.condition.new.names c.in_ok-low.ensures.names
+    (extends_on c.operand_at.new.names c.operand_at-2.new.names c.condition.new.names c.in_ok-high.ensures.names c.in_err-when.ensures.names)
+
+pub returns-in_err-bounds-clause-names : goal.returns-in_err-bounds-clause-names
+returns-in_err-bounds-clause-names c =
+    extends_on c.args.names.now c.operand_at.new.names c.condition.new.names c.in_ok-low.ensures.names
+    (extends_on c.operand_at.new.names c.operand_at-2.new.names c.condition.new.names c.in_ok-high.ensures.names c.in_ok-when.ensures.names)
+
+pub returns-clause-names : goal.returns-clause-names
+returns-clause-names c =
+    extends_on c.args.names.now c.operand_at.new.names c.condition.new.names c.in_ok-low.ensures.names
+    (extends_on c.operand_at.new.names c.operand_at-2.new.names c.condition.new.names c.in_ok-high.ensures.names c.in_ok-when.ensures.names)

@@ -29,3 +29,9 @@ returns-in_err-when-clause-read c =
     c.from_residual-in_err-when.result c.in_err-when.field-0.0 c.from_residual-in_err-when.ensures.1
     (target_fault SelectLine ls (lexemes_from c.args.tokens.now 2) c.in_ok-word.word.now c.in_err-when.field-0.0 c.in_ok-word.ensures.part
     (after_one c.args.tokens.now 1) c.in_err-when.ensures.fault)
+
+pub returns-in_err-when-clause-names : goal.returns-in_err-when-clause-names
+returns-in_err-when-clause-names c = extends_on c.args.names.now c.name_number.new.names c.condition.new.names c.in_ok-id.ensures.names c.in_err-when.ensures.names
+
+pub returns-clause-names : goal.returns-clause-names
+returns-clause-names c = extends_on c.args.names.now c.name_number.new.names c.condition.new.names c.in_ok-id.ensures.names c.in_ok-when.ensures.names
