@@ -1,8 +1,7 @@
 //! Refusals, and devices that fail before a file is made.
 use crate::row::{DONE, FAULTED, REFUSED, Row};
-use crate::runs::{gives, gives_over, is_so, run_row};
+use crate::runs::{gives, gives_over, run_row};
 use kc_conf::Status;
-use std::test::Fail;
 
 // Refused trees.
 const REFUSALS: &[Row] = &[
@@ -112,51 +111,60 @@ const FAULTLESS: &[Row] = &[
 ];
 
 #[test]
-fn a_refused_tree_makes_nothing(rt: HostRuntime) -> Result<(), Fail> {
+fn a_refused_tree_makes_nothing(rt: HostRuntime) {
     for row in REFUSALS {
-        gives(&rt, row)?;
+        assert!(rt; gives(&rt, row), "{}", row.name);
     }
-    Ok(())
 }
 
 #[test]
-fn a_fault_of_reading_names_its_file(rt: HostRuntime) -> Result<(), Fail> {
+fn a_fault_of_reading_names_its_file(rt: HostRuntime) {
     for row in FAULTS {
-        gives(&rt, row)?;
+        assert!(rt; gives(&rt, row), "{}", row.name);
     }
-    Ok(())
 }
 
 #[test]
-fn a_file_that_may_be_missing_is_no_fault(rt: HostRuntime) -> Result<(), Fail> {
+fn a_file_that_may_be_missing_is_no_fault(rt: HostRuntime) {
     for row in FAULTLESS {
-        gives(&rt, row)?;
+        assert!(rt; gives(&rt, row), "{}", row.name);
     }
-    Ok(())
 }
 
-// The run of the arguments, which are a bad command line: it tells what is wrong, and makes nothing.
-fn is_bad(rt: &HostRuntime, arguments: &'static str) -> Result<(), Fail> {
-    let row = Row { arguments, ..DONE };
-    let (status, maker) = run_row(rt, &row, 0)?;
-    let is_told = maker.notes.bytes.starts_with(b"error: ") && maker.log.is_empty();
-    drop(maker);
-    is_so(is_told && status == Status::Usage, arguments)
+// Whether the run of the arguments, which are a bad command line, tells what is wrong and makes nothing.
+fn is_bad(rt: &HostRuntime, arguments: &'static str) -> bool {
+    match run_row(rt, &Row { arguments, ..DONE }, 0) {
+        Some((status, maker)) => {
+            status == Status::Usage
+                && maker.notes.bytes.starts_with(b"error: ")
+                && maker.log.is_empty()
+        }
+        None => false,
+    }
+}
+
+const BAD: &[&str] = &["--header", "--nothing Kconfig", "--prefix 1 Kconfig"];
+
+#[test]
+fn a_bad_command_line_is_told(rt: HostRuntime) {
+    for arguments in BAD {
+        assert!(rt; is_bad(&rt, arguments), "{arguments}");
+    }
+}
+
+const TOO_LONG: &Row = &Row {
+    notes: b".config:1: error E17: line longer than 65535 bytes\n",
+    ..REFUSED
+};
+
+fn refuses_a_line_of_65536_bytes(rt: &HostRuntime) -> bool {
+    match vec![in rt.alloc(); b'x'; 65_536] {
+        Ok(line) => gives_over(rt, TOO_LONG, &[(".config", &line)]),
+        Err(_) => false,
+    }
 }
 
 #[test]
-fn a_bad_command_line_is_told(rt: HostRuntime) -> Result<(), Fail> {
-    is_bad(&rt, "--header")?;
-    is_bad(&rt, "--nothing Kconfig")?;
-    is_bad(&rt, "--prefix 1 Kconfig")
-}
-
-#[test]
-fn a_line_may_not_have_65536_bytes(rt: HostRuntime) -> Result<(), Fail> {
-    let line = vec![in rt.alloc(); b'x'; 65_536]?;
-    let row = Row {
-        notes: b".config:1: error E17: line longer than 65535 bytes\n",
-        ..REFUSED
-    };
-    gives_over(&rt, &row, &[(".config", &line)])
+fn a_line_may_not_have_65536_bytes(rt: HostRuntime) {
+    assert!(rt; refuses_a_line_of_65536_bytes(&rt));
 }

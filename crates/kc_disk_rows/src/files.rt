@@ -105,15 +105,14 @@ fn put(alloc: Global, map: &mut FileMap, path: &str, bytes: &[u8]) -> Result<(),
     map.insert(path, Vec::from_slice(alloc, bytes)?)
 }
 
-/// Files by path.
-pub(crate) fn files_of(alloc: Global, files: &[(&str, &[u8])]) -> Result<FileMap, AllocError> {
-    let mut map = FileMap::new(alloc);
+/// Adds files, by path. `AllocError` where there is no memory; then some are there.
+pub(crate) fn files_into(
+    alloc: Global,
+    files: &[(&str, &[u8])],
+    map: &mut FileMap,
+) -> Result<(), AllocError> {
     for (path, bytes) in files {
-        if let Err(fault) = put(alloc, &mut map, path, bytes) {
-            // A call drops the map; a drop that is left to the exit is written out there, and proved once more.
-            drop(map);
-            return Err(fault);
-        }
+        put(alloc, map, path, bytes)?;
     }
-    Ok(map)
+    Ok(())
 }

@@ -1,71 +1,104 @@
 //! Loading and running in one call, over devices in memory.
-use crate::files::{MemoryFolder, files_of};
-use kc_conf::{AcceptedTree, Options, Status};
+use crate::files::{MemoryFolder, files_into};
+use kc_conf::{AcceptedTree, FileMap, Options, Status};
 use kc_configure::configure;
 use kc_load::LoadFault;
 use kc_memory::{MemoryInput, MemoryOutputs};
 use kc_words::options_of;
-use std::alloc::Global;
-use std::test::Fail;
+use std::alloc::{AllocError, Global};
 
-// The options of a run on the root file `Kconfig` alone.
-fn plain(alloc: Global) -> Result<Options, Fail> {
-    let arguments = vec![in alloc; String::from_str(alloc, "Kconfig")?]?;
-    match options_of(alloc, &arguments) {
-        Ok(options) => Ok(options),
-        Err(_) => Err(Fail::from("the words give no options")),
+fn push_root(alloc: Global, words: &mut Vec<String>) -> Result<(), AllocError> {
+    words.push(String::from_str(alloc, "Kconfig")?)?;
+    Ok(())
+}
+
+// The options of a run on the root file `Kconfig` alone; none where there is no memory.
+fn plain(alloc: Global) -> Option<Options> {
+    let mut words = Vec::new(alloc);
+    if push_root(alloc, &mut words).is_err() {
+        return None;
+    }
+    match options_of(alloc, &words) {
+        Ok(options) => Some(options),
+        Err(_usage) => None,
     }
 }
 
-// A run over this folder and the `.config` of the one symbol. `Fail` where the options name a fragment.
+// What a run over this folder and the `.config` of the one symbol answers; none where there is no memory for it.
 fn configured(
     alloc: Global,
     folder: &mut MemoryFolder<'_>,
     outputs: &mut MemoryOutputs,
     kept: &mut Option<AcceptedTree>,
-) -> Result<Result<Status, LoadFault>, Fail> {
-    let options = plain(alloc)?;
-    let mut inputs = vec![in alloc; MemoryInput::new(b"CONFIG_A=y\n", 6, 6)]?;
-    if inputs.len() != options.fragments.len() + 1 {
-        return Err(Fail::from("not one input for each stream"));
+) -> Option<Result<Status, LoadFault>> {
+    let Some(options) = plain(alloc) else {
+        return None;
+    };
+    let mut inputs = Vec::new(alloc);
+    let is_pushed = inputs.push(MemoryInput::new(b"CONFIG_A=y\n", 6, 6)).is_ok();
+    if is_pushed && inputs.len() == options.fragments.len() + 1 {
+        Some(configure(alloc, folder, &options, &mut inputs, outputs, kept))
+    } else {
+        None
     }
-    Ok(configure(alloc, folder, &options, &mut inputs, outputs, kept))
 }
 
-// The run over this tree, of which the file at one path may not be read: its answer, and whether a tree was kept.
+// What the run over these files answers, of which the one at this path may not be read, and whether a tree was kept.
 fn left_by(
     alloc: Global,
+    files: &FileMap,
     failing: &str,
     outputs: &mut MemoryOutputs,
-) -> Result<(Option<Status>, bool), Fail> {
-    let tree = files_of(alloc, &[("./Kconfig", b"config A\n\tbool \"a\"\n")])?;
+) -> Option<(Option<Status>, bool)> {
     let mut folder = MemoryFolder {
-        files: &tree,
+        files,
         failing,
         failures: 0,
         alloc,
     };
     let mut kept = None;
-    let ended = configured(alloc, &mut folder, outputs, &mut kept)?;
-    Ok((ended.ok(), kept.is_some()))
+    match configured(alloc, &mut folder, outputs, &mut kept) {
+        Some(ended) => Some((ended.ok(), kept.is_some())),
+        None => None,
+    }
+}
+
+const TREE: &[(&str, &[u8])] = &[("./Kconfig", b"config A\n\tbool \"a\"\n")];
+
+// Whether the run is done, keeps its tree, and writes the whole `.config`.
+fn runs(alloc: Global, files: &FileMap) -> bool {
+    match MemoryOutputs::new(alloc, 400) {
+        Ok(mut outputs) => {
+            left_by(alloc, files, "-", &mut outputs) == Some((Some(Status::Done), true))
+                && outputs.config.bytes.ends_with(b"\nCONFIG_A=y\n")
+                && outputs.config.is_ended
+        }
+        Err(_) => false,
+    }
+}
+
+// Whether the root file that may not be read is a fault of loading, which keeps no tree and writes nothing.
+fn faults(alloc: Global, files: &FileMap) -> bool {
+    match MemoryOutputs::new(alloc, 400) {
+        Ok(mut outputs) => {
+            left_by(alloc, files, "./Kconfig", &mut outputs) == Some((None, false))
+                && !outputs.config.is_begun()
+                && outputs.notes.calls == 0
+        }
+        Err(_) => false,
+    }
 }
 
 #[test]
-fn a_tree_is_loaded_and_run(rt: HostRuntime) -> Result<(), Fail> {
-    let mut outputs = MemoryOutputs::new(rt.alloc(), 400)?;
-    let left = left_by(rt.alloc(), "-", &mut outputs)?;
-    let is_whole = outputs.config.bytes.ends_with(b"\nCONFIG_A=y\n") && outputs.config.is_ended;
-    drop(outputs);
-    assert!(rt; is_whole && left == (Some(Status::Done), true));
-    Ok(())
+fn a_tree_is_loaded_and_run(rt: HostRuntime) {
+    let mut files = FileMap::new(rt.alloc());
+    let is_filled = files_into(rt.alloc(), TREE, &mut files).is_ok();
+    assert!(rt; is_filled && runs(rt.alloc(), &files));
 }
 
 #[test]
-fn a_fault_of_loading_leaves_all_as_it_was(rt: HostRuntime) -> Result<(), Fail> {
-    let mut outputs = MemoryOutputs::new(rt.alloc(), 400)?;
-    let left = left_by(rt.alloc(), "./Kconfig", &mut outputs)?;
-    let is_begun = outputs.config.is_begun() || outputs.notes.calls > 0;
-    drop(outputs);
-    assert!(rt; !is_begun && left == (None, false));
-    Ok(())
+fn a_fault_of_loading_leaves_all_as_it_was(rt: HostRuntime) {
+    let mut files = FileMap::new(rt.alloc());
+    let is_filled = files_into(rt.alloc(), TREE, &mut files).is_ok();
+    assert!(rt; is_filled && faults(rt.alloc(), &files));
 }

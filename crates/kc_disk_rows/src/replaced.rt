@@ -1,10 +1,11 @@
 //! Runs whose files take their places at the end.
+ghost use Rattle.kc_disk.specs.Movers.{IsClear};
+ghost use Rattle.kc_disk_rows.specs.Memory.{places_by};
+
 use crate::mover::MemoryMover;
 use crate::row::{DONE, Row};
-use crate::runs::{is_so, run_into};
+use crate::runs::run_into;
 use kc_conf::Status;
-use std::alloc::AllocError;
-use std::test::Fail;
 
 // A run, what the places hold before and after it, and which of them were taken.
 #[derive(Clone, Copy)]
@@ -122,46 +123,60 @@ const CALLS: &[(u64, Replaced)] = &[
     (7, BROKEN),
 ];
 
-// Whether the places hold what the row says, and nothing stands beside one.
-fn holds(row: &Replaced, mover: &MemoryMover) -> Result<bool, AllocError> {
-    let moved = mover.moved()?;
-    Ok(
-        mover.bytes_of(".config") == row.config
-            && mover.bytes_of("h") == row.header
-            && mover.bytes_of("d") == row.rule
-            && mover.is_clear()
-            && moved.as_str() == row.moved,
-    )
+// Whether these places were taken, in order.
+fn are_moved(row: &Replaced, mover: &MemoryMover) -> bool {
+    match mover.moved() {
+        Ok(moved) => moved.as_str() == row.moved,
+        Err(_) => false,
+    }
 }
 
-// The run gives what the row says where this call fails, and the maker made no file.
-fn gives_at(rt: &HostRuntime, row: &Replaced, fail_at: u64) -> Result<(), Fail> {
+// Whether the places hold what the row says, and nothing stands beside one.
+fn holds(row: &Replaced, mover: &MemoryMover) -> bool {
+    mover.bytes_of(".config") == row.config
+        && mover.bytes_of("h") == row.header
+        && mover.bytes_of("d") == row.rule
+        && mover.is_clear()
+        && are_moved(row, mover)
+}
+
+// Whether the run into these places tells what the row says, and the maker made no file.
+fn tells(rt: &HostRuntime, row: &Replaced, mover: &mut MemoryMover) -> bool
+    requires { IsClear (places_by mover.old) }
+{
     let asked = Row {
         name: row.name,
         arguments: row.arguments,
         ..DONE
     };
-    let tree = [("./Kconfig", row.root)];
-    let mut mover = MemoryMover::new(rt.alloc(), row.before, fail_at)?;
-    let (status, maker) = run_into(rt, &asked, &tree, &mut mover)?;
-    let is_told = maker.notes.bytes.as_slice() == row.notes && maker.log.is_empty();
-    drop(maker);
-    let is_placed = holds(row, &mover)?;
-    is_so(is_told && status == row.status && is_placed, row.name)
+    match run_into(rt, &asked, &[("./Kconfig", row.root)], mover) {
+        Some((status, maker)) => {
+            status == row.status
+                && maker.notes.bytes.as_slice() == row.notes
+                && maker.log.is_empty()
+        }
+        None => false,
+    }
+}
+
+// Whether the run gives what the row says where this call fails.
+fn gives_at(rt: &HostRuntime, row: &Replaced, fail_at: u64) -> bool {
+    match MemoryMover::new(rt.alloc(), row.before, fail_at) {
+        Ok(mut mover) => tells(rt, row, &mut mover) && holds(row, &mover),
+        Err(_) => false,
+    }
 }
 
 #[test]
-fn files_take_their_places_at_the_end(rt: HostRuntime) -> Result<(), Fail> {
+fn files_take_their_places_at_the_end(rt: HostRuntime) {
     for row in ROWS {
-        gives_at(&rt, row, row.fail_at)?;
+        assert!(rt; gives_at(&rt, row, row.fail_at), "{}", row.name);
     }
-    Ok(())
 }
 
 #[test]
-fn each_call_of_the_mover_fails_in_turn(rt: HostRuntime) -> Result<(), Fail> {
+fn each_call_of_the_mover_fails_in_turn(rt: HostRuntime) {
     for (fail_at, row) in CALLS {
-        gives_at(&rt, row, *fail_at)?;
+        assert!(rt; gives_at(&rt, row, *fail_at), "{}", row.name);
     }
-    Ok(())
 }

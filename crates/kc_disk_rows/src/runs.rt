@@ -2,22 +2,24 @@
 ghost use Rattle.kc_disk.specs.Movers.{IsClear};
 ghost use Rattle.kc_disk_rows.specs.Memory.{places_by};
 
-use crate::files::{MemoryFolder, MemoryOpener, files_of};
+use crate::files::{MemoryFolder, MemoryOpener, files_into};
 use crate::maker::MemoryMaker;
 use crate::mover::MemoryMover;
 use crate::row::Row;
 use kc_conf::{FileMap, Status};
 use kc_disk::kconf_over;
 use std::alloc::{AllocError, Global};
-use std::test::Fail;
 
-// The arguments between the blanks.
-fn arguments_of(alloc: Global, line: &str) -> Result<Vec<String>, AllocError> {
-    let mut arguments = Vec::new(alloc);
+// Adds the arguments between the blanks.
+fn arguments_into(
+    alloc: Global,
+    line: &str,
+    arguments: &mut Vec<String>,
+) -> Result<(), AllocError> {
     for word in line.split(' ') {
         arguments.push(String::from_str(alloc, word)?)?;
     }
-    Ok(arguments)
+    Ok(())
 }
 
 // The run of the row over these files, and places for those of a row with `--replace`.
@@ -51,6 +53,7 @@ fn run_over_files(
 }
 
 // The run of the row over this tree and these streams. The maker's call of this number fails, counted from 1; 0 for none.
+// Nothing where there is no memory for the files.
 fn run_streams(
     rt: &HostRuntime,
     row: &Row,
@@ -58,23 +61,28 @@ fn run_streams(
     streams: &[(&str, &[u8])],
     mover: &mut MemoryMover,
     fail_at: u64,
-) -> Result<(Status, MemoryMaker), Fail>
+) -> Option<(Status, MemoryMaker)>
     requires { IsClear (places_by mover.old) }
 {
-    let arguments = arguments_of(rt.alloc(), row.arguments)?;
-    let tree = files_of(rt.alloc(), tree)?;
-    let streams = files_of(rt.alloc(), streams)?;
-    Ok(run_over_files(rt, row, &arguments, &tree, &streams, mover, fail_at))
+    let mut arguments = Vec::new(rt.alloc());
+    let mut files = FileMap::new(rt.alloc());
+    let mut inputs = FileMap::new(rt.alloc());
+    let is_filled = arguments_into(rt.alloc(), row.arguments, &mut arguments).is_ok()
+        && files_into(rt.alloc(), tree, &mut files).is_ok()
+        && files_into(rt.alloc(), streams, &mut inputs).is_ok();
+    if is_filled {
+        Some(run_over_files(rt, row, &arguments, &files, &inputs, mover, fail_at))
+    } else {
+        None
+    }
 }
 
 /// Runs the row. The maker's call of this number fails, counted from 1; 0 for none.
-pub(crate) fn run_row(
-    rt: &HostRuntime,
-    row: &Row,
-    fail_at: u64,
-) -> Result<(Status, MemoryMaker), Fail> {
-    let mut mover = MemoryMover::new(rt.alloc(), &[], 0)?;
-    run_streams(rt, row, row.tree, row.streams, &mut mover, fail_at)
+pub(crate) fn run_row(rt: &HostRuntime, row: &Row, fail_at: u64) -> Option<(Status, MemoryMaker)> {
+    match MemoryMover::new(rt.alloc(), &[], 0) {
+        Ok(mut mover) => run_streams(rt, row, row.tree, row.streams, &mut mover, fail_at),
+        Err(_) => None,
+    }
 }
 
 /// Runs the row over this tree; its files take their places in the mover.
@@ -83,15 +91,10 @@ pub(crate) fn run_into(
     row: &Row,
     tree: &[(&str, &[u8])],
     mover: &mut MemoryMover,
-) -> Result<(Status, MemoryMaker), Fail>
+) -> Option<(Status, MemoryMaker)>
     requires { IsClear (places_by mover.old) }
 {
     run_streams(rt, row, tree, row.streams, mover, 0)
-}
-
-/// Fails under this name where this does not hold.
-pub(crate) fn is_so(holds: bool, name: &'static str) -> Result<(), Fail> {
-    if holds { Ok(()) } else { Err(Fail::from(name)) }
 }
 
 // How many lines a text has.
@@ -116,20 +119,25 @@ fn holds(row: &Row, maker: &MemoryMaker) -> bool {
         && maker.depfile.bytes.as_slice() == row.depfile
 }
 
-/// The row's run over these streams gives what the row says.
-pub(crate) fn gives_over(
-    rt: &HostRuntime,
-    row: &Row,
-    streams: &[(&str, &[u8])],
-) -> Result<(), Fail> {
-    let mut mover = MemoryMover::new(rt.alloc(), &[], 0)?;
-    let (status, maker) = run_streams(rt, row, row.tree, streams, &mut mover, 0)?;
-    let is_left = holds(row, &maker) && mover.placed.is_empty();
-    drop(maker);
-    is_so(is_left && status == row.status, row.name)
+// Whether the row's run over these streams and this mover gives what the row says, and places nothing.
+fn gives_by(rt: &HostRuntime, row: &Row, streams: &[(&str, &[u8])], mover: &mut MemoryMover) -> bool
+    requires { IsClear (places_by mover.old) }
+{
+    match run_streams(rt, row, row.tree, streams, mover, 0) {
+        Some((status, maker)) => holds(row, &maker) && status == row.status,
+        None => false,
+    }
 }
 
-/// The row's run gives what the row says.
-pub(crate) fn gives(rt: &HostRuntime, row: &Row) -> Result<(), Fail> {
+/// Whether the row's run over these streams gives what the row says.
+pub(crate) fn gives_over(rt: &HostRuntime, row: &Row, streams: &[(&str, &[u8])]) -> bool {
+    match MemoryMover::new(rt.alloc(), &[], 0) {
+        Ok(mut mover) => gives_by(rt, row, streams, &mut mover) && mover.placed.is_empty(),
+        Err(_) => false,
+    }
+}
+
+/// Whether the row's run gives what the row says.
+pub(crate) fn gives(rt: &HostRuntime, row: &Row) -> bool {
     gives_over(rt, row, row.streams)
 }
