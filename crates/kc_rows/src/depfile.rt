@@ -1,34 +1,20 @@
 //! Rows of the rule for make.
-use kc_conf::{FileMap, Status};
-use kc_memory::{MemoryInput, MemoryOutputs, PLAIN, RunRequest, files, run_request};
-use std::alloc::Global;
-use std::process::Abort;
+use crate::claims::{Claim, hold};
+use crate::row::{ACCEPTED, Row};
+use crate::runs::{Manner, WHOLE};
 use std::test::Fail;
 
-// The room of a row's outputs.
-const ROOM: usize = 4000;
-
-// A tree, its fragments, and the rule for make; none where nothing is to be written.
-struct Row {
-    name: &'static str,
-    kconfig: &'static [u8],
-    others: &'static [(&'static [u8], &'static [u8])],
-    fragments: &'static [(&'static str, &'static [u8])],
-    strict: bool,
-    status: Status,
-    rule: Option<&'static [u8]>,
-}
-
+// One file, and its rule.
 const ROW: Row = Row {
     name: "a tree of one file",
     kconfig: b"config A\n\tbool \"a\"\n",
-    others: &[],
-    fragments: &[],
-    strict: false,
-    status: Status::Done,
     rule: Some(b".config: \\\n ./Kconfig\n\n./Kconfig:\n"),
+    ..ACCEPTED
 };
 
+const ONE: &[Row] = &[ROW];
+
+// Trees and fragments with the rule for make; none where the tree is refused.
 const ROWS: &[Row] = &[
     ROW,
     Row {
@@ -49,85 +35,44 @@ const ROWS: &[Row] = &[
     Row {
         name: "a refused tree has none",
         kconfig: b"source \"a\"\n",
-        status: Status::Refused,
-        rule: None,
-        ..ROW
-    },
-    Row {
-        name: "refused warnings have none",
-        fragments: &[("x.cfg", b"CONFIG_Q=y\n")],
-        strict: true,
-        status: Status::Refused,
         rule: None,
         ..ROW
     },
 ];
 
-// The rule is this, or was not begun.
-fn is_rule(rt: &impl Abort, outputs: &MemoryOutputs, row: &Row) {
-    let rule = outputs.depfile.bytes.as_slice();
-    match row.rule {
-        Some(text) => assert!(rt; outputs.depfile.is_ended && rule == text, "{}", row.name),
-        None => assert!(rt;
-            !outputs.depfile.is_begun() && rule.is_empty(),
-            "{}",
-            row.name
-        ),
-    }
-}
+// A row whose warnings are refused.
+const WARNED: &[Row] = &[Row {
+    name: "refused warnings have none",
+    fragments: &[("x.cfg", b"CONFIG_Q=y\n")],
+    rule: None,
+    ..ROW
+}];
 
-// The run of the row.
-fn run_row(
-    alloc: Global,
-    files: &FileMap,
-    row: &Row,
-    depfile: Option<&str>,
-    outputs: &mut MemoryOutputs,
-) -> Result<Status, Fail> {
-    let request = RunRequest {
-        fragments: row.fragments,
-        strict: row.strict,
-        depfile,
-        ..PLAIN
-    };
-    let mut inputs = vec![in alloc; MemoryInput::new(b"", 9, 9)]?;
-    for (_, text) in row.fragments {
-        inputs.push(MemoryInput::new(text, 9, 9))?;
-    }
-    run_request(alloc, files, &request, &mut inputs, outputs)
-}
+const PLAIN: Manner = Manner {
+    first: 9,
+    later: 9,
+    ..WHOLE
+};
 
-// The row's run leaves its rule.
-fn leaves_rule(rt: &impl Abort, alloc: Global, row: &Row) -> Result<(), Fail> {
-    let files = files(alloc, "Kconfig", row.kconfig, row.others)?;
-    let mut outputs = MemoryOutputs::new(alloc, ROOM)?;
-    let status = run_row(alloc, &files, row, Some("out.d"), &mut outputs);
-    is_rule(rt, &outputs, row);
-    drop(outputs);
-    assert_eq!(rt; status?, row.status, "{}", row.name);
-    Ok(())
-}
+// The rule for make is wanted.
+const RULE: Manner = Manner {
+    wants_rule: true,
+    ..PLAIN
+};
+
+// So it is, and warnings are refused.
+const STRICT_RULE: Manner = Manner {
+    is_strict: true,
+    ..RULE
+};
 
 #[test]
 fn a_rule_for_make_names_what_was_read(rt: HostRuntime) -> Result<(), Fail> {
-    for row in ROWS {
-        leaves_rule(&rt, rt.alloc(), row)?;
-    }
-    Ok(())
-}
-
-// The run without the option begins no rule.
-fn leaves_none(rt: &impl Abort, alloc: Global, row: &Row) -> Result<(), Fail> {
-    let files = files(alloc, "Kconfig", row.kconfig, row.others)?;
-    let mut outputs = MemoryOutputs::new(alloc, ROOM)?;
-    let status = run_row(alloc, &files, row, None, &mut outputs);
-    assert!(rt; !outputs.depfile.is_begun() && outputs.depfile.calls == 0);
-    drop(outputs);
-    assert_eq!(rt; status?, row.status, "{}", row.name);
-    Ok(())
+    hold(rt.alloc(), &[ROWS], &RULE, &Claim::Rule)?;
+    hold(rt.alloc(), &[WARNED], &STRICT_RULE, &Claim::Rule)
 }
 
 #[test]
 fn no_rule_for_make_is_written_unasked(rt: HostRuntime) -> Result<(), Fail> {
-    leaves_none(&rt, rt.alloc(), &ROW)
+    hold(rt.alloc(), &[ONE], &PLAIN, &Claim::NoRule)
 }

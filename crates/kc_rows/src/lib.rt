@@ -2,6 +2,10 @@
 #![tactic(auto)]
 
 #[cfg(test)]
+mod again;
+#[cfg(test)]
+mod claims;
+#[cfg(test)]
 mod depfile;
 #[cfg(test)]
 mod lost;

@@ -1,17 +1,13 @@
 //! Runs that warn of each value that was given and is not the symbol's.
-use crate::row::{ACCEPTED, Accepted};
+use crate::claims::{Claim, hold};
+use crate::row::{ACCEPTED, Row};
 use crate::rows::tables;
-use crate::runs::{ROOM, Warnings, run_warned};
-use crate::texts::{holds, is_done, is_text, tells_alone};
-use kc_conf::Status;
-use kc_memory::MemoryOutputs;
-use std::alloc::Global;
-use std::process::Abort;
+use crate::runs::{Manner, WHOLE};
 use std::test::Fail;
 
 // Trees in which a value is lost, and trees in which none is, of each kind.
-const LOST: &[Accepted] = &[
-    Accepted {
+const LOST: &[Row] = &[
+    Row {
         name: "a bool whose dependency is n",
         kconfig: b"config A\n\tbool \"a\"\n\nconfig B\n\tbool \"b\"\n\tdepends on A\n",
         settings: b"CONFIG_B=y\n",
@@ -19,7 +15,7 @@ const LOST: &[Accepted] = &[
         notes: b"warning K14: B was given y and is n\n",
         ..ACCEPTED
     },
-    Accepted {
+    Row {
         name: "a tristate that its dependency lowers",
         kconfig: b"config MODULES\n\tdef_bool y\n\tmodules\n\nconfig A\n\ttristate \"a\"\n\nconfig B\n\ttristate \"b\"\n\tdepends on A\n",
         settings: b"CONFIG_A=m\nCONFIG_B=y\n",
@@ -27,7 +23,7 @@ const LOST: &[Accepted] = &[
         notes: b"warning K14: B was given y and is m\n",
         ..ACCEPTED
     },
-    Accepted {
+    Row {
         name: "a tristate without modules",
         kconfig: b"config A\n\ttristate \"a\"\n",
         settings: b"CONFIG_A=m\n",
@@ -35,7 +31,7 @@ const LOST: &[Accepted] = &[
         notes: b"warning K14: A was given m and is y\n",
         ..ACCEPTED
     },
-    Accepted {
+    Row {
         name: "an int outside its range",
         kconfig: b"config A\n\tint \"a\"\n\trange 1 9\n\tdefault 3\n",
         settings: b"CONFIG_A=10\n",
@@ -43,7 +39,7 @@ const LOST: &[Accepted] = &[
         notes: b"warning K12: user value 10 of A is outside 1 to 9\nwarning K14: A was given 10 and is 3\n",
         ..ACCEPTED
     },
-    Accepted {
+    Row {
         name: "an int that is empty",
         kconfig: b"config C\n\tbool \"c\"\n\nconfig A\n\tint \"a\"\n\tdepends on C\n",
         settings: b"CONFIG_A=5\n",
@@ -51,7 +47,7 @@ const LOST: &[Accepted] = &[
         notes: b"warning K14: A was given 5 and is \n",
         ..ACCEPTED
     },
-    Accepted {
+    Row {
         name: "a hex as it is spelled",
         kconfig: b"config C\n\tbool \"c\"\n\nconfig A\n\thex \"a\" if C\n\tdefault 0x1F\n",
         settings: b"CONFIG_A=0x1f\n",
@@ -59,7 +55,7 @@ const LOST: &[Accepted] = &[
         notes: b"warning K14: A was given 0x1f and is 0x1F\n",
         ..ACCEPTED
     },
-    Accepted {
+    Row {
         name: "a string, escaped",
         kconfig: b"config C\n\tbool \"c\"\n\nconfig A\n\tstring \"a\" if C\n\tdefault \"b\"\n",
         settings: b"CONFIG_A=\"x\\\"\\\\y\"\n",
@@ -67,7 +63,7 @@ const LOST: &[Accepted] = &[
         notes: b"warning K14: A was given \"x\\\"\\\\y\" and is \"b\"\n",
         ..ACCEPTED
     },
-    Accepted {
+    Row {
         name: "an empty string",
         kconfig: b"config C\n\tbool \"c\"\n\nconfig A\n\tstring \"a\"\n\tdepends on C\n",
         settings: b"CONFIG_A=\"x\"\n",
@@ -75,7 +71,7 @@ const LOST: &[Accepted] = &[
         notes: b"warning K14: A was given \"x\" and is \"\"\n",
         ..ACCEPTED
     },
-    Accepted {
+    Row {
         name: "a member that another one displaces",
         kconfig: b"choice\n\tprompt \"c\"\n\nconfig A\n\tbool \"a\"\n\nconfig B\n\tbool \"b\"\n\nendchoice\n",
         settings: b"CONFIG_A=y\n",
@@ -84,7 +80,7 @@ const LOST: &[Accepted] = &[
         notes: b"warning K14: A was given y and is n\n",
         ..ACCEPTED
     },
-    Accepted {
+    Row {
         name: "a member that is not visible",
         kconfig: b"config C\n\tbool \"c\"\n\nchoice\n\tprompt \"d\"\n\nconfig A\n\tbool \"a\"\n\nconfig B\n\tbool \"b\"\n\tdepends on C\n\nendchoice\n",
         settings: b"# CONFIG_A is not set\nCONFIG_B=y\n",
@@ -92,7 +88,7 @@ const LOST: &[Accepted] = &[
         notes: b"warning K14: A was given n and is y\nwarning K14: B was given y and is n\n",
         ..ACCEPTED
     },
-    Accepted {
+    Row {
         name: "a symbol that another one selects",
         kconfig: b"config A\n\tdef_bool y\n\tselect B\n\nconfig B\n\tbool \"b\"\n",
         settings: b"# CONFIG_B is not set\n",
@@ -100,14 +96,14 @@ const LOST: &[Accepted] = &[
         notes: b"warning K14: B was given n and is y\n",
         ..ACCEPTED
     },
-    Accepted {
+    Row {
         name: "a symbol without a prompt",
         kconfig: b"config A\n\tdef_bool y\n\nconfig B\n\tint\n\tdefault 1\n",
         settings: b"# CONFIG_A is not set\nCONFIG_B=7\n",
         config: b"CONFIG_A=y\nCONFIG_B=1\n",
         ..ACCEPTED
     },
-    Accepted {
+    Row {
         name: "the last line counts",
         kconfig: b"config A\n\tbool \"a\"\n\nconfig B\n\tbool \"b\"\n\tdepends on A\n",
         settings: b"CONFIG_A=y\nCONFIG_B=y\n",
@@ -119,7 +115,7 @@ const LOST: &[Accepted] = &[
         notes: b"one:1: warning K10: A is set again\ntwo:1: warning K10: A is set again\n",
         ..ACCEPTED
     },
-    Accepted {
+    Row {
         name: "the last line is lost",
         kconfig: b"config A\n\tbool \"a\"\n\nconfig B\n\tbool \"b\"\n\tdepends on A\n",
         settings: b"CONFIG_A=y\nCONFIG_B=y\n",
@@ -128,7 +124,7 @@ const LOST: &[Accepted] = &[
         notes: b"one:1: warning K10: A is set again\nwarning K14: B was given y and is n\n",
         ..ACCEPTED
     },
-    Accepted {
+    Row {
         name: "what nothing was given for",
         kconfig: b"config A\n\tbool \"a\"\n\tdefault y\n\nconfig B\n\tint \"b\"\n\tdefault 4\n",
         settings: b"CONFIG_B=4\n",
@@ -137,92 +133,40 @@ const LOST: &[Accepted] = &[
     },
 ];
 
-// The row's run that tells what is lost gives the row's texts.
-fn tells_lost(rt: &impl Abort, alloc: Global, row: &Accepted) -> Result<(), Fail> {
-    let mut outputs = MemoryOutputs::new(alloc, ROOM)?;
-    let status = run_warned(alloc, row, Warnings::OfLost, &mut outputs)?;
-    is_done(rt, status, row.name);
-    holds(rt, alloc, row, &outputs)
+// The table, which nothing else names.
+fn lost_rows() -> &'static [Row<'static>] {
+    LOST
 }
 
-// Where warnings are refused, the row's stand alone with the line that refuses them.
-fn refuses_lost(rt: &impl Abort, alloc: Global, row: &Accepted) -> Result<(), Fail> {
-    let mut outputs = MemoryOutputs::new(alloc, ROOM)?;
-    let status = run_warned(alloc, row, Warnings::OfLostRefused, &mut outputs)?;
-    if row.notes.is_empty() {
-        is_done(rt, status, row.name);
-        return holds(rt, alloc, row, &outputs);
-    }
-    let mut notes = Vec::from_slice(alloc, row.notes)?;
-    notes.extend_from_slice(b"error E21: warnings are refused\n")?;
-    tells_alone(rt, &outputs, notes.as_slice(), row.name);
-    assert_eq!(rt; status, Status::Refused, "{}", row.name);
-    Ok(())
-}
+// Lost values are told.
+const TELLING: Manner = Manner {
+    tells_lost: true,
+    ..WHOLE
+};
 
 #[test]
 fn lost_values_are_told(rt: HostRuntime) -> Result<(), Fail> {
-    for row in LOST {
-        tells_lost(&rt, rt.alloc(), row)?;
-    }
-    Ok(())
+    hold(rt.alloc(), &[lost_rows()], &TELLING, &Claim::Texts)
 }
+
+// They are told, and warnings are refused.
+const REFUSING: Manner = Manner {
+    is_strict: true,
+    ..TELLING
+};
 
 #[test]
 fn lost_values_are_refused_with_the_other_warnings(rt: HostRuntime) -> Result<(), Fail> {
-    for row in LOST {
-        refuses_lost(&rt, rt.alloc(), row)?;
-    }
-    Ok(())
-}
-
-// The files are those of a run that does not tell what is lost, and its notes stand first.
-fn writes_the_same(rt: &impl Abort, alloc: Global, row: &Accepted) -> Result<(), Fail> {
-    let mut plain = MemoryOutputs::new(alloc, ROOM)?;
-    let status = run_warned(alloc, row, Warnings::Plain, &mut plain)?;
-    is_done(rt, status, row.name);
-    let mut outputs = MemoryOutputs::new(alloc, ROOM)?;
-    let status = run_warned(alloc, row, Warnings::OfLost, &mut outputs)?;
-    is_done(rt, status, row.name);
-    is_text(
-        rt,
-        outputs.config.bytes.as_slice(),
-        plain.config.bytes.as_slice(),
-        row.name,
-    );
-    is_text(
-        rt,
-        outputs.header.bytes.as_slice(),
-        plain.header.bytes.as_slice(),
-        row.name,
-    );
-    is_text(
-        rt,
-        outputs.minimal.bytes.as_slice(),
-        plain.minimal.bytes.as_slice(),
-        row.name,
-    );
-    let notes = outputs.notes.bytes.as_slice();
-    assert!(rt;
-        notes.starts_with(plain.notes.bytes.as_slice()),
-        "{}",
-        row.name
-    );
-    Ok(())
-}
-
-// Each row writes the same files.
-fn write_the_same(rt: &impl Abort, alloc: Global, rows: &[Accepted]) -> Result<(), Fail> {
-    for row in rows {
-        writes_the_same(rt, alloc, row)?;
-    }
-    Ok(())
+    hold(rt.alloc(), &[lost_rows()], &REFUSING, &Claim::Texts)
 }
 
 #[test]
 fn what_is_told_changes_no_file(rt: HostRuntime) -> Result<(), Fail> {
-    for rows in tables() {
-        write_the_same(&rt, rt.alloc(), rows)?;
-    }
-    write_the_same(&rt, rt.alloc(), LOST)
+    hold(rt.alloc(), &tables(), &WHOLE, &Claim::TellingChangesNoFile)?;
+    hold(
+        rt.alloc(),
+        &[lost_rows()],
+        &WHOLE,
+        &Claim::TellingChangesNoFile,
+    )
 }

@@ -1,39 +1,13 @@
 //! Streams that are cut, and outputs that take little.
-ghost use Rattle.std.specs.Prelude.{◌<◌};
-
-use crate::row::Accepted;
+use crate::claims::{Claim, hold, holds};
+use crate::row::Row;
 use crate::rows::tables;
-use crate::runs::{ROOM, run_row};
-use crate::texts::{holds, is_done};
-use kc_memory::MemoryOutputs;
+use crate::runs::{Manner, WHOLE};
 use std::alloc::Global;
-use std::process::Abort;
 use std::test::Fail;
 
-// The row gives its texts where its streams come in such pieces, and each write takes at most so many bytes.
-fn holds_in_pieces(
-    rt: &impl Abort,
-    alloc: Global,
-    row: &Accepted,
-    first: usize,
-    later: usize,
-    taken: usize,
-) -> Result<(), Fail>
-    requires first { 0 < first }
-    requires later { 0 < later }
-{
-    let mut outputs = MemoryOutputs::new(alloc, ROOM)?;
-    outputs.config.piece = taken;
-    outputs.header.piece = taken;
-    outputs.minimal.piece = taken;
-    outputs.notes.piece = taken;
-    let status = run_row(alloc, row, first, later, &mut outputs)?;
-    is_done(rt, status, row.name);
-    holds(rt, alloc, row, &outputs)
-}
-
 // The length of the row's longest stream.
-fn longest_stream(row: &Accepted) -> usize {
+fn longest_stream(row: &Row) -> usize {
     let mut longest = row.settings.len();
     for (_, text) in row.fragments {
         longest = longest.max(text.len());
@@ -41,51 +15,57 @@ fn longest_stream(row: &Accepted) -> usize {
     longest
 }
 
-// The streams cut once, at each place.
-fn holds_at_each_cut(rt: &impl Abort, alloc: Global, row: &Accepted) -> Result<(), Fail> {
+// Whether the row gives its texts where its streams are cut once, at each place.
+fn holds_at_each_cut(alloc: Global, row: &Row) -> Result<bool, Fail> {
     for before in 0..longest_stream(row) {
-        holds_in_pieces(rt, alloc, row, before + 1, 4096, 4096)?;
+        let manner = Manner {
+            first: before + 1,
+            ..WHOLE
+        };
+        if !holds(alloc, row, &manner, &Claim::Texts)? {
+            return Ok(false);
+        }
     }
-    Ok(())
+    Ok(true)
 }
 
-fn hold_at_each_cut(rt: &impl Abort, alloc: Global, rows: &[Accepted]) -> Result<(), Fail> {
-    for row in rows {
-        holds_at_each_cut(rt, alloc, row)?;
+// Each row does so. Fails with the name of the first that does not.
+fn hold_at_each_cut(alloc: Global, tables: &[&[Row]]) -> Result<(), Fail> {
+    for rows in tables {
+        for row in *rows {
+            if !holds_at_each_cut(alloc, row)? {
+                return Err(Fail::from(row.name));
+            }
+        }
     }
     Ok(())
 }
 
 #[test]
 fn a_stream_may_be_cut_at_each_place(rt: HostRuntime) -> Result<(), Fail> {
-    for rows in tables() {
-        hold_at_each_cut(&rt, rt.alloc(), rows)?;
-    }
-    Ok(())
+    hold_at_each_cut(rt.alloc(), &tables())
 }
 
-// Reads and writes take this many bytes.
-fn hold_by(rt: &impl Abort, alloc: Global, rows: &[Accepted], bytes: usize) -> Result<(), Fail>
-    requires { 0 < bytes }
-{
-    for row in rows {
-        holds_in_pieces(rt, alloc, row, bytes, bytes, bytes)?;
-    }
-    Ok(())
-}
+const ONE_BYTE: Manner = Manner {
+    first: 1,
+    later: 1,
+    taken: 1,
+    ..WHOLE
+};
 
 #[test]
 fn reads_and_writes_may_take_one_byte(rt: HostRuntime) -> Result<(), Fail> {
-    for rows in tables() {
-        hold_by(&rt, rt.alloc(), rows, 1)?;
-    }
-    Ok(())
+    hold(rt.alloc(), &tables(), &ONE_BYTE, &Claim::Texts)
 }
+
+const SEVEN_BYTES: Manner = Manner {
+    first: 7,
+    later: 7,
+    taken: 7,
+    ..WHOLE
+};
 
 #[test]
 fn reads_and_writes_may_take_seven_bytes(rt: HostRuntime) -> Result<(), Fail> {
-    for rows in tables() {
-        hold_by(&rt, rt.alloc(), rows, 7)?;
-    }
-    Ok(())
+    hold(rt.alloc(), &tables(), &SEVEN_BYTES, &Claim::Texts)
 }

@@ -1,35 +1,38 @@
 //! What a worked row says.
 
-/// An accepted tree: what is read, and the texts that must come out.
-pub(crate) struct Accepted {
+/// A tree: what is read, and the texts that must come out.
+#[derive(Drop)]
+pub(crate) struct Row<'a> {
     /// What the row shows.
-    pub name: &'static str,
+    pub name: &'a str,
     /// The root file.
-    pub kconfig: &'static [u8],
+    pub kconfig: &'a [u8],
     /// The other files, by name.
-    pub others: &'static [(&'static [u8], &'static [u8])],
+    pub others: &'a [(&'a [u8], &'a [u8])],
     /// The `.config`.
-    pub settings: &'static [u8],
+    pub settings: &'a [u8],
     /// The fragments, by name.
-    pub fragments: &'static [(&'static str, &'static [u8])],
+    pub fragments: &'a [(&'a str, &'a [u8])],
     /// What stands before each name.
-    pub prefix: &'static [u8],
+    pub prefix: &'a [u8],
     /// The title in the headings.
-    pub title: &'static [u8],
+    pub title: &'a [u8],
     /// The full `.config`, behind its heading.
-    pub config: &'static [u8],
+    pub config: &'a [u8],
     /// The header, behind its heading, where it is wanted.
-    pub header: Option<&'static [u8]>,
+    pub header: Option<&'a [u8]>,
     /// The minimal file, where it is wanted.
-    pub minimal: Option<&'static [u8]>,
-    /// The warnings.
-    pub notes: &'static [u8],
+    pub minimal: Option<&'a [u8]>,
+    /// The rule for make; none where nothing is to be written.
+    pub rule: Option<&'a [u8]>,
+    /// The warnings, or the error line of a tree that is refused.
+    pub notes: &'a [u8],
     /// Whether a run on its own text gives the same text.
     pub is_idempotent: bool,
 }
 
-/// An empty tree.
-pub(crate) const ACCEPTED: Accepted = Accepted {
+/// An empty tree, which is accepted.
+pub(crate) const ACCEPTED: Row<'static> = Row {
     name: "",
     kconfig: b"",
     others: &[],
@@ -40,26 +43,15 @@ pub(crate) const ACCEPTED: Accepted = Accepted {
     config: b"",
     header: None,
     minimal: None,
+    rule: None,
     notes: b"",
     is_idempotent: true,
 };
 
-/// A refused tree, and its one line.
-pub(crate) struct Refused {
-    /// What the row shows.
-    pub name: &'static str,
-    /// The root file.
-    pub kconfig: &'static [u8],
-    /// The other files, by name.
-    pub others: &'static [(&'static [u8], &'static [u8])],
-    /// The error line.
-    pub notes: &'static [u8],
-}
-
-/// A tree without other files.
-pub(crate) const REFUSED: Refused = Refused {
-    name: "",
-    kconfig: b"",
-    others: &[],
-    notes: b"",
+/// A tree without other files, which is refused; every file is wanted.
+pub(crate) const REFUSED: Row<'static> = Row {
+    settings: b"CONFIG_Q=y\n",
+    header: Some(b""),
+    minimal: Some(b""),
+    ..ACCEPTED
 };

@@ -1,5 +1,7 @@
 //! The rows, by what they show.
-use crate::row::{Accepted, Refused};
+//!
+//! A table is named by one function alone, since whatever names it is proved with all its rows.
+use crate::row::Row;
 
 mod choices;
 mod layout;
@@ -9,7 +11,7 @@ mod streams;
 mod values;
 
 /// The tables of accepted trees.
-pub(crate) fn tables() -> [&'static [Accepted]; 5] {
+pub(crate) fn tables() -> [&'static [Row<'static>]; 5] {
     [
         values::rows(),
         numbers::rows(),
@@ -20,6 +22,6 @@ pub(crate) fn tables() -> [&'static [Accepted]; 5] {
 }
 
 /// Every refused tree.
-pub(crate) fn refused_rows() -> &'static [Refused] {
+pub(crate) fn refused_rows() -> &'static [Row<'static>] {
     refusals::rows()
 }

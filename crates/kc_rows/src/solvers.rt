@@ -1,12 +1,14 @@
 //! The solver against the plain slow one.
-ghost use Rattle.std.specs.Prelude.{None, ⊤, IfOk};
+ghost use Rattle.std.specs.Prelude.{None, ⊤, OnOk};
 ghost use Rattle.kc_user.specs.Places.{ArePlacesOf};
 ghost use Rattle.kc_solve.specs.Graphs.{IsGraphOf};
 ghost use Rattle.kc_tree.specs.Layouts.{IsLayoutOf};
 
-use crate::row::Accepted;
+use crate::row::Row;
 use crate::rows::tables;
 use kc_build::build_tree;
+use kc_conf::FileMap;
+use kc_dot::fault::DotFault;
 use kc_dot::prefix::Prefix;
 use kc_dot::reader::DotReader;
 use kc_dot::{Fault, Sink};
@@ -20,8 +22,8 @@ use kc_solve_rows::slow::slow_table;
 use kc_tree::layout::Layout;
 use kc_tree::tree::Tree;
 use kc_user::user::User;
-use std::alloc::Global;
-use std::process::Abort;
+use kc_values::table::Table;
+use std::alloc::{AllocError, Global};
 use std::test::Fail;
 
 // A sink that lets everything go.
@@ -44,134 +46,161 @@ impl Sink for Nowhere {
     ghost goes_on = { λ s t u st tu. tt };
 }
 
-// The row's streams as one, each of which ends its own last line.
-fn joined(alloc: Global, row: &Accepted) -> Result<Vec<u8>, Fail> {
-    let mut settings = Vec::from_slice(alloc, row.settings)?;
+// Adds the row's streams as one, each of which ends its own last line.
+fn streams_into(row: &Row, settings: &mut Vec<u8>) -> Result<(), AllocError> {
+    settings.extend_from_slice(row.settings)?;
     for (_, text) in row.fragments {
         settings.push(b'\n')?;
         settings.extend_from_slice(text)?;
     }
-    Ok(settings)
+    Ok(())
 }
 
-// What a `.config` gives the user's places.
-fn user_of(alloc: Global, tree: &Tree, prefix: &Prefix, settings: &[u8]) -> Result<User, Fail>
-    ensures { IfOk result (λ user. ArePlacesOf tree.now user) }
+// Gives a `.config` to the user's places.
+fn read(
+    alloc: Global,
+    tree: &Tree,
+    prefix: &Prefix,
+    settings: &[u8],
+    user: &mut User,
+) -> Result<(), DotFault>
+    requires { ArePlacesOf tree.now user.old }
+    ensures { OnOk result (ArePlacesOf tree.now user.new) }
 {
-    let mut user = User::new(alloc, tree)?;
     let mut reader = DotReader::new(alloc, tree, prefix, b".config");
-    reader.feed(settings, &mut user, &mut Nowhere)?;
-    reader.finish(&mut user, &mut Nowhere)?;
-    Ok(user)
+    reader.feed(settings, user, &mut Nowhere)?;
+    reader.finish(user, &mut Nowhere)
 }
 
-// The symbol has the same value in both: a truth value by its type, or a text.
-fn has_one_value<V: Values, W: Values>(
-    rt: &impl Abort,
-    values: &V,
-    others: &W,
-    id: SymId,
-    name: &str,
-) {
-    let kind = values.kind(id);
-    assert_eq!(rt; kind, others.kind(id), "{}", name);
-    if kind == Kind::Bool || kind == Kind::Tristate {
-        assert_eq!(rt; values.tri(id), others.tri(id), "{}", name);
-    } else {
-        assert_eq!(rt; values.text(id), others.text(id), "{}", name);
+// Whether the symbol has the same value in both: a truth value by its type, or a text.
+fn has_one_value(solved: &Solved<'_>, slow: &Table<'_>, id: SymId) -> bool {
+    let kind = solved.kind(id);
+    kind == slow.kind(id)
+        && match kind {
+            Kind::Bool | Kind::Tristate => solved.tri(id) == slow.tri(id),
+            _ => solved.text(id) == slow.text(id),
+        }
+}
+
+// Whether each symbol of the tree has the same value in both.
+fn have_one_value(tree: &Tree, solved: &Solved<'_>, slow: &Table<'_>) -> bool {
+    for number in 0..tree.symbol_count() {
+        if !has_one_value(solved, slow, tree.symbol(number)) {
+            return false;
+        }
     }
+    true
 }
 
-// The order of a tree without a loop.
-fn order_of(alloc: Global, tree: &Tree, layout: &Layout) -> Result<EvaluationOrder, Fail>
-    requires { IsLayoutOf tree.now layout.now }
-    ensures { IfOk result (IsGraphOf tree.now layout.now) }
-{
-    match EvaluationOrder::of(alloc, tree, layout) {
-        Ok(order) => Ok(order),
-        Err(_refusal) => Err(Fail::from("a loop")),
-    }
-}
-
-// The plain slow solver gives each symbol the value that it has here.
-fn agrees(
-    rt: &impl Abort,
+// Whether the plain slow solver gives each symbol the value that it has here.
+fn is_slowly_solved(
     alloc: Global,
     layout: &Layout,
     order: &EvaluationOrder,
     user: &User,
     solved: &Solved<'_>,
-    name: &str,
-) -> Result<(), Fail>
+) -> bool
     requires laid { IsLayoutOf solved.now.tree layout.now }
     requires order { IsGraphOf solved.now.tree layout.now order.now }
     requires user { ArePlacesOf solved.now.tree user.now }
 {
     let tree = solved.tree();
-    let slow = slow_table(alloc, tree, layout, order, user)?;
-    for number in 0..tree.symbol_count() {
-        has_one_value(rt, solved, &slow, tree.symbol(number), name);
+    match slow_table(alloc, tree, layout, order, user) {
+        Ok(slow) => have_one_value(tree, solved, &slow),
+        Err(_) => false,
     }
-    Ok(())
 }
 
-// Both solvers give each symbol of the tree the same value.
-fn agree(rt: &impl Abort, alloc: Global, tree: &Tree, user: &User, name: &str) -> Result<(), Fail>
+// Whether both solvers give each symbol of the tree the same value, along this order.
+fn agree_along(
+    alloc: Global,
+    tree: &Tree,
+    layout: &Layout,
+    order: &EvaluationOrder,
+    user: &User,
+) -> bool
+    requires laid { IsLayoutOf tree.now layout.now }
+    requires order { IsGraphOf tree.now layout.now order.now }
+    requires user { ArePlacesOf tree.now user.now }
+{
+    match solve(alloc, tree, layout, order, user) {
+        Ok(solved) => is_slowly_solved(alloc, layout, order, user, &solved),
+        Err(_) => false,
+    }
+}
+
+// Whether the tree has no loop, and both solvers agree.
+fn agree(alloc: Global, tree: &Tree, user: &User) -> bool
     requires { ArePlacesOf tree.now user.now }
 {
     let layout = tree.layout();
-    let order = order_of(alloc, tree, layout)?;
-    let solved = solve(alloc, tree, layout, &order, user)?;
-    agrees(rt, alloc, layout, &order, user, &solved, name)
-}
-
-// The row's tree.
-fn tree_of(alloc: Global, row: &Accepted) -> Result<Tree, Fail> {
-    let files = files(alloc, "Kconfig", row.kconfig, row.others)?;
-    match build_tree(alloc, &files, b"Kconfig") {
-        Ok(tree) => Ok(tree),
-        Err(_refusal) => Err(Fail::from("a refusal")),
+    match EvaluationOrder::of(alloc, tree, layout) {
+        Ok(order) => agree_along(alloc, tree, layout, &order, user),
+        Err(_refusal) => false,
     }
 }
 
-// The row's prefix.
-fn prefix_of(alloc: Global, row: &Accepted) -> Result<Prefix, Fail> {
-    match Prefix::new(alloc, row.prefix)? {
-        Some(prefix) => Ok(prefix),
-        None => Err(Fail::from("no prefix")),
+// Whether both solvers agree on this `.config`.
+fn agree_on(alloc: Global, tree: &Tree, prefix: &Prefix, settings: &[u8]) -> bool {
+    match User::new(alloc, tree) {
+        Ok(mut user) => match read(alloc, tree, prefix, settings, &mut user) {
+            Ok(()) => agree(alloc, tree, &user),
+            Err(_) => false,
+        },
+        Err(_) => false,
     }
 }
 
-// Both solvers agree on the row's tree.
-fn agree_in(rt: &impl Abort, alloc: Global, row: &Accepted, tree: &Tree) -> Result<(), Fail> {
-    let prefix = prefix_of(alloc, row)?;
-    let settings = joined(alloc, row)?;
-    let user = user_of(alloc, tree, &prefix, &settings)?;
-    agree(rt, alloc, tree, &user, row.name)
-}
-
-// Both solvers agree on the row. The answer is how many symbols there are.
-fn agree_on(rt: &impl Abort, alloc: Global, row: &Accepted) -> Result<usize, Fail> {
-    let tree = tree_of(alloc, row)?;
-    agree_in(rt, alloc, row, &tree)?;
-    Ok(tree.symbol_count())
-}
-
-// Both solvers agree on the rows, which have this many symbols.
-fn agree_on_all(rt: &impl Abort, alloc: Global, rows: &[Accepted]) -> Result<usize, Fail> {
-    let mut symbols = 0usize;
-    for row in rows {
-        symbols = symbols.saturating_add(agree_on(rt, alloc, row)?);
+// Whether both solvers agree on the row's streams.
+fn agree_in(alloc: Global, row: &Row, tree: &Tree) -> bool {
+    let mut settings = Vec::new(alloc);
+    match Prefix::new(alloc, row.prefix) {
+        Ok(Some(prefix)) => {
+            streams_into(row, &mut settings).is_ok() && agree_on(alloc, tree, &prefix, &settings)
+        }
+        _ => false,
     }
-    Ok(symbols)
+}
+
+// How many symbols the tree of these files has, where both solvers agree on the row.
+fn symbols_over(alloc: Global, row: &Row, files: &FileMap) -> Option<usize> {
+    match build_tree(alloc, files, b"Kconfig") {
+        Ok(tree) => {
+            if agree_in(alloc, row, &tree) {
+                Some(tree.symbol_count())
+            } else {
+                None
+            }
+        }
+        Err(_refusal) => None,
+    }
+}
+
+// How many symbols the row's tree has, where both solvers agree on the row.
+fn symbols(alloc: Global, row: &Row) -> Option<usize> {
+    match files(alloc, "Kconfig", row.kconfig, row.others) {
+        Ok(files) => symbols_over(alloc, row, &files),
+        Err(_) => None,
+    }
+}
+
+// How many symbols all the rows' trees have. Fails with the name of the first row on which the solvers do not agree.
+fn all_symbols(alloc: Global, tables: &[&[Row]]) -> Result<usize, Fail> {
+    let mut count = 0usize;
+    for rows in tables {
+        for row in *rows {
+            match symbols(alloc, row) {
+                Some(symbols) => count = count.saturating_add(symbols),
+                None => return Err(Fail::from(row.name)),
+            }
+        }
+    }
+    Ok(count)
 }
 
 #[test]
 fn the_slow_solver_gives_the_same_values(rt: HostRuntime) -> Result<(), Fail> {
-    let mut symbols = 0usize;
-    for rows in tables() {
-        symbols = symbols.saturating_add(agree_on_all(&rt, rt.alloc(), rows)?);
-    }
-    assert!(rt; symbols > 80, "{symbols}");
+    let count = all_symbols(rt.alloc(), &tables())?;
+    assert!(rt; count > 80, "{count}");
     Ok(())
 }

@@ -1,9 +1,9 @@
 //! Choices.
 
-use crate::row::{ACCEPTED, Accepted};
+use crate::row::{ACCEPTED, Row};
 
-const ROWS: &[Accepted] = &[
-    Accepted {
+const ROWS: &[Row] = &[
+    Row {
         name: "the last y of a choice counts",
         kconfig: b"choice\n\
             \tprompt \"c\"\n\
@@ -24,7 +24,7 @@ const ROWS: &[Accepted] = &[
         minimal: Some(b"CONFIG_C=y\n"),
         ..ACCEPTED
     },
-    Accepted {
+    Row {
         name: "a hidden member gives way to the default",
         kconfig: b"config D\n\
             \tbool \"d\"\n\
@@ -46,7 +46,7 @@ const ROWS: &[Accepted] = &[
         minimal: Some(b""),
         ..ACCEPTED
     },
-    Accepted {
+    Row {
         name: "a choice whose prompt is hidden",
         kconfig: b"config D\n\
             \tbool \"d\"\n\
@@ -61,6 +61,6 @@ const ROWS: &[Accepted] = &[
 ];
 
 /// The trees and their texts.
-pub(crate) fn rows() -> &'static [Accepted] {
+pub(crate) fn rows() -> &'static [Row<'static>] {
     ROWS
 }

@@ -1,9 +1,9 @@
 //! The layout of the `.config`, help, and the warnings of a tree.
 
-use crate::row::{ACCEPTED, Accepted};
+use crate::row::{ACCEPTED, Row};
 
-const ROWS: &[Accepted] = &[
-    Accepted {
+const ROWS: &[Row] = &[
+    Row {
         name: "a hidden menu hides prompts and no defaults",
         kconfig: b"config A\n\
             \tdef_bool y\n\
@@ -26,7 +26,7 @@ const ROWS: &[Accepted] = &[
             #\n",
         ..ACCEPTED
     },
-    Accepted {
+    Row {
         name: "menus in menus",
         kconfig: b"mainmenu \"Demo\"\n\
             menu \"one\"\n\
@@ -60,7 +60,7 @@ const ROWS: &[Accepted] = &[
             # end of three\n",
         ..ACCEPTED
     },
-    Accepted {
+    Row {
         name: "a title that reads as an unset line unsets nothing where it is hidden",
         kconfig: b"config B\n\
             \tbool \"b\"\n\
@@ -75,7 +75,7 @@ const ROWS: &[Accepted] = &[
         minimal: Some(b""),
         ..ACCEPTED
     },
-    Accepted {
+    Row {
         name: "where it is shown, a run on the text unsets the symbol",
         kconfig: b"config B\n\
             \tbool \"b\"\n\
@@ -91,7 +91,7 @@ const ROWS: &[Accepted] = &[
         is_idempotent: false,
         ..ACCEPTED
     },
-    Accepted {
+    Row {
         name: "a file that is sourced twice",
         kconfig: b"config X\n\
             \tbool \"x\"\n\
@@ -108,7 +108,7 @@ const ROWS: &[Accepted] = &[
             # CONFIG_Z is not set\n",
         ..ACCEPTED
     },
-    Accepted {
+    Row {
         name: "help ends at a smaller indentation",
         kconfig: b"config A\n\
             \tbool \"a\"\n\
@@ -120,7 +120,7 @@ const ROWS: &[Accepted] = &[
         config: b"CONFIG_A=y\n",
         ..ACCEPTED
     },
-    Accepted {
+    Row {
         name: "each warning of a tree",
         kconfig: b"config A\n\
             \tbool \"a\"\n\
@@ -155,6 +155,6 @@ const ROWS: &[Accepted] = &[
 ];
 
 /// The trees and their texts.
-pub(crate) fn rows() -> &'static [Accepted] {
+pub(crate) fn rows() -> &'static [Row<'static>] {
     ROWS
 }

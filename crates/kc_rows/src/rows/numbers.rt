@@ -1,9 +1,9 @@
 //! Texts and numbers.
 
-use crate::row::{ACCEPTED, Accepted};
+use crate::row::{ACCEPTED, Row};
 
-const ROWS: &[Accepted] = &[
-    Accepted {
+const ROWS: &[Row] = &[
+    Row {
         name: "a number outside its range is dropped",
         kconfig: b"config N\n\
             \tint \"n\"\n\
@@ -17,7 +17,7 @@ const ROWS: &[Accepted] = &[
             warning K13: default 20 of N is outside 5 to 10, 10 is used\n",
         ..ACCEPTED
     },
-    Accepted {
+    Row {
         name: "a hex number without 0x",
         kconfig: b"config X\n\
             \thex \"x\"\n",
@@ -27,7 +27,7 @@ const ROWS: &[Accepted] = &[
         minimal: Some(b"CONFIG_X=ff\n"),
         ..ACCEPTED
     },
-    Accepted {
+    Row {
         name: "quotes and backslashes",
         kconfig: b"config S\n\
             \tstring \"s\"\n\
@@ -38,7 +38,7 @@ const ROWS: &[Accepted] = &[
         minimal: Some(b"CONFIG_S=\"q\\\"\\\\z\"\n"),
         ..ACCEPTED
     },
-    Accepted {
+    Row {
         name: "relations of texts and numbers",
         kconfig: b"config I\n\
             \tint\n\
@@ -61,7 +61,7 @@ const ROWS: &[Accepted] = &[
             CONFIG_E=y\n",
         ..ACCEPTED
     },
-    Accepted {
+    Row {
         name: "numbers of two kinds and a relation under a not",
         kconfig: b"config A\n\
             \tdef_bool \"10\" < \"9\"\n\
@@ -73,14 +73,14 @@ const ROWS: &[Accepted] = &[
             CONFIG_D=y\n",
         ..ACCEPTED
     },
-    Accepted {
+    Row {
         name: "64 levels",
         kconfig: b"config A\n\
             \tdef_bool !!!!!!!!!!!!!!!!!!!!!!!!!!!!!!!!!!!!!!!!!!!!!!!!!!!!!!!!!!!!!!!!y\n",
         config: b"CONFIG_A=y\n",
         ..ACCEPTED
     },
-    Accepted {
+    Row {
         name: "a hex number rises to its range",
         kconfig: b"config X\n\
             \thex \"x\"\n\
@@ -88,7 +88,7 @@ const ROWS: &[Accepted] = &[
         config: b"CONFIG_X=0x10\n",
         ..ACCEPTED
     },
-    Accepted {
+    Row {
         name: "a hex number inside its range keeps its text",
         kconfig: b"config X\n\
             \thex \"x\"\n\
@@ -97,7 +97,7 @@ const ROWS: &[Accepted] = &[
         config: b"CONFIG_X=0X1f\n",
         ..ACCEPTED
     },
-    Accepted {
+    Row {
         name: "a word that is no number is clamped as 0",
         kconfig: b"config I\n\
             \tint \"i\"\n\
@@ -107,7 +107,7 @@ const ROWS: &[Accepted] = &[
         notes: b"warning K13: default FOO of I is outside -5 to -2, -2 is used\n",
         ..ACCEPTED
     },
-    Accepted {
+    Row {
         name: "a default below its range",
         kconfig: b"config I\n\
             \tint \"i\"\n\
@@ -117,7 +117,7 @@ const ROWS: &[Accepted] = &[
         notes: b"warning K13: default -9 of I is outside -5 to -2, -5 is used\n",
         ..ACCEPTED
     },
-    Accepted {
+    Row {
         name: "a user value that is the default",
         kconfig: b"config N\n\
             \tint \"n\"\n\
@@ -128,7 +128,7 @@ const ROWS: &[Accepted] = &[
         minimal: Some(b""),
         ..ACCEPTED
     },
-    Accepted {
+    Row {
         name: "a user value that is another text of the default",
         kconfig: b"config N\n\
             \tint \"n\"\n\
@@ -142,6 +142,6 @@ const ROWS: &[Accepted] = &[
 ];
 
 /// The trees and their texts.
-pub(crate) fn rows() -> &'static [Accepted] {
+pub(crate) fn rows() -> &'static [Row<'static>] {
     ROWS
 }

@@ -1,9 +1,9 @@
 //! Trees that are refused.
 
-use crate::row::{REFUSED, Refused};
+use crate::row::{REFUSED, Row};
 
-const ROWS: &[Refused] = &[
-    Refused {
+const ROWS: &[Row] = &[
+    Row {
         name: "a loop is refused and begins nothing",
         kconfig: b"config A\n\
             \tbool \"a\"\n\
@@ -14,52 +14,52 @@ const ROWS: &[Refused] = &[
         notes: b"error E15: dependency loop: A -> B -> A\n",
         ..REFUSED
     },
-    Refused {
+    Row {
         name: "a source that is not there",
         kconfig: b"source \"a\"\n",
         notes: b"Kconfig:1: error E1: no file a\n",
         ..REFUSED
     },
-    Refused {
+    Row {
         name: "a file that sources itself",
         kconfig: b"source \"Kconfig\"\n",
         notes: b"Kconfig:1: error E2: file Kconfig includes itself\n",
         ..REFUSED
     },
-    Refused {
+    Row {
         name: "a macro",
         kconfig: b"config A\n\
             \tbool \"$(x)\"\n",
         notes: b"Kconfig:2: error E6: macro\n",
         ..REFUSED
     },
-    Refused {
+    Row {
         name: "a closer without an opener",
         kconfig: b"endif\n",
         notes: b"Kconfig:1: error E9: unbalanced block\n",
         ..REFUSED
     },
-    Refused {
+    Row {
         name: "an opener without a closer",
         kconfig: b"menu \"m\"\n",
         notes: b"Kconfig:1: error E9: unbalanced block\n",
         ..REFUSED
     },
-    Refused {
+    Row {
         name: "two relations in a row",
         kconfig: b"config A\n\
             \tdef_bool A = B = C\n",
         notes: b"Kconfig:2: error E8: syntax\n",
         ..REFUSED
     },
-    Refused {
+    Row {
         name: "65 levels",
         kconfig: b"config A\n\
             \tdef_bool !!!!!!!!!!!!!!!!!!!!!!!!!!!!!!!!!!!!!!!!!!!!!!!!!!!!!!!!!!!!!!!!!y\n",
         notes: b"Kconfig:2: error E12: too deep\n",
         ..REFUSED
     },
-    Refused {
+    Row {
         name: "a closer in another file than its opener",
         kconfig: b"if y\n\
             source \"a\"\n\
@@ -68,7 +68,7 @@ const ROWS: &[Refused] = &[
         notes: b"a:1: error E9: unbalanced block\n",
         ..REFUSED
     },
-    Refused {
+    Row {
         name: "a default of a string that is no operand",
         kconfig: b"config S\n\
             \tstring \"s\"\n\
@@ -76,7 +76,7 @@ const ROWS: &[Refused] = &[
         notes: b"Kconfig:3: error E14: bad default of S\n",
         ..REFUSED
     },
-    Refused {
+    Row {
         name: "the loop is named without the way into it",
         kconfig: b"config X\n\
             \tdef_bool A\n\
@@ -87,14 +87,14 @@ const ROWS: &[Refused] = &[
         notes: b"error E15: dependency loop: A -> B -> A\n",
         ..REFUSED
     },
-    Refused {
+    Row {
         name: "a tristate modules symbol needs itself",
         kconfig: b"config MODULES\n\
             \ttristate \"m\"\n",
         notes: b"error E15: dependency loop: MODULES -> MODULES\n",
         ..REFUSED
     },
-    Refused {
+    Row {
         name: "a member whose condition names a member",
         kconfig: b"choice\n\
             \tprompt \"c\"\n\
@@ -106,7 +106,7 @@ const ROWS: &[Refused] = &[
         notes: b"error E15: dependency loop: B -> B\n",
         ..REFUSED
     },
-    Refused {
+    Row {
         name: "a member that is no bool",
         kconfig: b"choice\n\
             \tprompt \"c\"\n\
@@ -116,7 +116,7 @@ const ROWS: &[Refused] = &[
         notes: b"Kconfig:3: error E13: choice member A\n",
         ..REFUSED
     },
-    Refused {
+    Row {
         name: "modules of a second symbol",
         kconfig: b"config A\n\
             \tbool \"a\"\n\
@@ -130,6 +130,6 @@ const ROWS: &[Refused] = &[
 ];
 
 /// The trees and their error lines.
-pub(crate) fn rows() -> &'static [Refused] {
+pub(crate) fn rows() -> &'static [Row<'static>] {
     ROWS
 }

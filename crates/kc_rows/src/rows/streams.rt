@@ -1,9 +1,9 @@
 //! The lines of a `.config`, fragments and prefixes.
 
-use crate::row::{ACCEPTED, Accepted};
+use crate::row::{ACCEPTED, Row};
 
-const ROWS: &[Accepted] = &[
-    Accepted {
+const ROWS: &[Row] = &[
+    Row {
         name: "the same line in one piece",
         kconfig: b"config A\n\
             \tbool \"a\"\n\
@@ -18,7 +18,7 @@ const ROWS: &[Accepted] = &[
         minimal: Some(b"CONFIG_B=y\n"),
         ..ACCEPTED
     },
-    Accepted {
+    Row {
         name: "each warning of a .config",
         kconfig: b"config A\n\
             \tbool \"a\"\n\
@@ -41,7 +41,7 @@ const ROWS: &[Accepted] = &[
             .config:5: warning K10: A is set again\n",
         ..ACCEPTED
     },
-    Accepted {
+    Row {
         name: "a fragment sets a symbol again",
         kconfig: b"config A\n\
             \tbool \"a\"\n\
@@ -58,7 +58,7 @@ const ROWS: &[Accepted] = &[
         notes: b"y.cfg:1: warning K10: A is set again\n",
         ..ACCEPTED
     },
-    Accepted {
+    Row {
         name: "each stream ends its own last line",
         kconfig: b"config A\n\
             \tbool \"a\"\n\
@@ -75,7 +75,7 @@ const ROWS: &[Accepted] = &[
             x.cfg:1: warning K9: malformed line\n",
         ..ACCEPTED
     },
-    Accepted {
+    Row {
         name: "another prefix",
         kconfig: b"config A\n\
             \tbool \"a\"\n\
@@ -97,7 +97,7 @@ const ROWS: &[Accepted] = &[
         notes: b".config:2: warning K9: malformed line\n",
         ..ACCEPTED
     },
-    Accepted {
+    Row {
         name: "the empty prefix",
         kconfig: b"config A\n\
             \tbool \"a\"\n\
@@ -116,6 +116,6 @@ const ROWS: &[Accepted] = &[
 ];
 
 /// The trees and their texts.
-pub(crate) fn rows() -> &'static [Accepted] {
+pub(crate) fn rows() -> &'static [Row<'static>] {
     ROWS
 }

@@ -1,9 +1,9 @@
 //! Truth values: dependencies, select, imply, modules, later names.
 
-use crate::row::{ACCEPTED, Accepted};
+use crate::row::{ACCEPTED, Row};
 
-const ROWS: &[Accepted] = &[
-    Accepted {
+const ROWS: &[Row] = &[
+    Row {
         name: "a dependency that holds",
         kconfig: b"config A\n\
             \tbool \"a\"\n\
@@ -18,7 +18,7 @@ const ROWS: &[Accepted] = &[
         minimal: Some(b""),
         ..ACCEPTED
     },
-    Accepted {
+    Row {
         name: "an empty tree",
         kconfig: b"",
         config: b"",
@@ -26,7 +26,7 @@ const ROWS: &[Accepted] = &[
         minimal: Some(b""),
         ..ACCEPTED
     },
-    Accepted {
+    Row {
         name: "a default that names a later symbol",
         kconfig: b"config A\n\
             \tbool\n\
@@ -39,7 +39,7 @@ const ROWS: &[Accepted] = &[
         minimal: Some(b""),
         ..ACCEPTED
     },
-    Accepted {
+    Row {
         name: "a select holds against the dependency",
         kconfig: b"config A\n\
             \tbool \"a\"\n\
@@ -57,7 +57,7 @@ const ROWS: &[Accepted] = &[
         notes: b"warning K11: B is selected to y while its dependency is n\n",
         ..ACCEPTED
     },
-    Accepted {
+    Row {
         name: "an imply keeps within the dependency",
         kconfig: b"config MODULES\n\
             \tdef_bool y\n\
@@ -83,7 +83,7 @@ const ROWS: &[Accepted] = &[
         ),
         ..ACCEPTED
     },
-    Accepted {
+    Row {
         name: "without modules m counts as y",
         kconfig: b"config A\n\
             \ttristate \"a\"\n\
@@ -100,7 +100,7 @@ const ROWS: &[Accepted] = &[
         minimal: Some(b"CONFIG_B=y\n"),
         ..ACCEPTED
     },
-    Accepted {
+    Row {
         name: "a user value within a select",
         kconfig: b"config MODULES\n\
             \tdef_bool y\n\
@@ -118,7 +118,7 @@ const ROWS: &[Accepted] = &[
         minimal: Some(b"CONFIG_A=m\n"),
         ..ACCEPTED
     },
-    Accepted {
+    Row {
         name: "a default above the limit of its prompt",
         kconfig: b"config MODULES\n\
             \tdef_bool y\n\
@@ -135,7 +135,7 @@ const ROWS: &[Accepted] = &[
         is_idempotent: false,
         ..ACCEPTED
     },
-    Accepted {
+    Row {
         name: "the same tree on its own text",
         kconfig: b"config MODULES\n\
             \tdef_bool y\n\
@@ -158,7 +158,7 @@ const ROWS: &[Accepted] = &[
         minimal: Some(b"CONFIG_A=m\n"),
         ..ACCEPTED
     },
-    Accepted {
+    Row {
         name: "prompts and defaults",
         kconfig: b"config A\n\
             \tbool \"a\"\n\
@@ -174,7 +174,7 @@ const ROWS: &[Accepted] = &[
             CONFIG_C=y\n",
         ..ACCEPTED
     },
-    Accepted {
+    Row {
         name: "a line sets a symbol that has a prompt",
         kconfig: b"config A\n\
             \tbool \"a\"\n\
@@ -192,14 +192,14 @@ const ROWS: &[Accepted] = &[
             CONFIG_C=y\n",
         ..ACCEPTED
     },
-    Accepted {
+    Row {
         name: "a tristate without a default",
         kconfig: b"config A\n\
             \ttristate \"a\"\n",
         config: b"# CONFIG_A is not set\n",
         ..ACCEPTED
     },
-    Accepted {
+    Row {
         name: "a default that names a later symbol without a value",
         kconfig: b"config A\n\
             \tbool \"a\"\n\
@@ -210,7 +210,7 @@ const ROWS: &[Accepted] = &[
             # CONFIG_B is not set\n",
         ..ACCEPTED
     },
-    Accepted {
+    Row {
         name: "a plain m without modules",
         kconfig: b"config A\n\
             \tbool \"a\"\n\
@@ -218,7 +218,7 @@ const ROWS: &[Accepted] = &[
         config: b"",
         ..ACCEPTED
     },
-    Accepted {
+    Row {
         name: "two definitions of one symbol",
         kconfig: b"config A\n\
             \tbool \"a\"\n\
@@ -234,7 +234,7 @@ const ROWS: &[Accepted] = &[
             CONFIG_B=y\n",
         ..ACCEPTED
     },
-    Accepted {
+    Row {
         name: "a modules symbol of another name",
         kconfig: b"config LKM\n\
             \tbool \"l\"\n\
@@ -247,7 +247,7 @@ const ROWS: &[Accepted] = &[
             CONFIG_A=m\n",
         ..ACCEPTED
     },
-    Accepted {
+    Row {
         name: "only one symbol is the modules symbol",
         kconfig: b"config LKM\n\
             \tbool \"l\"\n\
@@ -267,6 +267,6 @@ const ROWS: &[Accepted] = &[
 ];
 
 /// The trees and their texts.
-pub(crate) fn rows() -> &'static [Accepted] {
+pub(crate) fn rows() -> &'static [Row<'static>] {
     ROWS
 }
