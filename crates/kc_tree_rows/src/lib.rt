@@ -10,4 +10,6 @@ mod make;
 #[cfg(test)]
 mod read;
 #[cfg(test)]
+mod shared;
+#[cfg(test)]
 mod tree;

@@ -1,148 +1,135 @@
 //! Worked rows of the rule for make.
+
+use crate::shared::put_all;
 use kc_expr::expression::SymId;
 use kc_expr::names::Names;
 use kc_make::{opened_files, rule_text};
 use kc_read::FileMap;
 use std::alloc::{AllocError, Global};
-use std::process::Abort;
-use std::test::Fail;
 
-// Puts a copy of a file's bytes under its name.
-fn put(alloc: Global, map: &mut FileMap, name: &str, bytes: &str) -> Result<(), AllocError> {
-    let name = Vec::from_slice(alloc, name.as_bytes())?;
-    map.insert(name, Vec::from_slice(alloc, bytes.as_bytes())?)
-}
-
-// Files by name.
-fn files_of(alloc: Global, files: &[(&str, &str)]) -> Result<FileMap, AllocError> {
-    let mut map = FileMap::new(alloc);
-    for (name, bytes) in files {
-        if let Err(fault) = put(alloc, &mut map, name, bytes) {
-            // A call drops the map; a drop that is left to the exit is written out there, and proved once more.
-            drop(map);
-            return Err(fault);
+fn are_names(names: &Names, want: &[&str]) -> bool {
+    for i in 0..want.len() {
+        if names.get(SymId(i)) != Some(want[i].as_bytes()) {
+            return false;
         }
     }
-    Ok(map)
+    names.count() == want.len()
 }
 
-// The names, each followed by a blank.
-fn joined(alloc: Global, names: &Names) -> Result<Vec<u8>, AllocError> {
-    let mut text = Vec::new(alloc);
-    for i in 0..names.count() {
-        text.extend_from_slice(names.name(SymId(i)))?;
-        text.push(b' ')?;
+// Whether `K` opens these names over the files.
+fn opens(alloc: Global, files: &[(&str, &[u8])], opened: &[&str]) -> bool {
+    let mut map = FileMap::new(alloc);
+    put_all(alloc, &mut map, files).is_ok()
+        && match opened_files(alloc, &map, b"K") {
+            Ok(names) => are_names(&names, opened),
+            Err(_) => false,
+        }
+}
+
+// Files by name, and what `K` opens over them.
+struct Walk {
+    name: &'static str,
+    files: &'static [(&'static str, &'static [u8])],
+    opened: &'static [&'static str],
+}
+
+const WALKS: &[Walk] = &[
+    Walk {
+        name: "files are opened depth first and once",
+        files: &[
+            (
+                "K",
+                b"source \"b\"\nconfig A\n\tbool\nsource \"a\"\nsource \"b\"\n",
+            ),
+            ("a", b"source \"c\"\n"),
+            ("b", b"menu \"M\"\nsource \"d/c\"\nsource \"c\"\nendmenu\n"),
+            ("c", b""),
+            ("d/c", b"config B\n\tbool\n\thelp\n\t  source \"e\"\n"),
+            ("e", b""),
+        ],
+        opened: &["K", "b", "d/c", "c", "a"],
+    },
+    Walk {
+        name: "a tree of one file is that file",
+        files: &[("K", b"config A\n\tbool\n"), ("a", b"")],
+        opened: &["K"],
+    },
+    Walk {
+        name: "a file that sources itself is opened once",
+        files: &[("K", b"source \"K\"\n")],
+        opened: &["K"],
+    },
+    Walk {
+        name: "a file that is not there is not opened",
+        files: &[("K", b"source \"a\"\nsource \"b\"\n"), ("b", b"")],
+        opened: &["K", "b"],
+    },
+    Walk {
+        name: "no file is opened without a root",
+        files: &[("a", b"")],
+        opened: &[],
+    },
+];
+
+#[test]
+fn files_are_opened_depth_first_and_once(rt: HostRuntime) {
+    for walk in WALKS {
+        assert!(rt; opens(rt.alloc(), walk.files, walk.opened), "{}", walk.name);
     }
-    Ok(text)
 }
 
-// What `K` opens over these files is these names.
-fn opens(rt: &impl Abort, alloc: Global, files: &[(&str, &str)], opened: &str) -> Result<(), Fail> {
-    let map = files_of(alloc, files)?;
-    let names = opened_files(alloc, &map, b"K")?;
-    let text = joined(alloc, &names)?;
-    assert!(rt; text.as_slice() == opened.as_bytes(), "not {opened}");
-    // Dropped by calls, as the map above.
-    drop(text);
-    drop(names);
-    drop(map);
-    Ok(())
-}
-
-#[test]
-fn files_are_opened_depth_first_and_once(rt: HostRuntime) -> Result<(), Fail> {
-    let files = [
-        (
-            "K",
-            "source \"b\"\nconfig A\n\tbool\nsource \"a\"\nsource \"b\"\n",
-        ),
-        ("a", "source \"c\"\n"),
-        ("b", "menu \"M\"\nsource \"d/c\"\nsource \"c\"\nendmenu\n"),
-        ("c", ""),
-        ("d/c", "config B\n\tbool\n\thelp\n\t  source \"e\"\n"),
-        ("e", ""),
-    ];
-    opens(&rt, rt.alloc(), &files, "K b d/c c a ")
-}
-
-#[test]
-fn a_tree_of_one_file_is_that_file(rt: HostRuntime) -> Result<(), Fail> {
-    opens(
-        &rt,
-        rt.alloc(),
-        &[("K", "config A\n\tbool\n"), ("a", "")],
-        "K ",
-    )
-}
-
-#[test]
-fn the_walk_over_a_refused_tree_ends(rt: HostRuntime) -> Result<(), Fail> {
-    opens(&rt, rt.alloc(), &[("K", "source \"K\"\n")], "K ")?;
-    opens(
-        &rt,
-        rt.alloc(),
-        &[("K", "source \"a\"\nsource \"b\"\n"), ("b", "")],
-        "K b ",
-    )?;
-    opens(&rt, rt.alloc(), &[("a", "")], "")
-}
-
-fn names_of(alloc: Global, files: &[&str]) -> Result<Names, AllocError> {
-    let mut names = Names::new(alloc);
+fn mention_all(names: &mut Names, files: &[&str]) -> Result<(), AllocError> {
     for file in files {
         names.id(file.as_bytes())?;
     }
-    Ok(names)
-}
-
-fn rule_is(
-    rt: &impl Abort,
-    alloc: Global,
-    out: &str,
-    files: &[&str],
-    rule: &str,
-) -> Result<(), Fail> {
-    let names = names_of(alloc, files)?;
-    let text = rule_text(alloc, out.as_bytes(), &names)?;
-    assert!(rt; text.as_slice() == rule.as_bytes(), "not {rule}");
-    drop(text);
-    drop(names);
     Ok(())
 }
 
+// Whether this is the rule of these files.
+fn is_rule(alloc: Global, out: &str, files: &[&str], rule: &str) -> bool {
+    let mut names = Names::new(alloc);
+    mention_all(&mut names, files).is_ok()
+        && match rule_text(alloc, out.as_bytes(), &names) {
+            Ok(text) => text.as_slice() == rule.as_bytes(),
+            Err(_) => false,
+        }
+}
+
 #[test]
-fn a_rule_names_each_file_twice(rt: HostRuntime) -> Result<(), Fail> {
+fn a_rule_names_each_file_twice(rt: HostRuntime) {
+    let files = &["Kconfig", "a/Kconfig", "b.config"];
     let rule =
         ".config: \\\n Kconfig \\\n a/Kconfig \\\n b.config\n\nKconfig:\n\na/Kconfig:\n\nb.config:\n";
-    rule_is(
-        &rt,
-        rt.alloc(),
-        ".config",
-        &["Kconfig", "a/Kconfig", "b.config"],
-        rule,
-    )?;
-    rule_is(&rt, rt.alloc(), "o", &[], "o:\n")
+    assert!(rt; is_rule(rt.alloc(), ".config", files, rule));
+    assert!(rt; is_rule(rt.alloc(), "o", &[], "o:\n"));
+}
+
+// A name, and how it stands in a rule.
+const ESCAPED: &[(&str, &str)] = &[
+    ("a b", "a\\ b"),
+    ("a\tb", "a\\\tb"),
+    ("$(a)", "$$(a)"),
+    ("#a", "\\#a"),
+    ("a:b", "a\\:b"),
+    ("a\\b", "a\\b"),
+    ("a\\ b", "a\\\\\\ b"),
+    ("\\\\#", "\\\\\\\\\\#"),
+    ("a\\$", "a\\$$"),
+    ("a\\", "a\\\\"),
+    ("a\\\\b\\\\", "a\\\\b\\\\\\\\"),
+    ("a%b,\"c'", "a%b,\"c'"),
+];
+
+// Whether the name stands so in a rule.
+fn is_escaped(alloc: Global, name: &str, escaped: &str) -> bool {
+    let mut rule = String::new(alloc);
+    write!(rule, "{escaped}: \\\n {escaped}\n\n{escaped}:\n").is_ok()
+        && is_rule(alloc, name, &[name], rule.as_str())
 }
 
 #[test]
-fn a_name_is_escaped(rt: HostRuntime) -> Result<(), Fail> {
-    let rows = [
-        ("a b", "a\\ b"),
-        ("a\tb", "a\\\tb"),
-        ("$(a)", "$$(a)"),
-        ("#a", "\\#a"),
-        ("a:b", "a\\:b"),
-        ("a\\b", "a\\b"),
-        ("a\\ b", "a\\\\\\ b"),
-        ("\\\\#", "\\\\\\\\\\#"),
-        ("a\\$", "a\\$$"),
-        ("a\\", "a\\\\"),
-        ("a\\\\b\\\\", "a\\\\b\\\\\\\\"),
-        ("a%b,\"c'", "a%b,\"c'"),
-    ];
-    for (name, escaped) in rows {
-        let rule = format!(in rt.alloc(); "{escaped}: \\\n {escaped}\n\n{escaped}:\n")?;
-        rule_is(&rt, rt.alloc(), name, &[name], rule.as_str())?;
+fn a_name_is_escaped(rt: HostRuntime) {
+    for (name, escaped) in ESCAPED {
+        assert!(rt; is_escaped(rt.alloc(), name, escaped), "{name}");
     }
-    Ok(())
 }

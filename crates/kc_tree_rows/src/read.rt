@@ -3,12 +3,13 @@
 //! A row is `ROOT => WANT`, or `ROOT ++ A => WANT` beside a file `a`; in a file `~` stands for a line feed, `^` for a
 //! carriage return and `@` for a tab. What is wanted is a refusal, as `FILE:LINE CODE DETAIL`, or how much was read.
 
+use crate::shared::{
+    Piece, has_files, has_names, letters_into, pieces_into, put, put_all, put_pieces, refusal_into,
+};
 use kc_expr::expression::SymId;
 use kc_expr::names::Names;
-use kc_read::{Expansion, FileMap, Line, Refusal, expand, sources_of};
-use std::alloc::Global;
-use std::process::Abort;
-use std::test::Fail;
+use kc_read::{Expansion, FileMap, expand, sources_of};
+use std::alloc::{AllocError, Global};
 
 // Lines in which more than one check fails.
 const FIRST_CHECKS: &str = r#"foo $ => Kconfig:1 Macro
@@ -182,63 +183,63 @@ if y~source a~ => Kconfig:1 Block
 if y~source a~endif~ ++ menu m~endmenu~ => 4 lines, 0 symbols"#;
 
 // Lines in their place behind a `config` line, whose rest is outside the grammar.
-const BAD_RESTS: &str = r#"config
-config A B
-config "A"
-menuconfig
-menuconfig (A)
-if
-if A B
-if A = B = C
-if (A
-if "A" "B"
-comment
-comment if
-comment "c" if y
-source
-source if
-source (a)
-source "a" if y
-menu
-menu if
-menu "m" x
-mainmenu
-mainmenu "m" if y
-bool if y
-bool (
-bool "b" if
-bool "b" y
-tristate "t" if A B
-prompt
-prompt if y
-prompt "p" y
-default
-default if y
-default A B
-default A if
-default A && if B
-def_bool
-def_tristate y if A =
-depends A
-depends on
-depends "on" A
-select
-select "A"
-select y
-select A B
-imply m
-imply n if A
-range 1
-range 1 if y
-range 1 2 3
-range ! 2
-help x
-modules x
-option
-option foo
-option "modules"
-option modules x
-option allnoconfig_y x"#;
+const BAD_RESTS: &str = r#"config Z~config => Kconfig:2 Syntax
+config Z~config A B => Kconfig:2 Syntax
+config Z~config "A" => Kconfig:2 Syntax
+config Z~menuconfig => Kconfig:2 Syntax
+config Z~menuconfig (A) => Kconfig:2 Syntax
+config Z~if => Kconfig:2 Syntax
+config Z~if A B => Kconfig:2 Syntax
+config Z~if A = B = C => Kconfig:2 Syntax
+config Z~if (A => Kconfig:2 Syntax
+config Z~if "A" "B" => Kconfig:2 Syntax
+config Z~comment => Kconfig:2 Syntax
+config Z~comment if => Kconfig:2 Syntax
+config Z~comment "c" if y => Kconfig:2 Syntax
+config Z~source => Kconfig:2 Syntax
+config Z~source if => Kconfig:2 Syntax
+config Z~source (a) => Kconfig:2 Syntax
+config Z~source "a" if y => Kconfig:2 Syntax
+config Z~menu => Kconfig:2 Syntax
+config Z~menu if => Kconfig:2 Syntax
+config Z~menu "m" x => Kconfig:2 Syntax
+config Z~mainmenu => Kconfig:2 Syntax
+config Z~mainmenu "m" if y => Kconfig:2 Syntax
+config Z~bool if y => Kconfig:2 Syntax
+config Z~bool ( => Kconfig:2 Syntax
+config Z~bool "b" if => Kconfig:2 Syntax
+config Z~bool "b" y => Kconfig:2 Syntax
+config Z~tristate "t" if A B => Kconfig:2 Syntax
+config Z~prompt => Kconfig:2 Syntax
+config Z~prompt if y => Kconfig:2 Syntax
+config Z~prompt "p" y => Kconfig:2 Syntax
+config Z~default => Kconfig:2 Syntax
+config Z~default if y => Kconfig:2 Syntax
+config Z~default A B => Kconfig:2 Syntax
+config Z~default A if => Kconfig:2 Syntax
+config Z~default A && if B => Kconfig:2 Syntax
+config Z~def_bool => Kconfig:2 Syntax
+config Z~def_tristate y if A = => Kconfig:2 Syntax
+config Z~depends A => Kconfig:2 Syntax
+config Z~depends on => Kconfig:2 Syntax
+config Z~depends "on" A => Kconfig:2 Syntax
+config Z~select => Kconfig:2 Syntax
+config Z~select "A" => Kconfig:2 Syntax
+config Z~select y => Kconfig:2 Syntax
+config Z~select A B => Kconfig:2 Syntax
+config Z~imply m => Kconfig:2 Syntax
+config Z~imply n if A => Kconfig:2 Syntax
+config Z~range 1 => Kconfig:2 Syntax
+config Z~range 1 if y => Kconfig:2 Syntax
+config Z~range 1 2 3 => Kconfig:2 Syntax
+config Z~range ! 2 => Kconfig:2 Syntax
+config Z~help x => Kconfig:2 Syntax
+config Z~modules x => Kconfig:2 Syntax
+config Z~option => Kconfig:2 Syntax
+config Z~option foo => Kconfig:2 Syntax
+config Z~option "modules" => Kconfig:2 Syntax
+config Z~option modules x => Kconfig:2 Syntax
+config Z~option allnoconfig_y x => Kconfig:2 Syntax"#;
 
 // For each line how it is taken behind a config, a choice, a menu, a comment and an `if`: well (`+`), misplaced (`-`) or
 // left out (`o`).
@@ -273,35 +274,6 @@ choice => +-+++
 mainmenu m => +-+++
 # none => +++++"#;
 
-// Each statement, where the modules symbol has the number 0.
-const STATEMENTS: &str = r#"mainmenu "D" => MainMenu([68])
-if A = m && m => If(All([Rel(Eq, Operands { left: Sym(SymId(1)), right: TristateConstant(M) }), All([One(TristateConstant(M)), One(Sym(SymId(0)))])]))
-endif => EndIf
-menu 'a\'b' => Menu([97, 39, 98])
-visible if A => Visible(One(Sym(SymId(1))))
-depends on m => Depends(All([One(TristateConstant(M)), One(Sym(SymId(0)))]))
-endmenu => EndMenu
-comment c => Comment([99])
-choice => Choice
-prompt "p" if A => Prompt(Prompt { when: Some(One(Sym(SymId(1)))) })
-endchoice => EndChoice
-menuconfig B => Config(SymId(2))
-bool => Type(Bool, None)
-tristate t if !A => Type(Tristate, Some(Prompt { when: Some(Not(One(Sym(SymId(1))))) }))
-string "" => Type(Str, Some(Prompt { when: None }))
-int => Type(Int, None)
-hex => Type(Hex, None)
-default m if m => Default(One(TristateConstant(M)), Some(All([One(TristateConstant(M)), One(Sym(SymId(0)))])))
-default (A) => Default(One(Sym(SymId(1))), None)
-def_bool y => Def(Bool, One(TristateConstant(Y)), None)
-def_tristate A || C if B => Def(Tristate, Any([One(Sym(SymId(1))), One(Sym(SymId(3)))]), Some(One(Sym(SymId(2)))))
-select config => Select(SymId(4), None)
-imply A if C => Imply(SymId(1), Some(One(Sym(SymId(3)))))
-range -5 "9" if y => Range(Bounds { low: Sym(SymId(5)), high: Const([57]) }, Some(One(TristateConstant(Y))))
-help => Help
-option modules => Modules
-option allnoconfig_y => Ignored"#;
-
 // A file and the names that its `source` lines give, each before a `;`.
 const SOURCE_LISTS: &str = r#" => 
 source "a"~source b~source a => a;b;a;
@@ -322,146 +294,64 @@ config A~@bool~@help~@@a text~config B~ =>
 foo $~& => 
 # resource~config A~@prompt "source a"~resource b~ => "#;
 
-// Each exit of a function has code of its own for every value that the function owns there, and all of it is proved. So
-// a function here owns little where it can fail: what can fail works on a reference, and its answer goes out behind a
-// `drop`.
+// Each exit of a function has code of its own for every value that the function owns there, and all of it is proved. So what
+// can fail works on references, and what owns something answers whether a row holds.
 
-// The text is the one that is wanted.
-fn is(rt: &impl Abort, got: &str, want: &str) {
-    assert_eq!(rt; got, want);
+// How an expansion is told: by how many lines and symbols it has; or by its lines with their files and numbers, then the number
+// of the modules symbol, which may have one before, and how many symbols there are.
+#[derive(Clone, Copy)]
+enum Form {
+    Counted,
+    Listed(Option<SymId>),
 }
 
-// The row gives the text that is wanted.
-fn gives(rt: &impl Abort, row: &str, got: &str, want: &str) {
-    assert_eq!(rt; got, want, "{row}");
-}
-
-// Adds the bytes, each as one letter.
-fn push_bytes(text: &mut String, bytes: &[u8]) -> Result<(), Fail> {
-    for byte in bytes {
-        text.push(char::from(*byte))?;
+fn expansion_into(expansion: &Expansion, form: Form, text: &mut String) {
+    match form {
+        Form::Counted => {
+            let (lines, symbols) = (expansion.lines.len(), expansion.defined.count());
+            let _ = write!(text, "{lines} lines, {symbols} symbols");
+        }
+        Form::Listed(_) => {
+            for line in &expansion.lines {
+                letters_into(&line.file, text);
+                let _ = write!(text, ":{} {:?}\n", line.line, line.statement);
+            }
+            let _ = write!(
+                text,
+                "{:?} {}",
+                expansion.modules,
+                expansion.defined.count()
+            );
+        }
     }
-    Ok(())
 }
 
-// Adds another text.
-fn push_text(text: &mut String, more: String) -> Result<(), Fail> {
-    text.push_str(&more)?;
-    Ok(())
-}
-
-// Adds the location as `FILE:LINE `.
-fn push_place(alloc: Global, text: &mut String, file: &[u8], line: u32) -> Result<(), Fail> {
-    push_bytes(text, file)?;
-    push_text(text, format!(in alloc; ":{line} ")?)
-}
-
-// Adds a detail behind a space, where there is one.
-fn push_detail(text: &mut String, detail: &[u8]) -> Result<(), Fail> {
-    if !detail.is_empty() {
-        text.push(' ')?;
-        push_bytes(text, detail)?;
+// Adds what the file `Kconfig` gives, or its refusal.
+fn outcome_into(alloc: Global, map: &FileMap, form: Form, names: &mut Names, text: &mut String) {
+    let modules = match form {
+        Form::Counted => None,
+        Form::Listed(modules) => modules,
+    };
+    match expand(alloc, map, b"Kconfig", modules, names) {
+        Ok(expansion) => expansion_into(&expansion, form, text),
+        Err(refusal) => refusal_into(&refusal, text),
     }
-    Ok(())
 }
 
-// Adds the refusal as `FILE:LINE CODE DETAIL`.
-fn push_refusal(alloc: Global, text: &mut String, refusal: &Refusal) -> Result<(), Fail> {
-    if let Some((file, line)) = &refusal.location {
-        push_place(alloc, text, file, *line)?;
-    }
-    push_text(text, format!(in alloc; "{:?}", refusal.code)?)?;
-    push_detail(text, &refusal.detail)
-}
-
-fn told(alloc: Global, refusal: &Refusal) -> Result<String, Fail> {
-    let mut text = String::new(alloc);
-    push_refusal(alloc, &mut text, refusal)?;
-    Ok(text)
-}
-
-fn refused(alloc: Global, refusal: Refusal) -> Result<String, Fail> {
-    let text = told(alloc, &refusal);
-    drop(refusal);
-    text
-}
-
-// How many lines and symbols there are.
-fn counted(alloc: Global, expansion: Expansion) -> Result<String, Fail> {
-    let (lines, symbols) = (expansion.lines.len(), expansion.defined.count());
-    drop(expansion);
-    Ok(format!(in alloc; "{lines} lines, {symbols} symbols")?)
-}
-
-// How many lines and symbols the file `Kconfig` gives, or its refusal.
-fn outcome(alloc: Global, map: &FileMap) -> Result<String, Fail> {
+// Whether this comes of the file `Kconfig`.
+fn gives_outcome(alloc: Global, map: &FileMap, want: &str) -> bool {
     let mut names = Names::new(alloc);
-    let expanded = expand(alloc, map, b"Kconfig", None, &mut names);
-    drop(names);
-    match expanded {
-        Ok(expansion) => counted(alloc, expansion),
-        Err(refusal) => refused(alloc, refusal),
-    }
+    let mut text = String::new(alloc);
+    outcome_into(alloc, map, Form::Counted, &mut names, &mut text);
+    text.as_str() == want
 }
 
-fn outcome_is(rt: &impl Abort, alloc: Global, map: &FileMap, want: &str) -> Result<(), Fail> {
-    let got = outcome(alloc, map)?;
-    is(rt, &got, want);
-    Ok(())
-}
-
-fn put(alloc: Global, map: &mut FileMap, name: &[u8], bytes: &[u8]) -> Result<(), Fail> {
-    map.insert(
-        Vec::from_slice(alloc, name)?,
-        Vec::from_slice(alloc, bytes)?,
-    )?;
-    Ok(())
-}
-
-// What comes of the files with these two.
-fn put_beside(alloc: Global, map: &mut FileMap, root: &[u8], other: &[u8]) -> Result<String, Fail> {
-    put(alloc, map, b"Kconfig", root)?;
-    put(alloc, map, b"a", other)?;
-    outcome(alloc, map)
-}
-
-// What comes of a root file beside the file `a`.
-fn beside(alloc: Global, root: &[u8], other: &[u8]) -> Result<String, Fail> {
+// Whether this comes of a root file beside the file `a`.
+fn gives(alloc: Global, root: &[Piece], other: &[Piece], want: &str) -> bool {
     let mut map = FileMap::new(alloc);
-    let got = put_beside(alloc, &mut map, root, other);
-    drop(map);
-    got
-}
-
-// The byte for which a sign of a row stands.
-fn byte_of(sign: u8) -> u8 {
-    match sign {
-        b'~' => b'\n',
-        b'^' => b'\r',
-        b'@' => b'\t',
-        other => other,
-    }
-}
-
-// Adds a file as a row writes it.
-fn push_file(bytes: &mut Vec<u8>, text: &str) -> Result<(), Fail> {
-    for sign in text.as_bytes() {
-        bytes.push(byte_of(*sign))?;
-    }
-    Ok(())
-}
-
-fn file_of(alloc: Global, text: &str) -> Result<Vec<u8>, Fail> {
-    let mut bytes = Vec::new(alloc);
-    push_file(&mut bytes, text)?;
-    Ok(bytes)
-}
-
-// What comes of two files as a row writes them.
-fn written(alloc: Global, root: &str, other: &str) -> Result<String, Fail> {
-    let root = file_of(alloc, root)?;
-    let other = file_of(alloc, other)?;
-    beside(alloc, &root, &other)
+    put_pieces(alloc, &mut map, b"Kconfig", root).is_ok()
+        && put_pieces(alloc, &mut map, b"a", other).is_ok()
+        && gives_outcome(alloc, &map, want)
 }
 
 // What stands before and behind the sign.
@@ -469,717 +359,546 @@ fn cut<'a>(row: &'a str, sign: &str) -> (&'a str, &'a str) {
     row.split_once(sign).unwrap_or((row, ""))
 }
 
-fn row_is(rt: &impl Abort, alloc: Global, row: &str) -> Result<(), Fail> {
+fn holds(alloc: Global, row: &str) -> bool {
     let (files, want) = cut(row, " => ");
     let (root, other) = cut(files, " ++ ");
-    let got = written(alloc, root, other)?;
-    gives(rt, row, &got, want);
-    Ok(())
+    gives(
+        alloc,
+        &[(1, root.as_bytes())],
+        &[(1, other.as_bytes())],
+        want,
+    )
 }
 
-fn each_row(rt: &impl Abort, alloc: Global, rows: &str) -> Result<(), Fail> {
-    for row in rows.lines() {
-        row_is(rt, alloc, row)?;
+const READ: &[&str] = &[
+    FIRST_CHECKS,
+    NAMED_FAULTS,
+    ENTRIES,
+    LINE_ENDS,
+    SOURCED,
+    BAD_RESTS,
+];
+
+#[test]
+fn files_are_read_or_refused_at_their_first_fault(rt: HostRuntime) {
+    for rows in READ {
+        for row in rows.lines() {
+            assert!(rt; holds(rt.alloc(), row), "{row}");
+        }
     }
-    Ok(())
+}
+
+const MISPLACED: &str = "Kconfig:2 Misplaced";
+
+const LEFT_OUT: &str = "Kconfig:2 LeftOut tristate choice";
+
+// Whether a line is taken as the sign says behind an entry, beside an empty file `a`.
+fn is_taken(alloc: Global, entry: &str, line: &str, sign: u8) -> bool {
+    let root = &[(1, entry.as_bytes()), (1, line.as_bytes())];
+    let other = &[(1, b"".as_slice())];
+    let (is_misplaced, is_left_out) = (
+        gives(alloc, root, other, MISPLACED),
+        gives(alloc, root, other, LEFT_OUT),
+    );
+    match sign {
+        b'-' => is_misplaced,
+        b'o' => is_left_out,
+        _ => sign == b'+' && !is_misplaced && !is_left_out,
+    }
+}
+
+const PLACED: &[&str] = &["config Z~", "choice~", "menu m~", "comment c~", "if y~"];
+
+// Whether a row's line is taken as its signs say in each kind of entry.
+fn has_places(alloc: Global, row: &str) -> bool {
+    let (line, signs) = cut(row, " => ");
+    for (entry, sign) in PLACED.iter().zip(signs.as_bytes()) {
+        if !is_taken(alloc, entry, line, *sign) {
+            return false;
+        }
+    }
+    signs.len() == PLACED.len()
 }
 
 #[test]
-fn files_are_read_or_refused_at_their_first_fault(rt: HostRuntime) -> Result<(), Fail> {
-    each_row(&rt, rt.alloc(), FIRST_CHECKS)?;
-    each_row(&rt, rt.alloc(), NAMED_FAULTS)?;
-    each_row(&rt, rt.alloc(), ENTRIES)?;
-    each_row(&rt, rt.alloc(), LINE_ENDS)?;
-    each_row(&rt, rt.alloc(), SOURCED)
-}
-
-// The line behind another.
-fn behind(alloc: Global, text: &str, line: &str) -> Result<Vec<u8>, Fail> {
-    let mut file = file_of(alloc, text)?;
-    file.extend_from_slice(line.as_bytes())?;
-    Ok(file)
-}
-
-// What comes of a line behind another.
-fn outcome_behind(alloc: Global, text: &str, line: &str) -> Result<String, Fail> {
-    let root = behind(alloc, text, line)?;
-    beside(alloc, &root, b"")
-}
-
-fn rest_is_refused(rt: &impl Abort, alloc: Global, line: &str) -> Result<(), Fail> {
-    let got = outcome_behind(alloc, "config Z~", line)?;
-    gives(rt, line, &got, "Kconfig:2 Syntax");
-    Ok(())
-}
-
-fn each_rest(rt: &impl Abort, alloc: Global, rests: &str) -> Result<(), Fail> {
-    for line in rests.lines() {
-        rest_is_refused(rt, alloc, line)?;
-    }
-    Ok(())
-}
-
-#[test]
-fn a_rest_outside_the_grammar_is_refused(rt: HostRuntime) -> Result<(), Fail> {
-    each_rest(&rt, rt.alloc(), BAD_RESTS)
-}
-
-// How the second line is taken.
-fn sign_of(outcome: &str) -> char {
-    match outcome {
-        "Kconfig:2 Misplaced" => '-',
-        "Kconfig:2 LeftOut tristate choice" => 'o',
-        _ => '+',
+fn each_line_has_its_place(rt: HostRuntime) {
+    for row in PLACES.lines() {
+        assert!(rt; has_places(rt.alloc(), row), "{row}");
     }
 }
 
-// How a line is taken behind an entry.
-fn sign(alloc: Global, entry: &str, line: &str) -> Result<char, Fail> {
-    let got = outcome_behind(alloc, entry, line)?;
-    Ok(sign_of(&got))
+// The lines of `Kconfig` beside the file `a`, where the modules symbol is the first name or is not known before; and the third
+// name.
+#[derive(Clone, Copy)]
+struct Listing {
+    name: &'static str,
+    files: &'static [(&'static str, &'static [u8])],
+    modules: Option<&'static [u8]>,
+    lines: &'static str,
+    third: &'static [u8],
 }
 
-// Adds how a line is taken behind each entry.
-fn push_signs(alloc: Global, signs: &mut String, entries: &[&str], line: &str) -> Result<(), Fail> {
-    for entry in entries {
-        signs.push(sign(alloc, entry, line)?)?;
+fn first_name(names: &mut Names, name: Option<&[u8]>) -> Option<SymId> {
+    match names.id(name?) {
+        Ok(id) => Some(id),
+        Err(_) => None,
     }
-    Ok(())
 }
 
-// How a line is taken in each kind of entry.
-fn signs(alloc: Global, line: &str) -> Result<String, Fail> {
-    let entries = ["config Z~", "choice~", "menu m~", "comment c~", "if y~"];
-    let mut signs = String::new(alloc);
-    push_signs(alloc, &mut signs, &entries, line)?;
-    Ok(signs)
-}
-
-fn place_is(rt: &impl Abort, alloc: Global, row: &str) -> Result<(), Fail> {
-    let (line, want) = cut(row, " => ");
-    let got = signs(alloc, line)?;
-    gives(rt, line, &got, want);
-    Ok(())
-}
-
-fn each_place(rt: &impl Abort, alloc: Global, places: &str) -> Result<(), Fail> {
-    for row in places.lines() {
-        place_is(rt, alloc, row)?;
-    }
-    Ok(())
-}
-
-#[test]
-fn each_line_has_its_place(rt: HostRuntime) -> Result<(), Fail> {
-    each_place(&rt, rt.alloc(), PLACES)
-}
-
-// Adds the line with its file and number.
-fn push_line(alloc: Global, text: &mut String, line: &Line) -> Result<(), Fail> {
-    push_bytes(text, &line.file)?;
-    let (number, statement) = (line.line, &line.statement);
-    push_text(text, format!(in alloc; ":{number} {statement:?}\n")?)
-}
-
-// Adds the lines, then the number of the modules symbol and how many symbols there are.
-fn push_expansion(alloc: Global, text: &mut String, expansion: &Expansion) -> Result<(), Fail> {
-    for line in &expansion.lines {
-        push_line(alloc, text, line)?;
-    }
-    let (modules, symbols) = (expansion.modules, expansion.defined.count());
-    push_text(text, format!(in alloc; "{modules:?} {symbols}")?)
-}
-
-fn listed(alloc: Global, expansion: &Expansion) -> Result<String, Fail> {
+// Whether the files have these lines.
+fn is_listed(alloc: Global, row: &Listing) -> bool {
+    let mut map = FileMap::new(alloc);
+    let mut names = Names::new(alloc);
     let mut text = String::new(alloc);
-    push_expansion(alloc, &mut text, expansion)?;
-    Ok(text)
+    let form = Form::Listed(first_name(&mut names, row.modules));
+    let is_put = put_all(alloc, &mut map, row.files).is_ok();
+    outcome_into(alloc, &map, form, &mut names, &mut text);
+    is_put && text.as_str() == row.lines && names.find(row.third) == Some(SymId(2))
 }
 
-fn expanded(alloc: Global, expansion: Expansion) -> Result<String, Fail> {
-    let text = listed(alloc, &expansion);
-    drop(expansion);
-    text
-}
+const LISTINGS: &[Listing] = &[
+    Listing {
+        name: "each statement is read",
+        files: &[(
+            "Kconfig",
+            br#"mainmenu "D"
 
-// The lines of `Kconfig`, then the number of the modules symbol and how many symbols there are; or its refusal.
-fn expansion(
-    alloc: Global,
-    map: &FileMap,
-    modules: Option<SymId>,
-    names: &mut Names,
-) -> Result<String, Fail> {
-    match expand(alloc, map, b"Kconfig", modules, names) {
-        Ok(expansion) => expanded(alloc, expansion),
-        Err(refusal) => refused(alloc, refusal),
-    }
-}
+if A = m && m
 
-// Adds the statement of a row, and an empty line behind it.
-fn push_statement(root: &mut Vec<u8>, row: &str) -> Result<(), Fail> {
-    let (line, _) = cut(row, " => ");
-    root.extend_from_slice(line.as_bytes())?;
-    root.extend_from_slice(b"\n\n")?;
-    Ok(())
-}
+endif
 
-// Adds the statements in lines of their own, each before an empty line.
-fn push_statements(root: &mut Vec<u8>, statements: &str) -> Result<(), Fail> {
-    for row in statements.lines() {
-        push_statement(root, row)?;
-    }
-    Ok(())
-}
+menu 'a\'b'
 
-fn stated(alloc: Global, statements: &str) -> Result<Vec<u8>, Fail> {
-    let mut root = Vec::new(alloc);
-    push_statements(&mut root, statements)?;
-    Ok(root)
-}
+visible if A
 
-// Adds how the statement of a row is listed.
-fn push_listed(alloc: Global, want: &mut String, number: u32, row: &str) -> Result<(), Fail> {
-    let (_, statement) = cut(row, " => ");
-    push_text(want, format!(in alloc; "Kconfig:{number} {statement}\n")?)
-}
+depends on m
 
-// Adds how the statements are listed.
-fn push_listing(alloc: Global, want: &mut String, statements: &str) -> Result<(), Fail> {
-    let mut number: u32 = 1;
-    for row in statements.lines() {
-        push_listed(alloc, want, number, row)?;
-        number = number.saturating_add(2);
-    }
-    want.push_str("Some(SymId(2)) 1")?;
-    Ok(())
-}
+endmenu
 
-fn listing(alloc: Global, statements: &str) -> Result<String, Fail> {
-    let mut want = String::new(alloc);
-    push_listing(alloc, &mut want, statements)?;
-    Ok(want)
-}
+comment c
 
-// The expansion of the root file where the modules symbol is the first name.
-fn put_alone(
-    alloc: Global,
-    map: &mut FileMap,
-    names: &mut Names,
-    root: &[u8],
-) -> Result<String, Fail> {
-    put(alloc, map, b"Kconfig", root)?;
-    let modules = names.id(b"LKM")?;
-    expansion(alloc, map, Some(modules), names)
-}
+choice
 
-fn alone(alloc: Global, root: &[u8]) -> Result<String, Fail> {
-    let mut map = FileMap::new(alloc);
-    let mut names = Names::new(alloc);
-    let got = put_alone(alloc, &mut map, &mut names, root);
-    drop(map);
-    drop(names);
-    got
-}
+prompt "p" if A
 
-// The statements as they are read.
-fn read_back(alloc: Global, statements: &str) -> Result<String, Fail> {
-    let root = stated(alloc, statements)?;
-    alone(alloc, &root)
-}
+endchoice
+
+menuconfig B
+
+bool
+
+tristate t if !A
+
+string ""
+
+int
+
+hex
+
+default m if m
+
+default (A)
+
+def_bool y
+
+def_tristate A || C if B
+
+select config
+
+imply A if C
+
+range -5 "9" if y
+
+help
+
+option modules
+
+option allnoconfig_y
+
+"#,
+        )],
+        modules: Some(b"LKM"),
+        lines: r#"Kconfig:1 MainMenu([68])
+Kconfig:3 If(All([Rel(Eq, Operands { left: Sym(SymId(1)), right: TristateConstant(M) }), All([One(TristateConstant(M)), One(Sym(SymId(0)))])]))
+Kconfig:5 EndIf
+Kconfig:7 Menu([97, 39, 98])
+Kconfig:9 Visible(One(Sym(SymId(1))))
+Kconfig:11 Depends(All([One(TristateConstant(M)), One(Sym(SymId(0)))]))
+Kconfig:13 EndMenu
+Kconfig:15 Comment([99])
+Kconfig:17 Choice
+Kconfig:19 Prompt(Prompt { when: Some(One(Sym(SymId(1)))) })
+Kconfig:21 EndChoice
+Kconfig:23 Config(SymId(2))
+Kconfig:25 Type(Bool, None)
+Kconfig:27 Type(Tristate, Some(Prompt { when: Some(Not(One(Sym(SymId(1))))) }))
+Kconfig:29 Type(Str, Some(Prompt { when: None }))
+Kconfig:31 Type(Int, None)
+Kconfig:33 Type(Hex, None)
+Kconfig:35 Default(One(TristateConstant(M)), Some(All([One(TristateConstant(M)), One(Sym(SymId(0)))])))
+Kconfig:37 Default(One(Sym(SymId(1))), None)
+Kconfig:39 Def(Bool, One(TristateConstant(Y)), None)
+Kconfig:41 Def(Tristate, Any([One(Sym(SymId(1))), One(Sym(SymId(3)))]), Some(One(Sym(SymId(2)))))
+Kconfig:43 Select(SymId(4), None)
+Kconfig:45 Imply(SymId(1), Some(One(Sym(SymId(3)))))
+Kconfig:47 Range(Bounds { low: Sym(SymId(5)), high: Const([57]) }, Some(One(TristateConstant(Y))))
+Kconfig:49 Help
+Kconfig:51 Modules
+Kconfig:53 Ignored
+Some(SymId(2)) 1"#,
+        third: b"B",
+    },
+    Listing {
+        name: "lines have their files and numbers",
+        files: &[
+            ("Kconfig", SOURCING),
+            ("a", b"\nconfig A\nmodules\nconfig\\\n C"),
+        ],
+        modules: None,
+        lines: "Kconfig:1 Config(SymId(0))\na:2 Config(SymId(1))\na:3 Modules\na:4 Config(SymId(2))\nKconfig:3 Config(SymId(1))\nKconfig:4 Depends(One(TristateConstant(M)))\nSome(SymId(1)) 3",
+        third: b"C",
+    },
+];
+
+const SOURCING: &[u8] = b"config B\nsource \"a\"\nconfig A\ndepends on m\n";
 
 #[test]
-fn each_statement_is_read(rt: HostRuntime) -> Result<(), Fail> {
-    let alloc = rt.alloc();
-    let want = listing(alloc, STATEMENTS)?;
-    let got = read_back(alloc, STATEMENTS)?;
-    is(&rt, &got, &want);
-    Ok(())
-}
-
-fn expansion_is(
-    rt: &impl Abort,
-    alloc: Global,
-    map: &FileMap,
-    names: &mut Names,
-    want: &str,
-) -> Result<(), Fail> {
-    let got = expansion(alloc, map, None, names)?;
-    is(rt, &got, want);
-    Ok(())
-}
-
-// The name has the number of the third one.
-fn third_is(rt: &impl Abort, names: &Names, name: &[u8]) {
-    assert!(rt; names.find(name) == Some(SymId(2)));
-}
-
-// The root file, the file that it sources, and how both are listed.
-const ROOT: &[u8] = b"config B\nsource \"a\"\nconfig A\ndepends on m\n";
-
-const OTHER: &[u8] = b"\nconfig A\nmodules\nconfig\\\n C";
-
-const BOTH: &str =
-    "Kconfig:1 Config(SymId(0))\na:2 Config(SymId(1))\na:3 Modules\na:4 Config(SymId(2))\nKconfig:3 Config(SymId(1))\nKconfig:4 Depends(One(TristateConstant(M)))\nSome(SymId(1)) 3";
-
-// What comes of no file, and then of a root file alone.
-fn root_alone(rt: &impl Abort, alloc: Global, map: &mut FileMap) -> Result<(), Fail> {
-    outcome_is(rt, alloc, map, "Kconfig:0 NoFile Kconfig")?;
-    put(alloc, map, b"Kconfig", ROOT)?;
-    outcome_is(rt, alloc, map, "Kconfig:2 NoFile a")
-}
-
-// Then what comes of it with the file that it sources.
-fn files_and_numbers(
-    rt: &impl Abort,
-    alloc: Global,
-    map: &mut FileMap,
-    names: &mut Names,
-) -> Result<(), Fail> {
-    root_alone(rt, alloc, map)?;
-    put(alloc, map, b"a", OTHER)?;
-    expansion_is(rt, alloc, map, names, BOTH)?;
-    third_is(rt, names, b"C");
-    Ok(())
-}
-
-#[test]
-fn lines_have_their_files_and_numbers(rt: HostRuntime) -> Result<(), Fail> {
-    let alloc = rt.alloc();
-    let mut map = FileMap::new(alloc);
-    let mut names = Names::new(alloc);
-    let done = files_and_numbers(&rt, alloc, &mut map, &mut names);
-    drop(map);
-    drop(names);
-    done
+fn lines_are_read_with_their_files_and_numbers(rt: HostRuntime) {
+    for row in LISTINGS {
+        assert!(rt; is_listed(rt.alloc(), row), "{}", row.name);
+    }
 }
 
 // Adds the names, each with a sign behind it.
-fn push_names(text: &mut String, names: &[Vec<u8>]) -> Result<(), Fail> {
+fn names_into(names: &[Vec<u8>], text: &mut String) {
     for name in names {
-        push_bytes(text, name)?;
-        text.push(';')?;
+        letters_into(name, text);
+        let _ = text.push(';');
     }
-    Ok(())
 }
 
-fn joined(alloc: Global, names: &[Vec<u8>]) -> Result<String, Fail> {
+// Whether the file sources these names, each with a sign behind it.
+fn sources(alloc: Global, file: &[u8], want: &str) -> bool {
     let mut text = String::new(alloc);
-    push_names(&mut text, names)?;
-    Ok(text)
-}
-
-// The names that a file sources, each with a sign behind it.
-fn sourced(alloc: Global, file: &[u8]) -> Result<String, Fail> {
-    let names = sources_of(alloc, file)?;
-    let text = joined(alloc, &names);
-    drop(names);
-    text
-}
-
-// The names that a file sources, as a row writes it.
-fn sourced_in(alloc: Global, file: &str) -> Result<String, Fail> {
-    let file = file_of(alloc, file)?;
-    sourced(alloc, &file)
-}
-
-fn list_is(rt: &impl Abort, alloc: Global, row: &str) -> Result<(), Fail> {
-    let (file, want) = cut(row, " => ");
-    let got = sourced_in(alloc, file)?;
-    gives(rt, file, &got, want);
-    Ok(())
-}
-
-fn each_list(rt: &impl Abort, alloc: Global, rows: &str) -> Result<(), Fail> {
-    for row in rows.lines() {
-        list_is(rt, alloc, row)?;
+    match sources_of(alloc, file) {
+        Ok(names) => {
+            names_into(&names, &mut text);
+            text.as_str() == want
+        }
+        Err(_) => false,
     }
-    Ok(())
+}
+
+// Whether the file of a row sources the row's names.
+fn has_sources(alloc: Global, row: &str) -> bool {
+    let (file, want) = cut(row, " => ");
+    let mut bytes = Vec::new(alloc);
+    pieces_into(&[(1, file.as_bytes())], &mut bytes).is_ok() && sources(alloc, &bytes, want)
 }
 
 #[test]
-fn sources_end_at_the_first_bad_line(rt: HostRuntime) -> Result<(), Fail> {
-    each_list(&rt, rt.alloc(), SOURCE_LISTS)
-}
-
-// Adds the piece so many times.
-fn push_repeated(text: &mut Vec<u8>, piece: &[u8], count: usize) -> Result<(), Fail> {
-    for _ in 0..count {
-        text.extend_from_slice(piece)?;
+fn sources_end_at_the_first_bad_line(rt: HostRuntime) {
+    for row in SOURCE_LISTS.lines() {
+        assert!(rt; has_sources(rt.alloc(), row), "{row}");
     }
-    Ok(())
 }
 
-// Adds the piece so many times and an end.
-fn push_rest(text: &mut Vec<u8>, piece: &[u8], count: usize, back: &str) -> Result<(), Fail> {
-    push_repeated(text, piece, count)?;
-    push_file(text, back)
-}
+// The parts of a root file and of the file `a`, and what comes of both.
+type Row = (
+    &'static [Piece<'static>],
+    &'static [Piece<'static>],
+    &'static str,
+);
 
-// The piece so many times, between a beginning and an end.
-fn repeated(
-    alloc: Global,
-    front: &str,
-    piece: &[u8],
-    count: usize,
-    back: &str,
-) -> Result<Vec<u8>, Fail> {
-    let mut text = file_of(alloc, front)?;
-    push_rest(&mut text, piece, count, back)?;
-    Ok(text)
-}
-
-// A beginning, a piece and how often it stands, an end, and what comes of the file.
-type Repeats<'a> = (&'a str, &'a [u8], usize, &'a str, &'a str);
-
-// What comes of the file.
-fn outcome_repeated(alloc: Global, row: &Repeats) -> Result<String, Fail> {
-    let (front, piece, count, back, _) = row;
-    let root = repeated(alloc, front, piece, *count, back)?;
-    beside(alloc, &root, b"")
-}
-
-fn limit_is(rt: &impl Abort, alloc: Global, row: &Repeats) -> Result<(), Fail> {
-    let got = outcome_repeated(alloc, row)?;
-    is(rt, &got, row.4);
-    Ok(())
-}
-
-fn each_limit(rt: &impl Abort, alloc: Global, rows: &[Repeats]) -> Result<(), Fail> {
-    for row in rows {
-        limit_is(rt, alloc, row)?;
-    }
-    Ok(())
-}
-
-// Lines, levels and blocks at their limits and one behind.
-const LIMITS: &[Repeats] = &[
-    ("", b"#", 8191, "", "0 lines, 0 symbols"),
-    ("", b"#", 8192, "", "Kconfig:1 LineTooLong"),
-    ("~", b"#", 8191, "^~", "0 lines, 0 symbols"),
-    ("~", b"#", 8191, "$~", "Kconfig:2 LineTooLong"),
-    ("~#\\~", b"#", 8190, "\\~~~", "0 lines, 0 symbols"),
-    ("~#\\~", b"#", 8190, "\\~#~~", "Kconfig:2 LineTooLong"),
-    ("config A~help~ ", b"#", 9000, "\\~foo", "Kconfig:4 Syntax"),
-    ("config ", b"A", 255, "", "1 lines, 1 symbols"),
-    ("config A~default ", b"!", 64, "y", "2 lines, 1 symbols"),
-    ("config A~default ", b"!", 65, "y", "Kconfig:2 TooDeep"),
-    ("config A~default ", b"!(", 32, "=", "Kconfig:2 Syntax"),
-    ("config A~default ", b"!(", 32, "!", "Kconfig:2 TooDeep"),
-    ("config A~depends on ", b"(", 64, "=", "Kconfig:2 Syntax"),
-    ("config A~depends on ", b"(", 65, "=", "Kconfig:2 TooDeep"),
-    ("if A ", b"(", 65, "", "Kconfig:1 Syntax"),
-    ("if ", b"(A)&&", 70, "!(B)~endif", "2 lines, 0 symbols"),
-    ("", b"menu m\n", 70, "", "Kconfig:65 TooDeep"),
+// Files that are not there, and lines, levels and blocks at their limits and one behind.
+const LIMITS: &[Row] = &[
+    (&[], &[], "Kconfig:0 NoFile Kconfig"),
+    (&[(1, SOURCING)], &[], "Kconfig:2 NoFile a"),
+    (&[(8191, b"#")], &[], "0 lines, 0 symbols"),
+    (&[(8192, b"#")], &[], "Kconfig:1 LineTooLong"),
     (
-        "",
-        b"if y\nmenu m\nendmenu\n",
-        70,
-        "",
-        "Kconfig:191 TooDeep",
+        &[(1, b"~"), (8191, b"#"), (1, b"^~")],
+        &[],
+        "0 lines, 0 symbols",
+    ),
+    (
+        &[(1, b"~"), (8191, b"#"), (1, b"$~")],
+        &[],
+        "Kconfig:2 LineTooLong",
+    ),
+    (
+        &[(1, b"~#\\~"), (8190, b"#"), (1, b"\\~~~")],
+        &[],
+        "0 lines, 0 symbols",
+    ),
+    (
+        &[(1, b"~#\\~"), (8190, b"#"), (1, b"\\~#~~")],
+        &[],
+        "Kconfig:2 LineTooLong",
+    ),
+    (
+        &[(1, b"config A~help~ "), (9000, b"#"), (1, b"\\~foo")],
+        &[],
+        "Kconfig:4 Syntax",
+    ),
+    (&[(1, b"config "), (255, b"A")], &[], "1 lines, 1 symbols"),
+    (&[(1, b"config "), (256, b"A")], &[], LONG_NAME),
+    (
+        &[(1, b"config A~default "), (64, b"!"), (1, b"y")],
+        &[],
+        "2 lines, 1 symbols",
+    ),
+    (
+        &[(1, b"config A~default "), (65, b"!"), (1, b"y")],
+        &[],
+        "Kconfig:2 TooDeep",
+    ),
+    (
+        &[(1, b"config A~default "), (32, b"!("), (1, b"=")],
+        &[],
+        "Kconfig:2 Syntax",
+    ),
+    (
+        &[(1, b"config A~default "), (32, b"!("), (1, b"!")],
+        &[],
+        "Kconfig:2 TooDeep",
+    ),
+    (
+        &[(1, b"config A~depends on "), (64, b"("), (1, b"=")],
+        &[],
+        "Kconfig:2 Syntax",
+    ),
+    (
+        &[(1, b"config A~depends on "), (65, b"("), (1, b"=")],
+        &[],
+        "Kconfig:2 TooDeep",
+    ),
+    (&[(1, b"if A "), (65, b"(")], &[], "Kconfig:1 Syntax"),
+    (
+        &[(1, b"if "), (70, b"(A)&&"), (1, b"!(B)~endif")],
+        &[],
+        "2 lines, 0 symbols",
+    ),
+    (&[(70, b"menu m~")], &[], "Kconfig:65 TooDeep"),
+    (&[(70, b"if y~menu m~endmenu~")], &[], "Kconfig:191 TooDeep"),
+    (
+        AROUND,
+        &[(24, b"if y~"), (24, b"endif~")],
+        "128 lines, 0 symbols",
+    ),
+    (AROUND, &[(25, b"if y~"), (24, b"endif~")], "a:25 TooDeep"),
+    (
+        AROUND,
+        &[(24, b"if y~"), (1, b"menu m~"), (24, b"endif~")],
+        "a:25 Misplaced",
+    ),
+    (
+        AROUND,
+        &[(24, b"if y~"), (1, b"if y z~"), (24, b"endif~")],
+        "a:25 Syntax",
+    ),
+    (
+        AROUND,
+        &[(24, b"if y~"), (1, b"comment c~foo"), (24, b"endif~")],
+        "a:26 Syntax",
     ),
 ];
 
-// The refusal tells a name of 256 letters.
-fn is_long_name(rt: &impl Abort, got: &str) {
-    assert!(rt; got.starts_with("Kconfig:1 BadName AAA"));
-    assert_eq!(rt; got.len(), 18 + 256);
-}
-
-fn a_long_name_is_told(rt: &impl Abort, alloc: Global) -> Result<(), Fail> {
-    let got = outcome_repeated(alloc, &("config ", b"A", 256, "", ""))?;
-    is_long_name(rt, &got);
-    Ok(())
-}
-
-#[test]
-fn limits_of_a_line_and_of_blocks_hold_to_the_last_one(rt: HostRuntime) -> Result<(), Fail> {
-    each_limit(&rt, rt.alloc(), LIMITS)?;
-    a_long_name_is_told(&rt, rt.alloc())
-}
-
-// How many blocks the file `a` opens, what stands in them, and what comes of it.
-const BLOCKS: &[(usize, &str, &str)] = &[
-    (24, "", "128 lines, 0 symbols"),
-    (25, "", "a:25 TooDeep"),
-    (24, "menu m~", "a:25 Misplaced"),
-    (24, "if y z~", "a:25 Syntax"),
-    (24, "comment c~foo", "a:26 Syntax"),
+// Forty blocks around the file `a`, which opens up to 25 in them.
+const AROUND: &[Piece] = &[
+    (39, b"if y~"),
+    (1, b"choice~source a~endchoice~"),
+    (39, b"endif~"),
 ];
 
-// A piece so many times and an end, then so many lines `endif`.
-fn ended(
-    alloc: Global,
-    piece: &[u8],
-    count: usize,
-    back: &str,
-    ends: usize,
-) -> Result<Vec<u8>, Fail> {
-    let mut text = repeated(alloc, "", piece, count, back)?;
-    push_repeated(&mut text, b"endif\n", ends)?;
-    Ok(text)
+// A name of 256 letters is told.
+const LONG_NAME: &str = "Kconfig:1 BadName \
+    AAAAAAAAAAAAAAAAAAAAAAAAAAAAAAAAAAAAAAAAAAAAAAAAAAAAAAAAAAAAAAAA\
+    AAAAAAAAAAAAAAAAAAAAAAAAAAAAAAAAAAAAAAAAAAAAAAAAAAAAAAAAAAAAAAAA\
+    AAAAAAAAAAAAAAAAAAAAAAAAAAAAAAAAAAAAAAAAAAAAAAAAAAAAAAAAAAAAAAAA\
+    AAAAAAAAAAAAAAAAAAAAAAAAAAAAAAAAAAAAAAAAAAAAAAAAAAAAAAAAAAAAAAAA";
+
+#[test]
+fn limits_of_a_line_and_of_blocks_hold_to_the_last_one(rt: HostRuntime) {
+    for row in LIMITS {
+        assert!(rt; gives(rt.alloc(), row.0, row.1, row.2), "{}", row.2);
+    }
 }
 
-// What comes of the blocks around the file `a` and of so many in it.
-fn outcome_of_blocks(
-    alloc: Global,
-    sourcing: &[u8],
-    count: usize,
-    back: &str,
-) -> Result<String, Fail> {
-    let root = ended(alloc, sourcing, 1, "", 39)?;
-    let other = ended(alloc, b"if y\n", count, back, 24)?;
-    beside(alloc, &root, &other)
+// Files of which each sources the next, whose name has one letter more, once or twice: the name and the text of the last one,
+// and what comes of the first, `Kconfig`, beside the file `long`.
+#[derive(Clone, Copy)]
+struct Chain {
+    last: &'static str,
+    twice: bool,
+    text: &'static str,
+    long: &'static [Piece<'static>],
+    want: &'static str,
 }
 
-fn blocks_are(
-    rt: &impl Abort,
-    alloc: Global,
-    sourcing: &[u8],
-    row: &(usize, &str, &str),
-) -> Result<(), Fail> {
-    let (count, back, want) = row;
-    let got = outcome_of_blocks(alloc, sourcing, *count, back)?;
-    is(rt, &got, want);
-    Ok(())
-}
-
-fn each_block(
-    rt: &impl Abort,
-    alloc: Global,
-    sourcing: &[u8],
-    rows: &[(usize, &str, &str)],
-) -> Result<(), Fail> {
-    for row in rows {
-        blocks_are(rt, alloc, sourcing, row)?;
+// Puts the files before the last one of a chain.
+fn put_chain(alloc: Global, map: &mut FileMap, chain: &Chain) -> Result<(), AllocError> {
+    let again = if chain.twice { 1 } else { 0 };
+    let mut name = chain.last.as_bytes();
+    for _ in "Kconfig".len()..chain.last.len() {
+        if let [_, before @ ..] = name {
+            let lines = [
+                (1, b"source ".as_slice()),
+                (1, name),
+                (1, b"~"),
+                (again, b"source "),
+                (again, name),
+                (again, b"~"),
+            ];
+            put_pieces(alloc, map, before, &lines)?;
+            name = before;
+        }
     }
     Ok(())
 }
 
-#[test]
-fn sixty_four_blocks_are_open_over_all_files(rt: HostRuntime) -> Result<(), Fail> {
-    let alloc = rt.alloc();
-    let sourcing = repeated(alloc, "", b"if y\n", 39, "choice~source a~endchoice~")?;
-    each_block(&rt, alloc, &sourcing, BLOCKS)
-}
-
-// The text of the last of 64 files and what comes of them, to its end.
-const LASTS: &[(&[u8], &str)] = &[
-    (b"config A", "1 lines, 1 symbols"),
-    (b"\nsource b", "aaKconfig:2 TooDeep"),
-    (b"source long", "aaKconfig:1 TooDeep"),
-    (b"source aaaKconfig", "aaKconfig:1 InclusionLoop aaaKconfig"),
-    (b"source 'b?'", "aaKconfig:1 LeftOut pattern"),
-];
-
-// Gives the file so many lines that source the next one.
-fn put_sources(
-    alloc: Global,
-    map: &mut FileMap,
-    name: &[u8],
-    next: &[u8],
-    times: usize,
-) -> Result<(), Fail> {
-    let line = repeated(alloc, "source ", next, 1, "~")?;
-    let lines = repeated(alloc, "", &line, times, "")?;
-    put(alloc, map, name, &lines)
-}
-
-// Has the file source the next so many times, whose name comes out.
-fn put_link(alloc: Global, map: &mut FileMap, name: &[u8], times: usize) -> Result<Vec<u8>, Fail> {
-    let next = repeated(alloc, "a", name, 1, "")?;
-    put_sources(alloc, map, name, &next, times)?;
-    Ok(next)
-}
-
-// Each file sources the next so many times; the last, numbered from the root's 1 on, holds the text.
-fn put_chain(
-    alloc: Global,
-    map: &mut FileMap,
-    count: usize,
-    times: usize,
-    text: &[u8],
-) -> Result<(), Fail> {
-    let mut name = Vec::from_slice(alloc, b"Kconfig")?;
-    for _ in 1..count {
-        name = put_link(alloc, map, &name, times)?;
-    }
-    put(alloc, map, &name, text)
-}
-
-// What comes of 64 files, of which the last holds the text, beside the file `long`.
-fn put_sixty_four(
-    alloc: Global,
-    map: &mut FileMap,
-    long: &[u8],
-    text: &[u8],
-) -> Result<String, Fail> {
-    put_chain(alloc, map, 64, 1, text)?;
-    put(alloc, map, b"long", long)?;
-    outcome(alloc, map)
-}
-
-fn sixty_four(alloc: Global, long: &[u8], text: &[u8]) -> Result<String, Fail> {
+fn is_chain(alloc: Global, chain: &Chain) -> bool {
     let mut map = FileMap::new(alloc);
-    let got = put_sixty_four(alloc, &mut map, long, text);
-    drop(map);
-    got
+    put_chain(alloc, &mut map, chain).is_ok()
+        && put(
+            alloc,
+            &mut map,
+            chain.last.as_bytes(),
+            chain.text.as_bytes(),
+        )
+        .is_ok()
+        && put_pieces(alloc, &mut map, b"long", chain.long).is_ok()
+        && gives_outcome(alloc, &map, chain.want)
 }
 
-// The text ends as it is wanted.
-fn ends(rt: &impl Abort, got: &str, want: &str) {
-    assert!(rt; got.ends_with(want), "{want}");
-}
+// The name of the last of 64 files.
+const LAST: &str = "aaaaaaaaaaaaaaaaaaaaaaaaaaaaaaaaaaaaaaaaaaaaaaaaaaaaaaaaaaaaaaaKconfig";
 
-fn last_is(rt: &impl Abort, alloc: Global, long: &[u8], row: &(&[u8], &str)) -> Result<(), Fail> {
-    let (text, want) = row;
-    let got = sixty_four(alloc, long, text)?;
-    ends(rt, &got, want);
-    Ok(())
-}
+// Sixty-four files beside one of more lines than a tree may have.
+const LONG: Chain = Chain {
+    last: LAST,
+    twice: false,
+    text: "config A",
+    long: &[(1_001_000, b"~")],
+    want: "1 lines, 1 symbols",
+};
 
-fn each_last(
-    rt: &impl Abort,
-    alloc: Global,
-    long: &[u8],
-    rows: &[(&[u8], &str)],
-) -> Result<(), Fail> {
-    for row in rows {
-        last_is(rt, alloc, long, row)?;
-    }
-    Ok(())
-}
-
-// A file of more lines than a tree may have.
-fn long_file(alloc: Global) -> Result<Vec<u8>, Fail> {
-    let lines = repeated(alloc, "", b"\n", 1000, "")?;
-    repeated(alloc, "", &lines, 1001, "")
-}
-
-#[test]
-fn sixty_four_files_are_open(rt: HostRuntime) -> Result<(), Fail> {
-    let alloc = rt.alloc();
-    let long = long_file(alloc)?;
-    each_last(&rt, alloc, &long, LASTS)
-}
-
-// What comes of a file with so many lines that is sourced twice.
-fn outcome_twice(alloc: Global, count: usize) -> Result<String, Fail> {
-    let half = repeated(alloc, "", b"\n", count, "")?;
-    beside(alloc, b"source \"a\"\nsource \"a\"\n", &half)
-}
-
-fn twice_is(rt: &impl Abort, alloc: Global, count: usize, want: &str) -> Result<(), Fail> {
-    let got = outcome_twice(alloc, count)?;
-    is(rt, &got, want);
-    Ok(())
-}
-
-// A beginning, how often the half of a million lines stands, an end, and what comes of the file.
-const HALVES: &[(&str, usize, &str, &str)] = &[
-    ("", 2, "", "0 lines, 0 symbols"),
-    ("", 2, "#", "Kconfig:0 TooManyLines"),
-    ("source Kconfig~", 2, "", "Kconfig:0 TooManyLines"),
-    ("source Kconfig~", 1, "", "Kconfig:1 InclusionLoop Kconfig"),
+const CHAINS: &[Chain] = &[
+    LONG,
+    Chain {
+        text: "\nsource b",
+        want: "aaaaaaaaaaaaaaaaaaaaaaaaaaaaaaaaaaaaaaaaaaaaaaaaaaaaaaaaaaaaaaaKconfig:2 TooDeep",
+        ..LONG
+    },
+    Chain {
+        text: "source long",
+        want: "aaaaaaaaaaaaaaaaaaaaaaaaaaaaaaaaaaaaaaaaaaaaaaaaaaaaaaaaaaaaaaaKconfig:1 TooDeep",
+        ..LONG
+    },
+    Chain {
+        text: "source aaaKconfig",
+        want: "aaaaaaaaaaaaaaaaaaaaaaaaaaaaaaaaaaaaaaaaaaaaaaaaaaaaaaaaaaaaaaaKconfig:1 InclusionLoop aaaKconfig",
+        ..LONG
+    },
+    Chain {
+        text: "source 'b?'",
+        want: "aaaaaaaaaaaaaaaaaaaaaaaaaaaaaaaaaaaaaaaaaaaaaaaaaaaaaaaaaaaaaaaKconfig:1 LeftOut pattern",
+        ..LONG
+    },
+    // Twenty-one files, of which each sources the next twice.
+    Chain {
+        last: "aaaaaaaaaaaaaaaaaaaaKconfig",
+        twice: true,
+        text: "",
+        long: &[],
+        want: "aaaaaaaaaaaaaaaaaaKconfig:2 TooManyLines",
+    },
 ];
 
-fn a_root_file_is_counted(rt: &impl Abort, alloc: Global, half: &[u8]) -> Result<(), Fail> {
-    for (front, count, back, want) in HALVES {
-        limit_is(rt, alloc, &(front, half, *count, back, want))?;
-    }
-    Ok(())
-}
-
-fn chain_is_counted(rt: &impl Abort, alloc: Global, map: &mut FileMap) -> Result<(), Fail> {
-    put_chain(alloc, map, 21, 2, b"")?;
-    outcome_is(rt, alloc, map, "aaaaaaaaaaaaaaaaaaKconfig:2 TooManyLines")
-}
-
-fn a_chain_is_counted(rt: &impl Abort, alloc: Global) -> Result<(), Fail> {
-    let mut map = FileMap::new(alloc);
-    let done = chain_is_counted(rt, alloc, &mut map);
-    drop(map);
-    done
-}
-
 #[test]
-fn a_million_lines_are_counted(rt: HostRuntime) -> Result<(), Fail> {
-    let alloc = rt.alloc();
-    twice_is(&rt, alloc, 499_999, "0 lines, 0 symbols")?;
-    twice_is(&rt, alloc, 500_000, "Kconfig:2 TooManyLines")?;
-    a_chain_is_counted(&rt, alloc)?;
-    let half = repeated(alloc, "", b"\n", 500_000, "")?;
-    a_root_file_is_counted(&rt, alloc, &half)
-}
-
-// Adds a `config` line whose name is the number, written with the letters A to P.
-fn push_config(text: &mut Vec<u8>, number: u32) -> Result<(), Fail> {
-    text.extend_from_slice(b"config ")?;
-    let mut rest = number;
-    for _ in 0..5 {
-        let digit = rest % 16;
-        text.push(b'A' + digit as u8)?;
-        rest /= 16;
+fn sixty_four_files_are_open(rt: HostRuntime) {
+    for chain in CHAINS {
+        assert!(rt; is_chain(rt.alloc(), chain), "{}", chain.want);
     }
-    text.push(b'\n')?;
-    Ok(())
 }
 
-// A `config` line for each number below `count`.
-fn configs(alloc: Global, count: u32) -> Result<Vec<u8>, Fail> {
-    let mut text = Vec::new(alloc);
-    for number in 0..count {
-        push_config(&mut text, number)?;
-    }
-    Ok(text)
-}
+// A root file that sources the file `a` twice.
+const TWICE: &[Piece] = &[(2, b"source \"a\"~")];
 
-// A line behind the most symbols, and what comes of the file.
-const SYMBOLS: &[(&str, &str)] = &[
-    ("", "65535 lines, 65535 symbols"),
-    ("menuconfig AAAAA", "65536 lines, 65535 symbols"),
-    ("config Z", "Kconfig:65536 TooManySymbols"),
-    ("config Z-Z", "Kconfig:65536 BadName Z-Z"),
-    ("config Z Z", "Kconfig:65536 Syntax"),
+// A million lines and one.
+const MILLIONS: &[Row] = &[
+    (TWICE, &[(499_999, b"~")], "0 lines, 0 symbols"),
+    (TWICE, &[(500_000, b"~")], "Kconfig:2 TooManyLines"),
+    (&[(1_000_000, b"~")], &[], "0 lines, 0 symbols"),
+    (
+        &[(1_000_000, b"~"), (1, b"#")],
+        &[],
+        "Kconfig:0 TooManyLines",
+    ),
+    (
+        &[(1, b"source Kconfig~"), (1_000_000, b"~")],
+        &[],
+        "Kconfig:0 TooManyLines",
+    ),
+    (
+        &[(1, b"source Kconfig~"), (500_000, b"~")],
+        &[],
+        "Kconfig:1 InclusionLoop Kconfig",
+    ),
 ];
 
-fn symbols_have_a_limit(rt: &impl Abort, alloc: Global, most: &[u8]) -> Result<(), Fail> {
-    for (line, want) in SYMBOLS {
-        limit_is(rt, alloc, &("", most, 1, line, want))?;
+#[test]
+fn a_million_lines_are_counted(rt: HostRuntime) {
+    for row in MILLIONS {
+        assert!(rt; gives(rt.alloc(), row.0, row.1, row.2), "{}", row.2);
     }
-    Ok(())
 }
+
+// The most symbols and a line behind them.
+const SYMBOLS: &[Row] = &[
+    (&[(65_535, b"config %~")], &[], "65535 lines, 65535 symbols"),
+    (
+        &[(65_535, b"config %~"), (1, b"menuconfig AAAAA")],
+        &[],
+        "65536 lines, 65535 symbols",
+    ),
+    (
+        &[(65_535, b"config %~"), (1, b"config Z")],
+        &[],
+        "Kconfig:65536 TooManySymbols",
+    ),
+    (
+        &[(65_535, b"config %~"), (1, b"config Z-Z")],
+        &[],
+        "Kconfig:65536 BadName Z-Z",
+    ),
+    (
+        &[(65_535, b"config %~"), (1, b"config Z Z")],
+        &[],
+        "Kconfig:65536 Syntax",
+    ),
+];
 
 #[test]
-fn symbols_are_counted(rt: HostRuntime) -> Result<(), Fail> {
-    let alloc = rt.alloc();
-    let most = configs(alloc, 65_535)?;
-    symbols_have_a_limit(&rt, alloc, &most)
+fn symbols_are_counted(rt: HostRuntime) {
+    for row in SYMBOLS {
+        assert!(rt; gives(rt.alloc(), row.0, row.1, row.2), "{}", row.2);
+    }
 }
 
-// The name has these bytes.
-fn has_bytes(rt: &impl Abort, map: &FileMap, name: &[u8], bytes: &[u8]) {
-    assert!(rt; map.get(name) == Some(bytes));
-}
+// Files, of which one is put twice, and what they are then.
+const PUT: &[(&str, &[u8])] = &[("a", b"old"), ("b", b""), ("a", b"new")];
 
-fn put_twice(alloc: Global, map: &mut FileMap) -> Result<(), Fail> {
-    put(alloc, map, b"a", b"old")?;
-    put(alloc, map, b"b", b"")?;
-    put(alloc, map, b"a", b"new")
-}
+const KEPT: &[(&str, &[u8])] = &[("a", b"new"), ("b", b"")];
 
-fn new_bytes(rt: &impl Abort, alloc: Global, map: &mut FileMap) -> Result<(), Fail> {
-    put_twice(alloc, map)?;
-    has_bytes(rt, map, b"a", b"new");
-    has_bytes(rt, map, b"b", b"");
-    assert!(rt; map.get(b"c").is_none());
-    Ok(())
-}
-
-#[test]
-fn a_name_gets_the_new_bytes(rt: HostRuntime) -> Result<(), Fail> {
-    let alloc = rt.alloc();
+fn are_kept(alloc: Global) -> bool {
     let mut map = FileMap::new(alloc);
-    let done = new_bytes(&rt, alloc, &mut map);
-    drop(map);
-    done
+    put_all(alloc, &mut map, PUT).is_ok()
+        && has_files(&map, KEPT)
+        && has_names(&map, &[("c", false)])
+}
+
+#[test]
+fn a_name_gets_the_new_bytes(rt: HostRuntime) {
+    assert!(rt; are_kept(rt.alloc()));
 }

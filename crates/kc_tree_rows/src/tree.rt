@@ -1,264 +1,288 @@
 //! Worked trees from the bytes of their files on: what a tree says of its symbols, choices and entries, its warnings,
 //! and the refusals that come after the last line.
 
+use crate::shared::{letters_into, put_all, refusal_into};
 use kc_build::build_tree;
 use kc_expr::expression::{Expr, SymId};
 use kc_read::file_map::FileMap;
-use kc_read::refusal::{Code, Refusal};
+use kc_read::refusal::Refusal;
 use kc_tree::layout::Layout;
-use kc_tree::rows::{
-    Choice, ContextId, Definition, EntryPrompt, ReverseId, ShownEntry, Symbol, TitleId,
-};
+use kc_tree::rows::{Choice, ContextId, Definition, EntryPrompt, ReverseId, ShownEntry, Symbol};
 use kc_tree::tree::Tree;
-use std::alloc::{AllocError, Global};
-use std::process::Abort;
+use std::alloc::Global;
 use std::rc::Rc;
-use std::test::Fail;
-
-// Puts a copy of a file's text under its name.
-fn put(alloc: Global, map: &mut FileMap, name: &str, text: &str) -> Result<(), AllocError> {
-    let name = Vec::from_slice(alloc, name.as_bytes())?;
-    map.insert(name, Vec::from_slice(alloc, text.as_bytes())?)
-}
-
-// Files by name.
-fn files_of(alloc: Global, files: &[(&str, &str)]) -> Result<FileMap, AllocError> {
-    let mut map = FileMap::new(alloc);
-    for (name, text) in files {
-        if let Err(fault) = put(alloc, &mut map, name, text) {
-            // A call drops the map; a drop that is left to the exit is written out there, and proved once more.
-            drop(map);
-            return Err(fault);
-        }
-    }
-    Ok(map)
-}
-
-// The tree of `Kconfig`, one of these files. What is owned is dropped by a call, as in all that follows.
-fn build(alloc: Global, files: &[(&str, &str)]) -> Result<Result<Tree, Refusal>, AllocError> {
-    let map = files_of(alloc, files)?;
-    let built = build_tree(alloc, &map, b"Kconfig");
-    drop(map);
-    Ok(built)
-}
-
-// How a tree is laid out, and memory for what is made of it.
-#[derive(Clone, Copy)]
-struct View<'l> {
-    alloc: Global,
-    layout: &'l Layout,
-}
-
-// What the contexts from this one outwards ask for, the outermost first, but for their modes.
-fn asked<'l>(view: View<'l>, id: ContextId) -> Result<Vec<&'l Expr>, AllocError> {
-    let mut asked = Vec::new(view.alloc);
-    let mut at = id;
-    // An outer context has a smaller number.
-    for _ in 0..id.0 {
-        if let Some(context) = view.layout.context(at) {
-            if let Some(e) = &context.own_condition {
-                asked.push(&**e)?;
-            }
-            at = context.outer;
-        }
-    }
-    asked.reverse();
-    Ok(asked)
-}
-
-// A condition and the line's end: its parts, which are what a context asks for, what another one asks for besides, and an `if`;
-// and the number of the choice whose mode counts.
-fn condition(
-    out: &mut String,
-    view: View<'_>,
-    within: ContextId,
-    visible: ContextId,
-    when: &Option<Rc<Expr>>,
-) -> Result<(), AllocError> {
-    let mut parts = asked(view, within)?;
-    for e in &asked(view, visible)? {
-        parts.push(*e)?;
-    }
-    if let Some(e) = when {
-        parts.push(&**e)?;
-    }
-    match view.layout.mode(within) {
-        Some(choice) => write!(out, "{parts:?} in {}\n", choice.0),
-        None => write!(out, "{parts:?}\n"),
-    }
-}
 
 const TOP: ContextId = ContextId(0);
 
-// The definitions of a symbol.
-fn definitions<'l>(view: View<'l>, symbol: &Symbol) -> Result<Vec<&'l Definition>, AllocError> {
-    let mut all = Vec::new(view.alloc);
-    for i in 0..symbol.definition_count() {
-        if let Some(definition) = view.layout.definition_of(symbol, i) {
-            all.push(definition)?;
+// What the lines of a symbol's definitions are about, in the order in which a picture has them.
+#[derive(Clone, Copy)]
+enum About {
+    Dependencies,
+    Prompts,
+    Defaults,
+    Ranges,
+}
+
+const ALL: &[About] = &[
+    About::Dependencies,
+    About::Prompts,
+    About::Defaults,
+    About::Ranges,
+];
+
+// All that a tree says, but for its names and warnings, as far as it is written; and the parts of a condition. What there is no
+// memory for is missing.
+#[derive(Drop)]
+struct Picture<'l> {
+    layout: &'l Layout,
+    parts: Vec<&'l Expr>,
+    text: String,
+}
+
+impl<'l> Picture<'l> {
+    // Adds what the contexts from this one outwards ask for, the innermost first, but for their modes.
+    fn ask(&mut self, id: ContextId) {
+        let layout = self.layout;
+        let mut at = id;
+        // An outer context has a smaller number.
+        for _ in 0..id.0 {
+            if let Some(context) = layout.context(at) {
+                if let Some(e) = &context.own_condition {
+                    let _ = self.parts.push(&**e);
+                }
+                at = context.outer;
+            }
         }
     }
-    Ok(all)
-}
 
-fn dependencies(out: &mut String, view: View<'_>, all: &[&Definition]) -> Result<(), AllocError> {
-    for definition in all {
-        write!(out, "dep ")?;
-        condition(out, view, definition.within, TOP, &None)?;
-    }
-    Ok(())
-}
-
-fn prompt(
-    out: &mut String,
-    view: View<'_>,
-    within: ContextId,
-    prompt: &Option<EntryPrompt>,
-) -> Result<(), AllocError> {
-    match prompt {
-        Some(prompt) => {
-            write!(out, "prompt ")?;
-            condition(out, view, within, prompt.visible, &prompt.when)
+    // A word, a condition and the line's end: the parts of the condition, which are what a context asks for, what another one
+    // asks for besides, and an `if`; and the number of the choice whose mode counts.
+    fn condition(
+        &mut self,
+        word: &str,
+        within: ContextId,
+        visible: ContextId,
+        when: Option<&'l Rc<Expr>>,
+    ) {
+        self.parts.clear();
+        if let Some(e) = when {
+            let _ = self.parts.push(&**e);
         }
-        None => Ok(()),
+        self.ask(visible);
+        self.ask(within);
+        self.parts.reverse();
+        let _ = write!(self.text, "{word}{:?}", self.parts);
+        if let Some(choice) = self.layout.mode(within) {
+            let _ = write!(self.text, " in {}", choice.0);
+        }
+        let _ = self.text.push('\n');
     }
-}
 
-fn defaults(out: &mut String, view: View<'_>, definition: &Definition) -> Result<(), AllocError> {
-    for default in view.layout.defaults(definition) {
-        write!(out, "default {:?} ", default.value)?;
-        condition(out, view, definition.within, TOP, &default.when)?;
+    fn prompt(&mut self, within: ContextId, prompt: &'l Option<EntryPrompt>) {
+        if let Some(prompt) = prompt {
+            self.condition("prompt ", within, prompt.visible, prompt.when.as_ref());
+        }
     }
-    Ok(())
-}
 
-fn ranges(out: &mut String, view: View<'_>, definition: &Definition) -> Result<(), AllocError> {
-    for range in view.layout.ranges(definition) {
-        write!(out, "range {:?} {:?} ", range.low, range.high)?;
-        condition(out, view, definition.within, TOP, &range.when)?;
+    fn definition(&mut self, definition: &'l Definition, about: About) {
+        let layout = self.layout;
+        let within = definition.within;
+        match about {
+            About::Dependencies => self.condition("dep ", within, TOP, None),
+            About::Prompts => self.prompt(within, &definition.prompt),
+            About::Defaults => {
+                for default in layout.defaults(definition) {
+                    let _ = write!(self.text, "default {:?} ", default.value);
+                    self.condition("", within, TOP, default.when.as_ref());
+                }
+            }
+            About::Ranges => {
+                for range in layout.ranges(definition) {
+                    let _ = write!(self.text, "range {:?} {:?} ", range.low, range.high);
+                    self.condition("", within, TOP, range.when.as_ref());
+                }
+            }
+        }
     }
-    Ok(())
-}
 
-// The symbols that select or imply, each after the word and with its condition, the last line given.
-fn reverses(
-    out: &mut String,
-    view: View<'_>,
-    word: &str,
-    last: Option<ReverseId>,
-) -> Result<(), AllocError> {
-    let mut lines = Vec::new(view.alloc);
-    let mut at = last;
-    // A line leads on to one with a smaller number.
-    let most = match last {
-        Some(id) => id.0 as usize + 1,
-        None => 0,
-    };
-    for _ in 0..most {
-        if let Some(id) = at {
-            let Some(line) = view.layout.reverse(id) else {
-                return Ok(());
+    // The symbols that select or imply, each after the word and with its condition, from the last line on.
+    fn reverses(&mut self, word: &str, last: Option<ReverseId>) {
+        let layout = self.layout;
+        let mut at = last;
+        // A line leads on to one with a smaller number.
+        let most = match last {
+            Some(id) => id.0 as usize + 1,
+            None => 0,
+        };
+        for _ in 0..most {
+            let Some(id) = at else {
+                return;
             };
-            lines.push(line)?;
-            at = line.next;
+            if let Some(line) = layout.reverse(id) {
+                if let Some(source) = layout.definition(line.source) {
+                    let _ = write!(self.text, "{word} {} ", source.symbol.0);
+                    self.condition("", source.within, TOP, line.when.as_ref());
+                }
+                at = line.next;
+            }
         }
     }
-    lines.reverse();
-    for line in &lines {
-        if let Some(source) = view.layout.definition(line.source) {
-            write!(out, "{word} {} ", source.symbol.0)?;
-            condition(out, view, source.within, TOP, &line.when)?;
+
+    fn symbol(&mut self, id: SymId, symbol: &'l Symbol) {
+        let layout = self.layout;
+        let _ = write!(self.text, "{:?} {:?}\n", symbol.kind, symbol.choice);
+        for about in ALL {
+            for i in 0..symbol.definition_count() {
+                if let Some(definition) = layout.definition_of(symbol, i) {
+                    self.definition(definition, *about);
+                }
+            }
+        }
+        self.reverses("selected by", layout.last_select(id));
+        self.reverses("implied by", layout.last_imply(id));
+    }
+
+    fn choice(&mut self, choice: &'l Choice) {
+        let _ = write!(self.text, "choice of {:?}\n", choice.members);
+        self.prompt(choice.within, &choice.prompt);
+        for default in &choice.defaults {
+            let _ = write!(self.text, "default {} ", default.member.0);
+            self.condition("", choice.within, TOP, default.when.as_ref());
         }
     }
-    Ok(())
-}
 
-// What a tree says of a symbol.
-fn symbol(out: &mut String, view: View<'_>, id: SymId, symbol: &Symbol) -> Result<(), AllocError> {
-    write!(out, "{:?} {:?}\n", symbol.kind, symbol.choice)?;
-    let all = definitions(view, symbol)?;
-    dependencies(out, view, &all)?;
-    for definition in &all {
-        prompt(out, view, definition.within, &definition.prompt)?;
-    }
-    for definition in &all {
-        defaults(out, view, definition)?;
-    }
-    for definition in &all {
-        ranges(out, view, definition)?;
-    }
-    reverses(out, view, "selected by", view.layout.last_select(id))?;
-    reverses(out, view, "implied by", view.layout.last_imply(id))
-}
-
-// What a tree says of a choice.
-fn choice(out: &mut String, view: View<'_>, choice: &Choice) -> Result<(), AllocError> {
-    write!(out, "choice of {:?}\n", choice.members)?;
-    prompt(out, view, choice.within, &choice.prompt)?;
-    for default in &choice.defaults {
-        write!(out, "default {} ", default.member.0)?;
-        condition(out, view, choice.within, TOP, &default.when)?;
-    }
-    Ok(())
-}
-
-// What is shown under a condition; its text by the length.
-fn shown(out: &mut String, view: View<'_>, word: &str, title: TitleId) -> Result<(), AllocError> {
-    match view.layout.title(title) {
-        Some(title) => {
-            write!(out, "[{word} of {}] ", title.text.len())?;
-            condition(out, view, title.within, title.visible, &None)
-        }
-        None => Ok(()),
-    }
-}
-
-fn entry(out: &mut String, view: View<'_>, entry: &ShownEntry) -> Result<(), AllocError> {
-    match entry {
-        ShownEntry::Symbol(id) => write!(out, "[{}]\n", id.0),
-        ShownEntry::Menu(title) => shown(out, view, "menu", *title),
-        ShownEntry::End(menu) => write!(out, "[end of {menu}]\n"),
-        ShownEntry::Comment(title) => shown(out, view, "comment", *title),
-    }
-}
-
-fn symbols(out: &mut String, view: View<'_>, tree: &Tree) -> Result<(), AllocError> {
-    for i in 0..tree.symbol_count() {
-        if let Some(facts) = tree.facts(tree.symbol(i)) {
-            symbol(out, view, tree.symbol(i), facts)?;
+    // An entry; the text of a menu or a comment by its length, with the condition under which it is shown.
+    fn entry(&mut self, entry: &ShownEntry) {
+        let layout = self.layout;
+        let (word, number, title) = match entry {
+            ShownEntry::Symbol(id) => ("", id.0, None),
+            ShownEntry::End(menu) => ("end of ", *menu as usize, None),
+            ShownEntry::Menu(id) => ("menu of ", 0, layout.title(*id)),
+            ShownEntry::Comment(id) => ("comment of ", 0, layout.title(*id)),
+        };
+        match title {
+            None => {
+                let _ = write!(self.text, "[{word}{number}]\n");
+            }
+            Some(title) => {
+                let _ = write!(self.text, "[{word}{}]", title.text.len());
+                self.condition(" ", title.within, title.visible, None);
+            }
         }
     }
-    Ok(())
+
+    fn tree(&mut self, tree: &'l Tree) {
+        for i in 0..tree.symbol_count() {
+            if let Some(symbol) = tree.facts(SymId(i)) {
+                self.symbol(SymId(i), symbol);
+            }
+        }
+        for choice in tree.choices() {
+            self.choice(choice);
+        }
+        for entry in tree.entries() {
+            self.entry(entry);
+        }
+    }
 }
 
-// All that a tree says, but for its names and warnings.
-fn picture(alloc: Global, out: &mut String, tree: &Tree) -> Result<(), AllocError> {
-    let layout = tree.layout();
-    let view = View { alloc, layout };
-    symbols(out, view, tree)?;
-    for facts in tree.choices() {
-        choice(out, view, facts)?;
-    }
-    for part in tree.entries() {
-        entry(out, view, part)?;
-    }
-    Ok(())
+// Whether the tree has this picture.
+fn has_picture(alloc: Global, tree: &Tree, want: &str) -> bool {
+    let mut picture = Picture {
+        layout: tree.layout(),
+        parts: Vec::new(alloc),
+        text: String::new(alloc),
+    };
+    picture.tree(tree);
+    picture.text.as_str() == want
 }
 
-// The picture of a tree, or its refusal.
-fn picture_of(
-    alloc: Global,
-    out: &mut String,
-    built: &Result<Tree, Refusal>,
-) -> Result<(), AllocError> {
-    match built {
-        Ok(tree) => picture(alloc, out, tree),
-        Err(refusal) => write!(out, "{refusal:?}"),
+// Adds the tree's warnings, each with a line's end.
+fn warnings_into(tree: &Tree, text: &mut String) {
+    for warning in tree.parse_warnings() {
+        letters_into(warning, text);
+        let _ = text.push('\n');
     }
+}
+
+// Whether the tree has these warnings.
+fn has_warnings(alloc: Global, tree: &Tree, want: &str) -> bool {
+    let mut text = String::new(alloc);
+    warnings_into(tree, &mut text);
+    text.as_str() == want
+}
+
+fn is_refusal(alloc: Global, refusal: &Refusal, want: &str) -> bool {
+    let mut text = String::new(alloc);
+    refusal_into(refusal, &mut text);
+    text.as_str() == want
+}
+
+// What is looked at of a tree.
+#[derive(Clone, Copy)]
+enum Part {
+    Picture,
+    Warnings,
+    Names,
+    NoNames,
+    Counts,
+}
+
+// Two symbols are numbered before a name that is not defined.
+fn has_names(tree: &Tree) -> bool {
+    tree.symbol_count() == 2
+        && tree.name_count() == 3
+        && tree.find(b"B") == Some(SymId(0))
+        && tree.find(b"A") == Some(SymId(1))
+        && tree.find(b"Q") == Some(SymId(2))
+        && tree.find(b"MODULES").is_none()
+        && tree.facts(SymId(2)).is_none()
+        && tree.modules_symbol() == Some(SymId(1))
+}
+
+// Whether the tree says what is wanted. Of its names and counts the main menu's title is wanted, or the second name.
+fn says(alloc: Global, tree: &Tree, part: Part, want: &str) -> bool {
+    match part {
+        Part::Picture => has_picture(alloc, tree, want),
+        Part::Warnings => has_warnings(alloc, tree, want),
+        Part::Names => has_names(tree) && tree.main_menu() == want.as_bytes(),
+        Part::NoNames => {
+            tree.symbol_count() == 0
+                && tree.modules_symbol() == None
+                && tree.main_menu() == want.as_bytes()
+        }
+        Part::Counts => {
+            tree.symbol_count() == 2
+                && tree.entries().len() == 4
+                && tree.name(tree.symbol(1)) == want.as_bytes()
+                && tree.modules_symbol() == None
+        }
+    }
+}
+
+// The text of `Kconfig`, that of `a`, and what is wanted of the tree.
+type Row = (&'static str, &'static str, &'static str);
+
+// Whether a tree says what is wanted, or its refusal does.
+fn is_told(alloc: Global, built: &Result<Tree, Refusal>, part: Option<Part>, want: &str) -> bool {
+    match (built, part) {
+        (Ok(tree), Some(part)) => says(alloc, tree, part, want),
+        (Err(refusal), None) => is_refusal(alloc, refusal, want),
+        _ => false,
+    }
+}
+
+// Whether the row's files give what is wanted: a part of their tree, or a refusal.
+fn holds(alloc: Global, row: &Row, part: Option<Part>) -> bool {
+    let mut map = FileMap::new(alloc);
+    let files = &[("Kconfig", row.0.as_bytes()), ("a", row.1.as_bytes())];
+    let is_put = put_all(alloc, &mut map, files).is_ok();
+    let built = build_tree(alloc, &map, b"Kconfig");
+    is_put && is_told(alloc, &built, part, row.2)
 }
 
 // The text of `Kconfig`, that of `a`, and the tree's picture.
-const PICTURES: &[(&str, &str, &str)] = &[
+const PICTURES: &[Row] = &[
     // a dependency
     (
         "config A\n\tbool \"a\"\n\tdefault y\n\nconfig B\n\tbool \"b\"\n\tdepends on A\n",
@@ -375,37 +399,15 @@ const PICTURES: &[(&str, &str, &str)] = &[
     ),
 ];
 
-fn text_is(rt: &impl Abort, root: &str, text: &str, want: &str) {
-    assert!(rt; text == want, "{root}: {text}");
-}
-
-fn picture_is(
-    rt: &impl Abort,
-    alloc: Global,
-    root: &str,
-    other: &str,
-    want: &str,
-) -> Result<(), Fail> {
-    let built = build(alloc, &[("Kconfig", root), ("a", other)])?;
-    let mut text = String::new(alloc);
-    let done = picture_of(alloc, &mut text, &built);
-    drop(built);
-    text_is(rt, root, &text, want);
-    drop(text);
-    done?;
-    Ok(())
-}
-
 #[test]
-fn trees_say_what_their_files_say(rt: HostRuntime) -> Result<(), Fail> {
-    for (root, other, want) in PICTURES {
-        picture_is(&rt, rt.alloc(), root, other, want)?;
+fn trees_say_what_their_files_say(rt: HostRuntime) {
+    for row in PICTURES {
+        assert!(rt; holds(rt.alloc(), row, Some(Part::Picture)), "{}", row.0);
     }
-    Ok(())
 }
 
 // The text of `Kconfig`, that of `a`, and the warnings, each with a line's end.
-const WARNED: &[(&str, &str, &str)] = &[
+const WARNED: &[Row] = &[
     (
         "config A\nbool \"a\"\nstring \"s\"\nconfig B\nconfig C\ndef_bool y\nselect D\nimply D\nselect E\nconfig D\nint \"d\"\nchoice\nprompt \"ch\"\ndefault C\nconfig E\nbool \"e\"\nendchoice\n",
         "",
@@ -460,299 +462,140 @@ const WARNED: &[(&str, &str, &str)] = &[
     ("config A\nbool \"a\"\nhelp\n  config B\n", "", ""),
 ];
 
-// A tree's warnings, each with a line's end, or its refusal.
-fn warnings_of(out: &mut Vec<u8>, built: &Result<Tree, Refusal>) -> Result<(), AllocError> {
-    let Ok(tree) = built else {
-        return out.extend_from_slice(b"refused");
-    };
-    for warning in tree.parse_warnings() {
-        out.extend_from_slice(warning)?;
-        out.extend_from_slice(b"\n")?;
-    }
-    Ok(())
-}
-
-fn warnings_match(rt: &impl Abort, root: &str, said: &[u8], want: &str) {
-    assert!(rt; said == want.as_bytes(), "{root}");
-}
-
-fn warnings_are(
-    rt: &impl Abort,
-    alloc: Global,
-    root: &str,
-    other: &str,
-    want: &str,
-) -> Result<(), Fail> {
-    let built = build(alloc, &[("Kconfig", root), ("a", other)])?;
-    let mut said = Vec::new(alloc);
-    let done = warnings_of(&mut said, &built);
-    drop(built);
-    warnings_match(rt, root, &said, want);
-    drop(said);
-    done?;
-    Ok(())
-}
-
 #[test]
-fn warnings_come_in_the_order_of_the_lines(rt: HostRuntime) -> Result<(), Fail> {
-    for (root, other, want) in WARNED {
-        warnings_are(&rt, rt.alloc(), root, other, want)?;
+fn warnings_come_in_the_order_of_the_lines(rt: HostRuntime) {
+    for row in WARNED {
+        assert!(rt; holds(rt.alloc(), row, Some(Part::Warnings)), "{}", row.0);
     }
-    Ok(())
 }
 
-// The text of `Kconfig`, that of `a`, and the refusal: its code, file, line and detail.
-const REFUSALS: &[(&str, &str, Code, &str, u32, &str)] = &[
+// The text of `Kconfig`, that of `a`, and the refusal: its file, line, code and detail.
+const REFUSALS: &[Row] = &[
     (
         "choice\nprompt \"c\"\nconfig A\ntristate \"a\"\nendchoice\n",
         "",
-        Code::ChoiceMember,
-        "Kconfig",
-        3,
-        "A",
+        "Kconfig:3 ChoiceMember A",
     ),
     (
         "config A\nint \"a\"\nchoice\nprompt \"c\"\nconfig A\nbool\nendchoice\n",
         "",
-        Code::ChoiceMember,
-        "Kconfig",
-        5,
-        "A",
+        "Kconfig:5 ChoiceMember A",
     ),
     (
         "choice\nconfig A\nendchoice\nconfig A\ntristate\n",
         "",
-        Code::ChoiceMember,
-        "Kconfig",
-        2,
-        "A",
+        "Kconfig:2 ChoiceMember A",
     ),
     (
         "choice\nconfig A\nendchoice\nconfig B\nbool\nconfig A\n",
         "",
-        Code::ChoiceMember,
-        "Kconfig",
-        6,
-        "A",
+        "Kconfig:6 ChoiceMember A",
     ),
     (
         "choice\nif y\nconfig A\nint\nendif\nendchoice\n",
         "",
-        Code::ChoiceMember,
-        "Kconfig",
-        3,
-        "A",
+        "Kconfig:3 ChoiceMember A",
     ),
     (
         "source \"a\"\nsource \"a\"\n",
         "choice\nconfig A\nbool \"a\"\nendchoice\n",
-        Code::ChoiceMember,
-        "a",
-        2,
-        "A",
+        "a:2 ChoiceMember A",
     ),
     (
         "choice\nsource \"a\"\nendchoice\n",
         "config A\nhex \"a\"\n",
-        Code::ChoiceMember,
-        "a",
-        1,
-        "A",
+        "a:1 ChoiceMember A",
     ),
     (
         "config S\nstring \"s\"\ndefault A && B\n",
         "",
-        Code::BadDefault,
-        "Kconfig",
-        3,
-        "S",
+        "Kconfig:3 BadDefault S",
     ),
     (
         "config S\nhex\ndefault ((\"x\"))\ndefault !A\nconfig T\nint\ndefault A = B\n",
         "",
-        Code::BadDefault,
-        "Kconfig",
-        4,
-        "S",
+        "Kconfig:4 BadDefault S",
     ),
     (
         "config S\ndef_bool A && B\nconfig T\nhex\ndef_bool A && B\n",
         "",
-        Code::BadDefault,
-        "Kconfig",
-        5,
-        "T",
+        "Kconfig:5 BadDefault T",
     ),
     (
         "config S\ndefault A || B\nconfig S\nint\n",
         "",
-        Code::BadDefault,
-        "Kconfig",
-        2,
-        "S",
+        "Kconfig:2 BadDefault S",
     ),
     (
         "choice\nprompt \"c\"\ndefault \"A\"\nconfig A\nbool \"a\"\nendchoice\n",
         "",
-        Code::BadDefault,
-        "Kconfig",
-        3,
-        "choice",
+        "Kconfig:3 BadDefault choice",
     ),
     (
         "choice\ndefault (A)\ndefault n\nconfig A\nendchoice\n",
         "",
-        Code::BadDefault,
-        "Kconfig",
-        3,
-        "choice",
+        "Kconfig:3 BadDefault choice",
     ),
     (
         "choice\ndefault A && A\nconfig A\nendchoice\n",
         "",
-        Code::BadDefault,
-        "Kconfig",
-        2,
-        "choice",
+        "Kconfig:2 BadDefault choice",
     ),
     (
         "config S\nstring \"s\"\ndefault A && B\nchoice\nprompt \"c\"\nconfig T\ntristate \"t\"\nendchoice\n",
         "",
-        Code::ChoiceMember,
-        "Kconfig",
-        6,
-        "T",
+        "Kconfig:6 ChoiceMember T",
     ),
     (
         "choice\nconfig A\nint\nconfig B\ntristate\nendchoice\nconfig A\n",
         "",
-        Code::ChoiceMember,
-        "Kconfig",
-        2,
-        "A",
+        "Kconfig:2 ChoiceMember A",
     ),
     (
         "config S\nstring\ndefault A && B\nendif\n",
         "",
-        Code::Block,
-        "Kconfig",
-        4,
-        "",
+        "Kconfig:4 Block",
     ),
     (
         "choice\nconfig A\nint\nendchoice\nfoo\n",
         "",
-        Code::Syntax,
-        "Kconfig",
-        5,
-        "",
+        "Kconfig:5 Syntax",
     ),
-    ("choice\nconfig A\nint\n", "", Code::Block, "Kconfig", 1, ""),
-    ("source \"b\"\n", "", Code::NoFile, "Kconfig", 1, "b"),
+    ("choice\nconfig A\nint\n", "", "Kconfig:1 Block"),
+    ("source \"b\"\n", "", "Kconfig:1 NoFile b"),
 ];
 
-fn place_is(rt: &impl Abort, root: &str, refusal: &Refusal, file: &str, line: u32) {
-    match &refusal.location {
-        Some((name, number)) => {
-            assert!(rt; name.as_slice() == file.as_bytes(), "{root}");
-            assert!(rt; *number == line, "{root}");
-        }
-        None => assert!(rt; false, "no place: {root}"),
+#[test]
+fn refusals_come_in_their_order(rt: HostRuntime) {
+    for row in REFUSALS {
+        assert!(rt; holds(rt.alloc(), row, None), "{}", row.0);
     }
 }
 
-fn refusal_is(rt: &impl Abort, root: &str, refusal: &Refusal, code: Code, detail: &str) {
-    assert!(rt; refusal.code == code, "{root}");
-    assert!(rt; refusal.detail.as_slice() == detail.as_bytes(), "{root}");
-}
-
-// A refusal: its code, file, line and detail.
-type Wanted = (Code, &'static str, u32, &'static str);
-
-fn refused_is(rt: &impl Abort, root: &str, built: &Result<Tree, Refusal>, want: Wanted) {
-    let (code, file, line, detail) = want;
-    match built {
-        Ok(_) => assert!(rt; false, "accepted: {root}"),
-        Err(refusal) => {
-            refusal_is(rt, root, refusal, code, detail);
-            place_is(rt, root, refusal, file, line);
-        }
-    }
-}
+// Trees, and of the first two the title of the main menu, of the last the second name.
+const NAMED: &[(Part, Row)] = &[
+    (
+        Part::Names,
+        (
+            "mainmenu \"first\"\nif Q\nconfig B\nbool \"b\"\nconfig A\nbool \"a\"\nmodules\nendif\nmainmenu \"last\"\n",
+            "",
+            "last",
+        ),
+    ),
+    (Part::NoNames, ("", "", "Main menu")),
+    (
+        Part::Counts,
+        (
+            "config A\n\tbool \"a\"\nmenu \"m\"\nconfig B\n\ttristate\n\tdepends on A\nendmenu\n",
+            "",
+            "B",
+        ),
+    ),
+];
 
 #[test]
-fn refusals_come_in_their_order(rt: HostRuntime) -> Result<(), Fail> {
-    for (root, other, code, file, line, detail) in REFUSALS {
-        let built = build(rt.alloc(), &[("Kconfig", root), ("a", other)])?;
-        refused_is(&rt, root, &built, (*code, file, *line, detail));
-        drop(built);
+fn names_are_numbered_by_definition(rt: HostRuntime) {
+    for (part, row) in NAMED {
+        assert!(rt; holds(rt.alloc(), row, Some(*part)), "{}", row.0);
     }
-    Ok(())
-}
-
-fn names_are(rt: &impl Abort, tree: &Tree) {
-    assert!(rt; tree.find(b"B") == Some(SymId(0)));
-    assert!(rt; tree.find(b"A") == Some(SymId(1)));
-    assert!(rt; tree.find(b"Q") == Some(SymId(2)));
-    assert!(rt; tree.find(b"MODULES").is_none());
-    assert!(rt; tree.facts(SymId(2)).is_none());
-}
-
-fn named_tree_is(rt: &impl Abort, built: &Result<Tree, Refusal>) {
-    match built {
-        Ok(tree) => {
-            assert!(rt; tree.symbol_count() == 2);
-            assert!(rt; tree.name_count() == 3);
-            names_are(rt, tree);
-            assert!(rt; tree.modules_symbol() == Some(SymId(1)));
-            assert!(rt; tree.main_menu() == b"last".as_slice());
-        }
-        Err(refusal) => assert!(rt; false, "{refusal:?}"),
-    }
-}
-
-fn empty_tree_is(rt: &impl Abort, built: &Result<Tree, Refusal>) {
-    match built {
-        Ok(tree) => {
-            assert!(rt; tree.symbol_count() == 0);
-            assert!(rt; tree.modules_symbol() == None);
-            assert!(rt; tree.main_menu() == b"Main menu".as_slice());
-        }
-        Err(refusal) => assert!(rt; false, "{refusal:?}"),
-    }
-}
-
-#[test]
-fn names_are_numbered_by_definition(rt: HostRuntime) -> Result<(), Fail> {
-    let root =
-        "mainmenu \"first\"\nif Q\nconfig B\nbool \"b\"\nconfig A\nbool \"a\"\nmodules\nendif\nmainmenu \"last\"\n";
-    let named = build(rt.alloc(), &[("Kconfig", root), ("a", "")])?;
-    named_tree_is(&rt, &named);
-    drop(named);
-    let empty = build(rt.alloc(), &[("Kconfig", ""), ("a", "")])?;
-    empty_tree_is(&rt, &empty);
-    drop(empty);
-    Ok(())
-}
-
-fn built_tree_is(rt: &impl Abort, built: &Result<Tree, Refusal>) {
-    match built {
-        Ok(tree) => {
-            assert!(rt; tree.symbol_count() == 2);
-            assert!(rt; tree.entries().len() == 4);
-            assert!(rt; tree.name(tree.symbol(1)) == b"B".as_slice());
-            assert!(rt; tree.modules_symbol() == None);
-        }
-        Err(_) => assert!(rt; false, "refused"),
-    }
-}
-
-#[test]
-fn a_tree_is_built(rt: HostRuntime) -> Result<(), Fail> {
-    let text =
-        "config A\n\tbool \"a\"\nmenu \"m\"\nconfig B\n\ttristate\n\tdepends on A\nendmenu\n";
-    let built = build(rt.alloc(), &[("Kconfig", text)])?;
-    built_tree_is(&rt, &built);
-    drop(built);
-    Ok(())
 }
