@@ -1,77 +1,68 @@
 //! A tree that is cut after each byte.
-use crate::one_input::{ROOM, run_whole};
-use crate::trees::menus;
+use crate::runs::{WHOLE, Want, tree_leaves};
+use crate::trees::MENUS;
 use kc_conf::Status;
-use kc_memory::{MemoryInput, MemoryOutputs, files};
+use kc_memory::{MemoryInput, MemoryOutputs};
 use std::alloc::Global;
-use std::process::Abort;
 use std::test::Fail;
 
 fn line_ends(text: &[u8]) -> usize {
-    text.iter().filter(|byte| **byte == b'\n').count()
+    let mut ends = 0_usize;
+    for byte in text {
+        if *byte == b'\n' {
+            ends = ends.saturating_add(1);
+        }
+    }
+    ends
 }
 
-// All outputs were begun.
-fn is_done(rt: &impl Abort, outputs: &MemoryOutputs) {
-    assert!(rt;
-        outputs.config.is_begun() && outputs.header.is_begun() && outputs.minimal.is_begun()
-    );
+/// Whether the run is done, and begun were all outputs but the rule for make, which is not looked at.
+pub(crate) fn is_accepted(outputs: &MemoryOutputs, ended: (Status, u64)) -> bool {
+    ended.0 == Status::Done
+        && outputs.config.is_begun()
+        && outputs.header.is_begun()
+        && outputs.minimal.is_begun()
 }
 
-// One line says why, and no output was begun.
-fn is_refused(rt: &impl Abort, outputs: &MemoryOutputs) {
+/// Whether the run is refused with nothing read, one line says why, and no output was begun.
+pub(crate) fn is_refused_in_one_line(outputs: &MemoryOutputs, ended: (Status, u64)) -> bool {
     let notes = outputs.notes.bytes.as_slice();
-    assert!(rt; notes.starts_with(b"Kconfig:") && notes.ends_with(b"\n"));
-    assert_eq!(rt; line_ends(notes), 1);
-    assert!(rt;
-        !outputs.config.is_begun() && !outputs.header.is_begun() && !outputs.minimal.is_begun()
-    );
+    ended.0 == Status::Refused
+        && ended.1 == 0
+        && notes.starts_with(b"Kconfig:")
+        && notes.ends_with(b"\n")
+        && line_ends(notes) == 1
+        && !outputs.config.is_begun()
+        && !outputs.header.is_begun()
+        && !outputs.minimal.is_begun()
 }
 
-// The run over this tree, whose status and reads are told.
-fn run_of(
-    alloc: Global,
-    kconfig: &[u8],
-    outputs: &mut MemoryOutputs,
-) -> Result<(Status, u64), Fail> {
-    let files = files(alloc, "Kconfig", kconfig, &[])?;
-    run_whole(alloc, &files, MemoryInput::new(b"", 6, 6), outputs)
+// Whether the run over this tree leaves what is wanted.
+fn cut_leaves(alloc: Global, tree: &[u8], want: &Want<'_>) -> Result<bool, Fail> {
+    tree_leaves(alloc, tree, MemoryInput::new(b"", 6, 6), WHOLE, want)
 }
 
-// The tree is accepted, or refused in one line with nothing read. The answer is whether it is accepted.
-fn is_done_or_refused(rt: &impl Abort, alloc: Global, kconfig: &[u8]) -> Result<bool, Fail> {
-    let mut outputs = MemoryOutputs::new(alloc, ROOM)?;
-    match run_of(alloc, kconfig, &mut outputs) {
-        Ok((Status::Done, _)) => {
-            is_done(rt, &outputs);
-            Ok(true)
+// How many cuts of the tree are accepted, where each other one is refused in one line, and the whole tree is accepted.
+fn accepted_cuts(alloc: Global, tree: &[u8]) -> Result<Option<usize>, Fail> {
+    let mut accepted = 0_usize;
+    for end in 0..tree.len() {
+        if cut_leaves(alloc, &tree[..end], &Want::Accepted)? {
+            accepted = accepted.saturating_add(1);
+        } else if !cut_leaves(alloc, &tree[..end], &Want::Refused)? {
+            return Ok(None);
         }
-        Ok(ended) => {
-            is_refused(rt, &outputs);
-            drop(outputs);
-            assert_eq!(rt; ended, (Status::Refused, 0));
-            Ok(false)
-        }
-        Err(fail) => {
-            drop(outputs);
-            Err(fail)
-        }
+    }
+    if cut_leaves(alloc, tree, &Want::Accepted)? {
+        Ok(Some(accepted))
+    } else {
+        Ok(None)
     }
 }
 
 #[test]
 fn a_tree_cut_anywhere_is_done_or_refused_in_one_line(rt: HostRuntime) -> Result<(), Fail> {
-    let tree = menus();
-    let mut done = 0u32;
-    let mut refused = 0u32;
-    for end in 0..tree.len() {
-        if is_done_or_refused(&rt, rt.alloc(), &tree[..end])? {
-            done = done.saturating_add(1);
-        } else {
-            refused = refused.saturating_add(1);
-        }
-    }
+    let done = accepted_cuts(rt.alloc(), MENUS.as_bytes())?.unwrap_or(0);
+    let refused = MENUS.len().saturating_sub(done);
     assert!(rt; done > 10 && refused > 50, "{done} {refused}");
-    assert!(rt; is_done_or_refused(&rt, rt.alloc(), tree)?);
     Ok(())
 }

@@ -3,23 +3,17 @@
 #![tactic(auto)]
 
 #[cfg(test)]
-mod chain;
-#[cfg(test)]
 mod cuts;
 #[cfg(test)]
-mod long_lines;
-#[cfg(test)]
-mod long_values;
-#[cfg(test)]
-mod many_lines;
-#[cfg(test)]
-mod many_symbols;
-#[cfg(test)]
-mod one_input;
+mod limits;
 #[cfg(test)]
 mod rooms;
 #[cfg(test)]
+mod rows;
+#[cfg(test)]
 mod runs;
+#[cfg(test)]
+mod texts;
 #[cfg(test)]
 mod trees;
 #[cfg(test)]

@@ -1,125 +1,111 @@
 //! Single faults, with the texts that are left.
-use crate::one_input::{ROOM, is_so, is_text, run_whole, run_with};
-use crate::trees::two;
-use kc_conf::Status;
-use kc_memory::{MemoryInput, MemoryOutputs, config_text, files};
-use std::alloc::Global;
-use std::process::Abort;
+use crate::limits::TWO_CONFIG;
+use crate::rows::{PLAIN_ROW, Row, holds};
+use crate::runs::{ALL, BARE, Setup};
+use crate::texts::{EMPTY, Text};
+use crate::trees::TWO;
+use kc_conf::{Output, Status};
+use kc_memory::{PLAIN, RunRequest};
 use std::test::Fail;
 
-// The run over this tree, with a header where it is wanted.
-fn run_tree(
-    alloc: Global,
-    kconfig: &[u8],
-    header: Option<&str>,
-    input: MemoryInput,
-    struck: &mut MemoryOutputs,
-) -> Result<(Status, u64), Fail> {
-    let files = files(alloc, "Kconfig", kconfig, &[])?;
-    run_with(alloc, &files, header, None, input, struck)
-}
+// A tree of two symbols, whose `.config` comes in small pieces, and a fault.
+const STRUCK: Row = Row {
+    kconfig: Text {
+        before: TWO,
+        ..EMPTY
+    },
+    from: 5,
+    to: 6,
+    later: 6,
+    status: Status::Faulted,
+    ..PLAIN_ROW
+};
 
-// The `.config` and the notes hold these texts, and no other output was begun.
-fn are_left(rt: &impl Abort, struck: &MemoryOutputs, config: &[u8], notes: &[u8], name: &str) {
-    is_text(rt, &struck.config.bytes, config, name);
-    is_so(
-        rt,
-        !struck.header.is_begun() && !struck.minimal.is_begun(),
-        name,
-    );
-    is_text(rt, &struck.notes.bytes, notes, name);
-}
+// With a `.config` that has room for ten bytes.
+const NO_ROOM: Row = Row {
+    name: "an output without room holds a beginning",
+    setup: Setup {
+        request: RunRequest {
+            header: Some("out.h"),
+            ..PLAIN
+        },
+        config_room: 10,
+        ..BARE
+    },
+    config: Some(Text {
+        before: "#\n# Automa",
+        ..EMPTY
+    }),
+    notes: Text {
+        before: "error E19: cannot write .config\n",
+        ..EMPTY
+    },
+    ..STRUCK
+};
 
-// The run over this tree whose `.config` has room for ten bytes.
-fn holds_a_beginning(
-    rt: &impl Abort,
-    alloc: Global,
-    kconfig: &[u8],
-    header: Option<&str>,
-) -> Result<(), Fail> {
-    let mut struck = MemoryOutputs::new(alloc, ROOM)?;
-    struck.config.room = 10;
-    let input = MemoryInput::new(b"", 6, 6);
-    let ended = run_tree(alloc, kconfig, header, input, &mut struck);
-    let line = b"error E19: cannot write .config\n";
-    are_left(rt, &struck, b"#\n# Automa", line, "no room");
-    drop(struck);
-    let (status, _reads) = ended?;
-    assert_eq!(rt; status, Status::Faulted);
-    Ok(())
-}
+const ROWS: &[Row] = &[
+    NO_ROOM,
+    Row {
+        name: "an output without room holds a beginning, in an empty tree without a header",
+        kconfig: EMPTY,
+        setup: Setup {
+            config_room: 10,
+            ..BARE
+        },
+        ..NO_ROOM
+    },
+    Row {
+        name: "a read fails behind a warning",
+        settings: Text {
+            before: "CONFIG_Q=y\n",
+            ..EMPTY
+        },
+        from: 99,
+        to: 100,
+        later: 100,
+        failed_read: 2,
+        reads: Some(2),
+        notes: Text {
+            before: ".config:1: warning K7: unknown symbol Q\nerror E18: cannot read .config\n",
+            ..EMPTY
+        },
+        ..STRUCK
+    },
+    Row {
+        name: "a header that cannot be begun leaves the .config whole",
+        setup: Setup {
+            request: RunRequest {
+                header: Some("inc.h"),
+                ..PLAIN
+            },
+            output: Output::Header,
+            fail_at: 1,
+            ..BARE
+        },
+        config: Some(TWO_CONFIG),
+        notes: Text {
+            before: "error E19: cannot write inc.h\n",
+            ..EMPTY
+        },
+        ..STRUCK
+    },
+    Row {
+        name: "nothing is told where the notes fail too",
+        failed_read: 1,
+        setup: Setup {
+            output: Output::Notes,
+            fail_at: 1,
+            ..ALL
+        },
+        note_calls: Some(1),
+        ..STRUCK
+    },
+];
 
 #[test]
-fn an_output_without_room_holds_a_beginning(rt: HostRuntime) -> Result<(), Fail> {
-    holds_a_beginning(&rt, rt.alloc(), two(), Some("out.h"))?;
-    holds_a_beginning(&rt, rt.alloc(), b"", None)
-}
-
-#[test]
-fn a_read_fails_behind_a_warning(rt: HostRuntime) -> Result<(), Fail> {
-    let mut input = MemoryInput::new(b"CONFIG_Q=y\n", 100, 100);
-    input.fail_at = 2;
-    let mut struck = MemoryOutputs::new(rt.alloc(), ROOM)?;
-    let ended = run_tree(rt.alloc(), two(), None, input, &mut struck);
-    let notes = b".config:1: warning K7: unknown symbol Q\nerror E18: cannot read .config\n";
-    are_left(&rt, &struck, b"", notes, "a failed read");
-    is_so(&rt, !struck.config.is_begun(), "a failed read");
-    drop(struck);
-    assert_eq!(rt; ended?, (Status::Faulted, 2));
-    Ok(())
-}
-
-// The `.config` is whole, and the header could not be begun.
-fn has_no_header(rt: &impl Abort, alloc: Global, struck: &MemoryOutputs) -> Result<(), Fail> {
-    let text = b"CONFIG_A=y\n# CONFIG_B is not set\n";
-    let config = config_text(alloc, b"Main menu", text)?;
-    let line = b"error E19: cannot write inc.h\n";
-    are_left(rt, struck, &config, line, "no header");
-    Ok(())
-}
-
-#[test]
-fn a_header_that_cannot_be_begun_leaves_the_config_whole(rt: HostRuntime) -> Result<(), Fail> {
-    let mut struck = MemoryOutputs::new(rt.alloc(), ROOM)?;
-    struck.header.fail_at = 1;
-    let input = MemoryInput::new(b"", 6, 6);
-    let ended = run_tree(rt.alloc(), two(), Some("inc.h"), input, &mut struck);
-    match ended {
-        Ok((status, _reads)) => {
-            let left = has_no_header(&rt, rt.alloc(), &struck);
-            drop(struck);
-            assert_eq!(rt; status, Status::Faulted);
-            left
-        }
-        Err(fail) => {
-            drop(struck);
-            Err(fail)
-        }
+fn single_faults_leave_what_they_should(rt: HostRuntime) -> Result<(), Fail> {
+    for row in ROWS {
+        assert!(rt; holds(rt.alloc(), row)?, "{}", row.name);
     }
-}
-
-// The run over two symbols, with all outputs.
-fn run_two(
-    alloc: Global,
-    input: MemoryInput,
-    struck: &mut MemoryOutputs,
-) -> Result<(Status, u64), Fail> {
-    let files = files(alloc, "Kconfig", two(), &[])?;
-    run_whole(alloc, &files, input, struck)
-}
-
-#[test]
-fn nothing_is_told_where_the_notes_fail_too(rt: HostRuntime) -> Result<(), Fail> {
-    let mut input = MemoryInput::new(b"", 6, 6);
-    input.fail_at = 1;
-    let mut struck = MemoryOutputs::new(rt.alloc(), ROOM)?;
-    struck.notes.fail_at = 1;
-    let ended = run_two(rt.alloc(), input, &mut struck);
-    is_text(&rt, &struck.notes.bytes, b"", "notes");
-    let is_quiet = struck.notes.calls == 1 && !struck.config.is_begun();
-    drop(struck);
-    assert!(rt; is_quiet);
-    let (status, _reads) = ended?;
-    assert_eq!(rt; status, Status::Faulted);
     Ok(())
 }

@@ -1,143 +1,137 @@
-//! Runs of long texts.
-ghost use Rattle.std.specs.Prelude.{◌<◌};
-
-use kc_conf::{FileMap, Status};
-use kc_memory::{MemoryInput, MemoryOutputs, PLAIN, RunRequest, config_text, run_once};
+//! Runs over memory, and whether they leave what is wanted.
+use crate::cuts::{is_accepted, is_refused_in_one_line};
+use crate::rows::{Made, Row, has_left};
+use crate::turns::{Strike, is_struck, is_whole};
+use kc_conf::{FileMap, Output, Status};
+use kc_memory::{MemoryInput, MemoryOutputs, PLAIN, RunRequest, files, run_once};
 use std::alloc::Global;
-use std::process::Abort;
 use std::test::Fail;
 
-/// What a run is over.
+/// What is asked of a run, and how its outputs take what it writes.
 #[derive(Clone, Copy)]
-pub(crate) struct Long<'a, 's> {
-    /// The files.
-    pub files: &'a FileMap,
-    /// The root file.
-    pub root: &'a str,
-    /// The `.config`.
-    pub settings: &'s [u8],
-    /// The minimal file, where it is wanted.
-    pub minimal: Option<&'a str>,
+pub(crate) struct Setup {
+    /// The request.
+    pub request: RunRequest<'static>,
     /// The room of each output.
     pub room: usize,
+    /// The room of the `.config`, where that is less.
+    pub config_room: usize,
+    /// Whether each write takes a few bytes only, so that each text takes many.
+    pub is_short: bool,
+    /// The output of which a call fails.
+    pub output: Output,
+    /// The call that fails, counted from 1; 0 for none.
+    pub fail_at: u64,
 }
 
-/// How a `.config` comes: the most bytes of the first read, and of each later one.
-#[derive(Clone, Copy)]
-pub(crate) struct Pieces {
-    /// Of the first read.
-    pub first: usize,
-    /// Of each later one.
-    pub later: usize,
-    ghost some: { 0 < first },
-    ghost some_later: { 0 < later },
-}
-
-/// In large pieces.
-pub(crate) const LARGE: Pieces = Pieces {
-    first: 1_000_000,
-    later: 1_000_000,
+/// Neither header, minimal file nor rule for make, and no call fails.
+pub(crate) const BARE: Setup = Setup {
+    request: PLAIN,
+    room: 4000,
+    config_room: usize::MAX,
+    is_short: false,
+    output: Output::Config,
+    fail_at: 0,
 };
 
-/// The run, with its status and how many reads it made.
-pub(crate) fn run_long(
-    alloc: Global,
-    long: &Long<'_, '_>,
-    pieces: Pieces,
-    outputs: &mut MemoryOutputs,
-) -> Result<(Status, u64), Fail> {
-    let request = RunRequest {
-        root: long.root,
-        minimal: long.minimal,
+/// All outputs, and no call fails.
+pub(crate) const ALL: Setup = Setup {
+    request: RunRequest {
+        header: Some("out.h"),
+        minimal: Some("min.config"),
+        depfile: Some("out.d"),
         ..PLAIN
-    };
-    let input = MemoryInput::new(long.settings, pieces.first, pieces.later);
-    run_once(alloc, long.files, &request, input, outputs)
+    },
+    ..BARE
+};
+
+/// The same, lent.
+pub(crate) const WHOLE: &Setup = &ALL;
+
+/// What a run is to leave.
+#[derive(Clone, Copy)]
+pub(crate) enum Want<'a> {
+    /// What the row says, with these texts.
+    Row(&'a Row, &'a Made),
+    /// This `.config`.
+    Config(&'a [u8]),
+    /// All outputs but the notes, each begun.
+    Accepted,
+    /// One line that says why, and nothing else.
+    Refused,
+    /// The texts of the turn, where the call was not made.
+    Whole(&'a Strike<'a>),
+    /// What the failure of the call leaves.
+    Struck(&'a Strike<'a>),
 }
 
-// These notes alone were written, and no output was begun.
-fn has_refused(rt: &impl Abort, status: Status, outputs: &MemoryOutputs, notes: &[u8]) {
-    assert_eq!(rt; status, Status::Refused);
-    assert_eq!(rt; outputs.notes.bytes.as_slice(), notes);
-    assert!(rt;
-        !outputs.config.is_begun() && !outputs.header.is_begun() && !outputs.minimal.is_begun()
-    );
+// Whether this is what was wanted.
+fn is_wanted(outputs: &MemoryOutputs, ended: (Status, u64), want: &Want<'_>) -> bool {
+    match want {
+        Want::Row(row, made) => has_left(outputs, ended, row, made),
+        Want::Config(config) => {
+            ended.0 == Status::Done && outputs.config.bytes.as_slice() == *config
+        }
+        Want::Accepted => is_accepted(outputs, ended),
+        Want::Refused => is_refused_in_one_line(outputs, ended),
+        Want::Whole(strike) => is_whole(outputs, ended, strike),
+        Want::Struck(strike) => is_struck(outputs, ended, strike),
+    }
 }
 
-/// The run is refused with these notes, and begins no output. The answer is how many reads it made.
-pub(crate) fn is_refused(
-    rt: &impl Abort,
+// Makes outputs without a fault those of this setup.
+fn prepare(outputs: &mut MemoryOutputs, setup: &Setup) {
+    outputs.config.room = setup.room.min(setup.config_room);
+    if setup.is_short {
+        outputs.config.piece = 16;
+        outputs.header.piece = 16;
+        outputs.minimal.piece = 5;
+        outputs.depfile.piece = 4;
+        outputs.notes.piece = 7;
+    }
+    match setup.output {
+        Output::Config => outputs.config.fail_at = setup.fail_at,
+        Output::Header => outputs.header.fail_at = setup.fail_at,
+        Output::Minimal => outputs.minimal.fail_at = setup.fail_at,
+        Output::Depfile => outputs.depfile.fail_at = setup.fail_at,
+        Output::Notes => outputs.notes.fail_at = setup.fail_at,
+    }
+}
+
+// Whether the run into these outputs leaves what is wanted.
+fn leaves_in(
     alloc: Global,
-    long: &Long<'_, '_>,
-    pieces: Pieces,
-    notes: &[u8],
-) -> Result<u64, Fail> {
-    let mut outputs = MemoryOutputs::new(alloc, long.room)?;
-    let (status, reads) = run_long(alloc, long, pieces, &mut outputs)?;
-    has_refused(rt, status, &outputs, notes);
-    Ok(reads)
+    files: &FileMap,
+    input: MemoryInput,
+    setup: &Setup,
+    want: &Want<'_>,
+    outputs: &mut MemoryOutputs,
+) -> Result<bool, Fail> {
+    prepare(outputs, setup);
+    let ended = run_once(alloc, files, &setup.request, input, outputs)?;
+    Ok(is_wanted(outputs, ended, want))
 }
 
-// This `.config` was written behind its heading, no header, and these notes.
-fn has_written(
-    rt: &impl Abort,
+/// Whether the run leaves what is wanted.
+pub(crate) fn leaves(
     alloc: Global,
-    outputs: &MemoryOutputs,
-    text: &[u8],
-    notes: &[u8],
-) -> Result<(), Fail> {
-    let config = config_text(alloc, b"Main menu", text)?;
-    assert!(rt; outputs.config.bytes == config);
-    assert!(rt; outputs.notes.bytes.as_slice() == notes);
-    assert!(rt; !outputs.header.is_begun());
-    Ok(())
+    files: &FileMap,
+    input: MemoryInput,
+    setup: &Setup,
+    want: &Want<'_>,
+) -> Result<bool, Fail> {
+    let mut outputs = MemoryOutputs::new(alloc, setup.room)?;
+    leaves_in(alloc, files, input, setup, want, &mut outputs)
 }
 
-/// The run writes this `.config` behind its heading, no header, and these notes. The answer is how many reads it made.
-pub(crate) fn is_done(
-    rt: &impl Abort,
+/// The same of a run over a tree of one file.
+pub(crate) fn tree_leaves(
     alloc: Global,
-    long: &Long<'_, '_>,
-    pieces: Pieces,
-    text: &[u8],
-    notes: &[u8],
-) -> Result<u64, Fail> {
-    let mut outputs = MemoryOutputs::new(alloc, long.room)?;
-    let (status, reads) = run_long(alloc, long, pieces, &mut outputs)?;
-    assert_eq!(rt; status, Status::Done);
-    has_written(rt, alloc, &outputs, text, notes)?;
-    Ok(reads)
-}
-
-// The run on this `.config` writes it again.
-fn is_written_again(
-    rt: &impl Abort,
-    alloc: Global,
-    long: &Long<'_, '_>,
-    config: &[u8],
-) -> Result<(), Fail> {
-    let again = Long {
-        files: long.files,
-        root: long.root,
-        settings: config,
-        minimal: long.minimal,
-        room: long.room,
-    };
-    let mut outputs = MemoryOutputs::new(alloc, long.room)?;
-    let (status, _reads) = run_long(alloc, &again, LARGE, &mut outputs)?;
-    assert_eq!(rt; status, Status::Done);
-    assert!(rt; outputs.config.bytes.as_slice() == config);
-    Ok(())
-}
-
-/// The run on the `.config` that the run writes writes it again.
-pub(crate) fn is_idempotent(
-    rt: &impl Abort,
-    alloc: Global,
-    long: &Long<'_, '_>,
-) -> Result<(), Fail> {
-    let mut outputs = MemoryOutputs::new(alloc, long.room)?;
-    let (status, _reads) = run_long(alloc, long, LARGE, &mut outputs)?;
-    assert_eq!(rt; status, Status::Done);
-    is_written_again(rt, alloc, long, outputs.config.bytes.as_slice())
+    kconfig: &[u8],
+    input: MemoryInput,
+    setup: &Setup,
+    want: &Want<'_>,
+) -> Result<bool, Fail> {
+    let files = files(alloc, "Kconfig", kconfig, &[])?;
+    leaves(alloc, &files, input, setup, want)
 }

@@ -5,14 +5,12 @@ pub(crate) struct Turn {
     /// What the tree shows.
     pub name: &'static str,
     /// The root file.
-    pub kconfig: &'static [u8],
+    pub kconfig: &'static str,
     /// The `.config`.
     pub settings: &'static [u8],
-    /// The title in the headings.
-    pub title: &'static [u8],
-    /// The full `.config`, behind its heading.
+    /// The full `.config`.
     pub config: &'static [u8],
-    /// The header, behind its heading.
+    /// The header.
     pub header: &'static [u8],
     /// The minimal file.
     pub minimal: &'static [u8],
@@ -20,7 +18,8 @@ pub(crate) struct Turn {
     pub notes: &'static [u8],
 }
 
-const TWO: &[u8] = b"config A\n\
+/// A tree of two symbols.
+pub(crate) const TWO: &str = "config A\n\
     \tbool \"a\"\n\
     \tdefault y\n\
     \n\
@@ -28,7 +27,8 @@ const TWO: &[u8] = b"config A\n\
     \tbool \"b\"\n\
     \tdepends on A\n";
 
-const MENUS: &[u8] = b"mainmenu \"Demo\"\n\
+/// A tree of menus.
+pub(crate) const MENUS: &str = "mainmenu \"Demo\"\n\
     menu \"one\"\n\
     menu \"two\"\n\
     config A\n\
@@ -40,17 +40,25 @@ const MENUS: &[u8] = b"mainmenu \"Demo\"\n\
     menu \"three\"\n\
     endmenu\n";
 
-const TURNS: &[Turn] = &[
+/// The trees.
+pub(crate) const TURNS: &[Turn] = &[
     Turn {
         name: "a number outside its range",
-        kconfig: b"config N\n\
+        kconfig: "config N\n\
             \tint \"n\"\n\
             \trange 5 10\n\
             \tdefault 20\n",
         settings: b"CONFIG_N=3\n",
-        title: b"Main menu",
-        config: b"CONFIG_N=10\n",
-        header: b"#define CONFIG_N 10\n",
+        config: b"#\n\
+            # Automatically generated file; DO NOT EDIT.\n\
+            # Main menu\n\
+            #\n\
+            CONFIG_N=10\n",
+        header: b"/*\n\
+            \x20* Automatically generated file; DO NOT EDIT.\n\
+            \x20* Main menu\n\
+            \x20*/\n\
+            #define CONFIG_N 10\n",
         minimal: b"",
         notes: b"warning K12: user value 3 of N is outside 5 to 10\n\
             warning K13: default 20 of N is outside 5 to 10, 10 is used\n",
@@ -59,8 +67,11 @@ const TURNS: &[Turn] = &[
         name: "menus in menus",
         kconfig: MENUS,
         settings: b"",
-        title: b"Demo",
-        config: b"\n\
+        config: b"#\n\
+            # Automatically generated file; DO NOT EDIT.\n\
+            # Demo\n\
+            #\n\
+            \n\
             #\n\
             # one\n\
             #\n\
@@ -78,7 +89,10 @@ const TURNS: &[Turn] = &[
             # three\n\
             #\n\
             # end of three\n",
-        header: b"",
+        header: b"/*\n\
+            \x20* Automatically generated file; DO NOT EDIT.\n\
+            \x20* Demo\n\
+            \x20*/\n",
         minimal: b"",
         notes: b"",
     },
@@ -86,10 +100,17 @@ const TURNS: &[Turn] = &[
         name: "a dependency that holds",
         kconfig: TWO,
         settings: b"",
-        title: b"Main menu",
-        config: b"CONFIG_A=y\n\
+        config: b"#\n\
+            # Automatically generated file; DO NOT EDIT.\n\
+            # Main menu\n\
+            #\n\
+            CONFIG_A=y\n\
             # CONFIG_B is not set\n",
-        header: b"#define CONFIG_A 1\n",
+        header: b"/*\n\
+            \x20* Automatically generated file; DO NOT EDIT.\n\
+            \x20* Main menu\n\
+            \x20*/\n\
+            #define CONFIG_A 1\n",
         minimal: b"",
         notes: b"",
     },
@@ -101,9 +122,15 @@ const TURNS: &[Turn] = &[
             CONFIG_B=m\n\
             junk\n\
             # CONFIG_A is not set\n",
-        title: b"Main menu",
-        config: b"# CONFIG_A is not set\n",
-        header: b"",
+        config: b"#\n\
+            # Automatically generated file; DO NOT EDIT.\n\
+            # Main menu\n\
+            #\n\
+            # CONFIG_A is not set\n",
+        header: b"/*\n\
+            \x20* Automatically generated file; DO NOT EDIT.\n\
+            \x20* Main menu\n\
+            \x20*/\n",
         minimal: b"# CONFIG_A is not set\n",
         notes: b".config:2: warning K7: unknown symbol Q\n\
             .config:3: warning K8: value not allowed for B\n\
@@ -111,18 +138,3 @@ const TURNS: &[Turn] = &[
             .config:5: warning K10: A is set again\n",
     },
 ];
-
-/// The trees.
-pub(crate) fn turns() -> &'static [Turn] {
-    TURNS
-}
-
-/// A tree of two symbols.
-pub(crate) fn two() -> &'static [u8] {
-    TWO
-}
-
-/// A tree of menus.
-pub(crate) fn menus() -> &'static [u8] {
-    MENUS
-}

@@ -1,127 +1,77 @@
 //! Each read, each begin and each write fails in turn.
-use crate::one_input::{ROOM, is_so, is_text, run_whole};
-use crate::trees::{Turn, turns};
-use kc_conf::{FileMap, Output, Status};
-use kc_memory::{MemoryFile, MemoryInput, MemoryOutputs, config_text, files, header_text};
+use crate::runs::{WHOLE, Want, tree_leaves};
+use crate::trees::{TURNS, Turn};
+use kc_conf::{Output, Status};
+use kc_memory::{MemoryFile, MemoryInput, MemoryOutputs};
 use std::alloc::Global;
-use std::process::Abort;
 use std::test::Fail;
+
+/// A call that fails in the run over a turn.
+#[derive(Clone, Copy)]
+pub(crate) struct Strike<'a> {
+    /// The turn.
+    pub turn: &'a Turn,
+    /// The output whose call it is; none for the input.
+    pub output: Option<Output>,
+    /// The call, counted from 1.
+    pub fail_at: u64,
+}
 
 // The rule for make of each turn: its tree is one file.
 const DEPFILE: &[u8] = b".config: \\\n ./Kconfig\n\n./Kconfig:\n";
 
-// The run in which no device fails; its outputs are those that the turn says. The answer is how many reads it made.
-fn run_faultless(
-    rt: &impl Abort,
-    alloc: Global,
-    files: &FileMap,
-    turn: &Turn,
-    whole: &mut MemoryOutputs,
-) -> Result<u64, Fail> {
-    let input = MemoryInput::new(turn.settings, 6, 6);
-    let (status, reads) = run_whole(alloc, files, input, whole)?;
-    is_so(rt, status == Status::Done, turn.name);
-    let config = config_text(alloc, turn.title, turn.config)?;
-    is_text(rt, &whole.config.bytes, &config, turn.name);
-    drop(config);
-    let header = header_text(alloc, turn.title, turn.header)?;
-    is_text(rt, &whole.header.bytes, &header, turn.name);
-    is_text(rt, &whole.minimal.bytes, turn.minimal, turn.name);
-    is_text(rt, &whole.depfile.bytes, DEPFILE, turn.name);
-    is_text(rt, &whole.notes.bytes, turn.notes, turn.name);
-    Ok(reads)
-}
-
-// Outputs that take a few bytes by each write, so that each text takes many.
-fn short_outputs(alloc: Global) -> Result<MemoryOutputs, Fail> {
-    let mut outputs = MemoryOutputs::new(alloc, ROOM)?;
-    outputs.config.piece = 16;
-    outputs.header.piece = 16;
-    outputs.minimal.piece = 5;
-    outputs.depfile.piece = 4;
-    outputs.notes.piece = 7;
-    Ok(outputs)
-}
-
-// The outputs of the run in which no device fails, and how many reads it made.
-fn faultless(
-    rt: &impl Abort,
-    alloc: Global,
-    files: &FileMap,
-    turn: &Turn,
-) -> Result<(MemoryOutputs, u64), Fail> {
-    let mut whole = short_outputs(alloc)?;
-    match run_faultless(rt, alloc, files, turn, &mut whole) {
-        Ok(reads) => Ok((whole, reads)),
-        Err(fail) => {
-            drop(whole);
-            Err(fail)
-        }
+// The text of an output in a run without a fault.
+fn text_of(turn: &Turn, output: Output) -> &'static [u8] {
+    match output {
+        Output::Config => turn.config,
+        Output::Header => turn.header,
+        Output::Minimal => turn.minimal,
+        Output::Depfile => DEPFILE,
+        Output::Notes => turn.notes,
     }
 }
 
-// The output was never called.
-fn is_untouched(rt: &impl Abort, file: &MemoryFile, name: &str) {
-    assert!(rt;
-        !file.is_begun() && file.bytes.is_empty() && file.calls == 0,
-        "{}",
-        name
-    );
+// Whether the output has its text.
+fn has_text(outputs: &MemoryOutputs, turn: &Turn, output: Output) -> bool {
+    outputs.file(output).bytes.as_slice() == text_of(turn, output)
 }
 
-// The notes are a beginning of the notes without a fault, and then this line.
-fn ends_with_line(rt: &impl Abort, notes: &[u8], whole: &[u8], line: &[u8], name: &str) {
-    assert!(rt; notes.ends_with(line), "{}", name);
-    let before = notes.len().saturating_sub(line.len());
-    assert!(rt; whole.starts_with(&notes[..before]), "{}", name);
+/// Whether the outputs hold the texts of the turn, and the run made one call less than the one that was to fail.
+pub(crate) fn is_whole(outputs: &MemoryOutputs, ended: (Status, u64), strike: &Strike<'_>) -> bool {
+    let calls = match strike.output {
+        Some(output) => outputs.file(output).calls,
+        None => ended.1,
+    };
+    ended.0 == Status::Done
+        && has_text(outputs, strike.turn, Output::Config)
+        && has_text(outputs, strike.turn, Output::Header)
+        && has_text(outputs, strike.turn, Output::Minimal)
+        && has_text(outputs, strike.turn, Output::Depfile)
+        && has_text(outputs, strike.turn, Output::Notes)
+        && calls == strike.fail_at.saturating_sub(1)
 }
 
-// The notes end with the line of a read that failed, and no other output was called.
-fn has_begun_nothing(rt: &impl Abort, struck: &MemoryOutputs, turn: &Turn) {
-    let line = b"error E18: cannot read .config\n";
-    ends_with_line(rt, &struck.notes.bytes, turn.notes, line, turn.name);
-    is_untouched(rt, &struck.config, turn.name);
-    is_untouched(rt, &struck.header, turn.name);
-    is_untouched(rt, &struck.minimal, turn.name);
-    is_untouched(rt, &struck.depfile, turn.name);
+// Whether the output was never called.
+fn is_untouched(file: &MemoryFile) -> bool {
+    !file.is_begun() && file.bytes.is_empty() && file.calls == 0
 }
 
-// The run whose read of this number fails.
-fn read_fails(
-    rt: &impl Abort,
-    alloc: Global,
-    files: &FileMap,
-    turn: &Turn,
-    fail_at: u64,
-) -> Result<(), Fail> {
-    let mut input = MemoryInput::new(turn.settings, 6, 6);
-    input.fail_at = fail_at;
-    let mut struck = MemoryOutputs::new(alloc, ROOM)?;
-    let ended = run_whole(alloc, files, input, &mut struck);
-    has_begun_nothing(rt, &struck, turn);
-    drop(struck);
-    assert_eq!(rt; ended?, (Status::Faulted, fail_at), "{}", turn.name);
-    Ok(())
-}
-
-// Each read of the turn's run fails. The answer is how many there are.
-fn reads_fail(rt: &impl Abort, alloc: Global, turn: &Turn) -> Result<u64, Fail> {
-    let files = files(alloc, "Kconfig", turn.kconfig, &[])?;
-    let (_whole, reads) = faultless(rt, alloc, &files, turn)?;
-    for before in 0..reads {
-        read_fails(rt, alloc, &files, turn, before.saturating_add(1))?;
-    }
-    Ok(reads)
-}
-
-#[test]
-fn each_read_fails_in_turn(rt: HostRuntime) -> Result<(), Fail> {
-    let mut reads = 0u64;
-    for turn in turns() {
-        reads = reads.saturating_add(reads_fail(&rt, rt.alloc(), turn)?);
-    }
-    assert!(rt; reads > 12, "{reads}");
-    Ok(())
+// Whether the notes end with the line of a read that failed, behind a beginning of the notes without a fault, and no other
+// output was called.
+fn is_without_read(outputs: &MemoryOutputs, notes: &[u8]) -> bool {
+    let begins = match outputs
+        .notes
+        .bytes
+        .strip_suffix(b"error E18: cannot read .config\n")
+    {
+        Some(before) => notes.starts_with(before),
+        None => false,
+    };
+    begins
+        && is_untouched(&outputs.config)
+        && is_untouched(&outputs.header)
+        && is_untouched(&outputs.minimal)
+        && is_untouched(&outputs.depfile)
 }
 
 // How late an output is written: the notes come first.
@@ -146,151 +96,107 @@ fn line_of(output: Output) -> &'static [u8] {
     }
 }
 
-// Lets one call of one output fail.
-fn strike(outputs: &mut MemoryOutputs, output: Output, fail_at: u64) {
-    match output {
-        Output::Config => outputs.config.fail_at = fail_at,
-        Output::Header => outputs.header.fail_at = fail_at,
-        Output::Minimal => outputs.minimal.fail_at = fail_at,
-        Output::Depfile => outputs.depfile.fail_at = fail_at,
-        Output::Notes => outputs.notes.fail_at = fail_at,
-    }
-}
-
-// One file after a failure of this output: whole before it, a beginning at it, untouched behind it.
-fn left_behind(
-    rt: &impl Abort,
-    struck: &MemoryOutputs,
-    whole: &MemoryOutputs,
-    file: Output,
-    output: Output,
-    name: &str,
-) {
-    let left = struck.file(file);
-    let text = whole.file(file).bytes.as_slice();
-    if rank(file) < rank(output) {
-        is_text(rt, &left.bytes, text, name);
-        is_so(rt, left.is_begun(), name);
-    } else if rank(file) == rank(output) {
-        is_so(rt, text.starts_with(&left.bytes), name);
-        is_so(rt, left.is_begun() == (left.calls > 1), name);
+// Whether one file is as a failure of this output leaves it: whole before it, a beginning at it, untouched behind it.
+fn is_left_behind(outputs: &MemoryOutputs, turn: &Turn, file: Output, failed: Output) -> bool {
+    let left = outputs.file(file);
+    if rank(file) < rank(failed) {
+        has_text(outputs, turn, file) && left.is_begun()
+    } else if rank(file) == rank(failed) {
+        text_of(turn, file).starts_with(&left.bytes) && left.is_begun() == (left.calls > 1)
     } else {
-        is_untouched(rt, left, name);
+        is_untouched(left)
     }
 }
 
-// The notes after a failure of this output: where they failed a beginning, else whole and with the error line.
-fn notes_left(
-    rt: &impl Abort,
-    alloc: Global,
-    struck: &MemoryOutputs,
-    turn: &Turn,
-    output: Output,
-) -> Result<(), Fail> {
-    let notes = struck.notes.bytes.as_slice();
-    if output == Output::Notes {
-        is_so(rt, turn.notes.starts_with(notes), turn.name);
-        return Ok(());
+// Whether the notes are as a failure of this output leaves them: a beginning where they failed, else whole and with the error
+// line.
+fn are_notes_left(notes: &[u8], turn: &Turn, failed: Output) -> bool {
+    if failed == Output::Notes {
+        turn.notes.starts_with(notes)
+    } else {
+        notes.strip_suffix(line_of(failed)) == Some(turn.notes)
     }
-    let mut want = Vec::from_slice(alloc, turn.notes)?;
-    want.extend_from_slice(line_of(output))?;
-    is_text(rt, notes, &want, turn.name);
-    Ok(())
 }
 
-// The outputs after a failure of this call of this output.
-fn is_struck(
-    rt: &impl Abort,
-    struck: &MemoryOutputs,
-    whole: &MemoryOutputs,
-    output: Output,
-    fail_at: u64,
-    name: &str,
-) {
-    let file = struck.file(output);
-    is_so(rt, file.calls == fail_at && file.failures == 1, name);
-    left_behind(rt, struck, whole, Output::Config, output, name);
-    left_behind(rt, struck, whole, Output::Header, output, name);
-    left_behind(rt, struck, whole, Output::Minimal, output, name);
-    left_behind(rt, struck, whole, Output::Depfile, output, name);
+// Whether the outputs are as the failure of this call of this output leaves them.
+fn is_without_call(outputs: &MemoryOutputs, turn: &Turn, failed: Output, fail_at: u64) -> bool {
+    outputs.file(failed).calls == fail_at
+        && outputs.file(failed).failures == 1
+        && is_left_behind(outputs, turn, Output::Config, failed)
+        && is_left_behind(outputs, turn, Output::Header, failed)
+        && is_left_behind(outputs, turn, Output::Minimal, failed)
+        && is_left_behind(outputs, turn, Output::Depfile, failed)
+        && are_notes_left(&outputs.notes.bytes, turn, failed)
 }
 
-// The run in which this call of this output fails.
-fn call_fails(
-    rt: &impl Abort,
-    alloc: Global,
-    files: &FileMap,
-    turn: &Turn,
-    whole: &MemoryOutputs,
-    output: Output,
-    fail_at: u64,
-) -> Result<(), Fail> {
-    let mut struck = short_outputs(alloc)?;
-    strike(&mut struck, output, fail_at);
-    let input = MemoryInput::new(turn.settings, 6, 6);
-    let ended = run_whole(alloc, files, input, &mut struck);
-    match ended {
-        Ok((status, _reads)) => {
-            is_so(rt, status == Status::Faulted, turn.name);
-            is_struck(rt, &struck, whole, output, fail_at, turn.name);
-            let told = notes_left(rt, alloc, &struck, turn, output);
-            drop(struck);
-            told
+/// Whether the outputs are as the failure of the call leaves them, and a read that fails is the last one.
+pub(crate) fn is_struck(
+    outputs: &MemoryOutputs,
+    ended: (Status, u64),
+    strike: &Strike<'_>,
+) -> bool {
+    ended.0 == Status::Faulted
+        && match strike.output {
+            Some(output) => is_without_call(outputs, strike.turn, output, strike.fail_at),
+            None => { ended.1 == strike.fail_at && is_without_read(outputs, strike.turn.notes) }
         }
-        Err(fail) => {
-            drop(struck);
-            Err(fail)
+}
+
+// Whether the run in which this call is to fail leaves what is wanted.
+fn strike_leaves(alloc: Global, strike: &Strike<'_>, want: &Want<'_>) -> Result<bool, Fail> {
+    let mut input = MemoryInput::new(strike.turn.settings, 6, 6);
+    let mut setup = *WHOLE;
+    match strike.output {
+        Some(output) => {
+            setup.is_short = true;
+            setup.output = output;
+            setup.fail_at = strike.fail_at;
+        }
+        None => input.fail_at = strike.fail_at,
+    }
+    let kconfig = strike.turn.kconfig.as_bytes();
+    tree_leaves(alloc, kconfig, input, &setup, want)
+}
+
+// How many calls of the output, or reads, the run over the turn makes, where each in turn leaves what it is to leave when it
+// fails, and the run without a fault leaves the turn's texts.
+fn calls_fail(alloc: Global, turn: &Turn, output: Option<Output>) -> Result<Option<u64>, Fail> {
+    for before in 0..1000_u64 {
+        let strike = Strike {
+            turn,
+            output,
+            fail_at: before.saturating_add(1),
+        };
+        if strike_leaves(alloc, &strike, &Want::Whole(&strike))? {
+            return Ok(Some(before));
+        }
+        if !strike_leaves(alloc, &strike, &Want::Struck(&strike))? {
+            return Ok(None);
         }
     }
+    Ok(None)
 }
 
-// Each call of this output fails in turn. The answer is how many there are.
-fn calls_fail(rt: &impl Abort, alloc: Global, turn: &Turn, output: Output) -> Result<u64, Fail> {
-    let files = files(alloc, "Kconfig", turn.kconfig, &[])?;
-    let (whole, _reads) = faultless(rt, alloc, &files, turn)?;
-    let calls = whole.file(output).calls;
-    for before in 0..calls {
-        let fail_at = before.saturating_add(1);
-        call_fails(rt, alloc, &files, turn, &whole, output, fail_at)?;
+// Calls that fail, and a number that there are more of in all turns.
+const FAILING: &[(&str, Option<Output>, u64)] = &[
+    ("reads", None, 12),
+    ("the .config", Some(Output::Config), 16),
+    ("the header", Some(Output::Header), 8),
+    ("the minimal file", Some(Output::Minimal), 4),
+    ("the rule for make", Some(Output::Depfile), 4),
+    ("the notes", Some(Output::Notes), 5),
+];
+
+#[test]
+fn each_call_fails_in_turn(rt: HostRuntime) -> Result<(), Fail> {
+    for (name, output, least) in FAILING {
+        let mut calls = 0_u64;
+        for turn in TURNS {
+            let made = calls_fail(rt.alloc(), turn, *output)?;
+            assert!(rt; made.is_some(), "{name}: {}", turn.name);
+            calls = calls.saturating_add(made.unwrap_or(0));
+        }
+        assert!(rt; calls > *least, "{name}: {calls}");
     }
-    Ok(calls)
-}
-
-// Each call of this output fails in turn, in every tree. The answer is how many there are.
-fn output_fails(rt: &impl Abort, alloc: Global, output: Output) -> Result<u64, Fail> {
-    let mut calls = 0u64;
-    for turn in turns() {
-        calls = calls.saturating_add(calls_fail(rt, alloc, turn, output)?);
-    }
-    Ok(calls)
-}
-
-#[test]
-fn each_call_of_the_config_fails_in_turn(rt: HostRuntime) -> Result<(), Fail> {
-    assert!(rt; output_fails(&rt, rt.alloc(), Output::Config)? > 16);
-    Ok(())
-}
-
-#[test]
-fn each_call_of_the_header_fails_in_turn(rt: HostRuntime) -> Result<(), Fail> {
-    assert!(rt; output_fails(&rt, rt.alloc(), Output::Header)? > 8);
-    Ok(())
-}
-
-#[test]
-fn each_call_of_the_minimal_file_fails_in_turn(rt: HostRuntime) -> Result<(), Fail> {
-    assert!(rt; output_fails(&rt, rt.alloc(), Output::Minimal)? > 4);
-    Ok(())
-}
-
-#[test]
-fn each_call_of_the_depfile_fails_in_turn(rt: HostRuntime) -> Result<(), Fail> {
-    assert!(rt; output_fails(&rt, rt.alloc(), Output::Depfile)? > 4);
-    Ok(())
-}
-
-#[test]
-fn each_write_of_the_notes_fails_in_turn(rt: HostRuntime) -> Result<(), Fail> {
-    assert!(rt; output_fails(&rt, rt.alloc(), Output::Notes)? > 5);
     Ok(())
 }
