@@ -1,12 +1,12 @@
 //! A `.config` that is read, values, and the three files.
-ghost use Rattle.std.specs.Prelude.{◌≡◌, IfOk};
+ghost use Rattle.std.specs.Prelude.{◌≡◌};
 ghost use Rattle.kc_user.specs.Places.{ArePlacesOf};
 ghost use Rattle.kc_solve.specs.Graphs.{IsGraphOf};
 ghost use Rattle.kc_tree.specs.Layouts.{IsLayoutOf};
 
 use crate::end::{CallEnd, done, refused};
 use crate::sink::MemorySink;
-use crate::trees::tree_of;
+use crate::trees::TreeCall;
 use kc_dot::config::write_config;
 use kc_dot::fault::{DotFault, WriteFault};
 use kc_dot::header::{write_header, write_minimal};
@@ -86,71 +86,90 @@ fn lines_read(user: &User, notes: &MemorySink) -> Option<u8> {
     (0u8..4).find(|lines| stands_after(user, notes, *lines))
 }
 
-/// `feed`, of a warning, two places and a line that is not at its end.
-pub(crate) fn call_feed(alloc: Global) -> Result<CallEnd, AllocError> {
-    let tree = tree_of(alloc)?;
-    let prefix = prefix_of(alloc)?;
-    let mut user = User::new(alloc, &tree)?;
-    let mut notes = MemorySink::new(alloc)?;
-    let mut reader = DotReader::new(alloc, &tree, &prefix, b".config");
-    match reader.feed(SETTINGS, &mut user, &mut notes) {
-        Ok(()) => Ok(done(reader.pending() == 10 && stands_after(&user, &notes, 3))),
-        // Each later call answers the same and changes nothing.
-        Err(fault) => {
-            let before = lines_read(&user, &notes);
-            let again = reader.feed(b"\n", &mut user, &mut notes);
-            let ends = reader.finish(&mut user, &mut notes);
-            let is_kept = again == Err(DotFault::Memory) && ends == Err(DotFault::Memory);
-            let stands = before.is_some() && before == lines_read(&user, &notes);
-            let is_memory = fault == DotFault::Memory && !notes.has_failed();
-            Ok(refused(is_memory && is_kept && stands))
+// A reader over places, and where its warnings go. Its calls have no contract of their own: what they leave is looked at.
+#[derive(Drop)]
+struct Fed<'a> {
+    reader: DotReader<'a>,
+    user: User,
+    notes: MemorySink,
+    ghost places: { ArePlacesOf reader.tree user },
+}
+
+impl<'a> Fed<'a> {
+    fn new(alloc: Global, tree: &'a Tree, prefix: &'a Prefix) -> Result<Fed<'a>, AllocError> {
+        Ok(Fed {
+            reader: DotReader::new(alloc, tree, prefix, b".config"),
+            user: User::new(alloc, tree)?,
+            notes: MemorySink::new(alloc)?,
+        })
+    }
+
+    fn feed(&mut self, piece: &[u8]) -> Result<(), DotFault> {
+        self.reader.feed(piece, &mut self.user, &mut self.notes)
+    }
+
+    fn finish(&mut self) -> Result<(), DotFault> {
+        self.reader.finish(&mut self.user, &mut self.notes)
+    }
+
+    // How `feed` ends: of a warning, two places and a line that is not at its end.
+    fn end(&mut self) -> CallEnd {
+        match self.feed(SETTINGS) {
+            Ok(()) => {
+                done(self.reader.pending() == 10 && stands_after(&self.user, &self.notes, 3))
+            }
+            // Each later call answers the same and changes nothing.
+            Err(fault) => {
+                let before = lines_read(&self.user, &self.notes);
+                let again = self.feed(b"\n");
+                let ends = self.finish();
+                let is_kept = again == Err(DotFault::Memory) && ends == Err(DotFault::Memory);
+                let stands = before.is_some() && before == lines_read(&self.user, &self.notes);
+                let is_memory = fault == DotFault::Memory && !self.notes.has_failed();
+                refused(is_memory && is_kept && stands)
+            }
         }
     }
 }
 
-// The places after all lines of `SETTINGS`.
-fn user_of(alloc: Global, tree: &Tree, prefix: &Prefix) -> Result<User, AllocError>
-    ensures { IfOk result (λ user. ArePlacesOf tree.now user) }
-{
-    let mut user = User::new(alloc, tree)?;
-    let mut notes = MemorySink::new(alloc)?;
-    let mut reader = DotReader::new(alloc, tree, prefix, b".config");
-    if reader.feed(SETTINGS, &mut user, &mut notes).is_err() {
-        return Err(AllocError);
+/// `feed`.
+pub(crate) struct Feed;
+
+impl TreeCall for Feed {
+    fn end(&self, alloc: Global, tree: &Tree) -> Result<CallEnd, AllocError> {
+        let prefix = prefix_of(alloc)?;
+        let mut fed = Fed::new(alloc, tree, &prefix)?;
+        Ok(fed.end())
     }
-    if reader.finish(&mut user, &mut notes).is_err() {
-        return Err(AllocError);
-    }
-    Ok(user)
 }
 
-// The order of the tree's symbols.
-fn order_of(alloc: Global, tree: &Tree, layout: &Layout) -> Result<EvaluationOrder, AllocError>
-    requires { IsLayoutOf tree.now layout.now }
-    ensures { IfOk result (IsGraphOf tree.now layout.now) }
+// Reads all lines of `SETTINGS` into the places. The answer is whether that was done.
+fn read_into(
+    alloc: Global,
+    tree: &Tree,
+    prefix: &Prefix,
+    user: &mut User,
+    notes: &mut MemorySink,
+) -> bool
+    requires { ArePlacesOf tree.now user.old }
+    ensures { ArePlacesOf tree.now user.new }
 {
-    match EvaluationOrder::of(alloc, tree, layout) {
-        Ok(order) => Ok(order),
-        Err(_) => Err(AllocError),
-    }
+    let mut reader = DotReader::new(alloc, tree, prefix, b".config");
+    reader.feed(SETTINGS, user, notes).is_ok() && reader.finish(user, notes).is_ok()
+}
+
+// The same, with a sink of its own.
+fn fill(alloc: Global, tree: &Tree, prefix: &Prefix, user: &mut User) -> Result<bool, AllocError>
+    requires { ArePlacesOf tree.now user.old }
+    ensures { ArePlacesOf tree.now user.new }
+{
+    let mut notes = MemorySink::new(alloc)?;
+    Ok(read_into(alloc, tree, prefix, user, &mut notes))
 }
 
 // A is n, B the text, and N seven.
 fn has_values(solved: &Solved<'_>) -> bool {
     solved.tri(A) == Tri::N && solved.text(B) == TEXT && solved.text(N) == b"7".as_slice()
-}
-
-/// `solve`.
-pub(crate) fn call_solve(alloc: Global) -> Result<CallEnd, AllocError> {
-    let tree = tree_of(alloc)?;
-    let prefix = prefix_of(alloc)?;
-    let user = user_of(alloc, &tree, &prefix)?;
-    let layout = tree.layout();
-    let order = order_of(alloc, &tree, layout)?;
-    match solve(alloc, &tree, layout, &order, &user) {
-        Ok(solved) => Ok(done(has_values(&solved))),
-        Err(_) => Ok(CallEnd::Refused),
-    }
 }
 
 // How a writer ended: with its whole text, or with a beginning of it. The sink did not fail.
@@ -221,13 +240,71 @@ fn write(
     Ok(end_of(answer, &sink, text))
 }
 
-/// The writer of one of the files.
-pub(crate) fn call_write(alloc: Global, output: Output) -> Result<CallEnd, AllocError> {
-    let tree = tree_of(alloc)?;
-    let prefix = prefix_of(alloc)?;
-    let user = user_of(alloc, &tree, &prefix)?;
+/// A call that works on values.
+#[derive(Clone, Copy)]
+pub(crate) enum Work {
+    /// `solve` itself.
+    Solve,
+    /// The writer of one of the files.
+    Write(Output),
+}
+
+// How the work ends under this order.
+fn end_in_order(
+    alloc: Global,
+    tree: &Tree,
+    layout: &Layout,
+    order: &EvaluationOrder,
+    user: &User,
+    prefix: &Prefix,
+    work: Work,
+) -> Result<CallEnd, AllocError>
+    requires laid { IsLayoutOf tree.now layout.now }
+    requires order { IsGraphOf tree.now layout.now order.now }
+    requires user { ArePlacesOf tree.now user.now }
+{
+    match (solve(alloc, tree, layout, order, user), work) {
+        (Ok(solved), Work::Solve) => Ok(done(has_values(&solved))),
+        (Ok(solved), Work::Write(output)) => write(alloc, tree, &solved, prefix, output),
+        (Err(_), Work::Solve) => Ok(CallEnd::Refused),
+        (Err(_), Work::Write(_)) => Err(AllocError),
+    }
+}
+
+// How it ends over these places.
+fn end_over(
+    alloc: Global,
+    tree: &Tree,
+    user: &User,
+    prefix: &Prefix,
+    work: Work,
+) -> Result<CallEnd, AllocError>
+    requires { ArePlacesOf tree.now user.now }
+{
     let layout = tree.layout();
-    let order = order_of(alloc, &tree, layout)?;
-    let solved = solve(alloc, &tree, layout, &order, &user)?;
-    write(alloc, &tree, &solved, &prefix, output)
+    match EvaluationOrder::of(alloc, tree, layout) {
+        Ok(order) => end_in_order(alloc, tree, layout, &order, user, prefix, work),
+        Err(_) => Err(AllocError),
+    }
+}
+
+// How it ends where `SETTINGS` are read.
+fn end_with(
+    alloc: Global,
+    tree: &Tree,
+    prefix: &Prefix,
+    work: Work,
+) -> Result<CallEnd, AllocError> {
+    let mut user = User::new(alloc, tree)?;
+    match fill(alloc, tree, prefix, &mut user) {
+        Ok(true) => end_over(alloc, tree, &user, prefix, work),
+        _ => Err(AllocError),
+    }
+}
+
+impl TreeCall for Work {
+    fn end(&self, alloc: Global, tree: &Tree) -> Result<CallEnd, AllocError> {
+        let prefix = prefix_of(alloc)?;
+        end_with(alloc, tree, &prefix, *self)
+    }
 }

@@ -45,39 +45,36 @@ fn is_unnumbered(names: &mut Names, count: usize, name: &[u8]) -> bool {
     }
 }
 
-/// `id`, of each of `NAMES`.
-pub(crate) fn call_id(alloc: Global) -> Result<CallEnd, AllocError> {
-    let mut names = Names::new(alloc);
+// How `id` ends, of each of `NAMES` in turn.
+fn id_end(names: &mut Names) -> CallEnd {
     let mut count = 0usize;
     for name in NAMES {
         match names.id(name) {
             Ok(id) if id == SymId(count) => count = count.saturating_add(1),
-            Ok(_) => return Ok(CallEnd::Wrong),
-            Err(_) => return Ok(refused(is_unnumbered(&mut names, count, name))),
+            Ok(_) => return CallEnd::Wrong,
+            Err(_) => return refused(is_unnumbered(names, count, name)),
         }
     }
-    Ok(done(names.count() == NAMES.len() && are_numbered(&names, NAMES.len())))
+    done(names.count() == NAMES.len() && are_numbered(names, NAMES.len()))
+}
+
+/// `id`, of each of `NAMES`.
+pub(crate) fn call_id(alloc: Global) -> CallEnd {
+    let mut names = Names::new(alloc);
+    id_end(&mut names)
 }
 
 const EXPRESSION: &[u8] =
     b"A && (B || !A_NAME_THAT_IS_TOO_LONG_TO_STAND_IN_PLACE) && C = \"x\" && D && E > \"1\"";
 
-// The tokens of a line that can be cut.
-fn tokens_of<'a>(alloc: Global, line: &'a [u8]) -> Result<Vec<Token<'a>>, AllocError> {
-    let mut tokens = Vec::new(alloc);
-    if line.len() > 8191 || lex(line, &mut tokens).is_err() {
-        return Err(AllocError);
-    }
-    Ok(tokens)
+// Adds the tokens of `EXPRESSION`. The answer is whether there was memory for them.
+fn cut_into(tokens: &mut Vec<Token<'static>>) -> bool {
+    EXPRESSION.len() <= 8191 && lex(EXPRESSION, tokens).is_ok()
 }
 
-// The first two of `NAMES`.
-fn two_names(alloc: Global) -> Result<Names, AllocError> {
-    let mut names = Names::new(alloc);
-    for name in NAMES.iter().take(2) {
-        names.id(name)?;
-    }
-    Ok(names)
+// Numbers the first two of `NAMES`. The answer is whether there was memory for them.
+fn number_two(names: &mut Names) -> bool {
+    names.id(NAMES[0]).is_ok() && names.id(NAMES[1]).is_ok()
 }
 
 // How many parts a chain of `&&` has.
@@ -88,30 +85,19 @@ fn part_count(expression: &Expr) -> usize {
     }
 }
 
-/// `parse`, of an expression of six names, two of which are known.
-pub(crate) fn call_parse(alloc: Global) -> Result<CallEnd, AllocError> {
-    let tokens = tokens_of(alloc, EXPRESSION)?;
-    let mut names = two_names(alloc)?;
-    match parse(alloc, &tokens, 0, None, &mut names) {
+// How `parse` ends, of an expression of six names, two of which are known.
+fn parse_end(alloc: Global, tokens: &[Token], names: &mut Names) -> CallEnd {
+    match parse(alloc, tokens, 0, None, names) {
         Ok((expression, after)) => {
             let is_whole = part_count(&expression) == 5 && after == tokens.len();
-            Ok(done(is_whole && names.count() == 6 && are_numbered(&names, 6)))
+            done(is_whole && names.count() == 6 && are_numbered(names, 6))
         }
         // Further names of the expression may have been added, each with the next number, and none has another.
         Err(fault) => {
             let count = names.count();
-            let is_some_of_six = count >= 2 && count <= 6 && are_numbered(&names, count);
-            Ok(refused(fault == ExprFault::Memory && is_some_of_six))
+            let is_some_of_six = count >= 2 && count <= 6 && are_numbered(names, count);
+            refused(fault == ExprFault::Memory && is_some_of_six)
         }
-    }
-}
-
-// What an expression of this line is, and nothing where it is none.
-fn parsed(alloc: Global, line: &[u8], names: &mut Names) -> Result<Expr, AllocError> {
-    let tokens = tokens_of(alloc, line)?;
-    match parse(alloc, &tokens, 0, None, names) {
-        Ok((expression, _)) => Ok(expression),
-        Err(_) => Err(AllocError),
     }
 }
 
@@ -126,13 +112,41 @@ const LISTED: &[SymId] = &[
     SymId(5),
 ];
 
-/// `symbols_into`, behind a symbol that stands there.
-pub(crate) fn call_symbols_into(alloc: Global) -> Result<CallEnd, AllocError> {
-    let mut names = two_names(alloc)?;
-    let expression = parsed(alloc, EXPRESSION, &mut names)?;
+// How `symbols_into` ends, behind a symbol that stands there.
+fn symbols_end(alloc: Global, expression: &Expr) -> Result<CallEnd, AllocError> {
     let mut listed = vec![in alloc; SymId(9)]?;
-    match symbols_into(&expression, &mut listed) {
+    match symbols_into(expression, &mut listed) {
         Ok(()) => Ok(done(listed.as_slice() == LISTED)),
         Err(_) => Ok(refused(!listed.is_empty() && LISTED.starts_with(&listed))),
+    }
+}
+
+// The same for what the tokens are.
+fn listed_end(alloc: Global, tokens: &[Token], names: &mut Names) -> Result<CallEnd, AllocError> {
+    match parse(alloc, tokens, 0, None, names) {
+        Ok((expression, _)) => symbols_end(alloc, &expression),
+        Err(_) => Err(AllocError),
+    }
+}
+
+/// What is called over the tokens of an expression.
+#[derive(Clone, Copy)]
+pub(crate) enum Reading {
+    /// `parse`.
+    Parse,
+    /// `symbols_into`, of what they are.
+    SymbolsInto,
+}
+
+/// `parse`, and `symbols_into` of what it gives.
+pub(crate) fn call_on_tokens(alloc: Global, reading: Reading) -> Result<CallEnd, AllocError> {
+    let mut tokens = Vec::new(alloc);
+    let mut names = Names::new(alloc);
+    if !cut_into(&mut tokens) || !number_two(&mut names) {
+        return Err(AllocError);
+    }
+    match reading {
+        Reading::Parse => Ok(parse_end(alloc, &tokens, &mut names)),
+        Reading::SymbolsInto => listed_end(alloc, &tokens, &mut names),
     }
 }

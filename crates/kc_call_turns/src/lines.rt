@@ -2,7 +2,7 @@
 
 use crate::end::{CallEnd, done, refused};
 use kc_text::{LogicalLines, Span, TextFault, lex};
-use std::alloc::{AllocError, Global};
+use std::alloc::Global;
 
 const FILE: &[u8] = b"config A_NAME_OF_SEVERAL\\\n_LINES\n\tbool\n";
 
@@ -14,29 +14,30 @@ fn stays_refused(lines: &mut LogicalLines<'_>, line: &mut Vec<u8>) -> bool {
 }
 
 /// `next_into`, at a line that is joined of two.
-pub(crate) fn call_next_into(alloc: Global) -> Result<CallEnd, AllocError> {
+pub(crate) fn call_next_into(alloc: Global) -> CallEnd {
     let mut lines = LogicalLines::new(FILE);
     let mut line = Vec::new(alloc);
     match lines.next_into(&mut line) {
         Ok(number) => {
             let is_joined = line.as_slice() == b"config A_NAME_OF_SEVERAL_LINES".as_slice();
             let next = lines.next_single();
-            Ok(done(number == Some(1) && is_joined && next == Some((3, b"\tbool".as_slice()))))
+            done(number == Some(1) && is_joined && next == Some((3, b"\tbool".as_slice())))
         }
-        Err(fault) => Ok(refused(
-            fault == TextFault::Memory && stays_refused(&mut lines, &mut line),
-        )),
+        Err(fault) => refused(fault == TextFault::Memory && stays_refused(&mut lines, &mut line)),
     }
 }
 
 /// `lex`, at a line of eleven tokens and a comment.
-pub(crate) fn call_lex(alloc: Global) -> Result<CallEnd, AllocError> {
+pub(crate) fn call_lex(alloc: Global) -> CallEnd {
     let mut tokens = Vec::new(alloc);
     match lex(b"default \"x\" if A && !(B || C) # why", &mut tokens) {
         Ok(()) => {
-            let last = tokens.last().map(|token| token.span);
-            Ok(done(tokens.len() == 11 && last == Some(Span { start: 28, end: 29 })))
+            let is_last = match tokens.last() {
+                Some(token) => token.span == Span { start: 28, end: 29 },
+                None => false,
+            };
+            done(tokens.len() == 11 && is_last)
         }
-        Err(fault) => Ok(refused(fault == TextFault::Memory && tokens.is_empty())),
+        Err(fault) => refused(fault == TextFault::Memory && tokens.is_empty()),
     }
 }

@@ -10,51 +10,77 @@ mod lines;
 mod sink;
 mod trees;
 
-use crate::config_files::Output;
+use crate::config_files::{Feed, Output, Work};
 use crate::end::{CallEnd, said};
-use std::alloc::AllocError;
+use crate::expressions::Reading;
+use crate::trees::{KCONFIG, LOOP, Ordering, on_tree};
+use std::alloc::{AllocError, Global};
 use std::io;
 
+/// A call that is made.
+#[derive(Clone, Copy)]
+enum Call {
+    NextInto,
+    Lex,
+    Id,
+    Parse,
+    SymbolsInto,
+    Insert,
+    SourcesOf,
+    Build,
+    OrderOf,
+    OrderOfLoop,
+    Solve,
+    Feed,
+    Write(Output),
+}
+
+const CALLS: &[(&str, Call)] = &[
+    ("next_into", Call::NextInto),
+    ("lex", Call::Lex),
+    ("id", Call::Id),
+    ("parse", Call::Parse),
+    ("symbols_into", Call::SymbolsInto),
+    ("insert", Call::Insert),
+    ("sources_of", Call::SourcesOf),
+    ("build", Call::Build),
+    ("EvaluationOrder::of", Call::OrderOf),
+    ("EvaluationOrder::of a loop", Call::OrderOfLoop),
+    ("solve", Call::Solve),
+    ("feed", Call::Feed),
+    ("write_config", Call::Write(Output::Config)),
+    ("write_header", Call::Write(Output::Header)),
+    ("write_minimal", Call::Write(Output::Minimal)),
+];
+
+// Makes the call.
+fn end_of(alloc: Global, call: Call) -> Result<CallEnd, AllocError> {
+    match call {
+        Call::NextInto => Ok(lines::call_next_into(alloc)),
+        Call::Lex => Ok(lines::call_lex(alloc)),
+        Call::Id => Ok(expressions::call_id(alloc)),
+        Call::Parse => expressions::call_on_tokens(alloc, Reading::Parse),
+        Call::SymbolsInto => expressions::call_on_tokens(alloc, Reading::SymbolsInto),
+        Call::Insert => trees::call_insert(alloc),
+        Call::SourcesOf => Ok(trees::call_sources_of(alloc)),
+        Call::Build => trees::call_build(alloc),
+        Call::OrderOf => on_tree(alloc, KCONFIG, &Ordering::Order),
+        Call::OrderOfLoop => on_tree(alloc, LOOP, &Ordering::Loop),
+        Call::Solve => on_tree(alloc, KCONFIG, &Work::Solve),
+        Call::Feed => on_tree(alloc, KCONFIG, &Feed),
+        Call::Write(output) => on_tree(alloc, KCONFIG, &Work::Write(output)),
+    }
+}
+
 // One line: the call, and how it ended.
-fn tell(rt: &HostRuntime, name: &str, end: Result<CallEnd, AllocError>) -> io::Result<()> {
-    let said = said(end);
+fn tell(rt: &HostRuntime, name: &str, call: Call) -> io::Result<()> {
+    let said = said(end_of(rt.alloc(), call));
     println!(rt; "{name}: {said}")
 }
 
 fn main(rt: HostRuntime) -> io::Result<()> {
-    tell(&rt, "next_into", lines::call_next_into(rt.alloc()))?;
-    tell(&rt, "lex", lines::call_lex(rt.alloc()))?;
-    tell(&rt, "id", expressions::call_id(rt.alloc()))?;
-    tell(&rt, "parse", expressions::call_parse(rt.alloc()))?;
-    tell(
-        &rt,
-        "symbols_into",
-        expressions::call_symbols_into(rt.alloc()),
-    )?;
-    tell(&rt, "insert", trees::call_insert(rt.alloc()))?;
-    tell(&rt, "sources_of", trees::call_sources_of(rt.alloc()))?;
-    tell(&rt, "build", trees::call_build(rt.alloc()))?;
-    tell(&rt, "EvaluationOrder::of", trees::call_order_of(rt.alloc()))?;
-    tell(
-        &rt,
-        "EvaluationOrder::of a loop",
-        trees::call_order_of_loop(rt.alloc()),
-    )?;
-    tell(&rt, "solve", config_files::call_solve(rt.alloc()))?;
-    tell(&rt, "feed", config_files::call_feed(rt.alloc()))?;
-    tell(
-        &rt,
-        "write_config",
-        config_files::call_write(rt.alloc(), Output::Config),
-    )?;
-    tell(
-        &rt,
-        "write_header",
-        config_files::call_write(rt.alloc(), Output::Header),
-    )?;
-    tell(
-        &rt,
-        "write_minimal",
-        config_files::call_write(rt.alloc(), Output::Minimal),
-    )
+    for (name, call) in CALLS {
+        tell(&rt, name, *call)?;
+    }
+    Ok(())
 }

@@ -32,19 +32,40 @@ fn are_filled(files: &FileMap, count: usize) -> bool {
     true
 }
 
-/// `insert`, of each of `FILES`.
-pub(crate) fn call_insert(alloc: Global) -> Result<CallEnd, AllocError> {
-    let mut files = FileMap::new(alloc);
+// Puts copies of a file's name and bytes into the map. The answer is whether `insert` did its work.
+fn insert_one(
+    alloc: Global,
+    files: &mut FileMap,
+    name: &[u8],
+    bytes: &[u8],
+) -> Result<bool, AllocError> {
+    let own_name = Vec::from_slice(alloc, name)?;
+    let own_bytes = Vec::from_slice(alloc, bytes)?;
+    Ok(files.insert(own_name, own_bytes).is_ok())
+}
+
+// How many of `FILES` are put into the map, up to the first that `insert` refuses.
+fn insert_all(alloc: Global, files: &mut FileMap) -> Result<usize, AllocError> {
     let mut count = 0usize;
     for (name, bytes) in FILES {
-        let own_name = Vec::from_slice(alloc, name)?;
-        let own_bytes = Vec::from_slice(alloc, bytes)?;
-        if files.insert(own_name, own_bytes).is_err() {
-            return Ok(refused(are_filled(&files, count)));
+        if !insert_one(alloc, files, name, bytes)? {
+            return Ok(count);
         }
         count = count.saturating_add(1);
     }
-    Ok(done(are_filled(&files, FILES.len())))
+    Ok(count)
+}
+
+/// `insert`, of each of `FILES`.
+pub(crate) fn call_insert(alloc: Global) -> Result<CallEnd, AllocError> {
+    let mut files = FileMap::new(alloc);
+    let count = insert_all(alloc, &mut files)?;
+    let is_right = are_filled(&files, count);
+    if count < FILES.len() {
+        Ok(refused(is_right))
+    } else {
+        Ok(done(is_right))
+    }
 }
 
 const SOURCES: &[u8] =
@@ -64,15 +85,15 @@ fn are_named(names: &[Vec<u8>], want: &[&[u8]]) -> bool {
 }
 
 /// `sources_of`, of a file with three such lines, one of them joined.
-pub(crate) fn call_sources_of(alloc: Global) -> Result<CallEnd, AllocError> {
+pub(crate) fn call_sources_of(alloc: Global) -> CallEnd {
     match sources_of(alloc, SOURCES) {
-        Ok(names) => Ok(done(are_named(&names, &[b"a", b"b/c", b"d"]))),
-        Err(_) => Ok(CallEnd::Refused),
+        Ok(names) => done(are_named(&names, &[b"a", b"b/c", b"d"])),
+        Err(_) => CallEnd::Refused,
     }
 }
 
 /// The tree of the calls: a bool, a string that waits for it, a number whose default lies outside, and a name without a type.
-const KCONFIG: &[u8] = b"config A\n\
+pub(crate) const KCONFIG: &[u8] = b"config A\n\
     \tbool \"a\"\n\
     \tdefault y\n\
     config B\n\
@@ -86,15 +107,18 @@ const KCONFIG: &[u8] = b"config A\n\
     config U\n\
     endmenu\n";
 
-const LOOP: &[u8] = b"config A\n\tbool \"a\"\n\tdepends on B\n\tselect B\nconfig B\n\tbool \"b\"\n";
+/// A tree whose loop is named.
+pub(crate) const LOOP: &[u8] =
+    b"config A\n\tbool \"a\"\n\tdepends on B\n\tselect B\nconfig B\n\tbool \"b\"\n";
 
 // A map of this one file.
 fn files_of(alloc: Global, kconfig: &[u8]) -> Result<FileMap, AllocError> {
     let mut files = FileMap::new(alloc);
-    let name = Vec::from_slice(alloc, b"Kconfig")?;
-    let bytes = Vec::from_slice(alloc, kconfig)?;
-    files.insert(name, bytes)?;
-    Ok(files)
+    if insert_one(alloc, &mut files, b"Kconfig", kconfig)? {
+        Ok(files)
+    } else {
+        Err(AllocError)
+    }
 }
 
 // The tree of this one file.
@@ -106,9 +130,20 @@ fn tree_with(alloc: Global, kconfig: &[u8]) -> Result<Tree, AllocError> {
     }
 }
 
-/// The tree of the calls.
-pub(crate) fn tree_of(alloc: Global) -> Result<Tree, AllocError> {
-    tree_with(alloc, KCONFIG)
+/// A call that works on a tree.
+pub(crate) trait TreeCall {
+    /// How it ends. The error is out of memory for what it works on besides.
+    fn end(&self, alloc: Global, tree: &Tree) -> Result<CallEnd, AllocError>;
+}
+
+/// How the call ends on the tree of this one file. No other function has a tree as its own: the code that drops it is long.
+pub(crate) fn on_tree(
+    alloc: Global,
+    kconfig: &[u8],
+    call: &dyn TreeCall,
+) -> Result<CallEnd, AllocError> {
+    let tree = tree_with(alloc, kconfig)?;
+    call.end(alloc, &tree)
 }
 
 // Being out of memory, with no location and no detail.
@@ -116,18 +151,21 @@ fn is_memory(refusal: &Refusal) -> bool {
     refusal.code == Code::Memory && refusal.location.is_none() && refusal.detail.is_empty()
 }
 
-/// `build`.
+// Whether the tree of `KCONFIG` has its symbols and its warning.
+fn is_built(tree: &Tree) -> bool {
+    tree.symbol_count() == 4
+        && tree.find(b"N") == Some(SymId(2))
+        && are_named(
+            tree.parse_warnings(),
+            &[b"Kconfig:12: warning K3: U has no type"],
+        )
+}
+
+/// `build_tree`.
 pub(crate) fn call_build(alloc: Global) -> Result<CallEnd, AllocError> {
     let files = files_of(alloc, KCONFIG)?;
     match build_tree(alloc, &files, b"Kconfig") {
-        Ok(tree) => {
-            let has_symbols = tree.symbol_count() == 4 && tree.find(b"N") == Some(SymId(2));
-            let warned = are_named(
-                tree.parse_warnings(),
-                &[b"Kconfig:12: warning K3: U has no type"],
-            );
-            Ok(done(has_symbols && warned))
-        }
+        Ok(tree) => Ok(done(is_built(&tree))),
         Err(refusal) => Ok(refused(is_memory(&refusal) && files.get(b"Kconfig") == Some(KCONFIG))),
     }
 }
@@ -143,26 +181,31 @@ fn is_order(nodes: &[u32]) -> bool {
         && nodes.contains(&3)
 }
 
-/// `EvaluationOrder::of`, of the tree of the calls.
-pub(crate) fn call_order_of(alloc: Global) -> Result<CallEnd, AllocError> {
-    let tree = tree_of(alloc)?;
-    match EvaluationOrder::of(alloc, &tree, tree.layout()) {
-        Ok(order) => Ok(done(is_order(order.nodes()))),
-        Err(refusal) => Ok(refused(is_memory(&refusal))),
+// How the refusal of a tree whose loop is named ends the call.
+fn loop_end(refusal: &Refusal) -> CallEnd {
+    if refusal.code == Code::Memory {
+        return refused(is_memory(refusal));
     }
+    let is_named = refusal.detail.as_slice() == b"A -> B -> A".as_slice();
+    done(refusal.code == Code::Loop && refusal.location.is_none() && is_named)
 }
 
-/// `EvaluationOrder::of`, of a tree whose loop is named.
-pub(crate) fn call_order_of_loop(alloc: Global) -> Result<CallEnd, AllocError> {
-    let tree = tree_with(alloc, LOOP)?;
-    match EvaluationOrder::of(alloc, &tree, tree.layout()) {
-        Ok(_) => Ok(CallEnd::Wrong),
-        Err(refusal) => {
-            if refusal.code == Code::Memory {
-                return Ok(refused(is_memory(&refusal)));
-            }
-            let is_named = refusal.detail.as_slice() == b"A -> B -> A".as_slice();
-            Ok(done(refusal.code == Code::Loop && refusal.location.is_none() && is_named))
-        }
+/// `EvaluationOrder::of`.
+pub(crate) enum Ordering {
+    /// Of a tree that has an order.
+    Order,
+    /// Of a tree whose loop is named.
+    Loop,
+}
+
+impl TreeCall for Ordering {
+    fn end(&self, alloc: Global, tree: &Tree) -> Result<CallEnd, AllocError> {
+        let end = match (EvaluationOrder::of(alloc, tree, tree.layout()), self) {
+            (Ok(order), Ordering::Order) => done(is_order(order.nodes())),
+            (Ok(_order), Ordering::Loop) => CallEnd::Wrong,
+            (Err(refusal), Ordering::Order) => refused(is_memory(&refusal)),
+            (Err(refusal), Ordering::Loop) => loop_end(&refusal),
+        };
+        Ok(end)
     }
 }
