@@ -1,5 +1,5 @@
 //! The files that a run reads: lent to it, or its own.
-ghost use Rattle.std.specs.Prelude.{◌≡◌};
+ghost use Rattle.std.specs.Prelude.{◌≡◌, None};
 ghost use Rattle.kc_read.specs.Files.{bytes_in};
 ghost use Rattle.kc_conf.specs.TreeFiles.{AreAtHand, files_in};
 
@@ -27,7 +27,8 @@ impl TreeFiles<'_> {
 
 // The files again, where they are looked at once more; else those that are the run's own are let go.
 pub fn kept_if<'f>(wanted: &Option<String>, files: TreeFiles<'f>) -> Option<TreeFiles<'f>>
-    ensures { AreAtHand wanted.now (files_in files.entry) result }
+    ensures at_hand { AreAtHand wanted.now (files_in files.entry) result }
+    ensures let_go { wanted.now ≡ None → result ≡ None }
 {
     match wanted {
         Some(_) => Some(files),
