@@ -1,27 +1,17 @@
 -- Trusted: The values that were given and are not the symbols': whole lines, without the line feed (our own).
-use Rattle.std.specs.Prelude.{ℕ, Bool, true, false, if◌then◌else◌, List, [], ◌∷◌, ◌++◌, codes, bytes_eq, Option, Some, None}
+use Rattle.std.specs.Prelude.{ℕ, Bool, true, false, if◌then◌else◌, List, [], ◌∷◌, ◌++◌, codes, Option, Some, None}
 use Rattle.std.specs.List.{flat_map, range_with_len}
-use Rattle.kc_text.specs.Escapes.{escape}
 use Rattle.kc_expr.specs.Names.{symbol}
 use Rattle.kc_expr.specs.Value.{tri_text}
 use Rattle.kc_expr.specs.declared.expression.Kind.{Kind}
-use Rattle.kc_expr.specs.declared.expression.Kind.TheVariants.{Undefined, Bool as IsBool, Tristate, Str, Int, Hex}
 use Rattle.kc_tree.specs.TreeFacts.{Condition, SymbolFacts}
-use Rattle.kc_user.specs.GivenValue.{GivenValue, GivenTruth, GivenText, Member, SymbolPlace}
+use Rattle.kc_user.specs.GivenValue.{GivenValue, GivenTruth, GivenText, Member, SymbolPlace, same_given}
 use Rattle.kc_user.specs.Places.{place_at}
-use Rattle.kc_values.specs.Differs.{given_of, same_tri}
+use Rattle.kc_values.specs.Differs.{given_of}
 use Rattle.kc_values.specs.Lookups.{facts, name}
 use Rattle.kc_values.specs.Solution.{symbol_count}
 use Rattle.kc_solve.specs.Solved.{Solution, known}
-
--- a text as a .config writes it: a string in quotes, a number as it is
-abbrev pub text_in_config : Kind → List ℕ → List ℕ
-text_in_config Undefined text = text
-text_in_config IsBool text = text
-text_in_config Tristate text = text
-text_in_config Str text = codes "\"" ++ escape text ++ codes "\""
-text_in_config Int text = text
-text_in_config Hex text = text
+use Rattle.kc_dot.specs.SymbolLines.{text_in_config}
 
 -- a value as a .config writes it
 abbrev pub value_text : Kind → GivenValue → List ℕ
@@ -33,15 +23,6 @@ value_text kind (Member m) = []
 abbrev pub lost_line : List ℕ → Kind → GivenValue → GivenValue → List ℕ
 lost_line name kind given value =
     codes "warning K14: " ++ name ++ codes " was given " ++ value_text kind given ++ codes " and is " ++ value_text kind value
-
-abbrev pub same_given : GivenValue → GivenValue → Bool
-same_given (GivenTruth t) (GivenTruth u) = same_tri t u
-same_given (GivenTruth t) (GivenText b) = false
-same_given (GivenTruth t) (Member m) = false
-same_given (GivenText a) (GivenTruth u) = false
-same_given (GivenText a) (GivenText b) = bytes_eq a b
-same_given (GivenText a) (Member m) = false
-same_given (Member m) given = false
 
 -- what stands in a symbol's place is not its value
 abbrev pub lost_by : List ℕ → Kind → Option GivenValue → GivenValue → List (List ℕ)

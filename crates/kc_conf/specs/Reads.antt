@@ -1,6 +1,6 @@
 -- For proofs: What reading the streams does.
 use Rattle.std.specs.Prelude.{◌≡◌, ◌≢◌, ℕ, Bool, true, false, ◌&&◌, ◌||◌, if◌then◌else◌, List, [], ◌++◌, length, Option, Some, None, ⊤}
-use Rattle.kc_text.specs.Lines.{is_line_feed}
+use Rattle.kc_text.specs.Lines.{HoldsNoLineFeed}
 use Rattle.kc_tree.specs.TreeFacts.{TreeFacts}
 use Rattle.kc_user.specs.Places.{Places, no_places}
 use Rattle.kc_solve.specs.Solved.{Solution}
@@ -57,7 +57,7 @@ notes_failures_after (fault.Write output) count = next_failure count
 
 -- no line feed is among the bytes that wait
 abbrev pub WaitsForLf : StreamPosition → Type 0
-WaitsForLf position = All (λ b. is_line_feed b ≡ false) position.pending
+WaitsForLf position = HoldsNoLineFeed position.pending
 
 -- the fault is a read of that input, a failure of the notes, or memory
 abbrev pub IsStreamFault : ℕ → RunFault → Type 0

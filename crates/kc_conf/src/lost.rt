@@ -4,12 +4,13 @@ ghost use Rattle.kc_expr.specs.Value.{value_by_kind};
 ghost use Rattle.kc_solve.specs.Solved.{known};
 ghost use Rattle.std.specs.Option.{option_and_then};
 ghost use Rattle.kc_tree.specs.Layouts.{definition_at, facts_of};
-ghost use Rattle.kc_user.specs.GivenValue.{SymbolPlace};
+ghost use Rattle.kc_user.specs.GivenValue.{SymbolPlace, same_given};
 ghost use Rattle.kc_user.specs.Places.{place_at};
 ghost use Rattle.kc_user.specs.ValueView.{given_of_value};
 ghost use Rattle.kc_values.specs.Differs.{given_of};
 ghost use Rattle.kc_values.specs.Solution.{symbol_count};
 ghost use Rattle.kc_values.specs.User.{given_in};
+ghost use Rattle.kc_dot.specs.SymbolLines.{text_in_config};
 ghost use Rattle.kc_conf.specs.Lost as spec;
 ghost use Rattle.kc_conf.specs.LostView.{given_by, is_prompted};
 ghost use Rattle.kc_conf.specs.Outcome.{lost_warnings};
@@ -28,7 +29,7 @@ use std::alloc::{AllocError, Global};
 
 // Adds a text as a `.config` writes it.
 fn add_text(kind: Kind, text: &[u8], line: &mut Vec<u8>) -> Result<(), AllocError>
-    ensures { OnOk result (line.new.items ≡ line.old.items ++ spec.text_in_config kind text.now) }
+    ensures { OnOk result (line.new.items ≡ line.old.items ++ text_in_config kind text.now) }
 {
     match kind {
         Kind::Str => {
@@ -89,7 +90,7 @@ fn add_shown(kind: Kind, shown: ShownValue<'_>, line: &mut Vec<u8>) -> Result<()
 
 // Whether the two are one value.
 fn is_same(given: ShownValue<'_>, value: ShownValue<'_>) -> bool
-    ensures { result ≡ spec.same_given (given_by given.entry) (given_by value.entry) }
+    ensures { result ≡ same_given (given_by given.entry) (given_by value.entry) }
 {
     match (given, value) {
         (ShownValue::Truth(given), ShownValue::Truth(tri)) => given == tri,

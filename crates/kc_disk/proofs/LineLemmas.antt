@@ -10,8 +10,8 @@ use Rattle.kc_conf.specs.OutputStates.{OutputStates, at, failed, grown, with_sta
 use Rattle.kc_conf.specs.declared.outputs.Output.{Output}
 use Rattle.kc_conf.specs.declared.outputs.Output.TheVariants.{Notes}
 use Rattle.kc_disk.specs.MakerOutputs.{states_of, record_at, record_failed, with_record}
-use Rattle.kc_text.specs.Lines.{is_line_feed}
-use Rattle.kc_disk.specs.Lines.{HoldsNoLineFeed, ends_line}
+use Rattle.kc_text.specs.Lines.{HoldsNoLineFeed, is_line_feed}
+use Rattle.kc_disk.specs.Lines.{ends_line}
 use Rattle.kc_disk.specs.Makers.{MakerState}
 use Rattle.kc_disk.specs.Flushed.{Flushes}
 use Rattle.kc_disk.specs.declared.records.OutputRecords.{OutputRecords}

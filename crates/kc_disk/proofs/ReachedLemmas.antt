@@ -4,7 +4,8 @@ use Rattle.kc_conf.specs.declared.outputs.Output.{Output}
 use Rattle.kc_conf.specs.declared.outputs.Output.TheVariants.{Config, Header, Minimal, Depfile}
 use Rattle.kc_conf.specs.declared.options.Options.{Options}
 use Rattle.kc_disk.specs.MakerOutputs.{AreConsistent, IsConsistent, is_current, state_of, states_of, waiting}
-use Rattle.kc_disk.specs.Lines.{HoldsNoLineFeed, ends_line}
+use Rattle.kc_text.specs.Lines.{HoldsNoLineFeed}
+use Rattle.kc_disk.specs.Lines.{ends_line}
 use Rattle.kc_disk.specs.Makers.{MadeFile, Tells, MakerState}
 use Rattle.kc_disk.specs.Reached.{FileReached, Reached}
 use Rattle.kc_disk.specs.declared.records.OutputRecord.{OutputRecord}

@@ -2,7 +2,7 @@
 ghost use Rattle.std.specs.Prelude.{◌≡◌, [], ◌≢◌, ◌<◌, ◌≤◌, ◌-◌, length, take, IfOk, OnOk, OnErr, None, true};
 ghost use Rattle.kc_conf.specs.Faults.{name_of};
 ghost use Rattle.kc_conf.specs.OutputStates.{with_text};
-ghost use Rattle.kc_disk.specs.Lines.{HoldsNoLineFeed};
+ghost use Rattle.kc_text.specs.Lines.{HoldsNoLineFeed};
 ghost use Rattle.kc_disk.specs.Makers.{Tells, none_made};
 ghost use Rattle.kc_disk.specs.Reached.{Reached, unused};
 ghost use Rattle.kc_conf.specs.declared.outputs.Output.TheVariants.{Notes};

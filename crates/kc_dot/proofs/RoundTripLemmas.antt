@@ -201,10 +201,12 @@ module _ (prefix name : List ℕ) (few : length prefix ≤ 64) (short : length n
   written_short (TextValue kind.Str text) fits =
       omega (
         arith,
-        length-append ((prefix ++ name) ++ codes "=\"" ++ escape text) (codes "\"\n"),
+        length-append ((prefix ++ name) ++ codes "=" ++ (codes "\"" ++ escape text ++ codes "\"")) (codes "\n"),
         length-append
-            ((prefix ++ name) ++ codes "=\"") (escape text),
-        length-append (prefix ++ name) (codes "=\""),
+            ((prefix ++ name) ++ codes "=") (codes "\"" ++ escape text ++ codes "\""),
+        length-append (codes "\"" ++ escape text) (codes "\""),
+        length-append (codes "\"") (escape text),
+        length-append (prefix ++ name) (codes "="),
         whole_name,
       )
   written_short (TextValue kind.Int text) fits =

@@ -109,12 +109,14 @@ module _ (stream : List ℕ) where
     known_short (TextValue kind.Tristate text) e = short_nothing
     known_short (TextValue kind.Str text) e =
         let (solid, fits) = fits_parts text e in
-        let open_ : List ℕ = name ++ codes "=\"" in
-        let front : List ℕ = open_ ++ escape text in
-        let front_none : HasNoLf front = All-append (λ b. is_line_feed b ≡ false) open_ (escape text) (behind (codes "=\"") (no_lf_check (codes "=\"") refl)) (escape_no_lf text solid) in
-        short_line (front ++ codes "\"") (dot_line name (TextValue kind.Str text)) (sym (append_assoc front (codes "\"") (10 ∷ [])))
-        (All-append (λ b. is_line_feed b ≡ false) front (codes "\"") front_none (no_lf_check (codes "\"") refl))
-        (omega (arith, few, fits, length-append name (codes "=\""), length-append open_ (escape text), length-append front (codes "\"")))
+        let front : List ℕ = name ++ codes "=" in
+        let open_ : List ℕ = codes "\"" ++ escape text in
+        let quoted : List ℕ = open_ ++ codes "\"" in
+        let open_none : HasNoLf open_ = All-cons (λ b. is_line_feed b ≡ false) 34 (escape text) refl (escape_no_lf text solid) in
+        let quoted_none : HasNoLf quoted = All-append (λ b. is_line_feed b ≡ false) open_ (codes "\"") open_none (no_lf_check (codes "\"") refl) in
+        short_line (front ++ quoted) (dot_line name (TextValue kind.Str text)) refl
+        (All-append (λ b. is_line_feed b ≡ false) front quoted (behind (codes "=") (no_lf_check (codes "=") refl)) quoted_none)
+        (omega (arith, few, fits, length-append name (codes "="), length-append (codes "\"") (escape text), length-append open_ (codes "\""), length-append front quoted))
     known_short (TextValue kind.Int text) e = number_short text (fits_parts text e).0 (fits_parts text e).1
     known_short (TextValue kind.Hex text) e = number_short text (fits_parts text e).0 (fits_parts text e).1
 

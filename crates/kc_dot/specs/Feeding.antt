@@ -1,9 +1,9 @@
 -- Trusted: What a reader does with the bytes that it is fed, whatever follows them.
-use Rattle.std.specs.Prelude.{◌≡◌, ℕ, ◌+◌, ◌<◌, ◌≤◌, ◌++◌, List, [], ◌∷◌, length, min, count_by, All, Option, Some, true, false, if◌then◌else◌, ◌==◌}
+use Rattle.std.specs.Prelude.{◌≡◌, ℕ, ◌+◌, ◌<◌, ◌≤◌, ◌++◌, List, [], ◌∷◌, length, min, count_by, Option, Some, true, false, if◌then◌else◌, ◌==◌}
 use Rattle.std.specs.List.{after_last}
 use Rattle.kc_text.specs.Bytes.{byte}
 use Rattle.kc_text.specs.Limits.{last_count, one_more}
-use Rattle.kc_text.specs.Lines.{is_line_feed}
+use Rattle.kc_text.specs.Lines.{HoldsNoLineFeed, is_line_feed}
 use Rattle.kc_tree.specs.TreeFacts.{TreeFacts}
 use Rattle.kc_user.specs.Places.{Places}
 use Rattle.kc_dot.specs.declared.fault.DotFault.{DotFault}
@@ -25,7 +25,7 @@ stream_start = record { number = 1; pending = [] }
 pub record IsWithinLine (position : StreamPosition) : Type 0 where
   pub numbered : position.number ≤ last_count
   pub within : length position.pending ≤ longest_dot_line
-  pub one_line : All (λ b. is_line_feed b ≡ false) position.pending
+  pub one_line : HoldsNoLineFeed position.pending
 
 -- the line's number after these bytes: one more for each LF
 abbrev pub number_after : ℕ → List ℕ → ℕ
@@ -80,7 +80,7 @@ module _ (tree : TreeFacts) (prefix name : List ℕ) where
     pub text : List ℕ
     pub later : List ℕ
     pub ends : left ≡ text ++ byte "\n" ∷ later
-    pub one_line : All (λ b. is_line_feed b ≡ false) (position.pending ++ text)
+    pub one_line : HoldsNoLineFeed (position.pending ++ text)
     pub within : length (position.pending ++ text) ≤ longest_dot_line
     pub begun : GoesBeyond (warning tree prefix places (line name position.number (position.pending ++ text) true)) front
 

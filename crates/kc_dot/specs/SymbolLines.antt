@@ -4,7 +4,17 @@ use Rattle.kc_text.specs.Escapes.{escape}
 use Rattle.kc_text.specs.Numbers.{has_hex_prefix}
 use Rattle.kc_expr.specs.Value.{SymbolValue, Truth, TextValue}
 use Rattle.kc_expr.specs.declared.expression.Tri.TheVariants.{N, M, Y}
+use Rattle.kc_expr.specs.declared.expression.Kind.{Kind}
 use Rattle.kc_expr.specs.declared.expression.Kind.TheVariants as kind
+
+-- a text as a .config writes it: a string in quotes, a number as it is
+abbrev pub text_in_config : Kind → List ℕ → List ℕ
+text_in_config kind.Undefined text = text
+text_in_config kind.Bool text = text
+text_in_config kind.Tristate text = text
+text_in_config kind.Str text = codes "\"" ++ escape text ++ codes "\""
+text_in_config kind.Int text = text
+text_in_config kind.Hex text = text
 
 -- `CONFIG_NAME=value`, or `# CONFIG_NAME is not set`, with the line's LF; the prefix and the name stand in one
 abbrev pub dot_line : List ℕ → SymbolValue → List ℕ
@@ -14,9 +24,9 @@ dot_line name (Truth Y) = name ++ codes "=y\n"
 dot_line name (TextValue kind.Undefined text) = []
 dot_line name (TextValue kind.Bool text) = []
 dot_line name (TextValue kind.Tristate text) = []
-dot_line name (TextValue kind.Str text) = name ++ codes "=\"" ++ escape text ++ codes "\"\n"
-dot_line name (TextValue kind.Int text) = name ++ codes "=" ++ text ++ codes "\n"
-dot_line name (TextValue kind.Hex text) = name ++ codes "=" ++ text ++ codes "\n"
+dot_line name (TextValue kind.Str text) = name ++ codes "=" ++ text_in_config kind.Str text ++ codes "\n"
+dot_line name (TextValue kind.Int text) = name ++ codes "=" ++ text_in_config kind.Int text ++ codes "\n"
+dot_line name (TextValue kind.Hex text) = name ++ codes "=" ++ text_in_config kind.Hex text ++ codes "\n"
 
 -- a hex begins with `0x` in a header
 abbrev pub hex_text : List ℕ → List ℕ

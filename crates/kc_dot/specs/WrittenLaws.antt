@@ -1,6 +1,6 @@
 -- Trusted: What holds of reading, and of the texts that are written, for every tree, every prefix and every solution.
-use Rattle.std.specs.Prelude.{◌≡◌, ℕ, List, true, false, All}
-use Rattle.kc_text.specs.Lines.{is_line_feed}
+use Rattle.std.specs.Prelude.{◌≡◌, ℕ, List, true}
+use Rattle.kc_text.specs.Lines.{HoldsNoLineFeed}
 use Rattle.kc_expr.specs.declared.expression.SymId.{SymId}
 use Rattle.kc_expr.specs.Value.{SymbolValue}
 use Rattle.kc_order.specs.Solution.{Solves}
@@ -20,14 +20,14 @@ use Rattle.kc_dot.specs.Texts.{config_text, minimal_text}
 -- What a line assigns to a symbol is allowed for it.
 abbrev pub AssignedAreAllowed : Type 0
 AssignedAreAllowed =
-    (tree : TreeFacts) (prefix bytes : List ℕ) (s : SymId) (given : GivenValue) → All (λ b. is_line_feed b ≡ false) bytes →
+    (tree : TreeFacts) (prefix bytes : List ℕ) (s : SymId) (given : GivenValue) → HoldsNoLineFeed bytes →
     effect_of tree (meaning_of prefix bytes) ≡ Assigns s given → allowed tree s given ≡ true
 
 -- Every value that is allowed for a symbol is assigned by some line, which is not too long.
 abbrev pub AllowedAreAssigned : Type 0
 AllowedAreAssigned =
     (tree : TreeFacts) (prefix : List ℕ) (s : SymId) (given : GivenValue) → IsWellFormed tree → is_prefix prefix ≡ true → allowed tree s given ≡ true →
-    (l : Line) × (l.ended ≡ true) × All (λ b. is_line_feed b ≡ false) l.bytes × (is_within l ≡ true) × (effect tree prefix l ≡ Assigns s given)
+    (l : Line) × (l.ended ≡ true) × HoldsNoLineFeed l.bytes × (is_within l ≡ true) × (effect tree prefix l ≡ Assigns s given)
 
 -- the values of an accepted tree solve its equations under places that hold what is allowed
 pub record IsSolutionOf (tree : TreeFacts) (places : Places) (V : ℕ → SymbolValue) : Type 0 where

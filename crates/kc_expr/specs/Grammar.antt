@@ -10,12 +10,13 @@ use Rattle.std.specs.List.{flat_map}
 use Rattle.kc_text.specs.declared.tokens.Op.{Op}
 use Rattle.kc_text.specs.declared.tokens.Op.TheVariants as op
 use Rattle.kc_expr.specs.declared.expression.SymId.{SymId}
+use Rattle.kc_expr.specs.declared.expression.Tri.TheVariants.{M}
 use Rattle.kc_expr.specs.declared.parse.Connective.{Connective}
 use Rattle.kc_expr.specs.declared.parse.Connective.TheVariants.{And, Or}
 use Rattle.kc_text.specs.Escapes.{unescape}
 use Rattle.kc_text.specs.Lexemes.{Lexeme, AWord, AQuoted, AnOp, lexeme}
 use Rattle.kc_text.specs.declared.tokens.Token.{Token}
-use Rattle.kc_expr.specs.Form.{Form, Forms, forms, Leaf, Text, Symbol, Single, Related, Negated, Every, Some_of, NoForms, MoreForms}
+use Rattle.kc_expr.specs.Form.{Form, Forms, forms, Leaf, Text, Symbol, Single, Related, Negated, Every, Some_of, NoForms, MoreForms, tri_text}
 use Rattle.kc_expr.specs.Value.{tristate_constant}
 use Rattle.kc_expr.specs.Names.{symbol, same_name}
 
@@ -126,7 +127,7 @@ abbrev pub is_tristate_constant : List ℕ → Bool
 is_tristate_constant w = is_some (tristate_constant w)
 
 abbrev pub m_word : List ℕ
-m_word = codes "m"
+m_word = tri_text M
 
 abbrev pub is_m_leaf : Leaf → Bool
 is_m_leaf (Symbol s) = false

@@ -1,11 +1,11 @@
 -- Trusted: What a tree says, without where it lies in memory.
-use Rattle.std.specs.Prelude.{◌≡◌, ℕ, true, false, ◌<◌, ◌≤◌, List, length, Option, Some, None, slice_get, Contains, All}
+use Rattle.std.specs.Prelude.{◌≡◌, ℕ, true, ◌<◌, ◌≤◌, List, length, Option, Some, None, slice_get, Contains, All}
 use Rattle.kc_expr.specs.declared.expression.SymId.{SymId}
 use Rattle.kc_expr.specs.declared.expression.Kind.{Kind}
 use Rattle.kc_expr.specs.declared.expression.Kind.TheVariants as kind
 use Rattle.kc_expr.specs.Form.{Form, Leaf, Text, Symbol, Single, Related, Negated, Every, Some_of}
 use Rattle.kc_text.specs.Limits.{longest_line}
-use Rattle.kc_text.specs.Lines.{is_line_feed}
+use Rattle.kc_text.specs.Lines.{HoldsNoLineFeed}
 use Rattle.kc_expr.specs.Limits.{longest_name}
 use Rattle.kc_expr.specs.Names.{is_name_byte}
 use Rattle.kc_expr.specs.Limits.{most_symbols}
@@ -107,7 +107,7 @@ IsEntrySound t i (CommentShown text when) = IsModeBelow (length t.choices) when
 -- one line, no longer than a line of a Kconfig file
 pub record IsLineText (text : List ℕ) : Type 0 where
   pub within : length text ≤ longest_line
-  pub one_line : All (λ b. is_line_feed b ≡ false) text
+  pub one_line : HoldsNoLineFeed text
 
 -- of the title of a menu or comment
 abbrev pub OfTitle : (List ℕ → Type 0) → Shown → Type 0

@@ -11,8 +11,8 @@ use Rattle.kc_expr.specs.declared.expression.Kind.TheVariants.{Undefined, Bool a
 use Rattle.kc_expr.specs.Value.{SymbolValue, Truth, TextValue}
 use Rattle.kc_tree.specs.TreeFacts.{SymbolFacts, TreeFacts}
 use Rattle.kc_values.specs.Values as v
-use Rattle.kc_user.specs.GivenValue.{GivenValue}
-use Rattle.kc_values.specs.Differs.{same_tri, same_value}
+use Rattle.kc_user.specs.GivenValue.{GivenValue, same_tri}
+use Rattle.kc_values.specs.Differs.{same_value}
 
 pub same_tri-true : (t u : Tri) → same_tri t u ≡ true → t ≡ u
 same_tri-true N N e = refl

@@ -1,40 +1,24 @@
 -- Trusted: Which symbols differ from what they would be without the user, and which change on rereading.
-use Rattle.std.specs.Prelude.{bytes_eq, ℕ, ◌&&◌, Bool, true, false, not, Option, None}
+use Rattle.std.specs.Prelude.{ℕ, ◌&&◌, Bool, not, Option, None}
 use Rattle.kc_expr.specs.Names.{symbol}
 use Rattle.kc_expr.specs.Value.{SymbolValue, Truth, TextValue, truth_of_value}
 use Rattle.kc_expr.specs.declared.expression.SymId.{SymId}
-use Rattle.kc_expr.specs.declared.expression.Tri.{Tri}
-use Rattle.kc_expr.specs.declared.expression.Tri.TheVariants.{N, M, Y}
 use Rattle.kc_tree.specs.TreeFacts.{TreeFacts}
 use Rattle.kc_values.specs.Lookups.{facts, choice_at}
-use Rattle.kc_user.specs.GivenValue.{GivenValue, GivenTruth, GivenText, UserPlace, SymbolPlace, ChoicePlace}
+use Rattle.kc_user.specs.GivenValue.{GivenValue, GivenTruth, GivenText, UserPlace, SymbolPlace, ChoicePlace, same_given}
 use Rattle.kc_tree.specs.Common.{is_symbol_of}
 use Rattle.kc_values.specs.Values.{selected}
 use Rattle.kc_values.specs.Solution.{known_from, user_place, rhs}
 use Rattle.kc_values.specs.WrittenSymbols.{changes_on_reread_facts}
 
-abbrev pub same_tri : Tri → Tri → Bool
-same_tri N N = true
-same_tri N M = false
-same_tri N Y = false
-same_tri M N = false
-same_tri M M = true
-same_tri M Y = false
-same_tri Y N = false
-same_tri Y M = false
-same_tri Y Y = true
-
--- Values of one symbol are compared as truths, or as texts: `ff` and `0xff` are two values.
-abbrev pub same_value : SymbolValue → SymbolValue → Bool
-same_value (Truth t) (Truth u) = same_tri t u
-same_value (Truth t) (TextValue k bytes) = false
-same_value (TextValue k bytes) (Truth t) = false
-same_value (TextValue k bytes) (TextValue l more) = bytes_eq bytes more
-
 -- a value as its line gives it to the user
 abbrev pub given_of : SymbolValue → GivenValue
 given_of (Truth t) = GivenTruth t
 given_of (TextValue k bytes) = GivenText bytes
+
+-- two values of one symbol are the same
+abbrev pub same_value : SymbolValue → SymbolValue → Bool
+same_value a b = same_given (given_of a) (given_of b)
 
 -- The selection of a choice under values V, without the user's member.
 abbrev pub default_selection : TreeFacts → (ℕ → SymbolValue) → ℕ → Option SymId
