@@ -1,7 +1,7 @@
 //! The line that is not yet ended, and what each byte does to it.
-ghost use Rattle.std.specs.Prelude.{◌≡◌, ◌<◌, ◌≤◌, ◌∷◌, ◌++◌, [], ℕ, List, true, false, length, take, All, OnOk, OnErr, IfOk, IfErr, if◌then◌else◌};
+ghost use Rattle.std.specs.Prelude.{◌≡◌, ◌<◌, ◌≤◌, ◌∷◌, ◌++◌, [], ℕ, List, true, false, length, take, OnOk, OnErr, IfOk, IfErr, if◌then◌else◌};
 ghost use Rattle.std.specs.Str.Lines.{strip_carriage_return};
-ghost use Rattle.kc_text.specs.Lines.{is_line_feed};
+ghost use Rattle.kc_text.specs.Lines.{HoldsNoLineFeed};
 ghost use Rattle.kc_user.specs.Places.{ArePlacesOf};
 ghost use Rattle.kc_dot.specs.Feeding.{StreamPosition, IsWithinLine, Feeds, Refuses, FinishesStream, FailsToEnd, fed, ended, failures_after};
 ghost use Rattle.kc_dot.specs.LineSteps.{FailsIn, StopsAt};
@@ -99,19 +99,21 @@ fn take_byte<S: Sink>(
     Ok(())
 }
 
-// How many bytes stand before the first LF.
-fn bytes_before_lf(bytes: &[u8]) -> usize
+// How many bytes stand before the first LF, as far as they have room. No byte is looked at behind that room.
+fn bytes_before_lf(bytes: &[u8], room: usize) -> usize
     ensures within { result ≤ length bytes.now }
-    ensures none { All (λ b. is_line_feed b ≡ false) (take result bytes.now) }
+    ensures few { result ≤ room }
+    ensures none { HoldsNoLineFeed (take result bytes.now) }
 {
-    match bytes.find_byte(b'\n') {
+    let front = &bytes[..room.min(bytes.len())];
+    match front.find_byte(b'\n') {
         Some(n) => n,
-        None => bytes.len(),
+        None => front.len(),
     }
 }
 
-// Takes a beginning of the bytes, and answers how many: those before the next LF, where the line does not get too long by
-// them, and else one.
+// Takes a beginning of the bytes, and answers how many: those before the next LF, as far as the line does not get too long
+// by them, or where there are none, one.
 fn take_front<S: Sink>(
     alloc: Global,
     stream: &NamedStream<'_>,
@@ -137,8 +139,8 @@ fn take_front<S: Sink>(
     ensures user { OnOk result (ArePlacesOf stream.now.tree.now user.new) }
     ensures opened { OnOk result (IsWithinLine (position_of line_buffer.new)) }
 {
-    let count = bytes_before_lf(bytes);
-    if count > 0 && count <= LONGEST_DOT_LINE - line_buffer.pending.len() {
+    let count = bytes_before_lf(bytes, LONGEST_DOT_LINE - line_buffer.pending.len());
+    if count > 0 {
         line_buffer.pending.extend_from_slice(&bytes[..count])?;
         return Ok(count);
     }

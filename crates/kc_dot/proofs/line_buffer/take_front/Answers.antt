@@ -6,8 +6,8 @@ use Rattle.kc_dot.proofs.FedLemmas.{fed-others, fed-append}
 use Rattle.kc_dot.proofs.FeedLemmas.{StopsAt-longer}
 use Rattle.kc_dot.proofs.line_buffer.take_front.Goals as goal
 
-pub returns-then-count-len-clause-position : goal.returns-then-count-len-clause-position
-returns-then-count-len-clause-position g c = λ before first is.
+pub returns-then-count-gt0-clause-position : goal.returns-then-count-gt0-clause-position
+returns-then-count-gt0-clause-position g c = λ before first is.
     rw c.in_ok-extend_from_slice.ensures.items
     (fed-others before (take c.bytes_before_lf-count.result c.args.bytes.now) first (position_of c.args.line_buffer.now) c.requires.opened c.bytes_before_lf-count.ensures.none is)
 
