@@ -52,6 +52,12 @@ IsTreeOf files root r = (e : Result Log Refused) × Expands files root e × (r �
 abbrev pub OneTree : Type 0
 OneTree = (files : Files) (root : List ℕ) (r other : Result TreeFacts Refused) → IsTreeOf files root r → IsTreeOf files root other → r ≡ other
 
+-- over any files a root file gives a tree or a refusal, and no other
+abbrev pub HasOneTree : Type 0
+HasOneTree =
+    (files : Files) (root : List ℕ) →
+    (r : Result TreeFacts Refused) × IsTreeOf files root r × ((other : Result TreeFacts Refused) → IsTreeOf files root other → r ≡ other)
+
 -- the tree of a root file is well formed
 abbrev pub TreesAreWellFormed : Type 0
 TreesAreWellFormed = (files : Files) (root : List ℕ) (tree : TreeFacts) → IsTreeOf files root (Ok tree) → IsWellFormed tree

@@ -5,6 +5,7 @@ use Rattle.std.proofs.lemmas.List.FromFn.{get_or-map-range_with_len, length-map-
 use Rattle.kc_expr.specs.Value.{SymbolValue, TextValue}
 use Rattle.kc_expr.specs.declared.expression.Kind.TheVariants.{Undefined}
 use Rattle.kc_make.specs.Opened.{OpenedAreThere}
+use Rattle.kc_read.specs.Existing.{HasOneExpansion}
 use Rattle.kc_read.specs.Expansion.{Refused}
 use Rattle.kc_read.specs.Files.{Files}
 use Rattle.kc_tree.specs.TreeFacts.{TreeFacts}
@@ -68,7 +69,7 @@ solution_exists exists reads within tree places accepted there =
 
 -- ---- an answer
 
-module _ (either : order.AcceptedOrUnordered) (named : order.UnorderedHaveALoop) (within : NeedsAreDefined) where
+module _ (expands : HasOneExpansion) (either : order.AcceptedOrUnordered) (named : order.UnorderedHaveALoop) (within : NeedsAreDefined) where
   tree_answer : (files : Files) (root : List ℕ) (r : Result TreeFacts Refused) → IsTreeOf files root r →
       ((tree : TreeFacts) × IsAcceptedTree files root tree) ⊎ ((r : Refused) × IsRefusedTree files root r)
   tree_answer files root (Err r) built = inr (r, no_tree built)
@@ -80,7 +81,7 @@ module _ (either : order.AcceptedOrUnordered) (named : order.UnorderedHaveALoop)
   ]
 
   pub answer_exists : AnswerExists
-  answer_exists files root e expands = tree_answer files root (tree_of_log e) (e, expands, refl)
+  answer_exists files root = let (e, is, only) = expands files root in tree_answer files root (tree_of_log e) (e, is, refl)
 
 -- ---- an outcome
 
@@ -106,7 +107,7 @@ module _ (opens : OpenedAreThere) (formed : TreesAreWellFormed) (leaves : Stream
       ended opens files options all (noted (lines_text tree.warnings) rest) (accepted_tree tree accepted (rest, part, refl))
 
   pub outcome_exists : AnswerExists → OutcomeExists
-  outcome_exists answer files options all e expands = elim (answer files (root_file options) e expands) [
+  outcome_exists answer files options all = elim (answer files (root_file options)) [
     | inl a ↦ accepted_outcome files options all a.0 a.1
     | inr b ↦ ended opens files options all (refused (refusal_line b.0)) (refused_tree b.0 b.1 refl)
   ]

@@ -1,6 +1,6 @@
 -- Trusted: That there is an outcome, and one.
-use Rattle.std.specs.Prelude.{◌≡◌, ◌⊎◌, List, ℕ, Result}
-use Rattle.kc_read.specs.Expansion.{Expands, Log, Refused}
+use Rattle.std.specs.Prelude.{◌≡◌, ◌⊎◌, List, ℕ}
+use Rattle.kc_read.specs.Expansion.{Refused}
 use Rattle.kc_read.specs.Files.{Files}
 use Rattle.kc_tree.specs.TreeFacts.{TreeFacts}
 use Rattle.kc_user.specs.Places.{ArePlacesOf, Places}
@@ -13,11 +13,23 @@ use Rattle.kc_conf.specs.Outcome.{IsAcceptedTree, IsOutcome, IsRefusedTree, IsSo
 abbrev pub SolutionExists : Type 0
 SolutionExists = (tree : TreeFacts) (places : Places) → IsAccepted tree → ArePlacesOf tree places → (solution : Solution) × IsSolutionFor tree places solution
 
--- Where a root file has an expansion, it has an accepted tree or a refusal.
+-- Over any files a root file has an accepted tree or a refusal.
 abbrev pub AnswerExists : Type 0
-AnswerExists =
-    (files : Files) (root : List ℕ) (e : Result Log Refused) → Expands files root e →
-    ((tree : TreeFacts) × IsAcceptedTree files root tree) ⊎ ((r : Refused) × IsRefusedTree files root r)
+AnswerExists = (files : Files) (root : List ℕ) → ((tree : TreeFacts) × IsAcceptedTree files root tree) ⊎ ((r : Refused) × IsRefusedTree files root r)
+
+-- the one accepted tree, and no refusal
+abbrev pub IsOnlyAccepted : Files → List ℕ → TreeFacts → Type 0
+IsOnlyAccepted files root tree =
+    IsAcceptedTree files root tree × ((other : TreeFacts) → IsAcceptedTree files root other → tree ≡ other) × ((r : Refused) → IsRefusedTree files root r → ⊥)
+
+-- the one refusal, and no accepted tree
+abbrev pub IsOnlyRefused : Files → List ℕ → Refused → Type 0
+IsOnlyRefused files root r =
+    IsRefusedTree files root r × ((other : Refused) → IsRefusedTree files root other → r ≡ other) × ((tree : TreeFacts) → IsAcceptedTree files root tree → ⊥)
+
+-- Over any files a root file has exactly one of the two.
+abbrev pub ExactlyOneAnswer : Type 0
+ExactlyOneAnswer = (files : Files) (root : List ℕ) → ((tree : TreeFacts) × IsOnlyAccepted files root tree) ⊎ ((r : Refused) × IsOnlyRefused files root r)
 
 -- An accepted tree has an outcome, whatever the streams hold.
 abbrev pub AcceptedHaveAnOutcome : Type 0
@@ -25,11 +37,9 @@ AcceptedHaveAnOutcome =
     (files : Files) (options : Options) (all : List (List ℕ)) (tree : TreeFacts) → IsAcceptedTree files (root_file options) tree →
     (outcome : Outcome) × IsOutcome files options all outcome
 
--- And so has each root file that has an expansion.
+-- And so has each root file.
 abbrev pub OutcomeExists : Type 0
-OutcomeExists =
-    (files : Files) (options : Options) (all : List (List ℕ)) (e : Result Log Refused) → Expands files (root_file options) e →
-    (outcome : Outcome) × IsOutcome files options all outcome
+OutcomeExists = (files : Files) (options : Options) (all : List (List ℕ)) → (outcome : Outcome) × IsOutcome files options all outcome
 
 -- For all files, options and streams there is an outcome, and no other.
 abbrev pub ExactlyOneOutcome : Type 0

@@ -1,5 +1,5 @@
 //! What holds of the outcomes of runs, stated as the contracts of functions that do nothing.
-ghost use Rattle.kc_conf.specs.Existence.{AcceptedHaveAnOutcome, AnswerExists, ExactlyOneOutcome, OutcomeExists, SolutionExists};
+ghost use Rattle.kc_conf.specs.Existence.{AcceptedHaveAnOutcome, AnswerExists, ExactlyOneAnswer, ExactlyOneOutcome, OutcomeExists, SolutionExists};
 ghost use Rattle.kc_conf.specs.Accounted.{NothingIsLost};
 ghost use Rattle.kc_conf.specs.Outcome.{NotesAreLines};
 ghost use Rattle.kc_conf.specs.Reruns.{ConfigIsReadAgain, MinimalIsReadAgain, MinimalIsRunAgain, OutcomesAreReadAgain, TextsHaveShortLines, WrittenAreWhole};
@@ -74,14 +74,15 @@ pub fn minimal_is_run_again()
     texts_are_read_again();
 }
 
-/// Where a root file has an expansion there is an outcome, whatever the options and the streams: an accepted tree has a
-/// solution, and a tree of which some symbol is unordered has a loop that is named. (Our own.)
+/// There is an outcome, whatever the files, the options and the streams: a root file has an accepted tree or a refusal, of
+/// which a loop that is named is one, and an accepted tree has a solution. (Our own.)
 pub fn outcome_exists()
     ensures solution { SolutionExists }
     ensures answer { AnswerExists }
     ensures accepted { AcceptedHaveAnOutcome }
     ensures outcome { OutcomeExists }
 {
+    has_one_expansion();
     opened_are_one_list();
     accepted_have_one_solution();
     equations_read_needs();
@@ -91,11 +92,19 @@ pub fn outcome_exists()
     reading_leaves_allowed_places();
 }
 
+/// The law of answers: over any files a root file has one accepted tree and no refusal, or one refusal and no accepted tree.
+/// (Our own.)
+pub fn exactly_one_answer()
+    ensures { ExactlyOneAnswer }
+{
+    outcome_exists();
+    one_answer();
+}
+
 /// The law of the outcome: for every file map, options and streams there is exactly one. (Our own.)
 pub fn exactly_one_outcome()
     ensures { ExactlyOneOutcome }
 {
-    has_one_expansion();
     outcome_exists();
     one_outcome();
 }

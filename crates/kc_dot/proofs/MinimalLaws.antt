@@ -20,9 +20,10 @@ use Rattle.kc_dot.specs.Prefixes.{is_prefix}
 use Rattle.kc_dot.specs.Reading.{ReadResult, lines_from, reading, places_given}
 use Rattle.kc_dot.specs.Reread.{valuation_view, kept_lines, read_alone, IsOneSolution, HasOtherSolution}
 use Rattle.kc_dot.specs.HasNames.{HasNames}
-use Rattle.kc_dot.specs.Texts.{minimal_text}
+use Rattle.kc_dot.specs.Laws.{IsOneLine}
+use Rattle.kc_dot.specs.Texts.{minimal_text, symbol_config}
 use Rattle.kc_dot.proofs.GivesLemmas.{gives_whole}
-use Rattle.kc_dot.proofs.MinimalTextLemmas.{keeps_differing, tells_differing, stays, stays_member, all_given, minimal_gives, left_at}
+use Rattle.kc_dot.proofs.MinimalTextLemmas.{differing_line, keeps_differing, tells_differing, stays, stays_member, all_given, minimal_gives, left_at}
 
 -- a text read alone
 pub read_alone_is : (tree : TreeFacts) (prefix name text : List ℕ) → read_alone tree prefix name text ≡ reading tree prefix (no_places tree) (lines_from name 1 text)
@@ -91,10 +92,12 @@ module _ (tree : TreeFacts) (user : UserPlace → Option GivenValue) (V : ℕ �
   -- without some of its lines
   pub none_to_spare : NothingCanGo (symbol_count tree) (user_place tree) (rhs tree) (minimal_line tree user V) V Keep → (name : List ℕ) (keep : SymId → Bool) (s : SymId) →
       s.0 < symbol_count tree → differs tree user V s.0 ≡ true → keep s ≡ false →
-      let read = read_alone tree prefix name (kept_lines tree prefix (valuation_view tree user V) keep) in (read.stopped ≡ None) × HasOtherSolution tree read.places V
+      let read = read_alone tree prefix name (kept_lines tree prefix (valuation_view tree user V) keep) in
+      IsOneLine (symbol_config tree prefix (valuation_view tree user V) s) × (read.stopped ≡ None) × HasOtherSolution tree read.places V
   none_to_spare nothing name keep s lt other away =
       let (warned, is) = read_kept keep name in
       let tells = tells_differing tree user V theirs solves in (
+        differing_line tree user V formed theirs bools named_all allowed_at law solves prefix is_pre keep s lt other,
         ap (λ (r : ReadResult). r.stopped) is,
         subst (λ (r : ReadResult). HasOtherSolution tree r.places V) (sym is)
             (λ W w same.

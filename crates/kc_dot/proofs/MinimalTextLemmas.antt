@@ -30,12 +30,13 @@ use Rattle.kc_dot.specs.Prefixes.{is_prefix}
 use Rattle.kc_dot.specs.Reading.{Assignment, choice_of, places_given}
 use Rattle.kc_dot.specs.Reread.{valuation_view, kept_lines}
 use Rattle.kc_dot.specs.HasNames.{HasNames}
+use Rattle.kc_dot.specs.Laws.{IsOneLine}
 use Rattle.kc_dot.specs.Texts.{symbols_of, symbol_config}
 use Rattle.kc_dot.specs.SymbolLines.{dot_line}
 use Rattle.kc_dot.proofs.FilledLemmas.{Holds, IsCandidate, filled_symbol, filled_member, filled_none, in_flat_map, to_flat_map, contains_here, contains_cases, no_element}
 use Rattle.kc_dot.proofs.GivesLemmas.{Gives, gives_all, gives_nothing}
 use Rattle.kc_dot.proofs.ShapeLemmas.{value_shape, allowed_fits, untyped_not}
-use Rattle.kc_dot.proofs.SymbolLineLemmas.{IsOf, symbol_gives, own}
+use Rattle.kc_dot.proofs.SymbolLineLemmas.{FitsLine, IsOf, symbol_gives, symbol_line, own}
 
 -- Symbols by number.
 pub there : {X : Type 0} (xs : List X) (i : ℕ) → i < length xs → (x : X) × (slice_get xs i ≡ Some x)
@@ -162,24 +163,38 @@ module _ (tree : TreeFacts) (user : UserPlace → Option GivenValue) (V : ℕ �
   abbrev assignment_to : SymId → Assignment
   assignment_to s = record { symbol = s; given = given_of (V s.0) }
 
-  differing_gives : (stream : List ℕ) (s : SymId) → s.0 < length tree.symbols → differs tree user V s.0 ≡ true →
-      Gives tree prefix stream (symbol_config tree prefix (valuation_view tree user V) s) (assignment_to s ∷ [])
-  differing_gives stream s lt e =
-      let (f, at) = there tree.symbols s.0 lt in
+  -- what differs is allowed, of its symbol's type, and fits a line
+  differing_fits : (s : SymId) (f : SymbolFacts) → slice_get tree.symbols s.0 ≡ Some f → s.0 < length tree.symbols → differs tree user V s.0 ≡ true →
+      (allowed tree s (given_of (V s.0)) ≡ true) × IsOf f.kind (V s.0) × FitsLine (V s.0)
+  differing_fits s f at lt e =
       let ok : allowed tree s (given_of (V s.0)) ≡ true = law tree user V s.0 lt formed allowed_at solves e in
       let ok_kind : allowed_by f.kind (given_of (V s.0)) ≡ true = sym (ap (λ o. allowed_for o (given_of (V s.0))) at) ∙ ok in
-      let value_is : told_value s ≡ V s.0 = rw (lt-ltb s.0 (length tree.symbols) lt) refl in
       let shape : IsOf f.kind (V s.0) = elim (value_shape tree (known_from tree V) s f (user (user_place tree s.0)) at bools) [
         | inl untyped ↦ absurd (untyped_not f.kind (given_of (V s.0)) untyped ok_kind)
         | inr of ↦ rw (solves s.0 lt) of
       ] in
+      (ok, shape, allowed_fits f.kind (V s.0) shape ok_kind)
+
+  told_is : (s : SymId) → s.0 < length tree.symbols → known_from tree V s ≡ V s.0
+  told_is s lt = rw (lt-ltb s.0 (length tree.symbols) lt) refl
+
+  -- its line is one line
+  pub differing_line : (s : SymId) → s.0 < length tree.symbols → differs tree user V s.0 ≡ true → IsOneLine (symbol_config tree prefix (valuation_view tree user V) s)
+  differing_line s lt e =
+      let (f, at) = there tree.symbols s.0 lt in
+      let (ok, shape, fits) = differing_fits s f at lt e in
+      subst (λ k. IsOneLine (dot_line (prefix ++ name_of tree s) k)) (sym (told_is s lt))
+      (symbol_line tree prefix [] is_pre formed named_all s f at lt (V s.0) shape fits)
+
+  differing_gives : (stream : List ℕ) (s : SymId) → s.0 < length tree.symbols → differs tree user V s.0 ≡ true →
+      Gives tree prefix stream (symbol_config tree prefix (valuation_view tree user V) s) (assignment_to s ∷ [])
+  differing_gives stream s lt e =
+      let (f, at) = there tree.symbols s.0 lt in
+      let (ok, shape, fits) = differing_fits s f at lt e in
       let own_is : own tree prefix stream is_pre formed named_all s f at lt (V s.0) ≡ Some (assignment_to s) = rw ok refl in
-      let line = symbol_gives tree prefix stream is_pre formed named_all s f at lt (V s.0) shape (allowed_fits f.kind (V s.0) shape ok_kind) in
-      subst (λ k. Gives tree prefix stream (dot_line (prefix ++ name_of tree s) k) (assignment_to s ∷ [])) (sym value_is)
+      let line = symbol_gives tree prefix stream is_pre formed named_all s f at lt (V s.0) shape fits in
+      subst (λ k. Gives tree prefix stream (dot_line (prefix ++ name_of tree s) k) (assignment_to s ∷ [])) (sym (told_is s lt))
       (subst (λ o. Gives tree prefix stream (dot_line (prefix ++ name_of tree s) (V s.0)) (cons_option o [])) own_is line)
-    where
-      told_value : SymId → SymbolValue
-      told_value = known_from tree V
 
   abbrev line_if : Bool → Bool → SymId → List ℕ
   line_if stay other s = cond stay (cond other (symbol_config tree prefix (valuation_view tree user V) s) []) []

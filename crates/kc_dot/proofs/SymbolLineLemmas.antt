@@ -34,6 +34,7 @@ use Rattle.kc_dot.specs.Prefixes.{is_prefix}
 use Rattle.kc_dot.specs.Reading.{Assignment, assignment_of}
 use Rattle.kc_dot.specs.Plain.{is_end_byte, EndsPlainly}
 use Rattle.kc_dot.specs.HasNames.{HasNames}
+use Rattle.kc_dot.specs.Laws.{IsOneLine}
 use Rattle.kc_dot.specs.RoundTrip.{IsShortText}
 use Rattle.kc_dot.specs.SymbolLines.{dot_line}
 use Rattle.kc_dot.proofs.GivesLemmas.{Gives, gives_line}
@@ -264,3 +265,40 @@ module _ (tree : TreeFacts) (prefix stream : List ℕ) (is_pre : is_prefix prefi
   pub symbol_gives : (known : SymbolValue) → IsOf f.kind known → FitsLine known → Gives tree prefix stream (dot_line full known) (cons_option (own known) [])
   symbol_gives (Truth t) of fits = truth_gives t of
   symbol_gives (TextValue l text) of fits = written_gives f.kind l text refl of fits
+
+  -- the line of the symbol is one line
+  text_line : (value : List ℕ) → HasNoLf value → IsOneLine ((full ++ 61 ∷ value) ++ 10 ∷ [])
+  text_line value none = (full ++ 61 ∷ value, refl, set_no_lf value none)
+
+  truth_line : (t : Tri) → IsOneLine (dot_line full (Truth t))
+  truth_line N = ((codes "# " ++ full) ++ codes " is not set", sym (append_assoc (codes "# " ++ full) (codes " is not set") (10 ∷ [])), unset_no_lf)
+  truth_line M = subst IsOneLine (append_assoc full (61 ∷ 109 ∷ []) (10 ∷ [])) (text_line (109 ∷ []) (no_lf_check (109 ∷ []) refl))
+  truth_line Y = subst IsOneLine (append_assoc full (61 ∷ 121 ∷ []) (10 ∷ [])) (text_line (121 ∷ []) (no_lf_check (121 ∷ []) refl))
+
+  quoted_line : (text : List ℕ) → HasNoLf text → IsOneLine (dot_line full (TextValue kind.Str text))
+  quoted_line text none =
+      let line_is : dot_line full (TextValue kind.Str text) ≡ (full ++ 61 ∷ (34 ∷ escape text ++ 34 ∷ [])) ++ 10 ∷ [] = simp append_assoc in
+      let no_lf : HasNoLf (34 ∷ escape text ++ 34 ∷ []) =
+      All-append (λ b. is_line_feed b ≡ false) (34 ∷ escape text) (34 ∷ [])
+      (All-cons (λ b. is_line_feed b ≡ false) 34 (escape text) refl (escape_no_lf text none)) (no_lf_check (34 ∷ []) refl) in
+      subst IsOneLine (sym line_is) (text_line (34 ∷ escape text ++ 34 ∷ []) no_lf)
+
+  number_line : (text : List ℕ) → HasNoLf text → IsOneLine (full ++ codes "=" ++ text ++ codes "\n")
+  number_line text none =
+      let line_is : full ++ codes "=" ++ text ++ codes "\n" ≡ (full ++ 61 ∷ text) ++ 10 ∷ [] = simp append_assoc in
+      subst IsOneLine (sym line_is) (text_line text none)
+
+  told_line : (kd l : Kind) (text : List ℕ) → IsOf kd (TextValue l text) → FitsLine (TextValue l text) → IsOneLine (dot_line full (TextValue l text))
+  told_line kind.Undefined l text of fits = absurd of
+  told_line kind.Bool l text of fits = absurd of
+  told_line kind.Tristate l text of fits = absurd of
+  told_line kind.Str l text of fits =
+      subst (λ x. FitsLine (TextValue x text) → IsOneLine (dot_line full (TextValue x text))) (sym of) (λ f. quoted_line text f.0) fits
+  told_line kind.Int l text of fits =
+      subst (λ x. FitsLine (TextValue x text) → IsOneLine (dot_line full (TextValue x text))) (sym of) (λ f. number_line text f.0) fits
+  told_line kind.Hex l text of fits =
+      subst (λ x. FitsLine (TextValue x text) → IsOneLine (dot_line full (TextValue x text))) (sym of) (λ f. number_line text f.0) fits
+
+  pub symbol_line : (known : SymbolValue) → IsOf f.kind known → FitsLine known → IsOneLine (dot_line full known)
+  symbol_line (Truth t) of fits = truth_line t
+  symbol_line (TextValue l text) of fits = told_line f.kind l text of fits

@@ -132,9 +132,9 @@ pub fn write_header<S: Sink>(
 /// form.) The caller owes the solution of that tree. After an error, also where there was no memory, the sink took a beginning
 /// of it, never the whole: a file without a line takes no memory.
 ///
-/// With the places that reading it leaves, from empty places, the one solution is the one that was written. With any
-/// nonempty set of its lines left out it is not. No line is too long to be read again. All three ask that the user's
-/// places hold what is allowed.
+/// With the places that reading it leaves, from empty places, the one solution is the one that was written. It has one line
+/// for each symbol that differs, and with any nonempty set of these left out it is not. No line is too long to be read again.
+/// All three ask that the user's places hold what is allowed.
 pub fn write_minimal<S: Sink>(
     alloc: Global,
     tree: &Tree,

@@ -83,7 +83,8 @@ pub fn written_texts_are_short()
 }
 
 /// The minimal file gives the values back: with the places that reading it leaves, from empty places, they are the one
-/// solution. With any nonempty set of its lines left out they are not. (Our own.)
+/// solution. What it has of each symbol that differs is one line, and with any nonempty set of these left out they are not.
+/// (Our own.)
 pub fn minimal_gives_back()
     ensures restores { MinimalRestores }
     ensures nothing_to_spare { MinimalHasNothingToSpare }

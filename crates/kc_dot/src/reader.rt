@@ -68,7 +68,7 @@ impl<'a> DotReader<'a> {
     /// Takes the next piece of the stream. After an error the places are exactly those after the lines before the refused
     /// one, and the sink took their warnings. Where it failed, it did at the next line's warning: it took a beginning of
     /// that, never the whole, and the line, which the piece ends, assigned nothing. Memory is wanted only before a byte of
-    /// the piece: an empty piece never fails, and one that was taken whole does not.
+    /// the piece: an empty piece never fails, and one that was taken whole does not, unless the reader keeps a fault.
     pub fn feed<S: Sink>(
         &mut self,
         piece: &[u8],

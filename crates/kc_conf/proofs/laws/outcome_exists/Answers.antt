@@ -6,7 +6,8 @@ pub returns-clause-solution : goal.returns-clause-solution
 returns-clause-solution c = solution_exists c.accepted_have_one_solution.ensures.exists c.equations_read_needs.ensures c.needs_are_defined.ensures
 
 pub returns-clause-answer : goal.returns-clause-answer
-returns-clause-answer c = answer_exists c.unordered_have_a_loop.ensures.either c.unordered_have_a_loop.ensures.named c.needs_are_defined.ensures
+returns-clause-answer c =
+    answer_exists c.has_one_expansion.ensures c.unordered_have_a_loop.ensures.either c.unordered_have_a_loop.ensures.named c.needs_are_defined.ensures
 
 pub returns-clause-accepted : goal.returns-clause-accepted
 returns-clause-accepted c =
@@ -16,5 +17,6 @@ returns-clause-accepted c =
 pub returns-clause-outcome : goal.returns-clause-outcome
 returns-clause-outcome c =
     let solved : SolutionExists = solution_exists c.accepted_have_one_solution.ensures.exists c.equations_read_needs.ensures c.needs_are_defined.ensures in
-    let answer : AnswerExists = answer_exists c.unordered_have_a_loop.ensures.either c.unordered_have_a_loop.ensures.named c.needs_are_defined.ensures in
+    let answer : AnswerExists =
+    answer_exists c.has_one_expansion.ensures c.unordered_have_a_loop.ensures.either c.unordered_have_a_loop.ensures.named c.needs_are_defined.ensures in
     outcome_exists c.opened_are_one_list.ensures.there c.trees_are_well_formed.ensures c.reading_leaves_allowed_places.ensures.streams solved answer
