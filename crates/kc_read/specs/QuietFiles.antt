@@ -28,7 +28,7 @@ HasNoSource file = (before after : List ℕ) → file ≡ before ++ source_word 
 abbrev pub HasNoJoin : List ℕ → Type 0
 HasNoJoin file = (before after : List ℕ) → file ≡ before ++ byte "\\" ∷ after → EndsLine after → ⊥
 
--- no line is joined with the next one, and none begins with `source`
+-- no line ends with a `\`, and none begins with `source`
 pub record IsQuiet (file : List ℕ) : Type 0 where
   pub no_source : HasNoSource file
   pub no_join : HasNoJoin file

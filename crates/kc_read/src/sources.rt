@@ -159,8 +159,8 @@ fn may_source(file: &[u8]) -> bool
 /// The names of the file's `source` lines in order, up to the first line that is too long or cannot be cut into tokens,
 /// or to the first `source` line whose rest is refused, whichever comes first. Help lines are passed over.
 ///
-/// Its only error is to be out of memory, which no file answers in which no line begins with the text `source` and none is
-/// joined with the next one.
+/// Its only error is to be out of memory, which no file answers in which no line begins with the text `source` and none
+/// ends with a `\`.
 pub fn sources_of(alloc: Global, file: &[u8]) -> Result<Vec<Vec<u8>>, AllocError>
     ensures names { IfOk result (λ names. spec.SourceNames (unread_lines file.now 1) (map (λ n. n.items) names.items)) }
     ensures heard { OnErr result (IsQuiet file.now → ⊥) }

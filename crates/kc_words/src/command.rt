@@ -19,7 +19,8 @@ Exit status:
   0  done: every file is whole
   1  the tree was refused, a .config line is too long, or --strict refused a warning: no file was begun
   2  the command line is wrong
-  3  a device failed or there was no memory: what was begun holds a beginning or, with --replace, is as it was
+  3  a device failed or there was no memory: what was begun holds a beginning or, with --replace, is as it was,
+     but where a move fails
 
 Read on: man kconf; docs/formats.md has each message, its cause and what to do";
 
