@@ -1,7 +1,7 @@
 //! The line that is not yet ended, and what each byte does to it.
-ghost use Rattle.std.specs.Prelude.{◌≡◌, ◌<◌, ◌≤◌, ◌∷◌, ◌++◌, [], ℕ, List, true, false, length, take, OnOk, OnErr, IfOk, IfErr, if◌then◌else◌};
+ghost use Rattle.std.specs.Prelude.{◌≡◌, ◌<◌, ◌≤◌, ◌∷◌, ◌++◌, [], ℕ, List, true, false, length, take, OnOk, OnErr, IfOk, IfErr, if◌then◌else◌, slice_index};
 ghost use Rattle.std.specs.Str.Lines.{strip_carriage_return};
-ghost use Rattle.kc_text.specs.Lines.{HoldsNoLineFeed};
+ghost use Rattle.kc_text.specs.Lines.{HoldsNoLineFeed, is_line_feed};
 ghost use Rattle.kc_user.specs.Places.{ArePlacesOf};
 ghost use Rattle.kc_dot.specs.Feeding.{StreamPosition, IsWithinLine, Feeds, Refuses, FinishesStream, FailsToEnd, fed, ended, failures_after};
 ghost use Rattle.kc_dot.specs.LineSteps.{FailsIn, StopsAt};
@@ -104,6 +104,7 @@ fn bytes_before_lf(bytes: &[u8], room: usize) -> usize
     ensures within { result ≤ length bytes.now }
     ensures few { result ≤ room }
     ensures none { HoldsNoLineFeed (take result bytes.now) }
+    ensures first { result < room → result < length bytes.now → is_line_feed (slice_index bytes.now result) ≡ true }
 {
     let front = &bytes[..room.min(bytes.len())];
     match front.find_byte(b'\n') {
