@@ -443,9 +443,9 @@ fn run_over<I: Input, O: Outputs>(
 /// of the streams are then told once all streams are read. `Faulted` means that an input failed (E18), an output failed (E19) or
 /// no memory was to be had (E20). Where that was before the files, the notes hold whole lines of the warnings, or where they
 /// failed themselves a beginning of all that the run was to add to them, never the whole; behind an input that failed they are
-/// exactly the tree's warnings and those of the lines that were read. Where it was in a file, the notes and the files before it are whole, and it is as it was handed in or
-/// holds a beginning of its text. Unless the notes failed, one error line follows on them, or a beginning of it where they fail
-/// then. `Usage` is never answered.
+/// exactly the tree's warnings and those of the lines that were read. Where it was in a file, the notes and the files before
+/// it are whole, and it is as it was handed in or holds a beginning of its text. Unless the notes failed, one error line
+/// follows on them, or a beginning of it where they fail then. `Usage` is never answered.
 pub fn run<I: Input, O: Outputs>(
     alloc: Global,
     files: &FileMap,
