@@ -43,7 +43,7 @@ fn attribute_count(lines: &[Line]) -> usize
 }
 
 /// The place behind the entry at a place and its attributes.
-pub fn entry_end(lines: &[Line], place: usize) -> usize
+pub(crate) fn entry_end(lines: &[Line], place: usize) -> usize
     requires { place < length lines.now }
     ensures count { result ≡ place + 1 + prefix_len blocks.is_attribute (drop (place + 1) (statements_of lines.now)) }
     ensures within { result ≤ length lines.now }
@@ -52,7 +52,7 @@ pub fn entry_end(lines: &[Line], place: usize) -> usize
 }
 
 /// The first type that attributes give.
-pub fn first_type(attributes: &[Line]) -> Option<Kind>
+pub(crate) fn first_type(attributes: &[Line]) -> Option<Kind>
     ensures { result ≡ facts.first_of (filter_map facts.type_of (statements_of attributes.now)) }
 {
     for line in attributes {
@@ -75,7 +75,7 @@ fn last_prompt(attributes: &[Line]) -> Option<&statement::Prompt>
 }
 
 /// The condition of a line, shared.
-pub fn shared_condition(when: Option<&Rc<Expr>>) -> Result<Option<Rc<Expr>>, AllocError>
+pub(crate) fn shared_condition(when: Option<&Rc<Expr>>) -> Result<Option<Rc<Expr>>, AllocError>
     ensures { IfOk result (λ o. when_view o ≡ option_map (λ e. form_of e.now.value) when.entry) }
 {
     match when {
@@ -85,7 +85,10 @@ pub fn shared_condition(when: Option<&Rc<Expr>>) -> Result<Option<Rc<Expr>>, All
 }
 
 /// The prompt of an entry, where it has one; `visible` is what the enclosing menus ask of what is visible.
-pub fn prompt(attributes: &[Line], visible: ContextId) -> Result<Option<EntryPrompt>, AllocError>
+pub(crate) fn prompt(
+    attributes: &[Line],
+    visible: ContextId,
+) -> Result<Option<EntryPrompt>, AllocError>
     ensures { IfOk result (λ o. option_map prompt_line o ≡ option_map (λ p. (visible.0, p.when)) (blocks.last_of (filter_map facts.prompt_of (statements_of attributes.now)))) }
 {
     match last_prompt(attributes) {
@@ -98,7 +101,7 @@ pub fn prompt(attributes: &[Line], visible: ContextId) -> Result<Option<EntryPro
 }
 
 /// The context of an entry with these attributes: what its `depends on` lines ask for, besides what is asked for outside.
-pub fn entry_context(
+pub(crate) fn entry_context(
     contexts: &mut Contexts,
     outer: ContextId,
     attributes: &[Line],
@@ -119,7 +122,7 @@ pub fn entry_context(
 
 /// The context of what is visible in a menu with these attributes: what its `visible if` lines ask for, besides what is
 /// asked for outside.
-pub fn visible_context(
+pub(crate) fn visible_context(
     contexts: &mut Contexts,
     outer: ContextId,
     attributes: &[Line],
@@ -139,7 +142,7 @@ pub fn visible_context(
 }
 
 /// Adds the defaults of a symbol's entry to those of the tree, and answers where they stand.
-pub fn add_defaults(
+pub(crate) fn add_defaults(
     attributes: &[Line],
     defaults: &mut Vec<SymbolDefault>,
 ) -> Result<RowSpan, AllocError>
@@ -164,7 +167,7 @@ pub fn add_defaults(
 }
 
 /// Adds the ranges of a symbol's entry to those of the tree, and answers where they stand.
-pub fn add_ranges(
+pub(crate) fn add_ranges(
     alloc: Global,
     attributes: &[Line],
     ranges: &mut Vec<SymbolRange>,
@@ -191,7 +194,7 @@ pub fn add_ranges(
 }
 
 /// The defaults of a choice's entry that name a member of it.
-pub fn choice_defaults(
+pub(crate) fn choice_defaults(
     alloc: Global,
     symbols: &[Symbol],
     choice: ChoiceId,

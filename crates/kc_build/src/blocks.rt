@@ -14,7 +14,7 @@ use std::rc::Rc;
 /// What a block asks of the entries in it, and of what is visible in it besides; and the place among the entries of what
 /// opened it: none at the top.
 #[derive(Clone, Copy, Debug)]
-pub struct BlockScope {
+pub(crate) struct BlockScope {
     pub within: ContextId,
     pub visible: ContextId,
     pub entry: Option<u32>,
@@ -22,14 +22,14 @@ pub struct BlockScope {
 
 /// The innermost open block, and those outside it.
 #[derive(Debug, Drop)]
-pub struct Blocks {
+pub(crate) struct Blocks {
     innermost: BlockScope,
     outside: Vec<BlockScope>,
 }
 
 impl Blocks {
     /// No block is open.
-    pub fn new(alloc: Global) -> Blocks
+    pub(crate) fn new(alloc: Global) -> Blocks
         ensures top { result.innermost ≡ record { within = record { 0 = 0 }; visible = record { 0 = 0 }; entry = None } }
         ensures outside { result.outside.items ≡ [] }
     {
@@ -44,14 +44,14 @@ impl Blocks {
     }
 
     /// The innermost open block; at the top it asks for nothing.
-    pub fn innermost(&self) -> BlockScope
+    pub(crate) fn innermost(&self) -> BlockScope
         ensures { result ≡ self.now.innermost }
     {
         self.innermost
     }
 
     /// Opens a block inside the innermost one. Where it is out of memory, nothing changes.
-    pub fn open(&mut self, block: BlockScope) -> Result<(), AllocError>
+    pub(crate) fn open(&mut self, block: BlockScope) -> Result<(), AllocError>
         ensures innermost { OnOk result (self.new.innermost ≡ block) }
         ensures outside { OnOk result (self.new.outside.items ≡ self.old.outside.items ++ self.old.innermost ∷ []) }
         ensures unchanged { OnErr result (open_scopes self.new ≡ open_scopes self.old) }
@@ -62,7 +62,7 @@ impl Blocks {
     }
 
     /// Closes the innermost block, if one is open.
-    pub fn close(&mut self)
+    pub(crate) fn close(&mut self)
         ensures { IsClosed self.old self.new }
     {
         if let Some(block) = self.outside.pop() {
@@ -72,7 +72,7 @@ impl Blocks {
 }
 
 /// The block of an `if`, inside another one.
-pub fn if_block(
+pub(crate) fn if_block(
     contexts: &mut Contexts,
     outer: BlockScope,
     condition: Rc<Expr>,
@@ -95,7 +95,7 @@ pub fn if_block(
 }
 
 /// The block of a choice, inside another one: its members depend on its mode.
-pub fn choice_block(
+pub(crate) fn choice_block(
     contexts: &mut Contexts,
     outer: BlockScope,
     choice: ChoiceId,

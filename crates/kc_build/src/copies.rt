@@ -7,7 +7,7 @@ use kc_expr::expression::{Expr, Operand, Operands};
 use std::alloc::{AllocError, Global};
 
 /// An operand of its own.
-pub fn operand_copy(alloc: Global, operand: &Operand) -> Result<Operand, AllocError>
+pub(crate) fn operand_copy(alloc: Global, operand: &Operand) -> Result<Operand, AllocError>
     ensures { IfOk result (λ c. leaf_of c ≡ leaf_of operand.now) }
 {
     match operand {
@@ -19,7 +19,7 @@ pub fn operand_copy(alloc: Global, operand: &Operand) -> Result<Operand, AllocEr
 
 /// An expression of its own.
 #[tactic(auto, using(crate::proofs::CopyLemmas::copy_lemmas))]
-pub fn expression_copy(alloc: Global, e: &Expr) -> Result<Expr, AllocError>
+pub(crate) fn expression_copy(alloc: Global, e: &Expr) -> Result<Expr, AllocError>
     ensures { IfOk result (λ c. form_of c ≡ form_of e.now) }
 {
     match e {

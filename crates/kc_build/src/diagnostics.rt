@@ -26,7 +26,7 @@ use std::alloc::{AllocError, Global};
 
 /// The menu entry that a line belongs to: a symbol's, a choice's, or another.
 #[derive(Clone, Copy, Debug, PartialEq, Eq)]
-pub enum MenuEntry {
+pub(crate) enum MenuEntry {
     Symbol(SymId),
     Choice(ChoiceId),
     Other,
@@ -35,7 +35,7 @@ pub enum MenuEntry {
 /// What is known of an entry when its lines are diagnosed: whose it is, whether it is the first definition of its symbol, and
 /// the choice that it stands in.
 #[derive(Clone, Copy, Debug)]
-pub struct EntrySummary {
+pub(crate) struct EntrySummary {
     pub entry: MenuEntry,
     pub first: bool,
     pub within_choice: Option<ChoiceId>,
@@ -44,7 +44,7 @@ pub struct EntrySummary {
 /// What the lines so far have against them: warnings as whole lines, the first definition of a choice's member that is
 /// refused, and the first default that is.
 #[derive(Debug, Drop)]
-pub struct Diagnostics {
+pub(crate) struct Diagnostics {
     pub warnings: Vec<Vec<u8>>,
     pub bad_member: Option<Refusal>,
     pub bad_default: Option<Refusal>,
@@ -291,7 +291,7 @@ fn warn_line(
 
 impl Diagnostics {
     /// Nothing yet.
-    pub fn new(alloc: Global) -> Diagnostics
+    pub(crate) fn new(alloc: Global) -> Diagnostics
         ensures warnings { result.warnings.items ≡ [] }
         ensures member { result.bad_member ≡ None }
         ensures default { result.bad_default ≡ None }
@@ -379,7 +379,7 @@ impl Diagnostics {
     }
 
     /// Diagnoses an entry: the line that begins it, and its attributes.
-    pub fn diagnose_entry(
+    pub(crate) fn diagnose_entry(
         &mut self,
         alloc: Global,
         names: &Names,
@@ -400,7 +400,7 @@ impl Diagnostics {
     }
 
     /// The first refusal: of a definition of a member, and without one of a default. Where there is none, the warnings.
-    pub fn into_warnings(self) -> Result<Vec<Vec<u8>>, Refusal>
+    pub(crate) fn into_warnings(self) -> Result<Vec<Vec<u8>>, Refusal>
         ensures { MatchResult result (λ v. (self.bad_member ≡ None) × (self.bad_default ≡ None) × (v.items ≡ self.warnings.items)) (λ r. option_or self.bad_member self.bad_default ≡ Some r) }
     {
         let Diagnostics {

@@ -301,7 +301,7 @@ impl EntryWalk {
 
 /// What lines say but of symbols alone.
 #[derive(Debug, Drop)]
-pub struct WalkResult {
+pub(crate) struct WalkResult {
     /// The tables that they fill.
     pub tables: Tables,
     /// The title of the main menu.
@@ -311,7 +311,7 @@ pub struct WalkResult {
 }
 
 /// What the lines say, entry by entry. The symbols are those of the first walk.
-pub fn walk_entries(
+pub(crate) fn walk_entries(
     alloc: Global,
     names: &Names,
     lines: &[Line],

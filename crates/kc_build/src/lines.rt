@@ -16,21 +16,21 @@ use std::rc::Rc;
 
 /// A default: its value and its condition.
 #[derive(Clone, Copy)]
-pub struct StatedDefault<'a> {
+pub(crate) struct StatedDefault<'a> {
     pub value: &'a Rc<Expr>,
     pub when: Option<&'a Rc<Expr>>,
 }
 
 /// Which of the two a line is: a reverse dependency (`select`) or a weak one (`imply`).
 #[derive(Clone, Copy, Debug, PartialEq, Eq)]
-pub enum ReverseKind {
+pub(crate) enum ReverseKind {
     Select,
     Imply,
 }
 
 /// A `select` or `imply` line: the symbol that it names and its condition.
 #[derive(Clone, Copy)]
-pub struct Target<'a> {
+pub(crate) struct Target<'a> {
     pub kind: ReverseKind,
     pub symbol: SymId,
     pub when: Option<&'a Rc<Expr>>,
@@ -38,14 +38,14 @@ pub struct Target<'a> {
 
 /// A `range` line.
 #[derive(Clone, Copy)]
-pub struct Range<'a> {
+pub(crate) struct Range<'a> {
     pub low: &'a Operand,
     pub high: &'a Operand,
     pub when: Option<&'a Rc<Expr>>,
 }
 
 /// The statement belongs to the entry before it.
-pub fn is_attribute(statement: &Statement) -> bool
+pub(crate) fn is_attribute(statement: &Statement) -> bool
     ensures { result ≡ blocks.is_attribute (statement_view statement.now) }
 {
     match statement {
@@ -66,7 +66,7 @@ pub fn is_attribute(statement: &Statement) -> bool
 }
 
 /// The symbol that a `config` line defines.
-pub fn symbol_of(statement: &Statement) -> Option<SymId>
+pub(crate) fn symbol_of(statement: &Statement) -> Option<SymId>
     ensures { result ≡ facts.symbol_of (Some (statement_view statement.now)) }
 {
     match statement {
@@ -76,7 +76,7 @@ pub fn symbol_of(statement: &Statement) -> Option<SymId>
 }
 
 /// The type that a line gives.
-pub fn type_of(statement: &Statement) -> Option<Kind>
+pub(crate) fn type_of(statement: &Statement) -> Option<Kind>
     ensures { result ≡ facts.type_of (statement_view statement.now) }
 {
     match statement {
@@ -87,7 +87,7 @@ pub fn type_of(statement: &Statement) -> Option<Kind>
 }
 
 /// The prompt of a line.
-pub fn prompt_of(statement: &Statement) -> Option<&Prompt>
+pub(crate) fn prompt_of(statement: &Statement) -> Option<&Prompt>
     ensures { option_map (λ p. input_prompt_view p.now) result ≡ facts.prompt_of (statement_view statement.now) }
 {
     match statement {
@@ -98,7 +98,7 @@ pub fn prompt_of(statement: &Statement) -> Option<&Prompt>
 }
 
 /// A condition, where there is one.
-pub fn condition(when: &Option<Rc<Expr>>) -> Option<&Rc<Expr>>
+pub(crate) fn condition(when: &Option<Rc<Expr>>) -> Option<&Rc<Expr>>
     ensures { option_map (λ e. form_of e.now.value) result ≡ when_view when.now }
 {
     match when {
@@ -108,7 +108,7 @@ pub fn condition(when: &Option<Rc<Expr>>) -> Option<&Rc<Expr>>
 }
 
 /// The default of a line.
-pub fn stated_default(statement: &Statement) -> Option<StatedDefault<'_>>
+pub(crate) fn stated_default(statement: &Statement) -> Option<StatedDefault<'_>>
     ensures { option_map stated_default_view result ≡ facts.stated_default (statement_view statement.now) }
 {
     match statement {
@@ -125,7 +125,7 @@ pub fn stated_default(statement: &Statement) -> Option<StatedDefault<'_>>
 }
 
 /// The expression of a `depends on` line.
-pub fn depends_of(statement: &Statement) -> Option<&Rc<Expr>>
+pub(crate) fn depends_of(statement: &Statement) -> Option<&Rc<Expr>>
     ensures { option_map (λ e. form_of e.now.value) result ≡ facts.depends_form (statement_view statement.now) }
 {
     match statement {
@@ -135,7 +135,7 @@ pub fn depends_of(statement: &Statement) -> Option<&Rc<Expr>>
 }
 
 /// The expression of a `visible if` line.
-pub fn visible_of(statement: &Statement) -> Option<&Rc<Expr>>
+pub(crate) fn visible_of(statement: &Statement) -> Option<&Rc<Expr>>
     ensures { option_map (λ e. form_of e.now.value) result ≡ facts.visible_form (statement_view statement.now) }
 {
     match statement {
@@ -145,7 +145,7 @@ pub fn visible_of(statement: &Statement) -> Option<&Rc<Expr>>
 }
 
 /// The symbol that a `select` or `imply` line names.
-pub fn target_of(statement: &Statement) -> Option<Target<'_>>
+pub(crate) fn target_of(statement: &Statement) -> Option<Target<'_>>
     ensures { option_map target_view result ≡ targets.target_of (statement_view statement.now) }
 {
     match statement {
@@ -164,7 +164,7 @@ pub fn target_of(statement: &Statement) -> Option<Target<'_>>
 }
 
 /// The bounds of a `range` line.
-pub fn range_of(statement: &Statement) -> Option<Range<'_>>
+pub(crate) fn range_of(statement: &Statement) -> Option<Range<'_>>
     ensures { option_map range_view result ≡ range_line (statement_view statement.now) }
 {
     match statement {
@@ -178,7 +178,7 @@ pub fn range_of(statement: &Statement) -> Option<Range<'_>>
 }
 
 /// The symbol that an expression is alone.
-pub fn single_symbol(value: &Expr) -> Option<SymId>
+pub(crate) fn single_symbol(value: &Expr) -> Option<SymId>
     ensures { result ≡ facts.single_symbol (form_of value.now) }
 {
     match value {
@@ -188,7 +188,7 @@ pub fn single_symbol(value: &Expr) -> Option<SymId>
 }
 
 /// The expression is one operand.
-pub fn is_single(value: &Expr) -> bool
+pub(crate) fn is_single(value: &Expr) -> bool
     ensures { result ≡ facts.is_single (form_of value.now) }
 {
     match value {

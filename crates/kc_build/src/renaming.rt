@@ -13,7 +13,7 @@ use std::alloc::{AllocError, Global};
 use std::rc::Rc;
 
 /// What a symbol becomes: the number that stands at its place, and with none there the modules symbol.
-pub fn final_number(numbers: &[SymId], modules: SymId, symbol: SymId) -> SymId
+pub(crate) fn final_number(numbers: &[SymId], modules: SymId, symbol: SymId) -> SymId
     ensures { result ≡ final numbers.now modules symbol }
 {
     match numbers.get(symbol.0) {
@@ -185,7 +185,7 @@ fn rename_line(
 
 /// The symbols of all lines get their final numbers: each the number that stands at its place, and one past the end
 /// that of the modules symbol. Its only error is to be out of memory, after which some lines have them.
-pub fn rename_lines(
+pub(crate) fn rename_lines(
     alloc: Global,
     lines: &mut Vec<Line>,
     numbers: &[SymId],

@@ -87,7 +87,7 @@ fn add_reverse(
 }
 
 /// Adds what the attributes of a definition select and imply.
-pub fn add_reverses(
+pub(crate) fn add_reverses(
     reverses: &mut Reverses,
     symbols: &[Symbol],
     source: DefinitionId,

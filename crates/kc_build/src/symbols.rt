@@ -129,7 +129,11 @@ fn give_member_types(symbols: &mut Vec<Symbol>)
 }
 
 /// What the lines say of the first `count` symbols: their types, their choices and their definitions.
-pub fn symbols(alloc: Global, lines: &[Line], count: usize) -> Result<Vec<Symbol>, AllocError>
+pub(crate) fn symbols(
+    alloc: Global,
+    lines: &[Line],
+    count: usize,
+) -> Result<Vec<Symbol>, AllocError>
     requires few { length lines.now < 2 ^ 32 }
     requires types { AreTypesDefined (statements_of lines.now) }
     ensures count { IfOk result (λ v. length v.items ≡ count) }
@@ -157,7 +161,7 @@ pub fn symbols(alloc: Global, lines: &[Line], count: usize) -> Result<Vec<Symbol
 }
 
 /// The type of a symbol; a name that is not defined has none.
-pub fn kind_of(symbols: &[Symbol], symbol: SymId) -> Kind
+pub(crate) fn kind_of(symbols: &[Symbol], symbol: SymId) -> Kind
     ensures { result ≡ symbol_rows.kind_by symbols.now symbol }
 {
     match symbols.get(symbol.0) {
@@ -167,7 +171,7 @@ pub fn kind_of(symbols: &[Symbol], symbol: SymId) -> Kind
 }
 
 /// The choice of which a symbol is a member.
-pub fn choice_of(symbols: &[Symbol], symbol: SymId) -> Option<ChoiceId>
+pub(crate) fn choice_of(symbols: &[Symbol], symbol: SymId) -> Option<ChoiceId>
     ensures { option_map (λ k. k.0) result ≡ symbol_rows.choice_by symbols.now symbol }
 {
     match symbols.get(symbol.0) {
@@ -177,7 +181,7 @@ pub fn choice_of(symbols: &[Symbol], symbol: SymId) -> Option<ChoiceId>
 }
 
 /// The symbol is a member of the choice.
-pub fn is_member(symbols: &[Symbol], choice: ChoiceId, symbol: SymId) -> bool
+pub(crate) fn is_member(symbols: &[Symbol], choice: ChoiceId, symbol: SymId) -> bool
     ensures { result ≡ symbol_rows.member_by symbols.now choice.0 symbol }
 {
     match choice_of(symbols, symbol) {
@@ -187,7 +191,7 @@ pub fn is_member(symbols: &[Symbol], choice: ChoiceId, symbol: SymId) -> bool
 }
 
 /// The definition is the first of its symbol.
-pub fn is_first(symbols: &[Symbol], symbol: SymId, id: DefinitionId) -> bool
+pub(crate) fn is_first(symbols: &[Symbol], symbol: SymId, id: DefinitionId) -> bool
     ensures { result ≡ symbol_rows.first_by symbols.now symbol id.0 }
 {
     match symbols.get(symbol.0) {
@@ -197,7 +201,7 @@ pub fn is_first(symbols: &[Symbol], symbol: SymId, id: DefinitionId) -> bool
 }
 
 /// The value of a symbol of this type is a text.
-pub fn has_text(kind: Kind) -> bool
+pub(crate) fn has_text(kind: Kind) -> bool
     ensures { result ≡ facts.has_text kind }
 {
     matches!(kind, Kind::Str | Kind::Int | Kind::Hex)

@@ -20,7 +20,7 @@ use std::alloc::{AllocError, Global};
 /// - `DefaultNotMember`: a choice's default that names no member of it;
 /// - `MemberTarget`: a select or imply of a member of a choice, which has no effect.
 #[derive(Clone, Copy, Debug, PartialEq, Eq)]
-pub enum Warning {
+pub(crate) enum Warning {
     TypeRedefined(SymId),
     PromptRedefined(Option<SymId>),
     WithoutType(SymId),
@@ -40,7 +40,7 @@ fn name_of(names: &Names, symbol: SymId) -> &[u8]
 }
 
 /// The name of the symbol whose entry it is, or `choice`.
-pub fn entry_name(names: &Names, symbol: Option<SymId>) -> &[u8]
+pub(crate) fn entry_name(names: &Names, symbol: Option<SymId>) -> &[u8]
     ensures { result.now ≡ spec.entry_name names.now symbol }
 {
     match symbol {
@@ -86,7 +86,7 @@ fn target_text(
 }
 
 /// The text of a warning, without its line.
-pub fn text_of(alloc: Global, names: &Names, warning: Warning) -> Result<Vec<u8>, AllocError>
+pub(crate) fn text_of(alloc: Global, names: &Names, warning: Warning) -> Result<Vec<u8>, AllocError>
     ensures { IfOk result (λ v. v.items ≡ spec.text_of names.now warning) }
 {
     match warning {
@@ -127,7 +127,7 @@ pub fn text_of(alloc: Global, names: &Names, warning: Warning) -> Result<Vec<u8>
 }
 
 /// The whole line of a warning, which names the file and the line that it is about.
-pub fn line_of(
+pub(crate) fn line_of(
     alloc: Global,
     names: &Names,
     line: &Line,

@@ -213,7 +213,7 @@ fn lost_lines(alloc: Global, solved: &Solved<'_>) -> Result<Vec<Vec<u8>>, AllocE
 
 /// The lines of the values that were given and are not the symbols', where they are asked for: whole lines without their
 /// end, in the order of the symbols' first definitions. Fails only where it is out of memory.
-pub fn lost_warnings(
+pub(crate) fn lost_warnings(
     alloc: Global,
     options: &Options,
     solved: &Solved<'_>,

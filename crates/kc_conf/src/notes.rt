@@ -25,7 +25,7 @@ fn note_parts<O: Outputs>(outputs: &mut O, parts: &[&[u8]]) -> Result<(), Fault>
 }
 
 // Writes each line, with its LF, to the notes.
-pub fn note_lines<O: Outputs>(outputs: &mut O, lines: &[Vec<u8>]) -> Result<(), Fault>
+pub(crate) fn note_lines<O: Outputs>(outputs: &mut O, lines: &[Vec<u8>]) -> Result<(), Fault>
     ensures ok { OnOk result (O.states outputs.new ≡ with_text Output.Notes (lines_text (map_list (λ line. line.items) lines.now)) (O.states outputs.old)) }
     ensures err { OnErr result (BreaksOutput Output.Notes (lines_text (map_list (λ line. line.items) lines.now)) (O.states outputs.old) (O.states outputs.new)) }
 {
@@ -119,7 +119,7 @@ fn note_without_location<'a, O: Outputs>(
 }
 
 // Writes the error line of a refused tree.
-pub fn note_refusal<O: Outputs>(outputs: &mut O, refusal: &Refusal) -> Result<(), Fault>
+pub(crate) fn note_refusal<O: Outputs>(outputs: &mut O, refusal: &Refusal) -> Result<(), Fault>
     ensures ok { OnOk result (O.states outputs.new ≡ with_text Output.Notes (refusal_line (refusal_view refusal.now)) (O.states outputs.old)) }
     ensures err { OnErr result (BreaksOutput Output.Notes (refusal_line (refusal_view refusal.now)) (O.states outputs.old) (O.states outputs.new)) }
 {
@@ -139,7 +139,7 @@ pub fn note_refusal<O: Outputs>(outputs: &mut O, refusal: &Refusal) -> Result<()
 }
 
 // Writes the error line of a line of a stream that is too long.
-pub fn note_too_long<O: Outputs>(outputs: &mut O, long: &LongLine<'_>) -> Result<(), Fault>
+pub(crate) fn note_too_long<O: Outputs>(outputs: &mut O, long: &LongLine<'_>) -> Result<(), Fault>
     ensures ok { OnOk result (O.states outputs.new ≡ with_text Output.Notes (too_long_line (stop_of long.now)) (O.states outputs.old)) }
     ensures err { OnErr result (BreaksOutput Output.Notes (too_long_line (stop_of long.now)) (O.states outputs.old) (O.states outputs.new)) }
 {
@@ -154,7 +154,7 @@ pub fn note_too_long<O: Outputs>(outputs: &mut O, long: &LongLine<'_>) -> Result
 }
 
 // Writes the text to the notes.
-pub fn note_text<O: Outputs>(outputs: &mut O, text: &[u8]) -> Result<(), Fault>
+pub(crate) fn note_text<O: Outputs>(outputs: &mut O, text: &[u8]) -> Result<(), Fault>
     ensures ok { OnOk result (O.states outputs.new ≡ with_text Output.Notes text.now (O.states outputs.old)) }
     ensures err { OnErr result (BreaksOutput Output.Notes text.now (O.states outputs.old) (O.states outputs.new)) }
 {
@@ -162,7 +162,7 @@ pub fn note_text<O: Outputs>(outputs: &mut O, text: &[u8]) -> Result<(), Fault>
 }
 
 // Writes the error line behind the warnings that are refused.
-pub fn note_strict<O: Outputs>(outputs: &mut O) -> Result<(), Fault>
+pub(crate) fn note_strict<O: Outputs>(outputs: &mut O) -> Result<(), Fault>
     ensures ok { OnOk result (O.states outputs.new ≡ with_text Output.Notes strict_line (O.states outputs.old)) }
     ensures err { OnErr result (BreaksOutput Output.Notes strict_line (O.states outputs.old) (O.states outputs.new)) }
 {
@@ -180,7 +180,7 @@ fn note_line<O: Outputs>(outputs: &mut O, parts: &[&[u8]])
 }
 
 // Writes the one error line of a fault, unless the notes are what failed.
-pub fn report<O: Outputs>(options: &Options, fault: RunFault, outputs: &mut O)
+pub(crate) fn report<O: Outputs>(options: &Options, fault: RunFault, outputs: &mut O)
     ensures { Reports options.now fault (O.states outputs.old) (O.states outputs.new) }
 {
     match fault {

@@ -51,7 +51,7 @@ pub enum Status {
 }
 
 // The name of an output, in an error line.
-pub fn name_of(options: &Options, output: Output) -> &[u8]
+pub(crate) fn name_of(options: &Options, output: Output) -> &[u8]
     ensures { result.now ≡ name_of options.now output }
 {
     match output {
@@ -73,7 +73,7 @@ pub fn name_of(options: &Options, output: Output) -> &[u8]
 }
 
 // The name of a stream: 0 is the `.config`, n the n-th fragment.
-pub fn stream_name(options: &Options, input: usize) -> &[u8]
+pub(crate) fn stream_name(options: &Options, input: usize) -> &[u8]
     ensures { result.now ≡ stream_name options.now input }
 {
     match input {

@@ -56,13 +56,13 @@ pub trait Outputs {
 
 // One of the outputs as a sink.
 #[derive(Drop)]
-pub struct OutputSink<'a, O: Outputs> {
+pub(crate) struct OutputSink<'a, O: Outputs> {
     outputs: &'a mut O,
     output: Output,
 }
 
 impl<'a, O: Outputs> OutputSink<'a, O> {
-    pub fn new(outputs: &'a mut O, output: Output) -> OutputSink<'a, O>
+    pub(crate) fn new(outputs: &'a mut O, output: Output) -> OutputSink<'a, O>
         ensures same_reference { result.outputs.ghost_name ≡ outputs.entry.ghost_name }
         ensures same_value { result.outputs.now ≡ outputs.old }
         ensures output { result.output ≡ output }
@@ -88,7 +88,11 @@ impl<'a, O: Outputs> Sink for OutputSink<'a, O> {
 }
 
 // Writes the parts to one output, one after another, or after an error a beginning of them.
-pub fn put_to<O: Outputs>(outputs: &mut O, output: Output, parts: &[&[u8]]) -> Result<(), Fault>
+pub(crate) fn put_to<O: Outputs>(
+    outputs: &mut O,
+    output: Output,
+    parts: &[&[u8]],
+) -> Result<(), Fault>
     ensures ok { OnOk result (O.states outputs.new ≡ with_state (O.states outputs.old) output (grown (at (O.states outputs.old) output) (flat_map (λ part. part.now) parts.now))) }
     ensures err { OnErr result (BreaksOutput output (flat_map (λ part. part.now) parts.now) (O.states outputs.old) (O.states outputs.new)) }
 {

@@ -24,7 +24,7 @@ const PIECE: usize = 4096;
 
 // A line that is too long: its stream's name and its number.
 #[derive(Clone, Copy, Debug)]
-pub struct LongLine<'a> {
+pub(crate) struct LongLine<'a> {
     pub stream: &'a [u8],
     pub number: u64,
 }
@@ -155,7 +155,7 @@ fn read_stream<I: Input, S: Sink>(
 
 // Reads the streams one after another, each with a reader of its own, to the end of the last or to a line that is too
 // long.
-pub fn read_streams<'a, I: Input, S: Sink>(
+pub(crate) fn read_streams<'a, I: Input, S: Sink>(
     alloc: Global,
     options: &'a Options,
     tree: &Tree,

@@ -63,7 +63,7 @@ impl Sink for MemorySink {
 
 /// What reading the streams came to.
 #[derive(Clone, Copy, Debug)]
-pub struct StreamsRead<'a> {
+pub(crate) struct StreamsRead<'a> {
     /// The line that is too long, where there is one.
     pub long: Option<LongLine<'a>>,
     /// Whether any warning was told. It is known only where warnings are refused.
@@ -175,7 +175,7 @@ fn hold<'a, I: Input, O: Outputs>(
 
 /// Reads the streams one after another, with their warnings on the notes, to the end of the last or to a line that is too
 /// long. Where warnings are refused, they are told when all is read, and it is answered whether there is any.
-pub fn tell_streams<'a, I: Input, O: Outputs>(
+pub(crate) fn tell_streams<'a, I: Input, O: Outputs>(
     alloc: Global,
     options: &'a Options,
     tree: &Tree,

@@ -7,7 +7,7 @@ use kc_read::file_map::FileMap;
 
 // The files that a run reads.
 #[derive(Drop)]
-pub enum TreeFiles<'f> {
+pub(crate) enum TreeFiles<'f> {
     // Lent by its caller, whose they stay.
     Lent(&'f FileMap),
     // The run's own, which it may let go.
@@ -15,7 +15,7 @@ pub enum TreeFiles<'f> {
 }
 
 impl TreeFiles<'_> {
-    pub fn map(&self) -> &FileMap
+    pub(crate) fn map(&self) -> &FileMap
         ensures { bytes_in result.now ≡ files_in self.now }
     {
         match self {
@@ -26,7 +26,7 @@ impl TreeFiles<'_> {
 }
 
 // The files again, where they are looked at once more; else those that are the run's own are let go.
-pub fn kept_if<'f>(wanted: &Option<String>, files: TreeFiles<'f>) -> Option<TreeFiles<'f>>
+pub(crate) fn kept_if<'f>(wanted: &Option<String>, files: TreeFiles<'f>) -> Option<TreeFiles<'f>>
     ensures at_hand { AreAtHand wanted.now (files_in files.entry) result }
     ensures let_go { wanted.now ≡ None → result ≡ None }
 {

@@ -118,7 +118,7 @@ fn make_minimal<O: Outputs>(
 }
 
 // Writes the files that are wanted, in order.
-pub fn make_files<O: Outputs>(
+pub(crate) fn make_files<O: Outputs>(
     alloc: Global,
     options: &Options,
     tree: &Tree,
@@ -165,7 +165,7 @@ fn put_depfile<O: Outputs>(text: &[u8], outputs: &mut O) -> Result<(), RunFault>
 }
 
 // Writes the rule for make of these files, where it is wanted.
-pub fn make_depfile<O: Outputs>(
+pub(crate) fn make_depfile<O: Outputs>(
     alloc: Global,
     files: &FileMap,
     options: &Options,

@@ -19,11 +19,11 @@ use kc_user::user::User;
 use std::alloc::Global;
 
 /// The most bytes of a line.
-pub const LONGEST_DOT_LINE: usize = 65535;
+pub(crate) const LONGEST_DOT_LINE: usize = 65535;
 
 /// The number of the line that is not yet ended, and its bytes so far.
 #[derive(Drop)]
-pub struct LineBuffer {
+pub(crate) struct LineBuffer {
     pub number: u64,
     pub pending: Vec<u8>,
 }
@@ -40,7 +40,7 @@ fn text_of(bytes: &[u8], ended: bool) -> &[u8]
 }
 
 /// Reads the pending bytes as a line, and goes on to the next. After an error all is as it was.
-pub fn end_line<S: Sink>(
+pub(crate) fn end_line<S: Sink>(
     alloc: Global,
     stream: &NamedStream<'_>,
     line_buffer: &mut LineBuffer,
@@ -150,7 +150,7 @@ fn take_front<S: Sink>(
 }
 
 /// Takes the piece.
-pub fn take_piece<S: Sink>(
+pub(crate) fn take_piece<S: Sink>(
     alloc: Global,
     stream: &NamedStream<'_>,
     line_buffer: &mut LineBuffer,
@@ -178,7 +178,7 @@ pub fn take_piece<S: Sink>(
 }
 
 /// Ends the stream: pending bytes are its last line. After an error all is as it was.
-pub fn end_stream<S: Sink>(
+pub(crate) fn end_stream<S: Sink>(
     alloc: Global,
     stream: &NamedStream<'_>,
     line_buffer: &mut LineBuffer,

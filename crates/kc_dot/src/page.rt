@@ -13,14 +13,14 @@ const FULL: usize = 4_096;
 const ROOM: usize = 8_192;
 
 /// An empty page. It grows where a line is longer than its room.
-pub fn new_page(alloc: Global) -> Result<Vec<u8>, AllocError>
+pub(crate) fn new_page(alloc: Global) -> Result<Vec<u8>, AllocError>
     ensures { IfOk result (λ page. page.items ≡ []) }
 {
     Vec::with_capacity(alloc, ROOM)
 }
 
 /// Adds the parts, one after another.
-pub fn add_parts(parts: &[&[u8]], page: &mut Vec<u8>) -> Result<(), AllocError>
+pub(crate) fn add_parts(parts: &[&[u8]], page: &mut Vec<u8>) -> Result<(), AllocError>
     ensures { OnOk result (page.new.items ≡ page.old.items ++ flat_map (λ part. part.now) parts.now) }
 {
     for part in parts {
@@ -31,7 +31,7 @@ pub fn add_parts(parts: &[&[u8]], page: &mut Vec<u8>) -> Result<(), AllocError>
 
 /// Hands out the page where it is full, and begins the next one. After an error the sink took a
 /// beginning of it, never the whole.
-pub fn put_full<S: Sink>(page: &mut Vec<u8>, sink: &mut S) -> Result<(), Fault>
+pub(crate) fn put_full<S: Sink>(page: &mut Vec<u8>, sink: &mut S) -> Result<(), Fault>
     ensures { PutsOn S.Sink page.old.items page.new.items result sink.old sink.new }
 {
     if page.len() < FULL {

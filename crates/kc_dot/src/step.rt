@@ -26,7 +26,7 @@ use std::alloc::Global;
 
 /// A stream's name, and the tree and prefix that it is read for.
 #[derive(Clone, Copy)]
-pub struct NamedStream<'a> {
+pub(crate) struct NamedStream<'a> {
     pub tree: &'a Tree,
     pub prefix: &'a Prefix,
     pub name: &'a [u8],
@@ -104,7 +104,7 @@ fn warn_again<S: Sink>(
 
 /// Reads one line, given without its end: hands out its warning, and then changes the places. After an error the places
 /// are as they were.
-pub fn read_line<S: Sink>(
+pub(crate) fn read_line<S: Sink>(
     alloc: Global,
     stream: &NamedStream<'_>,
     number: u64,

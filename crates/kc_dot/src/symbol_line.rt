@@ -16,7 +16,7 @@ use std::alloc::AllocError;
 
 /// The value of a symbol: of a bool or tristate, or the text of another with its type.
 #[derive(Clone, Copy, Debug, PartialEq, Eq)]
-pub enum WrittenValue<'a> {
+pub(crate) enum WrittenValue<'a> {
     Truth(Tri),
     TextValue(Kind, &'a [u8]),
 }
@@ -36,7 +36,7 @@ fn value_by<'a>(kind: Kind, tri: Tri, text: &'a [u8]) -> WrittenValue<'a>
 }
 
 /// The value that the solution gives to a symbol, and to a name that is not defined its own text.
-pub fn symbol_value<'a>(solved: &'a Solved<'_>, id: SymId) -> WrittenValue<'a>
+pub(crate) fn symbol_value<'a>(solved: &'a Solved<'_>, id: SymId) -> WrittenValue<'a>
     ensures { value_view result ≡ (solution_view solved.now).value id }
 {
     solved.tells_known();
@@ -60,7 +60,7 @@ fn before_hex<'a>(text: &'a [u8]) -> &'a [u8]
 }
 
 /// Adds the symbol's line of a `.config`. Its only error is to be out of memory, for a line of a byte or more.
-pub fn add_dot_line<'a>(
+pub(crate) fn add_dot_line<'a>(
     prefix: &'a Prefix,
     name: &'a [u8],
     value: WrittenValue<'a>,
@@ -92,7 +92,7 @@ pub fn add_dot_line<'a>(
 }
 
 /// Adds the symbol's line of a header, where it has one. Its only error is to be out of memory, for a line of a byte or more.
-pub fn add_header_line<'a>(
+pub(crate) fn add_header_line<'a>(
     prefix: &'a Prefix,
     name: &'a [u8],
     value: WrittenValue<'a>,

@@ -117,7 +117,7 @@ fn none_visited(alloc: Global, count: usize) -> Result<Vec<bool>, AllocError>
 }
 
 /// The loop that the walk along unordered symbols comes to.
-pub fn named_loop(
+pub(crate) fn named_loop(
     alloc: Global,
     rows: &Rows,
     symbols: usize,

@@ -9,7 +9,7 @@ use std::marker::Model;
 
 /// Rows of numbers, one behind the other in one list, with the place where each ends.
 #[derive(Drop)]
-pub struct Rows {
+pub(crate) struct Rows {
     numbers: Vec<u32>,
     ends: Vec<usize>,
 }
@@ -51,7 +51,7 @@ fn all_below(numbers: &[u32], bound: usize) -> bool
 
 impl Rows {
     /// No rows yet, with room for so many of them. Fails only when it is out of memory.
-    pub fn with_room(alloc: Global, count: usize) -> Result<Rows, AllocError>
+    pub(crate) fn with_room(alloc: Global, count: usize) -> Result<Rows, AllocError>
         ensures { IfOk result (λ r. r ≡ []) }
     {
         let ends = Vec::with_capacity(alloc, count)?;
@@ -62,14 +62,14 @@ impl Rows {
     }
 
     /// How many rows there are.
-    pub fn count(&self) -> usize
+    pub(crate) fn count(&self) -> usize
         ensures { result ≡ length self.now }
     {
         self.ends.len()
     }
 
     /// What a row holds.
-    pub fn row(&self, row: usize) -> &[u32]
+    pub(crate) fn row(&self, row: usize) -> &[u32]
         requires { row < length self.now }
         ensures { result.now ≡ needs_in self.now row }
     {
@@ -78,14 +78,14 @@ impl Rows {
     }
 
     /// Whether each row holds numbers below a bound.
-    pub fn are_below(&self, bound: usize) -> bool
+    pub(crate) fn are_below(&self, bound: usize) -> bool
         ensures { IsTrue result ↔ RowsBelow bound self.now }
     {
         all_below(&self.numbers, bound)
     }
 
     /// Whether each row from one on holds numbers below its own.
-    pub fn go_down(&self, first: usize) -> bool
+    pub(crate) fn go_down(&self, first: usize) -> bool
         ensures { IsTrue result ↔ NeedSmaller first self.now }
     {
         let count = self.count();
@@ -100,7 +100,7 @@ impl Rows {
     }
 
     /// Adds a row. Where it is out of memory, nothing changes.
-    pub fn push(&mut self, row: &[u32]) -> Result<(), AllocError>
+    pub(crate) fn push(&mut self, row: &[u32]) -> Result<(), AllocError>
         ensures added { OnOk result (self.new ≡ self.old ++ row.now ∷ []) }
         ensures unchanged { OnErr result (self.new ≡ self.old) }
     {

@@ -9,7 +9,7 @@ use std::alloc::{AllocError, Global};
 
 /// How far a node is.
 #[derive(Clone, Copy, Debug, Drop)]
-pub enum NodeState {
+pub(crate) enum NodeState {
     /// Not visited yet.
     New,
     /// Some of its needs are still to be looked at.
@@ -22,7 +22,7 @@ pub enum NodeState {
 
 /// The search so far.
 #[derive(Drop)]
-pub struct Search {
+pub(crate) struct Search {
     /// How far each node is.
     pub states: Vec<NodeState>,
     // How many needs of each node are still to be looked at.
@@ -156,7 +156,7 @@ fn need_counts(alloc: Global, rows: &Rows) -> Result<Vec<usize>, AllocError>
 }
 
 /// A search over all nodes: which are unordered, and an order of the others.
-pub fn search_all(alloc: Global, rows: &Rows) -> Result<Search, AllocError>
+pub(crate) fn search_all(alloc: Global, rows: &Rows) -> Result<Search, AllocError>
     requires rows_below { RowsBelow (length rows.now) rows.now }
     requires few { length rows.now < 2 ^ 32 }
     ensures { IfOk result (IsFinished rows.now) }
@@ -175,14 +175,14 @@ pub fn search_all(alloc: Global, rows: &Rows) -> Result<Search, AllocError>
 }
 
 /// Whether a node is unordered.
-pub fn is_unordered(mark: NodeState) -> bool
+pub(crate) fn is_unordered(mark: NodeState) -> bool
     ensures { result ≡ is_unordered mark }
 {
     matches!(mark, NodeState::Unordered)
 }
 
 /// The first of these nodes that is unordered.
-pub fn first_unordered(states: &[NodeState]) -> Option<usize>
+pub(crate) fn first_unordered(states: &[NodeState]) -> Option<usize>
     ensures { MatchOption result (All (λ m. is_unordered m ≡ false) states.now) (λ i. (i < length states.now)
         × (is_unordered (slice_index_or states.now i NodeState.New) ≡ true) × ((k : ℕ) → k < i → is_unordered (slice_index_or states.now k NodeState.New) ≡ false)) }
 {

@@ -37,14 +37,14 @@ const MOST_FILES: usize = 64;
 
 /// What stays the same while files are read: the files, and the modules symbol's number.
 #[derive(Drop)]
-pub struct Reader<'a> {
+pub(crate) struct Reader<'a> {
     pub alloc: Global,
     pub map: &'a FileMap,
     pub modules: Option<SymId>,
 }
 
 /// The bytes of a file, and the total of physical lines with those of the file.
-pub fn open<'a, 'b>(
+pub(crate) fn open<'a, 'b>(
     map: &'a FileMap,
     name: &'b [u8],
     total_lines: usize,
@@ -203,7 +203,7 @@ fn end(alloc: Global, frame: &Frame) -> Result<(), Refusal>
 
 /// Reads a file to its end. The caller gives what is known inside it, and the file as an open one.
 #[cycle(files)]
-pub fn read_file(
+pub(crate) fn read_file(
     reader: &Reader,
     bytes: &[u8],
     frame: Frame,

@@ -18,7 +18,7 @@ const MOST_BLOCKS: usize = 64;
 /// What is known inside a file: its name, how many blocks are open in the files that source it and whether one of
 /// them is a choice, its own open blocks, the innermost last, and the entry that the next line may add to.
 #[derive(Drop)]
-pub struct Frame {
+pub(crate) struct Frame {
     pub file: Rc<Vec<u8>>,
     pub depth: usize,
     pub in_choice: bool,
@@ -78,28 +78,32 @@ fn is_choice(block: Block) -> bool
 
 impl Frame {
     /// The innermost open block of the file, and the line that opened it.
-    pub fn innermost(&self) -> Option<OpenBlock>
+    pub(crate) fn innermost(&self) -> Option<OpenBlock>
         ensures { result ≡ blocks.last_of self.now.blocks.items }
     {
         self.blocks.last().copied()
     }
 
     /// Whether a choice is open.
-    pub fn is_in_choice(&self) -> bool
+    pub(crate) fn is_in_choice(&self) -> bool
         ensures { result ≡ (self.now.in_choice || list_any (λ o. expansion.is_choice o.block) self.now.blocks.items) }
     {
         self.in_choice || self.blocks.iter().any(|opener| is_choice(opener.block))
     }
 
     /// The innermost open block of the file.
-    pub fn own_block(&self) -> Option<Block>
+    pub(crate) fn own_block(&self) -> Option<Block>
         ensures { result ≡ option_map (λ o. o.block) (blocks.last_of self.now.blocks.items) }
     {
         self.innermost().map(|opener| opener.block)
     }
 
     /// Takes a statement: a block is opened or closed, and the entry goes on or ends. The 65th open block is refused.
-    pub fn take(&mut self, statement: &Statement, line: u32) -> Result<(), LineFault<'static>>
+    pub(crate) fn take(
+        &mut self,
+        statement: &Statement,
+        line: u32,
+    ) -> Result<(), LineFault<'static>>
         requires { IsShallow self.old }
         ensures blocks { OnOk result (self.new.blocks.items ≡ open_blocks_after (blocks.bracket (statement_view statement.now)) line self.old.blocks.items) }
         ensures entry { OnOk result (self.new.entry ≡ entry_after self.old.entry (statement_view statement.now)) }

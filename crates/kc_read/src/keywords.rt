@@ -119,7 +119,7 @@ fn left_out_word(word: &[u8]) -> Option<Keyword>
 }
 
 /// What a first word says. Most lines are attributes, so their words are looked at first.
-pub fn keyword_of(word: &[u8]) -> Option<Keyword>
+pub(crate) fn keyword_of(word: &[u8]) -> Option<Keyword>
     ensures { result ≡ spec.keyword_of word.now }
 {
     if let Some(keyword) = attribute_word(word) {

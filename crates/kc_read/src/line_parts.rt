@@ -24,7 +24,7 @@ use std::rc::Rc;
 const LONGEST_NAME: usize = 255;
 
 /// The token at a place, if there is one.
-pub fn next<'a>(tokens: &[Token<'a>], at: usize) -> Option<TokenKind<'a>>
+pub(crate) fn next<'a>(tokens: &[Token<'a>], at: usize) -> Option<TokenKind<'a>>
     ensures { IsToken result tokens.now at }
 {
     if at < tokens.len() {
@@ -35,7 +35,7 @@ pub fn next<'a>(tokens: &[Token<'a>], at: usize) -> Option<TokenKind<'a>>
 }
 
 /// Whether this word stands at a place.
-pub fn begins_with(tokens: &[Token], at: usize, word: &[u8]) -> bool
+pub(crate) fn begins_with(tokens: &[Token], at: usize, word: &[u8]) -> bool
     ensures word { result ≡ spec.begins_with word.now (lexemes_from tokens.now at) }
     ensures within { IsTrue result → at < length tokens.now }
 {
@@ -46,21 +46,21 @@ pub fn begins_with(tokens: &[Token], at: usize, word: &[u8]) -> bool
 }
 
 /// The word `if`.
-pub fn is_if(word: &[u8]) -> bool
+pub(crate) fn is_if(word: &[u8]) -> bool
     ensures { result ≡ same_name word.now if_word }
 {
     word == b"if".as_slice()
 }
 
 /// The words n, m and y.
-pub fn is_tristate_constant(word: &[u8]) -> bool
+pub(crate) fn is_tristate_constant(word: &[u8]) -> bool
     ensures { result ≡ is_tristate_constant word.now }
 {
     tristate_constant(word).is_some()
 }
 
 /// The refusal of a line that is no statement.
-pub fn syntax() -> LineFault<'static>
+pub(crate) fn syntax() -> LineFault<'static>
     ensures { cause_of result ≡ syntax_cause }
 {
     LineFault {
@@ -70,7 +70,7 @@ pub fn syntax() -> LineFault<'static>
 }
 
 /// The line ends at a place.
-pub fn end<'a>(tokens: &[Token<'a>], at: usize) -> Result<(), LineFault<'a>>
+pub(crate) fn end<'a>(tokens: &[Token<'a>], at: usize) -> Result<(), LineFault<'a>>
     ensures end { OnOk result (lexemes_from tokens.now at ≡ []) }
     ensures more { IfErr result (λ f. IsMore (lexemes_from tokens.now at) × (cause_of f ≡ syntax_cause)) }
 {
@@ -81,7 +81,7 @@ pub fn end<'a>(tokens: &[Token<'a>], at: usize) -> Result<(), LineFault<'a>>
 }
 
 /// The word at a place.
-pub fn word_at<'a>(tokens: &[Token<'a>], at: usize) -> Result<&'a [u8], LineFault<'a>>
+pub(crate) fn word_at<'a>(tokens: &[Token<'a>], at: usize) -> Result<&'a [u8], LineFault<'a>>
     ensures part { IsPart (spec.word_of (lexemes_from tokens.now at)) (λ w. w.now) result }
     ensures within { OnOk result (at < length tokens.now) }
 {
@@ -92,7 +92,10 @@ pub fn word_at<'a>(tokens: &[Token<'a>], at: usize) -> Result<&'a [u8], LineFaul
 }
 
 /// The text at a place as it is written, and whether it is quoted.
-pub fn raw_text<'a>(tokens: &[Token<'a>], at: usize) -> Result<(&'a [u8], bool), LineFault<'a>>
+pub(crate) fn raw_text<'a>(
+    tokens: &[Token<'a>],
+    at: usize,
+) -> Result<(&'a [u8], bool), LineFault<'a>>
     ensures part { IsPart (spec.text_of (lexemes_from tokens.now at)) (λ t. unquoted_text t.1 t.0.now) result }
     ensures within { OnOk result (at < length tokens.now) }
 {
@@ -109,7 +112,11 @@ pub fn raw_text<'a>(tokens: &[Token<'a>], at: usize) -> Result<(&'a [u8], bool),
 }
 
 /// The text at a place.
-pub fn text_at<'a>(alloc: Global, tokens: &[Token<'a>], at: usize) -> Result<Vec<u8>, LineFault<'a>>
+pub(crate) fn text_at<'a>(
+    alloc: Global,
+    tokens: &[Token<'a>],
+    at: usize,
+) -> Result<Vec<u8>, LineFault<'a>>
     ensures part { IsPart (spec.text_of (lexemes_from tokens.now at)) (λ t. t.items) result }
     ensures within { OnOk result (at < length tokens.now) }
 {
@@ -123,7 +130,7 @@ pub fn text_at<'a>(alloc: Global, tokens: &[Token<'a>], at: usize) -> Result<Vec
 }
 
 /// The name that a select or an imply names.
-pub fn target_at<'a>(tokens: &[Token<'a>], at: usize) -> Result<&'a [u8], LineFault<'a>>
+pub(crate) fn target_at<'a>(tokens: &[Token<'a>], at: usize) -> Result<&'a [u8], LineFault<'a>>
     ensures part { IsPart (spec.named_target (lexemes_from tokens.now at)) (λ w. w.now) result }
     ensures within { OnOk result (at < length tokens.now) }
 {
@@ -140,7 +147,7 @@ pub fn target_at<'a>(tokens: &[Token<'a>], at: usize) -> Result<&'a [u8], LineFa
 }
 
 /// The refusal of a line whose expression is refused.
-pub fn fault_of<'a>(fault: ExprFault) -> LineFault<'a>
+pub(crate) fn fault_of<'a>(fault: ExprFault) -> LineFault<'a>
     ensures code { result.code ≡ code_of fault }
     ensures detail { result.detail.now ≡ [] }
 {
@@ -158,7 +165,7 @@ pub fn fault_of<'a>(fault: ExprFault) -> LineFault<'a>
 }
 
 /// The expression at a place, and the place after it.
-pub fn front<'a>(
+pub(crate) fn front<'a>(
     alloc: Global,
     tokens: &[Token<'a>],
     at: usize,
@@ -178,7 +185,7 @@ pub fn front<'a>(
 }
 
 /// An expression up to the end of the line. It is shared with what is made of the line.
-pub fn whole<'a>(
+pub(crate) fn whole<'a>(
     alloc: Global,
     tokens: &[Token<'a>],
     at: usize,
@@ -196,7 +203,7 @@ pub fn whole<'a>(
 }
 
 /// Nothing, or `if` and an expression, up to the end of the line.
-pub fn condition<'a>(
+pub(crate) fn condition<'a>(
     alloc: Global,
     tokens: &[Token<'a>],
     at: usize,
@@ -217,7 +224,7 @@ pub fn condition<'a>(
 }
 
 /// The number of a name, which stays its number.
-pub fn name_number<'a>(names: &mut Names, word: &[u8]) -> Result<SymId, LineFault<'a>>
+pub(crate) fn name_number<'a>(names: &mut Names, word: &[u8]) -> Result<SymId, LineFault<'a>>
     ensures number { IfOk result (λ id. IsNumber names.new word.now id) }
     ensures mentions { OnOk result (names.new ≡ mention names.old word.now) }
     ensures memory { IfErr result (λ f. f.code ≡ Memory) }
@@ -228,7 +235,7 @@ pub fn name_number<'a>(names: &mut Names, word: &[u8]) -> Result<SymId, LineFaul
 }
 
 /// The operand at a place.
-pub fn operand_at<'a>(
+pub(crate) fn operand_at<'a>(
     alloc: Global,
     tokens: &[Token<'a>],
     at: usize,
@@ -260,7 +267,7 @@ pub fn operand_at<'a>(
 }
 
 /// Whether a symbol may have the name.
-pub fn is_good_name(word: &[u8]) -> bool
+pub(crate) fn is_good_name(word: &[u8]) -> bool
     ensures { result ≡ spec.is_good_name word.now }
 {
     if is_if(word) || is_tristate_constant(word) {
@@ -271,7 +278,7 @@ pub fn is_good_name(word: &[u8]) -> bool
 }
 
 /// `*`, `?` or `[` stands in the text.
-pub fn is_pattern(text: &[u8]) -> bool
+pub(crate) fn is_pattern(text: &[u8]) -> bool
     ensures { result ≡ spec.is_pattern text.now }
 {
     text.iter().any(|b| *b == b'*' || *b == b'?' || *b == b'[')

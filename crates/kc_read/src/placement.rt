@@ -15,7 +15,7 @@ use kc_expr::expression::Kind;
 use kc_text::Token;
 
 /// What is wrong with the placement of a line.
-pub fn placement_fault<'a>(
+pub(crate) fn placement_fault<'a>(
     frame: &Frame,
     progress: &Progress,
     word: &'a [u8],
@@ -55,7 +55,7 @@ pub fn placement_fault<'a>(
 }
 
 /// The refusal of what is left out of the language: a word, or what `word` names.
-pub fn left_out(word: &[u8]) -> LineFault<'_>
+pub(crate) fn left_out(word: &[u8]) -> LineFault<'_>
     ensures { cause_of result ≡ spec.left_out word.now }
 {
     LineFault {

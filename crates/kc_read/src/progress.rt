@@ -21,7 +21,7 @@ const MOST_SYMBOLS: usize = 65535;
 /// order of their first definition, the symbol defined last, the symbol of the first `modules` line, and the open
 /// files, the innermost last.
 #[derive(Drop)]
-pub struct Progress {
+pub(crate) struct Progress {
     pub lines: Vec<Line>,
     pub total_lines: usize,
     pub defined: SymbolOrder,
@@ -32,7 +32,7 @@ pub struct Progress {
 
 impl Progress {
     /// Whether the symbol that was defined last may have a `modules` line.
-    pub fn may_be_modules(&self) -> bool
+    pub(crate) fn may_be_modules(&self) -> bool
         ensures { result ≡ ids_match self.now.modules self.now.config }
     {
         match (self.modules, self.config) {
@@ -75,7 +75,7 @@ impl Progress {
 
     /// Remembers a statement: a config line defines its symbol, of which the 65,536th is refused, and the first `modules`
     /// line is remembered.
-    pub fn remember(&mut self, statement: &Statement) -> Result<(), LineFault<'static>>
+    pub(crate) fn remember(&mut self, statement: &Statement) -> Result<(), LineFault<'static>>
         requires { HasSymbolsWithin self.old }
         ensures remembered { OnOk result (IsRemembered (statement_view statement.now) self.old self.new) }
         ensures within { OnOk result (HasSymbolsWithin self.new) }

@@ -29,7 +29,7 @@ use std::rc::Rc;
 /// Where the next line stands: in a file that is open, behind what was read so far. `modules` is the number that stands for
 /// the modules symbol.
 #[derive(Drop)]
-pub struct Position<'p> {
+pub(crate) struct Position<'p> {
     pub alloc: Global,
     pub modules: Option<SymId>,
     pub frame: &'p Frame,
@@ -75,7 +75,7 @@ fn comment_line<'a>(alloc: Global, tokens: &[Token<'a>]) -> Result<Statement, Li
 }
 
 /// The name in a `source` line.
-pub fn source_name<'a>(alloc: Global, tokens: &[Token<'a>]) -> Result<Vec<u8>, LineFault<'a>>
+pub(crate) fn source_name<'a>(alloc: Global, tokens: &[Token<'a>]) -> Result<Vec<u8>, LineFault<'a>>
     ensures name { IfOk result (λ name. ReadsSource (lexemes_from tokens.now 1) (Ok (SourceLine name.items))) }
     ensures fault { IfErr result (λ f. IsFault f (λ c. ReadsSource (lexemes_from tokens.now 1) (Err c))) }
 {
@@ -347,7 +347,7 @@ fn rest_of_line<'a>(
 }
 
 /// The statement of a line that has tokens, or why it is refused.
-pub fn read_line<'a>(
+pub(crate) fn read_line<'a>(
     position: &Position<'_>,
     tokens: &[Token<'a>],
     names: &mut Names,

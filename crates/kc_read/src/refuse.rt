@@ -24,7 +24,7 @@ fn copied(alloc: Global, fault: LineFault, file: &[u8], line: u32) -> Result<Ref
 }
 
 /// The refusal for a fault at a line, or out of memory.
-pub fn refuse(alloc: Global, fault: LineFault, file: &[u8], line: u32) -> Refusal
+pub(crate) fn refuse(alloc: Global, fault: LineFault, file: &[u8], line: u32) -> Refusal
     ensures refused { result.code ≢ Memory → refusal_view result ≡ refused (cause_of fault.entry) file.now line }
     ensures memory { IsMemory result }
 {

@@ -19,7 +19,7 @@ use std::alloc::{AllocError, Global};
 
 /// What the next line says: no name and none after it, none, or this one.
 #[derive(Debug, Drop)]
-pub enum NextSource {
+pub(crate) enum NextSource {
     Nothing,
     Other,
     Name(Vec<u8>),

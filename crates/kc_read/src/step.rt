@@ -22,7 +22,7 @@ use std::alloc::{AllocError, Global};
 
 /// What stands next in a file.
 #[derive(Debug, Drop)]
-pub enum Step {
+pub(crate) enum Step {
     End,
     Blank,
     Next(u32, Statement),
@@ -54,7 +54,7 @@ fn long_line(fault: TextFault) -> u32
 const TOKENS: usize = 8;
 
 /// No tokens yet, with room for those of the line where it has a byte.
-pub fn token_list<'a>(alloc: Global, line: &[u8]) -> Result<Vec<Token<'a>>, AllocError>
+pub(crate) fn token_list<'a>(alloc: Global, line: &[u8]) -> Result<Vec<Token<'a>>, AllocError>
     ensures { IfOk result (λ v. v.items ≡ []) }
 {
     if line.is_empty() {
@@ -64,7 +64,7 @@ pub fn token_list<'a>(alloc: Global, line: &[u8]) -> Result<Vec<Token<'a>>, Allo
 }
 
 /// Whether a help text follows.
-pub fn begins_help(tokens: &[Token]) -> bool
+pub(crate) fn begins_help(tokens: &[Token]) -> bool
     ensures { result ≡ is_help (lexemes (token_views tokens.now)) }
 {
     begins_with(tokens, 0, b"help") || begins_with(tokens, 0, b"---help---")
@@ -145,7 +145,7 @@ fn next_joined(
 
 /// What stands next in a file. `tokens` holds those of a line that is lent from the file while it is read, and `text` the
 /// bytes of one that is joined, each in place of what it held.
-pub fn next_step<'a>(
+pub(crate) fn next_step<'a>(
     position: &Position<'_>,
     lines: &mut LogicalLines<'a>,
     text: &mut Vec<u8>,

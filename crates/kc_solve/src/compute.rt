@@ -75,7 +75,7 @@ fn compute_selection(table: &mut Table<'_>, id: ChoiceId, chosen: &[Option<SymId
 
 /// The values of a tree's symbols, computed along an order of them and of the contexts and choices between them, each once:
 /// the table that solves the equations under what was given for each symbol and the member that was chosen for each choice.
-pub fn compute<'t>(
+pub(crate) fn compute<'t>(
     alloc: Global,
     tree: &'t Tree,
     layout: &'t Layout,

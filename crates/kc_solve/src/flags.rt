@@ -55,7 +55,7 @@ fn default_of(
 
 /// What each choice selects, by number.
 #[derive(Drop)]
-pub struct ChoiceSelections {
+pub(crate) struct ChoiceSelections {
     /// The selection.
     pub selected: Vec<Option<SymId>>,
     /// The default selection: that without the user's member.
@@ -64,7 +64,11 @@ pub struct ChoiceSelections {
 
 /// What each choice selects under the values of a full table and a user's places of that tree. What the table has computed is
 /// not found again.
-pub fn selections(alloc: Global, table: &Table, user: &User) -> Result<ChoiceSelections, AllocError>
+pub(crate) fn selections(
+    alloc: Global,
+    table: &Table,
+    user: &User,
+) -> Result<ChoiceSelections, AllocError>
     requires full { length table.now.values.items ≡ symbol_count table.now.tree.now }
     requires user { ArePlacesOf table.now.tree.now user.now }
     requires selected { AreSelected table.now user.now.choices }
@@ -138,7 +142,7 @@ fn symbol_differs(
 
 /// What the values of a full table say of each symbol, by number.
 #[derive(Drop)]
-pub struct Flags {
+pub(crate) struct Flags {
     /// Whether it differs: its value is not what its equation gives without what was given for it; a member: it is selected
     /// and is not the default selection.
     pub differing: Vec<bool>,
@@ -150,7 +154,7 @@ pub struct Flags {
 
 /// What the values of a full table that solves say of the symbols under a user's places of that tree, with the selections
 /// under them. Each symbol is looked at once, and its visibility serves all that asks for it.
-pub fn flags_of(
+pub(crate) fn flags_of(
     alloc: Global,
     table: &Table,
     user: &User,
