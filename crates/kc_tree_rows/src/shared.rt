@@ -4,13 +4,18 @@ use kc_read::{FileMap, Refusal};
 use std::alloc::{AllocError, Global};
 
 /// Puts a copy of a file's bytes under its name.
-pub fn put(alloc: Global, map: &mut FileMap, name: &[u8], bytes: &[u8]) -> Result<(), AllocError> {
+pub(crate) fn put(
+    alloc: Global,
+    map: &mut FileMap,
+    name: &[u8],
+    bytes: &[u8],
+) -> Result<(), AllocError> {
     let name = Vec::from_slice(alloc, name)?;
     map.insert(name, Vec::from_slice(alloc, bytes)?)
 }
 
 /// Puts copies of files, by name.
-pub fn put_all(
+pub(crate) fn put_all(
     alloc: Global,
     map: &mut FileMap,
     files: &[(&str, &[u8])],
@@ -22,7 +27,7 @@ pub fn put_all(
 }
 
 /// Whether the names have these bytes.
-pub fn has_files(map: &FileMap, files: &[(&str, &[u8])]) -> bool {
+pub(crate) fn has_files(map: &FileMap, files: &[(&str, &[u8])]) -> bool {
     for (name, bytes) in files {
         if map.get(name.as_bytes()) != Some(*bytes) {
             return false;
@@ -32,7 +37,7 @@ pub fn has_files(map: &FileMap, files: &[(&str, &[u8])]) -> bool {
 }
 
 /// Whether these names are there, and those are not.
-pub fn has_names(map: &FileMap, names: &[(&str, bool)]) -> bool {
+pub(crate) fn has_names(map: &FileMap, names: &[(&str, bool)]) -> bool {
     for (name, held) in names {
         if map.get(name.as_bytes()).is_some() != *held {
             return false;
@@ -43,7 +48,7 @@ pub fn has_names(map: &FileMap, names: &[(&str, bool)]) -> bool {
 
 /// A part of a file: how often a text stands there. In it `~` stands for a line feed, `^` for a carriage return, `@` for a
 /// tab, and `%` for a name that tells how often the text stood before.
-pub type Piece<'a> = (usize, &'a [u8]);
+pub(crate) type Piece<'a> = (usize, &'a [u8]);
 
 // Adds the number, written with the letters A to P.
 fn number_into(number: usize, bytes: &mut Vec<u8>) -> Result<(), AllocError> {
@@ -57,7 +62,7 @@ fn number_into(number: usize, bytes: &mut Vec<u8>) -> Result<(), AllocError> {
 }
 
 /// Adds the bytes of these parts.
-pub fn pieces_into(pieces: &[Piece], bytes: &mut Vec<u8>) -> Result<(), AllocError> {
+pub(crate) fn pieces_into(pieces: &[Piece], bytes: &mut Vec<u8>) -> Result<(), AllocError> {
     for (count, text) in pieces {
         for number in 0..*count {
             for sign in *text {
@@ -79,7 +84,7 @@ pub fn pieces_into(pieces: &[Piece], bytes: &mut Vec<u8>) -> Result<(), AllocErr
 }
 
 /// Puts a file with these parts under its name; without a part there is no file.
-pub fn put_pieces(
+pub(crate) fn put_pieces(
     alloc: Global,
     map: &mut FileMap,
     name: &[u8],
@@ -95,14 +100,14 @@ pub fn put_pieces(
 
 /// Adds the bytes, each as one letter. Here and wherever else a text is written to be compared, what there is no memory for is
 /// missing in it, so that it is not the one that is wanted.
-pub fn letters_into(bytes: &[u8], text: &mut String) {
+pub(crate) fn letters_into(bytes: &[u8], text: &mut String) {
     for byte in bytes {
         let _ = text.push(char::from(*byte));
     }
 }
 
 /// Adds the refusal as `FILE:LINE CODE DETAIL`; without a location or a detail it has less.
-pub fn refusal_into(refusal: &Refusal, text: &mut String) {
+pub(crate) fn refusal_into(refusal: &Refusal, text: &mut String) {
     if let Some((file, line)) = &refusal.location {
         letters_into(file, text);
         let _ = write!(text, ":{line} ");
