@@ -17,12 +17,13 @@ import sys
 import tempfile
 
 TOP = os.path.dirname(os.path.dirname(os.path.abspath(__file__)))
+# A line may be broken at any blank.
 EXAMPLE = re.compile(
-    r"^\*\*([EK]\d+)\*\* `([^`]+)`(?: (?:behind `([^`]+)` )?with `(--[a-z-]+)`)?"
-    r"(?: with the `\.config` lines? ([^\n]*))?\n\n```\n(.*?)```$",
+    r"^\*\*([EK]\d+)\*\* `([^`]+)`(?: (?:after `([^`]+)` )?with `(--[a-z-]+)`)?"
+    r"(?: with the `\.config` lines? ((?:(?!\n\n).)*))?\n\n```\n(.*?)```$".replace(" ", r"\s"),
     re.MULTILINE | re.DOTALL,
 )
-CODES = [f"E{n}" for n in range(1, 22)] + [f"K{n}" for n in range(1, 15)]
+CODES = [f"E{n}" for n in [*range(1, 22), 23]] + [f"K{n}" for n in range(1, 16)]
 
 
 def read(name):
@@ -103,7 +104,7 @@ class Built:
 
 def rule(kconf):
     """Complaints about the rule for make that docs/formats.md shows."""
-    shown = re.search(r"writes\n\n((?: {4}.*\n|\n)*)", read("docs/formats.md").partition("## The rule for make")[2]).group(1)
+    shown = re.search(r"writes\n\n((?: {4}.*\n|\n)*)", read("docs/formats.md").partition("## The dependency file")[2]).group(1)
     with tempfile.TemporaryDirectory() as folder:
         shutil.copytree(os.path.join(TOP, "crates/kconf_firmware/data"), folder, dirs_exist_ok=True)
         subprocess.run([kconf, "--depfile", ".config.d", "Kconfig", "site.config"], cwd=folder, capture_output=True, check=True)
