@@ -1,13 +1,13 @@
-# Thin: every target is one or two commands of the kit.
+# Each target is one or two commands.
 .PHONY: build install example test wrong bench shapes real refused replaced trials flatten-test docs clean
 
 PREFIX ?= /usr/local
 
+# Proves kconf and all crates below it, and builds the program crates/kconf/out/kconf.
 build:
 	cd crates/kconf && rt run -- --help > /dev/null
 
-# Puts the program, the companion that flattens trees, the man page and the completions below $(PREFIX); DESTDIR stands
-# before it, for packages.
+# Installs the program, the companions, man pages and completions below $(PREFIX). DESTDIR is put before it, for packages.
 install: build
 	install -D -m 755 crates/kconf/out/kconf $(DESTDIR)$(PREFIX)/bin/kconf
 	install -D -m 755 tools/kconf-flatten $(DESTDIR)$(PREFIX)/bin/kconf-flatten
@@ -15,10 +15,21 @@ install: build
 	install -D -m 644 completions/kconf.bash $(DESTDIR)$(PREFIX)/share/bash-completion/completions/kconf
 	install -D -m 644 completions/_kconf $(DESTDIR)$(PREFIX)/share/zsh/site-functions/_kconf
 
-# The main job on the example: its full .config on standard output.
-example: build
-	@cd crates/kconf_firmware/data && ../../kconf/out/kconf --config start.config --out /dev/stdout Kconfig site.config
+# Packs what install installs, the licences and the documents into dist/kconf-VERSION-linux-x86_64.tar.gz, and writes its
+# SHA-256 checksum beside it.
+.PHONY: dist
+dist: build
+	tools/dist.sh
 
+# Builds kconf without proofs and runs it on the example: the full .config on standard output, all else on standard error.
+EXAMPLE := $(shell cd crates/kconf_firmware/data && find . -name rows -prune -o -type f -printf '%P ')
+example:
+	@echo 'Without proofs: kconf --config start.config --out /dev/stdout Kconfig site.config' >&2
+	@cd crates/kconf && rt try $(foreach file,$(EXAMPLE),--data $(file)=../kconf_firmware/data/$(file)) \
+		-- --config start.config --out /dev/stdout Kconfig site.config
+	@echo 'This build of kconf is not proved. The command that proves and builds it: make build' >&2
+
+# Runs the gate: every proof, mutant, test and program of the repository.
 test:
 	rt ci
 
@@ -30,11 +41,11 @@ flatten-test: build
 wrong:
 	wrong-bodies/try.sh
 
-# Times kconf beside the kernel's conf and kconfiglib, where they are there.
+# Times kconf, the kernel's conf and kconfiglib, if they are installed, and draws docs/bench.svg.
 bench: build
 	bench/run.sh
 
-# Runs small trees that could take much, each at three sizes, and fails where one takes much more than twice as much at twice the size.
+# Runs worst-case inputs at three sizes each. Fails if time or memory grows faster than the input.
 shapes: build
 	bench/shapes.sh
 
@@ -42,23 +53,23 @@ shapes: build
 real: build
 	bench/real.sh
 
-# Refuses each growth of memory and fails each open, read and write of some runs in turn, and looks at what each leaves.
+# Fails each allocation, open, read and write of some runs in turn, and checks status, diagnostics and files.
 refused: build
 	cd crates/kc_call_turns && rt run > /dev/null
 	bench/refused.sh
 
-# Looks at what --replace does to files: equal texts, links, modes, pipes, refusals, runs at once and runs that are killed.
+# Checks --replace: equal texts, links, modes, pipes, refusals, concurrent runs and killed runs.
 replaced: build
 	bench/replace.py
 
-# Tries the program as somebody new to it would: full disks, a closed standard error, folders that may not be written, many warnings.
+# Tries full disks, a closed standard error, folders without write permission, many warnings and the like.
 trials: build
 	bench/trials.py
 
-# Runs each example of docs/formats.md and the makefile of docs/make.md, and looks whether the documents have each option, one version,
-# and links that lead somewhere.
+# Runs the examples of docs/formats.md and the makefiles of docs/make.md, and checks the documents: options, version, links
+# and line lengths.
 docs: build
 	bench/docs.py crates/kconf/out/kconf
 
 clean:
-	rm -rf crates/*/out
+	rm -rf crates/*/out dist

@@ -14,7 +14,7 @@ _kconf() {
     esac
     if [[ $word == -* ]]; then
         COMPREPLY=($(compgen -W \
-            '--root --config --out --header --savedefconfig --depfile --prefix --must-exist --strict --warn-lost --replace --help --version' -- "$word"))
+            '--root --config --out --header --savedefconfig --depfile --prefix --must-exist --strict --strict-tree --warn-lost --replace --help --version' -- "$word"))
     else
         COMPREPLY=($(compgen -f -- "$word"))
     fi

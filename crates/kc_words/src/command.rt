@@ -10,21 +10,22 @@ use std::alloc::{AllocError, Global};
 // The version of the program. It stands here alone.
 const VERSION: &str = "0.9.0";
 
-// What help says behind the options.
+// The text below the options.
 const AFTER_HELP: &str = "\
-Example: bring .config up to date with a fragment, and write the lines that are enough to get it again
+Example: update .config from a fragment, and write the minimal .config too:
   kconf --savedefconfig defconfig Kconfig site.config
 
 Exit status:
-  0  done: every file is whole
-  1  the tree was refused, a .config line is too long, or --strict refused a warning: no file was begun
-  2  the command line is wrong
-  3  a device failed or there was no memory: what was begun holds a beginning or, with --replace, is as it was,
-     but where a move fails
+  0  success: every output file is complete
+  1  refused: an error in the tree or in a .config file, or a warning under --strict or --strict-tree;
+     no file was created or changed
+  2  wrong arguments
+  3  I/O error or out of memory: output files may be truncated; with --replace they are unchanged,
+     unless a rename failed
 
-Read on: man kconf; docs/formats.md has each message, its cause and what to do";
+See also: man kconf; docs/formats.md explains each error and warning";
 
-// What help says of an option's value and of the option.
+// The help for an option that takes a value: the value's name and the text.
 #[derive(Clone, Copy)]
 struct OptionTexts {
     value: &'static str,
@@ -33,48 +34,47 @@ struct OptionTexts {
 
 const ROOT: OptionTexts = OptionTexts {
     value: "DIR",
-    help: "Where the Kconfig files are [default: .]",
+    help: "Read the Kconfig files relative to DIR [default: .]",
 };
 
 const CONFIG: OptionTexts = OptionTexts {
     value: "FILE",
-    help: "The .config to read [default: .config]",
+    help: "Read the .config from FILE [default: .config]",
 };
 
 const OUT: OptionTexts = OptionTexts {
     value: "FILE",
-    help: "The full .config to write [default: the file of --config]",
+    help: "Write the full .config to FILE [default: the file of --config]",
 };
 
 const HEADER: OptionTexts = OptionTexts {
     value: "FILE",
-    help: "The C header to write",
+    help: "Write a C header to FILE",
 };
 
 const MINIMAL: OptionTexts = OptionTexts {
     value: "FILE",
-    help: "The minimal .config to write",
+    help: "Write the minimal .config (defconfig) to FILE",
 };
 
 const DEPFILE: OptionTexts = OptionTexts {
     value: "FILE",
-    help: "The rule for make to write: what the file of --out was made of",
+    help: "Write a make dependency file to FILE, like gcc -MP",
 };
 
 const PREFIX: OptionTexts = OptionTexts {
     value: "TEXT",
-    help: "What stands before each symbol's name [default: CONFIG_]",
+    help: "Prefix of symbol names in .config files and the header [default: CONFIG_]",
 };
 
-const MUST_EXIST: &str =
-    "Fail with E18, once the tree is accepted, where the file of --config does not exist";
+const MUST_EXIST: &str = "Fail if the --config file does not exist (E18)";
 
 const STRICT: &str = "Begin no file where any warning was told";
 
 const WARN_LOST: &str =
     "Warn where the value last read for a symbol with a prompt is not its value";
 
-const REPLACE: &str = "Replace each file in one step, at the end and only where its text changes";
+const REPLACE: &str = "Write files atomically, and leave unchanged files untouched";
 
 // Adds `--NAME VALUE`.
 fn with_option<'a>(
@@ -117,7 +117,7 @@ fn with_kconfig<'a>(alloc: Global, command: Command<'a>) -> Result<Command<'a>, 
     command.arg(
         Arg::new(alloc, "KCONFIG")
             .required(true)
-            .help("The Kconfig file to begin with"),
+            .help("The top Kconfig file"),
     )
 }
 
@@ -128,7 +128,7 @@ fn with_fragments<'a>(alloc: Global, command: Command<'a>) -> Result<Command<'a>
     command.arg(
         Arg::new(alloc, "FRAGMENT")
             .action(ArgAction::Append)
-            .help("Files to read after the .config, in this order"),
+            .help("More .config files, read in this order after the first"),
     )
 }
 
@@ -139,7 +139,7 @@ fn empty_command<'a>(alloc: Global) -> Command<'a>
     Command::new(alloc, "kconf")
         .no_binary_name(true)
         .version(VERSION)
-        .about("Computes the configuration that Kconfig files and a .config give")
+        .about("Computes a full configuration from Kconfig files and a .config")
         .after_help(AFTER_HELP)
 }
 
