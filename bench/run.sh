@@ -1,19 +1,21 @@
 #!/usr/bin/env bash
-# Times kconf beside the kernel's conf and kconfiglib over a generated tree, and then kconf and conf over trees of four sizes:
-# bench/run.sh [SYMBOLS]
+# Times kconf, the kernel's conf and kconfiglib, and draws the processor times: bench/run.sh [SYMBOLS]
 #
-# kconf is crates/kconf/out/kconf (make build), or the program that KCONF names; one run of it writes the full .config, the header
-# and the minimal file. kconfig-conf and kconfiglib are taken where they are there (Debian's packages kconfig-frontends-nox and
+# There are three tables: Linux 6.1 with Debian's configuration for amd64, if `make real` has fetched it; a generated tree of
+# 20,000 symbols, or as many as SYMBOLS says; and generated trees of four sizes. The first two are printed again as the Markdown
+# table of README.md, and drawn as docs/bench.svg, or the file that CHART names.
+#
+# kconf is crates/kconf/out/kconf (make build), or the program that KCONF names. One run of it writes the full .config, the header
+# and the minimal file. kconfig-conf and kconfiglib are timed if they are installed (Debian's packages kconfig-frontends-nox and
 # python3-kconfiglib). conf writes one file a run, so it is run for the .config and for the minimal file.
 #
-# Before them stands Linux 6.1 with Debian's configuration for amd64, where `make real` has left it (in the folder that KCONF_TREES
-# names, as there): kconf on the flat file, and the tree's own conf on the flat file and on the tree. On the tree conf expands the
-# macros, for which it starts a compiler some hundred times; kconf-flatten has done that once for the flat file.
+# Linux 6.1 is read from the folder that KCONF_TREES names, as in `make real`: kconf and the tree's own conf read the flat file.
+# conf also reads the tree itself. It then expands the macros, and starts a compiler several hundred times; for the flat file
+# kconf-flatten has done this before.
 #
-# The commands of a table run in turn, each ten times or as often as RUNS says, so that what else the machine does falls on all of
-# them. The table shows the run with the least processor time (user and system together), and of all runs the least wall time, the
-# greatest peak memory and the least number of page faults for which no disk was read (ru_minflt), as getrusage tells them. The
-# machine should have nothing else to do.
+# The commands of a table run in turn, ten times each or as often as RUNS says, so other load on the machine affects all of them.
+# The table shows the least processor time (user and system together), the least wall time, the highest peak memory and the
+# least number of minor page faults (ru_minflt), as getrusage reports them. The machine should be idle.
 set -eu
 here=$(cd "$(dirname "$0")" && pwd)
 kconf=$(realpath -m "${KCONF:-$here/../crates/kconf/out/kconf}")
@@ -24,7 +26,7 @@ work=$(mktemp -d)
 trap 'rm -rf "$work"' EXIT
 mkdir "$work/table"
 if [ ! -x "$kconf" ]; then
-    echo "there is no $kconf: make build makes it" >&2
+    echo "there is no program $kconf: run make build" >&2
     exit 1
 fi
 
@@ -33,9 +35,10 @@ measure() {
     printf '%s\0' "$PWD" "$@" >"$work/table/$(printf '%03d' "$(find "$work/table" -type f | wc -l)")"
 }
 
-# Runs the commands of the table, prints it under this head, and begins another.
+# Runs the commands of the table, prints it under this title, and begins another. The rows are kept in $work/rows.
 table() {
-    "$python" - "$runs" "$work/table" "$1" <<'EOF'
+    "$python" - "$runs" "$work/table" "$1" "$work/rows" <<'EOF'
+import json
 import os
 import pathlib
 import shutil
@@ -72,15 +75,39 @@ class Row:
 
     def __str__(self):
         peak = max(self.peaks) / 1024
-        return f"{self.name:<36} {min(self.spent):8.3f} s {min(self.walls):8.3f} s {peak:8.1f} MiB {min(self.faults):11}"
+        return f"{self.name:<46} {min(self.spent):8.3f} s {min(self.walls):8.3f} s {peak:8.1f} MiB {min(self.faults):11}"
+
+    def cell(self):
+        """The cell of the Markdown table."""
+        return f"{min(self.spent):.3f} s, {max(self.peaks) / 1024:.0f} MiB, {min(self.faults):,}"
 
 
 rows = [Row(path) for path in sorted(pathlib.Path(sys.argv[2]).iterdir())]
 for _ in range(int(sys.argv[1])):
     for row in rows:
         row.run()
-print(f"{sys.argv[3]:<36} {'processor':>10} {'wall':>10} {'peak memory':>12} {'page faults':>11}")
+print(f"{sys.argv[3]:<46} {'processor':>10} {'wall':>10} {'peak memory':>12} {'page faults':>11}")
 print(*rows, sep="\n", flush=True)
+with open(sys.argv[4], "a", encoding="utf-8") as kept:
+    kept.writelines(json.dumps([sys.argv[3], row.name, row.cell()]) + "\n" for row in rows)
+EOF
+}
+
+# Prints the rows that were kept as one Markdown table: the rows of the last table, with a column for each table.
+markdown() {
+    "$python" - "$work/rows" <<'EOF'
+import json
+import sys
+
+with open(sys.argv[1], encoding="utf-8") as kept:
+    rows = [json.loads(line) for line in kept]
+cells = {(table, name): cell for table, name, cell in rows}
+tables = list(dict.fromkeys(table for table, *_ in rows))
+print("| |", " | ".join(tables), "|")
+print("|---|" + "---|" * len(tables))
+for table, name, _ in rows:
+    if table == tables[-1]:
+        print("|", name, "|", " | ".join(cells.get((it, name), "") for it in tables), "|")
 EOF
 }
 
@@ -113,10 +140,10 @@ if [ -f "$trees/flat/linux-x86.Kconfig" ]; then
     echo "Linux 6.1 for x86, $(wc -l <Kconfig) lines in one flat file, $(wc -l <dot.config) lines of .config; $runs runs each"
     our_run 'kconf, all three files'
     auto=KCONFIG_AUTOCONFIG=$work/linux/auto.conf
-    measure 'its conf --olddefconfig' "$auto" -- "$trees/conf/linux/conf" --olddefconfig Kconfig
-    measure 'its conf --savedefconfig' "$auto" -- "$trees/conf/linux/conf" --savedefconfig=conf.min Kconfig
+    measure 'conf --olddefconfig, the .config alone' "$auto" -- "$trees/conf/linux/conf" --olddefconfig Kconfig
+    measure 'conf --savedefconfig, the minimal file alone' "$auto" -- "$trees/conf/linux/conf" --savedefconfig=conf.min Kconfig
     mapfile -t settings <"$trees/flat/linux-x86.settings"
-    measure 'the same on the tree, not flat' "$auto" "KCONFIG_CONFIG=$work/linux/.config" "RUNS_IN=$trees/trees/linux" "${settings[@]}" \
+    measure 'conf --olddefconfig on the tree, not flat' "$auto" "KCONFIG_CONFIG=$work/linux/.config" "RUNS_IN=$trees/trees/linux" "${settings[@]}" \
         -- "$trees/conf/linux/conf" --olddefconfig Kconfig
     # kconfiglib knows the modules symbol by its older spelling alone.
     cd "$work/library"
@@ -131,11 +158,15 @@ make_tree "$symbols"
 echo "$symbols symbols, $(cat Kconfig parts/* | wc -l) lines in $(cat Kconfig parts/* | grep -c '^source') sourced files, $(wc -l <dot.config) lines of .config; $runs runs each"
 our_run 'kconf, all three files'
 if command -v kconfig-conf >/dev/null; then
-    measure 'kconfig-conf --olddefconfig' -- kconfig-conf --olddefconfig Kconfig
-    measure 'kconfig-conf --savedefconfig' -- kconfig-conf --savedefconfig=conf.min Kconfig
+    measure 'conf --olddefconfig, the .config alone' -- kconfig-conf --olddefconfig Kconfig
+    measure 'conf --savedefconfig, the minimal file alone' -- kconfig-conf --savedefconfig=conf.min Kconfig
 fi
 if "$python" -c 'import kconfiglib' 2>/dev/null; then library_run; fi
-table 'one tree'
+table Generated
+
+echo
+markdown | tee "$work/table.md"
+"$here/chart.py" "$work/table.md" >"${CHART:-$here/../docs/bench.svg}"
 
 echo
 for size in 5000 10000 20000 40000; do
