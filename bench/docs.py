@@ -1,12 +1,14 @@
 #!/usr/bin/python3
 """Checks what the documents say of the built program: docs.py KCONF
 
-Every example of a diagnostic in docs/formats.md is run, and the line that comes must be the one
-that stands there, and so must the rule for make. The makefiles of docs/make.md are run over
-the example (crates/kconf_firmware/data), the first with each of its two rules. The version of the command must be the one of
-the program, the man page and the changelog, and each option of the help must stand in README.md, the
-man page and both completions. Every link from a document to a file of the repository must lead
-somewhere, and the lines of README.md must fit into 140 columns.
+- Each example of a diagnostic in docs/formats.md is run. The program must print the line of the page.
+- The dependency file of docs/formats.md must be the one that the program writes.
+- The makefiles of docs/make.md are run over the example (crates/kconf_firmware/data), the first one with each of its two rules.
+- The version must be the same in the program, the man pages and the changelog.
+- Each option of the help must stand in README.md, the man page and both completions.
+- Each link from a document to a file of the repository must lead to a file.
+- A line of a document has at most 120 columns, except in tables.
+- docs/bench.svg must be the chart of the table in README.md.
 """
 
 import os
@@ -168,14 +170,13 @@ def makefile(kconf, name, text):
 
 
 def versions(kconf):
-    """Complaints about the version where it stands beside the command."""
+    """Complaints about the version in the program, the man pages and the changelog."""
     version = re.search(r'^const VERSION: &str = "(.*)";$', read("crates/kc_words/src/command.rt"), re.M).group(1)
     said = subprocess.run([kconf, "--version"], capture_output=True, text=True).stdout.strip()
-    places = {
-        "kconf --version": said.removeprefix("kconf "),
-        "man/kconf.1": re.search(r'^\.TH KCONF 1 \S+ "kconf (\S+)"', read("man/kconf.1"), re.M).group(1),
-        "CHANGELOG.md": re.search(r"^## (\S+)", read("CHANGELOG.md"), re.M).group(1),
-    }
+    heads = {"CHANGELOG.md": r"^## (\S+)"}
+    heads.update((f"man/{name}", r'^\.TH \S+ 1 \S+ "\S+ (\S+)"') for name in sorted(os.listdir(os.path.join(TOP, "man"))))
+    found = {place: re.search(head, read(place), re.M) for place, head in heads.items()}
+    places = {"kconf --version": said.removeprefix("kconf "), **{place: it and it.group(1) for place, it in found.items()}}
     return [f"{place}: version {found}, not {version}" for place, found in places.items() if found != version]
 
 
@@ -196,17 +197,33 @@ def options(kconf):
     return complaints
 
 
+def pages():
+    """The names of all documents."""
+    docs = sorted(name for name in os.listdir(os.path.join(TOP, "docs")) if name.endswith(".md"))
+    return ["README.md", "SECURITY.md", "CHANGELOG.md"] + ["docs/" + name for name in docs]
+
+
 def links():
     """Complaints about links that lead nowhere, and how many links there are."""
-    pages = ["README.md", "SECURITY.md", "CHANGELOG.md"]
-    pages += ["docs/" + name for name in sorted(os.listdir(os.path.join(TOP, "docs")))]
     complaints, count = [], 0
-    for page in pages:
+    for page in pages():
         for target in re.findall(r"\]\(([^)#]+)[^)]*\)", read(page)):
             count += 1
-            if not os.path.exists(os.path.join(TOP, os.path.dirname(page), target)):
+            if "://" not in target and not os.path.exists(os.path.join(TOP, os.path.dirname(page), target)):
                 complaints.append(f"{page}: no file {target}")
     return complaints, count
+
+
+def widths():
+    """Complaints about lines of more than 120 columns outside tables."""
+    lines = ((page, at, line) for page in pages() for at, line in enumerate(read(page).split("\n"), 1))
+    return [f"{page}:{at}: {len(line)} columns" for page, at, line in lines if len(line) > 120 and not line.startswith("|")]
+
+
+def chart():
+    """Complaints about the chart of the README's table."""
+    drawn = subprocess.run([os.path.join(TOP, "bench/chart.py"), os.path.join(TOP, "README.md")], capture_output=True, text=True)
+    return [] if drawn.stdout == read("docs/bench.svg") else ["docs/bench.svg: run bench/chart.py README.md >docs/bench.svg"]
 
 
 def main():
@@ -216,8 +233,7 @@ def main():
     for name, text in makefiles().items():
         unmade += makefile(kconf, name, text)
     broken, count = links()
-    wide = [n for n, line in enumerate(read("README.md").split("\n"), 1) if len(line) > 140]
-    complaints = wrong + unmade + broken + [f"README.md:{n}: over 140 columns" for n in wide]
+    complaints = wrong + unmade + broken + widths() + chart()
     for complaint in complaints:
         print(complaint)
     print(f"{runs} examples, {count} links, {len(complaints)} complaints")
