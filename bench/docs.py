@@ -2,8 +2,9 @@
 """Checks what the documents say of the built program: docs.py KCONF
 
 - Each example of a diagnostic in docs/formats.md is run. The program must print the line of the page.
+- The session in README.md is run in a copy of the example (crates/kconf_firmware/data), and must print the same.
 - The dependency file of docs/formats.md must be the one that the program writes.
-- The makefiles of docs/make.md are run over the example (crates/kconf_firmware/data), the first one with each of its two rules.
+- The makefiles of docs/make.md are run over the example, the first one with each of its two rules.
 - The version must be the same in the program, the man pages and the changelog.
 - Each option of the help must stand in README.md, the man page and both completions.
 - Each link from a document to a file of the repository must lead to a file.
@@ -169,6 +170,19 @@ def makefile(kconf, name, text):
     return complaints
 
 
+def session(kconf):
+    """Complaints about the session that README.md shows."""
+    shown = re.search(r"^```console\n(.*?)^```$", read("README.md"), re.M | re.S).group(1)
+    came = ""
+    with tempfile.TemporaryDirectory() as folder:
+        shutil.copytree(os.path.join(TOP, "crates/kconf_firmware/data"), folder, dirs_exist_ok=True)
+        for command in re.findall(r"^\$ (.*)$", shown, re.M):
+            words = [kconf if word == "kconf" else word for word in command.split()]
+            run = subprocess.run(words, cwd=folder, stdout=subprocess.PIPE, stderr=subprocess.STDOUT, text=True)
+            came += f"$ {command}\n{run.stdout}"
+    return [] if came == shown else [f"README.md: the session is {came!r}"]
+
+
 def versions(kconf):
     """Complaints about the version in the program, the man pages and the changelog."""
     version = re.search(r'^const VERSION: &str = "(.*)";$', read("crates/kc_words/src/command.rt"), re.M).group(1)
@@ -229,7 +243,7 @@ def chart():
 def main():
     kconf = os.path.abspath(sys.argv[1])
     wrong, runs = examples(kconf)
-    unmade = rule(kconf) + versions(kconf) + options(kconf)
+    unmade = session(kconf) + rule(kconf) + versions(kconf) + options(kconf)
     for name, text in makefiles().items():
         unmade += makefile(kconf, name, text)
     broken, count = links()
