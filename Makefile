@@ -22,7 +22,7 @@ dist: build
 	tools/dist.sh
 
 # Builds kconf without proofs and runs it on the example: the full .config on standard output, all else on standard error.
-EXAMPLE := $(shell cd crates/kconf_firmware/data && find . -name rows -prune -o -type f -printf '%P ')
+EXAMPLE = $(shell cd crates/kconf_firmware/data && find . -name rows -prune -o -type f -printf '%P ')
 example:
 	@echo 'Without proofs: kconf --config start.config --out /dev/stdout Kconfig site.config' >&2
 	@cd crates/kconf && rt try $(foreach file,$(EXAMPLE),--data $(file)=../kconf_firmware/data/$(file)) \
