@@ -1,5 +1,5 @@
 # Each target is one or two commands.
-.PHONY: build install example test wrong bench shapes real refused replaced trials flatten-test docs clean
+.PHONY: build install example test mutants bench shapes real refused replaced trials flatten-test docs clean
 
 PREFIX ?= /usr/local
 
@@ -37,9 +37,9 @@ test:
 flatten-test: build
 	tools/tests/flatten.py
 
-# Tries the wrong bodies that the gate leaves out. It proves the crates below each first, so it takes long.
-wrong:
-	wrong-bodies/try.sh
+# Tries every mutant, those of the gate too: the prover must refuse each. It proves the crates below each first, so it takes hours.
+mutants:
+	mutants/try.sh
 
 # Times kconf, the kernel's conf and kconfiglib, if they are installed, and draws docs/bench.svg.
 bench: build
@@ -66,9 +66,10 @@ replaced: build
 trials: build
 	bench/trials.py
 
-# Runs the examples of docs/formats.md and the makefiles of docs/make.md, and checks the documents: options, version, links
-# and line lengths.
+# Runs the examples of docs/formats.md and the makefiles of docs/make.md, checks the documents (options, version, links, line
+# lengths), and looks whether each mutant still fits the code.
 docs: build
+	mutants/check.py
 	bench/docs.py crates/kconf/out/kconf
 
 clean:
