@@ -6,12 +6,12 @@ use std::alloc::AllocError;
 use std::fs::File;
 use std::io::{self, ErrorKind, Read};
 
-/// The files of a disk by their paths.
+/// Reads the files of a tree from a disk by their paths (our own).
 ///
 /// A path where nothing is has no file. A folder, a path that runs through a file and a file that may not be read are
 /// failures of the device.
 #[derive(Drop)]
-pub(crate) struct SystemFolder<'a> {
+pub struct SystemFolder<'a> {
     rt: &'a HostRuntime,
     // What is read of a file goes through it. It is made once, so that no room is made zero for each file.
     buffer: Vec<u8>,
@@ -19,7 +19,12 @@ pub(crate) struct SystemFolder<'a> {
 }
 
 impl<'a> SystemFolder<'a> {
-    pub(crate) fn new(rt: &'a HostRuntime) -> Result<SystemFolder<'a>, AllocError>
+    /// Makes one with its own buffer of 65,536 bytes.
+    ///
+    /// # Errors
+    ///
+    /// Fails if there is no memory for the buffer.
+    pub fn new(rt: &'a HostRuntime) -> Result<SystemFolder<'a>, AllocError>
         ensures { IfOk result (λ disk. disk.failures ≡ 0) }
     {
         let alloc = rt.alloc();

@@ -22,6 +22,7 @@ mod same_text;
 mod system;
 mod system_mover;
 
+pub use folder::SystemFolder;
 pub use maker::Maker;
 pub use mover::Mover;
 pub use opener::{OpenFault, Opener};
@@ -29,3 +30,5 @@ pub use program::{exit_status, kconf, kconf_of, kconf_over};
 pub use replace::{replace_over, run_replacing};
 pub use replace_files::ReplaceFault;
 pub use run::{configure_over, run_over};
+pub use system::{SystemMaker, SystemOpener};
+pub use system_mover::SystemMover;

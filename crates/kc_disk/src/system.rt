@@ -6,34 +6,79 @@ use crate::opener::{OpenFault, Opener};
 use kc_conf::Output;
 use kc_dot::Fault;
 use std::fs::File;
-use std::io::{ErrorKind, Read, Write};
+use std::io::{self, ErrorKind, Read, Write};
 use std::os::fd::AsFd;
 
 // What the system answers where a descriptor is not open.
 const NOT_OPEN: i32 = 9;
 
-/// The files of a disk, and standard error for the notes. It tells nothing.
-///
-/// Where standard error was closed when this was made, the notes fail: its descriptor may be that of a file that was opened
-/// since.
+// Where the diagnostics go.
 #[derive(Drop)]
-pub(crate) struct SystemMaker<'a> {
+enum Diagnostics {
+    StandardError,
+    // Standard error was closed from the start: its descriptor may be that of a file that was opened since.
+    Closed,
+    Kept(Vec<u8>),
+}
+
+/// Makes the files of a disk, and takes the diagnostics: they go to standard error, or are kept in memory (our own).
+///
+/// It tells nothing. If standard error was closed when this was made, each diagnostic fails.
+#[derive(Drop)]
+pub struct SystemMaker<'a> {
     rt: &'a HostRuntime,
     file: Option<File>,
-    has_notes: bool,
+    diagnostics: Diagnostics,
 }
 
 impl<'a> SystemMaker<'a> {
-    /// No file is open. This is made before any other file is open.
-    pub(crate) fn new(rt: &'a HostRuntime) -> SystemMaker<'a> {
-        let has_notes = match rt.stderr().as_fd().try_clone_to_owned() {
-            Ok(_) => true,
-            Err(error) => error.raw_os_error() != Some(NOT_OPEN),
+    /// Makes one that writes diagnostics to standard error. Make it before you open any file.
+    pub fn new(rt: &'a HostRuntime) -> SystemMaker<'a> {
+        let diagnostics = match rt.stderr().as_fd().try_clone_to_owned() {
+            Err(error) if error.raw_os_error() == Some(NOT_OPEN) => Diagnostics::Closed,
+            _ => Diagnostics::StandardError,
         };
         SystemMaker {
             rt,
             file: None,
-            has_notes,
+            diagnostics,
+        }
+    }
+
+    /// Makes one that keeps the diagnostics in memory, for `into_diagnostics`.
+    pub fn keeping(rt: &'a HostRuntime) -> SystemMaker<'a> {
+        SystemMaker {
+            rt,
+            file: None,
+            diagnostics: Diagnostics::Kept(Vec::new(rt.alloc())),
+        }
+    }
+
+    /// Returns the diagnostics that were kept: none, if they went to standard error.
+    pub fn into_diagnostics(self) -> Vec<u8> {
+        match self.diagnostics {
+            Diagnostics::Kept(bytes) => bytes,
+            Diagnostics::StandardError | Diagnostics::Closed => Vec::new(self.rt.alloc()),
+        }
+    }
+
+    // Writes a prefix of the bytes to where the diagnostics go, and returns how many were written.
+    fn write_diagnostic(&mut self, bytes: &[u8]) -> io::Result<usize> {
+        match &mut self.diagnostics {
+            Diagnostics::StandardError => self.rt.stderr().write(bytes),
+            Diagnostics::Closed => Err(io::Error::from_raw_os_error(NOT_OPEN)),
+            Diagnostics::Kept(kept) => {
+                kept.extend_from_slice(bytes)?;
+                Ok(bytes.len())
+            }
+        }
+    }
+
+    // Writes a prefix of the bytes to the open file, and returns how many were written.
+    fn write_file(&mut self, bytes: &[u8]) -> io::Result<usize> {
+        match &mut self.file {
+            Some(file) => file.write(bytes),
+            None => Err(io::Error::from_raw_os_error(NOT_OPEN)),
         }
     }
 }
@@ -54,11 +99,11 @@ impl<'a> Maker for SystemMaker<'a> {
     }
 
     fn write(&mut self, output: Output, bytes: &[u8]) -> Result<usize, Fault> {
-        let written = match (output, &mut self.file) {
-            (Output::Notes, _) if self.has_notes => self.rt.stderr().write(bytes),
-            (Output::Config | Output::Header | Output::Minimal | Output::Depfile, Some(file)) =>
-                file.write(bytes),
-            _ => return Err(Fault),
+        let written = match output {
+            Output::Notes => self.write_diagnostic(bytes),
+            Output::Config | Output::Header | Output::Minimal | Output::Depfile => self.write_file(
+                bytes,
+            ),
         };
         match written {
             Ok(count) if count > 0 => Ok(count),
@@ -72,14 +117,15 @@ impl<'a> Maker for SystemMaker<'a> {
     }
 }
 
-/// The files of a disk, to be read. It tells nothing.
+/// Opens the files of a disk to read them (our own). It tells nothing.
 #[derive(Drop)]
-pub(crate) struct SystemOpener<'a> {
+pub struct SystemOpener<'a> {
     rt: &'a HostRuntime,
 }
 
 impl<'a> SystemOpener<'a> {
-    pub(crate) fn new(rt: &'a HostRuntime) -> SystemOpener<'a> {
+    /// Makes one for the files of this process.
+    pub fn new(rt: &'a HostRuntime) -> SystemOpener<'a> {
         SystemOpener { rt }
     }
 }

@@ -33,13 +33,13 @@ struct TemporaryFile {
     destination: PathBuf,
 }
 
-/// The files of a disk. It tells nothing.
+/// Makes files beside the places of a disk and moves them there (our own). It tells nothing.
 ///
 /// The destination of a text is the end of the links of its name. A temporary file stands beside it, as `DESTINATION.kconf-N`
 /// with the first N from 0 on that is free, and has the permissions of the file that it replaces. What is no regular file, or
 /// lies under `/dev/fd/` or `/proc/`, takes its text at once and is not moved.
 #[derive(Drop)]
-pub(crate) struct SystemMover<'a> {
+pub struct SystemMover<'a> {
     rt: &'a HostRuntime,
     // The file that was started, and where it stands, if it is a temporary one.
     begun: Option<(File, Option<TemporaryFile>)>,
@@ -47,7 +47,8 @@ pub(crate) struct SystemMover<'a> {
 }
 
 impl<'a> SystemMover<'a> {
-    pub(crate) fn new(rt: &'a HostRuntime) -> SystemMover<'a> {
+    /// Makes one that has made no file.
+    pub fn new(rt: &'a HostRuntime) -> SystemMover<'a> {
         SystemMover {
             rt,
             begun: None,
