@@ -1,0 +1,6 @@
+/*
+ * Automatically generated file; DO NOT EDIT.
+ * Main menu
+ */
+#define BR2_A 1
+#define BR2_B 1

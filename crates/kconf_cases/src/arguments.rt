@@ -1,0 +1,75 @@
+//! The arguments of a case, and those of a second run on what the first one wrote.
+
+use std::alloc::{AllocError, Global};
+
+/// Returns the arguments that a text holds, one a line.
+pub(crate) fn arguments_of(alloc: Global, text: &str) -> Result<Vec<String>, AllocError> {
+    let mut arguments = Vec::new(alloc);
+    for line in text.lines() {
+        arguments.push(String::from_str(alloc, line)?)?;
+    }
+    Ok(arguments)
+}
+
+// What the second run makes of an option.
+enum Role {
+    // It stays, with its value.
+    Kept,
+    // It goes, with its value.
+    Dropped,
+    // It goes, and has no value.
+    Flag,
+}
+
+fn role_of(option: &str) -> Role {
+    match option {
+        "--root" | "--prefix" => Role::Kept,
+        "--config" | "--out" | "--header" | "--savedefconfig" | "--depfile" => Role::Dropped,
+        _ => Role::Flag,
+    }
+}
+
+/// Returns the arguments of a run of the same tree, with the same prefix, from the file `config` to the file `out`.
+pub(crate) fn rerun_arguments(
+    alloc: Global,
+    text: &str,
+    config: &str,
+    out: &str,
+) -> Result<Vec<String>, AllocError> {
+    let mut arguments = Vec::new(alloc);
+    for word in ["--config", config, "--out", out] {
+        arguments.push(String::from_str(alloc, word)?)?;
+    }
+    let mut wanted = None;
+    for line in text.lines() {
+        let is_kept = match wanted {
+            Some(is_kept) => {
+                wanted = None;
+                is_kept
+            }
+            None if line.starts_with("-") => {
+                let role = role_of(line);
+                match role {
+                    Role::Kept => {
+                        wanted = Some(true);
+                        true
+                    }
+                    Role::Dropped => {
+                        wanted = Some(false);
+                        false
+                    }
+                    Role::Flag => false,
+                }
+            }
+            // The first other word is the root file; fragments follow it.
+            None => {
+                arguments.push(String::from_str(alloc, line)?)?;
+                return Ok(arguments);
+            }
+        };
+        if is_kept {
+            arguments.push(String::from_str(alloc, line)?)?;
+        }
+    }
+    Ok(arguments)
+}
