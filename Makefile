@@ -1,5 +1,5 @@
 # Each target is one or two commands.
-.PHONY: build install example test mutants bench shapes real refused replaced trials flatten-test docs clean
+.PHONY: build install example test case cases mutants bench shapes real refused replaced trials flatten-test docs clean
 
 PREFIX ?= /usr/local
 
@@ -32,6 +32,17 @@ example:
 # Runs the gate: every proof, mutant, test and program of the repository.
 test:
 	rt ci
+
+# The program that `case` and `cases` run.
+KCONF ?= crates/kconf/out/kconf
+
+# Runs one case and prints its files, its command and what comes of it: make case NAME=choice/user_member_hidden
+case:
+	crates/kconf_cases/run.py --show $(KCONF) $(NAME)
+
+# Runs all cases with any program that takes kconf's arguments: make cases KCONF=FILE
+cases:
+	crates/kconf_cases/run.py $(KCONF)
 
 # Tests kconf-flatten: kconf on the flat files of small trees beside kconfiglib on the trees themselves.
 flatten-test: build
