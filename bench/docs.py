@@ -106,7 +106,7 @@ class Built:
 
 
 def rule(kconf):
-    """Complaints about the rule for make that docs/formats.md shows."""
+    """Complaints about the dependency file that docs/formats.md shows."""
     shown = re.search(r"writes\n\n((?: {4}.*\n|\n)*)", read("docs/formats.md").partition("## The dependency file")[2]).group(1)
     with tempfile.TemporaryDirectory() as folder:
         shutil.copytree(os.path.join(TOP, "crates/kconf_firmware/data"), folder, dirs_exist_ok=True)
