@@ -1,0 +1,93 @@
+use Rattle.std.proofs.Common.{◌≡◌, length, None, ◌∙◌, sym, ap, subst, arith}
+use Rattle.std.specs.Prelude.{replicate}
+use Rattle.std.proofs.lemmas.List.{length-replicate}
+use Rattle.kc_expr.specs.Names.{symbol}
+use Rattle.kc_tree.specs.TreeFacts.{TreeFacts}
+use Rattle.kc_user.specs.Places.{place_at}
+use Rattle.kc_values.specs.Solution.{symbol_count}
+use Rattle.kc_solve.specs.Computing.{AreComputedValues}
+use Rattle.kc_solve.specs.Kept.{valuation}
+use Rattle.kc_solve.proofs.OrderSteps.{tree_accepted}
+use Rattle.kc_solve.proofs.UserSteps.{count_shown, solves_as_shown}
+use Rattle.kc_call_tests.proofs.SlowSteps.{computed, ended, iteration_ended}
+use Rattle.kc_call_tests.proofs.slow.slow_table.Goals as goal
+
+pub compute_anew-requires-clause-given : goal.compute_anew-requires-clause-given
+compute_anew-requires-clause-given c =
+    count_shown c.symbols-given.result.now c.args.user.now.symbols c.symbols-given.ensures ∙ c.requires.user.symbols ∙ sym c.loop-i.invariant.count
+
+pub compute_anew-requires-clause-chosen : goal.compute_anew-requires-clause-chosen
+compute_anew-requires-clause-chosen c =
+    ap length c.choices-chosen.ensures ∙ c.requires.user.choices ∙ ap (λ (t : TreeFacts). length t.choices) (sym c.loop-i.invariant.tree)
+
+pub compute_anew-requires-clause-full : goal.compute_anew-requires-clause-full
+compute_anew-requires-clause-full c = c.loop-i.invariant.count ∙ ap symbol_count (sym c.loop-i.invariant.tree)
+
+pub loop-iteration-init : goal.loop-iteration-init
+loop-iteration-init c =
+    let t = c.in_ok-table.table in
+    let e = c.in_ok-table.ensures.unsettled in
+    record {
+      tree = c.in_ok-table.ensures.tree;
+      count = c.in_ok-table.ensures.count;
+      hold = λ s l free. cc;
+      unsettled = e ∙ ap (λ n. replicate n None) (sym (ap length e ∙ length-replicate _ None));
+    }
+
+pub loop-i-init : goal.loop-i-init
+loop-i-init c =
+    let now = c.loop-iteration.invariant in
+    record { tree = now.tree; count = now.count; hold = record { before = now.hold; now = λ s up. absurd (omega arith) }; unsettled = now.unsettled }
+
+pub loop-i-preserved : goal.loop-i-preserved
+loop-i-preserved c =
+    let now = c.loop-i.invariant in
+    let f = c.in_ok-compute_anew.ensures in
+    let given = c.symbols-given.result.now in
+    let chosen = c.choices-chosen.result.now in
+    let values = c.loop-i.table.values.items in
+    let new = c.compute_anew.new.table in
+    let filled = subst (λ (u : TreeFacts). AreComputedValues u given chosen (symbol c.loop-i.i) values new.values.items) now.tree f.values in
+    record {
+      tree = ap (λ t. t.now) f.keeps.tree ∙ now.tree;
+      count = f.values.count ∙ now.count;
+      hold = computed c.args.tree.now given chosen c.loop-iteration._iteration c.loop-i.i values new.values.items filled now.hold;
+      unsettled = subst (λ v. v.items ≡ replicate (length v.items) None) (sym f.contexts) now.unsettled;
+    }
+
+pub loop-iteration-preserved : goal.loop-iteration-preserved
+loop-iteration-preserved c =
+    let now = c.loop-i.invariant in
+    record {
+      tree = now.tree;
+      count = now.count;
+      hold = iteration_ended c.args.tree.now c.symbols-given.result.now c.choices-chosen.result.now c.loop-iteration._iteration c.loop-i.i c.loop-i.table.values.items (omega arith) now.hold;
+      unsettled = now.unsettled;
+    }
+
+pub returns-clause-accepted : goal.returns-clause-accepted
+returns-clause-accepted c = tree_accepted c.args.tree.now c.args.layout.now c.args.order.now c.nodes-nodes.result.now c.requires.order c.nodes-nodes.ensures
+
+pub returns-clause-solves : goal.returns-clause-solves
+returns-clause-solves c =
+    let t = c.args.tree.now in
+    let given = c.symbols-given.result.now in
+    let chosen = c.choices-chosen.result.now in
+    let values = c.loop-iteration.table.values.items in
+    let accepted = tree_accepted t c.args.layout.now c.args.order.now c.nodes-nodes.result.now c.requires.order c.nodes-nodes.ensures in
+    solves_as_shown t given chosen c.args.user.now (valuation t values) c.symbols-given.ensures c.choices-chosen.ensures
+    (ended t given chosen c.loop-iteration._iteration values (omega arith) accepted c.loop-iteration.invariant.hold)
+
+pub returns-clause-only : goal.returns-clause-only
+returns-clause-only c =
+    let t = c.args.tree.now in
+    let given = c.symbols-given.result.now in
+    let chosen = c.choices-chosen.result.now in
+    let values = c.loop-iteration.table.values.items in
+    let V = valuation t values in
+    let accepted = tree_accepted t c.args.layout.now c.args.order.now c.nodes-nodes.result.now c.requires.order c.nodes-nodes.ensures in
+    let solves =
+    solves_as_shown t given chosen c.args.user.now V c.symbols-given.ensures c.choices-chosen.ensures
+    (ended t given chosen c.loop-iteration._iteration values (omega arith) accepted c.loop-iteration.invariant.hold)
+    in
+    c.accepted_have_one_solution.ensures.agree t (place_at c.args.user.now) accepted V solves

@@ -1,0 +1,347 @@
+//! Names, and expressions: their levels, their longest lines, and their value over a type of one's own (kc_expr).
+
+ghost use Rattle.std.specs.Prelude.{[]};
+ghost use Rattle.kc_expr.specs.declared.expression.Kind.TheVariants as kind;
+
+use kc_expr::expression::{Expr, Kind, SymId, Tri};
+use kc_expr::names::Names;
+use kc_expr::parse::{ExprFault, parse};
+use kc_expr::values::{Values, eval, eval_depends_on_symbols, symbols_into};
+use kc_text::{Token, lex};
+use std::alloc::{AllocError, Global};
+
+// Functions that answer whether a case holds own names and expressions: each early exit of a test would prove their drops
+// once more.
+
+// Each symbol is a bool of this value.
+struct Alike(Tri);
+
+impl Values for Alike {
+    ghost tri_of = { λ a s. a.0 };
+
+    ghost text_of = { λ a s. [] };
+
+    ghost kind_of = { λ a s. kind.Bool };
+
+    fn tri(&self, _id: SymId) -> Tri {
+        self.0
+    }
+
+    fn text(&self, _id: SymId) -> &[u8] {
+        b""
+    }
+
+    fn kind(&self, _id: SymId) -> Kind {
+        Kind::Bool
+    }
+}
+
+const NUMBERS: &[(&[u8], Option<SymId>)] = &[
+    (b"X", Some(SymId(0))),
+    (b"B", Some(SymId(1))),
+    (b"A", Some(SymId(2))),
+    (b"C", Some(SymId(3))),
+    (b"n", None),
+    (b"Q", None),
+    (b"D", None),
+    (b"x", None),
+];
+
+fn finds_numbers(names: &Names) -> bool {
+    for (name, number) in NUMBERS {
+        if names.find(name) != *number {
+            return false;
+        }
+    }
+    true
+}
+
+fn is_numbered(names: &mut Names, name: &[u8], number: usize) -> bool {
+    match names.id(name) {
+        Ok(id) => id == SymId(number),
+        Err(_) => false,
+    }
+}
+
+fn read_mentions(alloc: Global, names: &mut Names) -> bool {
+    let mut tokens = Vec::new(alloc);
+    lex(b"B && A = B || n || \"Q\" || X || C D", &mut tokens).is_ok()
+        && parse(alloc, &tokens, 0, None, names).is_ok()
+}
+
+fn are_numbered_at_first_mention(alloc: Global) -> bool {
+    let mut names = Names::new(alloc);
+    is_numbered(&mut names, b"X", 0)
+        && read_mentions(alloc, &mut names)
+        && finds_numbers(&names)
+        && is_numbered(&mut names, b"D", 4)
+        && is_numbered(&mut names, b"A", 2)
+}
+
+#[test]
+fn names_are_numbered_at_their_first_mention(rt: HostRuntime) {
+    assert!(rt; are_numbered_at_first_mention(rt.alloc()));
+}
+
+fn the_second_has_its_name(alloc: Global) -> bool {
+    let mut names = Names::new(alloc);
+    if names.id(b"A").is_err() {
+        return false;
+    }
+    match names.id(b"B_2") {
+        Ok(id) => {
+            names.are_distinct();
+            names.name(id) == b"B_2".as_slice()
+        }
+        Err(_) => false,
+    }
+}
+
+#[test]
+fn a_number_has_its_name(rt: HostRuntime) {
+    assert!(rt; the_second_has_its_name(rt.alloc()));
+}
+
+fn repeat_into(line: &mut Vec<u8>, count: usize, part: &[u8]) -> Result<(), AllocError> {
+    for _ in 0..count {
+        line.extend_from_slice(part)?;
+    }
+    Ok(())
+}
+
+// Adds so many openers, with what follows them.
+fn open_into(
+    line: &mut Vec<u8>,
+    count: usize,
+    opener: &[u8],
+    operand: &[u8],
+    closer: &[u8],
+) -> Result<(), AllocError> {
+    repeat_into(line, count, opener)?;
+    line.extend_from_slice(operand)?;
+    repeat_into(line, count, closer)
+}
+
+// How many openers, the opener, what follows them, the closer, and how the line is read.
+type Level = (usize, &'static [u8], &'static [u8], &'static [u8], Reading);
+
+// How a line is read.
+#[derive(Clone, Copy, PartialEq)]
+enum Reading {
+    // As an expression of so many tokens.
+    Tokens(usize),
+    BadSyntax,
+    TooDeep,
+    OutOfMemory,
+}
+
+const LEVELS: &[Level] = &[
+    (64, b"(", b"y", b")", Reading::Tokens(129)),
+    (65, b"(", b"y", b")", Reading::TooDeep),
+    (65, b"!", b"y", b"", Reading::TooDeep),
+    (32, b"!(", b"=", b"", Reading::BadSyntax),
+    (33, b"!(", b"y", b")", Reading::TooDeep),
+    (64, b"(", b"=", b"", Reading::BadSyntax),
+    (65, b"(", b"=", b"", Reading::TooDeep),
+    (64, b"(", b"", b"", Reading::BadSyntax),
+    (65, b"(", b"", b"", Reading::TooDeep),
+    (63, b"(", b"y && !A = B || (A)", b"", Reading::BadSyntax),
+    (63, b"(", b"y && !(A = B) || (A)", b"", Reading::TooDeep),
+    (65, b"A (", b"", b"", Reading::Tokens(1)),
+];
+
+fn reading_of(
+    alloc: Global,
+    tokens: &[Token],
+    condition: Option<SymId>,
+    names: &mut Names,
+) -> Reading {
+    match parse(alloc, tokens, 0, condition, names) {
+        Ok((_expr, end)) => Reading::Tokens(end),
+        Err(ExprFault::Syntax) => Reading::BadSyntax,
+        Err(ExprFault::TooDeep) => Reading::TooDeep,
+        Err(ExprFault::Memory) => Reading::OutOfMemory,
+    }
+}
+
+fn line_is_read(
+    alloc: Global,
+    line: &[u8],
+    condition: Option<SymId>,
+    names: &mut Names,
+    want: Reading,
+) -> bool {
+    let mut tokens = Vec::new(alloc);
+    line.len() <= 8191
+        && lex(line, &mut tokens).is_ok()
+        && reading_of(alloc, &tokens, condition, names) == want
+}
+
+// Whether the line of a level, whose condition may need a symbol for modules, is read as it should be.
+fn level_is_read(alloc: Global, level: &Level, condition: Option<SymId>) -> bool {
+    let (count, opener, operand, closer, want) = level;
+    let mut line = Vec::new(alloc);
+    let mut names = Names::new(alloc);
+    open_into(&mut line, *count, opener, operand, closer).is_ok()
+        && line_is_read(alloc, &line, condition, &mut names, *want)
+}
+
+#[test]
+fn the_65th_level_is_too_deep(rt: HostRuntime) {
+    for level in LEVELS {
+        assert!(rt; level_is_read(rt.alloc(), level, None), "{}", level.0);
+    }
+}
+
+const PLAIN_M: Level = (64, b"(", b"m", b")", Reading::Tokens(129));
+
+#[test]
+fn a_plain_m_opens_no_level(rt: HostRuntime) {
+    assert!(rt; level_is_read(rt.alloc(), &PLAIN_M, Some(SymId(3))));
+}
+
+// How many parts the expression joins.
+fn joined(expr: &Expr) -> Option<usize> {
+    match expr {
+        Expr::All(parts) => Some(parts.len()),
+        Expr::Any(parts) => Some(parts.len()),
+        _ => None,
+    }
+}
+
+// Whether all the tokens are an expression of so many parts.
+fn tokens_have_parts(alloc: Global, tokens: &[Token], names: &mut Names, count: usize) -> bool {
+    match parse(alloc, tokens, 0, None, names) {
+        Ok((expr, end)) => end >= tokens.len() && joined(&expr) == Some(count),
+        Err(_) => false,
+    }
+}
+
+// Whether the line's expression joins so many parts, and all of the line is one.
+fn has_parts(alloc: Global, line: &[u8], count: usize) -> bool {
+    let mut tokens = Vec::new(alloc);
+    let mut names = Names::new(alloc);
+    line.len() <= 8191
+        && lex(line, &mut tokens).is_ok()
+        && tokens_have_parts(alloc, &tokens, &mut names, count)
+}
+
+// What is joined to an `a`, and how many parts there are then.
+const REPEATED: &[(&[u8], usize)] = &[(b" && a", 1639), (b"||a=b", 1639), (b"&&(((a)))", 911)];
+
+fn repeated_has_parts(alloc: Global, part: &[u8], count: usize) -> bool {
+    let mut line = Vec::new(alloc);
+    line.extend_from_slice(b"a").is_ok()
+        && repeat_into(&mut line, count.saturating_sub(1), part).is_ok()
+        && has_parts(alloc, &line, count)
+}
+
+#[test]
+fn the_longest_lines_are_read_at_once(rt: HostRuntime) {
+    for (part, count) in REPEATED {
+        assert!(rt; repeated_has_parts(rt.alloc(), part, *count), "{count}");
+    }
+}
+
+// Whether the tokens are an expression of this value where each symbol is worth m.
+fn tokens_are_worth(alloc: Global, tokens: &[Token], names: &mut Names, want: Tri) -> bool {
+    match parse(alloc, tokens, 0, None, names) {
+        Ok((expr, _)) => value_of(&expr) == want,
+        Err(_) => false,
+    }
+}
+
+fn value_of(expr: &Expr) -> Tri {
+    eval_depends_on_symbols(expr, &Alike(Tri::M), &Alike(Tri::M));
+    eval(expr, &Alike(Tri::M))
+}
+
+fn is_worth(alloc: Global, line: &[u8], want: Tri) -> bool {
+    let mut tokens = Vec::new(alloc);
+    let mut names = Names::new(alloc);
+    line.len() <= 8191
+        && lex(line, &mut tokens).is_ok()
+        && tokens_are_worth(alloc, &tokens, &mut names, want)
+}
+
+// Expressions over a symbol that is worth m, and their values.
+const TRUTHS: &[(&[u8], Tri)] = &[
+    (b"A", Tri::M),
+    (b"!A", Tri::M),
+    (b"A && n", Tri::N),
+    (b"A || y", Tri::Y),
+    (b"A = m", Tri::Y),
+    (b"A > m", Tri::N),
+];
+
+#[test]
+fn expressions_are_evaluated_over_any_type(rt: HostRuntime) {
+    for (line, want) in TRUTHS {
+        assert!(rt; is_worth(rt.alloc(), line, *want), "{line:?}");
+    }
+}
+
+// Adds the symbols that the tokens name to those that are there.
+fn named_into(alloc: Global, tokens: &[Token], names: &mut Names, ids: &mut Vec<SymId>) -> bool {
+    match parse(alloc, tokens, 0, Some(SymId(7)), names) {
+        Ok((expr, _)) => symbols_into(&expr, ids).is_ok(),
+        Err(_) => false,
+    }
+}
+
+const NAMED: &[SymId] = &[SymId(9), SymId(0), SymId(1), SymId(0), SymId(2), SymId(7)];
+
+// Whether the symbols that a line names stand after the number 9, from left to right.
+fn are_named(alloc: Global) -> bool {
+    let mut tokens = Vec::new(alloc);
+    let mut names = Names::new(alloc);
+    let mut ids = Vec::new(alloc);
+    ids.push(SymId(9)).is_ok()
+        && lex(b"C && !(A = C) || B <= \"B\" || m", &mut tokens).is_ok()
+        && named_into(alloc, &tokens, &mut names, &mut ids)
+        && ids.as_slice() == NAMED
+}
+
+#[test]
+fn symbols_are_named_from_left_to_right(rt: HostRuntime) {
+    assert!(rt; are_named(rt.alloc()));
+}
+
+// Names as long as stand in place, one byte longer, and much longer; the last two differ in their last byte.
+static LONG_NAMES: &[&[u8]] = &[
+    b"ABCDEFGHIJKLMNOPQRSTUVW",
+    b"ABCDEFGHIJKLMNOPQRSTUVWX",
+    b"ABCDEFGHIJKLMNOPQRSTUVWXY",
+    b"ABCDEFGHIJKLMNOPQRSTUVWX_",
+    b"ABCDEFGHIJKLMNOPQRSTUVWXYZABCDEFGHIJKLMNOPQRSTUVWXYZABCDEFGH_1",
+    b"ABCDEFGHIJKLMNOPQRSTUVWXYZABCDEFGHIJKLMNOPQRSTUVWXYZABCDEFGH_2",
+];
+
+fn number_long_names(names: &mut Names) -> bool {
+    for (number, name) in LONG_NAMES.iter().enumerate() {
+        if !is_numbered(names, name, number) {
+            return false;
+        }
+    }
+    true
+}
+
+fn finds_long_names(names: &Names) -> bool {
+    for (number, name) in LONG_NAMES.iter().enumerate() {
+        let id = SymId(number);
+        if names.find(name) != Some(id) || names.get(id) != Some(*name) {
+            return false;
+        }
+    }
+    true
+}
+
+fn are_long_names_kept(alloc: Global) -> bool {
+    let mut names = Names::new(alloc);
+    number_long_names(&mut names) && finds_long_names(&names)
+}
+
+#[test]
+fn long_names_are_kept_whole(rt: HostRuntime) {
+    assert!(rt; are_long_names_kept(rt.alloc()));
+}

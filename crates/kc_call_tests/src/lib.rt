@@ -1,0 +1,35 @@
+//! Tests of single calls of the crates up to kc_dot, of what no run of the program shows by itself: limits whose inputs are
+//! made by code, a folder and a sink that fail, the order in which files are read, the plain slow solver beside the solver,
+//! user values, and generic functions at a type. Whole runs are cases in kconf_cases.
+#![tactic(auto)]
+
+#[cfg(test)]
+mod dependency_file;
+#[cfg(test)]
+mod expressions;
+#[cfg(test)]
+mod files;
+#[cfg(test)]
+mod lines;
+#[cfg(test)]
+mod loading;
+#[cfg(test)]
+mod order;
+#[cfg(test)]
+mod places;
+#[cfg(test)]
+mod reading;
+#[cfg(test)]
+mod sinks;
+#[cfg(test)]
+mod slow;
+#[cfg(test)]
+mod slow_lines;
+#[cfg(test)]
+mod solved;
+#[cfg(test)]
+mod solvers;
+#[cfg(test)]
+mod trees;
+#[cfg(test)]
+mod trial;

@@ -1,0 +1,246 @@
+//! Loading, over a folder in memory: the order in which files are asked for, one that fails, and a million lines (kc_load).
+ghost use Rattle.std.specs.Prelude.{◌≡◌, Some, IfOk, bytes_eq, option_map};
+ghost use Rattle.kc_read.specs.Files.{bytes_in};
+
+use crate::files::{Piece, has_files, has_names, put_pieces};
+use kc_load::*;
+use kc_read::FileMap;
+use std::alloc::{AllocError, Global};
+
+// Files by path, of which one may fail; the paths that were asked for, each followed by a blank.
+#[derive(Drop)]
+struct MemoryFolder<'a> {
+    files: FileMap,
+    failing: &'a str,
+    failures: u64,
+    asked: String,
+    alloc: Global,
+}
+
+impl<'a> Folder for MemoryFolder<'a> {
+    ghost files = { λ s. Some (bytes_in s.files) };
+
+    ghost failing = { λ s path. bytes_eq path s.failing.now };
+
+    ghost failures = { λ s. s.failures };
+
+    fn read(&mut self, path: &str) -> Result<Option<Vec<u8>>, FolderFault> {
+        note(&mut self.asked, path)?;
+        if path == self.failing {
+            self.failures = self.failures.saturating_add(1);
+            return Err(FolderFault::Device);
+        }
+        Ok(copied(self.alloc, self.files.get(path.as_bytes()))?)
+    }
+}
+
+// Writes a path that was asked for.
+fn note(asked: &mut String, path: &str) -> Result<(), AllocError> {
+    asked.push_str(path)?;
+    asked.push_str(" ")
+}
+
+fn copied(alloc: Global, bytes: Option<&[u8]>) -> Result<Option<Vec<u8>>, AllocError>
+    ensures { IfOk result (λ found. option_map (λ b. b.items) found ≡ option_map (λ b. b.now) bytes.entry) }
+{
+    match bytes {
+        Some(bytes) => Ok(Some(Vec::from_slice(alloc, bytes)?)),
+        None => Ok(None),
+    }
+}
+
+// Files by path, a name that is loaded from them, and what comes of it: the paths that are asked for, how often the device
+// fails, and what is loaded.
+#[derive(Clone, Copy)]
+struct Case {
+    name: &'static str,
+    files: &'static [(&'static str, &'static [Piece<'static>])],
+    failing: &'static str,
+    dir: &'static str,
+    root: &'static str,
+    asked: &'static str,
+    failures: u64,
+    loaded: Loaded,
+}
+
+// What is loaded: for these names whether they are there, and files with their bytes; or the name of the file that failed.
+#[derive(Clone, Copy)]
+enum Loaded {
+    Files(&'static [(&'static str, bool)], &'static [(&'static str, &'static [u8])]),
+    CannotRead(&'static str),
+}
+
+fn fill(alloc: Global, map: &mut FileMap, case: &Case) -> Result<(), AllocError> {
+    for (path, pieces) in case.files {
+        put_pieces(alloc, map, path.as_bytes(), pieces)?;
+    }
+    Ok(())
+}
+
+fn is_loaded(outcome: &Result<FileMap, LoadFault>, loaded: Loaded) -> bool {
+    match (outcome, loaded) {
+        (Ok(map), Loaded::Files(names, files)) => has_names(map, names) && has_files(map, files),
+        (Err(LoadFault::CannotRead(unread)), Loaded::CannotRead(name)) => {
+            unread.as_slice() == name.as_bytes()
+        }
+        _ => false,
+    }
+}
+
+// Whether the case's files are loaded as it says.
+fn holds(alloc: Global, case: &Case) -> bool {
+    let mut folder = MemoryFolder {
+        files: FileMap::new(alloc),
+        failing: case.failing,
+        failures: 0,
+        asked: String::new(alloc),
+        alloc,
+    };
+    let filled = fill(alloc, &mut folder.files, case).is_ok();
+    let outcome = load(alloc, &mut folder, case.dir, case.root);
+    filled
+        && is_loaded(&outcome, case.loaded)
+        && folder.asked.as_str() == case.asked
+        && folder.failures == case.failures
+}
+
+const ONCE: Case = Case {
+    name: "files are read depth first and once",
+    files: &[
+        (
+            "d/K",
+            &[(
+                1,
+                b"source \"a\"\nsource \"b\"\nsource \"\xFF\"\nsource \"x\"\n",
+            )],
+        ),
+        ("d/a", &[(1, b"source \"/c\"\nsource \"K\"")]),
+        ("/c", &[(1, b"source \"x\"\nsource \"b\"")]),
+        ("d/b", &[(1, b"source \"a\"\nconfig B")]),
+        ("d/e", &[(1, b"")]),
+    ],
+    failing: "-",
+    dir: "d",
+    root: "K",
+    asked: "d/K d/a /c d/x d/b ",
+    failures: 0,
+    loaded: Loaded::Files(
+        &[
+            ("K", true),
+            ("a", true),
+            ("/c", true),
+            ("x", false),
+            ("b", true),
+            ("e", false),
+            ("c", false),
+            ("d/K", false),
+        ],
+        &[("b", b"source \"a\"\nconfig B")],
+    ),
+};
+
+const CASES: &[Case] = &[
+    ONCE,
+    Case {
+        name: "a file that sources itself is read once",
+        files: &[("./Kconfig", &[(1, b"source \"Kconfig\"\n")])],
+        dir: ".",
+        root: "Kconfig",
+        asked: "./Kconfig ",
+        loaded: Loaded::Files(&[], &[("Kconfig", b"source \"Kconfig\"\n")]),
+        ..ONCE
+    },
+    Case {
+        name: "a file that cannot be read is named",
+        files: &[(
+            "d/Kconfig",
+            &[(1, b"source \"a\"\nsource \"/b\"\nsource \"c\"")],
+        )],
+        failing: "/b",
+        root: "Kconfig",
+        asked: "d/Kconfig d/a /b ",
+        failures: 1,
+        loaded: Loaded::CannotRead("/b"),
+        ..ONCE
+    },
+    Case {
+        name: "a file fails before those after it are asked for",
+        files: &[
+            ("d/K", &[(1, b"source \"a\"\nsource \"b\"")]),
+            ("d/a", &[(1, b"source \"c\"")]),
+        ],
+        failing: "d/c",
+        asked: "d/K d/a d/c ",
+        failures: 1,
+        loaded: Loaded::CannotRead("c"),
+        ..ONCE
+    },
+    Case {
+        name: "a root that is not there gives no files",
+        files: &[],
+        dir: "",
+        root: "Kconfig",
+        asked: "/Kconfig ",
+        loaded: Loaded::Files(&[("Kconfig", false)], &[]),
+        ..ONCE
+    },
+];
+
+#[test]
+fn files_are_loaded(rt: HostRuntime) {
+    for case in CASES {
+        assert!(rt; holds(rt.alloc(), case), "{}", case.name);
+    }
+}
+
+// A root of two lines, and the lines of `a`.
+const MILLION: Case = Case {
+    name: "a million lines and one are a reason to stop",
+    files: &[
+        ("./K", &[(1, b"source \"a\"\nsource \"b\"\n")]),
+        ("./a", &[(999_999, b"\n")]),
+    ],
+    failing: "-",
+    dir: ".",
+    root: "K",
+    asked: "./K ./a ",
+    failures: 0,
+    loaded: Loaded::Files(&[("a", true)], &[]),
+};
+
+const LONG_CASES: &[Case] = &[
+    MILLION,
+    Case {
+        name: "a file after them is not asked for",
+        failing: "./b",
+        ..MILLION
+    },
+    Case {
+        name: "a million lines are no reason to stop",
+        files: &[
+            ("./K", &[(1, b"source \"a\"\nsource \"b\"\n")]),
+            ("./a", &[(999_998, b"\n")]),
+        ],
+        asked: "./K ./a ./b ",
+        ..MILLION
+    },
+    Case {
+        name: "a file after a million lines is asked for and fails",
+        files: &[
+            ("./K", &[(1, b"source \"a\"\nsource \"b\"\n")]),
+            ("./a", &[(999_998, b"\n")]),
+        ],
+        failing: "./b",
+        asked: "./K ./a ./b ",
+        failures: 1,
+        loaded: Loaded::CannotRead("b"),
+        ..MILLION
+    },
+];
+
+#[test]
+fn loading_stops_after_a_million_lines(rt: HostRuntime) {
+    for case in LONG_CASES {
+        assert!(rt; holds(rt.alloc(), case), "{}", case.name);
+    }
+}

@@ -1,0 +1,268 @@
+//! Orders and loops of graphs (kc_order): which loop is named, long chains, and the laws at a type.
+
+use kc_order::{
+    Graph, NoOrder, Order, accepted_have_one_solution, computing_solves, cycles_are_unordered,
+    iterations_solve, minimal_has_nothing_to_spare, minimal_restores, named_loop_is_closed,
+    named_loop_is_within, one_named_loop, order_of, ordered_are_accepted, solutions_agree,
+};
+use std::alloc::{AllocError, Global};
+
+// An order, for a graph that may be asked for.
+fn order_if_within(alloc: Global, graph: Graph) -> Result<Order, NoOrder> {
+    if graph.is_within() {
+        if graph.count() < 1_000_000 {
+            return order_of(alloc, graph);
+        }
+    }
+    Err(NoOrder::Memory)
+}
+
+// The loop that is named of this graph, and nothing where there is an order.
+fn loop_of(alloc: Global, graph: Graph) -> Result<Vec<u32>, AllocError> {
+    match order_if_within(alloc, graph) {
+        Ok(_order) => Ok(Vec::new(alloc)),
+        Err(reason) => match reason {
+            NoOrder::Loop(symbols) => Ok(symbols),
+            NoOrder::Memory => Err(AllocError),
+        },
+    }
+}
+
+// A graph with these rows, of which the first are symbols.
+fn graph_from(alloc: Global, symbols: usize, rows: &[&[u32]]) -> Result<Graph, AllocError> {
+    let mut graph = Graph::with_room(alloc, symbols, rows.len())?;
+    for row in rows {
+        graph.add(row)?;
+    }
+    Ok(graph)
+}
+
+// A graph whose first nodes are symbols, what each node needs, and the loop that is named; none where there is an order.
+struct LoopCase {
+    name: &'static str,
+    symbols: usize,
+    needs: &'static [&'static [u32]],
+    named: &'static [u32],
+}
+
+const LOOPS: &[LoopCase] = &[
+    LoopCase {
+        name: "the path to a loop is left out: 0 has 1 as its default, 1 has 2 and 2 has 1",
+        symbols: 3,
+        needs: &[&[1], &[2], &[1]],
+        named: &[1, 2],
+    },
+    LoopCase {
+        name: "a symbol needs itself",
+        symbols: 1,
+        needs: &[&[0]],
+        named: &[0],
+    },
+    LoopCase {
+        name: "the first of two loops: 0 is free; 1 needs 4 and 2, which lie on two",
+        symbols: 6,
+        needs: &[&[], &[4, 0, 2], &[3], &[2], &[5], &[4]],
+        named: &[2, 3],
+    },
+    LoopCase {
+        name: "two paths lead to a loop: 0 and 4 need what goes round 2 and 3; 1 is free",
+        symbols: 5,
+        needs: &[&[1, 3], &[], &[3], &[2], &[1, 0]],
+        named: &[3, 2],
+    },
+    LoopCase {
+        name: "two members of a choice, the first with a prompt under the second",
+        symbols: 2,
+        needs: &[&[2], &[2], &[1]],
+        named: &[1],
+    },
+    LoopCase {
+        name: "a loop through groups names symbols: 0 needs what 2 and 1 are in a group within another; 2 needs 0",
+        symbols: 3,
+        needs: &[&[4], &[], &[0], &[2], &[1, 3]],
+        named: &[0, 2],
+    },
+    LoopCase {
+        name: "a group beside a loop is passed: it asks for 1, which is free, and for 2, which needs itself",
+        symbols: 3,
+        needs: &[&[3], &[], &[2], &[2, 1]],
+        named: &[2],
+    },
+];
+
+fn has_loop(alloc: Global, graph: Graph, named: &[u32]) -> bool {
+    match loop_of(alloc, graph) {
+        Ok(found) => found.as_slice() == named,
+        Err(_) => false,
+    }
+}
+
+fn has_named_loop(alloc: Global, case: &LoopCase) -> bool {
+    match graph_from(alloc, case.symbols, case.needs) {
+        Ok(graph) => has_loop(alloc, graph, case.named),
+        Err(_) => false,
+    }
+}
+
+#[test]
+fn the_first_loop_is_named(rt: HostRuntime) {
+    for case in LOOPS {
+        assert!(rt; has_named_loop(rt.alloc(), case), "{}", case.name);
+    }
+}
+
+fn has_counts(alloc: Global, symbols: usize, needs: &[&[u32]]) -> bool {
+    match graph_from(alloc, symbols, needs) {
+        Ok(graph) => graph.count() == needs.len() && graph.symbols() == symbols,
+        Err(_) => false,
+    }
+}
+
+#[test]
+fn symbols_and_groups_are_counted(rt: HostRuntime) {
+    assert!(rt; has_counts(rt.alloc(), 2, &[&[2], &[2], &[1]]));
+}
+
+fn is_ordered_as(alloc: Global, symbols: usize, needs: &[&[u32]], nodes: &[u32]) -> bool {
+    match graph_from(alloc, symbols, needs) {
+        Ok(graph) => match order_if_within(alloc, graph) {
+            Ok(order) => order.nodes() == nodes,
+            Err(_) => false,
+        },
+        Err(_) => false,
+    }
+}
+
+#[test]
+fn groups_stand_after_what_they_need(rt: HostRuntime) {
+    assert!(rt; is_ordered_as(rt.alloc(), 2, &[&[3], &[], &[1], &[2]], &[1, 2, 3, 0]));
+}
+
+fn is_within(alloc: Global, symbols: usize, needs: &[&[u32]]) -> Option<bool> {
+    match graph_from(alloc, symbols, needs) {
+        Ok(graph) => Some(graph.is_within()),
+        Err(_) => None,
+    }
+}
+
+#[test]
+fn a_group_does_not_need_a_later_one(rt: HostRuntime) {
+    assert!(rt; is_within(rt.alloc(), 1, &[&[1], &[2], &[0]]) == Some(false));
+    assert!(rt; is_within(rt.alloc(), 1, &[&[1], &[0], &[1]]) == Some(true));
+}
+
+// Each symbol of the chain needs the next, the last none.
+fn add_chain(graph: &mut Graph) -> Result<(), AllocError> {
+    for symbol in 1..20_000u32 {
+        graph.add(&[symbol])?;
+    }
+    graph.add(&[])
+}
+
+fn is_reversed(nodes: &[u32]) -> bool {
+    for place in 0..nodes.len() {
+        if nodes[place] as usize != nodes.len() - 1 - place {
+            return false;
+        }
+    }
+    nodes.len() == 20_000
+}
+
+fn is_ordered_in_reverse(alloc: Global, graph: Graph) -> bool {
+    match order_if_within(alloc, graph) {
+        Ok(order) => is_reversed(order.nodes()),
+        Err(_) => false,
+    }
+}
+
+fn chain(alloc: Global, symbols: usize) -> Result<Graph, AllocError> {
+    let mut graph = Graph::with_room(alloc, symbols, 0)?;
+    add_chain(&mut graph)?;
+    Ok(graph)
+}
+
+fn a_chain_is_ordered(alloc: Global) -> bool {
+    match chain(alloc, 20_000) {
+        Ok(graph) => graph.count() == 20_000 && is_ordered_in_reverse(alloc, graph),
+        Err(_) => false,
+    }
+}
+
+#[test]
+fn a_long_chain_in_reverse(rt: HostRuntime) {
+    assert!(rt; a_chain_is_ordered(rt.alloc()));
+}
+
+// After the chain stands a symbol that needs itself.
+fn chain_and_loop(alloc: Global) -> Result<Graph, AllocError> {
+    let mut graph = chain(alloc, 20_001)?;
+    graph.add(&[20_000])?;
+    Ok(graph)
+}
+
+fn a_loop_is_named_after_a_chain(alloc: Global) -> bool {
+    match chain_and_loop(alloc) {
+        Ok(graph) => has_loop(alloc, graph, &[20_000]),
+        Err(_) => false,
+    }
+}
+
+#[test]
+fn a_loop_beside_a_long_chain(rt: HostRuntime) {
+    assert!(rt; a_loop_is_named_after_a_chain(rt.alloc()));
+}
+
+fn numbers_into(row: &mut Vec<u32>) -> Result<(), AllocError> {
+    for symbol in 20_000..40_000u32 {
+        row.push(symbol)?;
+    }
+    Ok(())
+}
+
+fn add_members(graph: &mut Graph, row: &[u32]) -> Result<(), AllocError> {
+    for _member in 0..20_000 {
+        graph.add(&[40_000])?;
+    }
+    for _symbol in 0..20_000 {
+        graph.add(&[])?;
+    }
+    graph.add(row)
+}
+
+// 20,000 members that need 20,000 further symbols.
+fn members_and_row(alloc: Global, row: &[u32]) -> Result<Graph, AllocError> {
+    let mut graph = Graph::with_room(alloc, 40_000, 40_001)?;
+    add_members(&mut graph, row)?;
+    Ok(graph)
+}
+
+fn are_members_ordered(alloc: Global) -> bool {
+    let mut row = Vec::new(alloc);
+    if numbers_into(&mut row).is_err() {
+        return false;
+    }
+    match members_and_row(alloc, &row) {
+        Ok(graph) => has_loop(alloc, graph, &[]),
+        Err(_) => false,
+    }
+}
+
+#[test]
+fn many_members_share_a_long_row(rt: HostRuntime) {
+    assert!(rt; are_members_ordered(rt.alloc()));
+}
+
+#[test]
+fn laws_hold_of_bytes(_rt: HostRuntime) {
+    ordered_are_accepted();
+    cycles_are_unordered();
+    named_loop_is_closed();
+    named_loop_is_within();
+    one_named_loop();
+    accepted_have_one_solution::<u8>();
+    solutions_agree::<u8>();
+    computing_solves::<u8>();
+    iterations_solve::<u8>();
+    minimal_restores::<u8, usize, u8>();
+    minimal_has_nothing_to_spare::<u8, usize, u8>();
+}

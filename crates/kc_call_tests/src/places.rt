@@ -1,0 +1,182 @@
+//! User values: which ones a symbol may have, and which are there (kc_user).
+
+use crate::trial::{Claim, Setting, give_all, is_true_of};
+use kc_expr::expression::{SymId, Tri};
+use kc_tree::tree::Tree;
+use kc_user::user::User;
+use kc_user::value::{UserValue, allowed};
+use std::alloc::{AllocError, Global};
+
+// Its symbols by number: A, T, S, I, X, U and M.
+const TREE: &[u8] =
+    b"config A\n\tbool \"a\"\nconfig T\n\ttristate \"t\"\nconfig S\n\tstring \"s\"\nconfig I\n\tint \"i\"\n\
+config X\n\thex \"x\"\nconfig U\nchoice\n\tprompt \"c\"\nconfig M\n\tbool \"m\"\nendchoice\n";
+
+// A value of a user: a truth value, a text, or a text of so many quotes.
+enum Sample {
+    Truth(Tri),
+    Text(&'static [u8]),
+    Quotes(usize),
+}
+
+// Whether the symbol of this number may have the value.
+struct Allowed(usize, Sample, bool);
+
+const SAMPLES: &[(&str, Allowed)] = &[
+    ("a bool, n", Allowed(0, Sample::Truth(Tri::N), true)),
+    ("a bool, m", Allowed(0, Sample::Truth(Tri::M), false)),
+    ("a bool, y", Allowed(0, Sample::Truth(Tri::Y), true)),
+    ("a tristate, n", Allowed(1, Sample::Truth(Tri::N), true)),
+    ("a tristate, m", Allowed(1, Sample::Truth(Tri::M), true)),
+    ("a tristate, y", Allowed(1, Sample::Truth(Tri::Y), true)),
+    ("a string, n", Allowed(2, Sample::Truth(Tri::N), false)),
+    ("a string, m", Allowed(2, Sample::Truth(Tri::M), false)),
+    ("a string, y", Allowed(2, Sample::Truth(Tri::Y), false)),
+    (
+        "a symbol without a type, n",
+        Allowed(5, Sample::Truth(Tri::N), false),
+    ),
+    (
+        "a symbol without a type, m",
+        Allowed(5, Sample::Truth(Tri::M), false),
+    ),
+    (
+        "a symbol without a type, y",
+        Allowed(5, Sample::Truth(Tri::Y), false),
+    ),
+    ("a member, n", Allowed(6, Sample::Truth(Tri::N), true)),
+    ("a member, m", Allowed(6, Sample::Truth(Tri::M), false)),
+    ("a member, y", Allowed(6, Sample::Truth(Tri::Y), true)),
+    (
+        "a symbol that is not defined, n",
+        Allowed(7, Sample::Truth(Tri::N), false),
+    ),
+    (
+        "a symbol that is not defined, m",
+        Allowed(7, Sample::Truth(Tri::M), false),
+    ),
+    (
+        "a symbol that is not defined, y",
+        Allowed(7, Sample::Truth(Tri::Y), false),
+    ),
+    ("a bool, a text", Allowed(0, Sample::Text(b"y"), false)),
+    (
+        "a string, quotes",
+        Allowed(2, Sample::Text(b"a \"b\""), true),
+    ),
+    (
+        "a string, a line end",
+        Allowed(2, Sample::Text(b"a\nb"), false),
+    ),
+    ("an int, a number", Allowed(3, Sample::Text(b"-010"), true)),
+    (
+        "an int, a hex number",
+        Allowed(3, Sample::Text(b"0x10"), false),
+    ),
+    ("a hex, a number", Allowed(4, Sample::Text(b"fF"), true)),
+    (
+        "a hex, a negative number",
+        Allowed(4, Sample::Text(b"-1"), false),
+    ),
+    (
+        "a symbol without a type, its name",
+        Allowed(5, Sample::Text(b"U"), false),
+    ),
+    // a quote counts twice
+    (
+        "a string, as many quotes as fit",
+        Allowed(2, Sample::Quotes(32_499), true),
+    ),
+    (
+        "a string, one quote more",
+        Allowed(2, Sample::Quotes(32_500), false),
+    ),
+];
+
+fn value_of(alloc: Global, sample: &Sample) -> Result<UserValue, AllocError> {
+    match sample {
+        Sample::Truth(value) => Ok(UserValue::Tri(*value)),
+        Sample::Text(text) => Ok(UserValue::Text(Vec::from_slice(alloc, text)?)),
+        Sample::Quotes(count) => Ok(UserValue::Text(vec![in alloc; b'"'; *count]?)),
+    }
+}
+
+impl Claim for Allowed {
+    fn holds_of(&self, alloc: Global, tree: &Tree) -> bool {
+        let Allowed(symbol, sample, wanted) = self;
+        match value_of(alloc, sample) {
+            Ok(value) => allowed(tree, SymId(*symbol), &value) == *wanted,
+            Err(_) => false,
+        }
+    }
+}
+
+#[test]
+fn the_type_says_what_a_symbol_may_have(rt: HostRuntime) {
+    for (name, sample) in SAMPLES {
+        assert!(rt; is_true_of(rt.alloc(), TREE, sample), "{name}");
+    }
+}
+
+// What is given, how many symbols' places are filled then, and whether the choice's place is.
+struct Filled {
+    name: &'static str,
+    given: &'static [Setting],
+    symbols: usize,
+    is_chosen: bool,
+}
+
+const FILLED: &[Filled] = &[
+    Filled {
+        name: "nothing",
+        given: &[],
+        symbols: 0,
+        is_chosen: false,
+    },
+    Filled {
+        name: "a value",
+        given: &[Setting::Truth(b"A", Tri::Y)],
+        symbols: 1,
+        is_chosen: false,
+    },
+    Filled {
+        name: "a member",
+        given: &[Setting::Member(b"M")],
+        symbols: 0,
+        is_chosen: true,
+    },
+];
+
+// How many symbols' places are filled.
+fn filled_count(user: &User) -> usize {
+    let mut count = 0_usize;
+    for place in user.symbols() {
+        if place.is_some() {
+            count = count.saturating_add(1);
+        }
+    }
+    count
+}
+
+// Whether, of the places of seven symbols and one choice, those are filled that the case says.
+fn has_filled(user: &User, case: &Filled) -> bool {
+    user.symbols().len() == 7
+        && filled_count(user) == case.symbols
+        && matches!(user.choices(), [place] if place.is_some() == case.is_chosen)
+}
+
+impl Claim for Filled {
+    fn holds_of(&self, alloc: Global, tree: &Tree) -> bool {
+        match User::new(alloc, tree) {
+            Ok(mut user) => give_all(alloc, tree, &mut user, self.given) && has_filled(&user, self),
+            Err(_) => false,
+        }
+    }
+}
+
+#[test]
+fn places_are_empty_until_they_are_filled(rt: HostRuntime) {
+    for case in FILLED {
+        assert!(rt; is_true_of(rt.alloc(), TREE, case), "{}", case.name);
+    }
+}

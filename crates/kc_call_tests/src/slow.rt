@@ -1,0 +1,181 @@
+//! The plain slow solver, beside which the tests hold the solver: every value computed anew, in iterations.
+
+ghost use Rattle.std.specs.Prelude.{◌≡◌, ◌<◌, length, replicate, slice_get, None, Some, IfOk, IfSome, OnOk, []};
+ghost use Rattle.kc_expr.specs.Value.{value_by_kind};
+ghost use Rattle.kc_expr.specs.declared.expression.Tri.TheVariants.{N};
+ghost use Rattle.kc_order.specs.Solution.{IsOnlySolution, Solves};
+ghost use Rattle.kc_solve.specs.Computing.{IsComputedSymbol};
+ghost use Rattle.kc_solve.specs.Graphs.{IsGraphOf};
+ghost use Rattle.kc_solve.specs.PlaceLists.{places};
+ghost use Rattle.kc_solve.specs.Kept.{valuation};
+ghost use Rattle.kc_tree.specs.Layouts.{IsLayoutOf, facts_of};
+ghost use Rattle.kc_values.specs.TableFacts.{known_at};
+ghost use Rattle.kc_user.specs.GivenValue.{SymbolPlace};
+ghost use Rattle.kc_user.specs.Places.{ArePlacesOf, place_at};
+ghost use Rattle.kc_values.specs.Needs.{IsAccepted};
+ghost use Rattle.kc_values.specs.Selections.{given_for, member_given};
+ghost use Rattle.kc_values.specs.Solution.{equations, symbol_count};
+ghost use Rattle.kc_values.specs.Table.{known_value};
+ghost use Rattle.kc_values.specs.Values.{by_choice, member_equation};
+
+use kc_expr::expression::{Kind, SymId, Tri};
+use kc_order::ordered_are_accepted;
+use kc_solve::order::EvaluationOrder;
+use kc_tree::layout::Layout;
+use kc_tree::rows::{ChoiceId, Symbol};
+use kc_tree::tree::Tree;
+use kc_user::user::User;
+use kc_user::value::UserValue;
+use kc_values::choices::selected_in;
+use kc_values::equation::own_equation;
+use kc_values::laws::accepted_have_one_solution;
+use kc_values::table::{Table, Value};
+use std::alloc::{AllocError, Global};
+
+// The row of a symbol that is defined.
+fn symbol_row(layout: &Layout, id: SymId) -> &Symbol
+    requires { id.0 < length layout.now.symbols.items }
+    ensures { slice_get layout.now.symbols.items id.0 ≡ Some result.now }
+{
+    match layout.symbol(id) {
+        Some(symbol) => symbol,
+        None => unreachable!(),
+    }
+}
+
+// n, or the empty text.
+fn first_value(alloc: Global, kind: Kind) -> Value
+    ensures { known_value kind result ≡ value_by_kind kind N [] }
+{
+    match kind {
+        Kind::Bool => Value::Truth(Tri::N),
+        Kind::Tristate => Value::Truth(Tri::N),
+        Kind::Str => Value::Text(Vec::new(alloc)),
+        Kind::Int => Value::Text(Vec::new(alloc)),
+        Kind::Hex => Value::Text(Vec::new(alloc)),
+        Kind::Undefined => Value::Text(Vec::new(alloc)),
+    }
+}
+
+// A table of n and empty texts.
+fn first_values(alloc: Global, tree: &Tree) -> Result<Vec<Option<Value>>, AllocError>
+    ensures { IfOk result (λ v. length v.items ≡ symbol_count tree.now) }
+{
+    let count = tree.symbol_count();
+    let mut values = Vec::with_capacity(alloc, count)?;
+    for i in 0..count {
+        let kind = symbol_row(tree.layout(), SymId(i)).kind;
+        values.push(Some(first_value(alloc, kind)))?;
+    }
+    Ok(values)
+}
+
+// A table of n and empty texts, where nothing is computed.
+fn first_table<'t>(
+    alloc: Global,
+    tree: &'t Tree,
+    layout: &'t Layout,
+) -> Result<Table<'t>, AllocError>
+    requires { IsLayoutOf tree.now layout.now }
+    ensures tree { IfOk result (λ t. t.tree.now ≡ tree.now) }
+    ensures count { IfOk result (λ t. length t.values.items ≡ symbol_count tree.now) }
+    ensures unsettled { IfOk result (λ t. t.contexts.items ≡ replicate (length layout.now.tables.contexts) None) }
+{
+    let mut table = Table::empty(alloc, tree, layout)?;
+    table.values = first_values(alloc, tree)?;
+    Ok(table)
+}
+
+// The value of a member of a choice: y where it is selected. The selection is found anew.
+fn member_value(table: &Table, id: SymId, choice: ChoiceId, chosen: &[Option<SymId>]) -> Tri
+    requires { choice.0 < length chosen.now }
+    ensures { result ≡ member_equation table.now.tree.now (known_at table.now) id choice.0 (member_given chosen.now choice.0) }
+{
+    match selected_in(table, choice, chosen[choice.0]) {
+        Some(member) if member.0 == id.0 => Tri::Y,
+        _ => Tri::N,
+    }
+}
+
+// The value that the equation of a symbol gives, under the values of the table.
+fn value_anew(
+    alloc: Global,
+    table: &Table,
+    id: SymId,
+    symbol: &Symbol,
+    given: &[Option<UserValue>],
+    chosen: &[Option<SymId>],
+) -> Result<Value, AllocError>
+    requires below { id.0 < length given.now }
+    requires users { IfSome symbol.now.choice (λ c. c.0 < length chosen.now) }
+    ensures { IfOk result (λ x. known_value symbol.now.kind x
+        ≡ by_choice table.now.tree.now (known_at table.now) id (facts_of table.now.layout.now id.0 symbol.now) (facts_of table.now.layout.now id.0 symbol.now).choice
+        (given_for symbol.now.choice (places given.now chosen.now (SymbolPlace id.0)) chosen.now)) }
+{
+    let own = given[id.0].as_ref();
+    match symbol.choice {
+        Some(choice) => Ok(Value::Truth(member_value(table, id, choice, chosen))),
+        None => {
+            let value = own_equation(alloc, table, id, symbol, own)?;
+            Ok(value)
+        }
+    }
+}
+
+// Writes the value that the equation of a symbol gives, under the values of the table.
+fn compute_anew(
+    alloc: Global,
+    table: &mut Table<'_>,
+    id: SymId,
+    given: &[Option<UserValue>],
+    chosen: &[Option<SymId>],
+) -> Result<(), AllocError>
+    requires defined { id.0 < length table.old.values.items }
+    requires full { length table.old.values.items ≡ symbol_count table.old.tree.now }
+    requires given { length given.now ≡ length table.old.values.items }
+    requires chosen { length chosen.now ≡ length table.old.tree.now.choices }
+    requires unsettled { table.old.contexts.items ≡ replicate (length table.old.contexts.items) None }
+    ensures { OnOk result (IsComputedSymbol given.now chosen.now id table.old table.new) }
+{
+    // A member's choice is one of the tree's: `symbol_count` says so.
+    let _count = table.tree.symbol_count();
+    let symbol = symbol_row(table.layout, id);
+    let value = value_anew(alloc, table, id, symbol, given, chosen)?;
+    table.values[id.0] = Some(value);
+    Ok(())
+}
+
+/// The values that [`kc_solve::solve::solve`] finds, by the plainest way there is. In a table of n and empty texts
+/// every equation is computed anew, one symbol after another in the order of their first definitions, in as many iterations
+/// as there are symbols; the order is only asked that there is one (our own). The caller owes the layout, the order and the
+/// places of that tree. Fails only when it is out of memory.
+pub(crate) fn slow_table<'t>(
+    alloc: Global,
+    tree: &'t Tree,
+    layout: &'t Layout,
+    order: &EvaluationOrder,
+    user: &User,
+) -> Result<Table<'t>, AllocError>
+    requires laid { IsLayoutOf tree.now layout.now }
+    requires order { IsGraphOf tree.now layout.now order.now }
+    requires user { ArePlacesOf tree.now user.now }
+    ensures tree { IfOk result (λ t. t.tree.now ≡ tree.now) }
+    ensures accepted { OnOk result (IsAccepted tree.now) }
+    ensures count { IfOk result (λ t. length t.values.items ≡ symbol_count tree.now) }
+    ensures solves { IfOk result (λ t. Solves (symbol_count tree.now) (equations tree.now (place_at user.now)) (valuation tree.now t.values.items)) }
+    ensures only { IfOk result (λ t. IsOnlySolution (symbol_count tree.now) (equations tree.now (place_at user.now)) (valuation tree.now t.values.items)) }
+{
+    accepted_have_one_solution();
+    ordered_are_accepted();
+    let _nodes = order.nodes();
+    let count = tree.symbol_count();
+    let given = user.symbols();
+    let chosen = user.choices();
+    let mut table = first_table(alloc, tree, layout)?;
+    for _iteration in 0..count {
+        for i in 0..count {
+            compute_anew(alloc, &mut table, SymId(i), given, chosen)?;
+        }
+    }
+    Ok(table)
+}

@@ -1,0 +1,113 @@
+//! What the plain slow solver finds, as lines.
+
+use crate::trial::{SymbolReport, choice_count, choice_into, symbol_into, warnings_into};
+use kc_expr::expression::{Kind, SymId};
+use kc_expr::values::{Values, tri_text};
+use kc_tree::rows::{ChoiceId, Symbol};
+use kc_user::user::User;
+use kc_user::value::UserValue;
+use kc_values::choices::selected_in;
+use kc_values::differs::member_differs;
+use kc_values::equation::own_equation;
+use kc_values::table::{Table, Value, name, value_of};
+use kc_values::truths::visibility;
+use kc_values::warnings;
+use kc_values::written::written;
+use std::alloc::{AllocError, Global};
+
+// What was given for the symbol.
+fn given(user: &User, id: SymId) -> Option<&UserValue> {
+    match user.symbols().get(id.0) {
+        Some(Some(value)) => Some(value),
+        _ => None,
+    }
+}
+
+// The member that was chosen.
+fn chosen(user: &User, choice: ChoiceId) -> Option<SymId> {
+    match user.choices().get(choice.0) {
+        Some(Some(member)) => Some(*member),
+        _ => None,
+    }
+}
+
+// Whether a place holds the value.
+fn holds(place: Option<&Value>, value: &Value) -> bool {
+    match (place, value) {
+        (Some(Value::Truth(a)), Value::Truth(b)) => *a == *b,
+        (Some(Value::Text(a)), Value::Text(b)) => a.as_slice() == b.as_slice(),
+        _ => false,
+    }
+}
+
+// Whether the symbol's value is another one without what was given for it.
+fn differs(
+    alloc: Global,
+    table: &Table<'_>,
+    user: &User,
+    id: SymId,
+    symbol: &Symbol,
+) -> Result<bool, AllocError> {
+    if let Some(choice) = symbol.choice {
+        let selection = selected_in(table, choice, chosen(user, choice));
+        let default = selected_in(table, choice, None);
+        return Ok(member_differs(selection, default, id));
+    }
+    match own_equation(alloc, table, id, symbol, None) {
+        Ok(without) => Ok(!holds(value_of(&table.values, id), &without)),
+        Err(fault) => Err(fault),
+    }
+}
+
+// The value as a text.
+fn text_of<'t>(table: &'t Table<'_>, id: SymId) -> &'t [u8] {
+    match table.kind(id) {
+        Kind::Bool | Kind::Tristate => tri_text(table.tri(id)),
+        _ => table.text(id),
+    }
+}
+
+// The line of a symbol, and its warnings.
+fn symbol_line(
+    alloc: Global,
+    table: &Table<'_>,
+    user: &User,
+    id: SymId,
+    out: &mut Vec<u8>,
+    lines: &mut Vec<Vec<u8>>,
+) -> Result<(), AllocError> {
+    let Some(symbol) = table.tree.facts(id) else {
+        return Ok(());
+    };
+    let shown = visibility(table, symbol);
+    let report = SymbolReport {
+        name: name(table.tree, id),
+        value: text_of(table, id),
+        visibility: shown,
+        is_written: written(table, id, symbol, shown),
+        differs: differs(alloc, table, user, id, symbol)?,
+    };
+    symbol_into(report, out)?;
+    let own = given(user, id);
+    warnings::warnings_into(alloc, table, id, symbol, shown, own, lines)
+}
+
+/// Adds the lines of the values in a table; the warnings stand after those in the lines, and go into the text with them.
+pub(crate) fn lines_into(
+    alloc: Global,
+    table: &Table<'_>,
+    user: &User,
+    out: &mut Vec<u8>,
+    lines: &mut Vec<Vec<u8>>,
+) -> Result<(), AllocError> {
+    for i in 0..table.tree.symbol_count() {
+        symbol_line(alloc, table, user, SymId(i), out, lines)?;
+    }
+    for c in 0..choice_count(table.tree) {
+        let choice = ChoiceId(c);
+        let selection = selected_in(table, choice, chosen(user, choice));
+        let default = selected_in(table, choice, None);
+        choice_into(table.tree, selection, default, out)?;
+    }
+    warnings_into(lines, out)
+}

@@ -1,0 +1,140 @@
+//! The solver beside the plain slow one (kc_solve): they agree on each tree.
+
+ghost use Rattle.kc_solve.specs.Graphs.{IsGraphOf};
+ghost use Rattle.kc_tree.specs.Layouts.{IsLayoutOf};
+ghost use Rattle.kc_user.specs.Places.{ArePlacesOf};
+
+use crate::slow::slow_table;
+use crate::trees::{CHOICES, LIMITS, Setup, TEXTS, TRUTHS};
+use crate::trial::{Claim, give_all, is_true_of};
+use crate::{slow_lines, solved};
+use kc_solve::order::EvaluationOrder;
+use kc_solve::solve::solve;
+use kc_tree::layout::Layout;
+use kc_tree::tree::Tree;
+use kc_user::user::User;
+use std::alloc::Global;
+
+// Adds what the solver finds of the tree under these user values. The answer is whether it finds a solution.
+fn solved_into(
+    alloc: Global,
+    tree: &Tree,
+    layout: &Layout,
+    order: &EvaluationOrder,
+    user: &User,
+    out: &mut Vec<u8>,
+) -> bool
+    requires laid { IsLayoutOf tree.now layout.now }
+    requires order { IsGraphOf tree.now layout.now order.now }
+    requires user { ArePlacesOf tree.now user.now }
+{
+    match solve(alloc, tree, layout, order, user) {
+        Ok(solution) => solved::lines_into(&solution, out).is_ok(),
+        Err(_) => false,
+    }
+}
+
+// Adds what the plain slow solver finds. The answer is whether it finds a solution.
+fn slowly_solved_into(
+    alloc: Global,
+    tree: &Tree,
+    layout: &Layout,
+    order: &EvaluationOrder,
+    user: &User,
+    out: &mut Vec<u8>,
+) -> bool
+    requires laid { IsLayoutOf tree.now layout.now }
+    requires order { IsGraphOf tree.now layout.now order.now }
+    requires user { ArePlacesOf tree.now user.now }
+{
+    let mut warnings = Vec::new(alloc);
+    match slow_table(alloc, tree, layout, order, user) {
+        Ok(table) => slow_lines::lines_into(alloc, &table, user, out, &mut warnings).is_ok(),
+        Err(_) => false,
+    }
+}
+
+// Whether both find the same.
+fn agree_along(
+    alloc: Global,
+    tree: &Tree,
+    layout: &Layout,
+    order: &EvaluationOrder,
+    user: &User,
+) -> bool
+    requires laid { IsLayoutOf tree.now layout.now }
+    requires order { IsGraphOf tree.now layout.now order.now }
+    requires user { ArePlacesOf tree.now user.now }
+{
+    let mut found = Vec::new(alloc);
+    let mut slowly = Vec::new(alloc);
+    solved_into(alloc, tree, layout, order, user, &mut found)
+        && slowly_solved_into(alloc, tree, layout, order, user, &mut slowly)
+        && found.as_slice() == slowly.as_slice()
+}
+
+// Whether the tree has no dependency loop, and both find the same.
+fn agree(alloc: Global, tree: &Tree, user: &User) -> bool
+    requires { ArePlacesOf tree.now user.now }
+{
+    let layout = tree.layout();
+    match EvaluationOrder::of(alloc, tree, layout) {
+        Ok(order) => agree_along(alloc, tree, layout, &order, user),
+        Err(_) => false,
+    }
+}
+
+impl Claim for Setup {
+    fn holds_of(&self, alloc: Global, tree: &Tree) -> bool {
+        match User::new(alloc, tree) {
+            Ok(mut user) => {
+                give_all(alloc, tree, &mut user, self.given) && agree(alloc, tree, &user)
+            }
+            Err(_) => false,
+        }
+    }
+}
+
+#[test]
+fn both_solvers_agree_on_truth_values(rt: HostRuntime) {
+    for setup in TRUTHS {
+        assert!(rt;
+            is_true_of(rt.alloc(), setup.kconfig, setup),
+            "{}",
+            setup.name
+        );
+    }
+}
+
+#[test]
+fn both_solvers_agree_on_limits(rt: HostRuntime) {
+    for setup in LIMITS {
+        assert!(rt;
+            is_true_of(rt.alloc(), setup.kconfig, setup),
+            "{}",
+            setup.name
+        );
+    }
+}
+
+#[test]
+fn both_solvers_agree_on_texts_and_numbers(rt: HostRuntime) {
+    for setup in TEXTS {
+        assert!(rt;
+            is_true_of(rt.alloc(), setup.kconfig, setup),
+            "{}",
+            setup.name
+        );
+    }
+}
+
+#[test]
+fn both_solvers_agree_on_choices(rt: HostRuntime) {
+    for setup in CHOICES {
+        assert!(rt;
+            is_true_of(rt.alloc(), setup.kconfig, setup),
+            "{}",
+            setup.name
+        );
+    }
+}

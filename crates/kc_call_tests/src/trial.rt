@@ -1,0 +1,179 @@
+//! Claims about a tree, user values, and the lines that show a solution.
+
+ghost use Rattle.std.specs.Prelude.{◌≡◌, length};
+ghost use Rattle.kc_user.specs.Places.{ArePlacesOf};
+
+use kc_build::build_tree;
+use kc_expr::expression::{SymId, Tri};
+use kc_expr::values::tri_text;
+use kc_read::file_map::FileMap;
+use kc_tree::rows::ChoiceId;
+use kc_tree::tree::Tree;
+use kc_user::user::User;
+use kc_user::value::UserValue;
+use kc_values::table::name;
+use std::alloc::{AllocError, Global};
+
+/// A user value.
+pub(crate) enum Setting {
+    /// For a bool or tristate symbol of this name.
+    Truth(&'static [u8], Tri),
+    /// For a string, int or hex symbol of this name.
+    Text(&'static [u8], &'static [u8]),
+    /// The member of the first choice.
+    Member(&'static [u8]),
+}
+
+/// What may be true of a tree.
+pub(crate) trait Claim {
+    /// Whether it is.
+    fn holds_of(&self, alloc: Global, tree: &Tree) -> bool;
+}
+
+// Puts a file of this text into the map.
+fn put_file(alloc: Global, kconfig: &[u8], files: &mut FileMap) -> Result<(), AllocError> {
+    let bytes = Vec::from_slice(alloc, kconfig)?;
+    files.insert(Vec::from_slice(alloc, b"Kconfig")?, bytes)
+}
+
+// The tree of this file; none where it is refused.
+fn tree_of(alloc: Global, kconfig: &[u8]) -> Option<Tree> {
+    let mut files = FileMap::new(alloc);
+    match put_file(alloc, kconfig, &mut files) {
+        Ok(()) => build_tree(alloc, &files, b"Kconfig").ok(),
+        Err(_) => None,
+    }
+}
+
+// No other function has the tree as its own: the code that drops it would stand in each of them.
+/// Whether the claim is true of the tree of this file.
+pub(crate) fn is_true_of(alloc: Global, kconfig: &[u8], claim: &dyn Claim) -> bool {
+    match tree_of(alloc, kconfig) {
+        Some(tree) => claim.holds_of(alloc, &tree),
+        None => false,
+    }
+}
+
+/// How many choices there are.
+pub(crate) fn choice_count(tree: &Tree) -> usize
+    ensures { result ≡ length tree.now.choices }
+{
+    tree.choices().len()
+}
+
+// Fills the place of the symbol of this name, if there is one.
+#[tactic(auto, using(crate::proofs::PlaceLemmas::set_stays))]
+fn set(tree: &Tree, user: &mut User, name: &[u8], value: UserValue) -> bool
+    requires { ArePlacesOf tree.now user.old }
+    ensures { ArePlacesOf tree.now user.new }
+{
+    match tree.find(name) {
+        Some(id) if id.0 < tree.symbol_count() => {
+            user.set(id, value);
+            true
+        }
+        _ => false,
+    }
+}
+
+// Fills the first choice's place, if there is one, with the symbol of this name.
+#[tactic(auto, using(crate::proofs::PlaceLemmas::select_stays))]
+fn select(tree: &Tree, user: &mut User, name: &[u8]) -> bool
+    requires { ArePlacesOf tree.now user.old }
+    ensures { ArePlacesOf tree.now user.new }
+{
+    match tree.find(name) {
+        Some(member) if choice_count(tree) > 0 => {
+            user.select(ChoiceId(0), member);
+            true
+        }
+        _ => false,
+    }
+}
+
+// Fills one place. The answer is whether it is there.
+fn give(alloc: Global, tree: &Tree, user: &mut User, given: &Setting) -> bool
+    requires { ArePlacesOf tree.now user.old }
+    ensures { ArePlacesOf tree.now user.new }
+{
+    match given {
+        Setting::Truth(name, tri) => set(tree, user, name, UserValue::Tri(*tri)),
+        Setting::Text(name, text) => match Vec::from_slice(alloc, text) {
+            Ok(bytes) => set(tree, user, name, UserValue::Text(bytes)),
+            Err(_) => false,
+        },
+        Setting::Member(name) => select(tree, user, name),
+    }
+}
+
+/// Fills the places with what is given, one after another. The answer is whether all of them are there.
+pub(crate) fn give_all(alloc: Global, tree: &Tree, user: &mut User, given: &[Setting]) -> bool
+    requires { ArePlacesOf tree.now user.old }
+    ensures { ArePlacesOf tree.now user.new }
+{
+    for one in given {
+        if !give(alloc, tree, user, one) {
+            return false;
+        }
+    }
+    true
+}
+
+/// What is shown of a symbol.
+pub(crate) struct SymbolReport<'a> {
+    pub name: &'a [u8],
+    pub value: &'a [u8],
+    pub visibility: Tri,
+    pub is_written: bool,
+    pub differs: bool,
+}
+
+/// The line of a symbol, after what stands in the text.
+pub(crate) fn symbol_into(report: SymbolReport<'_>, out: &mut Vec<u8>) -> Result<(), AllocError> {
+    let SymbolReport {
+        name,
+        value,
+        visibility,
+        is_written,
+        differs,
+    } = report;
+    out.extend_from_slice(name)?;
+    out.push(b'=')?;
+    out.extend_from_slice(value)?;
+    out.push(b' ')?;
+    out.extend_from_slice(tri_text(visibility))?;
+    out.extend_from_slice(if is_written { b" written" } else { b"" })?;
+    out.extend_from_slice(if differs { b" differs\n" } else { b"\n" })
+}
+
+// The name of what is selected.
+fn member_name(tree: &Tree, selection: Option<SymId>) -> &[u8] {
+    match selection {
+        Some(member) => name(tree, member),
+        None => b"-",
+    }
+}
+
+/// The line of a choice, after what stands in the text.
+pub(crate) fn choice_into(
+    tree: &Tree,
+    selection: Option<SymId>,
+    default: Option<SymId>,
+    out: &mut Vec<u8>,
+) -> Result<(), AllocError> {
+    out.extend_from_slice(b"choice ")?;
+    out.extend_from_slice(member_name(tree, selection))?;
+    out.extend_from_slice(b" by default ")?;
+    out.extend_from_slice(member_name(tree, default))?;
+    out.push(b'\n')?;
+    Ok(())
+}
+
+/// The warnings, after what stands in the text.
+pub(crate) fn warnings_into(lines: &[Vec<u8>], out: &mut Vec<u8>) -> Result<(), AllocError> {
+    for line in lines {
+        out.extend_from_slice(line)?;
+        out.push(b'\n')?;
+    }
+    Ok(())
+}

@@ -1,0 +1,262 @@
+//! Arguments of the command line, and the options that they give (kc_words).
+use kc_conf::Options;
+use kc_words::{UsageError, options_of};
+use std::alloc::{AllocError, Global};
+
+// Adds the arguments between the `|` of a line.
+fn words_into(alloc: Global, line: &str, words: &mut Vec<String>) -> Result<(), AllocError> {
+    if line.is_empty() {
+        return Ok(());
+    }
+    for word in line.split('|') {
+        words.push(String::from_str(alloc, word)?)?;
+    }
+    Ok(())
+}
+
+// The options that are wanted: names, and the flags that are given, one after another.
+struct Want {
+    root: &'static str,
+    config: &'static str,
+    out: &'static str,
+    kconfig: &'static str,
+    header: Option<&'static str>,
+    minimal: Option<&'static str>,
+    depfile: Option<&'static str>,
+    prefix: &'static [u8],
+    fragments: &'static [&'static str],
+    flags: &'static str,
+}
+
+// The options of a command line that is one name, `Kconfig`.
+const PLAIN: Want = Want {
+    root: ".",
+    config: ".config",
+    out: ".config",
+    kconfig: "Kconfig",
+    header: None,
+    minimal: None,
+    depfile: None,
+    prefix: b"CONFIG_",
+    fragments: &[],
+    flags: "",
+};
+
+fn is_name(name: &Option<String>, want: Option<&str>) -> bool {
+    match (name, want) {
+        (Some(name), Some(want)) => name.as_str() == want,
+        (None, None) => true,
+        _ => false,
+    }
+}
+
+fn are_fragments(names: &[String], want: &[&str]) -> bool {
+    for (name, want) in names.iter().zip(want) {
+        if name.as_str() != *want {
+            return false;
+        }
+    }
+    names.len() == want.len()
+}
+
+// Adds the flags that are given.
+fn flags_into(options: &Options, text: &mut String) -> Result<(), AllocError> {
+    let flags = [
+        (options.must_exist, "must-exist "),
+        (options.strict, "strict "),
+        (options.warn_lost, "warn-lost "),
+        (options.replace, "replace "),
+    ];
+    for (is_given, word) in flags {
+        if is_given {
+            text.push_str(word)?;
+        }
+    }
+    Ok(())
+}
+
+fn are_flags(alloc: Global, options: &Options, want: &str) -> bool {
+    let mut text = String::new(alloc);
+    flags_into(options, &mut text).is_ok() && text.as_str() == want
+}
+
+fn are_options(alloc: Global, options: &Options, want: &Want) -> bool {
+    options.root.as_str() == want.root
+        && options.config.as_str() == want.config
+        && options.out.as_str() == want.out
+        && options.kconfig.as_str() == want.kconfig
+        && is_name(&options.header, want.header)
+        && is_name(&options.minimal, want.minimal)
+        && is_name(&options.depfile, want.depfile)
+        && options.prefix.as_bytes() == want.prefix
+        && are_fragments(&options.fragments, want.fragments)
+        && are_flags(alloc, options, want.flags)
+}
+
+fn words_give(alloc: Global, words: &[String], want: &Want) -> bool {
+    match options_of(alloc, words) {
+        Ok(options) => are_options(alloc, &options, want),
+        Err(_usage) => false,
+    }
+}
+
+// Whether the arguments between the `|` give these options.
+fn gives(alloc: Global, line: &str, want: &Want) -> bool {
+    let mut words = Vec::new(alloc);
+    words_into(alloc, line, &mut words).is_ok() && words_give(alloc, &words, want)
+}
+
+// Arguments, and the options that they give.
+const OPTIONS: &[(&str, Want)] = &[
+    ("Kconfig", PLAIN),
+    (
+        "--root|d|--config|a|Kconfig",
+        Want {
+            root: "d",
+            config: "a",
+            out: "a",
+            ..PLAIN
+        },
+    ),
+    (
+        "Kconfig|--out=b|--header=h|--savedefconfig|m|--depfile=d",
+        Want {
+            out: "b",
+            header: Some("h"),
+            minimal: Some("m"),
+            depfile: Some("d"),
+            ..PLAIN
+        },
+    ),
+    (
+        "--config=|--prefix=|Kconfig",
+        Want {
+            config: "",
+            out: "",
+            prefix: b"",
+            ..PLAIN
+        },
+    ),
+    (
+        "K|x.cfg|--prefix|BR2_|y.cfg|--must-exist",
+        Want {
+            kconfig: "K",
+            prefix: b"BR2_",
+            fragments: &["x.cfg", "y.cfg"],
+            flags: "must-exist ",
+            ..PLAIN
+        },
+    ),
+    (
+        "--replace|--warn-lost|Kconfig|--strict",
+        Want {
+            flags: "strict warn-lost replace ",
+            ..PLAIN
+        },
+    ),
+    (
+        "--|--strict|--replace|-x",
+        Want {
+            kconfig: "--strict",
+            fragments: &["--replace", "-x"],
+            ..PLAIN
+        },
+    ),
+];
+
+#[test]
+fn each_option_has_its_value_or_its_default(rt: HostRuntime) {
+    for (line, want) in OPTIONS {
+        assert!(rt; gives(rt.alloc(), line, want), "{line}");
+    }
+}
+
+fn is_usage(usage: &UsageError, want: &str) -> bool {
+    match usage {
+        UsageError::Help(_help) => want == "help",
+        UsageError::Version(text) => text.as_str() == want,
+        UsageError::Bad(_text) => want == "bad",
+        UsageError::Memory => false,
+    }
+}
+
+fn words_ask_for(alloc: Global, words: &[String], want: &str) -> bool {
+    match options_of(alloc, words) {
+        Ok(_options) => false,
+        Err(usage) => is_usage(&usage, want),
+    }
+}
+
+// Whether the arguments between the `|` are bad, or ask for this.
+fn asks_for(alloc: Global, line: &str, want: &str) -> bool {
+    let mut words = Vec::new(alloc);
+    words_into(alloc, line, &mut words).is_ok() && words_ask_for(alloc, &words, want)
+}
+
+// Arguments that are bad, and arguments that ask for something else than a run.
+const OTHERS: &[(&str, &str)] = &[
+    ("", "bad"),
+    ("--root|d", "bad"),
+    ("--none|K", "bad"),
+    ("K|--root", "bad"),
+    ("K|--root|-x", "bad"),
+    ("--root|a|--root|b|K", "bad"),
+    ("--conf|a|K", "bad"),
+    ("--prefix|9X|K", "bad"),
+    ("--prefix|A-B|K", "bad"),
+    ("--help", "help"),
+    ("-h", "help"),
+    ("--prefix|9X|--help", "help"),
+    ("--help|--none", "help"),
+    ("--none|--help", "bad"),
+    ("--version", "kconf 0.9.0\n"),
+    ("-V", "kconf 0.9.0\n"),
+    ("K|--version", "kconf 0.9.0\n"),
+    ("--version|--help", "kconf 0.9.0\n"),
+    ("--version=1", "bad"),
+    ("--must-exist=1|K", "bad"),
+    ("--must-exist|--must-exist|K", "bad"),
+    ("--strict=1|K", "bad"),
+    ("--strict|--strict|K", "bad"),
+    ("--warn-lost=1|K", "bad"),
+    ("--warn-lost|--warn-lost|K", "bad"),
+    ("--depfile|K", "bad"),
+    ("--depfile=a|--depfile=b|K", "bad"),
+    ("--replace=1|K", "bad"),
+    ("--replace|--replace|K", "bad"),
+];
+
+#[test]
+fn other_arguments_are_bad_or_ask_for_help_or_the_version(rt: HostRuntime) {
+    for (line, want) in OTHERS {
+        assert!(rt; asks_for(rt.alloc(), line, want), "{line}");
+    }
+}
+
+fn are_answered_by(alloc: Global, words: &[String], part: &str) -> bool {
+    match options_of(alloc, words) {
+        Ok(_options) => false,
+        Err(usage) => usage.text().contains(part),
+    }
+}
+
+// Whether the arguments are answered by a text with this part.
+fn answers(alloc: Global, line: &str, part: &str) -> bool {
+    let mut words = Vec::new(alloc);
+    words_into(alloc, line, &mut words).is_ok() && are_answered_by(alloc, &words, part)
+}
+
+const USAGES: &[(&str, &str)] = &[
+    ("--help", "Usage: kconf [OPTIONS] <KCONFIG> [FRAGMENT]..."),
+    ("--help", "Exit status:"),
+    ("", "<KCONFIG>"),
+    ("--prefix|9X|K", "invalid value '9X' for '--prefix <TEXT>'"),
+];
+
+#[test]
+fn each_usage_has_a_text(rt: HostRuntime) {
+    for (line, part) in USAGES {
+        assert!(rt; answers(rt.alloc(), line, part), "{line}");
+    }
+    assert!(rt; UsageError::Memory.text() == "error E20: out of memory\n");
+}

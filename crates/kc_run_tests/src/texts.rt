@@ -1,0 +1,55 @@
+//! Texts that may be long.
+use std::alloc::AllocError;
+use std::fmt::Write;
+
+/// A text: what comes first, lines that are numbered from 0, and what comes last.
+#[derive(Clone, Copy)]
+pub(crate) struct Text {
+    /// What stands before the lines.
+    pub before: &'static str,
+    /// How many lines there are.
+    pub count: u32,
+    /// What each line is made of.
+    pub line: &'static [Part],
+    /// What stands after the lines.
+    pub after: &'static str,
+}
+
+/// A part of a numbered line.
+#[derive(Clone, Copy)]
+pub(crate) enum Part {
+    /// These bytes.
+    Plain(&'static str),
+    /// The line's number.
+    Number,
+    /// The next line's number.
+    Next,
+}
+
+/// Nothing.
+pub(crate) const EMPTY: Text = Text {
+    before: "",
+    count: 0,
+    line: &[],
+    after: "",
+};
+
+fn line_into(line: &[Part], number: u32, all: &mut String) -> Result<(), AllocError> {
+    for part in line {
+        match part {
+            Part::Plain(text) => all.push_str(text)?,
+            Part::Number => write!(all, "{number}")?,
+            Part::Next => write!(all, "{}", number.saturating_add(1))?,
+        }
+    }
+    Ok(())
+}
+
+/// Adds the text.
+pub(crate) fn text_into(text: &Text, all: &mut String) -> Result<(), AllocError> {
+    all.push_str(text.before)?;
+    for number in 0..text.count {
+        line_into(text.line, number, all)?;
+    }
+    all.push_str(text.after)
+}

@@ -1,6 +1,0 @@
--- What holds at each turn of the loop of `give_all`.
-use Rattle.kc_user.specs.Places.{ArePlacesOf}
-use Rattle.kc_solve_rows.proofs.trial.give_all.Given as goal
-
-abbrev pub invariant-loop-one : goal.invariant-loop-one
-invariant-loop-one l = ArePlacesOf l.tree l.user
