@@ -10,6 +10,7 @@
 - Each link from a document to a file of the repository must lead to a file.
 - A line of a document has at most 120 columns, except in tables.
 - docs/bench.svg must be the chart of the table in README.md.
+- README.md must have the number of trusted definitions and of their lines that bench/trusted.py counts.
 """
 
 import os
@@ -240,6 +241,14 @@ def chart():
     return [] if drawn.stdout == read("docs/bench.svg") else ["docs/bench.svg: run bench/chart.py README.md >docs/bench.svg"]
 
 
+def trusted():
+    """Complaints about the number of trusted definitions."""
+    listed = subprocess.run([os.path.join(TOP, "bench/trusted.py"), "--run"], capture_output=True, text=True).stdout
+    lines, definitions = (f"{int(it):,}" for it in re.search(r"(\d+) lines of them are the (\d+) definitions", listed).groups())
+    wanted = f"{definitions} definitions ({lines} lines)"
+    return [] if wanted in " ".join(read("README.md").split()) else [f"README.md: the program rests on {wanted}"]
+
+
 def main():
     kconf = os.path.abspath(sys.argv[1])
     wrong, runs = examples(kconf)
@@ -247,7 +256,7 @@ def main():
     for name, text in makefiles().items():
         unmade += makefile(kconf, name, text)
     broken, count = links()
-    complaints = wrong + unmade + broken + widths() + chart()
+    complaints = wrong + unmade + broken + widths() + chart() + trusted()
     for complaint in complaints:
         print(complaint)
     print(f"{runs} examples, {count} links, {len(complaints)} complaints")
