@@ -17,8 +17,8 @@ Example: update .config from a fragment, and write the minimal .config too:
 
 Exit status:
   0  success: every output file is complete
-  1  refused: an error in the tree or in a .config file, or a warning under --strict or --strict-tree;
-     no file was created or changed
+  1  refused: an error in the input (the tree, a .config file, a file name with --depfile), or a warning
+     under --strict or --strict-tree; no file was created or changed
   2  wrong arguments
   3  I/O error or out of memory: output files may be truncated; with --replace they are unchanged,
      unless a rename failed
