@@ -1,8 +1,8 @@
 #!/usr/bin/env python3
 """Draws the processor times of a Markdown table as an SVG chart: chart.py [FILE] >docs/bench.svg
 
-FILE is the output of bench/run.sh or README.md; without it, standard input is read. The first table whose cells begin with
-a time (`0.045 s, ..`) is drawn: a group of bars for each column, a bar for each row. The colors can be read on a light and
+FILE is README.md or a table that bench/run.sh prints; without it, standard input is read. The first table whose cells begin
+with a time (`0.045 s, ..`) is drawn: a group of bars for each column, a bar for each row. The colors can be read on a light and
 on a dark page.
 """
 
@@ -17,12 +17,12 @@ TEXT, OURS, OTHERS = "#768390", "#2f81f7", "#8b949e"
 def table(text):
     """The columns of the first table of times: the name, and (label, seconds) for each row."""
     rows = [[cell.strip().replace("`", "") for cell in line.strip("|\n").split("|")] for line in text if line.startswith("|")]
-    timed = [at for at, row in enumerate(rows) if re.match(r"[\d.]+ s\b", row[-1])]
+    timed = [at for at, row in enumerate(rows) if any(re.match(r"[\d.]+ s\b", cell) for cell in row[1:])]
     if not timed:
         sys.exit("there is no table of times")
     head = rows[timed[0] - 2]
     body = [rows[at] for at in timed if len(rows[at]) == len(head)]
-    return [(name, [(row[0], float(row[at].split()[0])) for row in body if row[at]]) for at, name in enumerate(head) if at]
+    return [(name, [(row[0], float(row[at].split()[0])) for row in body if row[at]]) for at, name in enumerate(head) if name]
 
 
 def text(x, y, words, extra=""):

@@ -93,7 +93,7 @@ with open(sys.argv[4], "a", encoding="utf-8") as kept:
 EOF
 }
 
-# Prints the rows that were kept as one Markdown table: the rows of the last table, with a column for each table.
+# Prints the rows that were kept as one Markdown table with a column for each table, without the run on the tree that is not flat.
 markdown() {
     "$python" - "$work/rows" <<'EOF'
 import json
@@ -105,8 +105,8 @@ cells = {(table, name): cell for table, name, cell in rows}
 tables = list(dict.fromkeys(table for table, *_ in rows))
 print("| |", " | ".join(tables), "|")
 print("|---|" + "---|" * len(tables))
-for table, name, _ in rows:
-    if table == tables[-1]:
+for name in dict.fromkeys(name for _, name, _ in rows):
+    if not name.endswith("not flat"):
         print("|", name, "|", " | ".join(cells.get((it, name), "") for it in tables), "|")
 EOF
 }
