@@ -13,6 +13,7 @@
 - README.md must have the number of trusted definitions and of their lines that bench/trusted.py counts.
 """
 
+import glob
 import os
 import re
 import shutil
@@ -214,8 +215,7 @@ def options(kconf):
 
 def pages():
     """The names of all documents."""
-    docs = sorted(name for name in os.listdir(os.path.join(TOP, "docs")) if name.endswith(".md"))
-    return ["README.md", "SECURITY.md", "CHANGELOG.md"] + ["docs/" + name for name in docs]
+    return sorted(page for pattern in ("*.md", "docs/*.md", "crates/*/README.md") for page in glob.glob(pattern, root_dir=TOP))
 
 
 def links():
