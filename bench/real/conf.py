@@ -88,6 +88,14 @@ class Conf:
         shutil.copyfile(start, config)
         self.run("--olddefconfig", config)
 
+    def minimal(self, config, made):
+        """Writes the minimal file of a full .config; answers whether this tool writes one."""
+        if self.words:
+            return False
+        made.unlink(missing_ok=True)
+        self.run(f"--savedefconfig={made}", config)
+        return made.exists()
+
     def made(self, mode, seed, config):
         """Writes the .config of allyesconfig, allnoconfig or randconfig."""
         config.unlink(missing_ok=True)
@@ -110,6 +118,12 @@ class Library:
         """Writes the full .config of a start."""
         shutil.copyfile(start, config)
         self.run("olddefconfig", 0, config)
+
+    def minimal(self, config, made):
+        """Writes the minimal file of a full .config; answers whether this tool writes one."""
+        shutil.copyfile(config, made)
+        self.run("savedefconfig", 0, made)
+        return True
 
     def made(self, mode, seed, config):
         """Writes the .config of allyesconfig, allnoconfig or randconfig."""

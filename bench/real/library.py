@@ -1,7 +1,8 @@
 """kconfiglib as a tree's own tool: library.py FOLDER MODE SEED KCONFIG CONFIG
 
 The kconfiglib.py of FOLDER reads the tree KCONFIG and the .config CONFIG, and writes CONFIG again: completed (olddefconfig), or
-with every question answered with yes, with no, or at random (allyesconfig, allnoconfig, randconfig).
+with every question answered with yes, with no, or at random (allyesconfig, allnoconfig, randconfig). With savedefconfig CONFIG
+becomes the minimal file.
 """
 
 import random
@@ -30,11 +31,14 @@ def answer(tree, mode, pick):
 def main():
     mode, seed, kconfig, config = sys.argv[2:]
     tree = kconfiglib.Kconfig(kconfig, warn=False)
-    if mode == "olddefconfig":
+    if mode in ("olddefconfig", "savedefconfig"):
         tree.load_config(config)
     else:
         answer(tree, mode, random.Random(int(seed)))
-    tree.write_config(config)
+    if mode == "savedefconfig":
+        tree.write_min_config(config)
+    else:
+        tree.write_config(config)
 
 
 if __name__ == "__main__":

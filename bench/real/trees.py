@@ -3,6 +3,7 @@
 import dataclasses
 import lzma
 import pathlib
+import re
 
 import conf
 from debian import Debian, say, unpack_archive
@@ -43,10 +44,10 @@ class Place:
         """A binary package, unpacked, with those that it is of no use without."""
         return self.debian.unpack([name, *more], self.folder / "packages" / name.replace(":", "-"))
 
-    def source(self, package, release=None):
+    def source(self, package, release=None, name=None):
         """A source package, unpacked; of another release of Debian where one is named."""
         debian = Debian(self.folder / f"debian-{release}", release) if release else self.debian
-        return debian.source(package, self.tree(package))
+        return debian.source(package, self.tree(name or package))
 
     def conf(self, tree, source, flags=()):
         """The tree's own conf, built."""
@@ -97,12 +98,13 @@ def uclibc(place):
 
 
 def u_boot(place):
-    """Of some 1,200 configurations of its boards, every twelfth by name."""
-    folder = place.source("u-boot")
-    settings = {"srctree": ".", "UBOOTVERSION": "2023.01", "CC": "gcc", "LD": "ld", "HOSTCC": "gcc", "CC_VERSION_TEXT": first_line("gcc")}
+    """Every thirteenth configuration of its boards by name, of those without #include lines; boards.py has them all."""
+    folder = place.source("u-boot", "trixie", "u-boot-2025.01")
+    settings = {"srctree": ".", "UBOOTVERSION": "2025.01", "CC": "gcc", "LD": "ld", "HOSTCC": "gcc", "CC_VERSION_TEXT": first_line("gcc")}
     tool = conf.Conf(place.conf(folder, "scripts/kconfig"), folder, "Kconfig", settings)
     starts = configurations(folder, "configs/*_defconfig")
-    return Tree("u-boot", folder, "Kconfig", tool, settings, flattened=["--dollar", DOLLAR], starts=dict(list(starts.items())[::12]))
+    starts = [item for item in starts.items() if not re.search(r"(?m)^#include", item[1].read_text(errors="replace"))]
+    return Tree("u-boot", folder, "Kconfig", tool, settings, flattened=["--dollar", DOLLAR], starts=dict(starts[::13]))
 
 
 def coreboot(place):
