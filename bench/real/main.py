@@ -8,12 +8,15 @@ import sys
 import tempfile
 import time
 
+import boards
 import builds
+import companion
 import trees
 from conf import environment
 from debian import say
 from known import Known
 from runs import Runs, told
+from texts import Causes
 
 HERE = pathlib.Path(__file__).resolve().parent
 # What the trees' own tools are built with, and the compiler for arm64: each program with its packages and what they go by.
@@ -60,22 +63,31 @@ def flat(tree, place):
     return made.parent, made.name
 
 
-def one_tree(name, place, kconf, known):
+def kconf_tree():
+    """The companion that runs kconf on trees."""
+    return os.environ.get("KCONF_TREE") or str(HERE.parent.parent / "tools" / "kconf-tree")
+
+
+def one_tree(name, place, kconf, known, causes):
     """All runs of a tree."""
     began = time.monotonic()
     tree = trees.TREES[name](place)
     print(f"{name}: {tree.kconfig}", flush=True)
-    runs = Runs(tree, kconf, flat(tree, place), place.folder / "runs" / name)
-    summary = told(tree, runs.all(place.none), known)
+    runs = Runs(tree, kconf, kconf_tree(), flat(tree, place), place.folder / "runs" / name, known)
+    summary = told(tree, runs.all(place.none), known, causes)
     print(f"  {time.monotonic() - began:.0f} s", flush=True)
     return summary
 
 
 def table(summaries):
     """The summary of all trees."""
-    print(f"\n{'tree':<14}{'configurations':>15}{'values compared':>17}{'differing':>11}{'known':>7}{'faults':>8}")
+    heads = (15, "configurations"), (17, "values compared"), (11, "differing"), (7, "known"), (12, "full same"), (14, "minimal same"), (15, "unknown lines"), (8, "faults")
+    print(f"\n{'tree':<14}" + "".join(f"{head:>{width}}" for width, head in heads))
     for each in summaries:
-        print(f"{each.tree:<14}{each.configurations:>15}{each.compared:>17}{each.differing:>11}{each.known:>7}{each.faults:>8}")
+        minimal = f"{each.minimal}/{each.with_minimal}" if each.with_minimal else "-"
+        full = f"{each.full}/{each.configurations}"
+        row = each.configurations, each.compared, each.differing, each.known, full, minimal, each.unknown_lines, each.faults
+        print(f"{each.tree:<14}" + "".join(f"{value:>{width}}" for value, (width, _) in zip(row, heads)))
 
 
 def build_linux(place, kconf, known):
@@ -94,16 +106,22 @@ def main():
     place = trees.Place(folder)
     programs(place)
     library(place)
-    known, names = Known(), sys.argv[1:] or list(trees.TREES)
-    summaries = [one_tree(name, place, kconf, known) for name in names]
+    known, causes, names = Known(), Causes(), sys.argv[1:] or list(trees.TREES)
+    summaries = [one_tree(name, place, kconf, known, causes) for name in names]
     table(summaries)
-    for entry in known.unmet(names):
+    for entry in known.unmet(names) + causes.unmet(names):
         print(f"known, and not met: {' '.join(entry)}")
     print()
-    built = [builds.pair(name, BUILDS[name], place.tree(name), place.folder / "build", kconf) for name in names if name in BUILDS]
+    done = [builds.pair(name, BUILDS[name], place.tree(name), place.folder / "build", kconf) for name in names if name in BUILDS]
     if "linux-x86" in names:
-        built.append(build_linux(place, kconf, known))
-    sys.exit(not all(built) or any(each.faults or each.differing > each.known for each in summaries))
+        done.append(build_linux(place, kconf, known))
+        done.append(companion.strict(kconf, place.folder / "flat" / "linux-x86.Kconfig", place.folder / "strict"))
+    for name in names:
+        if name in companion.TREES:
+            done.append(companion.trials(trees.TREES[name](place), kconf_tree(), kconf, place.folder / "companion" / name))
+    if "u-boot" in names:
+        done.append(boards.Boards(trees.u_boot(place), kconf_tree(), kconf, place.folder / "boards").all())
+    sys.exit(not all(done) or any(each.faults or each.unknown_lines or each.differing > each.known for each in summaries))
 
 
 if __name__ == "__main__":

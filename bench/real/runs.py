@@ -7,6 +7,7 @@ import shutil
 import subprocess
 
 import dotconfig
+import texts
 from conf import environment
 from trees import DOLLAR
 
@@ -16,13 +17,16 @@ MODES = [("allyesconfig", 0), ("allnoconfig", 0)] + [("randconfig", seed) for se
 
 @dataclasses.dataclass
 class Outcome:
-    """One run: what differs as (symbol, here, there), how many symbols were compared, and what else went wrong."""
+    """One run: what differs as (symbol, here, there), how many symbols were compared, and what else went wrong.
+
+    `files` has for each file that both tools wrote, `full` and `minimal`, what differs as (side, line): nothing if it is the same.
+    """
 
     start: str
     differs: list = dataclasses.field(default_factory=list)
     compared: int = 0
     faults: list = dataclasses.field(default_factory=list)
-    lines: tuple = (0, 0, 0)
+    files: dict = dataclasses.field(default_factory=dict)
 
 
 @dataclasses.dataclass
@@ -35,13 +39,17 @@ class Summary:
     differing: int = 0
     known: int = 0
     faults: int = 0
+    full: int = 0
+    minimal: int = 0
+    with_minimal: int = 0
+    unknown_lines: int = 0
 
 
 class Runs:
     """The runs of one tree, over its flat file where it has one."""
 
-    def __init__(self, tree, kconf, flat, work):
-        self.tree, self.kconf, self.work = tree, kconf, work
+    def __init__(self, tree, kconf, companion, flat, work, known):
+        self.tree, self.kconf, self.companion, self.work, self.known = tree, kconf, companion, work, known
         self.root, self.kconfig = flat
         shutil.rmtree(work, ignore_errors=True)
         work.mkdir(parents=True)
@@ -91,9 +99,35 @@ class Runs:
                 here, there = self.here(f"{made}.config"), dotconfig.lines(theirs, self.tree.prefix)
                 names, outcome.compared = dotconfig.differing(here, there)
                 outcome.differs = [(symbol, here.get(symbol, "no line"), there.get(symbol, "no line")) for symbol in names]
+                self.bytes(start, made, theirs, outcome)
         except RuntimeError as error:
             outcome.faults.append(str(error))
         return outcome
+
+    def with_companion(self, start, made, outcome):
+        """Runs kconf-tree from a start, and looks whether it gives the values that the steps by hand gave."""
+        options = [word for word in self.tree.flattened if word not in ("--dollar", DOLLAR)]
+        command = [self.companion, *options, "--prefix", self.tree.prefix, "--config", str(start)]
+        command += ["--out", f"{made}.tree.config", "--savedefconfig", f"{made}.tree.min", self.tree.kconfig]
+        told = {**self.tree.settings, "KCONF": str(self.kconf), "XDG_CACHE_HOME": str(self.work / "cache")}
+        ran = subprocess.run(command, cwd=self.tree.folder, stdin=subprocess.DEVNULL, capture_output=True, env=environment(told), check=False)
+        if ran.returncode:
+            raise RuntimeError(f"kconf-tree ended with status {ran.returncode}: {ran.stderr.decode(errors='replace').splitlines()[-1:]}")
+        by_hand, found = self.here(f"{made}.config"), dotconfig.lines(f"{made}.tree.config", self.tree.prefix)
+        for name in sorted(by_hand.keys() | found.keys()):
+            pair = by_hand.get(name, "no line"), found.get(name, "no line")
+            if pair[0] != pair[1] and not self.known.reason(self.tree.name, name, *pair):
+                outcome.faults.append(f"{name} is {pair[0]} by hand and {pair[1]} by kconf-tree")
+
+    def bytes(self, start, made, theirs, outcome):
+        """Compares the full and the minimal file byte for byte with those of the tree's own tool."""
+        ours = f"{made}.tree" if self.tree.flattened is not None else str(made)
+        if self.tree.flattened is not None:
+            self.with_companion(start, made, outcome)
+        outcome.files["full"] = texts.differing(f"{ours}.config", theirs)
+        minimal = theirs.with_suffix(".theirs.min")
+        if self.tree.tool.minimal(theirs, minimal):
+            outcome.files["minimal"] = texts.differing(f"{ours}.min", minimal)
 
     def all(self, none):
         """All runs, some at once, in order."""
@@ -102,9 +136,32 @@ class Runs:
             return list(pool.map(lambda pair: self.one(pair[0], pair[1], none), enumerate(names)))
 
 
-def told(tree, outcomes, known):
+def files(tree, outcomes, causes, summary):
+    """Counts the files that are the same byte for byte, and prints the causes of what differs in the others."""
+    summary.full = sum(outcome.files.get("full") == [] for outcome in outcomes)
+    summary.minimal = sum(outcome.files.get("minimal") == [] for outcome in outcomes)
+    summary.with_minimal = sum("minimal" in outcome.files for outcome in outcomes)
+    met = {}
+    for outcome in outcomes:
+        for file, found in outcome.files.items():
+            for side, line in found:
+                cause = causes.cause(tree.name, file, side, line)
+                summary.unknown_lines += cause is None
+                lines = met.setdefault((file, cause or "NOT KNOWN"), {})
+                lines.setdefault((side, line), set()).add(outcome.start)
+    for (file, cause), lines in sorted(met.items()):
+        starts = set().union(*lines.values())
+        (side, line), _ = min(lines.items())
+        print(f"  {file} file, {cause}: {len(lines)} lines in {len(starts)} files, as {side}: {line}")
+        if cause == "NOT KNOWN":
+            for side, line in sorted(lines)[:20]:
+                print(f"    {side}: {line}, from {min(lines[side, line])}")
+
+
+def told(tree, outcomes, known, causes):
     """Prints what differs in the runs of a tree, each symbol once for each reason, and gives the summary."""
     summary, groups = Summary(tree.name, len(outcomes)), {}
+    files(tree, outcomes, causes, summary)
     for outcome in outcomes:
         summary.compared += outcome.compared
         summary.differing += len(outcome.differs)

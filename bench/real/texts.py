@@ -33,9 +33,9 @@ class Causes:
 
 
 def lines_of(path):
-    """The lines of a file, but empty ones."""
+    """The lines of a file, but empty ones and the `#` round a title."""
     text = pathlib.Path(path).read_bytes().decode("utf-8", "surrogateescape")
-    return [line for line in text.split("\n") if line]
+    return [line for line in text.split("\n") if line not in ("", "#")]
 
 
 def differing(ours, theirs):
@@ -47,4 +47,4 @@ def differing(ours, theirs):
     common = here & there
     if [line for line in lines_of(ours) if line in common] != [line for line in lines_of(theirs) if line in common]:
         found.append(("order", ""))
-    return found or [("here", "")]
+    return found or [("order", "")]
