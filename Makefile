@@ -9,11 +9,11 @@ build:
 
 # Installs the program, the companions, man pages and completions below $(PREFIX). DESTDIR is put before it, for packages.
 install: build
-	install -D -m 755 crates/kconf/out/kconf $(DESTDIR)$(PREFIX)/bin/kconf
-	install -D -m 755 tools/kconf-flatten $(DESTDIR)$(PREFIX)/bin/kconf-flatten
-	install -D -m 644 man/kconf.1 $(DESTDIR)$(PREFIX)/share/man/man1/kconf.1
-	install -D -m 644 completions/kconf.bash $(DESTDIR)$(PREFIX)/share/bash-completion/completions/kconf
-	install -D -m 644 completions/_kconf $(DESTDIR)$(PREFIX)/share/zsh/site-functions/_kconf
+	install -D -m 755 -t $(DESTDIR)$(PREFIX)/bin crates/kconf/out/kconf tools/kconf-flatten tools/kconf-tree
+	install -D -m 644 -t $(DESTDIR)$(PREFIX)/share/man/man1 man/kconf.1 man/kconf-flatten.1 man/kconf-tree.1
+	install -D -m 644 -t $(DESTDIR)$(PREFIX)/share/zsh/site-functions completions/_kconf completions/_kconf-flatten completions/_kconf-tree
+	for it in kconf kconf-flatten kconf-tree; do \
+		install -D -m 644 completions/$$it.bash $(DESTDIR)$(PREFIX)/share/bash-completion/completions/$$it || exit; done
 
 # Packs what install installs, the licences and the documents into dist/kconf-VERSION-linux-x86_64.tar.gz, and writes its
 # SHA-256 checksum beside it.
@@ -44,9 +44,10 @@ case:
 cases:
 	crates/kconf_cases/run.py $(KCONF)
 
-# Tests kconf-flatten: kconf on the flat files of small trees beside kconfiglib on the trees themselves.
+# Tests the companions on small trees: kconf on their flat files beside kconfiglib on the trees themselves, and kconf-tree.
 flatten-test: build
 	tools/tests/flatten.py
+	tools/tests/tree.py
 
 # Tries every mutant, those of the gate too: the prover must refuse each. It proves the crates below each first, so it takes hours.
 mutants:
@@ -60,7 +61,7 @@ bench: build
 shapes: build
 	bench/shapes.sh
 
-# Runs the trees of others, fetched from Debian by apt, beside their own tools, and builds some of them with kconf.
+# Runs kconf and kconf-tree on real trees, fetched from Debian by apt, beside the trees' own tools, and builds some of them.
 real: build
 	bench/real.sh
 
