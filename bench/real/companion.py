@@ -12,6 +12,8 @@ from conf import environment
 TREES = ("busybox", "coreboot", "u-boot", "linux-x86")
 COUNTING = '#!/bin/sh\necho run >> "{log}"\nexec "{flatten}" "$@"\n'
 COMPILER = '#!/bin/sh\nif [ "$1" = --version ]; then echo "gcc {version}"; exit; fi\nexec gcc "$@"\n'
+# Variables that trees ask for, and other values of them.
+CHANGED = {"KERNELVERSION": "9.9", "UBOOTVERSION": "9.9", "LC_ALL": "POSIX"}
 # What a second run may take on top of kconf, in seconds of a processor.
 MOST_SECONDS = 0.15
 LOCATED = re.compile(r"(.+?):(\d+): warning K[1-6]: ")
@@ -90,9 +92,9 @@ class Trial:
             self.expect("the run after it", False)
         self.expect("the file as it was", True)
         asked = [line.split(" ")[1] for line in self.record() if line.startswith("variable ")]
-        for name in {"KERNELVERSION", "UBOOTVERSION"} & set(asked):
-            self.expect(f"a changed {name}", True, **{name: "9.9"})
-            self.expect("the run after it", False, **{name: "9.9"})
+        for name in CHANGED.keys() & set(asked):
+            self.expect(f"a changed {name}", True, **{name: CHANGED[name]})
+            self.expect("the run after it", False, **{name: CHANGED[name]})
             self.expect(f"{name} as it was", True)
         if "CC" in asked:
             self.script(self.compiler, COMPILER.format(version="two"))

@@ -73,7 +73,9 @@ def one_tree(name, place, kconf, known, causes):
     began = time.monotonic()
     tree = trees.TREES[name](place)
     print(f"{name}: {tree.kconfig}", flush=True)
-    runs = Runs(tree, kconf, kconf_tree(), flat(tree, place), place.folder / "runs" / name, known)
+    root, kconfig = flat(tree, place)
+    causes.read(root / kconfig)
+    runs = Runs(tree, kconf, kconf_tree(), (root, kconfig), place.folder / "runs" / name, known)
     summary = told(tree, runs.all(place.none), known, causes)
     print(f"  {time.monotonic() - began:.0f} s", flush=True)
     return summary
@@ -106,8 +108,8 @@ def main():
     place = trees.Place(folder)
     programs(place)
     library(place)
-    known, causes, names = Known(), Causes(), sys.argv[1:] or list(trees.TREES)
-    summaries = [one_tree(name, place, kconf, known, causes) for name in names]
+    known, causes, names = Known(), Causes(), sys.argv[1:] or [*trees.TREES, "boards"]
+    summaries = [one_tree(name, place, kconf, known, causes) for name in names if name in trees.TREES]
     table(summaries)
     for entry in known.unmet(names) + causes.unmet(names):
         print(f"known, and not met: {' '.join(entry)}")
@@ -119,7 +121,7 @@ def main():
     for name in names:
         if name in companion.TREES:
             done.append(companion.trials(trees.TREES[name](place), kconf_tree(), kconf, place.folder / "companion" / name))
-    if "u-boot" in names:
+    if "boards" in names:
         done.append(boards.Boards(trees.u_boot(place), kconf_tree(), kconf, place.folder / "boards").all())
     sys.exit(not all(done) or any(each.faults or each.unknown_lines or each.differing > each.known for each in summaries))
 

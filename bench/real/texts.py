@@ -1,13 +1,17 @@
 """Two files byte for byte, and the causes of what differs.
 
 lines.txt has TREE | FILE | SIDE | LINE | CAUSE on each line: FILE is `full` or `minimal`; SIDE is `here` or `there`, the file that
-has the line, or `order` if both have the same lines in another order. TREE and LINE are patterns of a shell. CAUSE is the title of
-a paragraph of docs/trees.md.
+has the line, or `order` if both have the same lines in another order. TREE and LINE are patterns of a shell; `<implied>` in LINE
+stands for a symbol that the tree implies. CAUSE is the title of a paragraph of docs/trees.md.
 """
 
 import collections
 import fnmatch
 import pathlib
+import re
+
+NAME = re.compile(r"(?:# )?CONFIG_(\w+)")
+IMPLIED = re.compile(r"(?m)^\s*imply (\w+)")
 
 
 class Causes:
@@ -17,15 +21,25 @@ class Causes:
         text = pathlib.Path(__file__).with_name("lines.txt").read_text()
         told = [line for line in text.splitlines() if line and not line.startswith("#")]
         self.entries = [tuple(part.strip() for part in line.split(" | ", 4)) for line in told]
-        self.met = set()
+        self.met, self.implied = set(), set()
+
+    def read(self, kconfig):
+        """Takes the implied symbols of a tree from its root file, which is the flat one if the tree has one."""
+        self.implied = set(IMPLIED.findall(kconfig.read_text(errors="replace")))
 
     def cause(self, *found):
         """The cause for a line of a tree's file, or None."""
         for entry in self.entries:
-            if all(map(fnmatch.fnmatchcase, found, entry)):
+            if all(map(fnmatch.fnmatchcase, found, self.patterns(entry, found[3]))):
                 self.met.add(entry)
                 return entry[4]
         return None
+
+    def patterns(self, entry, line):
+        """The patterns of an entry of the list, for a line with the name of a symbol."""
+        name = NAME.match(line)
+        implied = name[1] if name and name[1] in self.implied else "<implied>"
+        return [part.replace("<implied>", implied) for part in entry[:4]]
 
     def unmet(self, trees):
         """The entries of these trees that no run met."""

@@ -40,9 +40,10 @@ class Place:
         """Where the source of a tree stands."""
         return self.folder / "trees" / name
 
-    def package(self, name, *more):
-        """A binary package, unpacked, with those that it is of no use without."""
-        return self.debian.unpack([name, *more], self.folder / "packages" / name.replace(":", "-"))
+    def package(self, name, *more, release=None):
+        """A binary package, unpacked, with those that it needs; of another release of Debian where one is named."""
+        debian = Debian(self.folder / f"debian-{release}", release) if release else self.debian
+        return debian.unpack([name, *more], self.folder / "packages" / name.replace(":", "-"))
 
     def source(self, package, release=None, name=None):
         """A source package, unpacked; of another release of Debian where one is named."""
@@ -139,13 +140,18 @@ def linux_tree(place):
     return folder
 
 
-def linux(place, name, architecture, cross, package):
-    """The kernel for an architecture, with the kernel configurations of Debian's package."""
-    folder = linux_tree(place)
+def linux_settings(folder, architecture, cross):
+    """What the kernel's Makefile gives its conf."""
     compiler = cross + "gcc-12"
     settings = {"srctree": ".", "ARCH": architecture, "SRCARCH": architecture, "KERNELVERSION": say(["make", "-s", "kernelversion"], cwd=folder).strip()}
     settings |= {"CC": compiler, "LD": cross + "ld", "NM": cross + "nm", "OBJCOPY": cross + "objcopy", "HOSTCC": "gcc", "HOSTCXX": "g++"}
-    settings |= {"CC_VERSION_TEXT": first_line(compiler), "RUSTC": "rustc", "BINDGEN": "bindgen", "PAHOLE": "pahole"}
+    return settings | {"CC_VERSION_TEXT": first_line(compiler), "RUSTC": "rustc", "BINDGEN": "bindgen", "PAHOLE": "pahole"}
+
+
+def linux(place, name, architecture, cross, package):
+    """The kernel for an architecture, with the kernel configurations of Debian's package."""
+    folder = linux_tree(place)
+    settings = linux_settings(folder, architecture, cross)
     tool = conf.Conf(place.conf(folder, "scripts/kconfig"), folder, "Kconfig", settings)
     starts = configurations(folder, f"arch/{architecture}/configs/*")
     for packed in sorted((place.package(package) / "usr/src/linux-config-6.1").glob("config.*.xz")):
@@ -154,6 +160,17 @@ def linux(place, name, architecture, cross, package):
         config.write_bytes(lzma.decompress(packed.read_bytes()))
         starts[packed.stem] = config
     return Tree(name, folder, "Kconfig", tool, settings, flattened=["--dollar", DOLLAR], starts=starts)
+
+
+def linux_new(place):
+    """A kernel whose own conf is newer than 6.12, from Debian's testing release."""
+    folder = place.tree("linux-7.2")
+    if not folder.exists():
+        unpack_archive(place.package("linux-source-7.2", release="forky") / "usr/src/linux-source-7.2.tar.xz", folder)
+    settings = linux_settings(folder, "x86", "")
+    program = conf.build(folder / "scripts/kconfig", place.folder / "conf/linux-7.2", ["-I", str(folder / "scripts/include")])
+    tool = conf.Conf(program, folder, "Kconfig", settings)
+    return Tree("linux-7.2", folder, "Kconfig", tool, settings, flattened=["--dollar", DOLLAR], starts=configurations(folder, "arch/x86/configs/*"))
 
 
 def linux_x86(place):
@@ -174,4 +191,5 @@ TREES = {
     "u-boot": u_boot,
     "linux-x86": linux_x86,
     "linux-arm64": linux_arm64,
+    "linux-7.2": linux_new,
 }
