@@ -218,6 +218,11 @@ def test_depfile(folder):
     names = ["./Kconfig", "./deep/Kconfig", "./deep/er/Kconfig", "./parts/one/Kconfig", r"s\ \#1.config"]
     wanted = " \\\n ".join(["o:", *names]) + "\n" + "".join(f"\n{name}:\n" for name in names)
     expect(faults, "text", place.text("d"), wanted)
+    ran = place.run("--depfile", "d", "--out", "a=b", "Kconfig")
+    expect(faults, "a name that make cannot read", (ran.returncode, ran.stderr, os.path.exists(place.path("a=b"))),
+           (1, "kconf-tree: error: make cannot read the name a=b\n", False))
+    place.run("--depfile", "d", "--out", "o%", "Kconfig", "s #1.config")
+    expect(faults, "a target", place.text("d").splitlines()[0], "o\\%: \\")
     flat = os.path.join(folder, "flat")
     ran = compare.flatten(place.tree, flat, ("--quiet", "--depfile", "d2"), place.environment)
     expect(faults, "kconf-flatten", ran.returncode, 0)
