@@ -4,7 +4,7 @@ use Rattle.kc_make.proofs.rule.needs_backslash.Given as goal
 
 -- `\`s were passed
 abbrev pub invariant-along : goal.invariant-along
-invariant-along l = needs_backslash l.bytes ≡ needs_backslash l.rest
+invariant-along l = needs_backslash l.at l.bytes ≡ needs_backslash l.at l.rest
 
 abbrev pub decreases-along : goal.decreases-along
 decreases-along l = length l.rest

@@ -1,0 +1,124 @@
+//! The names that make reads in a rule.
+
+ghost use Rattle.std.specs.Prelude.{◌≡◌, false};
+ghost use Rattle.std.specs.List.{list_any};
+ghost use Rattle.std.specs.Option.{option_map};
+ghost use Rattle.kc_expr.specs.Names.{same_name};
+ghost use Rattle.kc_make.specs.Rules.{ends_in, first_unreadable, is_beyond_make, is_library, is_plain, is_read_by_make, unreadable_of, without_dots};
+ghost use Rattle.kc_make.specs.Rules as spec;
+
+use kc_expr::expression::SymId;
+use kc_expr::names::Names;
+use kc_load::begins_with_slash;
+
+// Whether make reads the byte as more than a part of a name, also behind a `\`.
+fn is_beyond_make(byte: u8) -> bool
+    ensures { result ≡ is_beyond_make byte }
+{
+    matches!(byte, 0 | 9..=13 | b'=' | b';' | b'*' | b'?' | b'[')
+}
+
+// Whether such a byte is in the name.
+fn has_beyond_make(name: &[u8]) -> bool
+    ensures { result ≡ list_any is_beyond_make name.now }
+{
+    name.iter().any(|byte| is_beyond_make(*byte))
+}
+
+// Whether the last byte of the text is one of these.
+pub(crate) fn ends_in(bytes: &[u8], text: &[u8]) -> bool
+    ensures { result ≡ ends_in bytes.now text.now }
+{
+    match text.last() {
+        Some(last) => bytes.contains(last),
+        None => false,
+    }
+}
+
+// The name without the `./`s at its front.
+fn without_dots(name: &[u8]) -> &[u8]
+    ensures { result.now ≡ without_dots false name.now }
+{
+    let mut rest = name;
+    let mut behind_dot = false;
+    'along: while let [byte, behind @ ..] = rest {
+        let is_left_out = *byte == b'/' && behind_dot || *byte == b'.' && begins_with_slash(behind);
+        if !is_left_out {
+            return rest;
+        }
+        behind_dot = true;
+        rest = behind;
+    }
+    rest
+}
+
+// Whether the name is that of a target that says how make works.
+fn is_special_target(name: &[u8]) -> bool
+    ensures { result ≡ list_any (same_name name.now) spec.special_targets }
+{
+    name == b".DEFAULT".as_slice()
+        || name == b".DELETE_ON_ERROR".as_slice()
+        || name == b".EXPORT_ALL_VARIABLES".as_slice()
+        || name == b".IGNORE".as_slice()
+        || name == b".INTERMEDIATE".as_slice()
+        || name == b".LOW_RESOLUTION_TIME".as_slice()
+        || name == b".NOTINTERMEDIATE".as_slice()
+        || name == b".NOTPARALLEL".as_slice()
+        || name == b".ONESHELL".as_slice()
+        || name == b".PHONY".as_slice()
+        || name == b".POSIX".as_slice()
+        || name == b".PRECIOUS".as_slice()
+        || name == b".SECONDARY".as_slice()
+        || name == b".SECONDEXPANSION".as_slice()
+        || name == b".SILENT".as_slice()
+        || name == b".SUFFIXES".as_slice()
+        || name == b".WAIT".as_slice()
+}
+
+// Whether make looks for the name among its libraries.
+fn is_library(name: &[u8]) -> bool
+    ensures { result ≡ is_library name.now }
+{
+    match name {
+        [first, second, ..] => *first == b'-' && *second == b'l',
+        _ => false,
+    }
+}
+
+// Whether the name is no home folder, no library and no special target.
+fn is_plain(name: &[u8]) -> bool
+    ensures { result ≡ is_plain name.now }
+{
+    match name {
+        [] => false,
+        [first, ..] => *first != b'~' && !is_library(name) && !is_special_target(name),
+    }
+}
+
+// Whether make reads the name as it is, where it stands in a rule.
+fn is_read_by_make(name: &[u8]) -> bool
+    ensures { result ≡ is_read_by_make name.now }
+{
+    !has_beyond_make(name) && !ends_in(b" &)", name) && is_plain(without_dots(name))
+}
+
+/// Returns the first name of a rule that make cannot read: that of `out`, or else the first one of the files.
+///
+/// GNU make 4.3 cannot read a name with a tab, a line feed or another of the bytes 9 to 13 in it, nor one with `=`, `;`, `*`,
+/// `?` or `[`, nor one that ends in a blank, `&` or `)`. A `~` at the front is a home folder, and `-l` a library. Names such as `.PHONY` tell
+/// make how to work. Before the last three make leaves out each `./` at the front. Some of these names it can read in some
+/// places, if they are written with care; they are refused all the same (our own). It takes no memory.
+pub fn unreadable_name<'n>(out: &'n [u8], files: &'n Names) -> Option<&'n [u8]>
+    ensures { option_map (λ name. name.now) result ≡ unreadable_of out.now files.now }
+{
+    if !is_read_by_make(out) {
+        return Some(out);
+    }
+    for i in 0..files.count() {
+        let name = files.name(SymId(i));
+        if !is_read_by_make(name) {
+            return Some(name);
+        }
+    }
+    None
+}
