@@ -4,7 +4,7 @@ use Rattle.std.specs.List.{range_with_len}
 use Rattle.std.proofs.lemmas.List.FromFn.{get_or-map-range_with_len, length-map-range_with_len}
 use Rattle.kc_expr.specs.Value.{SymbolValue, TextValue}
 use Rattle.kc_expr.specs.declared.expression.Kind.TheVariants.{Undefined}
-use Rattle.kc_make.specs.Opened.{OpenedAreThere}
+use Rattle.kc_make.specs.Opened.{AreOpened, OpenedAreThere}
 use Rattle.kc_read.specs.Existing.{HasOneExpansion}
 use Rattle.kc_read.specs.Expansion.{Refused}
 use Rattle.kc_read.specs.Files.{Files}
@@ -22,9 +22,9 @@ use Rattle.kc_solve.specs.Solved.{Solution, value_of}
 use Rattle.kc_dot.specs.Reading.{StreamLocation}
 use Rattle.kc_dot.specs.Streams.{StreamsLeavePlaces}
 use Rattle.kc_conf.specs.declared.options.Options.{Options}
-use Rattle.kc_conf.specs.ErrorLines.{refusal_line, too_long_line}
+use Rattle.kc_conf.specs.ErrorLines.{refusal_line, too_long_line, unreadable_line}
 use Rattle.kc_conf.specs.Existence.{AcceptedHaveAnOutcome, AnswerExists, OutcomeExists, SolutionExists}
-use Rattle.kc_conf.specs.Outcome.{IsAcceptedTree, IsLenientOutcome, IsOutcome, IsOutcomeOfReading, IsRefusedTree, Outcome, accepted_tree, lines_text, long_line, looped, names_of, no_tree, noted, outcome_of, read_of, refused, refused_tree, root_file, streams, strictly, whole, with_rule}
+use Rattle.kc_conf.specs.Outcome.{IsAcceptedTree, IsLenientOutcome, IsOutcome, IsOutcomeOfReading, IsRefusedTree, Outcome, accepted_tree, lines_text, long_line, looped, names_of, no_tree, noted, outcome_of, read_of, refused, refused_name, refused_tree, root_file, streams, strictly, unreadable_name, whole, with_rule}
 
 -- ---- a solution
 
@@ -86,10 +86,9 @@ module _ (expands : HasOneExpansion) (either : order.AcceptedOrUnordered) (named
 -- ---- an outcome
 
 -- with warnings refused and the rule for make written, where that is asked for
-ended : OpenedAreThere → (files : Files) (options : Options) (all : List (List ℕ)) (lenient : Outcome) → IsLenientOutcome files options all lenient →
-    (outcome : Outcome) × IsOutcome files options all outcome
-ended there files options all lenient is =
-    let (opened, are) = there files (root_file options) in
+ended : (files : Files) (options : Options) (opened all : List (List ℕ)) (lenient : Outcome) → AreOpened files (root_file options) opened →
+    IsLenientOutcome files options opened all lenient → (outcome : Outcome) × IsOutcome files options all outcome
+ended files options opened all lenient are is =
     (with_rule options opened (strictly options.strict lenient), (lenient, opened, is, are, refl))
 
 module _ (opens : OpenedAreThere) (formed : TreesAreWellFormed) (leaves : StreamsLeavePlaces) (solved : SolutionExists) where
@@ -103,11 +102,20 @@ module _ (opens : OpenedAreThere) (formed : TreesAreWellFormed) (leaves : Stream
 
   pub accepted_outcome : AcceptedHaveAnOutcome
   accepted_outcome files options all tree accepted =
-      let (rest, part) = of_stop files options all tree accepted (read_of options tree all).stopped refl in
-      ended opens files options all (noted (lines_text tree.warnings) rest) (accepted_tree tree accepted (rest, part, refl))
+      let (opened, are) = opens files (root_file options) in
+      by opened are (unreadable_name options opened) refl
+    where
+      by : (opened : List (List ℕ)) → AreOpened files (root_file options) opened → (found : Option (List ℕ)) → unreadable_name options opened ≡ found →
+          (outcome : Outcome) × IsOutcome files options all outcome
+      by opened are (Some name) unread = ended files options opened all (refused (unreadable_line name)) are (refused_name tree name accepted unread refl)
+      by opened are None read =
+          let (rest, part) = of_stop files options all tree accepted (read_of options tree all).stopped refl in
+          ended files options opened all (noted (lines_text tree.warnings) rest) are (accepted_tree tree accepted read (rest, part, refl))
 
   pub outcome_exists : AnswerExists → OutcomeExists
   outcome_exists answer files options all = elim (answer files (root_file options)) [
     | inl a ↦ accepted_outcome files options all a.0 a.1
-    | inr b ↦ ended opens files options all (refused (refusal_line b.0)) (refused_tree b.0 b.1 refl)
+    | inr b ↦
+        let (opened, are) = opens files (root_file options) in
+        ended files options opened all (refused (refusal_line b.0)) are (refused_tree b.0 b.1 refl)
   ]

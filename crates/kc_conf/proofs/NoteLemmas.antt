@@ -1,6 +1,8 @@
 -- What an outcome adds to the notes is whole lines.
-use Rattle.std.proofs.Common.{◌≡◌, ℕ, Bool, true, false, List, [], ◌∷◌, ◌++◌, codes, refl, sym, ap, subst, ◌∙◌, append_assoc, append-nil, Option, Some, None}
-use Rattle.std.specs.Prelude.{decimal, if◌then◌else◌, ◌&&◌}
+use Rattle.std.proofs.Common.{◌≡◌, ℕ, ◌+◌, ◌<◌, length, take, drop, get_or, Bool, true, false, List, [], ◌∷◌, ◌++◌, codes, refl, sym, ap, subst, ◌∙◌, append_assoc, append-nil, Option, Some, None}
+use Rattle.std.specs.Prelude.{decimal, if◌then◌else◌, ◌&&◌, ◌==◌}
+use Rattle.std.proofs.lemmas.List.{drop_more, take_more}
+use Rattle.kc_text.specs.Bytes.{byte}
 use Rattle.kc_read.specs.Expansion.{Refused}
 use Rattle.kc_read.specs.Files.{Files}
 use Rattle.kc_read.specs.declared.refusal.Code.{Code}
@@ -10,8 +12,8 @@ use Rattle.kc_user.specs.Places.{no_places}
 use Rattle.kc_solve.specs.Solved.{warnings}
 use Rattle.kc_dot.specs.Limits.{longest_dot_line}
 use Rattle.kc_dot.specs.Reading.{StreamLocation, lines_of}
-use Rattle.kc_conf.specs.ErrorLines.{error_if_at, message_before, message_behind, refusal_line, strict_line, too_long_line}
-use Rattle.kc_conf.specs.Outcome.{AreLines, IsLenientOutcome, IsOutcomeOfReading, NotesAreLines, Outcome, accepted_tree, depfile_text, has_text, is_done, lines_text, long_line, lost_warnings, names_of, noted, outcome_of, read_of, refused, refused_tree, streams, strictly, text_if, whole}
+use Rattle.kc_conf.specs.ErrorLines.{error_if_at, first_line, message_before, message_behind, refusal_line, strict_line, too_long_line}
+use Rattle.kc_conf.specs.Outcome.{AreLines, IsLenientOutcome, IsOutcomeOfReading, NotesAreLines, Outcome, accepted_tree, depfile_text, has_text, is_done, lines_text, long_line, lost_warnings, names_of, noted, outcome_of, read_of, refused, refused_name, refused_tree, streams, strictly, whole}
 use Rattle.kc_conf.specs.declared.options.Options.{Options}
 use Rattle.kc_conf.proofs.PartLemmas.{AreLines-append, AreLines-nothing, AreLines-reading}
 
@@ -55,6 +57,24 @@ AreLines-refusal r = AreLines-at r.location (message_before r.code ++ r.detail) 
 AreLines-too_long : (stop : StreamLocation) → AreLines (too_long_line stop)
 AreLines-too_long stop = AreLines-at (Some (stop.stream, stop.number)) (codes "E17: line longer than " ++ decimal longest_dot_line) (codes " bytes\n") (codes " bytes", refl)
 
+-- ---- the bytes before the first line feed
+
+module _ (name : List ℕ) (i : ℕ) (within : i < length name) where
+  line_at : take i name ++ first_line (drop i name) ≡ take i name ++ (if get_or name i 0 == byte "\n" then [] else get_or name i 0 ∷ first_line (drop (i + 1) name))
+  line_at = ap (λ l. take i name ++ first_line l) (drop_more name i 0 within)
+
+  -- a line feed ends them
+  pub line_here : (get_or name i 0 == byte "\n") ≡ true → take i name ++ first_line (drop i name) ≡ take i name
+  line_here is =
+      line_at ∙ ap (λ b. take i name ++ (if b then [] else get_or name i 0 ∷ first_line (drop (i + 1) name))) is ∙ append-nil (take i name)
+
+  -- another byte is one of them
+  pub line_more : (get_or name i 0 == byte "\n") ≡ false → take i name ++ first_line (drop i name) ≡ take (i + 1) name ++ first_line (drop (i + 1) name)
+  line_more is =
+      line_at ∙ ap (λ b. take i name ++ (if b then [] else get_or name i 0 ∷ first_line (drop (i + 1) name))) is
+      ∙ sym (append_assoc (take i name) (get_or name i 0 ∷ []) (first_line (drop (i + 1) name)))
+      ∙ ap (λ l. l ++ first_line (drop (i + 1) name)) (sym (take_more name i 0 within))
+
 -- ---- an outcome
 
 -- its warnings are whole lines, and so is its refusal
@@ -73,9 +93,11 @@ of_reading options tree all outcome (whole solution none solves is) =
     (AreLines-reading tree options.prefix (lines_of (streams (names_of options) all)) (no_places tree))
     (AreLines-append (lines_text (warnings solution)) (lines_text (lost_warnings options solution)) (warnings solution, refl) (lost_warnings options solution, refl), AreLines-nothing))
 
-of_lenient : (files : Files) (options : Options) (all : List (List ℕ)) (outcome : Outcome) → IsLenientOutcome files options all outcome → AddsLines outcome
-of_lenient files options all outcome (refused_tree r is_refused is) = subst AddsLines (sym is) (AreLines-nothing, AreLines-refusal r)
-of_lenient files options all outcome (accepted_tree tree accepted (rest, read, is)) =
+of_lenient : (files : Files) (options : Options) (opened all : List (List ℕ)) (outcome : Outcome) → IsLenientOutcome files options opened all outcome → AddsLines outcome
+of_lenient files options opened all outcome (refused_tree r is_refused is) = subst AddsLines (sym is) (AreLines-nothing, AreLines-refusal r)
+of_lenient files options opened all outcome (refused_name tree name accepted unread is) =
+    subst AddsLines (sym is) (AreLines-nothing, AreLines-line (codes "error E23: make cannot read the name " ++ first_line name))
+of_lenient files options opened all outcome (accepted_tree tree accepted named (rest, read, is)) =
     subst AddsLines (sym is) (AddsLines-noted (lines_text tree.warnings) rest (tree.warnings, refl) (of_reading options tree all rest read))
 
 if_strict : (b : Bool) (outcome : Outcome) → AddsLines outcome → AddsLines (if b then record (refused strict_line) { warned = outcome.warned } else outcome)
@@ -83,7 +105,7 @@ if_strict true outcome adds = (adds.0, AreLines-line (codes "error E21: warnings
 if_strict false outcome adds = adds
 
 if_ruled : (b : Bool) (options : Options) (opened : List (List ℕ)) (outcome : Outcome) → AddsLines outcome →
-    AddsLines (if b then record outcome { depfile = text_if options.depfile (depfile_text options opened) } else outcome)
+    AddsLines (if b then record outcome { depfile = depfile_text options opened } else outcome)
 if_ruled true options opened outcome adds = adds
 if_ruled false options opened outcome adds = adds
 
@@ -92,5 +114,5 @@ notes_are_lines files options all outcome (lenient, opened, is_lenient, are, is)
     let strict = strictly options.strict lenient in
     let adds = subst AddsLines (sym is)
     (if_ruled (is_done strict.status) options opened strict
-    (if_strict (is_done lenient.status && (options.strict && has_text lenient.warned)) lenient (of_lenient files options all lenient is_lenient))) in
+    (if_strict (is_done lenient.status && (options.strict && has_text lenient.warned)) lenient (of_lenient files options opened all lenient is_lenient))) in
     AreLines-append outcome.warned outcome.refusal adds.0 adds.1

@@ -18,8 +18,8 @@ use Rattle.kc_solve.specs.Refused.{IsLoopText, loop_refused}
 use Rattle.kc_solve.specs.Solved.{Solution, value_of}
 use Rattle.kc_dot.specs.Reading.{ReadResult}
 use Rattle.kc_conf.specs.declared.options.Options.{Options}
-use Rattle.kc_conf.specs.ErrorLines.{refusal_line, too_long_line}
-use Rattle.kc_conf.specs.Outcome.{Outcome, IsLenientOutcome, OneAnswer, OneOutcome, strictly, noted, lines_text, refused, outcome_of, read_of, root_file, IsRefusedTree, no_tree, looped, IsAcceptedTree, IsSolutionFor, refused_tree, accepted_tree, IsOutcomeOfReading, IsOutcomeOfTree, long_line, whole, with_rule}
+use Rattle.kc_conf.specs.ErrorLines.{refusal_line, too_long_line, unreadable_line}
+use Rattle.kc_conf.specs.Outcome.{Outcome, IsLenientOutcome, OneAnswer, OneOutcome, strictly, noted, lines_text, refused, outcome_of, read_of, root_file, IsRefusedTree, no_tree, looped, IsAcceptedTree, IsSolutionFor, refused_tree, refused_name, accepted_tree, IsOutcomeOfReading, IsOutcomeOfTree, long_line, whole, with_rule}
 use Rattle.std.proofs.lemmas.List.{ext_get_or}
 
 -- ---- trees
@@ -104,12 +104,22 @@ one_rest options tree read a b (whole s none solves is) (long_line stop long is'
 one_rest options tree read a b (whole s none solves is) (whole t none' solves' is') =
     is ∙ ap (λ x. noted read.warned (outcome_of options tree x)) (one_solution tree read.places s t solves solves') ∙ sym is'
 
-one_lenient : OneAnswer → (files : Files) (options : Options) (all : List (List ℕ)) (a b : Outcome) → IsLenientOutcome files options all a → IsLenientOutcome files options all b → a ≡ b
-one_lenient law files options all a b (refused_tree r first is) (refused_tree s second is') =
-    is ∙ ap (λ x. refused (refusal_line x)) (law.one_refusal files (root_file options) r s first second) ∙ sym is'
-one_lenient law files options all a b (refused_tree r first is) (accepted_tree tree second rest) = absurd (law.not_both files (root_file options) r tree first second)
-one_lenient law files options all a b (accepted_tree tree first rest) (refused_tree r second is) = absurd (law.not_both files (root_file options) r tree second first)
-one_lenient law files options all a b (accepted_tree tree first (rest, part, is)) (accepted_tree other second (more, part', is')) =
+-- over a refused tree it is the refusal
+lenient_refused : OneAnswer → (files : Files) (options : Options) (opened all : List (List ℕ)) (a : Outcome) (r : Refused) → IsRefusedTree files (root_file options) r →
+    IsLenientOutcome files options opened all a → a ≡ refused (refusal_line r)
+lenient_refused law files options opened all a r why (refused_tree s first is) = is ∙ ap (λ x. refused (refusal_line x)) (law.one_refusal files (root_file options) s r first why)
+lenient_refused law files options opened all a r why (refused_name tree name accepted unread is) = absurd (law.not_both files (root_file options) r tree why accepted)
+lenient_refused law files options opened all a r why (accepted_tree tree accepted read rest) = absurd (law.not_both files (root_file options) r tree why accepted)
+
+one_lenient : OneAnswer → (files : Files) (options : Options) (opened all : List (List ℕ)) (a b : Outcome) → IsLenientOutcome files options opened all a → IsLenientOutcome files options opened all b → a ≡ b
+one_lenient law files options opened all a b (refused_tree r first is) second = is ∙ sym (lenient_refused law files options opened all b r first second)
+one_lenient law files options opened all a b (refused_name tree name first unread is) (refused_tree r second is') = absurd (law.not_both files (root_file options) r tree second first)
+one_lenient law files options opened all a b (refused_name tree name first unread is) (refused_name tree' name' second unread' is') =
+    is ∙ ap (λ n. refused (unreadable_line n)) (ap (some_or name) (sym unread ∙ unread')) ∙ sym is'
+one_lenient law files options opened all a b (refused_name tree name first unread is) (accepted_tree other second read rest) = absurd (let e : Some name ≡ None = sym unread ∙ read in cc)
+one_lenient law files options opened all a b (accepted_tree tree first read rest) (refused_tree r second is) = absurd (law.not_both files (root_file options) r tree second first)
+one_lenient law files options opened all a b (accepted_tree tree first read rest) (refused_name other name second unread is) = absurd (let e : Some name ≡ None = sym unread ∙ read in cc)
+one_lenient law files options opened all a b (accepted_tree tree first read (rest, part, is)) (accepted_tree other second read' (more, part', is')) =
     let same : other ≡ tree = law.one_accepted files (root_file options) other tree second first in
     let part'' : IsOutcomeOfReading options tree (read_of options tree all) more = subst (λ t. IsOutcomeOfReading options t (read_of options t all) more) same part' in
     is ∙ ap (noted (lines_text tree.warnings)) (one_rest options tree (read_of options tree all) rest more part part'')
@@ -137,13 +147,16 @@ one_opened law files root tree opened others accepted are are' =
 pub one_outcome_law : OneAnswer → OpenedAreOne → OneOutcome
 one_outcome_law law one files options all a b (lenient, opened, first, are, is) (other, others, second, are', is') = by first
   where
-    same : lenient ≡ other
-    same = one_lenient law files options all lenient other first second
+    accepts : (tree : TreeFacts) → IsAcceptedTree files (root_file options) tree → a ≡ b
+    accepts tree accepted =
+        let same : opened ≡ others = one_opened one files (root_file options) tree opened others accepted are are' in
+        let second' : IsLenientOutcome files options opened all other = subst (λ l. IsLenientOutcome files options l all other) (sym same) second in
+        is ∙ ap (λ l. with_rule options l (strictly options.strict lenient)) same
+        ∙ ap (λ o. with_rule options others (strictly options.strict o)) (one_lenient law files options opened all lenient other first second') ∙ sym is'
 
-    by : IsLenientOutcome files options all lenient → a ≡ b
+    by : IsLenientOutcome files options opened all lenient → a ≡ b
     by (refused_tree r why was) =
         is ∙ ap (λ o. with_rule options opened (strictly options.strict o)) was
-        ∙ ap (λ o. with_rule options others (strictly options.strict o)) (sym was ∙ same) ∙ sym is'
-    by (accepted_tree tree accepted part) =
-        is ∙ ap (λ l. with_rule options l (strictly options.strict lenient)) (one_opened one files (root_file options) tree opened others accepted are are')
-        ∙ ap (λ o. with_rule options others (strictly options.strict o)) same ∙ sym is'
+        ∙ ap (λ o. with_rule options others (strictly options.strict o)) (sym (lenient_refused law files options others all other r why second)) ∙ sym is'
+    by (refused_name tree name accepted unread was) = accepts tree accepted
+    by (accepted_tree tree accepted read part) = accepts tree accepted

@@ -23,7 +23,7 @@ use Rattle.kc_dot.specs.Prefixes.{is_prefix}
 use Rattle.kc_dot.proofs.EntryLemmas.{config_text-same}
 use Rattle.kc_dot.proofs.SolutionLemmas.{solution_of}
 use Rattle.kc_conf.specs.declared.options.Options.{Options}
-use Rattle.kc_conf.specs.Outcome.{IsAcceptedTree, IsLenientOutcome, IsOutcomeOfReading, IsRefusedTree, IsSolutionFor, OneAnswer, Outcome, accepted_tree, lines_text, long_line, names_of, noted, outcome_of, read_of, refused_tree, root_file, streams, strictly, text_if, whole, with_rule}
+use Rattle.kc_conf.specs.Outcome.{IsAcceptedTree, IsLenientOutcome, IsOutcomeOfReading, IsRefusedTree, IsSolutionFor, OneAnswer, Outcome, accepted_tree, lines_text, long_line, names_of, noted, outcome_of, read_of, refused_name, refused_tree, root_file, streams, strictly, text_if, unreadable_name, whole, with_rule}
 use Rattle.kc_conf.proofs.OutcomeLemmas.{strictly-config, strictly-minimal, strictly-off}
 use Rattle.kc_conf.proofs.RuleLemmas.{rule-config, rule-minimal}
 use Rattle.kc_conf.specs.Reruns.{AreAlone, ConfigIsReadAgain, OutcomesAreReadAgain, RefusesNothing, MinimalIsReadAgain, MinimalIsRunAgain, TextsHaveShortLines, WrittenAreWhole}
@@ -42,11 +42,13 @@ rest_whole files options all tree rest outcome text accepted (long_line stop sto
 rest_whole files options all tree rest outcome text accepted (whole solution none solves is) from there =
     (tree, solution, record { accepted = accepted; read_whole = none; solution_is = solves }, from ∙ ap (noted (lines_text tree.warnings)) is)
 
-lenient_whole : (files : Files) (options : Options) (all : List (List ℕ)) (outcome : Outcome) (text : List ℕ) → IsLenientOutcome files options all outcome →
+lenient_whole : (files : Files) (options : Options) (opened all : List (List ℕ)) (outcome : Outcome) (text : List ℕ) → IsLenientOutcome files options opened all outcome →
     outcome.config ≡ Some text → Values files options all outcome
-lenient_whole files options all outcome text (refused_tree r why is) there =
+lenient_whole files options opened all outcome text (refused_tree r why is) there =
     absurd (let e : None ≡ Some text = sym (ap (λ (o : Outcome). o.config) is) ∙ there in cc)
-lenient_whole files options all outcome text (accepted_tree tree accepted (rest, part, is)) there =
+lenient_whole files options opened all outcome text (refused_name tree name why unread is) there =
+    absurd (let e : None ≡ Some text = sym (ap (λ (o : Outcome). o.config) is) ∙ there in cc)
+lenient_whole files options opened all outcome text (accepted_tree tree accepted read (rest, part, is)) there =
     rest_whole files options all tree rest outcome text accepted part is there
 
 pub written_whole : WrittenAreWhole
@@ -54,7 +56,7 @@ written_whole files options all outcome text (lenient, opened, is_lenient, are, 
     let part : Outcome = strictly options.strict lenient in
     let has : part.config ≡ Some text = sym (rule-config options opened part) ∙ sym (ap (λ (o : Outcome). o.config) is) ∙ there in
     let same : part ≡ lenient = strictly-config options.strict lenient part text refl has in
-    let (tree, solution, is_whole, values) = lenient_whole files options all lenient text is_lenient (sym (ap (λ (o : Outcome). o.config) same) ∙ has) in
+    let (tree, solution, is_whole, values) = lenient_whole files options opened all lenient text is_lenient (sym (ap (λ (o : Outcome). o.config) same) ∙ has) in
     (tree, solution, is_whole, (opened, are, is ∙ ap (with_rule options opened) (same ∙ values)))
 
 -- ---- the texts read again
@@ -140,11 +142,13 @@ config_same tree prefix s t a b values =
     ∙ ap (λ vs. config_text tree prefix (valuation_view tree (place_at t.places) (valued vs))) values
     ∙ ap (λ (f : TreeFacts). config_text tree prefix (valuation_view f (place_at t.places) (value_of t))) (sym b)
 
-minimal_whole : (files : Files) (options : Options) (all : List (List ℕ)) (outcome : Outcome) (text : List ℕ) → IsLenientOutcome files options all outcome →
+minimal_whole : (files : Files) (options : Options) (opened all : List (List ℕ)) (outcome : Outcome) (text : List ℕ) → IsLenientOutcome files options opened all outcome →
     outcome.minimal ≡ Some text → Values files options all outcome
-minimal_whole files options all outcome text (refused_tree r why is) there =
+minimal_whole files options opened all outcome text (refused_tree r why is) there =
     absurd (let e : None ≡ Some text = sym (ap (λ (o : Outcome). o.minimal) is) ∙ there in cc)
-minimal_whole files options all outcome text (accepted_tree tree accepted (rest, part, from)) there = by part
+minimal_whole files options opened all outcome text (refused_name tree name why unread is) there =
+    absurd (let e : None ≡ Some text = sym (ap (λ (o : Outcome). o.minimal) is) ∙ there in cc)
+minimal_whole files options opened all outcome text (accepted_tree tree accepted read (rest, part, from)) there = by part
   where
     by : IsOutcomeOfReading options tree (read_of options tree all) rest → Values files options all outcome
     by (long_line stop stopped is) =
@@ -199,22 +203,24 @@ module _ (answer : OneAnswer) (again : MinimalIsReadAgain) (files : Files) (opti
         ∙ ap (λ p. Some (config_text tree p (solution_view other))) same.prefix
         ∙ ap Some (config_same tree options.prefix other solution for.tree_is is.solution_is.tree_is values)
 
-    of_outcome : (later : Outcome) → IsLenientOutcome files alone (text ∷ []) later → later.config ≡ Some (config_text tree options.prefix (solution_view solution))
-    of_outcome later (refused_tree r why was) =
+    of_outcome : (opened : List (List ℕ)) (later : Outcome) → unreadable_name alone opened ≡ None → IsLenientOutcome files alone opened (text ∷ []) later →
+        later.config ≡ Some (config_text tree options.prefix (solution_view solution))
+    of_outcome opened later read_all (refused_tree r why was) =
         absurd (answer.not_both files (root_file options) r tree (subst (λ root. IsRefusedTree files root r) same.root why) is.accepted)
-    of_outcome later (accepted_tree other accepted (rest, part, was)) =
+    of_outcome opened later read_all (refused_name other name accepted unread was) = absurd (let e : Some name ≡ None = sym unread ∙ read_all in cc)
+    of_outcome opened later read_all (accepted_tree other accepted named (rest, part, was)) =
         let trees : other ≡ tree = answer.one_accepted files (root_file options) other tree (subst (λ root. IsAcceptedTree files root other) same.root accepted) is.accepted in
         let part' : IsOutcomeOfReading alone tree (read_of alone tree (text ∷ [])) rest = subst (λ t. IsOutcomeOfReading alone t (read_of alone t (text ∷ [])) rest) trees part in
         ap (λ (o : Outcome). o.config) was ∙ of_reading rest part'
 
 pub minimal_run_again : OneAnswer → MinimalIsReadAgain → MinimalIsRunAgain
-minimal_run_again answer again files options alone all outcome later text is_pre same lets_pass (lenient, opened, is_lenient, are, is_outcome) there (later_lenient, others, second, are_too, was) =
+minimal_run_again answer again files options alone all outcome later text is_pre same lets_pass read_all (lenient, opened, is_lenient, are, is_outcome) there (later_lenient, others, second, are_too, was) =
     let part : Outcome = strictly options.strict lenient in
     let has : part.minimal ≡ Some text = sym (rule-minimal options opened part) ∙ sym (ap (λ (o : Outcome). o.minimal) is_outcome) ∙ there in
     let unchanged : part ≡ lenient = strictly-minimal options.strict lenient part text refl has in
     let has_too : lenient.minimal ≡ Some text = sym (ap (λ (o : Outcome). o.minimal) unchanged) ∙ has in
-    let (tree, solution, is, from) = minimal_whole files options all lenient text is_lenient has_too in
+    let (tree, solution, is, from) = minimal_whole files options opened all lenient text is_lenient has_too in
     let text_is : minimal_text tree options.prefix (solution_view solution) ≡ text = text_if_is options.minimal _ text (sym (ap (λ (o : Outcome). o.minimal) from) ∙ has_too) in
     ap (λ (o : Outcome). o.config) was ∙ rule-config alone others (strictly alone.strict later_lenient) ∙ ap (λ (o : Outcome). o.config) (strictly-off alone.strict later_lenient lets_pass)
-    ∙ of_outcome answer again files options alone all text is_pre same tree solution is text_is later_lenient second
+    ∙ of_outcome answer again files options alone all text is_pre same tree solution is text_is others later_lenient (read_all others are_too) second
     ∙ sym (ap (λ (o : Outcome). o.config) is_outcome ∙ rule-config options opened part ∙ ap (λ (o : Outcome). o.config) (unchanged ∙ from))

@@ -6,7 +6,7 @@ use Rattle.kc_conf.specs.declared.options.Options.{Options}
 use Rattle.kc_conf.specs.ErrorLines.{strict_line}
 use Rattle.kc_conf.specs.FaultParts.{BreaksFile}
 use Rattle.kc_conf.specs.Faults.{BreaksRun, Completes, StopsNotes, finished, in_file, in_notes, not_begun, up_to}
-use Rattle.kc_conf.specs.Outcome.{IsOutcomeOfReading, IsOutcomeOfTree, Outcome, depfile_text, is_done, has_text, long_line, notes_of, read_of, refused, strictly, text_if, whole, with_rule}
+use Rattle.kc_conf.specs.Outcome.{IsOutcomeOfReading, IsOutcomeOfTree, Outcome, depfile_text, is_done, has_text, long_line, notes_of, read_of, refused, strictly, whole, with_rule}
 use Rattle.kc_conf.specs.OutputStates.{OutputStates, made_if, with_text}
 use Rattle.kc_conf.specs.Rules.{BreaksInRule, EndsWithRule}
 use Rattle.kc_conf.specs.declared.run_fault.RunFault.{RunFault}
@@ -23,15 +23,18 @@ not_done Usage is_not = refl
 not_done Faulted is_not = refl
 
 -- a run that is not done ends without it
-pub EndsWithRule-not_done : (options : Options) (opened : List (List ℕ)) (status : Status) (old : OutputStates) → status ≢ Done → EndsWithRule options opened status status old old
-EndsWithRule-not_done options opened status old is_not =
-    (refl, ap (λ b. if b then made_if Depfile (text_if options.depfile (depfile_text options opened)) old else old) (sym (not_done status is_not)))
+pub EndsWithRule-not_done : (rule : Option (List ℕ)) (status : Status) (old : OutputStates) → status ≢ Done → EndsWithRule rule status status old old
+EndsWithRule-not_done rule status old is_not = (refl, ap (λ b. if b then made_if Depfile rule old else old) (sym (not_done status is_not)))
+
+-- a run that is done ends with it
+pub EndsWithRule-done : (rule : Option (List ℕ)) (status : Status) (old new : OutputStates) → status ≡ Done → new ≡ made_if Depfile rule old → EndsWithRule rule status status old new
+EndsWithRule-done rule status old new is made = subst (λ s. EndsWithRule rule s s old new) (sym is) (refl, made)
 
 -- ---- what the rule leaves as it is
 
 module _ (options : Options) (opened : List (List ℕ)) where
   abbrev text : Option (List ℕ)
-  text = text_if options.depfile (depfile_text options opened)
+  text = depfile_text options opened
 
   abbrev ruled : Outcome → Outcome
   ruled o = record o { depfile = text }
@@ -88,7 +91,7 @@ module _ (options : Options) (opened : List (List ℕ)) where
   turn_of_rule o mid old none was = was ∙ ap (λ t. made_if Depfile t (up_to Depfile o old)) none
 
   pub Completes-rule : (o : Outcome) (status ended : Status) (old mid new : OutputStates) → o.depfile ≡ None → Completes o status old mid →
-      EndsWithRule options opened status ended mid new → Completes (with_rule options opened o) ended old new
+      EndsWithRule (depfile_text options opened) status ended mid new → Completes (with_rule options opened o) ended old new
   Completes-rule o status ended old mid new none (is, was) (same, left) =
       by (is_done o.status) (left ∙ ap (λ s. if is_done s then made_if Depfile text mid else mid) is)
     where
@@ -97,7 +100,7 @@ module _ (options : Options) (opened : List (List ℕ)) where
       by false e = (same ∙ is, e ∙ was)
 
   pub BreaksRun-in_rule : (o : Outcome) (status : Status) (fault : RunFault) (old mid new : OutputStates) → o.depfile ≡ None → Completes o status old mid →
-      BreaksInRule options opened status fault mid new → BreaksRun (with_rule options opened o) fault old new
+      BreaksInRule (depfile_text options opened) status fault mid new → BreaksRun (with_rule options opened o) fault old new
   BreaksRun-in_rule o status fault old mid new none (is, was) (done, breaks) =
       let wrote : is_done o.status ≡ true = ap is_done (sym is ∙ done) in
       let turn : mid ≡ up_to Depfile o old = turn_of_rule o mid old none was in

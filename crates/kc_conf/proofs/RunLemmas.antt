@@ -10,11 +10,11 @@ use Rattle.kc_solve.specs.Solved.{Solution, warnings}
 use Rattle.kc_dot.specs.Reading.{ReadResult, StreamLocation, reading, lines_of}
 use Rattle.kc_dot.specs.Sink.{BeginsWith}
 use Rattle.kc_conf.specs.declared.options.Options.{Options}
-use Rattle.kc_conf.specs.ErrorLines.{refusal_line, too_long_line}
+use Rattle.kc_conf.specs.ErrorLines.{refusal_line, too_long_line, unreadable_line}
 use Rattle.kc_conf.specs.FaultParts.{IsNoInputFault, StrikesNotes, IsNotesFault}
 use Rattle.kc_conf.specs.Faults.{Completes, BreaksRun, CountsInputs, StopsNotes, after_fault, in_notes}
 use Rattle.kc_conf.specs.InputBytes.{AreAllToCome}
-use Rattle.kc_conf.specs.Outcome.{AreLines, Outcome, has_text, IsLenientOutcome, strictly, noted, lines_text, refused, outcome_of, lost_warnings, read_of, names_of, streams, IsSolutionFor, IsOutcomeOfReading, long_line, whole, IsOutcomeOfTree, OneAnswer, IsAcceptedTree, IsRefusedTree, IsOutcome, refused_tree, accepted_tree, root_file, with_rule}
+use Rattle.kc_conf.specs.Outcome.{AreLines, Outcome, has_text, IsLenientOutcome, strictly, noted, lines_text, refused, outcome_of, lost_warnings, read_of, names_of, streams, IsSolutionFor, IsOutcomeOfReading, long_line, whole, IsOutcomeOfTree, OneAnswer, IsAcceptedTree, IsRefusedTree, IsOutcome, IsRefusedName, NamesAreRead, refused_name, refused_tree, accepted_tree, root_file, unreadable_name, with_rule}
 use Rattle.kc_conf.specs.OutputStates.{OutputStates, BreaksOutput, with_text}
 use Rattle.kc_conf.specs.Presence.{MayStrike, StreamsAreThere}
 use Rattle.kc_conf.specs.ReadFaults.{ReadsUpTo, StopsReading}
@@ -24,7 +24,7 @@ use Rattle.kc_conf.specs.declared.run_fault.RunFault.TheVariants.{Write, Memory}
 use Rattle.kc_conf.specs.declared.run_fault.RunFault.TheVariants as why
 use Rattle.kc_conf.specs.declared.options.Status.{Status}
 use Rattle.kc_conf.specs.declared.outputs.Output.TheVariants.{Notes}
-use Rattle.kc_conf.specs.Rules.{BreaksInRule, EndsWithRule}
+use Rattle.kc_conf.specs.Rules.{AreListed, BreaksInRule, EndsWithRule, rule_of, unreadable_among}
 use Rattle.kc_conf.proofs.Once.{one_of_tree, one_opened, one_solution}
 use Rattle.kc_conf.proofs.RuleLemmas.{BreaksRun-before_rule, BreaksRun-in_rule, Completes-rule, no_rule}
 use Rattle.kc_conf.proofs.OutputLemmas.{with_text-with_text}
@@ -330,62 +330,105 @@ BreaksRun-warnings options tree all lines old new is broke outcome (part, is_par
 -- an accepted tree is the only answer of its files
 pub BreaksRun-outcome_of_tree : OneAnswer → (files : Files) (options : Options) (tree : TreeFacts) (all : List (List ℕ)) (fault : RunFault)
     (old new : OutputStates) → IsAcceptedTree files (root_file options) tree →
-    ((part : Outcome) (opened : List (List ℕ)) → IsOutcomeOfTree options tree all part → AreOpened files (root_file options) opened →
+    NamesAreRead files options → ((part : Outcome) (opened : List (List ℕ)) → IsOutcomeOfTree options tree all part → AreOpened files (root_file options) opened →
     BreaksRun (with_rule options opened (strictly options.strict part)) fault old new) →
     (outcome : Outcome) → IsOutcome files options all outcome → BreaksRun outcome fault old new
-BreaksRun-outcome_of_tree law files options tree all fault old new accepted broken outcome (lenient, opened, is_lenient, are, is) = by is_lenient where
-  by : IsLenientOutcome files options all lenient → BreaksRun outcome fault old new
+BreaksRun-outcome_of_tree law files options tree all fault old new accepted read broken outcome (lenient, opened, is_lenient, are, is) = by is_lenient where
+  by : IsLenientOutcome files options opened all lenient → BreaksRun outcome fault old new
   by (refused_tree r is_refused was) = absurd (law.not_both files (root_file options) r tree is_refused accepted)
-  by (accepted_tree other second was) =
+  by (refused_name other name second unread was) = absurd (let e : Some name ≡ None = sym unread ∙ read opened are in cc)
+  by (accepted_tree other second named was) =
       let of_tree : IsOutcomeOfTree options tree all lenient = subst (λ t. IsOutcomeOfTree options t all lenient) (law.one_accepted files (root_file options) other tree second accepted) was in
       subst (λ o. BreaksRun o fault old new) (sym is) (broken lenient opened of_tree are)
 
 -- a run over an accepted tree breaks off before its rule for make
 pub BreaksRun-accepted : OneAnswer → (files : Files) (options : Options) (tree : TreeFacts) (all : List (List ℕ)) (fault : RunFault) (old new : OutputStates) →
-    IsAcceptedTree files (root_file options) tree →
+    IsAcceptedTree files (root_file options) tree → NamesAreRead files options →
     ((part : Outcome) → IsOutcomeOfTree options tree all part → BreaksRun (strictly options.strict part) fault old new) →
     (outcome : Outcome) → IsOutcome files options all outcome → BreaksRun outcome fault old new
-BreaksRun-accepted law files options tree all fault old new accepted broken =
-    BreaksRun-outcome_of_tree law files options tree all fault old new accepted
+BreaksRun-accepted law files options tree all fault old new accepted read broken =
+    BreaksRun-outcome_of_tree law files options tree all fault old new accepted read
     (λ part opened is are. BreaksRun-before_rule options opened (strictly options.strict part) fault old new (no_rule options tree all part is)
     (broken part is))
 
 -- or in it
 pub BreaksRun-accepted_rule : OneAnswer → OpenedAreOne →
-    (files : Files) (options : Options) (tree : TreeFacts) (all : List (List ℕ)) (status : Status) (fault : RunFault) (old mid new : OutputStates) →
-    IsAcceptedTree files (root_file options) tree →
+    (files : Files) (options : Options) (names : Option (List (List ℕ))) (tree : TreeFacts) (all : List (List ℕ)) (status : Status) (fault : RunFault) (old mid new : OutputStates) →
+    IsAcceptedTree files (root_file options) tree → NamesAreRead files options →
     (part : Outcome) × IsOutcomeOfTree options tree all part × Completes (strictly options.strict part) status old mid →
-    (opened : List (List ℕ)) × AreOpened files (root_file options) opened × BreaksInRule options opened status fault mid new →
+    AreListed options files names → BreaksInRule (rule_of options names) status fault mid new →
     (outcome : Outcome) → IsOutcome files options all outcome → BreaksRun outcome fault old new
-BreaksRun-accepted_rule law one files options tree all status fault old mid new accepted (part, is_part, finishes) (opened, are, breaks) =
-    BreaksRun-outcome_of_tree law files options tree all fault old new accepted (λ other others is are'.
+BreaksRun-accepted_rule law one files options names tree all status fault old mid new accepted read (part, is_part, finishes) (opened, are, listed) breaks =
+    BreaksRun-outcome_of_tree law files options tree all fault old new accepted read (λ other others is are'.
     let ends : BreaksRun (with_rule options opened (strictly options.strict part)) fault old new =
-    BreaksRun-in_rule options opened (strictly options.strict part) status fault old mid new (no_rule options tree all part is_part) finishes breaks in
+    BreaksRun-in_rule options opened (strictly options.strict part) status fault old mid new (no_rule options tree all part is_part) finishes
+    (subst (λ l. BreaksInRule (rule_of options l) status fault mid new) listed breaks) in
     subst (λ l. BreaksRun (with_rule options l (strictly options.strict other)) fault old new) (one_opened one files (root_file options) tree opened others accepted are are')
     (subst (λ o. BreaksRun (with_rule options opened (strictly options.strict o)) fault old new) (one_of_tree options tree all part other is_part is) ends))
 
 -- it ends with its rule
-pub Completes-accepted : (files : Files) (options : Options) (tree : TreeFacts) (all : List (List ℕ)) (status ended : Status) (old mid new : OutputStates) →
-    IsAcceptedTree files (root_file options) tree →
+pub Completes-accepted : (files : Files) (options : Options) (names : Option (List (List ℕ))) (tree : TreeFacts) (all : List (List ℕ)) (status ended : Status) (old mid new : OutputStates) →
+    IsAcceptedTree files (root_file options) tree → unreadable_among options names ≡ None →
     (part : Outcome) × IsOutcomeOfTree options tree all part × Completes (strictly options.strict part) status old mid →
-    (opened : List (List ℕ)) × AreOpened files (root_file options) opened × EndsWithRule options opened status ended mid new →
+    AreListed options files names → EndsWithRule (rule_of options names) status ended mid new →
     (outcome : Outcome) × IsOutcome files options all outcome × Completes outcome ended old new
-Completes-accepted files options tree all status ended old mid new accepted (part, is_part, finishes) (opened, are, ends) = (
+Completes-accepted files options names tree all status ended old mid new accepted read (part, is_part, finishes) (opened, are, listed) ends = (
   with_rule options opened (strictly options.strict part),
-  (part, opened, accepted_tree tree accepted is_part, are, refl),
-  Completes-rule options opened (strictly options.strict part) status ended old mid new (no_rule options tree all part is_part) finishes ends,
+  (part, opened, accepted_tree tree accepted (sym (ap (unreadable_among options) listed) ∙ read) is_part, are, refl),
+  Completes-rule options opened (strictly options.strict part) status ended old mid new (no_rule options tree all part is_part) finishes
+      (subst (λ l. EndsWithRule (rule_of options l) status ended mid new) listed ends),
 )
+
+-- ---- the names in the rule for make
+
+-- where make can read those that are listed, it can read each
+pub NamesAreRead-listed : OpenedAreOne → (files : Files) (options : Options) (names : Option (List (List ℕ))) (tree : TreeFacts) →
+    IsAcceptedTree files (root_file options) tree → AreListed options files names → unreadable_among options names ≡ None → NamesAreRead files options
+NamesAreRead-listed one files options names tree accepted (opened, are, listed) read others are' =
+    subst (λ l. unreadable_name options l ≡ None) (one_opened one files (root_file options) tree opened others accepted are are')
+    (sym (ap (unreadable_among options) listed) ∙ read)
+
+-- a run over an accepted tree that refuses one of them
+pub Completes-name : (files : Files) (options : Options) (names : Option (List (List ℕ))) (tree : TreeFacts) (name : List ℕ) (all : List (List ℕ)) (status : Status) (old new : OutputStates) →
+    IsAcceptedTree files (root_file options) tree → AreListed options files names → unreadable_among options names ≡ Some name →
+    Completes (refused (unreadable_line name)) status old new → (outcome : Outcome) × IsOutcome files options all outcome × Completes outcome status old new
+Completes-name files options names tree name all status old new accepted (opened, are, listed) unread finishes = (
+  refused (unreadable_line name),
+  (refused (unreadable_line name), opened, refused_name tree name accepted (sym (ap (unreadable_among options) listed) ∙ unread) refl, are, refl),
+  finishes,
+)
+
+-- or breaks off in that line
+pub BreaksRun-name : OneAnswer → OpenedAreOne →
+    (files : Files) (options : Options) (names : Option (List (List ℕ))) (tree : TreeFacts) (name : List ℕ) (all : List (List ℕ)) (fault : RunFault) (old new : OutputStates) →
+    IsAcceptedTree files (root_file options) tree → AreListed options files names → unreadable_among options names ≡ Some name →
+    BreaksRun (refused (unreadable_line name)) fault old new → (outcome : Outcome) → IsOutcome files options all outcome → BreaksRun outcome fault old new
+BreaksRun-name law one files options names tree name all fault old new accepted (opened, are, listed) unread broken outcome (lenient, others, is_lenient, are', is) = by is_lenient where
+  found : unreadable_name options others ≡ Some name
+  found =
+      subst (λ l. unreadable_name options l ≡ Some name) (one_opened one files (root_file options) tree opened others accepted are are')
+      (sym (ap (unreadable_among options) listed) ∙ unread)
+
+  by : IsLenientOutcome files options others all lenient → BreaksRun outcome fault old new
+  by (refused_tree r is_refused was) = absurd (law.not_both files (root_file options) r tree is_refused accepted)
+  by (refused_name other name' second unread' was) =
+      let same : name ≡ name' = let e : Some name ≡ Some name' = sym found ∙ unread' in cc in
+      subst (λ o. BreaksRun o fault old new)
+      (ap (λ n. refused (unreadable_line n)) same
+      ∙ ap (λ o. with_rule options others (strictly options.strict o)) (sym was) ∙ sym is) broken
+  by (accepted_tree other second read was) = absurd (let e : Some name ≡ None = sym found ∙ read in cc)
 
 -- and so is a refused one
 pub BreaksRun-refused_tree : OneAnswer → (files : Files) (options : Options) (r : Refused) (all : List (List ℕ)) (fault : RunFault) (old new : OutputStates) →
     IsRefusedTree files (root_file options) r →
     BreaksRun (refused (refusal_line r)) fault old new → (outcome : Outcome) → IsOutcome files options all outcome → BreaksRun outcome fault old new
 BreaksRun-refused_tree law files options r all fault old new is_refused broken outcome (lenient, opened, is_lenient, are, is) = by is_lenient where
-  by : IsLenientOutcome files options all lenient → BreaksRun outcome fault old new
+  by : IsLenientOutcome files options opened all lenient → BreaksRun outcome fault old new
   by (refused_tree s second was) =
       subst (λ o. BreaksRun o fault old new) (ap (λ x. refused (refusal_line x)) (law.one_refusal files (root_file options) r s is_refused second)
       ∙ ap (λ o. with_rule options opened (strictly options.strict o)) (sym was) ∙ sym is) broken
-  by (accepted_tree tree accepted was) = absurd (law.not_both files (root_file options) r tree is_refused accepted)
+  by (refused_name tree name accepted unread was) = absurd (law.not_both files (root_file options) r tree is_refused accepted)
+  by (accepted_tree tree accepted read was) = absurd (law.not_both files (root_file options) r tree is_refused accepted)
 
 -- a failure of an output changes no count of the inputs
 pub CountsInputs-outputs : (fault : RunFault) (counts : List ℕ) → IsNoInputFault fault → CountsInputs fault counts counts
@@ -398,3 +441,20 @@ pub MayStrike-outputs : (fault : RunFault) (may_fail : List Bool) → IsNoInputF
 MayStrike-outputs (why.Read input) may_fail never = absurd never
 MayStrike-outputs Memory may_fail is = tt
 MayStrike-outputs (Write output) may_fail is = tt
+
+-- where one of the names is refused, not each is read
+pub refused-not_read : (files : Files) (options : Options) (names : Option (List (List ℕ))) (name : List ℕ) → AreListed options files names → unreadable_among options names ≡ Some name →
+    NamesAreRead files options → ⊥
+refused-not_read files options names name (opened, are, listed) unread read =
+    absurd (let e : Some name ≡ None = sym (sym (ap (unreadable_among options) listed) ∙ unread) ∙ read opened are in cc)
+
+-- a name that is found is one
+pub found_not_none : (name : List ℕ) → Some name ≡ None → ⊥
+found_not_none name e = absurd cc
+
+-- the name that is refused is among those that are listed
+pub unreadable-listed : OpenedAreOne → (files : Files) (options : Options) (names : Option (List (List ℕ))) (tree : TreeFacts) → IsAcceptedTree files (root_file options) tree →
+    (name : List ℕ) → AreListed options files names → IsRefusedName files options name → unreadable_among options names ≡ Some name
+unreadable-listed one files options names tree accepted name (opened, are, listed) refused =
+    ap (unreadable_among options) listed
+    ∙ ap (unreadable_name options) (one_opened one files (root_file options) tree opened refused.opened accepted are refused.are_opened) ∙ refused.unreadable

@@ -8,7 +8,7 @@ use Rattle.kc_conf.specs.declared.options.Options.{Options}
 use Rattle.kc_conf.specs.declared.options.Status.{Status}
 use Rattle.kc_conf.specs.declared.options.Status.TheVariants.{Done, Refused as IsRefused, Usage, Faulted}
 use Rattle.kc_conf.specs.ErrorLines.{strict_line}
-use Rattle.kc_conf.specs.Outcome.{IsLenientOutcome, IsOutcome, IsOutcomeOfReading, Outcome, accepted_tree, depfile_text, has_text, is_done, long_line, refused, refused_tree, strictly, text_if, whole}
+use Rattle.kc_conf.specs.Outcome.{IsLenientOutcome, IsOutcome, IsOutcomeOfReading, Outcome, accepted_tree, depfile_text, has_text, is_done, long_line, refused, refused_name, refused_tree, strictly, whole}
 
 abbrev is_faulted : Status → Bool
 is_faulted Done = false
@@ -20,16 +20,17 @@ of_reading : (options : Options) (tree : TreeFacts) (read : ReadResult) (outcome
 of_reading options tree read outcome (long_line stop stopped is) = ap (λ o. is_faulted o.status) is
 of_reading options tree read outcome (whole solution none solves is) = ap (λ o. is_faulted o.status) is
 
-of_lenient : (files : Files) (options : Options) (all : List (List ℕ)) (outcome : Outcome) → IsLenientOutcome files options all outcome → is_faulted outcome.status ≡ false
-of_lenient files options all outcome (refused_tree r x is) = ap (λ o. is_faulted o.status) is
-of_lenient files options all outcome (accepted_tree tree x (rest, read, is)) = ap (λ o. is_faulted o.status) is ∙ of_reading options tree _ rest read
+of_lenient : (files : Files) (options : Options) (opened all : List (List ℕ)) (outcome : Outcome) → IsLenientOutcome files options opened all outcome → is_faulted outcome.status ≡ false
+of_lenient files options opened all outcome (refused_tree r x is) = ap (λ o. is_faulted o.status) is
+of_lenient files options opened all outcome (refused_name tree name x unread is) = ap (λ o. is_faulted o.status) is
+of_lenient files options opened all outcome (accepted_tree tree x named (rest, read, is)) = ap (λ o. is_faulted o.status) is ∙ of_reading options tree _ rest read
 
 if_strict : (strict : Bool) (text : List ℕ) (o : Outcome) → is_faulted o.status ≡ false → is_faulted (if strict then record (refused strict_line) { warned = text } else o).status ≡ false
 if_strict true text o e = refl
 if_strict false text o e = e
 
 if_ruled : (done : Bool) (options : Options) (opened : List (List ℕ)) (o : Outcome) →
-    is_faulted (if done then record o { depfile = text_if options.depfile (depfile_text options opened) } else o).status ≡ is_faulted o.status
+    is_faulted (if done then record o { depfile = depfile_text options opened } else o).status ≡ is_faulted o.status
 if_ruled true options opened o = refl
 if_ruled false options opened o = refl
 
@@ -38,5 +39,5 @@ IsOutcome-not_faulted files options all outcome (lenient, opened, x, are, is) fa
     let strict = strictly options.strict lenient in
     let e : is_faulted outcome.status ≡ false =
     ap (λ o. is_faulted o.status) is ∙ if_ruled (is_done strict.status) options opened strict
-    ∙ if_strict (is_done lenient.status && (options.strict && has_text lenient.warned)) lenient.warned lenient (of_lenient files options all lenient x) in
+    ∙ if_strict (is_done lenient.status && (options.strict && has_text lenient.warned)) lenient.warned lenient (of_lenient files options opened all lenient x) in
     true≢false (sym (ap is_faulted faulted) ∙ e)

@@ -15,7 +15,7 @@ use Rattle.kc_conf.specs.ErrorLines.{refusal_line}
 use Rattle.kc_conf.specs.Faults.{BreaksRun, Completes}
 use Rattle.kc_conf.specs.InputBytes.{AreAllToCome}
 use Rattle.kc_conf.specs.AcceptedTree.{HoldsTree}
-use Rattle.kc_conf.specs.Outcome.{IsAcceptedTree, IsOutcome, IsRefusedTree, looped, no_tree, OneAnswer, Outcome, refused, refused_tree, root_file}
+use Rattle.kc_conf.specs.Outcome.{IsAcceptedTree, IsOutcome, IsRefusedTree, NamesAreRead, looped, no_tree, OneAnswer, Outcome, refused, refused_tree, root_file}
 use Rattle.kc_conf.specs.OutputStates.{OutputStates}
 use Rattle.kc_conf.specs.Presence.{StreamsAreThere}
 use Rattle.kc_conf.specs.ReadFaults.{StopsReading}
@@ -53,7 +53,7 @@ module _ (law : OneAnswer) (there : OpenedAreThere) (files : Files) (options : O
 
   -- the run ends with the line of the refusal
   pub Completes-refusal : (given : List (Option (List ℕ))) (flags : List Bool) (status : Status) (old new : OutputStates) → (r.code ≢ NoMemory) × Completes (refused its_line) status old new →
-      (all : List (List ℕ)) × AreAllToCome given all × ((tree : TreeFacts) → IsAcceptedTree files (root_file options) tree → StreamsAreThere all flags)
+      (all : List (List ℕ)) × AreAllToCome given all × ((tree : TreeFacts) → IsAcceptedTree files (root_file options) tree → NamesAreRead files options → StreamsAreThere all flags)
       × ((outcome : Outcome) × IsOutcome files options all outcome × Completes outcome status old new)
   Completes-refusal given flags status old new (known, finishes) =
       let (opened, are) = there files (root_file options) in (

@@ -1,5 +1,6 @@
 -- Trusted: The error lines (our own).
-use Rattle.std.specs.Prelude.{ℕ, List, ◌++◌, Option, None, Some, codes, decimal}
+use Rattle.std.specs.Prelude.{ℕ, List, [], ◌∷◌, ◌++◌, ◌==◌, if◌then◌else◌, Option, None, Some, codes, decimal}
+use Rattle.kc_text.specs.Bytes.{byte}
 use Rattle.kc_read.specs.Expansion.{Refused}
 use Rattle.kc_read.specs.declared.refusal.Code.{Code}
 use Rattle.kc_read.specs.declared.refusal.Code.TheVariants as code
@@ -76,6 +77,15 @@ cannot_read_line name = codes "error E18: cannot read " ++ name ++ codes "\n"
 -- the error line of a file that cannot be written
 abbrev pub cannot_write_line : List ℕ → List ℕ
 cannot_write_line name = codes "error E19: cannot write " ++ name ++ codes "\n"
+
+-- the bytes before the first line feed
+abbrev pub first_line : List ℕ → List ℕ
+first_line [] = []
+first_line (b ∷ rest) = if b == byte "\n" then [] else b ∷ first_line rest
+
+-- the error line of a name that make cannot read in a dependency file: a name goes on it up to its first line feed
+abbrev pub unreadable_line : List ℕ → List ℕ
+unreadable_line name = codes "error E23: make cannot read the name " ++ first_line name ++ codes "\n"
 
 -- the error line where no memory is to be had
 abbrev pub out_of_memory_line : List ℕ

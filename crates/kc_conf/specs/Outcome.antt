@@ -1,5 +1,6 @@
 -- Trusted: What a run is to leave.
 use Rattle.std.specs.Prelude.{◌≡◌, ℕ, Bool, true, false, ◌&&◌, if◌then◌else◌, List, [], ◌∷◌, ◌++◌, map, flat_map, Option, None, Some, Ok, Err, codes, string_bytes}
+use Rattle.std.specs.Option.{option_map, option_map_or}
 use Rattle.kc_read.specs.Expansion.{Refused}
 use Rattle.kc_read.specs.Files.{Files}
 use Rattle.kc_tree.specs.TreeFacts.{TreeFacts}
@@ -13,8 +14,8 @@ use Rattle.kc_dot.specs.SolvedView.{solution_view}
 use Rattle.kc_dot.specs.Texts.{config_text, header_text, minimal_text}
 use Rattle.kc_conf.specs.declared.options.Options.{Options}
 use Rattle.kc_make.specs.Opened.{AreOpened, prerequisites_of}
-use Rattle.kc_make.specs.Rules.{rule_text}
-use Rattle.kc_conf.specs.ErrorLines.{refusal_line, strict_line, too_long_line}
+use Rattle.kc_make.specs.Rules.{rule_text, unreadable_of}
+use Rattle.kc_conf.specs.ErrorLines.{refusal_line, strict_line, too_long_line, unreadable_line}
 use Rattle.kc_conf.specs.Lost.{lost_lines}
 use Rattle.kc_conf.specs.declared.options.Status.{Status}
 use Rattle.kc_conf.specs.declared.options.Status.TheVariants.{Done, Refused as IsRefused, Usage, Faulted}
@@ -111,6 +112,33 @@ outcome_of options tree solution = record {
   status = Done;
 }
 
+-- ---- the rule for make
+
+-- The names in the rule for make, where it is wanted: the files that the tree opens, by their paths, and the fragments.
+abbrev pub names_listed : Options → List (List ℕ) → Option (List (List ℕ))
+names_listed options opened =
+    option_map (λ name. prerequisites_of (string_bytes options.root) opened (map string_bytes options.fragments.items)) options.depfile
+
+-- the rule: what the file of --out is made of, where the tree opens these files
+abbrev pub depfile_text : Options → List (List ℕ) → Option (List ℕ)
+depfile_text options opened = option_map (rule_text (string_bytes options.out)) (names_listed options opened)
+
+-- the first name in it that make cannot read
+abbrev pub unreadable_name : Options → List (List ℕ) → Option (List ℕ)
+unreadable_name options opened = option_map_or (unreadable_of (string_bytes options.out)) (names_listed options opened) None
+
+-- make can read each name
+abbrev pub NamesAreRead : Files → Options → Type 0
+NamesAreRead files options = (opened : List (List ℕ)) → AreOpened files (root_file options) opened → unreadable_name options opened ≡ None
+
+-- the tree is accepted, and this name is refused
+pub record IsRefusedName (files : Files) (options : Options) (name : List ℕ) : Type 0 where
+  pub tree : TreeFacts
+  pub accepted : IsAcceptedTree files (root_file options) tree
+  pub opened : List (List ℕ)
+  pub are_opened : AreOpened files (root_file options) opened
+  pub unreadable : unreadable_name options opened ≡ Some name
+
 -- ---- the outcome
 
 -- What a run is to leave behind the tree's warnings, where reading the streams gave this: a line that is too long is
@@ -125,10 +153,14 @@ abbrev pub IsOutcomeOfTree : Options → TreeFacts → List (List ℕ) → Outco
 IsOutcomeOfTree options tree all outcome =
     (rest : Outcome) × IsOutcomeOfReading options tree (read_of options tree all) rest × (outcome ≡ noted (lines_text tree.warnings) rest)
 
--- What a run is to leave that lets warnings pass and writes no rule for make, for files, options and the bytes of the streams.
-pub data IsLenientOutcome (files : Files) (options : Options) (all : List (List ℕ)) (outcome : Outcome) : Type 0 where
-  refused_tree : (r : Refused) → IsRefusedTree files (root_file options) r → outcome ≡ refused (refusal_line r) → IsLenientOutcome files options all outcome
-  accepted_tree : (tree : TreeFacts) → IsAcceptedTree files (root_file options) tree → IsOutcomeOfTree options tree all outcome → IsLenientOutcome files options all outcome
+-- What a run is to leave that lets warnings pass and writes no rule for make, for files, options and the bytes of the streams,
+-- where the tree opens these files.
+pub data IsLenientOutcome (files : Files) (options : Options) (opened all : List (List ℕ)) (outcome : Outcome) : Type 0 where
+  refused_tree : (r : Refused) → IsRefusedTree files (root_file options) r → outcome ≡ refused (refusal_line r) → IsLenientOutcome files options opened all outcome
+  refused_name : (tree : TreeFacts) (name : List ℕ) → IsAcceptedTree files (root_file options) tree → unreadable_name options opened ≡ Some name →
+      outcome ≡ refused (unreadable_line name) → IsLenientOutcome files options opened all outcome
+  accepted_tree : (tree : TreeFacts) → IsAcceptedTree files (root_file options) tree → unreadable_name options opened ≡ None →
+      IsOutcomeOfTree options tree all outcome → IsLenientOutcome files options opened all outcome
 
 abbrev pub is_done : Status → Bool
 is_done Done = true
@@ -146,20 +178,15 @@ abbrev pub strictly : Bool → Outcome → Outcome
 strictly strict outcome =
     if is_done outcome.status && (strict && has_text outcome.warned) then record (refused strict_line) { warned = outcome.warned } else outcome
 
--- the rule for make: what the file of --out is made of, where the tree opens these files
-abbrev pub depfile_text : Options → List (List ℕ) → List ℕ
-depfile_text options opened =
-    rule_text (string_bytes options.out) (prerequisites_of (string_bytes options.root) opened (map string_bytes options.fragments.items))
-
--- what writes files writes that rule too, where it is wanted
+-- what writes files writes the rule too, where it is wanted
 abbrev pub with_rule : Options → List (List ℕ) → Outcome → Outcome
 with_rule options opened outcome =
-    if is_done outcome.status then record outcome { depfile = text_if options.depfile (depfile_text options opened) } else outcome
+    if is_done outcome.status then record outcome { depfile = depfile_text options opened } else outcome
 
 -- What a run is to leave, for files, options and the bytes of the streams.
 abbrev pub IsOutcome : Files → Options → List (List ℕ) → Outcome → Type 0
 IsOutcome files options all outcome =
-    (lenient : Outcome) × (opened : List (List ℕ)) × IsLenientOutcome files options all lenient × AreOpened files (root_file options) opened
+    (lenient : Outcome) × (opened : List (List ℕ)) × IsLenientOutcome files options opened all lenient × AreOpened files (root_file options) opened
     × (outcome ≡ with_rule options opened (strictly options.strict lenient))
 
 -- what it adds to the notes is whole lines

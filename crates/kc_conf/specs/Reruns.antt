@@ -11,7 +11,7 @@ use Rattle.kc_dot.specs.Reread.{valuation_view}
 use Rattle.kc_dot.specs.SolvedView.{solution_view}
 use Rattle.kc_dot.specs.Texts.{config_text, minimal_text}
 use Rattle.kc_conf.specs.declared.options.Options.{Options}
-use Rattle.kc_conf.specs.Outcome.{IsAcceptedTree, IsOutcome, IsSolutionFor, Outcome, lines_text, noted, outcome_of, read_of, root_file, with_rule}
+use Rattle.kc_conf.specs.Outcome.{IsAcceptedTree, IsOutcome, IsSolutionFor, NamesAreRead, Outcome, lines_text, noted, outcome_of, read_of, root_file, with_rule}
 
 -- A run that refuses nothing: its tree is accepted, no line of its streams is too long, and these are the values.
 pub record RefusesNothing (files : Files) (options : Options) (all : List (List ℕ)) (tree : TreeFacts) (solution : Solution) : Type 0 where
@@ -68,9 +68,9 @@ pub record AreAlone (options alone : Options) : Type 0 where
   pub prefix : alone.prefix ≡ options.prefix
   pub no_fragments : alone.fragments.items ≡ []
 
--- A run on the minimal file alone, which lets warnings pass, writes the .config that was written with it. (One that
+-- A run on the minimal file alone, which lets warnings pass and whose names make can read, writes the .config that was written with it. (One that
 -- refuses them may write nothing: what that file assigns may be warned of where the streams were not.)
 abbrev pub MinimalIsRunAgain : Type 0
 MinimalIsRunAgain =
-    (files : Files) (options alone : Options) (all : List (List ℕ)) (outcome later : Outcome) (text : List ℕ) → is_prefix options.prefix ≡ true → AreAlone options alone → alone.strict ≡ false →
+    (files : Files) (options alone : Options) (all : List (List ℕ)) (outcome later : Outcome) (text : List ℕ) → is_prefix options.prefix ≡ true → AreAlone options alone → alone.strict ≡ false → NamesAreRead files alone →
     IsOutcome files options all outcome → outcome.minimal ≡ Some text → IsOutcome files alone (text ∷ []) later → later.config ≡ outcome.config

@@ -1,7 +1,7 @@
 //! What a run writes to the notes.
 ghost use Rattle.std.specs.Prelude.{◌≡◌, ◌++◌, codes, OnOk, OnErr, flat_map, map as map_list};
 ghost use Rattle.kc_read.specs.RefusalView.{refusal_view};
-ghost use Rattle.kc_conf.specs.ErrorLines.{error_at, refusal_line, strict_line, too_long_line, message_before, message_behind};
+ghost use Rattle.kc_conf.specs.ErrorLines.{error_at, first_line, refusal_line, strict_line, too_long_line, unreadable_line, message_before, message_behind};
 ghost use Rattle.kc_conf.specs.Faults.{NotesLine, Reports};
 ghost use Rattle.kc_conf.specs.Outcome.{lines_text};
 ghost use Rattle.kc_conf.specs.OutputStates.{with_text, BreaksOutput};
@@ -167,6 +167,33 @@ pub(crate) fn note_strict<O: Outputs>(outputs: &mut O) -> Result<(), Fault>
     ensures err { OnErr result (BreaksOutput Output.Notes strict_line (O.states outputs.old) (O.states outputs.new)) }
 {
     note_text(outputs, b"error E21: warnings are refused\n")
+}
+
+// The bytes before the first line feed.
+fn first_line(name: &[u8]) -> &[u8]
+    ensures { result.now ≡ first_line name.now }
+{
+    for i in 0..name.len() {
+        if name[i] == b'\n' {
+            return &name[..i];
+        }
+    }
+    name
+}
+
+// Writes the error line of a name that make cannot read.
+pub(crate) fn note_unreadable<O: Outputs>(outputs: &mut O, name: &[u8]) -> Result<(), Fault>
+    ensures ok { OnOk result (O.states outputs.new ≡ with_text Output.Notes (unreadable_line name.now) (O.states outputs.old)) }
+    ensures err { OnErr result (BreaksOutput Output.Notes (unreadable_line name.now) (O.states outputs.old) (O.states outputs.new)) }
+{
+    note_parts(
+        outputs,
+        &[
+            b"error E23: make cannot read the name ",
+            first_line(name),
+            b"\n",
+        ],
+    )
 }
 
 // Writes an error line, or as much of it as the notes take.

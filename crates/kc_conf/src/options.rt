@@ -42,7 +42,7 @@ pub struct Options {
 pub enum Status {
     /// The files are written.
     Done,
-    /// The tree, a line of a stream or a warning is refused, and nothing was begun.
+    /// The tree, a name for make, a line of a stream or a warning is refused, and nothing was begun.
     Refused,
     /// The command line is bad. `run` never answers it.
     Usage,

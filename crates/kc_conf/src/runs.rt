@@ -1,28 +1,27 @@
 //! The run over devices.
-ghost use Rattle.std.specs.Prelude.{◌≡◌, ◌≢◌, ◌+◌, ◌||◌, ◌⊎◌, List, ℕ, length, map, Ok, Err, OnOk, IfErr, IfOk};
+ghost use Rattle.std.specs.Prelude.{◌≡◌, ◌≢◌, ◌+◌, ◌||◌, ◌⊎◌, List, ℕ, length, map, Some, Ok, Err, OnOk, IfErr, IfOk};
 ghost use Rattle.kc_read.specs.Expansion.{Refused};
 ghost use Rattle.kc_read.specs.Files.{Files, bytes_in};
 ghost use Rattle.kc_read.specs.RefusalView.{refusal_view};
 ghost use Rattle.kc_read.specs.declared.refusal.Code.TheVariants.{Memory};
-ghost use Rattle.kc_make.specs.Opened.{AreOpened};
 ghost use Rattle.kc_user.specs.Places.{ArePlacesOf};
 ghost use Rattle.kc_tree.specs.TreeFacts.{TreeFacts};
 ghost use Rattle.kc_build.specs.Trees.{IsTreeOf};
 ghost use Rattle.kc_solve.specs.Graphs.{IsGraphOf};
 ghost use Rattle.kc_solve.specs.Solved.{Solution};
 ghost use Rattle.kc_tree.specs.Layouts.{IsLayoutOf};
-ghost use Rattle.kc_conf.specs.ErrorLines.{refusal_line, strict_line, too_long_line};
+ghost use Rattle.kc_conf.specs.ErrorLines.{refusal_line, strict_line, too_long_line, unreadable_line};
 ghost use Rattle.kc_conf.specs.FaultParts.{IsNoInputFault, IsNotesFault};
 ghost use Rattle.kc_conf.specs.Faults.{Completes, BreaksRun, CountsInputs, Faults};
 ghost use Rattle.kc_conf.specs.InputBytes.{AreAllToCome};
 ghost use Rattle.kc_conf.specs.AcceptedTree.{HoldsTree};
-ghost use Rattle.kc_conf.specs.Outcome.{Outcome, has_text, lines_text, outcome_of, refused, strictly, root_file, read_of, IsAcceptedTree, IsRefusedTree, IsSolutionFor, IsOutcome, IsOutcomeOfReading, IsOutcomeOfTree, OneAnswer, OneOutcome};
+ghost use Rattle.kc_conf.specs.Outcome.{Outcome, has_text, lines_text, outcome_of, refused, strictly, root_file, read_of, IsAcceptedTree, IsRefusedName, IsRefusedTree, IsSolutionFor, IsOutcome, IsOutcomeOfReading, IsOutcomeOfTree, NamesAreRead, OneAnswer, OneOutcome};
 ghost use Rattle.kc_conf.specs.OutputStates.{ChangesOnly};
 ghost use Rattle.kc_conf.specs.Presence.{MayStrike, StreamsAreThere};
-ghost use Rattle.kc_conf.specs.Rules.{BreaksInRule, EndsWithRule};
+ghost use Rattle.kc_conf.specs.Rules.{AreListed, BreaksInRule, EndsWithRule, rule_of, unreadable_among};
 ghost use Rattle.kc_conf.specs.Stops.{IsOutOfMemory};
 ghost use Rattle.kc_conf.specs.Leaves.{Keeps, Leaves};
-ghost use Rattle.kc_conf.specs.TreeFiles.{AreAtHand, files_in};
+ghost use Rattle.kc_conf.specs.TreeFiles.{files_in};
 ghost use Rattle.kc_conf.specs.ReadFaults.{StopsReading};
 ghost use Rattle.kc_conf.specs.Reads.{AreRead, StopsStreams, StopsTree, behind_warnings, without_warnings, stop_of, strictly_after};
 ghost use Rattle.kc_conf.specs.declared.run_fault.RunFault.{RunFault};
@@ -30,17 +29,18 @@ ghost use Rattle.kc_conf.specs.declared.run_fault.RunFault.{RunFault};
 use crate::input::Input;
 use crate::laws::exactly_one_outcome;
 use crate::lost::lost_warnings;
-use crate::notes::{note_lines, note_refusal, note_strict, note_too_long, report};
+use crate::notes::{note_lines, note_refusal, note_strict, note_too_long, note_unreadable, report};
 use crate::options::{Options, Status};
 use crate::outputs::{Output, Outputs};
 use crate::reading::LongLine;
 use crate::run_fault::RunFault;
 use crate::stream_warnings::tell_streams;
-use crate::tree_files::{TreeFiles, kept_if};
+use crate::tree_files::{TreeFiles, names_listed, unreadable_among};
 use crate::writing::{make_depfile, make_files};
 use kc_build::laws::one_tree;
 use kc_build::{read_listing, tree_of};
 use kc_dot::Fault;
+use kc_expr::names::Names;
 use kc_make::laws::opened_are_one_list;
 use kc_order::one_named_loop;
 use kc_read::file_map::FileMap;
@@ -93,6 +93,18 @@ fn refuse_warnings<O: Outputs>(outputs: &mut O) -> Result<Status, RunFault>
     ensures fault { IfErr result IsNoInputFault }
 {
     match note_strict(outputs) {
+        Ok(()) => Ok(Status::Refused),
+        Err(Fault) => Err(RunFault::Write(Output::Notes)),
+    }
+}
+
+// Refuses a name that make cannot read.
+fn refuse_name<O: Outputs>(outputs: &mut O, name: &[u8]) -> Result<Status, RunFault>
+    ensures ok { IfOk result (λ status. Completes (refused (unreadable_line name.now)) status (O.states outputs.old) (O.states outputs.new)) }
+    ensures err { IfErr result (λ fault. BreaksRun (refused (unreadable_line name.now)) fault (O.states outputs.old) (O.states outputs.new)) }
+    ensures fault { IfErr result IsNotesFault }
+{
+    match note_unreadable(outputs, name) {
         Ok(()) => Ok(Status::Refused),
         Err(Fault) => Err(RunFault::Write(Output::Notes)),
     }
@@ -263,36 +275,34 @@ fn run_tree<I: Input, O: Outputs>(
 // Writes the rule for make behind the files, where the run wrote them and the rule is wanted.
 fn end_run<O: Outputs>(
     alloc: Global,
-    files: Option<TreeFiles<'_>>,
     options: &Options,
+    names: &Option<Names>,
     status: Status,
     outputs: &mut O,
 ) -> Result<Status, RunFault>
-    ensures ok { IfOk result (λ ended. (tree_files : Files) → AreAtHand options.now.depfile tree_files files.entry
-        → (opened : List (List ℕ)) × AreOpened tree_files (root_file options.now) opened × EndsWithRule options.now opened status ended (O.states outputs.old) (O.states outputs.new)) }
-    ensures err { IfErr result (λ fault. (tree_files : Files) → AreAtHand options.now.depfile tree_files files.entry
-        → (opened : List (List ℕ)) × AreOpened tree_files (root_file options.now) opened × BreaksInRule options.now opened status fault (O.states outputs.old) (O.states outputs.new)) }
+    ensures ok { IfOk result (λ ended. EndsWithRule (rule_of options.now names.now) status ended (O.states outputs.old) (O.states outputs.new)) }
+    ensures err { IfErr result (λ fault. BreaksInRule (rule_of options.now names.now) status fault (O.states outputs.old) (O.states outputs.new)) }
     ensures fault { IfErr result IsNoInputFault }
 {
-    opened_are_one_list();
     if status != Status::Done {
         return Ok(status);
     }
-    let files = match files {
-        Some(files) => files,
+    let names = match names {
+        Some(names) => names,
         None => return Ok(status),
     };
-    match make_depfile(alloc, files.map(), options, outputs) {
+    match make_depfile(alloc, options, names, outputs) {
         Ok(()) => Ok(status),
         Err(fault) => Err(fault),
     }
 }
 
-// Runs over an accepted tree: its warnings, what follows from the streams, and the rule for make.
+// Runs over an accepted tree: refuses a name that make cannot read, or writes the tree's warnings, what follows from the
+// streams, and the rule for make.
 fn run_accepted<I: Input, O: Outputs>(
     alloc: Global,
-    files: Option<TreeFiles<'_>>,
     options: &Options,
+    names: &Option<Names>,
     tree: &Tree,
     layout: &Layout,
     order: &EvaluationOrder,
@@ -302,44 +312,52 @@ fn run_accepted<I: Input, O: Outputs>(
     requires laid { IsLayoutOf tree.now layout.now }
     requires order { IsGraphOf tree.now layout.now order.now }
     requires inputs { length inputs.old ≡ length options.now.fragments.items + 1 }
-    ensures ok { IfOk result (λ status. (tree_files : Files) → IsAcceptedTree tree_files (root_file options.now) tree.now → AreAtHand options.now.depfile tree_files files.entry
-        → (all : List (List ℕ)) × AreRead (map I.remaining inputs.old) (map I.is_there inputs.old) all
-        × ((outcome : Outcome) × IsOutcome tree_files options.now all outcome
+    ensures ok { IfOk result (λ status. (files : Files) → IsAcceptedTree files (root_file options.now) tree.now → AreListed options.now files names.now
+        → (all : List (List ℕ)) × AreAllToCome (map I.remaining inputs.old) all × (NamesAreRead files options.now → StreamsAreThere all (map I.is_there inputs.old))
+        × ((outcome : Outcome) × IsOutcome files options.now all outcome
         × Completes outcome status (O.states outputs.old) (O.states outputs.new))) }
-    ensures err { IfErr result (λ fault. (tree_files : Files) → IsAcceptedTree tree_files (root_file options.now) tree.now → AreAtHand options.now.depfile tree_files files.entry
+    ensures err { IfErr result (λ fault. (files : Files) → IsAcceptedTree files (root_file options.now) tree.now → AreListed options.now files names.now
         → (all : List (List ℕ)) × AreAllToCome (map I.remaining inputs.old) all
-        × ((outcome : Outcome) → IsOutcome tree_files options.now all outcome
+        × ((outcome : Outcome) → IsOutcome files options.now all outcome
         → BreaksRun outcome fault (O.states outputs.old) (O.states outputs.new))
-        × StopsReading tree_files options.now (map I.remaining inputs.old) (map I.remaining inputs.new) (map I.is_there inputs.old) all fault (O.states outputs.old) (O.states outputs.new)) }
+        × StopsReading files options.now (map I.remaining inputs.old) (map I.remaining inputs.new) (map I.is_there inputs.old) all fault (O.states outputs.old) (O.states outputs.new)) }
     ensures may { IfErr result (MayStrike (map I.may_fail inputs.old)) }
     ensures quiet_inputs { OnOk result (map I.failures inputs.new ≡ map I.failures inputs.old) }
     ensures counted_inputs { IfErr result (λ fault. CountsInputs fault (map I.failures inputs.old) (map I.failures inputs.new)) }
+    ensures unread_inputs { (name : List ℕ) → unreadable_among options.now names.now ≡ Some name → inputs.new ≡ inputs.old }
 {
     one_answer();
     opened_are_one_list();
+    if let Some(name) = unreadable_among(options, names) {
+        return refuse_name(outputs, name);
+    }
     match run_tree(alloc, options, tree, layout, order, inputs, outputs) {
-        Ok(status) => end_run(alloc, files, options, status, outputs),
+        Ok(status) => end_run(alloc, options, names, status, outputs),
         Err(fault) => Err(fault),
     }
 }
 
-// The tree, and the files again where a rule for make is wanted: else they are let go before the tree is built.
-fn read_tree<'f>(
+// The tree, and the names in the rule for make, where it is wanted. Files of the run's own are let go before the tree is built.
+fn read_tree(
     alloc: Global,
-    files: TreeFiles<'f>,
+    files: TreeFiles<'_>,
     options: &Options,
-) -> Result<(Tree, Option<TreeFiles<'f>>), Refusal>
+) -> Result<(Tree, Option<Names>), Refusal>
     ensures built { IfOk result (λ r. IsTreeOf (files_in files.entry) (root_file options.now) (Ok r.0)) }
-    ensures at_hand { IfOk result (λ r. AreAtHand options.now.depfile (files_in files.entry) r.1) }
+    ensures listed { IfOk result (λ r. AreListed options.now (files_in files.entry) r.1) }
     ensures refused { IfErr result (λ r. r.code ≢ Memory → IsTreeOf (files_in files.entry) (root_file options.now) (Err (refusal_view r))) }
 {
     let listing = match read_listing(alloc, files.map(), options.kconfig.as_bytes()) {
         Ok(listing) => listing,
         Err(refusal) => return Err(refusal),
     };
-    let files = kept_if(&options.depfile, files);
+    let names = match names_listed(alloc, options, files.map()) {
+        Ok(names) => names,
+        Err(_) => return Err(Refusal::out_of_memory(alloc)),
+    };
+    drop(files);
     match tree_of(alloc, listing) {
-        Ok(tree) => Ok((tree, files)),
+        Ok(tree) => Ok((tree, names)),
         Err(refusal) => Err(refusal),
     }
 }
@@ -369,7 +387,7 @@ fn run_through<I: Input, O: Outputs>(
 ) -> Result<Status, RunFault>
     requires { length inputs.old ≡ length options.now.fragments.items + 1 }
     ensures ok { IfOk result (λ status. (all : List (List ℕ)) × AreAllToCome (map I.remaining inputs.old) all
-        × ((tree : TreeFacts) → IsAcceptedTree (files_in files.entry) (root_file options.now) tree → StreamsAreThere all (map I.is_there inputs.old))
+        × ((tree : TreeFacts) → IsAcceptedTree (files_in files.entry) (root_file options.now) tree → NamesAreRead (files_in files.entry) options.now → StreamsAreThere all (map I.is_there inputs.old))
         × ((outcome : Outcome) × IsOutcome (files_in files.entry) options.now all outcome
         × Completes outcome status (O.states outputs.old) (O.states outputs.new))) }
     ensures err { IfErr result (λ fault. (all : List (List ℕ)) × AreAllToCome (map I.remaining inputs.old) all
@@ -381,6 +399,7 @@ fn run_through<I: Input, O: Outputs>(
     ensures quiet_inputs { OnOk result (map I.failures inputs.new ≡ map I.failures inputs.old) }
     ensures counted_inputs { IfErr result (λ fault. CountsInputs fault (map I.failures inputs.old) (map I.failures inputs.new)) }
     ensures refused_inputs { (r : Refused) → IsRefusedTree (files_in files.entry) (root_file options.now) r → inputs.new ≡ inputs.old }
+    ensures unread_inputs { (name : List ℕ) → IsRefusedName (files_in files.entry) options.now name → inputs.new ≡ inputs.old }
     ensures refused_outputs { (r : Refused) → IsRefusedTree (files_in files.entry) (root_file options.now) r → ChangesOnly Output.Notes (O.states outputs.old) (O.states outputs.new) }
     ensures kept { OnOk result ((tree : TreeFacts) → IsAcceptedTree (files_in files.entry) (root_file options.now) tree → HoldsTree tree kept.new) }
     ensures refused_kept { (r : Refused) → IsRefusedTree (files_in files.entry) (root_file options.now) r → kept.new ≡ kept.old }
@@ -388,7 +407,7 @@ fn run_through<I: Input, O: Outputs>(
 {
     one_answer();
     opened_are_one_list();
-    let (tree, files) = match read_tree(alloc, files, options) {
+    let (tree, names) = match read_tree(alloc, files, options) {
         Ok(read) => read,
         Err(refusal) => return refuse(outputs, &refusal),
     };
@@ -396,15 +415,12 @@ fn run_through<I: Input, O: Outputs>(
     match EvaluationOrder::of(alloc, &tree, layout) {
         Ok(order) => {
             let ended = run_accepted(
-                alloc, files, options, &tree, layout, &order, inputs, outputs,
+                alloc, options, &names, &tree, layout, &order, inputs, outputs,
             );
             *kept = Some(AcceptedTree { tree, order });
             ended
         }
-        Err(refusal) => {
-            drop(files);
-            refuse(outputs, &refusal)
-        }
+        Err(refusal) => refuse(outputs, &refusal),
     }
 }
 
@@ -421,6 +437,7 @@ fn run_over<I: Input, O: Outputs>(
     ensures leaves { Leaves (files_in files.entry) options.now (map I.remaining inputs.old) (map I.remaining inputs.new) (map I.is_there inputs.old) (map I.may_fail inputs.old)
         (map I.failures inputs.old) (map I.failures inputs.new) result (O.states outputs.old) (O.states outputs.new) }
     ensures refused_inputs { (r : Refused) → IsRefusedTree (files_in files.entry) (root_file options.now) r → inputs.new ≡ inputs.old }
+    ensures unread_inputs { (name : List ℕ) → IsRefusedName (files_in files.entry) options.now name → inputs.new ≡ inputs.old }
     ensures keeps { Keeps (files_in files.entry) options.now result kept.old kept.new }
 {
     exactly_one_outcome();
@@ -438,7 +455,8 @@ fn run_over<I: Input, O: Outputs>(
 ///
 /// The caller owes one input for the `.config` and one for each fragment, in order. `Done` and `Refused` are answered
 /// only where every output is exactly what the definition of the outcome says and no device failed; the values are then
-/// the one solution of the tree's equations. A refused tree (E1 to E16) reads no byte and begins nothing, nor does a line
+/// the one solution of the tree's equations. A refused tree (E1 to E16) reads no byte and begins nothing. Nor does a run whose
+/// dependency file would have a name that make cannot read (E23), nor does a line
 /// of more than 65,535 bytes (E17) begin anything; nor, where `options.strict` refuses them, does any warning (E21): those
 /// of the streams are then told once all streams are read. `Faulted` means that an input failed (E18), an output failed (E19) or
 /// no memory was to be had (E20). Where that was before the files, the notes hold whole lines of the warnings, or where they
@@ -456,7 +474,7 @@ pub fn run<I: Input, O: Outputs>(
     requires { length inputs.old ≡ length options.now.fragments.items + 1 }
     // Without a fault the outputs and the status are the outcome's, and no count rose; and each stream whose turn came is there.
     ensures exactly { result ≢ Status.Faulted → (all : List (List ℕ)) × AreAllToCome (map I.remaining inputs.old) all
-        × ((tree : TreeFacts) → IsAcceptedTree (bytes_in files.now) (root_file options.now) tree → StreamsAreThere all (map I.is_there inputs.old))
+        × ((tree : TreeFacts) → IsAcceptedTree (bytes_in files.now) (root_file options.now) tree → NamesAreRead (bytes_in files.now) options.now → StreamsAreThere all (map I.is_there inputs.old))
         × ((outcome : Outcome) × IsOutcome (bytes_in files.now) options.now all outcome
         × Completes outcome result (O.states outputs.old) (O.states outputs.new)) }
     ensures quiet_inputs { result ≢ Status.Faulted → map I.failures inputs.new ≡ map I.failures inputs.old }
@@ -469,8 +487,9 @@ pub fn run<I: Input, O: Outputs>(
         × ((outcome : Outcome) × IsOutcome (bytes_in files.now) options.now all outcome
         × Faults (bytes_in files.now) options.now (map I.remaining inputs.old) (map I.remaining inputs.new) (map I.is_there inputs.old) all outcome fault
         (O.states outputs.old) (O.states outputs.new)) }
-    // A refused tree leaves the inputs untouched, and begins nothing.
+    // A refused tree leaves the inputs untouched, and begins nothing; so does a refused name.
     ensures refused_inputs { (r : Refused) → IsRefusedTree (bytes_in files.now) (root_file options.now) r → inputs.new ≡ inputs.old }
+    ensures unread_inputs { (name : List ℕ) → IsRefusedName (bytes_in files.now) options.now name → inputs.new ≡ inputs.old }
     ensures refused_outputs { (r : Refused) → IsRefusedTree (bytes_in files.now) (root_file options.now) r → ChangesOnly Output.Notes (O.states outputs.old) (O.states outputs.new) }
 {
     let mut kept = None;
@@ -485,7 +504,7 @@ pub fn run<I: Input, O: Outputs>(
 }
 
 /// [`run`] over files of its own: what it leaves is what [`run`] leaves of the same files, and the same holds of it. It lets
-/// the files go when they are read, unless a rule for make is wanted, so it takes less memory at once.
+/// the files go when they are read, so it takes less memory at once.
 ///
 /// The tree that it made is put into `kept`, in place of what that held, where it accepted one. A refused tree leaves `kept`
 /// as it was; after a fault it holds what it held, or the tree. To give back the memory of a large tree takes a while: a
@@ -502,8 +521,9 @@ pub fn run_keeping<I: Input, O: Outputs>(
     // The outcome whole, or a part of it and a fault.
     ensures leaves { Leaves (bytes_in files) options.now (map I.remaining inputs.old) (map I.remaining inputs.new) (map I.is_there inputs.old) (map I.may_fail inputs.old)
         (map I.failures inputs.old) (map I.failures inputs.new) result (O.states outputs.old) (O.states outputs.new) }
-    // A refused tree leaves the inputs untouched.
+    // A refused tree leaves the inputs untouched, and so does a refused name.
     ensures refused_inputs { (r : Refused) → IsRefusedTree (bytes_in files) (root_file options.now) r → inputs.new ≡ inputs.old }
+    ensures unread_inputs { (name : List ℕ) → IsRefusedName (bytes_in files) options.now name → inputs.new ≡ inputs.old }
     // Without a fault an accepted tree is kept; a refused one leaves what was there.
     ensures keeps { Keeps (bytes_in files) options.now result kept.old kept.new }
 {

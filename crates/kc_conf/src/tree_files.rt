@@ -1,9 +1,16 @@
-//! The files that a run reads: lent to it, or its own.
-ghost use Rattle.std.specs.Prelude.{◌≡◌, None};
+//! The files that a run reads, lent to it or its own, and the names in its rule for make.
+ghost use Rattle.std.specs.Prelude.{◌≡◌, IfOk};
+ghost use Rattle.std.specs.Option.{option_map};
 ghost use Rattle.kc_read.specs.Files.{bytes_in};
-ghost use Rattle.kc_conf.specs.TreeFiles.{AreAtHand, files_in};
+ghost use Rattle.kc_conf.specs.Rules.{AreListed, unreadable_among};
+ghost use Rattle.kc_conf.specs.TreeFiles.{files_in};
 
+use crate::options::Options;
+use kc_expr::names::Names;
+use kc_make::laws::opened_are_one_list;
+use kc_make::{prerequisites_of, unreadable_name};
 use kc_read::file_map::FileMap;
+use std::alloc::{AllocError, Global};
 
 // The files that a run reads.
 #[derive(Drop)]
@@ -25,13 +32,37 @@ impl TreeFiles<'_> {
     }
 }
 
-// The files again, where they are looked at once more; else those that are the run's own are let go.
-pub(crate) fn kept_if<'f>(wanted: &Option<String>, files: TreeFiles<'f>) -> Option<TreeFiles<'f>>
-    ensures at_hand { AreAtHand wanted.now (files_in files.entry) result }
-    ensures let_go { wanted.now ≡ None → result ≡ None }
+// The names in the rule for make, where it is wanted.
+pub(crate) fn names_listed(
+    alloc: Global,
+    options: &Options,
+    files: &FileMap,
+) -> Result<Option<Names>, AllocError>
+    ensures { IfOk result (λ names. AreListed options.now (bytes_in files.now) names) }
 {
-    match wanted {
-        Some(_) => Some(files),
+    opened_are_one_list();
+    if options.depfile.is_none() {
+        return Ok(None);
+    }
+    let names = prerequisites_of(
+        alloc,
+        files,
+        options.root.as_str(),
+        options.kconfig.as_bytes(),
+        options.fragments.as_slice(),
+    )?;
+    Ok(Some(names))
+}
+
+// The first name in the rule that make cannot read.
+pub(crate) fn unreadable_among<'n>(
+    options: &'n Options,
+    names: &'n Option<Names>,
+) -> Option<&'n [u8]>
+    ensures { option_map (λ name. name.now) result ≡ unreadable_among options.now names.now }
+{
+    match names {
+        Some(names) => unreadable_name(options.out.as_bytes(), names),
         None => None,
     }
 }

@@ -1,12 +1,11 @@
 //! The files of a solution.
-ghost use Rattle.std.specs.Prelude.{◌≡◌, ◌≢◌, List, ℕ, Some, OnOk, IfErr, IfOk};
+ghost use Rattle.std.specs.Prelude.{◌≡◌, ◌≢◌, Some, OnOk, IfErr, string_bytes};
 ghost use Rattle.kc_dot.specs.SolvedView.{solution_view};
 ghost use Rattle.kc_dot.specs.Texts.{config_text, header_text, minimal_text};
-ghost use Rattle.kc_make.specs.Opened.{AreOpened};
-ghost use Rattle.kc_read.specs.Files.{bytes_in};
+ghost use Rattle.kc_make.specs.Rules.{rule_text};
 ghost use Rattle.kc_conf.specs.FaultParts.{BreaksFile, BreaksFiles, IsNoInputFault, write_fault};
 ghost use Rattle.kc_conf.specs.Faults.{files_made, after_fault};
-ghost use Rattle.kc_conf.specs.Outcome.{depfile_text, outcome_of, root_file, text_if};
+ghost use Rattle.kc_conf.specs.Outcome.{outcome_of, text_if};
 ghost use Rattle.kc_conf.specs.OutputStates.{at, ended, made_if, with_state};
 
 use crate::options::Options;
@@ -16,12 +15,11 @@ use kc_dot::Fault;
 use kc_dot::config::write_config;
 use kc_dot::fault::WriteFault;
 use kc_dot::header::{write_header, write_minimal};
-use kc_make::laws::opened_are_one_list;
-use kc_make::{prerequisites_of, rule_text};
-use kc_read::file_map::FileMap;
+use kc_expr::names::Names;
+use kc_make::rule_text;
 use kc_solve::solved::Solved;
 use kc_tree::tree::Tree;
-use std::alloc::{AllocError, Global};
+use std::alloc::Global;
 
 // What ends a run where writing that output failed so.
 fn fault_of(fault: WriteFault, output: Output) -> RunFault
@@ -135,20 +133,6 @@ pub(crate) fn make_files<O: Outputs>(
     make_minimal(alloc, options, tree, solved, outputs)
 }
 
-// The rule for make of these files.
-fn rule_for(alloc: Global, options: &Options, files: &FileMap) -> Result<Vec<u8>, AllocError>
-    ensures { IfOk result (λ text. (opened : List (List ℕ)) × AreOpened (bytes_in files.now) (root_file options.now) opened × (text.items ≡ depfile_text options.now opened)) }
-{
-    let names = prerequisites_of(
-        alloc,
-        files,
-        options.root.as_str(),
-        options.kconfig.as_bytes(),
-        options.fragments.as_slice(),
-    )?;
-    rule_text(alloc, options.out.as_bytes(), &names)
-}
-
 // Begins Depfile, writes this text and ends it.
 fn put_depfile<O: Outputs>(text: &[u8], outputs: &mut O) -> Result<(), RunFault>
     ensures ok { OnOk result (O.states outputs.new ≡ made_if Output.Depfile (Some text.now) (O.states outputs.old)) }
@@ -164,24 +148,18 @@ fn put_depfile<O: Outputs>(text: &[u8], outputs: &mut O) -> Result<(), RunFault>
     end(Output::Depfile, outputs)
 }
 
-// Writes the rule for make of these files, where it is wanted.
+// Writes the rule for make of these names.
 pub(crate) fn make_depfile<O: Outputs>(
     alloc: Global,
-    files: &FileMap,
     options: &Options,
+    names: &Names,
     outputs: &mut O,
 ) -> Result<(), RunFault>
-    ensures ok { OnOk result ((opened : List (List ℕ)) × AreOpened (bytes_in files.now) (root_file options.now) opened
-        × (O.states outputs.new ≡ made_if Output.Depfile (text_if options.now.depfile (depfile_text options.now opened)) (O.states outputs.old))) }
-    ensures err { IfErr result (λ fault. (opened : List (List ℕ)) × AreOpened (bytes_in files.now) (root_file options.now) opened
-        × BreaksFile Output.Depfile (text_if options.now.depfile (depfile_text options.now opened)) fault (O.states outputs.old) (O.states outputs.new)) }
+    ensures ok { OnOk result (O.states outputs.new ≡ made_if Output.Depfile (Some (rule_text (string_bytes options.now.out) names.now)) (O.states outputs.old)) }
+    ensures err { IfErr result (λ fault. BreaksFile Output.Depfile (Some (rule_text (string_bytes options.now.out) names.now)) fault (O.states outputs.old) (O.states outputs.new)) }
     ensures fault { IfErr result IsNoInputFault }
 {
-    opened_are_one_list();
-    if options.depfile.is_none() {
-        return Ok(());
-    }
-    let Ok(text) = rule_for(alloc, options, files) else {
+    let Ok(text) = rule_text(alloc, options.out.as_bytes(), names) else {
         return Err(RunFault::Memory);
     };
     put_depfile(&text, outputs)

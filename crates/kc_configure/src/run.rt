@@ -1,14 +1,15 @@
 //! Loading and running in one call.
-ghost use Rattle.std.specs.Prelude.{◌≡◌, ◌+◌, length, map, string_bytes, IfErr, IfOk, OnErr, OnOk};
+ghost use Rattle.std.specs.Prelude.{◌≡◌, ◌+◌, List, ℕ, length, map, string_bytes, IfErr, IfOk, OnErr, OnOk};
 ghost use Rattle.kc_read.specs.Expansion.{Refused};
 ghost use Rattle.kc_read.specs.Files.{Files};
 ghost use Rattle.kc_load.specs.Expanding.{AreFilesOf};
 ghost use Rattle.kc_load.specs.Faults.{IsLoadFault, load_failures_after};
-ghost use Rattle.kc_conf.specs.Outcome.{IsRefusedTree, root_file};
+ghost use Rattle.kc_conf.specs.Outcome.{IsRefusedName, IsRefusedTree, root_file};
 ghost use Rattle.kc_conf.specs.Leaves.{Keeps, Leaves};
 
 use kc_conf::{AcceptedTree, Input, Options, Outputs, Status, run_keeping};
 use kc_load::{Folder, LoadFault, load};
+use kc_make::laws::opened_are_one_list;
 use std::alloc::Global;
 
 /// Loads the tree from the folder, reads the streams, and writes the files and the notes (our own; the values are those of
@@ -19,14 +20,14 @@ use std::alloc::Global;
 /// in order.
 ///
 /// For these files, the options and the bytes of the streams there is exactly one outcome: the tree's refusal (E1 to E16), a
-/// line's (E17), that of warnings (E21), or the files and notes of the tree's one solution. `Done` and `Refused` are answered
-/// only where the outputs are the outcome's and, of an accepted tree, each stream whose turn came is there; `Faulted` as
+/// line's (E17), that of warnings (E21), that of a name (E23), or the files and notes of the tree's one solution. `Done` and `Refused` are answered
+/// only where the outputs are the outcome's and, of an accepted tree with no refused name, each stream whose turn came is there; `Faulted` as
 /// `run_keeping` of kc_conf answers it.
 ///
 /// An error is a fault of loading: E18 where the folder's device failed at a file whose turn it was and at whose path it may
 /// fail, E20 where memory was refused. Nothing was read from an input then, no output was begun or written, and `kept` is as
 /// it was. Else `kept` is what `run_keeping` keeps; a program that ends anyway may forget it. What was read of the folder is
-/// let go when the tree's lines are known, unless a rule for make is wanted.
+/// let go when the tree's lines are known, and the names in the rule for make if it is wanted.
 pub fn configure<F: Folder, I: Input, O: Outputs>(
     alloc: Global,
     folder: &mut F,
@@ -37,11 +38,12 @@ pub fn configure<F: Folder, I: Input, O: Outputs>(
 ) -> Result<Status, LoadFault>
     requires { length inputs.old ≡ length options.now.fragments.items + 1 }
     // The run leaves the outcome of the folder's files, or a part of it and a fault. A refused tree leaves the inputs
-    // untouched.
+    // untouched, and so does a refused name.
     ensures ran { IfOk result (λ status. (tree_files : Files) × AreFilesOf (F.files folder.old) (string_bytes options.now.root) tree_files
         × Leaves tree_files options.now (map I.remaining inputs.old) (map I.remaining inputs.new) (map I.is_there inputs.old) (map I.may_fail inputs.old)
         (map I.failures inputs.old) (map I.failures inputs.new) status (O.states outputs.old) (O.states outputs.new)
         × ((r : Refused) → IsRefusedTree tree_files (root_file options.now) r → inputs.new ≡ inputs.old)
+        × ((name : List ℕ) → IsRefusedName tree_files options.now name → inputs.new ≡ inputs.old)
         × Keeps tree_files options.now status kept.old kept.new) }
     // A file that could not be read is one whose turn it was, and at whose path the folder may fail.
     ensures fault { IfErr result (IsLoadFault (F.files folder.old) (F.failing folder.old) (string_bytes options.now.root) (root_file options.now)) }
@@ -55,6 +57,7 @@ pub fn configure<F: Folder, I: Input, O: Outputs>(
     ensures quiet { OnOk result (F.failures folder.new ≡ F.failures folder.old) }
     ensures counted { IfErr result (λ fault. F.failures folder.new ≡ load_failures_after fault (F.failures folder.old)) }
 {
+    opened_are_one_list();
     let files = load(
         alloc,
         folder,

@@ -3,7 +3,7 @@ use Rattle.kc_read.specs.Files.{bytes_in}
 use Rattle.kc_read.specs.RefusalView.{refusal_view}
 use Rattle.kc_conf.specs.Outcome.{root_file}
 use Rattle.kc_conf.specs.TreeFiles.{files_in}
-use Rattle.kc_conf.proofs.TreeFileLemmas.{listing_as, refused_of}
+use Rattle.kc_conf.proofs.TreeFileLemmas.{listed_as, listing_as, refused_of}
 use Rattle.kc_conf.proofs.runs.read_tree.Goals as goal
 
 pub returns-in-Err-clause-refused : goal.returns-in-Err-clause-refused
@@ -20,8 +20,12 @@ returns-in-Ok-tree_of-clause-built c =
     (listing_as (bytes_in c.map.result.now) (files_in c.args.files) c.as_bytes.result.now (root_file c.args.options.now) c.in-Ok.listing
     c.map.ensures c.as_bytes.ensures.value c.in-Ok.ensures.listed)
 
-pub returns-clause-refused : goal.returns-clause-refused
-returns-clause-refused c = λ known.
+pub returns-in-Err-tree_of-clause-refused : goal.returns-in-Err-tree_of-clause-refused
+returns-in-Err-tree_of-clause-refused c = λ known.
     c.in-Err-tree_of.ensures.refused known (files_in c.args.files) (root_file c.args.options.now)
     (listing_as (bytes_in c.map.result.now) (files_in c.args.files) c.as_bytes.result.now (root_file c.args.options.now) c.in-Ok.listing
     c.map.ensures c.as_bytes.ensures.value c.in-Ok.ensures.listed)
+
+pub returns-in-Ok-tree_of-clause-listed : goal.returns-in-Ok-tree_of-clause-listed
+returns-in-Ok-tree_of-clause-listed c =
+    listed_as (bytes_in c.map-2.result.now) (files_in c.args.files) c.args.options.now c.in-Ok-names_listed.names c.map-2.ensures c.in-Ok-names_listed.ensures

@@ -7,7 +7,7 @@ use Rattle.kc_conf.specs.ErrorLines.{refusal_line}
 use Rattle.kc_conf.specs.Outcome.{refused, root_file}
 use Rattle.kc_conf.specs.TreeFiles.{files_in}
 use Rattle.kc_conf.proofs.ListLemmas.{IfErr-both}
-use Rattle.kc_conf.proofs.RunLemmas.{IsNoInputFault-notes, MayStrike-outputs}
+use Rattle.kc_conf.proofs.RunLemmas.{IsNoInputFault-notes, MayStrike-outputs, unreadable-listed}
 use Rattle.kc_conf.proofs.StopLemmas.{accepted_as, looped_as, refused_as, BreaksRun-refusal, Completes-refusal, HoldsTree-accepted, HoldsTree-ended, nothing_accepted}
 use Rattle.kc_conf.proofs.runs.run_through.Goals as goal
 
@@ -48,14 +48,14 @@ returns-in-Err-clause-kept g c =
 pub returns-in-Ok-of-clause-ok : goal.returns-in-Ok-of-clause-ok
 returns-in-Ok-of-clause-ok g c =
     IfOk-weaker c.run_accepted-ended.result _ _ (λ status of_files.
-    let (all, are, finishes) = of_files (files_in c.args.files)
-    (accepted_as (files_in c.args.files) (root_file c.args.options.now) (root_file c.args.options.now) refl c.in-Ok.read.0 c.in-Ok.ensures.built c.in-Ok-of.ensures.accepted) c.in-Ok.ensures.at_hand in
-    (all, are.0, λ tree accepted. are.1, finishes)) c.run_accepted-ended.ensures.ok
+    let (all, to_come, there, finishes) = of_files (files_in c.args.files)
+    (accepted_as (files_in c.args.files) (root_file c.args.options.now) (root_file c.args.options.now) refl c.in-Ok.read.0 c.in-Ok.ensures.built c.in-Ok-of.ensures.accepted) c.in-Ok.ensures.listed in
+    (all, to_come, λ tree accepted. there, finishes)) c.run_accepted-ended.ensures.ok
 
 pub returns-in-Ok-of-clause-err : goal.returns-in-Ok-of-clause-err
 returns-in-Ok-of-clause-err g c =
     IfErr-weaker c.run_accepted-ended.result _ _ (λ fault of_files. of_files (files_in c.args.files)
-    (accepted_as (files_in c.args.files) (root_file c.args.options.now) (root_file c.args.options.now) refl c.in-Ok.read.0 c.in-Ok.ensures.built c.in-Ok-of.ensures.accepted) c.in-Ok.ensures.at_hand)
+    (accepted_as (files_in c.args.files) (root_file c.args.options.now) (root_file c.args.options.now) refl c.in-Ok.read.0 c.in-Ok.ensures.built c.in-Ok-of.ensures.accepted) c.in-Ok.ensures.listed)
     c.run_accepted-ended.ensures.err
 
 pub returns-in-Ok-of-clause-refused_inputs : goal.returns-in-Ok-of-clause-refused_inputs
@@ -64,6 +64,14 @@ returns-in-Ok-of-clause-refused_inputs g c = λ r refused.
     let root = root_file c.args.options.now in
     let accepted = accepted_as files root root refl c.in-Ok.read.0 c.in-Ok.ensures.built c.in-Ok-of.ensures.accepted in
     absurd (c.one_answer.ensures.not_both files root r c.in-Ok.read.0 refused accepted)
+
+pub returns-in-Ok-of-clause-unread_inputs : goal.returns-in-Ok-of-clause-unread_inputs
+returns-in-Ok-of-clause-unread_inputs g c = λ name refused.
+    let files = files_in c.args.files in
+    let root = root_file c.args.options.now in
+    let accepted = accepted_as files root root refl c.in-Ok.read.0 c.in-Ok.ensures.built c.in-Ok-of.ensures.accepted in
+    c.run_accepted-ended.ensures.unread_inputs name
+    (unreadable-listed c.opened_are_one_list.ensures.one files c.args.options.now c.in-Ok.read.1 c.in-Ok.read.0 accepted name c.in-Ok.ensures.listed refused)
 
 pub returns-in-Ok-of-clause-refused_outputs : goal.returns-in-Ok-of-clause-refused_outputs
 returns-in-Ok-of-clause-refused_outputs g c = λ r refused.

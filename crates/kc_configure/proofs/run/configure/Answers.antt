@@ -3,7 +3,7 @@ use Rattle.std.proofs.Common.{List, ℕ, string_bytes, subst₂}
 use Rattle.kc_load.specs.Expanding.{Suffices}
 use Rattle.kc_read.specs.Files.{bytes_in}
 use Rattle.kc_conf.specs.Outcome.{root_file}
-use Rattle.kc_configure.proofs.OverLemmas.{keeps_over, leaves_over, refused_over}
+use Rattle.kc_configure.proofs.OverLemmas.{keeps_over, leaves_over, refused_name_over, refused_over}
 use Rattle.kc_configure.proofs.run.configure.Goals as goal
 
 pub returns-clause-ran : goal.returns-clause-ran
@@ -20,5 +20,6 @@ returns-clause-ran g c =
       e.1,
       leaves_over files loaded c.args.options.now _ _ _ _ _ _ c.run_keeping.result _ _ e.2 e.3 k.leaves,
       λ r h. k.refused_inputs r (refused_over root files loaded e.2 r h),
+      λ name h. k.unread_inputs name (refused_name_over c.opened_are_one_list.ensures.there c.opened_are_one_list.ensures.one files loaded c.args.options.now e.2 e.3 name h),
       keeps_over files loaded c.args.options.now c.run_keeping.result _ _ e.2 k.keeps,
     )
