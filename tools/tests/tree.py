@@ -85,6 +85,22 @@ config D
 }
 
 
+KERNEL = {
+    "Kconfig": """config TEXT
+	string
+	default "$(ARCH) $(SRCARCH) $(KERNELVERSION) $(LD) $(CC_VERSION_TEXT)"
+""",
+    "Kbuild": "",
+    "scripts/Kconfig.include": "",
+    "Makefile": """# SPDX
+VERSION = 6
+PATCHLEVEL = 1
+SUBLEVEL = 7
+EXTRAVERSION = -rc1
+""",
+}
+
+
 class Place:
     """A tree in a folder of its own, with its cache, its compiler and a count of flattenings."""
 
@@ -219,7 +235,8 @@ def test_depfile(folder):
     wanted = " \\\n ".join(["o:", *names]) + "\n" + "".join(f"\n{name}:\n" for name in names)
     expect(faults, "text", place.text("d"), wanted)
     ran = place.run("--depfile", "d", "--out", "a=b", "Kconfig")
-    expect(faults, "a name that make cannot read", (ran.returncode, ran.stderr, os.path.exists(place.path("a=b"))),
+    found = ran.returncode, ran.stderr, os.path.exists(place.path("a=b"))
+    expect(faults, "a name that make cannot read", found,
            (1, "kconf-tree: error: make cannot read the name a=b\n", False))
     place.run("--depfile", "d", "--out", "o%", "Kconfig", "s #1.config")
     expect(faults, "a target", place.text("d").splitlines()[0], "o\\%: \\")
@@ -269,6 +286,25 @@ def test_replace(folder):
     return faults
 
 
+def test_settings(folder):
+    """In a tree with the kernel's layout, variables that are not set get what its Makefile gives."""
+    faults, place = [], Place(folder, KERNEL)
+    own = {"x86_64": "x86", "aarch64": "arm64"}.get(os.uname().machine)
+    for name in ("ARCH", "SRCARCH", "KERNELVERSION", "LD", "CC_VERSION_TEXT", "CROSS_COMPILE"):
+        place.environment.pop(name, None)
+    cases = [({"ARCH": "x86_64"}, "x86_64 x86 6.1.7-rc1 ld cc 1"),
+             ({"ARCH": "arm64", "CROSS_COMPILE": "a-"}, "arm64 arm64 6.1.7-rc1 a-ld cc 1"),
+             ({"ARCH": "x86_64", "KERNELVERSION": "7", "CC_VERSION_TEXT": "c"}, "x86_64 x86 7 ld c")]
+    cases += [({}, f"{own} {own} 6.1.7-rc1 ld cc 1")] if own else []
+    for settings, wanted in cases:
+        ran = place.run("--config", "none", "--out", "o", "Kconfig", **settings)
+        expect(faults, "status", (ran.returncode, ran.stderr), (0, ""))
+        expect(faults, str(settings), compare.lines_of(place.text("o")), {"TEXT": f'"{wanted}"'})
+        again = place.flattens("--config", "none", "--out", "o", "Kconfig", **settings)
+        expect(faults, "second run", again, False)
+    return faults
+
+
 def after_names(files):
     """The names in the folder of a tree."""
     return {name.split("/")[0] for name in files}
@@ -289,7 +325,8 @@ def test_at_once(folder):
     return faults
 
 
-TESTS = (test_cache, test_locations, test_status, test_depfile, test_strings, test_replace, test_at_once)
+TESTS = (test_cache, test_locations, test_status, test_depfile, test_strings, test_replace,
+         test_settings, test_at_once)
 
 
 def main():
