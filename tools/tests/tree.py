@@ -211,6 +211,9 @@ def test_status(folder):
            place.run("--strict", "Kconfig", "none.config").returncode in (1, 3), True)
     expect(faults, "a fragment that is not there", place.run("Kconfig", "none").returncode, 3)
     expect(faults, "an unknown option", place.run("--unknown", "Kconfig").returncode, 2)
+    closed = subprocess.run(["sh", "-c", '"$0" --out o Kconfig 2>&-', TREE], cwd=place.tree, check=False,
+                            env=place.environment, stdout=subprocess.PIPE)
+    expect(faults, "standard error is closed", (closed.returncode, closed.stdout), (3, b""))
     expect(faults, "no KCONFIG", place.run("--replace").returncode, 2)
     expect(faults, "the version", place.run("--version").stdout.split()[0], "kconf")
     loop = 'config L\n\tbool "l" if !L\n'
