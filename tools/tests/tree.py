@@ -266,6 +266,15 @@ def test_strings(folder):
            ["o: \\", " ./Kconfig \\", " ./base.config"])
     ran = place.run("--config", "o", "--out", "again", "Kconfig")
     expect(faults, "read again", place.text("again"), place.text("o"))
+    compare.write_files(place.tree, {"site.config": '# a conflict\nCONFIG_T="a\\b"\n'})
+    ran = place.run("--warn-lost", *words, "site.config")
+    expect(faults, "a conflict", ran.stderr.splitlines()[1:], [
+        "site.config:2: warning K10: T is set again",
+        'site.config:2: warning K15: T was "\\n\\" (./base.config:1) and is now "a\\b"'])
+    compare.write_files(place.tree, {"site.config": 'CONFIG_D="a\\b"\n'})
+    ran = place.run("--warn-lost", *words, "site.config")
+    expect(faults, "a lost value", ran.stderr.splitlines()[1:], [
+        'site.config:1: warning K14: D was given "a\\b" and is ""'])
     os.unlink(place.path("base.config"))
     ran = place.run(*words)
     expect(faults, "a file that is not there", ran.returncode, 3)
