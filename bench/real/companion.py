@@ -219,5 +219,5 @@ def strict(kconf, flat, work):
             faults.append(f"{what}: status {ran.returncode}: {ran.stderr[-300:]}")
     for fault in faults:
         print(f"  kconf --strict: {fault}")
-    print(f"linux: kconf --strict --warn-lost passed 2 inputs and refused {len(STRICT)}: {len(faults)} faults", flush=True)
+    print(f"linux: kconf --strict --warn-lost, with 2 inputs that have to pass and {len(STRICT)} to be refused: {len(faults)} faults", flush=True)
     return not faults

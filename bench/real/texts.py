@@ -2,7 +2,8 @@
 
 lines.txt has TREE | FILE | SIDE | LINE | CAUSE on each line: FILE is `full` or `minimal`; SIDE is `here` or `there`, the file that
 has the line, or `order` if both have the same lines in another order. TREE and LINE are patterns of a shell; `<implied>` in LINE
-stands for a symbol that the tree implies. CAUSE is the title of a paragraph of docs/trees.md.
+stands for a symbol that the tree implies, and `<optional>` for a member of an optional choice. CAUSE is the title of a paragraph of
+docs/trees.md.
 """
 
 import collections
@@ -12,6 +13,8 @@ import re
 
 NAME = re.compile(r"(?:# )?CONFIG_(\w+)")
 IMPLIED = re.compile(r"(?m)^\s*imply (\w+)")
+CHOICE = re.compile(r"(?ms)^\s*choice$.*?^\s*endchoice$")
+MEMBER = re.compile(r"(?m)^\s*config (\w+)")
 
 
 class Causes:
@@ -21,11 +24,14 @@ class Causes:
         text = pathlib.Path(__file__).with_name("lines.txt").read_text()
         told = [line for line in text.splitlines() if line and not line.startswith("#")]
         self.entries = [tuple(part.strip() for part in line.split(" | ", 4)) for line in told]
-        self.met, self.implied = set(), set()
+        self.met, self.symbols = set(), {"<implied>": set(), "<optional>": set()}
 
     def read(self, kconfig):
-        """Takes the implied symbols of a tree from its root file, which is the flat one if the tree has one."""
-        self.implied = set(IMPLIED.findall(kconfig.read_text(errors="replace")))
+        """Takes the symbols of each kind from the root file of a tree, which is the flat one if the tree has one."""
+        text = kconfig.read_text(errors="replace")
+        choices = [MEMBER.findall(choice) for choice in CHOICE.findall(text)]
+        optional = {name for names in choices for name in names if names[0].startswith("KCONF_NO_")}
+        self.symbols = {"<implied>": set(IMPLIED.findall(text)), "<optional>": optional}
 
     def cause(self, *found):
         """The cause for a line of a tree's file, or None."""
@@ -37,9 +43,11 @@ class Causes:
 
     def patterns(self, entry, line):
         """The patterns of an entry of the list, for a line with the name of a symbol."""
-        name = NAME.match(line)
-        implied = name[1] if name and name[1] in self.implied else "<implied>"
-        return [part.replace("<implied>", implied) for part in entry[:4]]
+        name, patterns = NAME.match(line), entry[:4]
+        for kind, symbols in self.symbols.items():
+            if name and name[1] in symbols:
+                patterns = [part.replace(kind, name[1]) for part in patterns]
+        return patterns
 
     def unmet(self, trees):
         """The entries of these trees that no run met."""
