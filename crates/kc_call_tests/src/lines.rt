@@ -17,7 +17,7 @@ fn name_of_fault(fault: TextFault) -> &'static str {
 fn tokens_into(line: &[u8], tokens: &[Token], text: &mut Vec<u8>) -> Result<(), AllocError> {
     for token in tokens {
         let Span { start, end } = token.span;
-        if let Some(bytes) = line.get(start..end) {
+        if let Some(bytes) = line.get(start as usize..end as usize) {
             text.extend_from_slice(bytes)?;
         }
         text.push(b' ')?;
