@@ -1,14 +1,14 @@
-//! Names, and expressions: their levels, their longest lines, and their value over a type of one's own (kc_expr).
+//! Names, and the value of expressions over a type of one's own (kc_expr).
 
 ghost use Rattle.std.specs.Prelude.{[]};
 ghost use Rattle.kc_expr.specs.declared.expression.Kind.TheVariants as kind;
 
 use kc_expr::expression::{Expr, Kind, SymId, Tri};
 use kc_expr::names::Names;
-use kc_expr::parse::{ExprFault, parse};
+use kc_expr::parse::parse;
 use kc_expr::values::{Values, eval, eval_depends_on_symbols, symbols_into};
 use kc_text::{Token, lex};
-use std::alloc::{AllocError, Global};
+use std::alloc::Global;
 
 // Functions that answer whether a case holds own names and expressions: each early exit of a test would prove their drops
 // once more.
@@ -100,147 +100,6 @@ fn the_second_has_its_name(alloc: Global) -> bool {
 #[test]
 fn a_number_has_its_name(rt: HostRuntime) {
     assert!(rt; the_second_has_its_name(rt.alloc()));
-}
-
-fn repeat_into(line: &mut Vec<u8>, count: usize, part: &[u8]) -> Result<(), AllocError> {
-    for _ in 0..count {
-        line.extend_from_slice(part)?;
-    }
-    Ok(())
-}
-
-// Adds so many openers, with what follows them.
-fn open_into(
-    line: &mut Vec<u8>,
-    count: usize,
-    opener: &[u8],
-    operand: &[u8],
-    closer: &[u8],
-) -> Result<(), AllocError> {
-    repeat_into(line, count, opener)?;
-    line.extend_from_slice(operand)?;
-    repeat_into(line, count, closer)
-}
-
-// How many openers, the opener, what follows them, the closer, and how the line is read.
-type Level = (usize, &'static [u8], &'static [u8], &'static [u8], Reading);
-
-// How a line is read.
-#[derive(Clone, Copy, PartialEq)]
-enum Reading {
-    // As an expression of so many tokens.
-    Tokens(usize),
-    BadSyntax,
-    TooDeep,
-    OutOfMemory,
-}
-
-const LEVELS: &[Level] = &[
-    (64, b"(", b"y", b")", Reading::Tokens(129)),
-    (65, b"(", b"y", b")", Reading::TooDeep),
-    (65, b"!", b"y", b"", Reading::TooDeep),
-    (32, b"!(", b"=", b"", Reading::BadSyntax),
-    (33, b"!(", b"y", b")", Reading::TooDeep),
-    (64, b"(", b"=", b"", Reading::BadSyntax),
-    (65, b"(", b"=", b"", Reading::TooDeep),
-    (64, b"(", b"", b"", Reading::BadSyntax),
-    (65, b"(", b"", b"", Reading::TooDeep),
-    (63, b"(", b"y && !A = B || (A)", b"", Reading::BadSyntax),
-    (63, b"(", b"y && !(A = B) || (A)", b"", Reading::TooDeep),
-    (65, b"A (", b"", b"", Reading::Tokens(1)),
-];
-
-fn reading_of(
-    alloc: Global,
-    tokens: &[Token],
-    condition: Option<SymId>,
-    names: &mut Names,
-) -> Reading {
-    match parse(alloc, tokens, 0, condition, names) {
-        Ok((_expr, end)) => Reading::Tokens(end),
-        Err(ExprFault::Syntax) => Reading::BadSyntax,
-        Err(ExprFault::TooDeep) => Reading::TooDeep,
-        Err(ExprFault::Memory) => Reading::OutOfMemory,
-    }
-}
-
-fn line_is_read(
-    alloc: Global,
-    line: &[u8],
-    condition: Option<SymId>,
-    names: &mut Names,
-    want: Reading,
-) -> bool {
-    let mut tokens = Vec::new(alloc);
-    line.len() <= 8191
-        && lex(line, &mut tokens).is_ok()
-        && reading_of(alloc, &tokens, condition, names) == want
-}
-
-// Whether the line of a level, whose condition may need a symbol for modules, is read as it should be.
-fn level_is_read(alloc: Global, level: &Level, condition: Option<SymId>) -> bool {
-    let (count, opener, operand, closer, want) = level;
-    let mut line = Vec::new(alloc);
-    let mut names = Names::new(alloc);
-    open_into(&mut line, *count, opener, operand, closer).is_ok()
-        && line_is_read(alloc, &line, condition, &mut names, *want)
-}
-
-#[test]
-fn the_65th_level_is_too_deep(rt: HostRuntime) {
-    for level in LEVELS {
-        assert!(rt; level_is_read(rt.alloc(), level, None), "{}", level.0);
-    }
-}
-
-const PLAIN_M: Level = (64, b"(", b"m", b")", Reading::Tokens(129));
-
-#[test]
-fn a_plain_m_opens_no_level(rt: HostRuntime) {
-    assert!(rt; level_is_read(rt.alloc(), &PLAIN_M, Some(SymId(3))));
-}
-
-// How many parts the expression joins.
-fn joined(expr: &Expr) -> Option<usize> {
-    match expr {
-        Expr::All(parts) => Some(parts.len()),
-        Expr::Any(parts) => Some(parts.len()),
-        _ => None,
-    }
-}
-
-// Whether all the tokens are an expression of so many parts.
-fn tokens_have_parts(alloc: Global, tokens: &[Token], names: &mut Names, count: usize) -> bool {
-    match parse(alloc, tokens, 0, None, names) {
-        Ok((expr, end)) => end >= tokens.len() && joined(&expr) == Some(count),
-        Err(_) => false,
-    }
-}
-
-// Whether the line's expression joins so many parts, and all of the line is one.
-fn has_parts(alloc: Global, line: &[u8], count: usize) -> bool {
-    let mut tokens = Vec::new(alloc);
-    let mut names = Names::new(alloc);
-    line.len() <= 8191
-        && lex(line, &mut tokens).is_ok()
-        && tokens_have_parts(alloc, &tokens, &mut names, count)
-}
-
-// What is joined to an `a`, and how many parts there are then.
-const REPEATED: &[(&[u8], usize)] = &[(b" && a", 1639), (b"||a=b", 1639), (b"&&(((a)))", 911)];
-
-fn repeated_has_parts(alloc: Global, part: &[u8], count: usize) -> bool {
-    let mut line = Vec::new(alloc);
-    line.extend_from_slice(b"a").is_ok()
-        && repeat_into(&mut line, count.saturating_sub(1), part).is_ok()
-        && has_parts(alloc, &line, count)
-}
-
-#[test]
-fn the_longest_lines_are_read_at_once(rt: HostRuntime) {
-    for (part, count) in REPEATED {
-        assert!(rt; repeated_has_parts(rt.alloc(), part, *count), "{count}");
-    }
 }
 
 // Whether the tokens are an expression of this value where each symbol is worth m.

@@ -10,8 +10,6 @@ mod expressions;
 #[cfg(test)]
 mod files;
 #[cfg(test)]
-mod lines;
-#[cfg(test)]
 mod loading;
 #[cfg(test)]
 mod order;
@@ -29,6 +27,8 @@ mod slow_lines;
 mod solved;
 #[cfg(test)]
 mod solvers;
+#[cfg(test)]
+mod tokens;
 #[cfg(test)]
 mod trees;
 #[cfg(test)]

@@ -1,4 +1,4 @@
-//! Orders and loops of graphs (kc_order): which loop is named, long chains, and the laws at a type.
+//! Orders and loops of graphs (kc_order): which loop is named, and the laws at a type.
 
 use kc_order::{
     Graph, NoOrder, Order, accepted_have_one_solution, computing_solves, cycles_are_unordered,
@@ -149,107 +149,6 @@ fn is_within(alloc: Global, symbols: usize, needs: &[&[u32]]) -> Option<bool> {
 fn a_group_does_not_need_a_later_one(rt: HostRuntime) {
     assert!(rt; is_within(rt.alloc(), 1, &[&[1], &[2], &[0]]) == Some(false));
     assert!(rt; is_within(rt.alloc(), 1, &[&[1], &[0], &[1]]) == Some(true));
-}
-
-// Each symbol of the chain needs the next, the last none.
-fn add_chain(graph: &mut Graph) -> Result<(), AllocError> {
-    for symbol in 1..20_000u32 {
-        graph.add(&[symbol])?;
-    }
-    graph.add(&[])
-}
-
-fn is_reversed(nodes: &[u32]) -> bool {
-    for place in 0..nodes.len() {
-        if nodes[place] as usize != nodes.len() - 1 - place {
-            return false;
-        }
-    }
-    nodes.len() == 20_000
-}
-
-fn is_ordered_in_reverse(alloc: Global, graph: Graph) -> bool {
-    match order_if_within(alloc, graph) {
-        Ok(order) => is_reversed(order.nodes()),
-        Err(_) => false,
-    }
-}
-
-fn chain(alloc: Global, symbols: usize) -> Result<Graph, AllocError> {
-    let mut graph = Graph::with_room(alloc, symbols, 0)?;
-    add_chain(&mut graph)?;
-    Ok(graph)
-}
-
-fn a_chain_is_ordered(alloc: Global) -> bool {
-    match chain(alloc, 20_000) {
-        Ok(graph) => graph.count() == 20_000 && is_ordered_in_reverse(alloc, graph),
-        Err(_) => false,
-    }
-}
-
-#[test]
-fn a_long_chain_in_reverse(rt: HostRuntime) {
-    assert!(rt; a_chain_is_ordered(rt.alloc()));
-}
-
-// After the chain stands a symbol that needs itself.
-fn chain_and_loop(alloc: Global) -> Result<Graph, AllocError> {
-    let mut graph = chain(alloc, 20_001)?;
-    graph.add(&[20_000])?;
-    Ok(graph)
-}
-
-fn a_loop_is_named_after_a_chain(alloc: Global) -> bool {
-    match chain_and_loop(alloc) {
-        Ok(graph) => has_loop(alloc, graph, &[20_000]),
-        Err(_) => false,
-    }
-}
-
-#[test]
-fn a_loop_beside_a_long_chain(rt: HostRuntime) {
-    assert!(rt; a_loop_is_named_after_a_chain(rt.alloc()));
-}
-
-fn numbers_into(row: &mut Vec<u32>) -> Result<(), AllocError> {
-    for symbol in 20_000..40_000u32 {
-        row.push(symbol)?;
-    }
-    Ok(())
-}
-
-fn add_members(graph: &mut Graph, row: &[u32]) -> Result<(), AllocError> {
-    for _member in 0..20_000 {
-        graph.add(&[40_000])?;
-    }
-    for _symbol in 0..20_000 {
-        graph.add(&[])?;
-    }
-    graph.add(row)
-}
-
-// 20,000 members that need 20,000 further symbols.
-fn members_and_row(alloc: Global, row: &[u32]) -> Result<Graph, AllocError> {
-    let mut graph = Graph::with_room(alloc, 40_000, 40_001)?;
-    add_members(&mut graph, row)?;
-    Ok(graph)
-}
-
-fn are_members_ordered(alloc: Global) -> bool {
-    let mut row = Vec::new(alloc);
-    if numbers_into(&mut row).is_err() {
-        return false;
-    }
-    match members_and_row(alloc, &row) {
-        Ok(graph) => has_loop(alloc, graph, &[]),
-        Err(_) => false,
-    }
-}
-
-#[test]
-fn many_members_share_a_long_row(rt: HostRuntime) {
-    assert!(rt; are_members_ordered(rt.alloc()));
 }
 
 #[test]

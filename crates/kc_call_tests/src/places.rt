@@ -1,9 +1,8 @@
-//! User values: which ones a symbol may have, and which are there (kc_user).
+//! Which user values a symbol may have (kc_user).
 
-use crate::trial::{Claim, Setting, give_all, is_true_of};
+use crate::trial::{Claim, is_true_of};
 use kc_expr::expression::{SymId, Tri};
 use kc_tree::tree::Tree;
-use kc_user::user::User;
 use kc_user::value::{UserValue, allowed};
 use std::alloc::{AllocError, Global};
 
@@ -115,68 +114,5 @@ impl Claim for Allowed {
 fn the_type_says_what_a_symbol_may_have(rt: HostRuntime) {
     for (name, sample) in SAMPLES {
         assert!(rt; is_true_of(rt.alloc(), TREE, sample), "{name}");
-    }
-}
-
-// What is given, how many symbols' places are filled then, and whether the choice's place is.
-struct Filled {
-    name: &'static str,
-    given: &'static [Setting],
-    symbols: usize,
-    is_chosen: bool,
-}
-
-const FILLED: &[Filled] = &[
-    Filled {
-        name: "nothing",
-        given: &[],
-        symbols: 0,
-        is_chosen: false,
-    },
-    Filled {
-        name: "a value",
-        given: &[Setting::Truth(b"A", Tri::Y)],
-        symbols: 1,
-        is_chosen: false,
-    },
-    Filled {
-        name: "a member",
-        given: &[Setting::Member(b"M")],
-        symbols: 0,
-        is_chosen: true,
-    },
-];
-
-// How many symbols' places are filled.
-fn filled_count(user: &User) -> usize {
-    let mut count = 0_usize;
-    for place in user.symbols() {
-        if place.is_some() {
-            count = count.saturating_add(1);
-        }
-    }
-    count
-}
-
-// Whether, of the places of seven symbols and one choice, those are filled that the case says.
-fn has_filled(user: &User, case: &Filled) -> bool {
-    user.symbols().len() == 7
-        && filled_count(user) == case.symbols
-        && matches!(user.choices(), [place] if place.is_some() == case.is_chosen)
-}
-
-impl Claim for Filled {
-    fn holds_of(&self, alloc: Global, tree: &Tree) -> bool {
-        match User::new(alloc, tree) {
-            Ok(mut user) => give_all(alloc, tree, &mut user, self.given) && has_filled(&user, self),
-            Err(_) => false,
-        }
-    }
-}
-
-#[test]
-fn places_are_empty_until_they_are_filled(rt: HostRuntime) {
-    for case in FILLED {
-        assert!(rt; is_true_of(rt.alloc(), TREE, case), "{}", case.name);
     }
 }

@@ -255,6 +255,21 @@ const LIMITS: &[Case] = &[
         &[(24, b"if y~"), (24, b"endif~")],
         "128 lines, 0 symbols",
     ),
+    (
+        &[
+            (1, b"config A~depends on "),
+            (64, b"("),
+            (1, b"m"),
+            (64, b")"),
+        ],
+        &[],
+        "2 lines, 1 symbols",
+    ),
+    (
+        &[(1, b"config A~default a"), (1_636, b" && a")],
+        &[],
+        "2 lines, 1 symbols",
+    ),
     // Over memory a file may have the empty name.
     (&[(1, b"source \"\"")], &[], "Kconfig:1 NoFile"),
 ];
