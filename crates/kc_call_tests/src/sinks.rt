@@ -6,10 +6,10 @@ use crate::trial::{Claim, is_true_of};
 use kc_dot::fault::DotFault;
 use kc_dot::prefix::Prefix;
 use kc_dot::reader::DotReader;
+use kc_dot::user_input::UserInput;
 use kc_dot::{Fault, Sink};
 use kc_expr::expression::Tri;
 use kc_tree::tree::Tree;
-use kc_user::user::User;
 use kc_user::value::UserValue;
 use std::alloc::{AllocError, Global};
 
@@ -56,9 +56,9 @@ impl Sink for LimitedSink {
 #[derive(Drop)]
 struct Trial<'a> {
     reader: DotReader<'a>,
-    user: User,
+    user: UserInput<'a>,
     sink: LimitedSink,
-    ghost places: { ArePlacesOf reader.tree user },
+    ghost places: { ArePlacesOf reader.tree user.places },
 }
 
 // A call of the reader.
@@ -75,7 +75,7 @@ impl<'a> Trial<'a> {
         prefix: &'a Prefix,
         room: usize,
     ) -> Result<Trial<'a>, AllocError> {
-        let user = User::new(alloc, tree)?;
+        let user = UserInput::new(alloc, tree, false)?;
         Ok(Trial {
             reader: DotReader::new(alloc, tree, prefix, b".config"),
             user,
@@ -111,7 +111,7 @@ impl<'a> Trial<'a> {
     // A, as the user has it.
     fn value_of_a(&self, tree: &Tree) -> Option<Tri> {
         let id = tree.find(b"A")?;
-        match self.user.symbols().get(id.0) {
+        match self.user.user().symbols().get(id.0) {
             Some(Some(UserValue::Tri(value))) => Some(*value),
             _ => None,
         }

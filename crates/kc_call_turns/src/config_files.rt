@@ -12,6 +12,7 @@ use kc_dot::fault::{DotFault, WriteFault};
 use kc_dot::header::{write_header, write_minimal};
 use kc_dot::prefix::Prefix;
 use kc_dot::reader::DotReader;
+use kc_dot::user_input::UserInput;
 use kc_expr::expression::{SymId, Tri};
 use kc_expr::values::Values;
 use kc_solve::order::EvaluationOrder;
@@ -90,16 +91,16 @@ fn lines_read(user: &User, notes: &MemorySink) -> Option<u8> {
 #[derive(Drop)]
 struct Fed<'a> {
     reader: DotReader<'a>,
-    user: User,
+    user: UserInput<'a>,
     notes: MemorySink,
-    ghost places: { ArePlacesOf reader.tree user },
+    ghost places: { ArePlacesOf reader.tree user.places },
 }
 
 impl<'a> Fed<'a> {
     fn new(alloc: Global, tree: &'a Tree, prefix: &'a Prefix) -> Result<Fed<'a>, AllocError> {
         Ok(Fed {
             reader: DotReader::new(alloc, tree, prefix, b".config"),
-            user: User::new(alloc, tree)?,
+            user: UserInput::new(alloc, tree, true)?,
             notes: MemorySink::new(alloc)?,
         })
     }
@@ -116,15 +117,16 @@ impl<'a> Fed<'a> {
     fn end(&mut self) -> CallEnd {
         match self.feed(SETTINGS) {
             Ok(()) => {
-                done(self.reader.pending() == 10 && stands_after(&self.user, &self.notes, 3))
+                done(self.reader.pending() == 10 && stands_after(self.user.user(), &self.notes, 3))
             }
             // Each later call answers the same and changes nothing.
             Err(fault) => {
-                let before = lines_read(&self.user, &self.notes);
+                let before = lines_read(self.user.user(), &self.notes);
                 let again = self.feed(b"\n");
                 let ends = self.finish();
                 let is_kept = again == Err(DotFault::Memory) && ends == Err(DotFault::Memory);
-                let stands = before.is_some() && before == lines_read(&self.user, &self.notes);
+                let stands = before.is_some()
+                    && before == lines_read(self.user.user(), &self.notes);
                 let is_memory = fault == DotFault::Memory && !self.notes.has_failed();
                 refused(is_memory && is_kept && stands)
             }
@@ -144,24 +146,29 @@ impl TreeCall for Feed {
 }
 
 // Reads all lines of `SETTINGS` into the places. The answer is whether that was done.
-fn read_into(
+fn read_into<'a>(
     alloc: Global,
-    tree: &Tree,
-    prefix: &Prefix,
-    user: &mut User,
+    tree: &'a Tree,
+    prefix: &'a Prefix,
+    user: &mut UserInput<'a>,
     notes: &mut MemorySink,
 ) -> bool
-    requires { ArePlacesOf tree.now user.old }
-    ensures { ArePlacesOf tree.now user.new }
+    requires { ArePlacesOf tree.now user.old.places }
+    ensures { ArePlacesOf tree.now user.new.places }
 {
     let mut reader = DotReader::new(alloc, tree, prefix, b".config");
     reader.feed(SETTINGS, user, notes).is_ok() && reader.finish(user, notes).is_ok()
 }
 
 // The same, with a sink of its own.
-fn fill(alloc: Global, tree: &Tree, prefix: &Prefix, user: &mut User) -> Result<bool, AllocError>
-    requires { ArePlacesOf tree.now user.old }
-    ensures { ArePlacesOf tree.now user.new }
+fn fill<'a>(
+    alloc: Global,
+    tree: &'a Tree,
+    prefix: &'a Prefix,
+    user: &mut UserInput<'a>,
+) -> Result<bool, AllocError>
+    requires { ArePlacesOf tree.now user.old.places }
+    ensures { ArePlacesOf tree.now user.new.places }
 {
     let mut notes = MemorySink::new(alloc)?;
     Ok(read_into(alloc, tree, prefix, user, &mut notes))
@@ -295,9 +302,9 @@ fn end_with(
     prefix: &Prefix,
     work: Work,
 ) -> Result<CallEnd, AllocError> {
-    let mut user = User::new(alloc, tree)?;
+    let mut user = UserInput::new(alloc, tree, true)?;
     match fill(alloc, tree, prefix, &mut user) {
-        Ok(true) => end_over(alloc, tree, &user, prefix, work),
+        Ok(true) => end_over(alloc, tree, user.user(), prefix, work),
         _ => Err(AllocError),
     }
 }

@@ -1,10 +1,11 @@
 -- That no line of the streams goes unaccounted for where lost values are warned of.
-use Rattle.std.proofs.Common.{◌≡◌, ◌⊎◌, inl, inr, ℕ, ◌+◌, ◌<◌, zero, suc, Bool, true, false, List, [], ◌∷◌, ◌++◌, length, Some, None, refl, sym, ap, subst, ◌∙◌, append_assoc, arith, codes, eqb}
-use Rattle.std.specs.Prelude.{not, find, is_some, if◌then◌else◌}
-use Rattle.std.specs.List.{flat_map, range_with_len}
+use Rattle.std.proofs.Common.{◌≡◌, ◌⊎◌, inl, inr, ℕ, ◌+◌, ◌<◌, zero, suc, Bool, true, false, List, [], ◌∷◌, ◌++◌, length, Some, None, refl, sym, ap, subst, ◌∙◌, append_assoc, append-nil, arith, codes, eqb, Option}
+use Rattle.std.specs.Prelude.{not, find, is_some, replicate, slice_index_or, if◌then◌else◌}
+use Rattle.std.specs.List.{All, flat_map, range_with_len}
 use Rattle.std.specs.Option.{option_map}
 use Rattle.std.proofs.lemmas.Grind.{flat_map-append}
 use Rattle.std.proofs.lemmas.List.{get_or-set_same, get_or-set_other, length-replicate}
+use Rattle.std.proofs.lemmas.List.Elements.{All-cons, All-nil}
 use Rattle.std.proofs.lemmas.List.Sums.{take_while-cons}
 use Rattle.std.proofs.lemmas.Bool.{eqb-false, eqb-true}
 use Rattle.std.proofs.lemmas.Option.{slice_get_within}
@@ -15,23 +16,26 @@ use Rattle.kc_expr.specs.declared.expression.Tri.TheVariants.{N, M, Y}
 use Rattle.kc_read.specs.Files.{Files}
 use Rattle.kc_tree.specs.TreeFacts.{SymbolFacts, TreeFacts}
 use Rattle.kc_user.specs.GivenValue.{GivenValue, GivenTruth, GivenText, Member, SymbolPlace, same_given, same_tri}
-use Rattle.kc_user.specs.Places.{ArePlacesOf, Places, no_places, place_at}
+use Rattle.kc_user.specs.Places.{ArePlacesOf, Places, place_at}
 use Rattle.kc_values.specs.Differs.{given_of}
 use Rattle.kc_values.specs.Lookups.{facts, name}
 use Rattle.kc_values.specs.Solution.{symbol_count}
 use Rattle.kc_solve.specs.Solved.{Solution, known, warnings as value_warnings}
-use Rattle.kc_dot.specs.Effects.{Effect, Silent, Warns, Assigns, SetAgain, LineWarning, warning_line}
-use Rattle.kc_dot.specs.Reading.{Line, assignments, before_too_long, effect, is_within, lines_of, places_after, reading, stream_location, effect_warning, warning, warning_line_if, warnings}
-use Rattle.kc_dot.proofs.PlaceLemmas.{ArePlacesOf-given, places_given-nothing, places_given-one}
-use Rattle.kc_dot.proofs.ReadingLemmas.{places_after-append, warnings-append, warnings-cons}
+use Rattle.kc_dot.specs.Changes.{StreamLocation, change_line, change_text}
+use Rattle.kc_dot.specs.Effects.{Effect, Silent, Warns, Assigns, SetAgain, LineWarning, kind_in, kind_of, warning_line}
+use Rattle.kc_dot.specs.LineSteps.{input_by}
+use Rattle.kc_dot.specs.Reading.{Line, UserInput, assignments, before_too_long, effect, effect_text, input_after, is_within, lines_of, reading, stream_location, text_of, warning, warning_line_if, warnings}
+use Rattle.kc_dot.proofs.LineLemmas.{input_after-line}
+use Rattle.kc_dot.proofs.PlaceLemmas.{ArePlacesOf-given, places_given-one}
+use Rattle.kc_dot.proofs.ReadingLemmas.{input_after-append, input_after-nothing, lines_after-length, warnings-append, warnings-cons}
 use Rattle.kc_dot.specs.SolvedView.{solution_view}
 use Rattle.kc_dot.specs.Texts.{config_text}
 use Rattle.kc_conf.specs.declared.options.Options.{Options}
-use Rattle.kc_conf.specs.Accounted.{HoldsLine, IsAccountedFor, IsKeptOrWarned, IsSetAgain, NothingIsLost}
+use Rattle.kc_conf.specs.Accounted.{HoldsLine, IsAccountedFor, IsKeptOrWarned, IsSetAgain, LeavesAlone, NothingIsLost}
 use Rattle.kc_conf.specs.Lost.{has_prompt, lost_at, lost_by, lost_line, lost_lines, lost_of}
-use Rattle.kc_conf.specs.Outcome.{AreLines, Outcome, lines_text, lost_warnings, names_of, noted, outcome_of, read_of, streams, with_rule}
+use Rattle.kc_conf.specs.Outcome.{AreLines, Outcome, fresh_input, lines_text, lost_warnings, names_of, noted, read_of, streams, warned_files, with_rule}
 use Rattle.kc_conf.specs.Reruns.{RefusesNothing, WrittenAreWhole}
-use Rattle.kc_conf.proofs.PartLemmas.{AreLines-append, AreLines-nothing, AreLines-reading, AreLines-warnings}
+use Rattle.kc_conf.proofs.PartLemmas.{AreLines-append, AreLines-nothing, AreLines-reading, AreLines-warning_if, AreLines-warnings}
 
 -- ---- lines that stand in texts
 
@@ -47,6 +51,11 @@ stands_before back part text (before, after, is, lines) = (before, after ++ back
 stands_first : (part back : List ℕ) → StandsIn part (part ++ back)
 stands_first part back = ([], back, refl, AreLines-nothing)
 
+-- a part that stands behind whole lines of what stands there
+stands_within : (front part back text : List ℕ) → AreLines front → StandsIn (front ++ (part ++ back)) text → StandsIn part text
+stands_within front part back text whole (before, after, is, lines) =
+    (before ++ front, back ++ after, is ∙ simp append_assoc, AreLines-append before front lines whole)
+
 -- ---- one value
 
 tri_is : (t u : Tri) → same_tri t u ≡ true → t ≡ u
@@ -60,7 +69,7 @@ tri_is Y N e = cc
 tri_is Y M e = cc
 tri_is Y Y e = refl
 
-given_is : (a b : GivenValue) → same_given a b ≡ true → a ≡ b
+pub given_is : (a b : GivenValue) → same_given a b ≡ true → a ≡ b
 given_is (GivenTruth t) (GivenTruth u) e = ap GivenTruth (tri_is t u e)
 given_is (GivenTruth t) (GivenText b) e = cc
 given_is (GivenTruth t) (Member m) e = cc
@@ -88,41 +97,73 @@ line_stands line lines before after is = (
   (before, refl),
 )
 
-module _ (s : Solution) (id : SymId) (f : SymbolFacts) (given : GivenValue) (defined : facts s.tree id ≡ Some f) (prompted : has_prompt f.prompts ≡ true)
-    (there : place_at s.places (SymbolPlace id.0) ≡ Some given) where
+module _ (lines : List (Option StreamLocation)) (s : Solution) (id : SymId) (f : SymbolFacts) (given : GivenValue) (at : StreamLocation) (defined : facts s.tree id ≡ Some f)
+    (prompted : has_prompt f.prompts ≡ true) (there : place_at s.places (SymbolPlace id.0) ≡ Some given) (by_line : slice_index_or lines id.0 None ≡ Some at) where
   abbrev value : GivenValue
   value = given_of (known s id)
 
-  lost_here : lost_at s id.0 ≡ (if same_given given value then [] else lost_line (name s.tree id) f.kind given value ∷ [])
-  lost_here =
-      ap (λ o. lost_of (name s.tree id) o (place_at s.places (SymbolPlace id.0)) value) defined
-      ∙ ap (λ b. if b then lost_by (name s.tree id) f.kind (place_at s.places (SymbolPlace id.0)) value else []) prompted
-      ∙ ap (λ o. lost_by (name s.tree id) f.kind o value) there
+  abbrev line_of : List ℕ
+  line_of = lost_line at (name s.tree id) f.kind given value
 
-  kept_or_told : (given ≡ value) ⊎ StandsIn (lost_line (name s.tree id) f.kind given value ++ codes "\n") (lines_text (lost_lines s))
+  lost_here : lost_at lines s id.0 ≡ (if same_given given value then [] else line_of ∷ [])
+  lost_here =
+      ap (λ o. lost_of (name s.tree id) o (slice_index_or lines id.0 None) (place_at s.places (SymbolPlace id.0)) value) defined
+      ∙ ap (λ b. if b then lost_by (name s.tree id) f.kind (slice_index_or lines id.0 None) (place_at s.places (SymbolPlace id.0)) value else []) prompted
+      ∙ ap (λ o. lost_by (name s.tree id) f.kind (slice_index_or lines id.0 None) o value) there
+      ∙ ap (λ l. lost_by (name s.tree id) f.kind l (Some given) value) by_line
+
+  kept_or_told : (given ≡ value) ⊎ StandsIn (line_of ++ codes "\n") (lines_text (lost_lines lines s))
   kept_or_told = by (same_given given value) refl where
-    by : (b : Bool) → same_given given value ≡ b → (given ≡ value) ⊎ StandsIn (lost_line (name s.tree id) f.kind given value ++ codes "\n") (lines_text (lost_lines s))
+    by : (b : Bool) → same_given given value ≡ b → (given ≡ value) ⊎ StandsIn (line_of ++ codes "\n") (lines_text (lost_lines lines s))
     by true e = inl (given_is given value e)
     by false e =
-        let (before, after, is) = one_of_range (lost_at s) 0 (symbol_count s.tree) id.0 (slice_get_within s.tree.symbols id.0 f defined) in
-        let here : lost_at s (0 + id.0) ≡ lost_line (name s.tree id) f.kind given value ∷ [] =
-        ap (lost_at s) (let z : 0 + id.0 ≡ id.0 = omega arith in z) ∙ lost_here ∙ ap (λ b. if b then [] else lost_line (name s.tree id) f.kind given value ∷ []) e in
-        inr (line_stands (lost_line (name s.tree id) f.kind given value) (lost_lines s) before after (is ∙ ap (λ l. before ++ (l ++ after)) here))
+        let (before, after, is) = one_of_range (lost_at lines s) 0 (symbol_count s.tree) id.0 (slice_get_within s.tree.symbols id.0 f defined) in
+        let here : lost_at lines s (0 + id.0) ≡ line_of ∷ [] =
+        ap (lost_at lines s) (let z : 0 + id.0 ≡ id.0 = omega arith in z) ∙ lost_here ∙ ap (λ b. if b then [] else line_of ∷ []) e in
+        inr (line_stands line_of (lost_lines lines s) before after (is ∙ ap (λ l. before ++ (l ++ after)) here))
+
+  -- where no line is lost, what was given is the value
+  pub lost_if : lost_lines lines s ≡ [] → given ≡ value
+  lost_if none = by (same_given given value) refl where
+    never : (before : List (List ℕ)) (x : List ℕ) (after : List (List ℕ)) → before ++ ((x ∷ []) ++ after) ≡ [] → ⊥
+    never [] x after e = let clash : x ∷ after ≡ [] = e in cc
+    never (y ∷ before) x after e = let clash : y ∷ (before ++ ((x ∷ []) ++ after)) ≡ [] = e in cc
+
+    by : (b : Bool) → same_given given value ≡ b → given ≡ value
+    by true e = given_is given value e
+    by false e =
+        let (before, after, is) = one_of_range (lost_at lines s) 0 (symbol_count s.tree) id.0 (slice_get_within s.tree.symbols id.0 f defined) in
+        let here : lost_at lines s (0 + id.0) ≡ line_of ∷ [] =
+        ap (lost_at lines s) (let z : 0 + id.0 ≡ id.0 = omega arith in z) ∙ lost_here ∙ ap (λ b. if b then [] else line_of ∷ []) e in
+        absurd (never before line_of after (sym (ap (λ l. before ++ (l ++ after)) here) ∙ sym is ∙ none))
 
 -- ---- the lines of the streams
 
+-- no line is known
+abbrev pub no_line : Option StreamLocation
+no_line = None
+
+-- the symbol of an assignment
+abbrev pub number_of : Effect → ℕ
+number_of Silent = 0
+number_of (Warns line_warning) = 0
+number_of (Assigns s given) = s.0
+
+pub same_symbol : (a b : SymId) → a.0 ≡ b.0 → a ≡ b
+same_symbol a b same = λ i. record { 0 = same i }
+
 module _ (tree : TreeFacts) (prefix : List ℕ) where
   -- the warning of a line stands in those of all lines
-  warned_at : (p : Places) (before later : List Line) (l : Line) →
-      StandsIn (warning tree prefix (places_after tree prefix p before) l) (warnings tree prefix p (before ++ l ∷ later))
+  warned_at : (p : UserInput) (before later : List Line) (l : Line) →
+      StandsIn (warning tree prefix (input_after tree prefix p before) l) (warnings tree prefix p (before ++ l ∷ later))
   warned_at p before later l =
-      let here = places_after tree prefix p before in
+      let here = input_after tree prefix p before in
       let split : warnings tree prefix p (before ++ l ∷ later)
-      ≡ warnings tree prefix p before ++ (warning tree prefix here l ++ warnings tree prefix (places_after tree prefix here (l ∷ [])) later) =
+      ≡ warnings tree prefix p before ++ (warning tree prefix here l ++ warnings tree prefix (input_after tree prefix here (l ∷ [])) later) =
       warnings-append tree prefix p before (l ∷ later) ∙ ap (λ w. warnings tree prefix p before ++ w) (warnings-cons tree prefix here l later) in
       subst (StandsIn (warning tree prefix here l)) (sym split)
       (stands_after (warnings tree prefix p before) _ _ (AreLines-warnings tree prefix before p)
-      (stands_first (warning tree prefix here l) (warnings tree prefix (places_after tree prefix here (l ∷ [])) later)))
+      (stands_first (warning tree prefix here l) (warnings tree prefix (input_after tree prefix here (l ∷ [])) later)))
 
   -- no line is too long: all count
   all_count : (lines : List Line) → option_map stream_location (find (λ l. not (is_within l)) lines) ≡ None → before_too_long lines ≡ lines
@@ -132,87 +173,147 @@ module _ (tree : TreeFacts) (prefix : List ℕ) where
     by true w others = take_while-cons is_within l lines ∙ rw w (ap (λ ls. l ∷ ls) (others (rw w at e)))
     by false w others = absurd (let long : Some (stream_location l) ≡ None = rw w at e in cc)
 
-  -- what a line assigns stands in the symbol's place
-  assigned : (p : Places) (l : Line) (s : SymId) (given : GivenValue) → effect tree prefix l ≡ Assigns s given → s.0 < length p.symbols →
-      place_at (places_after tree prefix p (l ∷ [])) (SymbolPlace s.0) ≡ Some given
-  assigned p l s given is below = rw (is, places_given-one) (get_or-set_same p.symbols s.0 (Some given) None below)
+  -- what one line leaves
+  pub step : (p : UserInput) (l : Line) (e : Effect) → effect tree prefix l ≡ e → input_after tree prefix p (l ∷ []) ≡ input_by tree p (stream_location l) e
+  unfolding effect
+  step p l e is = input_after-line tree prefix p l (text_of l) refl ∙ ap (input_by tree p (stream_location l)) is
 
-  -- a later line that sets the symbol, in a place that is filled
-  abbrev SetsAgain : Places → ℕ → List Line → Type 0
-  SetsAgain p i later =
-      (before after : List Line) × (m : Line) × (s : SymId) × (given other : GivenValue) × (later ≡ before ++ m ∷ after)
-      × (effect tree prefix m ≡ Assigns s other) × (s.0 ≡ i) × (place_at (places_after tree prefix p before) (SymbolPlace i) ≡ Some given)
+  -- a symbol has this value, which this line gave
+  abbrev Has : UserInput → ℕ → GivenValue → StreamLocation → Type 0
+  Has p i given at = (place_at p.places (SymbolPlace i) ≡ Some given) × (slice_index_or p.lines i None ≡ Some at)
 
-  abbrev StaysOrSet : Places → List Line → ℕ → GivenValue → Type 0
-  StaysOrSet p later i given = (place_at (places_after tree prefix p later) (SymbolPlace i) ≡ Some given) ⊎ SetsAgain p i later
+  -- what a line assigns, the symbol has
+  assigned : (p : UserInput) (l : Line) (s : SymId) (given : GivenValue) → effect tree prefix l ≡ Assigns s given → s.0 < length p.places.symbols → s.0 < length p.lines →
+      Has (input_after tree prefix p (l ∷ [])) s.0 given (stream_location l)
+  assigned p l s given is below line_below =
+      let here = step p l (Assigns s given) is in (
+        ap (λ (q : UserInput). place_at q.places (SymbolPlace s.0)) here ∙ ap (λ (q : Places). place_at q (SymbolPlace s.0)) (places_given-one tree p.places s given)
+            ∙ get_or-set_same p.places.symbols s.0 (Some given) None below,
+        ap (λ (q : UserInput). slice_index_or q.lines s.0 None) here ∙ get_or-set_same p.lines s.0 (Some (stream_location l)) None line_below,
+      )
+
+  -- what another line assigns leaves it
+  not_assigned : (p : UserInput) (l : Line) (s : SymId) (other : GivenValue) (i : ℕ) (given : GivenValue) (at : StreamLocation) → effect tree prefix l ≡ Assigns s other → (i ≡ s.0 → ⊥) →
+      Has p i given at → Has (input_after tree prefix p (l ∷ [])) i given at
+  not_assigned p l s other i given at is differs has =
+      let here = step p l (Assigns s other) is in (
+        ap (λ (q : UserInput). place_at q.places (SymbolPlace i)) here ∙ ap (λ (q : Places). place_at q (SymbolPlace i)) (places_given-one tree p.places s other)
+            ∙ get_or-set_other p.places.symbols s.0 i (Some other) None differs ∙ has.0,
+        ap (λ (q : UserInput). slice_index_or q.lines i None) here ∙ get_or-set_other p.lines s.0 i (Some (stream_location l)) None differs ∙ has.1,
+      )
+
+  silent : (p : UserInput) (l : Line) (i : ℕ) (given : GivenValue) (at : StreamLocation) → effect tree prefix l ≡ Silent → Has p i given at → Has (input_after tree prefix p (l ∷ [])) i given at
+  silent p l i given at is has =
+      let here = step p l Silent is in
+      (ap (λ (q : UserInput). place_at q.places (SymbolPlace i)) here ∙ has.0, ap (λ (q : UserInput). slice_index_or q.lines i None) here ∙ has.1)
+
+  warns : (p : UserInput) (l : Line) (line_warning : LineWarning) (i : ℕ) (given : GivenValue) (at : StreamLocation) → effect tree prefix l ≡ Warns line_warning → Has p i given at →
+      Has (input_after tree prefix p (l ∷ [])) i given at
+  warns p l line_warning i given at is has =
+      let here = step p l (Warns line_warning) is in
+      (ap (λ (q : UserInput). place_at q.places (SymbolPlace i)) here ∙ has.0, ap (λ (q : UserInput). slice_index_or q.lines i None) here ∙ has.1)
+
+  -- the next later line that sets the symbol
+  abbrev SetsAgain : UserInput → SymId → GivenValue → StreamLocation → List Line → Type 0
+  SetsAgain p s given at later =
+      (before after : List Line) × (m : Line) × (other : GivenValue) × (later ≡ before ++ m ∷ after)
+      × All (LeavesAlone tree prefix s) before × (effect tree prefix m ≡ Assigns s other) × Has (input_after tree prefix p before) s.0 given at
+
+  abbrev StaysOrSet : UserInput → List Line → SymId → GivenValue → StreamLocation → Type 0
+  StaysOrSet p later s given at = Has (input_after tree prefix p later) s.0 given at ⊎ SetsAgain p s given at later
 
   -- the same of the lines after one more
-  abbrev Next : Places → Line → List Line → ℕ → GivenValue → Type 0
-  Next p l later i given = place_at (places_after tree prefix p (l ∷ [])) (SymbolPlace i) ≡ Some given → StaysOrSet (places_after tree prefix p (l ∷ [])) later i given
+  abbrev Next : UserInput → Line → List Line → SymId → GivenValue → StreamLocation → Type 0
+  Next p l later s given at = Has (input_after tree prefix p (l ∷ [])) s.0 given at → StaysOrSet (input_after tree prefix p (l ∷ [])) later s given at
 
-  -- what stands in a place stays there, or a line sets it again
-  stays_or_set : (p : Places) (later : List Line) (i : ℕ) (given : GivenValue) → place_at p (SymbolPlace i) ≡ Some given → StaysOrSet p later i given
-  stays_or_set p [] i given there = inl (rw places_given-nothing there)
-  stays_or_set p (l ∷ later) i given there = by (effect tree prefix l) refl (stays_or_set (places_after tree prefix p (l ∷ [])) later i given) where
-    on : Next p l later i given → place_at (places_after tree prefix p (l ∷ [])) (SymbolPlace i) ≡ Some given → StaysOrSet p (l ∷ later) i given
-    on next here = elim (next here) [
-      | inl stays ↦ inl (ap (λ (q : Places). place_at q (SymbolPlace i)) (places_after-append tree prefix p (l ∷ []) later) ∙ stays)
-      | inr (before, after, m, s, g, other, is, sets, same, filled) ↦
-          inr (l ∷ before, after, m, s, g, other, ap (λ ls. l ∷ ls) is, sets, same, ap (λ (q : Places). place_at q (SymbolPlace i)) (places_after-append tree prefix p (l ∷ []) before) ∙ filled)
+  -- what a symbol has stays, or a line sets it again
+  stays_or_set : (p : UserInput) (later : List Line) (s : SymId) (given : GivenValue) (at : StreamLocation) → Has p s.0 given at → StaysOrSet p later s given at
+  stays_or_set p [] s given at has = inl (subst (λ (q : UserInput). Has q s.0 given at) (sym (input_after-nothing tree prefix p)) has)
+  stays_or_set p (l ∷ later) s given at has = by (effect tree prefix l) refl (stays_or_set (input_after tree prefix p (l ∷ [])) later s given at) where
+    on : LeavesAlone tree prefix s l → Next p l later s given at → Has (input_after tree prefix p (l ∷ [])) s.0 given at → StaysOrSet p (l ∷ later) s given at
+    on alone next here = elim (next here) [
+      | inl stays ↦ inl (subst (λ (q : UserInput). Has q s.0 given at) (sym (input_after-append tree prefix p (l ∷ []) later)) stays)
+      | inr (before, after, m, other, is, leaves, sets, had) ↦
+          inr (
+            l ∷ before,
+            after,
+            m,
+            other,
+            ap (λ ls. l ∷ ls) is,
+            All-cons (LeavesAlone tree prefix s) l before alone leaves,
+            sets,
+            subst (λ (q : UserInput). Has q s.0 given at) (sym (input_after-append tree prefix p (l ∷ []) before)) had,
+          )
     ]
 
-    set_or : (s : SymId) (other : GivenValue) → effect tree prefix l ≡ Assigns s other → Next p l later i given → (b : Bool) → eqb s.0 i ≡ b → StaysOrSet p (l ∷ later) i given
-    set_or s other is next true e = inr ([], later, l, s, given, other, refl, is, eqb-true s.0 i e, rw places_given-nothing there)
-    set_or s other is next false e = on next (rw (is, places_given-one) (get_or-set_other p.symbols s.0 i (Some other) None (λ same. eqb-false s.0 i e (sym same)) ∙ there))
+    set_or : (t : SymId) (other : GivenValue) → effect tree prefix l ≡ Assigns t other → Next p l later s given at → (b : Bool) → eqb t.0 s.0 ≡ b → StaysOrSet p (l ∷ later) s given at
+    set_or t other is next true e =
+        inr (
+          [],
+          later,
+          l,
+          other,
+          refl,
+          All-nil (LeavesAlone tree prefix s),
+          is ∙ ap (λ x. Assigns x other) (same_symbol t s (eqb-true t.0 s.0 e)),
+          subst (λ (q : UserInput). Has q s.0 given at) (sym (input_after-nothing tree prefix p)) has,
+        )
+    set_or t other is next false e =
+        on (λ g sets. absurd (eqb-false t.0 s.0 e (ap number_of (sym is ∙ sets)))) next
+        (not_assigned p l t other s.0 given at is (λ same. eqb-false t.0 s.0 e (sym same)) has)
 
-    by : (e : Effect) → effect tree prefix l ≡ e → Next p l later i given → StaysOrSet p (l ∷ later) i given
-    by Silent is next = on next (rw (is, places_given-nothing) there)
-    by (Warns line_warning) is next = on next (rw (is, places_given-nothing) there)
-    by (Assigns s other) is next = set_or s other is next (eqb s.0 i) refl
-
-same_symbol : (a b : SymId) → a.0 ≡ b.0 → a ≡ b
-same_symbol a b same = λ i. record { 0 = same i }
+    by : (e : Effect) → effect tree prefix l ≡ e → Next p l later s given at → StaysOrSet p (l ∷ later) s given at
+    by Silent is next = on (λ g sets. absurd (let clash : Silent ≡ Assigns s g = sym is ∙ sets in cc)) next (silent p l s.0 given at is has)
+    by (Warns line_warning) is next = on (λ g sets. absurd (let clash : Warns line_warning ≡ Assigns s g = sym is ∙ sets in cc)) next (warns p l line_warning s.0 given at is has)
+    by (Assigns t other) is next = set_or t other is next (eqb t.0 s.0) refl
 
 -- ---- a whole run
 
 module _ (files : Files) (options : Options) (all : List (List ℕ)) (tree : TreeFacts) (solution : Solution)
-    (is_whole : RefusesNothing files options all tree solution) (asked : options.warn_lost ≡ true) where
+    (is_whole : RefusesNothing files options all tree solution) where
   abbrev lines : List Line
   lines = lines_of (streams (names_of options) all)
 
   abbrev prefix : List ℕ
   prefix = options.prefix
 
-  abbrev empty : Places
-  empty = no_places tree
+  abbrev empty : UserInput
+  empty = fresh_input options tree
 
   all_counted : before_too_long lines ≡ lines
   unfolding reading
   all_counted = all_count tree prefix lines is_whole.read_whole
 
-  places_are : solution.places ≡ places_after tree prefix empty lines
+  pub input_is : (read_of options tree all).input ≡ input_after tree prefix empty lines
   unfolding reading
-  places_are = is_whole.solution_is.places_are ∙ ap (places_after tree prefix empty) all_counted
+  input_is = ap (input_after tree prefix empty) all_counted
+
+  pub places_are : solution.places ≡ (input_after tree prefix empty lines).places
+  places_are = is_whole.solution_is.places_are ∙ ap (λ (i : UserInput). i.places) input_is
 
   warned_are : (read_of options tree all).warned ≡ warnings tree prefix empty lines
   unfolding reading
   warned_are = ap (warnings tree prefix empty) all_counted
 
-  module _ (outcome : Outcome) (opened : List (List ℕ)) (is : outcome ≡ with_rule options opened
-      (noted (lines_text tree.warnings) (noted (read_of options tree all).warned (outcome_of options tree solution)))) where
-    notes_are : outcome.warned ≡ lines_text tree.warnings ++ (warnings tree prefix empty lines ++ (lines_text (value_warnings solution) ++ lines_text (lost_lines solution)))
+  abbrev last_lines : List (Option StreamLocation)
+  last_lines = (input_after tree prefix empty lines).lines
+
+  module _ (asked : options.warn_lost ≡ true) (outcome : Outcome) (opened : List (List ℕ)) (is : outcome ≡ with_rule options opened
+      (noted (lines_text tree.warnings) (noted (read_of options tree all).warned (warned_files options tree (read_of options tree all).input solution)))) where
+    notes_are : outcome.warned ≡ lines_text tree.warnings ++ (warnings tree prefix empty lines ++ (lines_text (value_warnings solution) ++ lines_text (lost_lines last_lines solution)))
     notes_are =
         ap (λ (o : Outcome). o.warned) is
-        ∙ ap (λ w. lines_text tree.warnings ++ (w ++ (lines_text (value_warnings solution) ++ lines_text (lost_warnings options solution)))) warned_are
-        ∙ ap (λ b. lines_text tree.warnings ++ (warnings tree prefix empty lines ++ (lines_text (value_warnings solution) ++ lines_text (if b then lost_lines solution else [])))) asked
+        ∙ ap (λ w. lines_text tree.warnings ++ (w ++ (lines_text (value_warnings solution) ++ lines_text (lost_warnings options (read_of options tree all).input solution)))) warned_are
+        ∙ ap (λ (i : UserInput). lines_text tree.warnings ++ (warnings tree prefix empty lines ++ (lines_text (value_warnings solution) ++ lines_text (lost_warnings options i solution)))) input_is
+        ∙ ap (λ b. lines_text tree.warnings ++ (warnings tree prefix empty lines ++ (lines_text (value_warnings solution) ++ lines_text (if b then lost_lines last_lines solution else [])))) asked
 
     -- what is warned of as the streams are read stands in the notes, and so does what is lost
     of_streams : (part : List ℕ) → StandsIn part (warnings tree prefix empty lines) → StandsIn part outcome.warned
     of_streams part stands =
         subst (StandsIn part) (sym notes_are)
-        (stands_after (lines_text tree.warnings) part _ (tree.warnings, refl) (stands_before (lines_text (value_warnings solution) ++ lines_text (lost_lines solution)) part _ stands))
+        (stands_after (lines_text tree.warnings) part _ (tree.warnings, refl) (stands_before (lines_text (value_warnings solution) ++ lines_text (lost_lines last_lines solution)) part _ stands))
 
-    of_lost : (part : List ℕ) → StandsIn part (lines_text (lost_lines solution)) → StandsIn part outcome.warned
+    of_lost : (part : List ℕ) → StandsIn part (lines_text (lost_lines last_lines solution)) → StandsIn part outcome.warned
     of_lost part stands =
         subst (StandsIn part) (sym notes_are)
         (stands_after (lines_text tree.warnings) part _ (tree.warnings, refl)
@@ -220,68 +321,112 @@ module _ (files : Files) (options : Options) (all : List (List ℕ)) (tree : Tre
         (stands_after (lines_text (value_warnings solution)) part _ (value_warnings solution, refl) stands)))
 
     -- the warning of a line stands in the notes
-    line_warning_told : (before later : List Line) (l : Line) (line_warning : LineWarning) → lines ≡ before ++ l ∷ later →
-        effect_warning tree (places_after tree prefix empty before) (effect tree prefix l) ≡ Some line_warning →
-        StandsIn (warning_line l.stream l.number line_warning) outcome.warned
+    line_told : (before later : List Line) (l : Line) (e : Effect) → lines ≡ before ++ l ∷ later → effect tree prefix l ≡ e →
+        StandsIn (effect_text tree (input_after tree prefix empty before) (stream_location l) e) outcome.warned
     unfolding warning
-    line_warning_told before later l line_warning split has =
-        of_streams (warning_line l.stream l.number line_warning)
-        (subst (λ ls. StandsIn (warning_line l.stream l.number line_warning) (warnings tree prefix empty ls)) (sym split)
-        (subst (λ w. StandsIn w (warnings tree prefix empty (before ++ l ∷ later))) (ap (warning_line_if l.stream l.number) has)
+    line_told before later l e split is_effect =
+        of_streams (effect_text tree (input_after tree prefix empty before) (stream_location l) e)
+        (subst (λ ls. StandsIn (effect_text tree (input_after tree prefix empty before) (stream_location l) e) (warnings tree prefix empty ls)) (sym split)
+        (subst (λ x. StandsIn (effect_text tree (input_after tree prefix empty before) (stream_location l) x) (warnings tree prefix empty (before ++ l ∷ later))) is_effect
         (warned_at tree prefix empty before later l)))
 
     module _ (before later : List Line) (l : Line) (split : lines ≡ before ++ l ∷ later) (s : SymId) (given : GivenValue) (assigns : effect tree prefix l ≡ Assigns s given)
         (f : SymbolFacts) (defined : facts tree s ≡ Some f) (prompted : has_prompt f.prompts ≡ true) where
-      abbrev here : Places
-      here = places_after tree prefix empty (before ++ l ∷ [])
+      abbrev here : UserInput
+      here = input_after tree prefix empty (before ++ l ∷ [])
 
-      counts : ArePlacesOf tree (places_after tree prefix empty before)
-      counts = ArePlacesOf-given tree empty (assignments tree prefix before) (record { symbols = length-replicate (length tree.symbols) None; choices = length-replicate (length tree.choices) None })
+      counts : ArePlacesOf tree (input_after tree prefix empty before).places
+      counts = ArePlacesOf-given tree empty.places (assignments tree prefix before) (record { symbols = length-replicate (length tree.symbols) None; choices = length-replicate (length tree.choices) None })
 
-      below : s.0 < length (places_after tree prefix empty before).symbols
-      below = subst (λ n. s.0 < n) (sym counts.symbols) (slice_get_within tree.symbols s.0 f defined)
+      within : s.0 < length tree.symbols
+      within = slice_get_within tree.symbols s.0 f defined
 
-      filled : place_at here (SymbolPlace s.0) ≡ Some given
-      filled =
-          ap (λ (q : Places). place_at q (SymbolPlace s.0)) (places_after-append tree prefix empty before (l ∷ []))
-          ∙ assigned tree prefix (places_after tree prefix empty before) l s given assigns below
+      below : s.0 < length (input_after tree prefix empty before).places.symbols
+      below = subst (λ n. s.0 < n) (sym counts.symbols) within
 
-      kept : place_at (places_after tree prefix here later) (SymbolPlace s.0) ≡ Some given → IsKeptOrWarned tree solution outcome.warned s f given
-      kept stays = elim (kept_or_told solution s f given (subst (λ (t : TreeFacts). facts t s ≡ Some f) (sym is_whole.solution_is.tree_is) defined) prompted there) [
+      line_counts : length (input_after tree prefix empty before).lines ≡ length tree.symbols
+      line_counts =
+          lines_after-length tree prefix empty.lines before
+          ∙ ap (λ b. length (if b then replicate (length tree.symbols) no_line else [])) asked
+          ∙ length-replicate (length tree.symbols) no_line
+
+      line_below : s.0 < length (input_after tree prefix empty before).lines
+      line_below = subst (λ n. s.0 < n) (sym line_counts) within
+
+      has : Has tree prefix here s.0 given (stream_location l)
+      has =
+          subst (λ (q : UserInput). Has tree prefix q s.0 given (stream_location l)) (sym (input_after-append tree prefix empty before (l ∷ [])))
+          (assigned tree prefix (input_after tree prefix empty before) l s given assigns below line_below)
+
+      kept : Has tree prefix (input_after tree prefix here later) s.0 given (stream_location l) → IsKeptOrWarned tree solution outcome.warned l s f given
+      kept stays = elim (kept_or_told last_lines solution s f given (stream_location l) (subst (λ (t : TreeFacts). facts t s ≡ Some f) (sym is_whole.solution_is.tree_is) defined) prompted there by_line) [
         | inl same ↦ inl same
-        | inr told ↦ inr (of_lost (lost_line (name tree s) f.kind given (given_of (known solution s)) ++ codes "\n")
-            (subst (λ (t : TreeFacts). StandsIn (lost_line (name t s) f.kind given (given_of (known solution s)) ++ codes "\n")
-            (lines_text (lost_lines solution))) is_whole.solution_is.tree_is told))
+        | inr told ↦ inr (of_lost (lost_line (stream_location l) (name tree s) f.kind given (given_of (known solution s)) ++ codes "\n")
+            (subst (λ (t : TreeFacts). StandsIn (lost_line (stream_location l) (name t s) f.kind given (given_of (known solution s)) ++ codes "\n")
+            (lines_text (lost_lines last_lines solution))) is_whole.solution_is.tree_is told))
       ]
         where
           joined : lines ≡ (before ++ l ∷ []) ++ later
           joined = split ∙ sym (append_assoc before (l ∷ []) later)
 
+          at_end : input_after tree prefix empty lines ≡ input_after tree prefix here later
+          at_end = ap (input_after tree prefix empty) joined ∙ input_after-append tree prefix empty (before ++ l ∷ []) later
+
           there : place_at solution.places (SymbolPlace s.0) ≡ Some given
-          there =
-              ap (λ (q : Places). place_at q (SymbolPlace s.0)) (places_are ∙ ap (places_after tree prefix empty) joined ∙ places_after-append tree prefix empty (before ++ l ∷ []) later)
-              ∙ stays
+          there = ap (λ (q : Places). place_at q (SymbolPlace s.0)) places_are ∙ ap (λ (q : UserInput). place_at q.places (SymbolPlace s.0)) at_end ∙ stays.0
 
-      again : SetsAgain tree prefix here s.0 later → IsSetAgain tree prefix outcome.warned s later
-      again (front, back, m, t, old, other, is_later, sets, same, was) =
-          (front, back, m, other, is_later, sets ∙ ap (λ x. Assigns x other) (same_symbol t s same), line_warning_told (before ++ l ∷ front) back m (SetAgain (name tree s)) joined line_warning)
-        where
-          joined : lines ≡ (before ++ l ∷ front) ++ m ∷ back
-          joined = split ∙ ap (λ ls. before ++ l ∷ ls) is_later ∙ sym (append_assoc before (l ∷ front) (m ∷ back))
+          by_line : slice_index_or last_lines s.0 None ≡ Some (stream_location l)
+          by_line = ap (λ (q : UserInput). slice_index_or q.lines s.0 None) at_end ∙ stays.1
 
-          filled_then : place_at (places_after tree prefix empty (before ++ l ∷ front)) (SymbolPlace s.0) ≡ Some old
-          filled_then =
-              ap (λ ls. place_at (places_after tree prefix empty ls) (SymbolPlace s.0)) (sym (append_assoc before (l ∷ []) front))
-              ∙ ap (λ (q : Places). place_at q (SymbolPlace s.0)) (places_after-append tree prefix empty (before ++ l ∷ []) front)
-              ∙ was
+      module _ (front back : List Line) (m : Line) (other : GivenValue) (is_later : later ≡ front ++ m ∷ back) (sets : effect tree prefix m ≡ Assigns s other)
+          (had : Has tree prefix (input_after tree prefix here front) s.0 given (stream_location l)) where
+        joined : lines ≡ (before ++ l ∷ front) ++ m ∷ back
+        joined = split ∙ ap (λ ls. before ++ l ∷ ls) is_later ∙ sym (append_assoc before (l ∷ front) (m ∷ back))
 
-          line_warning : effect_warning tree (places_after tree prefix empty (before ++ l ∷ front)) (effect tree prefix m) ≡ Some (SetAgain (name tree s))
-          line_warning =
-              ap (effect_warning tree (places_after tree prefix empty (before ++ l ∷ front))) (sets ∙ ap (λ x. Assigns x other) (same_symbol t s same))
-              ∙ ap (λ o. if is_some o then Some (SetAgain (name tree s)) else None) filled_then
+        abbrev mid : UserInput
+        mid = input_after tree prefix empty (before ++ l ∷ front)
 
-      heard : IsSetAgain tree prefix outcome.warned s later ⊎ IsKeptOrWarned tree solution outcome.warned s f given
-      heard = elim (stays_or_set tree prefix here later s.0 given filled) [
+        mid_is : input_after tree prefix here front ≡ mid
+        mid_is = sym (input_after-append tree prefix empty (before ++ l ∷ []) front) ∙ ap (input_after tree prefix empty) (append_assoc before (l ∷ []) front)
+
+        had_then : Has tree prefix mid s.0 given (stream_location l)
+        had_then = subst (λ (q : UserInput). Has tree prefix q s.0 given (stream_location l)) mid_is had
+
+        abbrev first : List ℕ
+        first = warning_line m.stream m.number (SetAgain (name tree s))
+
+        abbrev change : List ℕ
+        change = change_text (stream_location m) (name tree s) (kind_of tree s) (Some given) (Some (stream_location l)) other
+
+        told : StandsIn (first ++ change) outcome.warned
+        told =
+            subst (λ x. StandsIn x outcome.warned)
+            (ap (λ o. warning_line_if m.stream m.number (if is_some o then Some (SetAgain (name tree s)) else None)
+            ++ change_text (stream_location m) (name tree s) (kind_of tree s) o (slice_index_or mid.lines s.0 None) other) had_then.0
+            ∙ ap (λ o. first ++ change_text (stream_location m) (name tree s) (kind_of tree s) (Some given) o other) had_then.1)
+            (line_told (before ++ l ∷ front) back m (Assigns s other) joined sets)
+
+        set_again_told : StandsIn first outcome.warned
+        set_again_told = stands_within [] first change outcome.warned AreLines-nothing told
+
+        kind_is : kind_of tree s ≡ f.kind
+        kind_is = ap kind_in defined
+
+        changed : same_given given other ≡ false → StandsIn (change_line (stream_location m) (name tree s) f.kind given (stream_location l) other) outcome.warned
+        changed differs =
+            stands_within first (change_line (stream_location m) (name tree s) f.kind given (stream_location l) other) [] outcome.warned
+            (AreLines-warning_if m.stream m.number (Some (SetAgain (name tree s))))
+            (subst (λ x. StandsIn (first ++ x) outcome.warned)
+            (ap (λ k. change_text (stream_location m) (name tree s) k (Some given) (Some (stream_location l)) other) kind_is
+            ∙ ap (λ b. if b then [] else change_line (stream_location m) (name tree s) f.kind given (stream_location l) other) differs
+            ∙ sym (append-nil (change_line (stream_location m) (name tree s) f.kind given (stream_location l) other))) told)
+
+      again : SetsAgain tree prefix here s given (stream_location l) later → IsSetAgain tree prefix outcome.warned l s f.kind given later
+      again (front, back, m, other, is_later, leaves, sets, had) =
+          (front, back, m, other, is_later, leaves, sets, set_again_told front back m other is_later sets had, changed front back m other is_later sets had)
+
+      heard : IsSetAgain tree prefix outcome.warned l s f.kind given later ⊎ IsKeptOrWarned tree solution outcome.warned l s f given
+      heard = elim (stays_or_set tree prefix here later s given (stream_location l) has) [
         | inl stays ↦ inr (kept stays)
         | inr set ↦ inl (again set)
       ]
@@ -290,12 +435,13 @@ module _ (files : Files) (options : Options) (all : List (List ℕ)) (tree : Tre
     each_accounted_for before later l split = by (effect tree prefix l) refl where
       by : (e : Effect) → effect tree prefix l ≡ e → IsAccountedFor tree prefix solution outcome.warned l later e
       by Silent is_effect = tt
-      by (Warns line_warning) is_effect = line_warning_told before later l line_warning split (ap (effect_warning tree (places_after tree prefix empty before)) is_effect)
+      by (Warns line_warning) is_effect =
+          stands_within [] (warning_line l.stream l.number line_warning) [] outcome.warned AreLines-nothing (line_told before later l (Warns line_warning) split is_effect)
       by (Assigns s given) is_effect = heard before later l split s given is_effect
 
 pub nothing_lost : WrittenAreWhole → NothingIsLost
 nothing_lost written files options all outcome text is_outcome there asked =
-    let (tree, solution, is_whole, (opened, are, is)) = written files options all outcome text is_outcome there in
+    let (tree, solution, is_whole, (opened, are, is), passed) = written files options all outcome text is_outcome there in
     let text_is : text ≡ config_text tree options.prefix (solution_view solution) =
     let same : Some text ≡ Some (config_text tree options.prefix (solution_view solution)) = sym there ∙ ap (λ (o : Outcome). o.config) is in cc
     in

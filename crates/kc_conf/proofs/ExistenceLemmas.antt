@@ -89,16 +89,16 @@ module _ (expands : HasOneExpansion) (either : order.AcceptedOrUnordered) (named
 ended : (files : Files) (options : Options) (opened all : List (List ℕ)) (lenient : Outcome) → AreOpened files (root_file options) opened →
     IsLenientOutcome files options opened all lenient → (outcome : Outcome) × IsOutcome files options all outcome
 ended files options opened all lenient are is =
-    (with_rule options opened (strictly options.strict lenient), (lenient, opened, is, are, refl))
+    (with_rule options opened (strictly options.strict_tree lenient), (lenient, opened, is, are, refl))
 
 module _ (opens : OpenedAreThere) (formed : TreesAreWellFormed) (leaves : StreamsLeavePlaces) (solved : SolutionExists) where
   of_stop : (files : Files) (options : Options) (all : List (List ℕ)) (tree : TreeFacts) → IsAcceptedTree files (root_file options) tree →
       (stopped : Option StreamLocation) → (read_of options tree all).stopped ≡ stopped → (rest : Outcome) × IsOutcomeOfReading options tree (read_of options tree all) rest
   of_stop files options all tree accepted (Some stop) is = (noted (read_of options tree all).warned (refused (too_long_line stop)), long_line stop is refl)
   of_stop files options all tree accepted None is =
-      let held : ArePlaces tree (read_of options tree all).places = leaves tree options.prefix (streams (names_of options) all) (formed files (root_file options) tree accepted.built) in
-      let (solution, for) = solved tree (read_of options tree all).places accepted.accepted held.there in
-      (noted (read_of options tree all).warned (outcome_of options tree solution), whole solution is for refl)
+      let held : ArePlaces tree (read_of options tree all).input.places = leaves tree options.prefix options.warn_lost (streams (names_of options) all) (formed files (root_file options) tree accepted.built) in
+      let (solution, for) = solved tree (read_of options tree all).input.places accepted.accepted held.there in
+      (noted (read_of options tree all).warned (outcome_of options tree (read_of options tree all).input solution), whole solution is for refl)
 
   pub accepted_outcome : AcceptedHaveAnOutcome
   accepted_outcome files options all tree accepted =

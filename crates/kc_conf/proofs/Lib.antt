@@ -17,3 +17,4 @@ pub mod TellingLemmas
 pub mod TreeFileLemmas
 pub mod StatusLemmas
 pub mod StopLemmas
+pub mod StrictLemmas

@@ -1,6 +1,7 @@
 -- The lines of the values that are lost, symbol by symbol.
 use Rattle.std.proofs.Common.{◌≡◌, ℕ, ◌+◌, Bool, true, false, List, [], ◌++◌, Option, Some, None, zero, suc, sym, ◌∙◌, ap, arith, append_assoc, append-nil}
-use Rattle.std.specs.Prelude.{if◌then◌else◌}
+use Rattle.std.specs.Prelude.{if◌then◌else◌, slice_index_or}
+use Rattle.kc_dot.specs.Changes.{StreamLocation}
 use Rattle.std.specs.List.{slice_get, flat_map, range_with_len}
 use Rattle.std.specs.Option.{option_map}
 use Rattle.kc_expr.specs.Names.{symbol}
@@ -24,10 +25,10 @@ flat_range f a (suc n) =
     ∙ ap (λ m. (f a ++ flat_map f (range_with_len (a + 1) n)) ++ f m) (omega arith)
 
 -- the lines of one symbol more
-pub one_more_lost : (s : Solution) (i : ℕ) (old new : List (List ℕ)) → old ≡ flat_map (lost_at s) (range_with_len 0 i) → new ≡ old ++ lost_at s i →
-    new ≡ flat_map (lost_at s) (range_with_len 0 (i + 1))
-one_more_lost s i old new before one =
-    let f = lost_at s in
+pub one_more_lost : (lines : List (Option StreamLocation)) (s : Solution) (i : ℕ) (old new : List (List ℕ)) → old ≡ flat_map (lost_at lines s) (range_with_len 0 i) → new ≡ old ++ lost_at lines s i →
+    new ≡ flat_map (lost_at lines s) (range_with_len 0 (i + 1))
+one_more_lost lines s i old new before one =
+    let f = lost_at lines s in
     let next : i + 1 ≡ suc i = omega arith in
     let here : 0 + i ≡ i = omega arith in
     one ∙ ap (λ x. x ++ f i) before
@@ -35,35 +36,36 @@ one_more_lost s i old new before one =
 
 -- ---- the line of a symbol
 
-module _ (s : Solution) (tree : TreeFacts) (same : tree ≡ s.tree) (l : Layout) (laid : IsLayoutOf tree l) (i : ℕ) where
+module _ (lines : List (Option StreamLocation)) (s : Solution) (tree : TreeFacts) (same : tree ≡ s.tree) (l : Layout) (laid : IsLayoutOf tree l) (i : ℕ) where
   found : (o : Option Symbol) → o ≡ slice_get l.symbols.items i → facts s.tree (symbol i) ≡ option_map (facts_of l i) o
   found o e = sym (ap (λ (t : TreeFacts). slice_get t.symbols i) same) ∙ sym (symbol_found tree l laid i o e)
 
   line : (o : Option Symbol) → o ≡ slice_get l.symbols.items i →
-      lost_at s i ≡ lost_of (name s.tree (symbol i)) (option_map (facts_of l i) o) (place_at s.places (SymbolPlace i)) (given_of (known s (symbol i)))
-  line o e = ap (λ f. lost_of (name s.tree (symbol i)) f (place_at s.places (SymbolPlace i)) (given_of (known s (symbol i)))) (found o e)
+      lost_at lines s i ≡ lost_of (name s.tree (symbol i)) (option_map (facts_of l i) o) (slice_index_or lines i None) (place_at s.places (SymbolPlace i)) (given_of (known s (symbol i)))
+  line o e = ap (λ f. lost_of (name s.tree (symbol i)) f (slice_index_or lines i None) (place_at s.places (SymbolPlace i)) (given_of (known s (symbol i)))) (found o e)
 
   -- none without a row
-  pub lost-nowhere : None ≡ slice_get l.symbols.items i → lost_at s i ≡ []
+  pub lost-nowhere : None ≡ slice_get l.symbols.items i → lost_at lines s i ≡ []
   lost-nowhere e = line None e
 
   abbrev its_line : Symbol → List (List ℕ)
-  its_line row = lost_by (name s.tree (symbol i)) row.kind (place_at s.places (SymbolPlace i)) (given_of (known s (symbol i)))
+  its_line row = lost_by (name s.tree (symbol i)) row.kind (slice_index_or lines i None) (place_at s.places (SymbolPlace i)) (given_of (known s (symbol i)))
 
   -- and none without a prompt
-  pub lost-unprompted : (row : Symbol) → Some row ≡ slice_get l.symbols.items i → (b : Bool) → b ≡ has_prompt (facts_of l 0 row).prompts → b ≡ false → lost_at s i ≡ []
+  pub lost-unprompted : (row : Symbol) → Some row ≡ slice_get l.symbols.items i → (b : Bool) → b ≡ has_prompt (facts_of l 0 row).prompts → b ≡ false → lost_at lines s i ≡ []
   lost-unprompted row e b is none = line (Some row) e ∙ ap (λ c. if c then its_line row else []) (sym is ∙ none)
 
   pub lost-prompted : (row : Symbol) → Some row ≡ slice_get l.symbols.items i → (b : Bool) → b ≡ has_prompt (facts_of l 0 row).prompts → b ≡ true →
-      lost_at s i ≡ lost_by (name s.tree (symbol i)) row.kind (place_at s.places (SymbolPlace i)) (given_of (known s (symbol i)))
+      lost_at lines s i ≡ lost_by (name s.tree (symbol i)) row.kind (slice_index_or lines i None) (place_at s.places (SymbolPlace i)) (given_of (known s (symbol i)))
   lost-prompted row e b is some = line (Some row) e ∙ ap (λ c. if c then its_line row else []) (sym is ∙ some)
 
   -- else the line of what was given and what it is
   pub lost-line : (row : Symbol) → Some row ≡ slice_get l.symbols.items i → (b : Bool) → b ≡ has_prompt (facts_of l 0 row).prompts → b ≡ true →
-      (called : List ℕ) (places : Places) (given : Option GivenValue) (value : GivenValue) → called ≡ name tree (symbol i) → places ≡ s.places → given ≡ place_at places (SymbolPlace i) →
-      value ≡ given_of (known s (symbol i)) → lost_by called row.kind given value ≡ lost_at s i
-  lost-line row e b is some called places given value called_is places_are given_is value_is =
-      ap (λ n. lost_by n row.kind given value) (called_is ∙ ap (λ (t : TreeFacts). name t (symbol i)) same)
-      ∙ ap (λ g. lost_by (name s.tree (symbol i)) row.kind g value) (given_is ∙ ap (λ p. place_at p (SymbolPlace i)) places_are)
-      ∙ ap (λ v. lost_by (name s.tree (symbol i)) row.kind (place_at s.places (SymbolPlace i)) v) value_is
+      (called : List ℕ) (at : Option StreamLocation) (places : Places) (given : Option GivenValue) (value : GivenValue) → called ≡ name tree (symbol i) → at ≡ slice_index_or lines i None → places ≡ s.places → given ≡ place_at places (SymbolPlace i) →
+      value ≡ given_of (known s (symbol i)) → lost_by called row.kind at given value ≡ lost_at lines s i
+  lost-line row e b is some called at places given value called_is at_is places_are given_is value_is =
+      ap (λ n. lost_by n row.kind at given value) (called_is ∙ ap (λ (t : TreeFacts). name t (symbol i)) same)
+      ∙ ap (λ a. lost_by (name s.tree (symbol i)) row.kind a given value) at_is
+      ∙ ap (λ g. lost_by (name s.tree (symbol i)) row.kind (slice_index_or lines i None) g value) (given_is ∙ ap (λ p. place_at p (SymbolPlace i)) places_are)
+      ∙ ap (λ v. lost_by (name s.tree (symbol i)) row.kind (slice_index_or lines i None) (place_at s.places (SymbolPlace i)) v) value_is
       ∙ sym (lost-prompted row e b is some)

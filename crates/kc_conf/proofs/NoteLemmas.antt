@@ -8,12 +8,12 @@ use Rattle.kc_read.specs.Files.{Files}
 use Rattle.kc_read.specs.declared.refusal.Code.{Code}
 use Rattle.kc_read.specs.declared.refusal.Code.TheVariants as code
 use Rattle.kc_tree.specs.TreeFacts.{TreeFacts}
-use Rattle.kc_user.specs.Places.{no_places}
 use Rattle.kc_solve.specs.Solved.{warnings}
 use Rattle.kc_dot.specs.Limits.{longest_dot_line}
 use Rattle.kc_dot.specs.Reading.{StreamLocation, lines_of}
 use Rattle.kc_conf.specs.ErrorLines.{error_if_at, first_line, message_before, message_behind, refusal_line, strict_line, too_long_line}
-use Rattle.kc_conf.specs.Outcome.{AreLines, IsLenientOutcome, IsOutcomeOfReading, NotesAreLines, Outcome, accepted_tree, depfile_text, has_text, is_done, lines_text, long_line, lost_warnings, names_of, noted, outcome_of, read_of, refused, refused_name, refused_tree, streams, strictly, whole}
+use Rattle.kc_conf.specs.Outcome.{AreLines, IsLenientOutcome, IsOutcomeOfReading, NotesAreLines, Outcome, accepted_tree, depfile_text, has_text, is_done, lines_text, long_line, lost_warnings, names_of, noted, outcome_of, read_of, refused, refused_name, refused_tree, streams, strictly, whole, fresh_input, refused_if, text_if, warned_files}
+use Rattle.kc_conf.specs.Taken.{refuses_input}
 use Rattle.kc_conf.specs.declared.options.Options.{Options}
 use Rattle.kc_conf.proofs.PartLemmas.{AreLines-append, AreLines-nothing, AreLines-reading}
 
@@ -84,14 +84,21 @@ AddsLines outcome = AreLines outcome.warned × AreLines outcome.refusal
 AddsLines-noted : (text : List ℕ) (outcome : Outcome) → AreLines text → AddsLines outcome → AddsLines (noted text outcome)
 AddsLines-noted text outcome lines (warned, refusal) = (AreLines-append text outcome.warned lines warned, refusal)
 
+if_strict : (b : Bool) (outcome : Outcome) → AddsLines outcome → AddsLines (refused_if b outcome)
+if_strict true outcome adds = (adds.0, AreLines-line (codes "error E21: warnings are refused"))
+if_strict false outcome adds = adds
+
 of_reading : (options : Options) (tree : TreeFacts) (all : List (List ℕ)) (outcome : Outcome) → IsOutcomeOfReading options tree (read_of options tree all) outcome → AddsLines outcome
 of_reading options tree all outcome (long_line stop stopped is) =
     subst AddsLines (sym is) (AddsLines-noted (read_of options tree all).warned (refused (too_long_line stop))
-    (AreLines-reading tree options.prefix (lines_of (streams (names_of options) all)) (no_places tree)) (AreLines-nothing, AreLines-too_long stop))
+    (AreLines-reading tree options.prefix (lines_of (streams (names_of options) all)) (fresh_input options tree)) (AreLines-nothing, AreLines-too_long stop))
 of_reading options tree all outcome (whole solution none solves is) =
-    subst AddsLines (sym is) (AddsLines-noted (read_of options tree all).warned (outcome_of options tree solution)
-    (AreLines-reading tree options.prefix (lines_of (streams (names_of options) all)) (no_places tree))
-    (AreLines-append (lines_text (warnings solution)) (lines_text (lost_warnings options solution)) (warnings solution, refl) (lost_warnings options solution, refl), AreLines-nothing))
+    let input = (read_of options tree all).input in
+    let lost = lost_warnings options input solution in
+    subst AddsLines (sym is) (AddsLines-noted (read_of options tree all).warned (outcome_of options tree input solution)
+    (AreLines-reading tree options.prefix (lines_of (streams (names_of options) all)) (fresh_input options tree))
+    (if_strict (refuses_input options input solution) (warned_files options tree input solution)
+    (AreLines-append (lines_text (warnings solution)) (lines_text lost) (warnings solution, refl) (lost, refl), AreLines-nothing)))
 
 of_lenient : (files : Files) (options : Options) (opened all : List (List ℕ)) (outcome : Outcome) → IsLenientOutcome files options opened all outcome → AddsLines outcome
 of_lenient files options opened all outcome (refused_tree r is_refused is) = subst AddsLines (sym is) (AreLines-nothing, AreLines-refusal r)
@@ -100,10 +107,6 @@ of_lenient files options opened all outcome (refused_name tree name accepted unr
 of_lenient files options opened all outcome (accepted_tree tree accepted named (rest, read, is)) =
     subst AddsLines (sym is) (AddsLines-noted (lines_text tree.warnings) rest (tree.warnings, refl) (of_reading options tree all rest read))
 
-if_strict : (b : Bool) (outcome : Outcome) → AddsLines outcome → AddsLines (if b then record (refused strict_line) { warned = outcome.warned } else outcome)
-if_strict true outcome adds = (adds.0, AreLines-line (codes "error E21: warnings are refused"))
-if_strict false outcome adds = adds
-
 if_ruled : (b : Bool) (options : Options) (opened : List (List ℕ)) (outcome : Outcome) → AddsLines outcome →
     AddsLines (if b then record outcome { depfile = depfile_text options opened } else outcome)
 if_ruled true options opened outcome adds = adds
@@ -111,8 +114,8 @@ if_ruled false options opened outcome adds = adds
 
 pub notes_are_lines : NotesAreLines
 notes_are_lines files options all outcome (lenient, opened, is_lenient, are, is) =
-    let strict = strictly options.strict lenient in
+    let strict = strictly options.strict_tree lenient in
     let adds = subst AddsLines (sym is)
     (if_ruled (is_done strict.status) options opened strict
-    (if_strict (is_done lenient.status && (options.strict && has_text lenient.warned)) lenient (of_lenient files options opened all lenient is_lenient))) in
+    (if_strict (is_done lenient.status && (options.strict_tree && has_text lenient.warned)) lenient (of_lenient files options opened all lenient is_lenient))) in
     AreLines-append outcome.warned outcome.refusal adds.0 adds.1

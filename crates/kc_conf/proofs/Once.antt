@@ -102,7 +102,7 @@ one_rest options tree read a b (long_line stop long is) (long_line other long' i
 one_rest options tree read a b (long_line stop long is) (whole s none solves is') = absurd (let e : Some stop ≡ None = sym long ∙ none in cc)
 one_rest options tree read a b (whole s none solves is) (long_line stop long is') = absurd (let e : Some stop ≡ None = sym long ∙ none in cc)
 one_rest options tree read a b (whole s none solves is) (whole t none' solves' is') =
-    is ∙ ap (λ x. noted read.warned (outcome_of options tree x)) (one_solution tree read.places s t solves solves') ∙ sym is'
+    is ∙ ap (λ x. noted read.warned (outcome_of options tree read.input x)) (one_solution tree read.input.places s t solves solves') ∙ sym is'
 
 -- over a refused tree it is the refusal
 lenient_refused : OneAnswer → (files : Files) (options : Options) (opened all : List (List ℕ)) (a : Outcome) (r : Refused) → IsRefusedTree files (root_file options) r →
@@ -151,12 +151,12 @@ one_outcome_law law one files options all a b (lenient, opened, first, are, is) 
     accepts tree accepted =
         let same : opened ≡ others = one_opened one files (root_file options) tree opened others accepted are are' in
         let second' : IsLenientOutcome files options opened all other = subst (λ l. IsLenientOutcome files options l all other) (sym same) second in
-        is ∙ ap (λ l. with_rule options l (strictly options.strict lenient)) same
-        ∙ ap (λ o. with_rule options others (strictly options.strict o)) (one_lenient law files options opened all lenient other first second') ∙ sym is'
+        is ∙ ap (λ l. with_rule options l (strictly options.strict_tree lenient)) same
+        ∙ ap (λ o. with_rule options others (strictly options.strict_tree o)) (one_lenient law files options opened all lenient other first second') ∙ sym is'
 
     by : IsLenientOutcome files options opened all lenient → a ≡ b
     by (refused_tree r why was) =
-        is ∙ ap (λ o. with_rule options opened (strictly options.strict o)) was
-        ∙ ap (λ o. with_rule options others (strictly options.strict o)) (sym (lenient_refused law files options others all other r why second)) ∙ sym is'
+        is ∙ ap (λ o. with_rule options opened (strictly options.strict_tree o)) was
+        ∙ ap (λ o. with_rule options others (strictly options.strict_tree o)) (sym (lenient_refused law files options others all other r why second)) ∙ sym is'
     by (refused_name tree name accepted unread was) = accepts tree accepted
     by (accepted_tree tree accepted read part) = accepts tree accepted

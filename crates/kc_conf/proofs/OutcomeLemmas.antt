@@ -1,6 +1,6 @@
 -- How the parts of a run make one run.
 use Rattle.std.proofs.Common.{◌≡◌, inl, inr, ℕ, Bool, true, false, List, [], ◌∷◌, ◌++◌, refl, sym, ap, subst, ◌∙◌, append_assoc, append-nil, Option, Some, None}
-use Rattle.std.specs.Prelude.{◌&&◌, ◌||◌, if◌then◌else◌}
+use Rattle.std.specs.Prelude.{◌&&◌, ◌||◌}
 use Rattle.kc_dot.specs.Sink.{BeginsWith}
 use Rattle.kc_dot.proofs.SinkLemmas.{extended-nothing}
 use Rattle.kc_conf.specs.OutputStates.{OutputState, OutputStates, with_state, with_text, begun_with, BreaksOutput}
@@ -8,8 +8,8 @@ use Rattle.kc_tree.specs.TreeFacts.{TreeFacts}
 use Rattle.kc_solve.specs.Solved.{Solution}
 use Rattle.kc_conf.specs.declared.options.Options.{Options}
 use Rattle.kc_conf.specs.ErrorLines.{strict_line}
-use Rattle.kc_conf.specs.Outcome.{AreLines, Outcome, is_done, has_text, lines_text, lost_warnings, noted, notes_of, outcome_of, refused, strictly}
-use Rattle.kc_conf.specs.Reads.{behind_warnings, without_warnings, strictly_after}
+use Rattle.kc_conf.specs.Outcome.{AreLines, Outcome, files_of, is_done, has_text, lines_text, noted, notes_of, refused, refused_if, strictly}
+use Rattle.kc_conf.specs.Reads.{strictly_after}
 use Rattle.kc_conf.specs.FaultParts.{BreaksFile, BreaksFiles}
 use Rattle.kc_conf.specs.Faults.{files_before, files_made, file_text, up_to, finished, Completes, after_fault, BreaksRun, in_notes, not_begun, in_file, StopsNotes}
 use Rattle.kc_conf.specs.declared.run_fault.RunFault.{RunFault}
@@ -114,9 +114,6 @@ pub and_never : (b : Bool) → (b && false) ≡ false
 and_never true = refl
 and_never false = refl
 
-abbrev refused_if : Bool → Outcome → Outcome
-refused_if b part = if b then record (refused strict_line) { warned = part.warned } else part
-
 noted_if : (text : List ℕ) (part : Outcome) (b : Bool) → noted text (refused_if b part) ≡ refused_if b (noted text part)
 noted_if text part true = refl
 noted_if text part false = refl
@@ -141,23 +138,37 @@ begins_if part text false begins = begins
 pub strictly_after-begins : (strict before : Bool) (part : Outcome) (text : List ℕ) → BeginsWith part.warned text → BeginsWith (strictly_after strict before part).warned text
 strictly_after-begins strict before part text begins = begins_if part text (is_done part.status && (strict && (before || has_text part.warned))) begins
 
--- and else the files
-pub without_warnings-made : (options : Options) (tree : TreeFacts) (s : Solution) (strict before : Bool) → (strict && before) ≡ false →
-    strictly_after strict before (without_warnings (outcome_of options tree s)) ≡ without_warnings (outcome_of options tree s)
-without_warnings-made options tree s true true e = cc
-without_warnings-made options tree s true false e = refl
-without_warnings-made options tree s false before e = refl
+-- the lines of the values that are lost stand before the files, or before the line that refuses them
+abbrev pub behind : Options → TreeFacts → Solution → Bool → List ℕ → Outcome
+behind options tree s refuses text = refused_if refuses (record (files_of options tree s) { warned = text })
 
--- the lines of the values that are lost stand before the files
-pub lost-noted : (options : Options) (tree : TreeFacts) (s : Solution) → noted (lines_text (lost_warnings options s)) (without_warnings (outcome_of options tree s)) ≡ behind_warnings options tree s
-lost-noted options tree s = ap (λ (t : List ℕ). let o : Outcome = record (outcome_of options tree s) { warned = t } in o) (append-nil (lines_text (lost_warnings options s)))
+pub lost-noted : (options : Options) (tree : TreeFacts) (s : Solution) (strict before refuses : Bool) (text : List ℕ) →
+    noted text (refused_if (refuses || (strict && (before || has_text text))) (files_of options tree s)) ≡ strictly_after strict before (behind options tree s refuses text)
+lost-noted options tree s strict before true text = ap (λ (t : List ℕ). let o : Outcome = record (refused strict_line) { warned = t } in o) (append-nil text)
+lost-noted options tree s strict before false text =
+    noted_if text (files_of options tree s) (strict && (before || has_text text))
+    ∙ ap (λ (t : List ℕ). let o : Outcome = record (files_of options tree s) { warned = t } in refused_if (strict && (before || has_text text)) o) (append-nil text)
+
+-- the warnings of the values stand before both
+pub warned-noted : (options : Options) (tree : TreeFacts) (s : Solution) (refuses : Bool) (first text : List ℕ) → noted first (behind options tree s refuses text) ≡ behind options tree s refuses (first ++ text)
+warned-noted options tree s true first text = refl
+warned-noted options tree s false first text = refl
 
 -- lines have text where there is one
 pub told_lines : (line : List ℕ) (lines : List (List ℕ)) → has_text (lines_text (line ∷ lines)) ≡ true
 told_lines [] lines = refl
 told_lines (b ∷ line) lines = refl
 
--- what has a file is as without --strict
+-- what has a file is not refused
+pub config_kept : (b : Bool) (part : Outcome) (text : List ℕ) → (refused_if b part).config ≡ Some text → b ≡ false
+config_kept true part text there = absurd (let e : None ≡ Some text = there in cc)
+config_kept false part text there = refl
+
+pub minimal_kept : (b : Bool) (part : Outcome) (text : List ℕ) → (refused_if b part).minimal ≡ Some text → b ≡ false
+minimal_kept true part text there = absurd (let e : None ≡ Some text = there in cc)
+minimal_kept false part text there = refl
+
+-- and it is as without --strict-tree
 config_if : (part outcome : Outcome) (text : List ℕ) (b : Bool) → outcome ≡ refused_if b part → outcome.config ≡ Some text → outcome ≡ part
 config_if part outcome text true is there = absurd (let e : None ≡ Some text = sym (ap (λ (o : Outcome). o.config) is) ∙ there in cc)
 config_if part outcome text false is there = is
@@ -177,17 +188,9 @@ pub strictly-off : (strict : Bool) (lenient : Outcome) → strict ≡ false → 
 strictly-off true lenient e = cc
 strictly-off false lenient e = ap (λ b. refused_if b lenient) (and_never (is_done lenient.status))
 
--- its files are those of the same without notes
-pub BreaksFiles-without_warnings : (outcome : Outcome) (fault : RunFault) (old new : OutputStates) → BreaksFiles outcome fault old new → BreaksFiles (without_warnings outcome) fault old new
-BreaksFiles-without_warnings outcome fault old new (Config, breaks) = (Config, breaks)
-BreaksFiles-without_warnings outcome fault old new (Header, breaks) = (Header, breaks)
-BreaksFiles-without_warnings outcome fault old new (Minimal, breaks) = (Minimal, breaks)
-BreaksFiles-without_warnings outcome fault old new (Depfile, breaks) = (Depfile, breaks)
-BreaksFiles-without_warnings outcome fault old new (Notes, breaks) = (Notes, breaks)
-
 -- nothing is refused, and one of the files broke off
-pub BreaksRun-made : (options : Options) (tree : TreeFacts) (s : Solution) (strict before : Bool) (fault : RunFault) (old new : OutputStates) → (strict && before) ≡ false →
-    BreaksFiles (outcome_of options tree s) fault old new → BreaksRun (strictly_after strict before (without_warnings (outcome_of options tree s))) fault old new
-BreaksRun-made options tree s strict before fault old new passes breaks =
-    subst (λ o. BreaksRun o fault old new) (sym (without_warnings-made options tree s strict before passes))
-    (BreaksRun-files (without_warnings (outcome_of options tree s)) fault old old new (with_text-nothing old) (BreaksFiles-without_warnings (outcome_of options tree s) fault old new breaks))
+pub BreaksRun-made : (options : Options) (tree : TreeFacts) (s : Solution) (refuses : Bool) (fault : RunFault) (old new : OutputStates) → refuses ≡ false →
+    BreaksFiles (files_of options tree s) fault old new → BreaksRun (refused_if refuses (files_of options tree s)) fault old new
+BreaksRun-made options tree s refuses fault old new passes breaks =
+    subst (λ b. BreaksRun (refused_if b (files_of options tree s)) fault old new) (sym passes)
+    (BreaksRun-files (files_of options tree s) fault old old new (with_text-nothing old) breaks)

@@ -1,6 +1,6 @@
 -- What was read and told of a stream up to a place of it.
 use Rattle.std.proofs.Common.{◌≡◌, inl, inr, ℕ, zero, suc, ◌<◌, ◌≤◌, Bool, true, false, List, [], ◌∷◌, ◌++◌, length, codes, refl, sym, ap, subst, ◌∙◌, append_assoc, append-nil, length-append, arith, Option, Some, None}
-use Rattle.std.specs.Prelude.{◌==◌, filter, decimal, if◌then◌else◌}
+use Rattle.std.specs.Prelude.{◌==◌, filter, decimal, slice_index_or, if◌then◌else◌}
 use Rattle.std.specs.List.{All, slice_split}
 use Rattle.std.proofs.lemmas.Bool.{cases_Bool, lt-leb}
 use Rattle.std.proofs.lemmas.Grind.{flat_map-append}
@@ -8,11 +8,14 @@ use Rattle.std.proofs.lemmas.List.Elements.{All-nil, All-cons, All-append}
 use Rattle.kc_text.specs.Limits.{one_more}
 use Rattle.kc_text.specs.Lines.{is_line_feed}
 use Rattle.kc_tree.specs.TreeFacts.{TreeFacts}
-use Rattle.kc_user.specs.Places.{Places}
-use Rattle.kc_dot.specs.Effects.{LineWarning, warning_line, warning_text}
+use Rattle.kc_expr.specs.declared.expression.Kind.{Kind}
+use Rattle.kc_user.specs.GivenValue.{GivenValue, SymbolPlace, same_given}
+use Rattle.kc_user.specs.Places.{place_at}
+use Rattle.kc_dot.specs.Changes.{StreamLocation, change_line, change_text, location_text, value_text}
+use Rattle.kc_dot.specs.Effects.{Effect, Silent, Warns, Assigns, LineWarning, kind_of, name_of, warning_line, warning_text}
 use Rattle.kc_dot.specs.Feeding.{StreamPosition, stream_start, ReadsPiece}
 use Rattle.kc_dot.specs.Laws.{HasShortLines}
-use Rattle.kc_dot.specs.Reading.{Line, ReadResult, before_too_long, effect, effect_warning, is_within, last_line, line, lines_from, lines_in_stream, places_after, reading, warning, warning_line_if, warnings, with_warnings}
+use Rattle.kc_dot.specs.Reading.{UserInput, Line, ReadResult, before_too_long, effect, effect_change, effect_text, effect_warning, is_within, last_line, line, lines_from, lines_in_stream, input_after, reading, stream_location, warning, warning_line_if, warnings, with_warnings}
 use Rattle.kc_dot.proofs.LineLemmas.{HasNoLf, is_within-line, lines_from-last, lines_from-lf}
 use Rattle.kc_dot.proofs.ReadingLemmas.{reading-nothing, reading_long, reading_within, warnings-cons, warnings-nothing}
 use Rattle.kc_conf.specs.Outcome.{AreLines, lines_text}
@@ -27,36 +30,62 @@ pub AreLines-append : (a b : List ℕ) → AreLines a → AreLines b → AreLine
 AreLines-append a b (ls, is) (ms, is') =
     (ls ++ ms, ap (λ t. t ++ b) is ∙ ap (λ t. lines_text ls ++ t) is' ∙ sym (flat_map-append (λ line. line ++ codes "\n") ls ms))
 
-AreLines-warning_if : (stream : List ℕ) (number : ℕ) (told : Option LineWarning) → AreLines (warning_line_if stream number told)
+pub AreLines-warning_if : (stream : List ℕ) (number : ℕ) (told : Option LineWarning) → AreLines (warning_line_if stream number told)
 AreLines-warning_if stream number None = AreLines-nothing
 AreLines-warning_if stream number (Some told) =
     ((stream ++ codes ":" ++ decimal number ++ codes ": warning " ++ warning_text told) ∷ [], sym (append-nil (warning_line stream number told)))
 
+AreLines-change : (at : StreamLocation) (name : List ℕ) (kind : Kind) (old : Option GivenValue) (from : Option StreamLocation) (given : GivenValue) →
+    AreLines (change_text at name kind old from given)
+AreLines-change at name kind None from given = AreLines-nothing
+AreLines-change at name kind (Some old) None given = AreLines-nothing
+AreLines-change at name kind (Some old) (Some from) given = by (same_given old given)
+  where
+    front : List ℕ
+    front = location_text at ++ codes ": warning K15: " ++ name ++ codes " was " ++ value_text kind old ++ codes " (" ++ location_text from ++ codes ") and is now " ++ value_text kind given
+
+    whole : change_line at name kind old from given ≡ (front ++ codes "\n") ++ []
+    whole = simp append_assoc refl
+
+    by : (b : Bool) → AreLines (if b then [] else change_line at name kind old from given)
+    by true = AreLines-nothing
+    by false = (front ∷ [], whole)
+
+AreLines-effect : (tree : TreeFacts) (input : UserInput) (at : StreamLocation) (e : Effect) → AreLines (effect_text tree input at e)
+AreLines-effect tree input at e =
+    AreLines-append (warning_line_if at.stream at.number (effect_warning tree input.places e)) (effect_change tree input at e)
+    (AreLines-warning_if at.stream at.number (effect_warning tree input.places e)) (changed e)
+  where
+    changed : (e : Effect) → AreLines (effect_change tree input at e)
+    changed Silent = AreLines-nothing
+    changed (Warns line_warning) = AreLines-nothing
+    changed (Assigns s given) = AreLines-change at (name_of tree s) (kind_of tree s) (place_at input.places (SymbolPlace s.0)) (slice_index_or input.lines s.0 None) given
+
 module _ (tree : TreeFacts) (prefix : List ℕ) where
-  AreLines-warning : (places : Places) (l : Line) → AreLines (warning tree prefix places l)
+  AreLines-warning : (input : UserInput) (l : Line) → AreLines (warning tree prefix input l)
   unfolding warning
-  AreLines-warning places l = AreLines-warning_if l.stream l.number (effect_warning tree places (effect tree prefix l))
+  AreLines-warning input l = AreLines-effect tree input (stream_location l) (effect tree prefix l)
 
   -- what lines warn of is whole lines
-  pub AreLines-warnings : (lines : List Line) (places : Places) → AreLines (warnings tree prefix places lines)
+  pub AreLines-warnings : (lines : List Line) (places : UserInput) → AreLines (warnings tree prefix places lines)
   AreLines-warnings [] places = subst AreLines (sym (warnings-nothing tree prefix places)) AreLines-nothing
   AreLines-warnings (l ∷ lines) places =
-      let after = places_after tree prefix places (l ∷ []) in
+      let after = input_after tree prefix places (l ∷ []) in
       subst AreLines (sym (warnings-cons tree prefix places l lines))
       (AreLines-append (warning tree prefix places l) (warnings tree prefix after lines) (AreLines-warning places l) (AreLines-warnings lines after))
 
   -- and so is what a reading warns of
-  pub AreLines-reading : (lines : List Line) (places : Places) → AreLines (reading tree prefix places lines).warned
+  pub AreLines-reading : (lines : List Line) (places : UserInput) → AreLines (reading tree prefix places lines).warned
   unfolding reading
   AreLines-reading lines places = AreLines-warnings (before_too_long lines) places
 
   -- a line that is too long, behind the others, warns of nothing
-  warned-long_end : (lines : List Line) (places : Places) (l : Line) → is_within l ≡ false → (reading tree prefix places (lines ++ l ∷ [])).warned ≡ (reading tree prefix places lines).warned
+  warned-long_end : (lines : List Line) (places : UserInput) (l : Line) → is_within l ≡ false → (reading tree prefix places (lines ++ l ∷ [])).warned ≡ (reading tree prefix places lines).warned
   warned-long_end [] places l long =
       ap (λ (r : ReadResult). r.warned) (reading_long tree prefix places l [] long) ∙ sym (ap (λ (r : ReadResult). r.warned) (reading-nothing tree prefix places))
   warned-long_end (m ∷ lines) places l long = elim (cases_Bool (is_within m)) [
     | inl e ↦
-        let after = places_after tree prefix places (m ∷ []) in
+        let after = input_after tree prefix places (m ∷ []) in
         ap (λ (r : ReadResult). r.warned) (reading_within tree prefix places m (lines ++ l ∷ []) e)
         ∙ ap (λ w. warning tree prefix places m ++ w) (warned-long_end lines after l long)
         ∙ sym (ap (λ (r : ReadResult). r.warned) (reading_within tree prefix places m lines e))
@@ -123,7 +152,7 @@ module _ (name tail : List ℕ) (one : HasNoLf tail) (some : 0 < length tail) wh
 
 module _ (tree : TreeFacts) (prefix name : List ℕ) where
   -- what was told of these bytes is what their lines warn of that have ended
-  pub warned-ended : (bytes : List ℕ) (new : StreamPosition) (before after : Places) (warned : List ℕ) → HasNoLf new.pending →
+  pub warned-ended : (bytes : List ℕ) (new : StreamPosition) (before after : UserInput) (warned : List ℕ) → HasNoLf new.pending →
       ReadsPiece tree prefix name bytes stream_start new before after warned → warned ≡ (reading tree prefix before (ended_lines name bytes)).warned
   warned-ended bytes new before after warned one goes =
       let (tail, none, long) = tail_of 65536 in
@@ -143,7 +172,7 @@ module _ (tree : TreeFacts) (prefix name : List ℕ) where
       ∙ ap (λ (r : ReadResult). warned ++ r.warned) (reading_long tree prefix after last [] last_long) ∙ append-nil warned in
       sym right ∙ sym (ap (λ (r : ReadResult). r.warned) (goes tail [])) ∙ left
 
-  pub AreLines-piece : (bytes : List ℕ) (new : StreamPosition) (before after : Places) (warned : List ℕ) → HasNoLf new.pending →
+  pub AreLines-piece : (bytes : List ℕ) (new : StreamPosition) (before after : UserInput) (warned : List ℕ) → HasNoLf new.pending →
       ReadsPiece tree prefix name bytes stream_start new before after warned → AreLines warned
   AreLines-piece bytes new before after warned one goes =
       subst AreLines (sym (warned-ended bytes new before after warned one goes)) (AreLines-reading tree prefix (ended_lines name bytes) before)
@@ -177,16 +206,16 @@ short_lines a b n bytes = short_parts a b n (slice_split is_line_feed bytes)
 
 module _ (tree : TreeFacts) (prefix : List ℕ) where
   -- a reading that does not stop met no line that is too long
-  short-unstopped : (lines : List Line) (places : Places) → (reading tree prefix places lines).stopped ≡ None → AreShort lines
+  short-unstopped : (lines : List Line) (places : UserInput) → (reading tree prefix places lines).stopped ≡ None → AreShort lines
   short-unstopped [] places none = tt
   short-unstopped (l ∷ lines) places none = elim (cases_Bool (is_within l)) [
     | inl e ↦
-        (e, short-unstopped lines (places_after tree prefix places (l ∷ [])) (sym (ap (λ (r : ReadResult). r.stopped) (reading_within tree prefix places l lines e)) ∙ none))
+        (e, short-unstopped lines (input_after tree prefix places (l ∷ [])) (sym (ap (λ (r : ReadResult). r.stopped) (reading_within tree prefix places l lines e)) ∙ none))
     | inr e ↦ absurd (let stops = sym (ap (λ (r : ReadResult). r.stopped) (reading_long tree prefix places l lines e)) ∙ none in cc)
   ]
 
   -- a line that waits, and is not too long, stops nothing
-  unstopped-last : (name : List ℕ) (n : ℕ) (pending : List ℕ) (places : Places) → HasNoLf pending → length pending ≤ 65535 →
+  unstopped-last : (name : List ℕ) (n : ℕ) (pending : List ℕ) (places : UserInput) → HasNoLf pending → length pending ≤ 65535 →
       (reading tree prefix places (lines_from name n (pending ++ []) ++ [])).stopped ≡ None
   unstopped-last name n pending places one few =
       ap (λ ls. (reading tree prefix places ls).stopped)
@@ -198,10 +227,10 @@ module _ (tree : TreeFacts) (prefix : List ℕ) where
       by false =
           let l = line name n pending false in
           ap (λ (r : ReadResult). r.stopped) (reading_within tree prefix places l [] (is_within-line name n pending false few))
-          ∙ ap (λ (r : ReadResult). r.stopped) (reading-nothing tree prefix (places_after tree prefix places (l ∷ [])))
+          ∙ ap (λ (r : ReadResult). r.stopped) (reading-nothing tree prefix (input_after tree prefix places (l ∷ [])))
 
   -- no line is too long of bytes that were taken and wait
-  pub short-piece : (name bytes : List ℕ) (new : StreamPosition) (before after : Places) (warned : List ℕ) → HasNoLf new.pending → length new.pending ≤ 65535 →
+  pub short-piece : (name bytes : List ℕ) (new : StreamPosition) (before after : UserInput) (warned : List ℕ) → HasNoLf new.pending → length new.pending ≤ 65535 →
       ReadsPiece tree prefix name bytes stream_start new before after warned → HasShortLines bytes
   short-piece name bytes new before after warned one few goes other =
       let lines : lines_from name 1 (bytes ++ []) ++ [] ≡ lines_from name 1 bytes =
@@ -212,7 +241,7 @@ module _ (tree : TreeFacts) (prefix : List ℕ) where
       AreShort-all (lines_from other 1 bytes) (short_lines name other 1 bytes (short-unstopped (lines_from name 1 bytes) before none))
 
   -- nor of a stream that was read to its end
-  pub short-stream : (name bytes : List ℕ) (before after : Places) (warned : List ℕ) →
+  pub short-stream : (name bytes : List ℕ) (before after : UserInput) (warned : List ℕ) →
       ((more : List Line) → reading tree prefix before (lines_from name 1 bytes ++ more) ≡ with_warnings warned (reading tree prefix after more)) → HasShortLines bytes
   short-stream name bytes before after warned reads other =
       let none : (reading tree prefix before (lines_from name 1 bytes)).stopped ≡ None =
@@ -221,7 +250,7 @@ module _ (tree : TreeFacts) (prefix : List ℕ) where
       AreShort-all (lines_from other 1 bytes) (short_lines name other 1 bytes (short-unstopped (lines_from name 1 bytes) before none))
 
   -- the warnings of lines that were read to their end are whole lines
-  pub AreLines-reads : (lines : List Line) (before after : Places) (warned : List ℕ) →
+  pub AreLines-reads : (lines : List Line) (before after : UserInput) (warned : List ℕ) →
       ((more : List Line) → reading tree prefix before (lines ++ more) ≡ with_warnings warned (reading tree prefix after more)) → AreLines warned
   AreLines-reads lines before after warned reads =
       let is : (reading tree prefix before (lines ++ [])).warned ≡ warned =

@@ -8,10 +8,9 @@ use Rattle.std.proofs.lemmas.Grind.{flat_map-append}
 use Rattle.std.proofs.lemmas.List.{get_or_append_left}
 use Rattle.std.proofs.lemmas.List.Elements.{All-nil, All-push}
 use Rattle.kc_tree.specs.TreeFacts.{TreeFacts}
-use Rattle.kc_user.specs.Places.{Places}
 use Rattle.kc_dot.specs.Feeding.{StreamPosition, stream_start, to_come, ReadsPiece, Feeds, StopsBecause, Refuses, FinishesStream, FailsToEnd}
 use Rattle.kc_dot.specs.Laws.{HasShortLines}
-use Rattle.kc_dot.specs.Reading.{Line, ReadResult, Stream, StreamLocation, is_within, lines_from, lines_of, places_after, reading, with_warnings}
+use Rattle.kc_dot.specs.Reading.{UserInput, Line, ReadResult, Stream, StreamLocation, is_within, lines_from, lines_of, input_after, reading, with_warnings}
 use Rattle.kc_dot.specs.Sink.{BeginsWith, GoesBeyond, extended, preceded}
 use Rattle.kc_dot.specs.declared.fault.DotFault.{DotFault}
 use Rattle.kc_dot.specs.declared.fault.DotFault.TheVariants.{DotLineTooLong, Sink, Memory}
@@ -140,16 +139,16 @@ module _ (tree : TreeFacts) (prefix : List ℕ) where
   -- ---- pieces
 
   module _ (name : List ℕ) where
-    ReadsPiece-append : (a b : List ℕ) (old mid new : StreamPosition) (before middle after : Places) (w v : List ℕ) →
+    ReadsPiece-append : (a b : List ℕ) (old mid new : StreamPosition) (before middle after : UserInput) (w v : List ℕ) →
         ReadsPiece tree prefix name a old mid before middle w → ReadsPiece tree prefix name b mid new middle after v → ReadsPiece tree prefix name (a ++ b) old new before after (w ++ v)
     ReadsPiece-append a b old mid new before middle after w v first second rest more =
         rw append_assoc (first (b ++ rest) more ∙ ap (with_warnings w) (second rest more) ∙ with_warnings-with_warnings w v (reading tree prefix after (to_come name new rest more)))
 
-    pub TakenSoFar-nothing : (given : Option (List ℕ)) (position : StreamPosition) (places : Places) (text : Option (List ℕ)) →
+    pub TakenSoFar-nothing : (given : Option (List ℕ)) (position : StreamPosition) (places : UserInput) (text : Option (List ℕ)) →
         TakenSoFar tree prefix name given given position position places places text text
     TakenSoFar-nothing given position places text = ([], [], preceded-nothing given, extended-nothing text, λ rest more. refl)
 
-    pub TakenSoFar-piece : (given mid rest : Option (List ℕ)) (piece : List ℕ) (old position new : StreamPosition) (before places after : Places) (text text_mid text_after : Option (List ℕ)) →
+    pub TakenSoFar-piece : (given mid rest : Option (List ℕ)) (piece : List ℕ) (old position new : StreamPosition) (before places after : UserInput) (text text_mid text_after : Option (List ℕ)) →
         TakenSoFar tree prefix name given mid old position before places text text_mid → mid ≡ preceded piece rest → Feeds tree prefix name piece position new places after text_mid text_after →
         TakenSoFar tree prefix name given rest old new before after text text_after
     TakenSoFar-piece given mid rest piece old position new before places after text text_mid text_after (bytes, warned, first, told_first, goes) second (warned', told_second, goes') = (
@@ -162,7 +161,7 @@ module _ (tree : TreeFacts) (prefix : List ℕ) where
 
     -- a line of this piece is too long
     pub TakesPieces-long : (given mid rest : Option (List ℕ)) (piece : List ℕ) (number : ℕ) (old position new last : StreamPosition)
-        (before places after : Places) (text text_mid text_after : Option (List ℕ)) →
+        (before places after : UserInput) (text text_mid text_after : Option (List ℕ)) →
         TakenSoFar tree prefix name given mid old position before places text text_mid → mid ≡ preceded piece rest →
         Refuses tree prefix name (DotLineTooLong number) piece position new places after text_mid text_after →
         TakesPieces tree prefix name (Some number) given old last before after text text_after
@@ -188,7 +187,7 @@ module _ (tree : TreeFacts) (prefix : List ℕ) where
 
     -- it broke off in this piece: the notes, or for want of memory
     BreaksStream-piece : (fault : RunFault) (why : DotFault) (given mid rest left : Option (List ℕ)) (piece : List ℕ) (position new : StreamPosition)
-        (before places after : Places) (text text_mid text_after : Option (List ℕ)) → HasNoLf position.pending →
+        (before places after : UserInput) (text text_mid text_after : Option (List ℕ)) → HasNoLf position.pending →
         ((part : List ℕ) (front : List ℕ) → StopsBecause tree prefix name why part new after front → (more_bytes : List ℕ) (more : List Line) →
         StopsWarnings fault (reading tree prefix after (to_come name new (part ++ more_bytes) more)).warned front) →
         ((bytes front : List ℕ) → TakenPart tree prefix name fault given left bytes before front) →
@@ -213,14 +212,14 @@ module _ (tree : TreeFacts) (prefix : List ℕ) where
       part ((bytes ++ piece) ++ left_of rest) ((warned ++ refuses.warned) ++ refuses.front),
     )
 
-    pub BreaksStream-sink : (given mid rest left : Option (List ℕ)) (piece : List ℕ) (position new : StreamPosition) (before places after : Places) (text text_mid text_after : Option (List ℕ)) →
+    pub BreaksStream-sink : (given mid rest left : Option (List ℕ)) (piece : List ℕ) (position new : StreamPosition) (before places after : UserInput) (text text_mid text_after : Option (List ℕ)) →
         HasNoLf position.pending → TakenSoFar tree prefix name given mid stream_start position before places text text_mid → mid ≡ preceded piece rest →
         Refuses tree prefix name Sink piece position new places after text_mid text_after → BreaksStream tree prefix name (Write Notes) given left before text text_after
     BreaksStream-sink given mid rest left piece position new before places after text text_mid text_after waits =
         BreaksStream-piece (Write Notes) Sink given mid rest left piece position new before places after text text_mid text_after waits
         (λ part front because. begins_at_break tree prefix name part new after front because) (λ bytes front. tt)
 
-    pub BreaksStream-memory : (given mid rest left : Option (List ℕ)) (piece : List ℕ) (position new : StreamPosition) (before places after : Places) (text text_mid text_after : Option (List ℕ)) →
+    pub BreaksStream-memory : (given mid rest left : Option (List ℕ)) (piece : List ℕ) (position new : StreamPosition) (before places after : UserInput) (text text_mid text_after : Option (List ℕ)) →
         HasNoLf position.pending → TakenSoFar tree prefix name given mid stream_start position before places text text_mid → mid ≡ preceded piece rest →
         Refuses tree prefix name Memory piece position new places after text_mid text_after → BreaksStream tree prefix name OutOfMemory given left before text text_after
     BreaksStream-memory given mid rest left piece position new before places after text text_mid text_after waits =
@@ -228,7 +227,7 @@ module _ (tree : TreeFacts) (prefix : List ℕ) where
         (λ part front because bytes more. nothing_told (reading tree prefix after (to_come name new (part ++ bytes) more)).warned front because.0) (λ bytes front. tt)
 
     -- the input failed
-    pub BreaksStream-unread : (input : ℕ) (given rest : Option (List ℕ)) (position : StreamPosition) (before after : Places) (text text_after : Option (List ℕ)) →
+    pub BreaksStream-unread : (input : ℕ) (given rest : Option (List ℕ)) (position : StreamPosition) (before after : UserInput) (text text_after : Option (List ℕ)) →
         HasNoLf position.pending → length position.pending ≤ 65535 →
         TakenSoFar tree prefix name given rest stream_start position before after text text_after → BreaksStream tree prefix name (Read input) given rest before text text_after
     BreaksStream-unread input given rest position before after text text_after waits few (bytes, warned, is, grew, goes) = (
@@ -248,7 +247,7 @@ module _ (tree : TreeFacts) (prefix : List ℕ) where
 
     -- ---- a stream
 
-    pub ReadsStream-whole : (given : Option (List ℕ)) (position : StreamPosition) (before places after : Places) (text text_mid text_after : Option (List ℕ)) →
+    pub ReadsStream-whole : (given : Option (List ℕ)) (position : StreamPosition) (before places after : UserInput) (text text_mid text_after : Option (List ℕ)) →
         TakesPieces tree prefix name None given stream_start position before places text text_mid → FinishesStream tree prefix name position places after text_mid text_after →
         ReadsStream tree prefix name None given before after text text_after
     ReadsStream-whole given position before places after text text_mid text_after (bytes, warned, are, grew, goes) (warned', grew', ends) = (
@@ -264,7 +263,7 @@ module _ (tree : TreeFacts) (prefix : List ℕ) where
     )
 
     -- the last line broke off
-    BreaksStream-end : (fault : RunFault) (given left : Option (List ℕ)) (position : StreamPosition) (before places : Places) (text text_mid text_after : Option (List ℕ)) →
+    BreaksStream-end : (fault : RunFault) (given left : Option (List ℕ)) (position : StreamPosition) (before places : UserInput) (text text_mid text_after : Option (List ℕ)) →
         HasNoLf position.pending → ((bytes front : List ℕ) → TakenPart tree prefix name fault given left bytes before front) →
         TakesPieces tree prefix name None given stream_start position before places text text_mid →
         (front : List ℕ) → text_after ≡ extended text_mid front →
@@ -283,14 +282,14 @@ module _ (tree : TreeFacts) (prefix : List ℕ) where
       part bytes (warned ++ front),
     )
 
-    pub BreaksStream-end_sink : (given left : Option (List ℕ)) (position : StreamPosition) (before places : Places) (text text_mid text_after : Option (List ℕ)) →
+    pub BreaksStream-end_sink : (given left : Option (List ℕ)) (position : StreamPosition) (before places : UserInput) (text text_mid text_after : Option (List ℕ)) →
         HasNoLf position.pending → TakesPieces tree prefix name None given stream_start position before places text text_mid →
         FailsToEnd tree prefix name Sink position places text_mid text_after → BreaksStream tree prefix name (Write Notes) given left before text text_after
     BreaksStream-end_sink given left position before places text text_mid text_after waits takes (last, is, within, (front, begun, grew)) =
         BreaksStream-end (Write Notes) given left position before places text text_mid text_after waits (λ bytes f. tt) takes front grew
         (begins_at_end tree prefix name position places last front is within begun)
 
-    pub BreaksStream-end_memory : (given left : Option (List ℕ)) (position : StreamPosition) (before places : Places) (text text_mid text_after : Option (List ℕ)) →
+    pub BreaksStream-end_memory : (given left : Option (List ℕ)) (position : StreamPosition) (before places : UserInput) (text text_mid text_after : Option (List ℕ)) →
         HasNoLf position.pending → TakesPieces tree prefix name None given stream_start position before places text text_mid →
         text_after ≡ text_mid → BreaksStream tree prefix name OutOfMemory given left before text text_after
     BreaksStream-end_memory given left position before places text text_mid text_after waits takes same =
@@ -300,14 +299,14 @@ module _ (tree : TreeFacts) (prefix : List ℕ) where
   -- ---- several streams
 
   -- no line of these is too long
-  whole_lines : (lines : List Line) (places : Places) → All (λ l. is_within l ≡ true) lines → (reading tree prefix places lines).stopped ≡ None
+  whole_lines : (lines : List Line) (places : UserInput) → All (λ l. is_within l ≡ true) lines → (reading tree prefix places lines).stopped ≡ None
   whole_lines [] places short = ap (λ (r : ReadResult). r.stopped) (reading-nothing tree prefix places)
   whole_lines (l ∷ lines) places short =
       ap (λ (r : ReadResult). r.stopped) (reading_within tree prefix places l lines (short 0 l (omega arith)))
-      ∙ whole_lines lines (places_after tree prefix places (l ∷ [])) (λ k d within. short (suc k) d (omega (arith, within)))
+      ∙ whole_lines lines (input_after tree prefix places (l ∷ [])) (λ k d within. short (suc k) d (omega (arith, within)))
 
   -- a stream of which a line is refused has a line that is too long
-  long_stream : (name bytes : List ℕ) (before after : Places) (warned : List ℕ) (stop : StreamLocation) →
+  long_stream : (name bytes : List ℕ) (before after : UserInput) (warned : List ℕ) (stop : StreamLocation) →
       StopsAtLongLine tree prefix (lines_from name 1 bytes) before after warned stop → HasShortLines bytes → ⊥
   long_stream name bytes before after warned stop stops short =
       let lines = lines_from name 1 bytes in
@@ -316,14 +315,14 @@ module _ (tree : TreeFacts) (prefix : List ℕ) where
       let e : Some stop ≡ None = sym (ap (λ (r : ReadResult). r.stopped) (stops [])) ∙ whole in cc
 
   -- no stream yet
-  pub ReadSoFar-nothing : (names : List (List ℕ)) (given : List (Option (List ℕ))) (places : Places) (text : Option (List ℕ)) →
+  pub ReadSoFar-nothing : (names : List (List ℕ)) (given : List (Option (List ℕ))) (places : UserInput) (text : Option (List ℕ)) →
       ReadSoFar tree prefix 0 names names given given places places text text
   ReadSoFar-nothing names given places text =
       ([], [], refl, extended-nothing text, λ left are. (are, refl), λ more. ap (λ ls. reading tree prefix places (lines_of ls ++ more)) (streams-none names), All-nil HasShortLines)
 
   -- one stream more
   pub ReadSoFar-stream : (count : ℕ) (names later : List (List ℕ)) (name : List ℕ) (given others : List (Option (List ℕ))) (this : Option (List ℕ))
-      (before places after : Places) (text text_mid text_after : Option (List ℕ)) →
+      (before places after : UserInput) (text text_mid text_after : Option (List ℕ)) →
       drop count names ≡ name ∷ later →
       ReadSoFar tree prefix count names (name ∷ later) given (this ∷ others) before places text text_mid → ReadsStream tree prefix name None this places after text_mid text_after →
       ReadSoFar tree prefix (count + 1) names later given others before after text text_after
@@ -351,7 +350,7 @@ module _ (tree : TreeFacts) (prefix : List ℕ) where
   )
 
   -- all streams were read
-  pub ReadsStreams-end : (count : ℕ) (names : List (List ℕ)) (given : List (Option (List ℕ))) (there : List Bool) (before after : Places) (text text_after : Option (List ℕ)) →
+  pub ReadsStreams-end : (count : ℕ) (names : List (List ℕ)) (given : List (Option (List ℕ))) (there : List Bool) (before after : UserInput) (text text_after : Option (List ℕ)) →
       ((all : List (List ℕ)) → AreAllToCome given all → StreamsAreThere all there) →
       ReadSoFar tree prefix count names [] given [] before after text text_after → ReadsStreams tree prefix names None given there before after text text_after
   ReadsStreams-end count names given there before after text text_after are_there (done, warned, counted, grew, goes, were, short) =
@@ -365,7 +364,7 @@ module _ (tree : TreeFacts) (prefix : List ℕ) where
 
   -- a line of this stream is too long
   pub ReadsStreams-long : (count : ℕ) (names later : List (List ℕ)) (name : List ℕ) (number : ℕ) (given others : List (Option (List ℕ))) (there : List Bool) (this : Option (List ℕ))
-      (before places after : Places) (text text_mid text_after : Option (List ℕ)) →
+      (before places after : UserInput) (text text_mid text_after : Option (List ℕ)) →
       count < length there → ((i : ℕ) → i < count + 1 → get_or there i false ≡ true) →
       ReadSoFar tree prefix count names (name ∷ later) given (this ∷ others) before places text text_mid → ReadsStream tree prefix name (Some number) this places after text_mid text_after →
       ReadsStreams tree prefix names (Some (record { stream = name; number = number })) given there before after text text_after
@@ -386,7 +385,7 @@ module _ (tree : TreeFacts) (prefix : List ℕ) where
 
   -- what was read of this stream until its input failed was read of all
   part-streams : (fault : RunFault) (count : ℕ) (names : List (List ℕ)) (name : List ℕ) (given left : List (Option (List ℕ))) (there : List Bool) (this rest : Option (List ℕ))
-      (done behind : List (List ℕ)) (bytes warned front : List ℕ) (before places : Places) → IsStreamFault count fault → length done ≡ count → get_or names count [] ≡ name →
+      (done behind : List (List ℕ)) (bytes warned front : List ℕ) (before places : UserInput) → IsStreamFault count fault → length done ≡ count → get_or names count [] ≡ name →
       slice_get given count ≡ Some this → slice_get left count ≡ Some rest → count < length there → ((i : ℕ) → i < count → get_or there i false ≡ true) →
       Reads tree prefix (lines_of (streams names done)) before places warned → All HasShortLines done →
       TakenPart tree prefix name fault this rest bytes places front → ReadPart tree prefix names fault given left there (done ++ bytes ∷ behind) before (warned ++ front)
@@ -413,7 +412,7 @@ module _ (tree : TreeFacts) (prefix : List ℕ) where
 
   -- this stream broke off
   pub BreaksStreams-stream : (fault : RunFault) (count : ℕ) (names later : List (List ℕ)) (name : List ℕ) (given others left : List (Option (List ℕ))) (there : List Bool) (this rest : Option (List ℕ))
-      (before places : Places) (text text_mid text_after : Option (List ℕ)) → IsStreamFault count fault → get_or names count [] ≡ name →
+      (before places : UserInput) (text text_mid text_after : Option (List ℕ)) → IsStreamFault count fault → get_or names count [] ≡ name →
       slice_get given count ≡ Some this → slice_get left count ≡ Some rest → count < length there → ((i : ℕ) → i < count → get_or there i false ≡ true) →
       ReadSoFar tree prefix count names (name ∷ later) given (this ∷ others) before places text text_mid → BreaksStream tree prefix name fault this rest places text_mid text_after →
       BreaksStreams tree prefix names fault given left there before text text_after

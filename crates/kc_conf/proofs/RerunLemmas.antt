@@ -1,6 +1,6 @@
 -- What a run's texts give when they are read again.
-use Rattle.std.proofs.Common.{◌≡◌, ℕ, ◌<◌, true, List, [], ◌∷◌, length, Option, Some, None, refl, ap, sym, ◌∙◌, subst, map}
-use Rattle.std.specs.Prelude.{string_bytes, slice_index_or}
+use Rattle.std.proofs.Common.{◌≡◌, ℕ, ◌<◌, true, false, List, [], ◌∷◌, length, Option, Some, None, refl, ap, sym, ◌∙◌, subst, map}
+use Rattle.std.specs.Prelude.{◌&&◌, not, string_bytes, slice_index_or}
 use Rattle.kc_expr.specs.Value.{SymbolValue, TextValue}
 use Rattle.kc_expr.specs.declared.expression.Kind.TheVariants.{Undefined}
 use Rattle.std.proofs.lemmas.List.{ext_get_or}
@@ -8,13 +8,13 @@ use Rattle.kc_read.specs.Files.{Files}
 use Rattle.kc_tree.specs.TreeFacts.{TreeFacts}
 use Rattle.kc_build.specs.Trees.{TreesAreWellFormed}
 use Rattle.kc_user.specs.GivenValue.{GivenValue, UserPlace}
-use Rattle.kc_user.specs.Places.{ArePlaces, Places, no_places, place_at}
+use Rattle.kc_user.specs.Places.{ArePlaces, Places, place_at}
 use Rattle.kc_order.specs.Solution.{Solves}
 use Rattle.kc_values.specs.Solution.{equations, symbol_count}
 use Rattle.kc_solve.specs.Solved.{Solution, value_of}
 use Rattle.kc_dot.specs.Laws.{HasShortLines}
 use Rattle.kc_dot.specs.WrittenLaws.{ConfigIsIdempotent, IsSolutionOf, MinimalHasNothingToSpare, MinimalRestores, WrittenTextsAreShort}
-use Rattle.kc_dot.specs.Reading.{ReadResult, reading_of}
+use Rattle.kc_dot.specs.Reading.{ReadResult, reading, reading_of}
 use Rattle.kc_dot.specs.Reread.{IsOneSolution, read_alone, valuation_view}
 use Rattle.kc_dot.specs.SolvedView.{solution_view}
 use Rattle.kc_dot.specs.Streams.{StreamsLeavePlaces}
@@ -23,8 +23,9 @@ use Rattle.kc_dot.specs.Prefixes.{is_prefix}
 use Rattle.kc_dot.proofs.EntryLemmas.{config_text-same}
 use Rattle.kc_dot.proofs.SolutionLemmas.{solution_of}
 use Rattle.kc_conf.specs.declared.options.Options.{Options}
-use Rattle.kc_conf.specs.Outcome.{IsAcceptedTree, IsLenientOutcome, IsOutcomeOfReading, IsRefusedTree, IsSolutionFor, OneAnswer, Outcome, accepted_tree, lines_text, long_line, names_of, noted, outcome_of, read_of, refused_name, refused_tree, root_file, streams, strictly, text_if, unreadable_name, whole, with_rule}
-use Rattle.kc_conf.proofs.OutcomeLemmas.{strictly-config, strictly-minimal, strictly-off}
+use Rattle.kc_conf.specs.Outcome.{IsAcceptedTree, IsLenientOutcome, IsOutcomeOfReading, IsRefusedTree, IsSolutionFor, OneAnswer, Outcome, accepted_tree, lines_text, long_line, names_of, noted, outcome_of, read_of, refused_name, refused_tree, root_file, streams, strictly, text_if, unreadable_name, whole, with_rule, fresh_input, refused_if, warned_files}
+use Rattle.kc_conf.proofs.OutcomeLemmas.{strictly-config, strictly-minimal, strictly-off, config_kept, minimal_kept}
+use Rattle.kc_conf.specs.Taken.{is_taken, refuses_input}
 use Rattle.kc_conf.proofs.RuleLemmas.{rule-config, rule-minimal}
 use Rattle.kc_conf.specs.Reruns.{AreAlone, ConfigIsReadAgain, OutcomesAreReadAgain, RefusesNothing, MinimalIsReadAgain, MinimalIsRunAgain, TextsHaveShortLines, WrittenAreWhole}
 
@@ -33,14 +34,24 @@ use Rattle.kc_conf.specs.Reruns.{AreAlone, ConfigIsReadAgain, OutcomesAreReadAga
 abbrev Values : Files → Options → List (List ℕ) → Outcome → Type 0
 Values files options all outcome =
     (tree : TreeFacts) × (solution : Solution) × RefusesNothing files options all tree solution
-    × (outcome ≡ noted (lines_text tree.warnings) (noted (read_of options tree all).warned (outcome_of options tree solution)))
+    × (outcome ≡ noted (lines_text tree.warnings) (noted (read_of options tree all).warned (warned_files options tree (read_of options tree all).input solution)))
+    × (refuses_input options (read_of options tree all).input solution ≡ false)
 
 rest_whole : (files : Files) (options : Options) (all : List (List ℕ)) (tree : TreeFacts) (rest outcome : Outcome) (text : List ℕ) → IsAcceptedTree files (root_file options) tree →
     IsOutcomeOfReading options tree (read_of options tree all) rest → outcome ≡ noted (lines_text tree.warnings) rest → outcome.config ≡ Some text → Values files options all outcome
 rest_whole files options all tree rest outcome text accepted (long_line stop stopped is) from there =
     absurd (let e : None ≡ Some text = sym (ap (λ (o : Outcome). o.config) (from ∙ ap (noted (lines_text tree.warnings)) is)) ∙ there in cc)
 rest_whole files options all tree rest outcome text accepted (whole solution none solves is) from there =
-    (tree, solution, record { accepted = accepted; read_whole = none; solution_is = solves }, from ∙ ap (noted (lines_text tree.warnings)) is)
+    let read = read_of options tree all in
+    let files_too = warned_files options tree read.input solution in
+    let whole_is = from ∙ ap (noted (lines_text tree.warnings)) is in
+    let kept = config_kept (refuses_input options read.input solution) files_too text (sym (ap (λ (o : Outcome). o.config) whole_is) ∙ there) in (
+      tree,
+      solution,
+      record { accepted = accepted; read_whole = none; solution_is = solves },
+      whole_is ∙ ap (λ b. noted (lines_text tree.warnings) (noted read.warned (refused_if b files_too))) kept,
+      kept,
+    )
 
 lenient_whole : (files : Files) (options : Options) (opened all : List (List ℕ)) (outcome : Outcome) (text : List ℕ) → IsLenientOutcome files options opened all outcome →
     outcome.config ≡ Some text → Values files options all outcome
@@ -53,11 +64,11 @@ lenient_whole files options opened all outcome text (accepted_tree tree accepted
 
 pub written_whole : WrittenAreWhole
 written_whole files options all outcome text (lenient, opened, is_lenient, are, is) there =
-    let part : Outcome = strictly options.strict lenient in
+    let part : Outcome = strictly options.strict_tree lenient in
     let has : part.config ≡ Some text = sym (rule-config options opened part) ∙ sym (ap (λ (o : Outcome). o.config) is) ∙ there in
-    let same : part ≡ lenient = strictly-config options.strict lenient part text refl has in
-    let (tree, solution, is_whole, values) = lenient_whole files options opened all lenient text is_lenient (sym (ap (λ (o : Outcome). o.config) same) ∙ has) in
-    (tree, solution, is_whole, (opened, are, is ∙ ap (with_rule options opened) (same ∙ values)))
+    let same : part ≡ lenient = strictly-config options.strict_tree lenient part text refl has in
+    let (tree, solution, is_whole, values, kept) = lenient_whole files options opened all lenient text is_lenient (sym (ap (λ (o : Outcome). o.config) same) ∙ has) in
+    (tree, solution, is_whole, (opened, are, is ∙ ap (with_rule options opened) (same ∙ values)), kept)
 
 -- ---- the texts read again
 
@@ -71,12 +82,12 @@ text_if_is (Some x) text found e = cc
 module _ (formed : TreesAreWellFormed) (leaves : StreamsLeavePlaces) (files : Files) (options : Options) (all : List (List ℕ)) (tree : TreeFacts)
     (solution : Solution) (is : RefusesNothing files options all tree solution) where
   abbrev read_places : Places
-  read_places = (read_of options tree all).places
+  read_places = (read_of options tree all).input.places
 
   pub whole_solution : IsSolutionOf tree solution.places (value_of solution)
   whole_solution =
       let well = formed files (root_file options) tree is.accepted.built in
-      let held : ArePlaces tree read_places = leaves tree options.prefix (streams (names_of options) all) well in
+      let held : ArePlaces tree read_places = leaves tree options.prefix options.warn_lost (streams (names_of options) all) well in
       solution_of solution tree is.solution_is.tree_is well (rw is.solution_is.tree_is is.accepted.accepted) is.solution_is.solves
       (subst (ArePlaces tree) (sym is.solution_is.places_are) held)
 
@@ -98,8 +109,8 @@ texts_short formed leaves short files options all tree solution is_pre is =
 -- the same of an outcome's texts
 pub outcomes_read_again : WrittenAreWhole → MinimalIsReadAgain → ConfigIsReadAgain → TextsHaveShortLines → OutcomesAreReadAgain
 outcomes_read_again written minimals configs shorts files options all outcome config is_pre is_outcome there =
-    let (tree, solution, is, (opened, are, from)) = written files options all outcome config is_outcome there in
-    let part : Outcome = noted (lines_text tree.warnings) (noted (read_of options tree all).warned (outcome_of options tree solution)) in
+    let (tree, solution, is, (opened, are, from), kept) = written files options all outcome config is_outcome there in
+    let part : Outcome = noted (lines_text tree.warnings) (noted (read_of options tree all).warned (warned_files options tree (read_of options tree all).input solution)) in
     let view : valuation_view tree (place_at solution.places) (value_of solution) ≡ solution_view solution =
     ap (λ (f : TreeFacts). valuation_view f (place_at solution.places) (value_of solution)) (sym is.solution_is.tree_is) in
     let short = shorts files options all tree solution is_pre is in
@@ -154,7 +165,16 @@ minimal_whole files options opened all outcome text (accepted_tree tree accepted
     by (long_line stop stopped is) =
         absurd (let e : None ≡ Some text = sym (ap (λ (o : Outcome). o.minimal) (from ∙ ap (noted (lines_text tree.warnings)) is)) ∙ there in cc)
     by (whole solution none solves is) =
-        (tree, solution, record { accepted = accepted; read_whole = none; solution_is = solves }, from ∙ ap (noted (lines_text tree.warnings)) is)
+        let read = read_of options tree all in
+        let files_too = warned_files options tree read.input solution in
+        let whole_is = from ∙ ap (noted (lines_text tree.warnings)) is in
+        let kept = minimal_kept (refuses_input options read.input solution) files_too text (sym (ap (λ (o : Outcome). o.minimal) whole_is) ∙ there) in (
+          tree,
+          solution,
+          record { accepted = accepted; read_whole = none; solution_is = solves },
+          whole_is ∙ ap (λ b. noted (lines_text tree.warnings) (noted read.warned (refused_if b files_too))) kept,
+          kept,
+        )
 
 no_more_streams : (names : List (List ℕ)) → names ≡ [] → streams names [] ≡ []
 no_more_streams [] e = refl
@@ -172,7 +192,7 @@ values_same tree places s t same count one is =
     ext_get_or (TextValue Undefined []) t.values s.values counts (λ i lt. one.only (value_of t) solves i (subst (λ n. i < n) (is.solves.count ∙ ap symbol_count is.tree_is) lt))
 
 module _ (answer : OneAnswer) (again : MinimalIsReadAgain) (files : Files) (options alone : Options) (all : List (List ℕ)) (text : List ℕ)
-    (is_pre : is_prefix options.prefix ≡ true) (same : AreAlone options alone) where
+    (is_pre : is_prefix options.prefix ≡ true) (same : AreAlone options alone) (lets_pass : alone.strict ≡ false) where
   module _ (tree : TreeFacts) (solution : Solution) (is : RefusesNothing files options all tree solution) (text_is : minimal_text tree options.prefix (solution_view solution) ≡ text) where
     abbrev name : List ℕ
     name = string_bytes alone.config
@@ -180,26 +200,39 @@ module _ (answer : OneAnswer) (again : MinimalIsReadAgain) (files : Files) (opti
     abbrev read : ReadResult
     read = read_alone tree options.prefix name text
 
-    restored : (read.stopped ≡ None) × IsOneSolution tree read.places (value_of solution)
+    restored : (read.stopped ≡ None) × IsOneSolution tree read.input.places (value_of solution)
     restored =
         let gives = (again files options all tree solution is_pre is).0 name in
         let told : minimal_text tree options.prefix (valuation_view tree (place_at solution.places) (value_of solution)) ≡ text =
         ap (λ (f : TreeFacts). minimal_text tree options.prefix (valuation_view f (place_at solution.places) (value_of solution))) (sym is.solution_is.tree_is) ∙ text_is in
-        subst (λ t. let r = read_alone tree options.prefix name t in (r.stopped ≡ None) × IsOneSolution tree r.places (value_of solution)) told gives
+        subst (λ t. let r = read_alone tree options.prefix name t in (r.stopped ≡ None) × IsOneSolution tree r.input.places (value_of solution)) told gives
 
-    reads_text : read_of alone tree (text ∷ []) ≡ read_alone tree options.prefix (string_bytes alone.config) text
+    alone_streams : streams (names_of alone) (text ∷ []) ≡ record { name = name; bytes = text } ∷ []
+    alone_streams =
+        ap (λ ss. record { name = name; bytes = text } ∷ ss) (no_more_streams (map string_bytes alone.fragments.items) (ap (map string_bytes) same.no_fragments))
+
+    reads_text : (read_of alone tree (text ∷ [])).stopped ≡ read.stopped
+    unfolding reading
     reads_text =
-        ap (λ p. reading_of tree p (no_places tree) (streams (names_of alone) (text ∷ []))) same.prefix
-        ∙ ap (λ ss. reading_of tree options.prefix (no_places tree) (record { name = string_bytes alone.config; bytes = text } ∷ ss))
-        (no_more_streams (map string_bytes alone.fragments.items) (ap (map string_bytes) same.no_fragments))
+        ap (λ p. (reading_of tree p (fresh_input alone tree) (streams (names_of alone) (text ∷ []))).stopped) same.prefix
+        ∙ ap (λ ss. (reading_of tree options.prefix (fresh_input alone tree) ss).stopped) alone_streams
+
+    leaves_places : (read_of alone tree (text ∷ [])).input.places ≡ read.input.places
+    unfolding reading
+    leaves_places =
+        ap (λ p. (reading_of tree p (fresh_input alone tree) (streams (names_of alone) (text ∷ []))).input.places) same.prefix
+        ∙ ap (λ ss. (reading_of tree options.prefix (fresh_input alone tree) ss).input.places) alone_streams
 
     of_reading : (rest : Outcome) → IsOutcomeOfReading alone tree (read_of alone tree (text ∷ [])) rest → rest.config ≡ Some (config_text tree options.prefix (solution_view solution))
     of_reading rest (long_line stop stopped was) =
-        absurd (let e : Some stop ≡ None = sym stopped ∙ ap (λ (r : ReadResult). r.stopped) reads_text ∙ restored.0 in cc)
+        absurd (let e : Some stop ≡ None = sym stopped ∙ reads_text ∙ restored.0 in cc)
     of_reading rest (whole other none solves was) =
-        let for : IsSolutionFor tree read.places other = subst (λ (r : ReadResult). IsSolutionFor tree r.places other) reads_text solves in
-        let values = values_same tree read.places solution other is.solution_is.tree_is is.solution_is.solves.count restored.1 for in
+        let for : IsSolutionFor tree read.input.places other = subst (λ (p : Places). IsSolutionFor tree p other) leaves_places solves in
+        let values = values_same tree read.input.places solution other is.solution_is.tree_is is.solution_is.solves.count restored.1 for in
+        let input = (read_of alone tree (text ∷ [])).input in
+        let passes : refuses_input alone input other ≡ false = ap (λ b. b && not (is_taken alone input other)) lets_pass in
         ap (λ (o : Outcome). o.config) was
+        ∙ ap (λ b. (refused_if b (warned_files alone tree input other)).config) passes
         ∙ ap (λ p. Some (config_text tree p (solution_view other))) same.prefix
         ∙ ap Some (config_same tree options.prefix other solution for.tree_is is.solution_is.tree_is values)
 
@@ -214,13 +247,13 @@ module _ (answer : OneAnswer) (again : MinimalIsReadAgain) (files : Files) (opti
         ap (λ (o : Outcome). o.config) was ∙ of_reading rest part'
 
 pub minimal_run_again : OneAnswer → MinimalIsReadAgain → MinimalIsRunAgain
-minimal_run_again answer again files options alone all outcome later text is_pre same lets_pass read_all (lenient, opened, is_lenient, are, is_outcome) there (later_lenient, others, second, are_too, was) =
-    let part : Outcome = strictly options.strict lenient in
+minimal_run_again answer again files options alone all outcome later text is_pre same lets_pass tree_passes read_all (lenient, opened, is_lenient, are, is_outcome) there (later_lenient, others, second, are_too, was) =
+    let part : Outcome = strictly options.strict_tree lenient in
     let has : part.minimal ≡ Some text = sym (rule-minimal options opened part) ∙ sym (ap (λ (o : Outcome). o.minimal) is_outcome) ∙ there in
-    let unchanged : part ≡ lenient = strictly-minimal options.strict lenient part text refl has in
+    let unchanged : part ≡ lenient = strictly-minimal options.strict_tree lenient part text refl has in
     let has_too : lenient.minimal ≡ Some text = sym (ap (λ (o : Outcome). o.minimal) unchanged) ∙ has in
-    let (tree, solution, is, from) = minimal_whole files options opened all lenient text is_lenient has_too in
+    let (tree, solution, is, from, kept) = minimal_whole files options opened all lenient text is_lenient has_too in
     let text_is : minimal_text tree options.prefix (solution_view solution) ≡ text = text_if_is options.minimal _ text (sym (ap (λ (o : Outcome). o.minimal) from) ∙ has_too) in
-    ap (λ (o : Outcome). o.config) was ∙ rule-config alone others (strictly alone.strict later_lenient) ∙ ap (λ (o : Outcome). o.config) (strictly-off alone.strict later_lenient lets_pass)
-    ∙ of_outcome answer again files options alone all text is_pre same tree solution is text_is others later_lenient (read_all others are_too) second
+    ap (λ (o : Outcome). o.config) was ∙ rule-config alone others (strictly alone.strict_tree later_lenient) ∙ ap (λ (o : Outcome). o.config) (strictly-off alone.strict_tree later_lenient tree_passes)
+    ∙ of_outcome answer again files options alone all text is_pre same lets_pass tree solution is text_is others later_lenient (read_all others are_too) second
     ∙ sym (ap (λ (o : Outcome). o.config) is_outcome ∙ rule-config options opened part ∙ ap (λ (o : Outcome). o.config) (unchanged ∙ from))

@@ -3,10 +3,10 @@ use Rattle.std.proofs.Common.{◌≡◌, ◌≢◌, ℕ, Bool, true, false, List
 use Rattle.std.specs.Prelude.{◌&&◌, if◌then◌else◌}
 use Rattle.kc_tree.specs.TreeFacts.{TreeFacts}
 use Rattle.kc_conf.specs.declared.options.Options.{Options}
-use Rattle.kc_conf.specs.ErrorLines.{strict_line}
+use Rattle.kc_conf.specs.Taken.{refuses_input}
 use Rattle.kc_conf.specs.FaultParts.{BreaksFile}
 use Rattle.kc_conf.specs.Faults.{BreaksRun, Completes, StopsNotes, finished, in_file, in_notes, not_begun, up_to}
-use Rattle.kc_conf.specs.Outcome.{IsOutcomeOfReading, IsOutcomeOfTree, Outcome, depfile_text, is_done, has_text, long_line, notes_of, read_of, refused, strictly, whole, with_rule}
+use Rattle.kc_conf.specs.Outcome.{IsOutcomeOfReading, IsOutcomeOfTree, Outcome, depfile_text, is_done, has_text, long_line, notes_of, read_of, refused, strictly, whole, with_rule, refused_if, warned_files, text_if}
 use Rattle.kc_conf.specs.OutputStates.{OutputStates, made_if, with_text}
 use Rattle.kc_conf.specs.Rules.{BreaksInRule, EndsWithRule}
 use Rattle.kc_conf.specs.declared.run_fault.RunFault.{RunFault}
@@ -109,14 +109,16 @@ module _ (options : Options) (opened : List (List ℕ)) where
 
 -- ---- no outcome has a rule before it is written
 
-no_rule_in_rest : (options : Options) (tree : TreeFacts) (all : List (List ℕ)) (rest : Outcome) → IsOutcomeOfReading options tree (read_of options tree all) rest → rest.depfile ≡ None
-no_rule_in_rest options tree all rest (long_line stop stopped is) = ap (λ (o : Outcome). o.depfile) is
-no_rule_in_rest options tree all rest (whole solution none solves is) = ap (λ (o : Outcome). o.depfile) is
-
-no_rule_if : (part : Outcome) (b : Bool) → part.depfile ≡ None → (if b then record (refused strict_line) { warned = part.warned } else part).depfile ≡ None
+no_rule_if : (part : Outcome) (b : Bool) → part.depfile ≡ None → (refused_if b part).depfile ≡ None
 no_rule_if part true none = refl
 no_rule_if part false none = none
 
-pub no_rule : (options : Options) (tree : TreeFacts) (all : List (List ℕ)) (part : Outcome) → IsOutcomeOfTree options tree all part → (strictly options.strict part).depfile ≡ None
+no_rule_in_rest : (options : Options) (tree : TreeFacts) (all : List (List ℕ)) (rest : Outcome) → IsOutcomeOfReading options tree (read_of options tree all) rest → rest.depfile ≡ None
+no_rule_in_rest options tree all rest (long_line stop stopped is) = ap (λ (o : Outcome). o.depfile) is
+no_rule_in_rest options tree all rest (whole solution none solves is) =
+    let input = (read_of options tree all).input in
+    ap (λ (o : Outcome). o.depfile) is ∙ no_rule_if (warned_files options tree input solution) (refuses_input options input solution) refl
+
+pub no_rule : (options : Options) (tree : TreeFacts) (all : List (List ℕ)) (part : Outcome) → IsOutcomeOfTree options tree all part → (strictly options.strict_tree part).depfile ≡ None
 no_rule options tree all part (rest, is_rest, is) =
-    no_rule_if part (is_done part.status && (options.strict && has_text part.warned)) (ap (λ (o : Outcome). o.depfile) is ∙ no_rule_in_rest options tree all rest is_rest)
+    no_rule_if part (is_done part.status && (options.strict_tree && has_text part.warned)) (ap (λ (o : Outcome). o.depfile) is ∙ no_rule_in_rest options tree all rest is_rest)

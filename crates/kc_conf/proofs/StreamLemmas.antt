@@ -3,8 +3,8 @@ use Rattle.std.proofs.Common.{◌≡◌, ℕ, zero, suc, ◌+◌, ◌<◌, ◌�
 use Rattle.std.specs.Prelude.{string_bytes, slice_get}
 use Rattle.std.proofs.lemmas.List.{drop_more, drop_all, get_or-map, length-map, map-set, set-get_or}
 use Rattle.kc_tree.specs.TreeFacts.{TreeFacts}
-use Rattle.kc_user.specs.Places.{Places}
 use Rattle.kc_dot.specs.Sink.{next_failure}
+use Rattle.kc_dot.specs.Reading.{UserInput}
 use Rattle.kc_conf.specs.declared.options.Options.{Options}
 use Rattle.kc_conf.specs.Faults.{CountsInputs}
 use Rattle.kc_conf.specs.Outcome.{names_of}
@@ -43,7 +43,7 @@ module _ {X : Type 0} (inputs old : List X) (at : ℕ) (d : X) (within : at < le
       slice_get-map remaining old at d (omega (arith, within, same_count)) ∙ ap (λ x. Some (remaining x)) same
 
 module _ {X : Type 0} (remaining : X → Option (List ℕ)) (tree : TreeFacts) (prefix : List ℕ) (names : List (List ℕ)) (given : List (Option (List ℕ)))
-    (before places : Places) (text text_mid : Option (List ℕ)) (inputs : List X) (at : ℕ) (d : X) (name : List ℕ) (named : at < length names)
+    (before places : UserInput) (text text_mid : Option (List ℕ)) (inputs : List X) (at : ℕ) (d : X) (name : List ℕ) (named : at < length names)
     (there : at < length inputs) (name_is : name ≡ get_or names at []) where
   next : ReadSoFar tree prefix at names (drop at names) given (map remaining (drop at inputs)) before places text text_mid →
       ReadSoFar tree prefix at names (name ∷ drop (at + 1) names) given (remaining (get_or inputs at d) ∷ map remaining (drop (at + 1) inputs)) before places text text_mid
@@ -56,7 +56,7 @@ module _ {X : Type 0} (remaining : X → Option (List ℕ)) (tree : TreeFacts) (
       (sym name_is) second
 
   -- the stream was read to its end, and the inputs behind it are as they were
-  pub ReadSoFar-next : (later : List X) (after : Places) (text_after : Option (List ℕ)) → drop (at + 1) later ≡ drop (at + 1) inputs →
+  pub ReadSoFar-next : (later : List X) (after : UserInput) (text_after : Option (List ℕ)) → drop (at + 1) later ≡ drop (at + 1) inputs →
       ReadSoFar tree prefix at names (drop at names) given (map remaining (drop at inputs)) before places text text_mid →
       ReadsStream tree prefix name None (remaining (get_or inputs at d)) places after text_mid text_after →
       ReadSoFar tree prefix (at + 1) names (drop (at + 1) names) given (map remaining (drop (at + 1) later)) before after text text_after
@@ -66,7 +66,7 @@ module _ {X : Type 0} (remaining : X → Option (List ℕ)) (tree : TreeFacts) (
       before places after text text_mid text_after (drop_more names at [] named ∙ ap (λ n. n ∷ drop (at + 1) names) (sym name_is)) (next read) stream)
 
   -- a line of the stream is too long
-  pub ReadsStreams-stop : (number : ℕ) (there : List Bool) (after : Places) (text_after : Option (List ℕ)) →
+  pub ReadsStreams-stop : (number : ℕ) (there : List Bool) (after : UserInput) (text_after : Option (List ℕ)) →
       at < length there → ((i : ℕ) → i < at + 1 → get_or there i false ≡ true) →
       ReadSoFar tree prefix at names (drop at names) given (map remaining (drop at inputs)) before places text text_mid →
       ReadsStream tree prefix name (Some number) (remaining (get_or inputs at d)) places after text_mid text_after →
@@ -91,7 +91,7 @@ names_count options = let e = length-map options.fragments.items string_bytes in
 
 -- all streams were read
 pub ReadsStreams-all : {X : Type 0} (remaining : X → Option (List ℕ)) (tree : TreeFacts) (prefix : List ℕ) (names : List (List ℕ))
-    (given : List (Option (List ℕ))) (there : List Bool) (before after : Places) (text text_after : Option (List ℕ)) (inputs : List X) (at : ℕ) →
+    (given : List (Option (List ℕ))) (there : List Bool) (before after : UserInput) (text text_after : Option (List ℕ)) (inputs : List X) (at : ℕ) →
     length names ≤ at → length inputs ≤ at → length there ≡ length given → length there ≤ at → ((i : ℕ) → i < at → get_or there i false ≡ true) →
     ReadSoFar tree prefix at names (drop at names) given (map remaining (drop at inputs)) before after text text_after →
     ReadsStreams tree prefix names None given there before after text text_after

@@ -3,8 +3,7 @@ use Rattle.std.proofs.Common.{◌≡◌, ℕ, Bool, true, not, List, [], ◌∷�
 use Rattle.std.specs.Prelude.{◌==◌, if◌then◌else◌}
 use native.Mathlib.Omega.{arith}
 use Rattle.kc_tree.specs.TreeFacts.{TreeFacts}
-use Rattle.kc_user.specs.Places.{Places}
-use Rattle.kc_dot.specs.Reading.{lines_of, reading}
+use Rattle.kc_dot.specs.Reading.{UserInput, lines_of, reading}
 use Rattle.kc_conf.specs.Outcome.{has_text, lines_text, streams}
 use Rattle.kc_conf.specs.OutputStates.{OutputStates}
 use Rattle.kc_conf.specs.InputBytes.{AreAllToCome}
@@ -24,11 +23,11 @@ pub told_by_lines : (lines : List (Vec ℕ Global)) → not (length lines == 0) 
 told_by_lines [] = refl
 told_by_lines (line ∷ lines) = rw (told_lines line.items (map (λ line. line.items) lines)) (grind arith)
 
--- under --strict nothing is told where an input failed
-pub BreaksTelling-held : (tree : TreeFacts) (prefix : List ℕ) (strict : Bool) (names : List (List ℕ)) (input : ℕ) (given left : List (Option (List ℕ))) (there : List Bool)
-    (before : Places) (all : List (List ℕ)) (warned : List ℕ) (old : OutputStates) → strict ≡ true → AreAllToCome given all →
-    ReadsUpTo tree prefix names before given left there all input warned → BreaksTelling tree prefix strict names (Read input) given left there before old old
-BreaksTelling-held tree prefix strict names input given left there before all warned old on are read = (
+-- where warnings are held back nothing is told if an input failed
+pub BreaksTelling-held : (tree : TreeFacts) (prefix : List ℕ) (held : Bool) (names : List (List ℕ)) (input : ℕ) (given left : List (Option (List ℕ))) (there : List Bool)
+    (before : UserInput) (all : List (List ℕ)) (warned : List ℕ) (old : OutputStates) → held ≡ true → AreAllToCome given all →
+    ReadsUpTo tree prefix names before given left there all input warned → BreaksTelling tree prefix held names (Read input) given left there before old old
+BreaksTelling-held tree prefix held names input given left there before all warned old on are read = (
   all,
   [],
   warned,

@@ -1,14 +1,16 @@
 -- Trusted: That no line of the streams goes unaccounted for where lost values are warned of.
-use Rattle.std.specs.Prelude.{◌≡◌, ◌⊎◌, ℕ, true, List, ◌∷◌, ◌++◌, Some, codes}
+use Rattle.std.specs.Prelude.{◌≡◌, ◌⊎◌, ℕ, true, false, All, List, ◌∷◌, ◌++◌, Some, codes}
 use Rattle.kc_expr.specs.declared.expression.SymId.{SymId}
 use Rattle.kc_read.specs.Files.{Files}
 use Rattle.kc_tree.specs.TreeFacts.{SymbolFacts, TreeFacts}
-use Rattle.kc_user.specs.GivenValue.{GivenValue}
+use Rattle.kc_expr.specs.declared.expression.Kind.{Kind}
+use Rattle.kc_user.specs.GivenValue.{GivenValue, same_given}
 use Rattle.kc_values.specs.Differs.{given_of}
 use Rattle.kc_values.specs.Lookups.{facts, name}
 use Rattle.kc_solve.specs.Solved.{Solution, known}
 use Rattle.kc_dot.specs.Effects.{Effect, Silent, Warns, Assigns, SetAgain, warning_line}
-use Rattle.kc_dot.specs.Reading.{Line, effect, lines_of}
+use Rattle.kc_dot.specs.Reading.{Line, effect, lines_of, stream_location}
+use Rattle.kc_dot.specs.Changes.{change_line}
 use Rattle.kc_dot.specs.SolvedView.{solution_view}
 use Rattle.kc_dot.specs.Texts.{config_text}
 use Rattle.kc_conf.specs.declared.options.Options.{Options}
@@ -20,17 +22,24 @@ use Rattle.kc_conf.specs.Reruns.{RefusesNothing}
 abbrev pub HoldsLine : List ℕ → List ℕ → Type 0
 HoldsLine text line = (before after : List ℕ) × (text ≡ before ++ line ++ after) × AreLines before
 
--- a later line gives the symbol a value, and is told to set it again
-abbrev pub IsSetAgain : TreeFacts → List ℕ → List ℕ → SymId → List Line → Type 0
-IsSetAgain tree prefix warned s later =
-    (front back : List Line) × (l : Line) × (given : GivenValue) × (later ≡ front ++ l ∷ back) × (effect tree prefix l ≡ Assigns s given)
-    × HoldsLine warned (warning_line l.stream l.number (SetAgain (name tree s)))
+-- the line gives that symbol no value
+abbrev pub LeavesAlone : TreeFacts → List ℕ → SymId → Line → Type 0
+LeavesAlone tree prefix s l = (given : GivenValue) → effect tree prefix l ≡ Assigns s given → ⊥
 
--- what was given is the symbol's value, or it is told that it is not
-abbrev pub IsKeptOrWarned : TreeFacts → Solution → List ℕ → SymId → SymbolFacts → GivenValue → Type 0
-IsKeptOrWarned tree solution warned s f given =
+-- The next line that gives the symbol a value is told to set it again, and where that is another value, to change it: which value
+-- it was, by this line, and is now.
+abbrev pub IsSetAgain : TreeFacts → List ℕ → List ℕ → Line → SymId → Kind → GivenValue → List Line → Type 0
+IsSetAgain tree prefix warned l s kind given later =
+    (front back : List Line) × (next : Line) × (other : GivenValue) × (later ≡ front ++ next ∷ back) × All (LeavesAlone tree prefix s) front
+    × (effect tree prefix next ≡ Assigns s other)
+    × HoldsLine warned (warning_line next.stream next.number (SetAgain (name tree s)))
+    × (same_given given other ≡ false → HoldsLine warned (change_line (stream_location next) (name tree s) kind given (stream_location l) other))
+
+-- no later line gives the symbol a value, and what this line gave is its value, or it is told that it is not
+abbrev pub IsKeptOrWarned : TreeFacts → Solution → List ℕ → Line → SymId → SymbolFacts → GivenValue → Type 0
+IsKeptOrWarned tree solution warned l s f given =
     (given ≡ given_of (known solution s))
-    ⊎ HoldsLine warned (lost_line (name tree s) f.kind given (given_of (known solution s)) ++ codes "\n")
+    ⊎ HoldsLine warned (lost_line (stream_location l) (name tree s) f.kind given (given_of (known solution s)) ++ codes "\n")
 
 module _ (tree : TreeFacts) (prefix : List ℕ) (solution : Solution) (warned : List ℕ) where
   -- A line that has this effect, before these lines, is accounted for: it is warned of; or what it gives a symbol with a
@@ -39,7 +48,8 @@ module _ (tree : TreeFacts) (prefix : List ℕ) (solution : Solution) (warned : 
   IsAccountedFor l later Silent = Unit {0}
   IsAccountedFor l later (Warns line_warning) = HoldsLine warned (warning_line l.stream l.number line_warning)
   IsAccountedFor l later (Assigns s given) =
-      (f : SymbolFacts) → facts tree s ≡ Some f → has_prompt f.prompts ≡ true → IsSetAgain tree prefix warned s later ⊎ IsKeptOrWarned tree solution warned s f given
+      (f : SymbolFacts) → facts tree s ≡ Some f → has_prompt f.prompts ≡ true →
+      IsSetAgain tree prefix warned l s f.kind given later ⊎ IsKeptOrWarned tree solution warned l s f given
 
 -- Where lost values are warned of and files are written, the .config is the text of the solution, and the warnings account
 -- for each line of the streams by the values of that solution.

@@ -17,4 +17,6 @@ pub mod Reads
 pub mod Reruns
 pub mod Rules
 pub mod Stops
+pub mod Strict
+pub mod Taken
 pub mod TreeFiles

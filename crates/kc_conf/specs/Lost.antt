@@ -1,47 +1,42 @@
 -- Trusted: The values that were given and are not the symbols': whole lines, without the line feed (our own).
-use Rattle.std.specs.Prelude.{ℕ, Bool, true, false, if◌then◌else◌, List, [], ◌∷◌, ◌++◌, codes, Option, Some, None}
+use Rattle.std.specs.Prelude.{ℕ, Bool, true, false, if◌then◌else◌, List, [], ◌∷◌, ◌++◌, codes, slice_index_or, Option, Some, None}
 use Rattle.std.specs.List.{flat_map, range_with_len}
 use Rattle.kc_expr.specs.Names.{symbol}
-use Rattle.kc_expr.specs.Value.{tri_text}
 use Rattle.kc_expr.specs.declared.expression.Kind.{Kind}
 use Rattle.kc_tree.specs.TreeFacts.{Condition, SymbolFacts}
-use Rattle.kc_user.specs.GivenValue.{GivenValue, GivenTruth, GivenText, Member, SymbolPlace, same_given}
+use Rattle.kc_user.specs.GivenValue.{GivenValue, SymbolPlace, same_given}
 use Rattle.kc_user.specs.Places.{place_at}
 use Rattle.kc_values.specs.Differs.{given_of}
 use Rattle.kc_values.specs.Lookups.{facts, name}
 use Rattle.kc_values.specs.Solution.{symbol_count}
 use Rattle.kc_solve.specs.Solved.{Solution, known}
-use Rattle.kc_dot.specs.SymbolLines.{text_in_config}
+use Rattle.kc_dot.specs.Changes.{StreamLocation, location_text, value_text}
 
--- a value as a .config writes it
-abbrev pub value_text : Kind → GivenValue → List ℕ
-value_text kind (GivenTruth t) = tri_text t
-value_text kind (GivenText text) = text_in_config kind text
-value_text kind (Member m) = []
+-- `FILE:LINE: warning K14: NAME was given VALUE and is VALUE`, where this line gave the value
+abbrev pub lost_line : StreamLocation → List ℕ → Kind → GivenValue → GivenValue → List ℕ
+lost_line at name kind given value =
+    location_text at ++ codes ": warning K14: " ++ name ++ codes " was given " ++ value_text kind given ++ codes " and is " ++ value_text kind value
 
--- `NAME was given VALUE and is VALUE`
-abbrev pub lost_line : List ℕ → Kind → GivenValue → GivenValue → List ℕ
-lost_line name kind given value =
-    codes "warning K14: " ++ name ++ codes " was given " ++ value_text kind given ++ codes " and is " ++ value_text kind value
-
--- what stands in a symbol's place is not its value
-abbrev pub lost_by : List ℕ → Kind → Option GivenValue → GivenValue → List (List ℕ)
-lost_by name kind None value = []
-lost_by name kind (Some given) value = if same_given given value then [] else lost_line name kind given value ∷ []
+-- what was given, by a line that is known, is not the symbol's value
+abbrev pub lost_by : List ℕ → Kind → Option StreamLocation → Option GivenValue → GivenValue → List (List ℕ)
+lost_by name kind at None value = []
+lost_by name kind None (Some given) value = []
+lost_by name kind (Some at) (Some given) value = if same_given given value then [] else lost_line at name kind given value ∷ []
 
 abbrev pub has_prompt : List Condition → Bool
 has_prompt [] = false
 has_prompt (when ∷ others) = true
 
 -- a symbol without a prompt has no value of the user's
-abbrev pub lost_of : List ℕ → Option SymbolFacts → Option GivenValue → GivenValue → List (List ℕ)
-lost_of name None given value = []
-lost_of name (Some f) given value = if has_prompt f.prompts then lost_by name f.kind given value else []
+abbrev pub lost_of : List ℕ → Option SymbolFacts → Option StreamLocation → Option GivenValue → GivenValue → List (List ℕ)
+lost_of name None at given value = []
+lost_of name (Some f) at given value = if has_prompt f.prompts then lost_by name f.kind at given value else []
 
-module _ (s : Solution) where
-  -- A member of a choice is told of as any other symbol, by its own place.
+-- For the lines that gave the user's values, and a solution.
+module _ (lines : List (Option StreamLocation)) (s : Solution) where
+  -- A member of a choice is told of as any other symbol, by its own value.
   abbrev pub lost_at : ℕ → List (List ℕ)
-  lost_at i = lost_of (name s.tree (symbol i)) (facts s.tree (symbol i)) (place_at s.places (SymbolPlace i)) (given_of (known s (symbol i)))
+  lost_at i = lost_of (name s.tree (symbol i)) (facts s.tree (symbol i)) (slice_index_or lines i None) (place_at s.places (SymbolPlace i)) (given_of (known s (symbol i)))
 
   -- In order of first definition.
   abbrev pub lost_lines : List (List ℕ)

@@ -5,18 +5,19 @@ use Rattle.kc_read.specs.Expansion.{Refused}
 use Rattle.kc_read.specs.Files.{Files}
 use Rattle.kc_tree.specs.TreeFacts.{TreeFacts}
 use Rattle.kc_build.specs.Trees.{IsTreeOf}
-use Rattle.kc_user.specs.Places.{Places, no_places}
+use Rattle.kc_user.specs.Places.{Places}
 use Rattle.kc_values.specs.Needs.{IsAccepted}
 use Rattle.kc_solve.specs.Refused.{IsLoopText, loop_refused}
 use Rattle.kc_solve.specs.Solved.{Solution, IsSolution, warnings}
-use Rattle.kc_dot.specs.Reading.{ReadResult, StreamLocation, Stream, reading_of}
+use Rattle.kc_dot.specs.Reading.{ReadResult, StreamLocation, Stream, UserInput, no_input, reading_of}
 use Rattle.kc_dot.specs.SolvedView.{solution_view}
 use Rattle.kc_dot.specs.Texts.{config_text, header_text, minimal_text}
 use Rattle.kc_conf.specs.declared.options.Options.{Options}
 use Rattle.kc_make.specs.Opened.{AreOpened, prerequisites_of}
 use Rattle.kc_make.specs.Rules.{rule_text, unreadable_of}
 use Rattle.kc_conf.specs.ErrorLines.{refusal_line, strict_line, too_long_line, unreadable_line}
-use Rattle.kc_conf.specs.Lost.{lost_lines}
+pub use Rattle.kc_conf.specs.Taken.{lost_warnings}
+use Rattle.kc_conf.specs.Taken.{refuses_input}
 use Rattle.kc_conf.specs.declared.options.Status.{Status}
 use Rattle.kc_conf.specs.declared.options.Status.TheVariants.{Done, Refused as IsRefused, Usage, Faulted}
 
@@ -79,9 +80,13 @@ streams [] all = []
 streams (name ∷ names) [] = []
 streams (name ∷ names) (bytes ∷ all) = record { name = name; bytes = bytes } ∷ streams names all
 
--- what reading the streams gives, one after another, from empty places
+-- what is given before the streams: nothing. The lines of the user's values are kept where lost values are asked for
+abbrev pub fresh_input : Options → TreeFacts → UserInput
+fresh_input options tree = no_input options.warn_lost tree
+
+-- what reading the streams gives, one after another
 abbrev pub read_of : Options → TreeFacts → List (List ℕ) → ReadResult
-read_of options tree all = reading_of tree options.prefix (no_places tree) (streams (names_of options) all)
+read_of options tree all = reading_of tree options.prefix (fresh_input options tree) (streams (names_of options) all)
 
 -- ---- the files
 
@@ -96,21 +101,30 @@ abbrev pub text_if : {T : Type 0} → Option T → List ℕ → Option (List ℕ
 text_if None text = None
 text_if (Some name) text = Some text
 
--- the lines of the values that were given and are not the symbols', where they are asked for
-abbrev pub lost_warnings : Options → Solution → List (List ℕ)
-lost_warnings options solution = if options.warn_lost then lost_lines solution else []
-
--- The files of a solution: the values' warnings are noted before, and then the values that are lost.
-abbrev pub outcome_of : Options → TreeFacts → Solution → Outcome
-outcome_of options tree solution = record {
+-- the files of a solution
+abbrev pub files_of : Options → TreeFacts → Solution → Outcome
+files_of options tree solution = record {
   config = Some (config_text tree options.prefix (solution_view solution));
   header = text_if options.header (header_text tree options.prefix (solution_view solution));
   minimal = text_if options.minimal (minimal_text tree options.prefix (solution_view solution));
   depfile = None;
-  warned = lines_text (warnings solution) ++ lines_text (lost_warnings options solution);
+  warned = [];
   refusal = [];
   status = Done;
 }
+
+-- where it is refused, one line refuses it behind its warnings, and it begins nothing
+abbrev pub refused_if : Bool → Outcome → Outcome
+refused_if refuses outcome = if refuses then record (refused strict_line) { warned = outcome.warned } else outcome
+
+-- The files of a solution for the user's input: the values' warnings are noted before, and then the values that are lost.
+abbrev pub warned_files : Options → TreeFacts → UserInput → Solution → Outcome
+warned_files options tree input solution =
+    record (files_of options tree solution) { warned = lines_text (warnings solution) ++ lines_text (lost_warnings options input solution) }
+
+-- Under --strict they are refused where a line was not taken as written.
+abbrev pub outcome_of : Options → TreeFacts → UserInput → Solution → Outcome
+outcome_of options tree input solution = refused_if (refuses_input options input solution) (warned_files options tree input solution)
 
 -- ---- the rule for make
 
@@ -145,15 +159,15 @@ pub record IsRefusedName (files : Files) (options : Options) (name : List ℕ) :
 -- refused; else it is the files of the one solution for the user's places.
 pub data IsOutcomeOfReading (options : Options) (tree : TreeFacts) (read : ReadResult) (outcome : Outcome) : Type 0 where
   long_line : (stop : StreamLocation) → read.stopped ≡ Some stop → outcome ≡ noted read.warned (refused (too_long_line stop)) → IsOutcomeOfReading options tree read outcome
-  whole : (solution : Solution) → read.stopped ≡ None → IsSolutionFor tree read.places solution →
-      outcome ≡ noted read.warned (outcome_of options tree solution) → IsOutcomeOfReading options tree read outcome
+  whole : (solution : Solution) → read.stopped ≡ None → IsSolutionFor tree read.input.places solution →
+      outcome ≡ noted read.warned (outcome_of options tree read.input solution) → IsOutcomeOfReading options tree read outcome
 
 -- with the tree's warnings before it
 abbrev pub IsOutcomeOfTree : Options → TreeFacts → List (List ℕ) → Outcome → Type 0
 IsOutcomeOfTree options tree all outcome =
     (rest : Outcome) × IsOutcomeOfReading options tree (read_of options tree all) rest × (outcome ≡ noted (lines_text tree.warnings) rest)
 
--- What a run is to leave that lets warnings pass and writes no rule for make, for files, options and the bytes of the streams,
+-- What a run is to leave that lets the tree's warnings pass and writes no rule for make, for files, options and the bytes of the streams,
 -- where the tree opens these files.
 pub data IsLenientOutcome (files : Files) (options : Options) (opened all : List (List ℕ)) (outcome : Outcome) : Type 0 where
   refused_tree : (r : Refused) → IsRefusedTree files (root_file options) r → outcome ≡ refused (refusal_line r) → IsLenientOutcome files options opened all outcome
@@ -173,10 +187,9 @@ abbrev pub has_text : List ℕ → Bool
 has_text [] = false
 has_text (b ∷ text) = true
 
--- Under --strict, what would write files and warns begins nothing: one line refuses the warnings.
+-- Under --strict-tree, what would write files and warns of anything is refused.
 abbrev pub strictly : Bool → Outcome → Outcome
-strictly strict outcome =
-    if is_done outcome.status && (strict && has_text outcome.warned) then record (refused strict_line) { warned = outcome.warned } else outcome
+strictly strict outcome = refused_if (is_done outcome.status && (strict && has_text outcome.warned)) outcome
 
 -- what writes files writes the rule too, where it is wanted
 abbrev pub with_rule : Options → List (List ℕ) → Outcome → Outcome
@@ -187,7 +200,7 @@ with_rule options opened outcome =
 abbrev pub IsOutcome : Files → Options → List (List ℕ) → Outcome → Type 0
 IsOutcome files options all outcome =
     (lenient : Outcome) × (opened : List (List ℕ)) × IsLenientOutcome files options opened all lenient × AreOpened files (root_file options) opened
-    × (outcome ≡ with_rule options opened (strictly options.strict lenient))
+    × (outcome ≡ with_rule options opened (strictly options.strict_tree lenient))
 
 -- what it adds to the notes is whole lines
 abbrev pub NotesAreLines : Type 0

@@ -11,13 +11,14 @@ use Rattle.kc_dot.specs.Reread.{valuation_view}
 use Rattle.kc_dot.specs.SolvedView.{solution_view}
 use Rattle.kc_dot.specs.Texts.{config_text, minimal_text}
 use Rattle.kc_conf.specs.declared.options.Options.{Options}
-use Rattle.kc_conf.specs.Outcome.{IsAcceptedTree, IsOutcome, IsSolutionFor, NamesAreRead, Outcome, lines_text, noted, outcome_of, read_of, root_file, with_rule}
+use Rattle.kc_conf.specs.Outcome.{IsAcceptedTree, IsOutcome, IsSolutionFor, NamesAreRead, Outcome, lines_text, noted, read_of, root_file, with_rule, warned_files}
+use Rattle.kc_conf.specs.Taken.{refuses_input}
 
 -- A run that refuses nothing: its tree is accepted, no line of its streams is too long, and these are the values.
 pub record RefusesNothing (files : Files) (options : Options) (all : List (List ℕ)) (tree : TreeFacts) (solution : Solution) : Type 0 where
   pub accepted : IsAcceptedTree files (root_file options) tree
   pub read_whole : (read_of options tree all).stopped ≡ None
-  pub solution_is : IsSolutionFor tree (read_of options tree all).places solution
+  pub solution_is : IsSolutionFor tree (read_of options tree all).input.places solution
 
 -- An outcome with a .config is that of a run that refuses nothing, and all its texts are those of the values.
 abbrev pub WrittenAreWhole : Type 0
@@ -25,7 +26,8 @@ WrittenAreWhole =
     (files : Files) (options : Options) (all : List (List ℕ)) (outcome : Outcome) (text : List ℕ) → IsOutcome files options all outcome → outcome.config ≡ Some text →
     (tree : TreeFacts) × (solution : Solution) × RefusesNothing files options all tree solution
     × ((opened : List (List ℕ)) × AreOpened files (root_file options) opened
-    × (outcome ≡ with_rule options opened (noted (lines_text tree.warnings) (noted (read_of options tree all).warned (outcome_of options tree solution)))))
+    × (outcome ≡ with_rule options opened (noted (lines_text tree.warnings) (noted (read_of options tree all).warned (warned_files options tree (read_of options tree all).input solution)))))
+    × (refuses_input options (read_of options tree all).input solution ≡ false)
 
 -- The minimal file, read alone and from empty places, gives the values back; with any nonempty set of its lines left out
 -- it does not.
@@ -72,5 +74,5 @@ pub record AreAlone (options alone : Options) : Type 0 where
 -- refuses them may write nothing: what that file assigns may be warned of where the streams were not.)
 abbrev pub MinimalIsRunAgain : Type 0
 MinimalIsRunAgain =
-    (files : Files) (options alone : Options) (all : List (List ℕ)) (outcome later : Outcome) (text : List ℕ) → is_prefix options.prefix ≡ true → AreAlone options alone → alone.strict ≡ false → NamesAreRead files alone →
+    (files : Files) (options alone : Options) (all : List (List ℕ)) (outcome later : Outcome) (text : List ℕ) → is_prefix options.prefix ≡ true → AreAlone options alone → alone.strict ≡ false → alone.strict_tree ≡ false → NamesAreRead files alone →
     IsOutcome files options all outcome → outcome.minimal ≡ Some text → IsOutcome files alone (text ∷ []) later → later.config ≡ outcome.config

@@ -1,6 +1,7 @@
 //! What holds of the outcomes of runs, stated as the contracts of functions that do nothing.
 ghost use Rattle.kc_conf.specs.Existence.{AcceptedHaveAnOutcome, AnswerExists, ExactlyOneAnswer, ExactlyOneOutcome, OutcomeExists, SolutionExists};
 ghost use Rattle.kc_conf.specs.Accounted.{NothingIsLost};
+ghost use Rattle.kc_conf.specs.Strict.{StrictTakesAll};
 ghost use Rattle.kc_conf.specs.Outcome.{NotesAreLines};
 ghost use Rattle.kc_conf.specs.Reruns.{ConfigIsReadAgain, MinimalIsReadAgain, MinimalIsRunAgain, OutcomesAreReadAgain, TextsHaveShortLines, WrittenAreWhole};
 
@@ -26,13 +27,25 @@ pub fn notes_are_lines()
     ensures { NotesAreLines }
 {}
 
-/// With `warn_lost`, where files are written: the warning of each line of the streams that is warned of (K7 to K9) is a line
-/// of the notes, and what any other gives a symbol with a prompt is the symbol's value, one of those whose text the written
-/// `.config` is; or it is a line of the notes that it is not (K14); or a later line gives that symbol a value, and it is a
-/// line of the notes that it is set again (K10). (What says nothing is not told: comments, empty lines, and `# NAME is not
-/// set` of a string, int or hex. Our own.)
+/// With `warn_lost`, if files are written, no line is lost silently. The warning of a line that is warned of (K7 to K9) is a
+/// line of the diagnostics. For any other line that gives a symbol with a prompt a value, one of three things holds. The
+/// value is the symbol's, one of those whose text the written `.config` is. Or a line of the diagnostics says that it is not,
+/// with the location of this line (K14). Or the next line that gives the symbol a value is reported to set it again (K10),
+/// and if it gives another value, to change it: with the location of both lines and both values (K15). (What says nothing is
+/// not reported: comments, empty lines, and `# NAME is not set` of a string, int or hex. Our own.)
 pub fn nothing_is_lost()
     ensures { NothingIsLost }
+{
+    written_are_whole();
+}
+
+/// States what `--strict` promises. If files are written with it, each line of the input files was taken as written: no
+/// line was warned of (K7 to K9), no later line gives a symbol another value, and no user value is out of its range (K12).
+/// With `warn_lost`, what a line gives a symbol with a prompt is the symbol's value, one of those whose text the written
+/// `.config` is. (What says nothing is taken as written: comments, empty lines, and `# NAME is not set` of a string, int or
+/// hex. Our own.)
+pub fn strict_takes_all()
+    ensures { StrictTakesAll }
 {
     written_are_whole();
 }

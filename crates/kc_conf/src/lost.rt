@@ -2,63 +2,30 @@
 ghost use Rattle.std.specs.Prelude.{◌≡◌, ◌++◌, ◌<◌, length, map, IfOk, OnOk};
 ghost use Rattle.kc_expr.specs.Value.{value_by_kind};
 ghost use Rattle.kc_solve.specs.Solved.{known};
-ghost use Rattle.std.specs.Option.{option_and_then};
+ghost use Rattle.std.specs.Option.{option_and_then, option_map};
 ghost use Rattle.kc_tree.specs.Layouts.{definition_at, facts_of};
-ghost use Rattle.kc_user.specs.GivenValue.{SymbolPlace, same_given};
+ghost use Rattle.kc_user.specs.GivenValue.{SymbolPlace};
 ghost use Rattle.kc_user.specs.Places.{place_at};
-ghost use Rattle.kc_user.specs.ValueView.{given_of_value};
 ghost use Rattle.kc_values.specs.Differs.{given_of};
 ghost use Rattle.kc_values.specs.Solution.{symbol_count};
 ghost use Rattle.kc_values.specs.User.{given_in};
-ghost use Rattle.kc_dot.specs.SymbolLines.{text_in_config};
+ghost use Rattle.kc_dot.specs.ShownView.{given_by, location_of};
 ghost use Rattle.kc_conf.specs.Lost as spec;
-ghost use Rattle.kc_conf.specs.LostView.{given_by, is_prompted};
-ghost use Rattle.kc_conf.specs.Outcome.{lost_warnings};
+ghost use Rattle.kc_conf.specs.LostView.{is_prompted};
+ghost use Rattle.kc_conf.specs.Taken.{lost_warnings};
 
 use crate::options::Options;
+use kc_dot::shown::{InputLine, ShownValue, add_location, add_value, is_same, shown_given};
+use kc_dot::user_input::UserInput;
 use kc_expr::expression::{Kind, SymId, Tri};
-use kc_expr::values::{Values, tri_text};
+use kc_expr::values::Values;
 use kc_solve::solved::Solved;
-use kc_text::escape_into;
 use kc_tree::layout::Layout;
 use kc_tree::rows::{DefinitionId, Symbol};
 use kc_user::user::User;
 use kc_user::value::UserValue;
 use kc_values::table::name;
 use std::alloc::{AllocError, Global};
-
-// Adds a text as a `.config` writes it.
-fn add_text(kind: Kind, text: &[u8], line: &mut Vec<u8>) -> Result<(), AllocError>
-    ensures { OnOk result (line.new.items ≡ line.old.items ++ text_in_config kind text.now) }
-{
-    match kind {
-        Kind::Str => {
-            line.extend_from_slice(b"\"")?;
-            escape_into(text, line)?;
-            line.extend_from_slice(b"\"")
-        }
-        Kind::Undefined | Kind::Bool | Kind::Tristate | Kind::Int | Kind::Hex => {
-            line.extend_from_slice(text)
-        }
-    }
-}
-
-// A value: of a bool or tristate, or a text.
-#[derive(Clone, Copy)]
-enum ShownValue<'a> {
-    Truth(Tri),
-    Text(&'a [u8]),
-}
-
-// What was given.
-fn shown_given<'a>(given: &'a UserValue) -> ShownValue<'a>
-    ensures { given_by result ≡ given_of_value given.now }
-{
-    match given {
-        UserValue::Tri(tri) => ShownValue::Truth(*tri),
-        UserValue::Text(text) => ShownValue::Text(text),
-    }
-}
 
 // The value of a symbol of this type.
 fn shown_by<'a>(kind: Kind, tri: Tri, text: &'a [u8]) -> ShownValue<'a>
@@ -78,44 +45,25 @@ fn shown_value<'a>(solved: &'a Solved<'_>, id: SymId) -> ShownValue<'a>
     shown_by(solved.kind(id), solved.tri(id), solved.text(id))
 }
 
-// Adds a value.
-fn add_shown(kind: Kind, shown: ShownValue<'_>, line: &mut Vec<u8>) -> Result<(), AllocError>
-    ensures { OnOk result (line.new.items ≡ line.old.items ++ spec.value_text kind (given_by shown.entry)) }
-{
-    match shown {
-        ShownValue::Truth(tri) => line.extend_from_slice(tri_text(tri)),
-        ShownValue::Text(text) => add_text(kind, text, line),
-    }
-}
-
-// Whether the two are one value.
-fn is_same(given: ShownValue<'_>, value: ShownValue<'_>) -> bool
-    ensures { result ≡ same_given (given_by given.entry) (given_by value.entry) }
-{
-    match (given, value) {
-        (ShownValue::Truth(given), ShownValue::Truth(tri)) => given == tri,
-        (ShownValue::Text(given), ShownValue::Text(text)) => given == text,
-        (ShownValue::Truth(_), ShownValue::Text(_)) => false,
-        (ShownValue::Text(_), ShownValue::Truth(_)) => false,
-    }
-}
-
 // The line of a value that was given and is not the symbol's.
 fn lost_line(
     alloc: Global,
+    at: InputLine<'_>,
     name: &[u8],
     kind: Kind,
     given: ShownValue<'_>,
     value: ShownValue<'_>,
 ) -> Result<Vec<u8>, AllocError>
-    ensures { IfOk result (λ line. line.items ≡ spec.lost_line name.now kind (given_by given.entry) (given_by value.entry)) }
+    ensures { IfOk result (λ line. line.items ≡ spec.lost_line (location_of at.entry) name.now kind (given_by given.entry) (given_by value.entry)) }
 {
-    let mut line = Vec::from_slice(alloc, b"warning K14: ")?;
+    let mut line = Vec::new(alloc);
+    add_location(at, &mut line)?;
+    line.extend_from_slice(b": warning K14: ")?;
     line.extend_from_slice(name)?;
     line.extend_from_slice(b" was given ")?;
-    add_shown(kind, given, &mut line)?;
+    add_value(kind, given, &mut line)?;
     line.extend_from_slice(b" and is ")?;
-    add_shown(kind, value, &mut line)?;
+    add_value(kind, value, &mut line)?;
     Ok(line)
 }
 
@@ -124,20 +72,25 @@ fn lost_by(
     alloc: Global,
     name: &[u8],
     kind: Kind,
+    at: Option<InputLine<'_>>,
     given: Option<&UserValue>,
     value: ShownValue<'_>,
     lines: &mut Vec<Vec<u8>>,
 ) -> Result<(), AllocError>
-    ensures { OnOk result (map (λ l. l.items) lines.new.items ≡ map (λ l. l.items) lines.old.items ++ spec.lost_by name.now kind (given_in given.entry) (given_by value.entry)) }
+    ensures { OnOk result (map (λ l. l.items) lines.new.items ≡ map (λ l. l.items) lines.old.items
+        ++ spec.lost_by name.now kind (option_map location_of at.entry) (given_in given.entry) (given_by value.entry)) }
 {
     let Some(given) = given else {
+        return Ok(());
+    };
+    let Some(at) = at else {
         return Ok(());
     };
     let given = shown_given(given);
     if is_same(given, value) {
         return Ok(());
     }
-    let line = lost_line(alloc, name, kind, given, value)?;
+    let line = lost_line(alloc, at, name, kind, given, value)?;
     lines.push(line)?;
     Ok(())
 }
@@ -178,12 +131,13 @@ fn given_at<'a>(user: &'a User, id: SymId) -> Option<&'a UserValue>
 // The line of the symbol of a number, behind those that are there.
 fn lost_into(
     alloc: Global,
+    input: &UserInput<'_>,
     solved: &Solved<'_>,
     id: SymId,
     lines: &mut Vec<Vec<u8>>,
 ) -> Result<(), AllocError>
     requires { id.0 < symbol_count solved.now.tree }
-    ensures { OnOk result (map (λ l. l.items) lines.new.items ≡ map (λ l. l.items) lines.old.items ++ spec.lost_at solved.now id.0) }
+    ensures { OnOk result (map (λ l. l.items) lines.new.items ≡ map (λ l. l.items) lines.old.items ++ spec.lost_at input.now.lines solved.now id.0) }
 {
     solved.is_solution();
     let tree = solved.tree();
@@ -194,34 +148,41 @@ fn lost_into(
     if !has_prompt(layout, symbol) {
         return Ok(());
     }
+    let at = input.line(id);
     let given = given_at(solved.user(), id);
     let value = shown_value(solved, id);
-    lost_by(alloc, name(tree, id), symbol.kind, given, value, lines)
+    lost_by(alloc, name(tree, id), symbol.kind, at, given, value, lines)
 }
 
 // The lines of all symbols.
-fn lost_lines(alloc: Global, solved: &Solved<'_>) -> Result<Vec<Vec<u8>>, AllocError>
-    ensures { IfOk result (λ lines. map (λ l. l.items) lines.items ≡ spec.lost_lines solved.now) }
+fn lost_lines(
+    alloc: Global,
+    input: &UserInput<'_>,
+    solved: &Solved<'_>,
+) -> Result<Vec<Vec<u8>>, AllocError>
+    ensures { IfOk result (λ lines. map (λ l. l.items) lines.items ≡ spec.lost_lines input.now.lines solved.now) }
 {
     let mut lines = Vec::new(alloc);
     let count = solved.tree().symbol_count();
     for i in 0..count {
-        lost_into(alloc, solved, SymId(i), &mut lines)?;
+        lost_into(alloc, input, solved, SymId(i), &mut lines)?;
     }
     Ok(lines)
 }
 
 /// The lines of the values that were given and are not the symbols', where they are asked for: whole lines without their
-/// end, in the order of the symbols' first definitions. Fails only where it is out of memory.
+/// end, in the order of the symbols' first definitions, each with the line that gave the value. Fails only where it is out
+/// of memory.
 pub(crate) fn lost_warnings(
     alloc: Global,
     options: &Options,
+    input: &UserInput<'_>,
     solved: &Solved<'_>,
 ) -> Result<Vec<Vec<u8>>, AllocError>
-    ensures { IfOk result (λ lines. map (λ l. l.items) lines.items ≡ lost_warnings options.now solved.now) }
+    ensures { IfOk result (λ lines. map (λ l. l.items) lines.items ≡ lost_warnings options.now input.now solved.now) }
 {
     if options.warn_lost {
-        lost_lines(alloc, solved)
+        lost_lines(alloc, input, solved)
     } else {
         Ok(Vec::new(alloc))
     }

@@ -2,6 +2,7 @@
 
 ghost use Rattle.std.specs.Prelude.{◌≡◌, ◌<◌, Some};
 ghost use Rattle.kc_conf.specs.Faults.{name_of, stream_name};
+ghost use Rattle.kc_conf.specs.ReadFaults.{holds_warnings};
 
 use crate::outputs::Output;
 use kc_dot::prefix::Prefix;
@@ -29,9 +30,12 @@ pub struct Options {
     pub prefix: Prefix,
     /// Whether the `.config` to read has to exist, as a fragment has to.
     pub must_exist: bool,
-    /// Whether a warning is refused.
+    /// Whether the run is refused if a line of the `.config` or of a fragment is not taken as written: any K7, K8, K9, K12
+    /// or K14, or a K10 between different values.
     pub strict: bool,
-    /// Whether a value that was given and is not the symbol's is warned of.
+    /// Whether the run is refused on any warning, also about the tree.
+    pub strict_tree: bool,
+    /// Whether a value that was given and is not the symbol's is warned of (K14), and a line that changes a value (K15).
     pub warn_lost: bool,
     /// Whether each file is replaced in one step at the end, and only where its text changes.
     pub replace: bool,
@@ -48,6 +52,15 @@ pub enum Status {
     Usage,
     /// A device failed, or no memory was to be had.
     Faulted,
+}
+
+impl Options {
+    // Whether the warnings of the streams are told only once all streams are read.
+    pub(crate) fn holds_warnings(&self) -> bool
+        ensures { result ≡ holds_warnings self.now }
+    {
+        self.strict || self.strict_tree
+    }
 }
 
 // The name of an output, in an error line.

@@ -15,9 +15,9 @@ use crate::outputs::Output;
 use crate::run_fault::RunFault;
 use kc_dot::fault::DotFault;
 use kc_dot::reader::DotReader;
+use kc_dot::user_input::UserInput;
 use kc_dot::{Fault, Sink};
 use kc_tree::tree::Tree;
-use kc_user::user::User;
 use std::alloc::Global;
 
 const PIECE: usize = 4096;
@@ -30,13 +30,13 @@ pub(crate) struct LongLine<'a> {
 }
 
 // Feeds one piece, with the warnings in the sink.
-fn feed_piece<S: Sink>(
-    reader: &mut DotReader<'_>,
+fn feed_piece<'a, S: Sink>(
+    reader: &mut DotReader<'a>,
     piece: &[u8],
-    user: &mut User,
+    user: &mut UserInput<'a>,
     sink: &mut S,
 ) -> Result<(), DotFault>
-    requires user { ArePlacesOf reader.old.tree user.old }
+    requires user { ArePlacesOf reader.old.tree user.old.places }
     requires fresh { reader.old.refusal ≡ None }
     ensures ok { OnOk result (Feeds reader.old.tree reader.old.prefix reader.old.name piece.now reader.old.position reader.new.position user.old user.new (S.taken sink.old) (S.taken sink.new)) }
     ensures stands { OnOk result (reader.new ≡ record reader.old { position = fed piece.now reader.old.position }) }
@@ -44,38 +44,38 @@ fn feed_piece<S: Sink>(
     ensures quiet { OnOk result (S.failures sink.new ≡ S.failures sink.old) }
     ensures counted { IfErr result (λ fault. S.failures sink.new ≡ failures_after fault (S.failures sink.old)) }
     ensures keeps { S.goes_to sink.old sink.new }
-    ensures user { ArePlacesOf reader.old.tree user.new }
+    ensures user { ArePlacesOf reader.old.tree user.new.places }
 {
     reader.feed(piece, user, sink)
 }
 
 // Ends the stream, with its last line's warning in the sink.
-fn finish_stream<S: Sink>(
-    reader: &mut DotReader<'_>,
-    user: &mut User,
+fn finish_stream<'a, S: Sink>(
+    reader: &mut DotReader<'a>,
+    user: &mut UserInput<'a>,
     sink: &mut S,
 ) -> Result<(), DotFault>
-    requires user { ArePlacesOf reader.old.tree user.old }
+    requires user { ArePlacesOf reader.old.tree user.old.places }
     requires fresh { reader.old.refusal ≡ None }
     ensures ok { OnOk result (FinishesStream reader.old.tree reader.old.prefix reader.old.name reader.old.position user.old user.new (S.taken sink.old) (S.taken sink.new)) }
     ensures failed { IfErr result (λ fault. FailsToEnd reader.old.tree reader.old.prefix reader.old.name fault reader.old.position user.old (S.taken sink.old) (S.taken sink.new)) }
     ensures quiet { OnOk result (S.failures sink.new ≡ S.failures sink.old) }
     ensures counted { IfErr result (λ fault. S.failures sink.new ≡ failures_after fault (S.failures sink.old)) }
     ensures keeps { S.goes_to sink.old sink.new }
-    ensures user { ArePlacesOf reader.old.tree user.new }
+    ensures user { ArePlacesOf reader.old.tree user.new.places }
 {
     reader.finish(user, sink)
 }
 
 // Reads an input to its end, or to a line that is too long and whose number is answered.
-fn read_pieces<I: Input, S: Sink>(
-    reader: &mut DotReader<'_>,
+fn read_pieces<'a, I: Input, S: Sink>(
+    reader: &mut DotReader<'a>,
     at: usize,
     input: &mut I,
-    user: &mut User,
+    user: &mut UserInput<'a>,
     sink: &mut S,
 ) -> Result<Option<u64>, RunFault>
-    requires user { ArePlacesOf reader.old.tree user.old }
+    requires user { ArePlacesOf reader.old.tree user.old.places }
     requires fresh { reader.old.refusal ≡ None }
     requires begins { reader.old.position ≡ stream_start }
     ensures ok { IfOk result (λ long. TakesPieces reader.old.tree reader.old.prefix reader.old.name long (I.remaining input.old) stream_start reader.new.position user.old user.new (S.taken sink.old) (S.taken sink.new)) }
@@ -92,7 +92,7 @@ fn read_pieces<I: Input, S: Sink>(
     ensures quiet_input { OnOk result (I.failures input.new ≡ I.failures input.old) }
     ensures input_failures_after { IfErr result (λ fault. I.failures input.new ≡ input_failures_after fault (I.failures input.old)) }
     ensures keeps { S.goes_to sink.old sink.new }
-    ensures user { ArePlacesOf reader.old.tree user.new }
+    ensures user { ArePlacesOf reader.old.tree user.new.places }
 {
     let mut buffer = [0u8; PIECE];
     'pieces: loop {
@@ -116,14 +116,14 @@ fn read_pieces<I: Input, S: Sink>(
 }
 
 // Reads a stream to the end of its last line, or to a line that is too long and whose number is answered.
-fn read_stream<I: Input, S: Sink>(
-    reader: &mut DotReader<'_>,
+fn read_stream<'a, I: Input, S: Sink>(
+    reader: &mut DotReader<'a>,
     at: usize,
     input: &mut I,
-    user: &mut User,
+    user: &mut UserInput<'a>,
     sink: &mut S,
 ) -> Result<Option<u64>, RunFault>
-    requires user { ArePlacesOf reader.old.tree user.old }
+    requires user { ArePlacesOf reader.old.tree user.old.places }
     requires fresh { reader.old.refusal ≡ None }
     requires begins { reader.old.position ≡ stream_start }
     ensures ok { IfOk result (λ long. ReadsStream reader.old.tree reader.old.prefix reader.old.name long (I.remaining input.old) user.old user.new (S.taken sink.old) (S.taken sink.new)) }
@@ -138,7 +138,7 @@ fn read_stream<I: Input, S: Sink>(
     ensures quiet_input { OnOk result (I.failures input.new ≡ I.failures input.old) }
     ensures input_failures_after { IfErr result (λ fault. I.failures input.new ≡ input_failures_after fault (I.failures input.old)) }
     ensures keeps { S.goes_to sink.old sink.new }
-    ensures user { ArePlacesOf reader.old.tree user.new }
+    ensures user { ArePlacesOf reader.old.tree user.new.places }
 {
     match read_pieces(reader, at, input, user, sink) {
         Ok(Some(number)) => return Ok(Some(number)),
@@ -158,13 +158,13 @@ fn read_stream<I: Input, S: Sink>(
 pub(crate) fn read_streams<'a, I: Input, S: Sink>(
     alloc: Global,
     options: &'a Options,
-    tree: &Tree,
+    tree: &'a Tree,
     inputs: &mut [I],
-    user: &mut User,
+    user: &mut UserInput<'a>,
     sink: &mut S,
 ) -> Result<Option<LongLine<'a>>, RunFault>
     requires inputs { length inputs.old ≡ length options.now.fragments.items + 1 }
-    requires user { ArePlacesOf tree.now user.old }
+    requires user { ArePlacesOf tree.now user.old.places }
     ensures ok { IfOk result (λ long. ReadsStreams tree.now options.now.prefix (names_of options.now) (option_map stop_of long) (map I.remaining inputs.old)
         (map I.is_there inputs.old) user.old user.new (S.taken sink.old) (S.taken sink.new)) }
     ensures err { IfErr result (λ fault. BreaksStreams tree.now options.now.prefix (names_of options.now) fault (map I.remaining inputs.old) (map I.remaining inputs.new)
@@ -176,7 +176,7 @@ pub(crate) fn read_streams<'a, I: Input, S: Sink>(
     ensures quiet_inputs { OnOk result (map I.failures inputs.new ≡ map I.failures inputs.old) }
     ensures counted_inputs { IfErr result (λ fault. CountsInputs fault (map I.failures inputs.old) (map I.failures inputs.new)) }
     ensures keeps { S.goes_to sink.old sink.new }
-    ensures user { ArePlacesOf tree.now user.new }
+    ensures user { ArePlacesOf tree.now user.new.places }
 {
     for at in 0..inputs.len() {
         let name = stream_name(options, at);

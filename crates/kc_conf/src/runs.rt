@@ -1,5 +1,6 @@
 //! The run over devices.
-ghost use Rattle.std.specs.Prelude.{◌≡◌, ◌≢◌, ◌+◌, ◌||◌, ◌⊎◌, List, ℕ, length, map, Some, Ok, Err, OnOk, IfErr, IfOk};
+ghost use Rattle.std.specs.Prelude.{◌≡◌, ◌≢◌, ◌+◌, ◌||◌, ◌⊎◌, List, ℕ, length, map, Some, Ok, Err, OnOk, IfErr, IfOk, ◌&&◌};
+ghost use Rattle.std.specs.List.{list_any};
 ghost use Rattle.kc_read.specs.Expansion.{Refused};
 ghost use Rattle.kc_read.specs.Files.{Files, bytes_in};
 ghost use Rattle.kc_read.specs.RefusalView.{refusal_view};
@@ -15,7 +16,8 @@ ghost use Rattle.kc_conf.specs.FaultParts.{IsNoInputFault, IsNotesFault};
 ghost use Rattle.kc_conf.specs.Faults.{Completes, BreaksRun, CountsInputs, Faults};
 ghost use Rattle.kc_conf.specs.InputBytes.{AreAllToCome};
 ghost use Rattle.kc_conf.specs.AcceptedTree.{HoldsTree};
-ghost use Rattle.kc_conf.specs.Outcome.{Outcome, has_text, lines_text, outcome_of, refused, strictly, root_file, read_of, IsAcceptedTree, IsRefusedName, IsRefusedTree, IsSolutionFor, IsOutcome, IsOutcomeOfReading, IsOutcomeOfTree, NamesAreRead, OneAnswer, OneOutcome};
+ghost use Rattle.kc_conf.specs.Outcome.{Outcome, has_text, lines_text, outcome_of, refused, strictly, root_file, read_of, IsAcceptedTree, IsRefusedName, IsRefusedTree, IsSolutionFor, IsOutcome, IsOutcomeOfReading, IsOutcomeOfTree, NamesAreRead, OneAnswer, OneOutcome, files_of, refused_if};
+ghost use Rattle.kc_conf.specs.Taken.{is_outside, lost_warnings, refuses_input};
 ghost use Rattle.kc_conf.specs.OutputStates.{ChangesOnly};
 ghost use Rattle.kc_conf.specs.Presence.{MayStrike, StreamsAreThere};
 ghost use Rattle.kc_conf.specs.Rules.{AreListed, BreaksInRule, EndsWithRule, rule_of, unreadable_among};
@@ -23,7 +25,7 @@ ghost use Rattle.kc_conf.specs.Stops.{IsOutOfMemory};
 ghost use Rattle.kc_conf.specs.Leaves.{Keeps, Leaves};
 ghost use Rattle.kc_conf.specs.TreeFiles.{files_in};
 ghost use Rattle.kc_conf.specs.ReadFaults.{StopsReading};
-ghost use Rattle.kc_conf.specs.Reads.{AreRead, StopsStreams, StopsTree, behind_warnings, without_warnings, stop_of, strictly_after};
+ghost use Rattle.kc_conf.specs.Reads.{AreRead, StopsStreams, StopsTree, behind_warnings, stop_of, strictly_after};
 ghost use Rattle.kc_conf.specs.declared.run_fault.RunFault.{RunFault};
 
 use crate::input::Input;
@@ -40,6 +42,7 @@ use crate::writing::{make_depfile, make_files};
 use kc_build::laws::one_tree;
 use kc_build::{read_listing, tree_of};
 use kc_dot::Fault;
+use kc_dot::user_input::UserInput;
 use kc_expr::names::Names;
 use kc_make::laws::opened_are_one_list;
 use kc_order::one_named_loop;
@@ -50,7 +53,6 @@ use kc_solve::solve::solve;
 use kc_solve::solved::Solved;
 use kc_tree::layout::Layout;
 use kc_tree::tree::Tree;
-use kc_user::user::User;
 use std::alloc::Global;
 
 /// The tree that a run accepted, with the order that the run used, which is let go where the tree is.
@@ -110,21 +112,21 @@ fn refuse_name<O: Outputs>(outputs: &mut O, name: &[u8]) -> Result<Status, RunFa
     }
 }
 
-// Writes the files, or refuses the warnings that were told.
+// Writes the files, or refuses them.
 fn make_or_refuse<O: Outputs>(
     alloc: Global,
     options: &Options,
     tree: &Tree,
     solved: &Solved<'_>,
-    is_warned: bool,
+    is_refused: bool,
     outputs: &mut O,
 ) -> Result<Status, RunFault>
     requires { solved.now.tree ≡ tree.now }
-    ensures ok { IfOk result (λ status. Completes (strictly_after options.now.strict is_warned (without_warnings (outcome_of options.now tree.now solved.now))) status (O.states outputs.old) (O.states outputs.new)) }
-    ensures err { IfErr result (λ fault. BreaksRun (strictly_after options.now.strict is_warned (without_warnings (outcome_of options.now tree.now solved.now))) fault (O.states outputs.old) (O.states outputs.new)) }
+    ensures ok { IfOk result (λ status. Completes (refused_if is_refused (files_of options.now tree.now solved.now)) status (O.states outputs.old) (O.states outputs.new)) }
+    ensures err { IfErr result (λ fault. BreaksRun (refused_if is_refused (files_of options.now tree.now solved.now)) fault (O.states outputs.old) (O.states outputs.new)) }
     ensures fault { IfErr result IsNoInputFault }
 {
-    if options.strict && is_warned {
+    if is_refused {
         return refuse_warnings(outputs);
     }
     make_files(alloc, options, tree, solved, outputs)?;
@@ -146,56 +148,99 @@ fn is_either(before: bool, later: bool) -> bool
     before || later
 }
 
+// Whether the line warns of a user value outside its range.
+fn is_outside(line: &[u8]) -> bool
+    ensures { result ≡ is_outside line.now }
+{
+    line.starts_with(b"warning K12: ")
+}
+
+// Whether one of the lines does.
+fn is_any_outside(lines: &[Vec<u8>]) -> bool
+    ensures { result ≡ list_any is_outside (map (λ line. line.items) lines.now) }
+{
+    for line in lines {
+        if is_outside(line) {
+            return true;
+        }
+    }
+    false
+}
+
+// Whether --strict refuses the user's input, given the values' warnings and the lines of the values that are lost.
+fn refuses_input(
+    options: &Options,
+    input: &UserInput<'_>,
+    solved: &Solved<'_>,
+    lost: &[Vec<u8>],
+) -> bool
+    requires { map (λ line. line.items) lost.now ≡ lost_warnings options.now input.now solved.now }
+    ensures { result ≡ refuses_input options.now input.now solved.now }
+{
+    options.strict
+        && !(input.all_taken() && !is_any_outside(solved.value_warnings()) && lost.is_empty())
+}
+
+// Whether the files are refused: a line was not taken as written, or there is a warning and none may pass.
+fn is_refused(is_left_out: bool, lets_none_pass: bool, is_warned: bool) -> bool
+    ensures { result ≡ (is_left_out || (lets_none_pass && is_warned)) }
+{
+    is_left_out || lets_none_pass && is_warned
+}
+
 // Writes the lines of the values that are lost, where they are asked for, and the files.
 fn run_lost<O: Outputs>(
     alloc: Global,
     options: &Options,
     tree: &Tree,
+    input: &UserInput<'_>,
     solved: &Solved<'_>,
     is_warned: bool,
     outputs: &mut O,
 ) -> Result<Status, RunFault>
     requires { solved.now.tree ≡ tree.now }
-    ensures ok { IfOk result (λ status. Completes (strictly_after options.now.strict is_warned (behind_warnings options.now tree.now solved.now)) status (O.states outputs.old) (O.states outputs.new)) }
-    ensures err { IfErr result (λ fault. BreaksRun (strictly_after options.now.strict is_warned (behind_warnings options.now tree.now solved.now)) fault (O.states outputs.old) (O.states outputs.new)) }
+    ensures ok { IfOk result (λ status. Completes (strictly_after options.now.strict_tree is_warned (behind_warnings options.now tree.now input.now solved.now)) status (O.states outputs.old) (O.states outputs.new)) }
+    ensures err { IfErr result (λ fault. BreaksRun (strictly_after options.now.strict_tree is_warned (behind_warnings options.now tree.now input.now solved.now)) fault (O.states outputs.old) (O.states outputs.new)) }
     ensures fault { IfErr result IsNoInputFault }
 {
-    let lost = lost_warnings(alloc, options, solved)?;
+    let lost = lost_warnings(alloc, options, input, solved)?;
     let lines = lost.as_slice();
     if let Err(Fault) = note_lines(outputs, lines) {
         return Err(RunFault::Write(Output::Notes));
     }
     let is_warned = is_warned_by(is_warned, lines);
-    make_or_refuse(alloc, options, tree, solved, is_warned, outputs)
+    let is_left_out = refuses_input(options, input, solved, lines);
+    let is_refused = is_refused(is_left_out, options.strict_tree, is_warned);
+    make_or_refuse(alloc, options, tree, solved, is_refused, outputs)
 }
 
-// Solves the tree for the user's places, and writes the values' warnings and what follows them.
+// Solves the tree for the user's values, and writes the values' warnings and what follows them.
 fn run_solved<O: Outputs>(
     alloc: Global,
     options: &Options,
     tree: &Tree,
     layout: &Layout,
     order: &EvaluationOrder,
-    user: &User,
+    user: &UserInput<'_>,
     is_warned: bool,
     outputs: &mut O,
 ) -> Result<Status, RunFault>
     requires laid { IsLayoutOf tree.now layout.now }
     requires order { IsGraphOf tree.now layout.now order.now }
-    requires user { ArePlacesOf tree.now user.now }
-    ensures ok { IfOk result (λ status. (solution : Solution) × IsSolutionFor tree.now user.now solution
-        × Completes (strictly_after options.now.strict is_warned (outcome_of options.now tree.now solution)) status (O.states outputs.old) (O.states outputs.new)) }
-    ensures err { IfErr result (λ fault. (solution : Solution) → IsSolutionFor tree.now user.now solution
-        → BreaksRun (strictly_after options.now.strict is_warned (outcome_of options.now tree.now solution)) fault (O.states outputs.old) (O.states outputs.new)) }
+    requires user { ArePlacesOf tree.now user.now.places }
+    ensures ok { IfOk result (λ status. (solution : Solution) × IsSolutionFor tree.now user.now.places solution
+        × Completes (strictly_after options.now.strict_tree is_warned (outcome_of options.now tree.now user.now solution)) status (O.states outputs.old) (O.states outputs.new)) }
+    ensures err { IfErr result (λ fault. (solution : Solution) → IsSolutionFor tree.now user.now.places solution
+        → BreaksRun (strictly_after options.now.strict_tree is_warned (outcome_of options.now tree.now user.now solution)) fault (O.states outputs.old) (O.states outputs.new)) }
     ensures fault { IfErr result IsNoInputFault }
 {
-    let solved = solve(alloc, tree, layout, order, user)?;
+    let solved = solve(alloc, tree, layout, order, user.user())?;
     solved.is_solution();
     if let Err(Fault) = note_lines(outputs, solved.value_warnings()) {
         return Err(RunFault::Write(Output::Notes));
     }
     let is_warned = is_warned_by(is_warned, solved.value_warnings());
-    run_lost(alloc, options, tree, &solved, is_warned, outputs)
+    run_lost(alloc, options, tree, user, &solved, is_warned, outputs)
 }
 
 // Reads the streams, and writes what follows from them.
@@ -214,16 +259,16 @@ fn run_read<I: Input, O: Outputs>(
     requires inputs { length inputs.old ≡ length options.now.fragments.items + 1 }
     ensures ok { IfOk result (λ status. (all : List (List ℕ)) × AreRead (map I.remaining inputs.old) (map I.is_there inputs.old) all
         × ((part : Outcome) × IsOutcomeOfReading options.now tree.now (read_of options.now tree.now all) part
-        × Completes (strictly_after options.now.strict is_warned part) status (O.states outputs.old) (O.states outputs.new))) }
+        × Completes (strictly_after options.now.strict_tree is_warned part) status (O.states outputs.old) (O.states outputs.new))) }
     ensures err { IfErr result (λ fault. (all : List (List ℕ)) × AreAllToCome (map I.remaining inputs.old) all
         × ((part : Outcome) → IsOutcomeOfReading options.now tree.now (read_of options.now tree.now all) part
-        → BreaksRun (strictly_after options.now.strict is_warned part) fault (O.states outputs.old) (O.states outputs.new))
+        → BreaksRun (strictly_after options.now.strict_tree is_warned part) fault (O.states outputs.old) (O.states outputs.new))
         × StopsStreams options.now tree.now (map I.remaining inputs.old) (map I.remaining inputs.new) (map I.is_there inputs.old) all fault (O.states outputs.old) (O.states outputs.new)) }
     ensures may { IfErr result (MayStrike (map I.may_fail inputs.old)) }
     ensures quiet_inputs { OnOk result (map I.failures inputs.new ≡ map I.failures inputs.old) }
     ensures counted_inputs { IfErr result (λ fault. CountsInputs fault (map I.failures inputs.old) (map I.failures inputs.new)) }
 {
-    let mut user = User::new(alloc, tree)?;
+    let mut user = UserInput::new(alloc, tree, options.warn_lost)?;
     let streamed = match tell_streams(alloc, options, tree, inputs, &mut user, outputs) {
         Ok(streamed) => streamed,
         Err(fault) => return Err(fault),
@@ -254,10 +299,10 @@ fn run_tree<I: Input, O: Outputs>(
     requires inputs { length inputs.old ≡ length options.now.fragments.items + 1 }
     ensures ok { IfOk result (λ status. (all : List (List ℕ)) × AreRead (map I.remaining inputs.old) (map I.is_there inputs.old) all
         × ((part : Outcome) × IsOutcomeOfTree options.now tree.now all part
-        × Completes (strictly options.now.strict part) status (O.states outputs.old) (O.states outputs.new))) }
+        × Completes (strictly options.now.strict_tree part) status (O.states outputs.old) (O.states outputs.new))) }
     ensures err { IfErr result (λ fault. (all : List (List ℕ)) × AreAllToCome (map I.remaining inputs.old) all
         × ((part : Outcome) → IsOutcomeOfTree options.now tree.now all part
-        → BreaksRun (strictly options.now.strict part) fault (O.states outputs.old) (O.states outputs.new))
+        → BreaksRun (strictly options.now.strict_tree part) fault (O.states outputs.old) (O.states outputs.new))
         × StopsTree options.now tree.now (map I.remaining inputs.old) (map I.remaining inputs.new) (map I.is_there inputs.old) all fault (O.states outputs.old) (O.states outputs.new)) }
     ensures may { IfErr result (MayStrike (map I.may_fail inputs.old)) }
     ensures quiet_inputs { OnOk result (map I.failures inputs.new ≡ map I.failures inputs.old) }

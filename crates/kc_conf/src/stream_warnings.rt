@@ -7,6 +7,7 @@ ghost use Rattle.kc_conf.specs.Faults.{CountsInputs};
 ghost use Rattle.kc_conf.specs.Outcome.{has_text, names_of};
 ghost use Rattle.kc_conf.specs.OutputStates.{ChangesOnly};
 ghost use Rattle.kc_conf.specs.Presence.{MayStrike};
+ghost use Rattle.kc_conf.specs.ReadFaults.{holds_warnings};
 ghost use Rattle.kc_conf.specs.Reads.{stop_of, notes_failures_after, BreaksStreams, BreaksTelling, ReadsStreams, TellsStreams};
 
 use crate::input::Input;
@@ -15,9 +16,9 @@ use crate::options::Options;
 use crate::outputs::{Output, OutputSink, Outputs};
 use crate::reading::{LongLine, read_streams};
 use crate::run_fault::RunFault;
+use kc_dot::user_input::UserInput;
 use kc_dot::{Fault, Sink};
 use kc_tree::tree::Tree;
-use kc_user::user::User;
 use std::alloc::Global;
 
 // A text that is kept in memory. It fails only where memory is refused.
@@ -66,7 +67,7 @@ impl Sink for MemorySink {
 pub(crate) struct StreamsRead<'a> {
     /// The line that is too long, where there is one.
     pub long: Option<LongLine<'a>>,
-    /// Whether any warning was told. It is known only where warnings are refused.
+    /// Whether any warning was told. It is known only where warnings may be refused.
     pub is_warned: bool,
 }
 
@@ -82,13 +83,13 @@ fn is_some_text(text: &[u8]) -> bool
 fn read_to_notes<'a, I: Input, O: Outputs>(
     alloc: Global,
     options: &'a Options,
-    tree: &Tree,
+    tree: &'a Tree,
     inputs: &mut [I],
-    user: &mut User,
+    user: &mut UserInput<'a>,
     outputs: &mut O,
 ) -> Result<Option<LongLine<'a>>, RunFault>
     requires inputs { length inputs.old ≡ length options.now.fragments.items + 1 }
-    requires user { ArePlacesOf tree.now user.old }
+    requires user { ArePlacesOf tree.now user.old.places }
     ensures ok { IfOk result (λ long. ReadsStreams tree.now options.now.prefix (names_of options.now) (option_map stop_of long) (map I.remaining inputs.old)
         (map I.is_there inputs.old) user.old user.new (O.states outputs.old).notes.text (O.states outputs.new).notes.text) }
     ensures err { IfErr result (λ fault. BreaksStreams tree.now options.now.prefix (names_of options.now) fault (map I.remaining inputs.old) (map I.remaining inputs.new)
@@ -100,7 +101,7 @@ fn read_to_notes<'a, I: Input, O: Outputs>(
     ensures quiet_inputs { OnOk result (map I.failures inputs.new ≡ map I.failures inputs.old) }
     ensures counted_inputs { IfErr result (λ fault. CountsInputs fault (map I.failures inputs.old) (map I.failures inputs.new)) }
     ensures only { ChangesOnly Output.Notes (O.states outputs.old) (O.states outputs.new) }
-    ensures user { ArePlacesOf tree.now user.new }
+    ensures user { ArePlacesOf tree.now user.new.places }
 {
     let mut sink = OutputSink::new(outputs, Output::Notes);
     read_streams(alloc, options, tree, inputs, user, &mut sink)
@@ -110,23 +111,23 @@ fn read_to_notes<'a, I: Input, O: Outputs>(
 fn tell<'a, I: Input, O: Outputs>(
     alloc: Global,
     options: &'a Options,
-    tree: &Tree,
+    tree: &'a Tree,
     inputs: &mut [I],
-    user: &mut User,
+    user: &mut UserInput<'a>,
     outputs: &mut O,
 ) -> Result<StreamsRead<'a>, RunFault>
-    requires lenient { options.now.strict ≡ false }
+    requires lenient { holds_warnings options.now ≡ false }
     requires inputs { length inputs.old ≡ length options.now.fragments.items + 1 }
-    requires user { ArePlacesOf tree.now user.old }
-    ensures ok { IfOk result (λ s. TellsStreams tree.now options.now.prefix options.now.strict (names_of options.now) (option_map stop_of s.long) s.is_warned
+    requires user { ArePlacesOf tree.now user.old.places }
+    ensures ok { IfOk result (λ s. TellsStreams tree.now options.now.prefix (holds_warnings options.now) (names_of options.now) (option_map stop_of s.long) s.is_warned
         (map I.remaining inputs.old) (map I.is_there inputs.old) user.old user.new (O.states outputs.old) (O.states outputs.new)) }
-    ensures err { IfErr result (λ fault. BreaksTelling tree.now options.now.prefix options.now.strict (names_of options.now) fault (map I.remaining inputs.old) (map I.remaining inputs.new)
+    ensures err { IfErr result (λ fault. BreaksTelling tree.now options.now.prefix (holds_warnings options.now) (names_of options.now) fault (map I.remaining inputs.old) (map I.remaining inputs.new)
         (map I.is_there inputs.old) user.old (O.states outputs.old) (O.states outputs.new)) }
     ensures fault { IfErr result StrikesNotes }
     ensures may { IfErr result (MayStrike (map I.may_fail inputs.old)) }
     ensures quiet_inputs { OnOk result (map I.failures inputs.new ≡ map I.failures inputs.old) }
     ensures counted_inputs { IfErr result (λ fault. CountsInputs fault (map I.failures inputs.old) (map I.failures inputs.new)) }
-    ensures user { ArePlacesOf tree.now user.new }
+    ensures user { ArePlacesOf tree.now user.new.places }
 {
     match read_to_notes(alloc, options, tree, inputs, user, outputs) {
         Ok(long) => Ok(StreamsRead {
@@ -141,23 +142,23 @@ fn tell<'a, I: Input, O: Outputs>(
 fn hold<'a, I: Input, O: Outputs>(
     alloc: Global,
     options: &'a Options,
-    tree: &Tree,
+    tree: &'a Tree,
     inputs: &mut [I],
-    user: &mut User,
+    user: &mut UserInput<'a>,
     outputs: &mut O,
 ) -> Result<StreamsRead<'a>, RunFault>
-    requires strict { options.now.strict ≡ true }
+    requires strict { holds_warnings options.now ≡ true }
     requires inputs { length inputs.old ≡ length options.now.fragments.items + 1 }
-    requires user { ArePlacesOf tree.now user.old }
-    ensures ok { IfOk result (λ s. TellsStreams tree.now options.now.prefix options.now.strict (names_of options.now) (option_map stop_of s.long) s.is_warned
+    requires user { ArePlacesOf tree.now user.old.places }
+    ensures ok { IfOk result (λ s. TellsStreams tree.now options.now.prefix (holds_warnings options.now) (names_of options.now) (option_map stop_of s.long) s.is_warned
         (map I.remaining inputs.old) (map I.is_there inputs.old) user.old user.new (O.states outputs.old) (O.states outputs.new)) }
-    ensures err { IfErr result (λ fault. BreaksTelling tree.now options.now.prefix options.now.strict (names_of options.now) fault (map I.remaining inputs.old) (map I.remaining inputs.new)
+    ensures err { IfErr result (λ fault. BreaksTelling tree.now options.now.prefix (holds_warnings options.now) (names_of options.now) fault (map I.remaining inputs.old) (map I.remaining inputs.new)
         (map I.is_there inputs.old) user.old (O.states outputs.old) (O.states outputs.new)) }
     ensures fault { IfErr result StrikesNotes }
     ensures may { IfErr result (MayStrike (map I.may_fail inputs.old)) }
     ensures quiet_inputs { OnOk result (map I.failures inputs.new ≡ map I.failures inputs.old) }
     ensures counted_inputs { IfErr result (λ fault. CountsInputs fault (map I.failures inputs.old) (map I.failures inputs.new)) }
-    ensures user { ArePlacesOf tree.now user.new }
+    ensures user { ArePlacesOf tree.now user.new.places }
 {
     let mut held = MemorySink::new(alloc);
     let long = match read_streams(alloc, options, tree, inputs, user, &mut held) {
@@ -174,28 +175,28 @@ fn hold<'a, I: Input, O: Outputs>(
 }
 
 /// Reads the streams one after another, with their warnings on the notes, to the end of the last or to a line that is too
-/// long. Where warnings are refused, they are told when all is read, and it is answered whether there is any.
+/// long. Where they may be refused, they are told when all is read, and it is answered whether there is any.
 pub(crate) fn tell_streams<'a, I: Input, O: Outputs>(
     alloc: Global,
     options: &'a Options,
-    tree: &Tree,
+    tree: &'a Tree,
     inputs: &mut [I],
-    user: &mut User,
+    user: &mut UserInput<'a>,
     outputs: &mut O,
 ) -> Result<StreamsRead<'a>, RunFault>
     requires inputs { length inputs.old ≡ length options.now.fragments.items + 1 }
-    requires user { ArePlacesOf tree.now user.old }
-    ensures ok { IfOk result (λ s. TellsStreams tree.now options.now.prefix options.now.strict (names_of options.now) (option_map stop_of s.long) s.is_warned
+    requires user { ArePlacesOf tree.now user.old.places }
+    ensures ok { IfOk result (λ s. TellsStreams tree.now options.now.prefix (holds_warnings options.now) (names_of options.now) (option_map stop_of s.long) s.is_warned
         (map I.remaining inputs.old) (map I.is_there inputs.old) user.old user.new (O.states outputs.old) (O.states outputs.new)) }
-    ensures err { IfErr result (λ fault. BreaksTelling tree.now options.now.prefix options.now.strict (names_of options.now) fault (map I.remaining inputs.old) (map I.remaining inputs.new)
+    ensures err { IfErr result (λ fault. BreaksTelling tree.now options.now.prefix (holds_warnings options.now) (names_of options.now) fault (map I.remaining inputs.old) (map I.remaining inputs.new)
         (map I.is_there inputs.old) user.old (O.states outputs.old) (O.states outputs.new)) }
     ensures fault { IfErr result StrikesNotes }
     ensures may { IfErr result (MayStrike (map I.may_fail inputs.old)) }
     ensures quiet_inputs { OnOk result (map I.failures inputs.new ≡ map I.failures inputs.old) }
     ensures counted_inputs { IfErr result (λ fault. CountsInputs fault (map I.failures inputs.old) (map I.failures inputs.new)) }
-    ensures user { ArePlacesOf tree.now user.new }
+    ensures user { ArePlacesOf tree.now user.new.places }
 {
-    if options.strict {
+    if options.holds_warnings() {
         hold(alloc, options, tree, inputs, user, outputs)
     } else {
         tell(alloc, options, tree, inputs, user, outputs)

@@ -5,7 +5,7 @@ ghost use Rattle.kc_dot.specs.Texts.{config_text, header_text, minimal_text};
 ghost use Rattle.kc_make.specs.Rules.{rule_text};
 ghost use Rattle.kc_conf.specs.FaultParts.{BreaksFile, BreaksFiles, IsNoInputFault, write_fault};
 ghost use Rattle.kc_conf.specs.Faults.{files_made, after_fault};
-ghost use Rattle.kc_conf.specs.Outcome.{outcome_of, text_if};
+ghost use Rattle.kc_conf.specs.Outcome.{files_of, text_if};
 ghost use Rattle.kc_conf.specs.OutputStates.{at, ended, made_if, with_state};
 
 use crate::options::Options;
@@ -124,8 +124,8 @@ pub(crate) fn make_files<O: Outputs>(
     outputs: &mut O,
 ) -> Result<(), RunFault>
     requires { solved.now.tree ≡ tree.now }
-    ensures ok { OnOk result (O.states outputs.new ≡ files_made (outcome_of options.now tree.now solved.now) (O.states outputs.old)) }
-    ensures err { IfErr result (λ fault. BreaksFiles (outcome_of options.now tree.now solved.now) fault (O.states outputs.old) (O.states outputs.new)) }
+    ensures ok { OnOk result (O.states outputs.new ≡ files_made (files_of options.now tree.now solved.now) (O.states outputs.old)) }
+    ensures err { IfErr result (λ fault. BreaksFiles (files_of options.now tree.now solved.now) fault (O.states outputs.old) (O.states outputs.new)) }
     ensures fault { IfErr result IsNoInputFault }
 {
     make_config(alloc, options, tree, solved, outputs)?;

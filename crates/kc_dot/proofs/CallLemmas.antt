@@ -1,14 +1,13 @@
 -- Any list of calls is one reading.
 use Rattle.std.proofs.Common.{◌≡◌, ℕ, List, [], ◌∷◌, ◌++◌, refl, ap, ◌∙◌, append-nil}
-use Rattle.kc_user.specs.Places.{Places}
 use Rattle.kc_dot.specs.Calls.{Call, Feed, Finish, NextStream, rest_of, more_of, lines_fed, CallsJoin}
 use Rattle.kc_dot.specs.Feeding.{fed, ended, stream_start, ReadsPiece, EndsStream}
 use Rattle.kc_dot.specs.ReaderState.{ReaderState}
-use Rattle.kc_dot.specs.Reading.{ReadResult, reading, with_warnings, lines_from}
+use Rattle.kc_dot.specs.Reading.{UserInput, ReadResult, reading, with_warnings, lines_from}
 use Rattle.kc_dot.proofs.ReadingLemmas.{with_warnings-with_warnings}
 
 -- One call, and then the others, which come to `later`.
-module _ (old : ReaderState) (before middle : Places) (first : List ℕ) (calls : List Call) (later : ReadResult) where
+module _ (old : ReaderState) (before middle : UserInput) (first : List ℕ) (calls : List Call) (later : ReadResult) where
   feed_first : (piece : List ℕ) → ReadsPiece old.tree old.prefix old.name piece old.position (fed piece old.position) before middle first →
       reading old.tree old.prefix middle (lines_fed (record old { position = fed piece old.position }) calls) ≡ later →
       reading old.tree old.prefix before (lines_fed old (Feed piece ∷ calls)) ≡ with_warnings first later

@@ -32,8 +32,8 @@ use Rattle.kc_dot.specs.SymbolLines.{dot_line}
 use Rattle.kc_dot.specs.Texts.{config_text, symbol_config}
 use Rattle.kc_dot.proofs.ConfigTextLemmas.{config_gives, entry_given}
 use Rattle.kc_dot.proofs.FilledLemmas.{Holds, IsCandidate, filled_symbol, filled_member, filled_none, in_flat_map, to_flat_map, contains_here, contains_cases, no_element}
-use Rattle.kc_dot.proofs.GivesLemmas.{Gives, gives_whole}
-use Rattle.kc_dot.proofs.MinimalLaws.{read_alone_is}
+use Rattle.kc_dot.proofs.GivesLemmas.{Gives}
+use Rattle.kc_dot.proofs.MinimalLaws.{alone_whole}
 use Rattle.kc_dot.proofs.MinimalTextLemmas.{there, choice_by_place, choice_there, yes_selected}
 use Rattle.kc_dot.proofs.ShapeLemmas.{value_shape}
 use Rattle.kc_dot.proofs.SymbolLineLemmas.{IsOf, FitsLine, symbol_gives}
@@ -200,8 +200,6 @@ module _ (tree : TreeFacts) (user : UserPlace → Option GivenValue) (V : ℕ �
     | inr (c, at) ↦ rw at (reread_found c (choice_at tree c) (find Wrote (members_of (choice_at tree c))) (choice_there tree (symbol i) c formed lt (choice_by_place tree (symbol i) c at)) refl refl)
   ]
 
-  pub config_read : (name : List ℕ) → (warned : List ℕ) ×
-      (read_alone tree prefix name (config_text tree prefix (valuation_view tree user V)) ≡ record { places = Reread; warned = warned; stopped = None })
-  config_read name =
-      let (warned, is) = gives_whole tree prefix name (config_text tree prefix (valuation_view tree user V)) config_given (no_places tree) (config_reads name) in
-      (warned, read_alone_is tree prefix name (config_text tree prefix (valuation_view tree user V)) ∙ is)
+  pub config_read : (name : List ℕ) →
+      let read = read_alone tree prefix name (config_text tree prefix (valuation_view tree user V)) in (read.stopped ≡ None) × (read.input.places ≡ Reread)
+  config_read name = alone_whole tree prefix name (config_text tree prefix (valuation_view tree user V)) config_given (config_reads name)

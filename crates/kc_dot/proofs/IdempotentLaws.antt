@@ -5,7 +5,7 @@ use Rattle.kc_expr.specs.Value.{SymbolValue}
 use Rattle.kc_order.specs.Solution.{Solves}
 use Rattle.kc_tree.specs.TreeFacts.{TreeFacts, IsLineText, IsWellFormed, OfTitles, ShowsEach}
 use Rattle.kc_user.specs.GivenValue.{GivenValue, UserPlace}
-use Rattle.kc_user.specs.Places.{place_at}
+use Rattle.kc_user.specs.Places.{Places, place_at}
 use Rattle.kc_values.specs.Differs.{changes_on_reread}
 use Rattle.kc_values.specs.GivenLines.{reread_places}
 use Rattle.kc_values.specs.Laws.{SolutionsAgree}
@@ -14,7 +14,6 @@ use Rattle.kc_values.specs.Needs.{IsAccepted}
 use Rattle.kc_values.specs.Solution.{symbol_count, known_from, user_place, rhs, equations}
 use Rattle.kc_values.specs.WrittenSymbols.{written}
 use Rattle.kc_dot.specs.Prefixes.{is_prefix}
-use Rattle.kc_dot.specs.Reading.{ReadResult}
 use Rattle.kc_dot.specs.Plain.{HasPlainTitles}
 use Rattle.kc_dot.specs.Reread.{valuation_view, read_alone, IsOneSolution}
 use Rattle.kc_dot.specs.HasNames.{HasNames}
@@ -31,9 +30,9 @@ module _ (tree : TreeFacts) (user : UserPlace → Option GivenValue) (V : ℕ �
   IsIdempotent = (i : ℕ) → i < symbol_count tree → changes_on_reread tree V i ≡ false
 
   pub idempotent_again : IsAccepted tree → SolutionsAgree → (Solves (symbol_count tree) (equations tree (reread_places tree V)) V ↔ IsIdempotent) → (name : List ℕ) →
-      let read = read_alone tree prefix name (config_text tree prefix (valuation_view tree user V)) in (read.stopped ≡ None) × (IsOneSolution tree read.places V ↔ IsIdempotent)
+      let read = read_alone tree prefix name (config_text tree prefix (valuation_view tree user V)) in (read.stopped ≡ None) × (IsOneSolution tree read.input.places V ↔ IsIdempotent)
   idempotent_again accepted agree settled name =
-      let (warned, is) = config_read tree user V formed theirs bools named_all shows texts solves fits prefix is_pre plain name in
+      let (whole, is) = config_read tree user V formed theirs bools named_all shows texts solves fits prefix is_pre plain name in
       let P = Reread tree user V formed theirs bools named_all shows texts solves fits prefix is_pre plain in
       let same : (i : ℕ) → i < symbol_count tree → place_at P (user_place tree i) ≡ reread_places tree V (user_place tree i) =
       reread_at tree user V formed theirs bools named_all shows texts solves fits prefix is_pre plain in
@@ -45,4 +44,4 @@ module _ (tree : TreeFacts) (user : UserPlace → Option GivenValue) (V : ℕ �
         λ one. settled.0 (back one.solves),
         λ all. record { solves = there (settled.1 all); only = agree tree (place_at P) accepted V (there (settled.1 all)) },
       ) in
-      (ap (λ (r : ReadResult). r.stopped) is, subst (λ (r : ReadResult). IsOneSolution tree r.places V ↔ IsIdempotent) (sym is) both)
+      (whole, subst (λ (p : Places). IsOneSolution tree p V ↔ IsIdempotent) (sym is) both)

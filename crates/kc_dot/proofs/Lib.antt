@@ -26,7 +26,8 @@ pub mod ShapeLemmas
 pub mod ShortTextLemmas
 pub mod SinkLemmas
 pub mod SolutionLemmas
-pub mod StepLemmas
+pub mod StepEffects
+mod StepLemmas
 pub mod StreamLemmas
 pub mod SymbolLineLemmas
 pub mod TextBytes

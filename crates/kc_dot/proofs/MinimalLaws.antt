@@ -17,17 +17,24 @@ use Rattle.kc_values.specs.Solution.{symbol_count, user_place, rhs, equations}
 use Rattle.kc_tree.specs.Common.{is_symbol_of}
 use Rattle.kc_values.proofs.FixedLines.{place_cases, named, Sel, differs-member}
 use Rattle.kc_dot.specs.Prefixes.{is_prefix}
-use Rattle.kc_dot.specs.Reading.{ReadResult, lines_from, reading, places_given}
+use Rattle.kc_dot.specs.Reading.{Assignment, ReadResult, lines_from, no_input, reading, places_given}
 use Rattle.kc_dot.specs.Reread.{valuation_view, kept_lines, read_alone, IsOneSolution, HasOtherSolution}
 use Rattle.kc_dot.specs.HasNames.{HasNames}
 use Rattle.kc_dot.specs.Laws.{IsOneLine}
 use Rattle.kc_dot.specs.Texts.{minimal_text, symbol_config}
-use Rattle.kc_dot.proofs.GivesLemmas.{gives_whole}
+use Rattle.kc_dot.proofs.GivesLemmas.{Gives, gives_whole}
 use Rattle.kc_dot.proofs.MinimalTextLemmas.{differing_line, keeps_differing, tells_differing, stays, stays_member, all_given, minimal_gives, left_at}
 
 -- a text read alone
-pub read_alone_is : (tree : TreeFacts) (prefix name text : List ℕ) → read_alone tree prefix name text ≡ reading tree prefix (no_places tree) (lines_from name 1 text)
-read_alone_is tree prefix name text = ap (reading tree prefix (no_places tree)) (append-nil (lines_from name 1 text))
+pub read_alone_is : (tree : TreeFacts) (prefix name text : List ℕ) → read_alone tree prefix name text ≡ reading tree prefix (no_input false tree) (lines_from name 1 text)
+read_alone_is tree prefix name text = ap (reading tree prefix (no_input false tree)) (append-nil (lines_from name 1 text))
+
+-- a text that gives these assignments, read alone
+pub alone_whole : (tree : TreeFacts) (prefix name text : List ℕ) (given : List Assignment) → Gives tree prefix name text given →
+    let read = read_alone tree prefix name text in (read.stopped ≡ None) × (read.input.places ≡ places_given tree (no_places tree) given)
+alone_whole tree prefix name text given gives =
+    let (whole, left) = gives_whole tree prefix name text given (no_input false tree) gives in
+    (ap (λ (r : ReadResult). r.stopped) (read_alone_is tree prefix name text) ∙ whole, ap (λ (r : ReadResult). r.input.places) (read_alone_is tree prefix name text) ∙ left)
 
 module _ (tree : TreeFacts) (user : UserPlace → Option GivenValue) (V : ℕ → SymbolValue) (formed : IsWellFormed tree) (theirs : MembersAreTheirs tree)
     (bools : MembersAreBools tree) (named_all : HasNames tree) (allowed_at : AllowedPlaces tree user) (law : DifferingAreAllowed)
@@ -42,12 +49,11 @@ module _ (tree : TreeFacts) (user : UserPlace → Option GivenValue) (V : ℕ �
   Stays keep = stays tree user V formed theirs bools named_all allowed_at law solves prefix is_pre keep
 
   read_kept : (keep : SymId → Bool) (name : List ℕ) →
-      (warned : List ℕ) × (read_alone tree prefix name (kept_lines tree prefix (valuation_view tree user V) keep) ≡ record { places = Assigned keep; warned = warned; stopped = None })
+      let read = read_alone tree prefix name (kept_lines tree prefix (valuation_view tree user V) keep) in (read.stopped ≡ None) × (read.input.places ≡ Assigned keep)
   read_kept keep name =
-      let gives = minimal_gives tree user V formed theirs bools named_all allowed_at law solves prefix is_pre keep name in
-      let (warned, is) = gives_whole tree prefix name (kept_lines tree prefix (valuation_view tree user V) keep)
-      (all_given tree user V formed theirs bools named_all allowed_at law solves prefix is_pre keep) (no_places tree) gives in
-      (warned, read_alone_is tree prefix name (kept_lines tree prefix (valuation_view tree user V) keep) ∙ is)
+      alone_whole tree prefix name (kept_lines tree prefix (valuation_view tree user V) keep)
+      (all_given tree user V formed theirs bools named_all allowed_at law solves prefix is_pre keep)
+      (minimal_gives tree user V formed theirs bools named_all allowed_at law solves prefix is_pre keep name)
 
   place_is : (keep : SymId → Bool) (i : ℕ) → i < symbol_count tree → place_at (Assigned keep) (user_place tree i) ≡ kept (Stays keep) (kept Keep (minimal_line tree user V)) (user_place tree i)
   place_is keep i lt = left_at tree user V formed theirs bools named_all allowed_at law solves prefix is_pre keep i lt
@@ -68,14 +74,14 @@ module _ (tree : TreeFacts) (user : UserPlace → Option GivenValue) (V : ℕ �
 
   -- the whole file
   pub gives_back : Restores (symbol_count tree) (user_place tree) (rhs tree) (minimal_line tree user V) V Keep → (name : List ℕ) →
-      let read = read_alone tree prefix name (minimal_text tree prefix (valuation_view tree user V)) in (read.stopped ≡ None) × IsOneSolution tree read.places V
+      let read = read_alone tree prefix name (minimal_text tree prefix (valuation_view tree user V)) in (read.stopped ≡ None) × IsOneSolution tree read.input.places V
   unfolding minimal_text
   gives_back restores name =
-      let (warned, is) = read_kept all name in
+      let (whole, is) = read_kept all name in
       let same : (i : ℕ) → i < symbol_count tree → place_at (Assigned all) (user_place tree i) ≡ kept Keep (minimal_line tree user V) (user_place tree i) =
       λ i lt. place_is all i lt ∙ all_kept (user_place tree i) in (
-        ap (λ (r : ReadResult). r.stopped) is,
-        subst (λ (r : ReadResult). IsOneSolution tree r.places V) (sym is) (record {
+        whole,
+        subst (λ (p : Places). IsOneSolution tree p V) (sym is) (record {
           solves = λ i lt. restores.solves i lt ∙ ap (λ g. rhs tree i g V) (sym (same i lt));
           only = λ W w. restores.only W (λ i lt. w i lt ∙ ap (λ g. rhs tree i g W) (same i lt));
         }),
@@ -93,13 +99,13 @@ module _ (tree : TreeFacts) (user : UserPlace → Option GivenValue) (V : ℕ �
   pub none_to_spare : NothingCanGo (symbol_count tree) (user_place tree) (rhs tree) (minimal_line tree user V) V Keep → (name : List ℕ) (keep : SymId → Bool) (s : SymId) →
       s.0 < symbol_count tree → differs tree user V s.0 ≡ true → keep s ≡ false →
       let read = read_alone tree prefix name (kept_lines tree prefix (valuation_view tree user V) keep) in
-      IsOneLine (symbol_config tree prefix (valuation_view tree user V) s) × (read.stopped ≡ None) × HasOtherSolution tree read.places V
+      IsOneLine (symbol_config tree prefix (valuation_view tree user V) s) × (read.stopped ≡ None) × HasOtherSolution tree read.input.places V
   none_to_spare nothing name keep s lt other away =
-      let (warned, is) = read_kept keep name in
+      let (whole, is) = read_kept keep name in
       let tells = tells_differing tree user V theirs solves in (
         differing_line tree user V formed theirs bools named_all allowed_at law solves prefix is_pre keep s lt other,
-        ap (λ (r : ReadResult). r.stopped) is,
-        subst (λ (r : ReadResult). HasOtherSolution tree r.places V) (sym is)
+        whole,
+        subst (λ (p : Places). HasOtherSolution tree p V) (sym is)
             (λ W w same.
             nothing (Stays keep) (user_place tree s.0) (tells.every s.0 lt other) (gone keep s lt other away) W
             (λ i below. w i below ∙ ap (λ g. rhs tree i g W) (place_is keep i below)) same),

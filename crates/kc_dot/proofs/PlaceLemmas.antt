@@ -24,7 +24,7 @@ last_or-append o [] ys = refl
 last_or-append o (x ∷ xs) ys = last_or-append (Some x) xs ys
 
 -- the last of both lists, in each place
-each_last : {X A : Type 0} (h : ℕ → X → Option A) (a b : List X) (xs : List (Option A)) →
+pub each_last : {X A : Type 0} (h : ℕ → X → Option A) (a b : List X) (xs : List (Option A)) →
     each_from (λ i old. last_or old (filter_map (h i) (a ++ b))) 0 xs
     ≡ each_from (λ i old. last_or old (filter_map (h i) b)) 0 (each_from (λ i old. last_or old (filter_map (h i) a)) 0 xs)
 each_last h a b xs =
@@ -35,7 +35,7 @@ pub places_given-append : (tree : TreeFacts) (places : Places) (a b : List Assig
 unfolding places_given
 places_given-append tree places a b = rw (each_last given_to a b places.symbols, each_last (chosen_in tree) a b places.choices) refl
 
-each_same : {A : Type 0} (n : ℕ) (xs : List A) → each_from (λ i old. old) n xs ≡ xs
+pub each_same : {A : Type 0} (n : ℕ) (xs : List A) → each_from (λ i old. old) n xs ≡ xs
 each_same n [] = refl
 each_same n (x ∷ xs) = ap (λ ys. x ∷ ys) (each_same (n + 1) xs)
 
@@ -52,7 +52,7 @@ none_after s n x (o ∷ xs) below =
     rw other (ap (λ ys. o ∷ ys) (none_after s (n + 1) x xs later))
 
 -- one place is filled
-one_place : {A : Type 0} (s n k : ℕ) (x : A) (xs : List (Option A)) → s ≡ n + k → each_from (λ i old. last_or old (cons_option (cond (eqb s i) (Some x) None) [])) n xs ≡ slice_set xs k (Some x)
+pub one_place : {A : Type 0} (s n k : ℕ) (x : A) (xs : List (Option A)) → s ≡ n + k → each_from (λ i old. last_or old (cons_option (cond (eqb s i) (Some x) None) [])) n xs ≡ slice_set xs k (Some x)
 one_place s n k x [] is = refl
 one_place s n zero x (o ∷ xs) is =
     let here : eqb s n ≡ true = eq-eqb s n (omega arith) in
@@ -77,7 +77,7 @@ unfolding places_given
 places_given-one tree places s given =
     rw (one_place s.0 0 s.0 given places.symbols (omega arith), member_place (is_yes given) (choice_of tree s) s places.choices) refl
 
-length-each_from : {A B : Type 0} (f : ℕ → A → B) (n : ℕ) (xs : List A) → length (each_from f n xs) ≡ length xs
+pub length-each_from : {A B : Type 0} (f : ℕ → A → B) (n : ℕ) (xs : List A) → length (each_from f n xs) ≡ length xs
 length-each_from f n [] = refl
 length-each_from f n (x ∷ xs) = ap suc (length-each_from f (n + 1) xs)
 

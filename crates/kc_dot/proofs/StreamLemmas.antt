@@ -13,7 +13,7 @@ use Rattle.kc_expr.specs.declared.expression.SymId.{SymId}
 use Rattle.kc_tree.specs.TreeFacts.{TreeFacts, SymbolFacts, IsWellFormed}
 use Rattle.kc_user.specs.GivenValue.{GivenValue, is_yes}
 use Rattle.kc_user.specs.Laws.{EmptyArePlaces, SettingKeepsPlaces, SelectingKeepsPlaces}
-use Rattle.kc_user.specs.Places.{ArePlaces, Places, allowed, members_of, no_places}
+use Rattle.kc_user.specs.Places.{ArePlaces, Places, allowed, members_of}
 use Rattle.kc_dot.specs.Calls.{Call, Feed, Finish, NextStream, Answers, AllAnswered, rest_of, more_of, lines_fed}
 use Rattle.kc_dot.specs.DotLine.{meaning_of}
 use Rattle.kc_dot.specs.Effects.{Effect, Silent, Warns, Assigns, effect_of}
@@ -21,7 +21,7 @@ use Rattle.kc_dot.specs.Feeding.{StreamPosition, fed, ended, stream_start, Reads
 use Rattle.kc_dot.specs.LineSteps.{with_member}
 use Rattle.kc_dot.specs.ReaderState.{ReaderState}
 use Rattle.kc_text.specs.Limits.{one_more}
-use Rattle.kc_dot.specs.Reading.{Assignment, Line, ReadResult, Stream, assignment_of, assignments, choice_of, before_too_long, effect, is_within, last_line, line, lines_from, lines_of, lines_in_stream, places_given, reading, text_of, with_warnings}
+use Rattle.kc_dot.specs.Reading.{Assignment, Line, ReadResult, Stream, UserInput, no_input, assignment_of, assignments, choice_of, before_too_long, effect, is_within, last_line, line, lines_from, lines_of, lines_in_stream, places_given, reading, text_of, with_warnings}
 use Rattle.kc_dot.specs.Streams.{Pieces, stream_of, feeds, calls_after, RefusalsKeepPlaces, StreamsAreRead, StreamsLeavePlaces, ReadingKeepsPlaces}
 use Rattle.kc_dot.proofs.AllowedLemmas.{assigned_allowed, strip_no_lf}
 use Rattle.kc_dot.proofs.CallLemmas.{calls_join}
@@ -60,7 +60,7 @@ more_of_feeds : (pieces : List (List ℕ)) (name : List ℕ) (position : StreamP
 more_of_feeds pieces name position streams = feed_more pieces name position (calls_after streams) (lines_of (map stream_of streams)) (more_of_after streams name)
 
 -- the last call ends the stream
-ends_empty : (calls : List Call) (old new : ReaderState) (before after : Places) (warned : List ℕ) → AllAnswered (calls ++ Finish ∷ []) old new before after warned → new.position.pending ≡ []
+ends_empty : (calls : List Call) (old new : ReaderState) (before after : UserInput) (warned : List ℕ) → AllAnswered (calls ++ Finish ∷ []) old new before after warned → new.position.pending ≡ []
 ends_empty [] old new before after warned (mid, middle, first, later, (is, ends), (same, places, nothing), joined) =
     ap (λ (r : ReaderState). r.position.pending) same ∙ ap (λ (r : ReaderState). r.position.pending) is
 ends_empty (call ∷ calls) old new before after warned (mid, middle, first, later, answers, run, joined) = ends_empty calls mid new middle after later run
@@ -86,7 +86,7 @@ streams_are_read first streams old new before after warned named fresh run =
     ∙ ap (λ lines. with_warnings warned (reading old.tree old.prefix after lines)) nothing ∙ ap (with_warnings warned) (reading-nothing old.tree old.prefix after)
     ∙ told_end after warned
   where
-    told_end : (after : Places) (warned : List ℕ) → with_warnings warned (record { places = after; warned = []; stopped = None }) ≡ record { places = after; warned = warned; stopped = None }
+    told_end : (after : UserInput) (warned : List ℕ) → with_warnings warned (record { input = after; warned = []; stopped = None }) ≡ record { input = after; warned = warned; stopped = None }
     told_end after warned = rw (append-nil warned) refl
 
 -- Places that hold what is allowed.
@@ -147,9 +147,9 @@ module _ (tree : TreeFacts) (prefix : List ℕ) (formed : IsWellFormed tree) (se
       by true rest = (none.0, rest)
       by false rest = tt
 
-  reading_keeps : (lines : List Line) (places : Places) → AllByRecursion OneLine lines → ArePlaces tree places → ArePlaces tree (reading tree prefix places lines).places
+  reading_keeps : (lines : List Line) (input : UserInput) → AllByRecursion OneLine lines → ArePlaces tree input.places → ArePlaces tree (reading tree prefix input lines).input.places
   unfolding reading
-  reading_keeps lines places none old = all_keep (assignments tree prefix (before_too_long lines)) places (lines_allowed (before_too_long lines) (counted_lines lines none)) old
+  reading_keeps lines input none old = all_keep (assignments tree prefix (before_too_long lines)) input.places (lines_allowed (before_too_long lines) (counted_lines lines none)) old
 
 -- The lines of a stream hold no line feed.
 parts_no_lf : (bytes : List ℕ) → AllByRecursion HasNoLf (slice_split is_line_feed bytes)
@@ -209,17 +209,17 @@ module _ (setting : SettingKeepsPlaces) (selecting : SelectingKeepsPlaces) where
   no_more_lines : (name : List ℕ) (n : ℕ) (bytes : List ℕ) → AllByRecursion (λ (l : Line). HasNoLf l.bytes) (lines_from name n bytes ++ [])
   no_more_lines name n bytes = subst (λ lines. AllByRecursion (λ (l : Line). HasNoLf l.bytes) lines) (sym (append-nil (lines_from name n bytes))) (stream_lines name n bytes)
 
-  end_keeps : (tree : TreeFacts) (prefix name : List ℕ) (position : StreamPosition) (before after : Places) (warned : List ℕ) → IsWellFormed tree →
-      EndsStream tree prefix name position before after warned → ArePlaces tree before → ArePlaces tree after
+  end_keeps : (tree : TreeFacts) (prefix name : List ℕ) (position : StreamPosition) (before after : UserInput) (warned : List ℕ) → IsWellFormed tree →
+      EndsStream tree prefix name position before after warned → ArePlaces tree before.places → ArePlaces tree after.places
   end_keeps tree prefix name position before after warned formed ends old =
-      let is : (reading tree prefix before (lines_from name position.number position.pending ++ [])).places ≡ after =
-      ap (λ (r : ReadResult). r.places) (ends [] ∙ ap (with_warnings warned) (reading-nothing tree prefix after)) in
+      let is : (reading tree prefix before (lines_from name position.number position.pending ++ [])).input.places ≡ after.places =
+      ap (λ (r : ReadResult). r.input.places) (ends [] ∙ ap (with_warnings warned) (reading-nothing tree prefix after)) in
       subst (ArePlaces tree) is (reading_keeps tree prefix formed setting selecting (lines_from name position.number position.pending ++ []) before
       (no_more_lines name position.number position.pending) old)
 
   -- a line that is too long changes nothing
-  long_line : (tree : TreeFacts) (prefix name : List ℕ) (position : StreamPosition) (after : Places) (n : ℕ) → 65535 < n → HasNoLf position.pending →
-      (reading tree prefix after (lines_from name position.number (position.pending ++ replicate n 120) ++ [])).places ≡ after
+  long_line : (tree : TreeFacts) (prefix name : List ℕ) (position : StreamPosition) (after : UserInput) (n : ℕ) → 65535 < n → HasNoLf position.pending →
+      (reading tree prefix after (lines_from name position.number (position.pending ++ replicate n 120) ++ [])).input.places ≡ after.places
   long_line tree prefix name position after n far none =
       let bytes : List ℕ = position.pending ++ replicate n 120 in
       let size : length bytes ≡ length position.pending + n = length-append position.pending (replicate n 120) ∙ ap (λ k. length position.pending + k) (length-replicate n 120) in
@@ -229,19 +229,19 @@ module _ (setting : SettingKeepsPlaces) (selecting : SelectingKeepsPlaces) where
       let lines : lines_from name position.number bytes ++ [] ≡ line name position.number bytes false ∷ [] = append-nil (lines_from name position.number bytes)
       ∙ lines_from-last name position.number bytes one ∙ ap (λ b. cond b [] (line name position.number bytes false ∷ [])) some in
       let long : is_within (line name position.number bytes false) ≡ false = lt-leb (length bytes) 65535 (omega arith) in
-      ap (λ (r : ReadResult). r.places) (ap (reading tree prefix after) lines ∙ reading_long tree prefix after (line name position.number bytes false) [] long)
+      ap (λ (r : ReadResult). r.input.places) (ap (reading tree prefix after) lines ∙ reading_long tree prefix after (line name position.number bytes false) [] long)
 
-  feed_keeps : (tree : TreeFacts) (prefix name piece : List ℕ) (old new : StreamPosition) (before after : Places) (warned : List ℕ) (n : ℕ) → 65535 < n →
-      IsWellFormed tree → HasNoLf new.pending → ReadsPiece tree prefix name piece old new before after warned → ArePlaces tree before → ArePlaces tree after
+  feed_keeps : (tree : TreeFacts) (prefix name piece : List ℕ) (old new : StreamPosition) (before after : UserInput) (warned : List ℕ) (n : ℕ) → 65535 < n →
+      IsWellFormed tree → HasNoLf new.pending → ReadsPiece tree prefix name piece old new before after warned → ArePlaces tree before.places → ArePlaces tree after.places
   feed_keeps tree prefix name piece old new before after warned n far formed none goes held =
-      let is : (reading tree prefix before (lines_from name old.number (old.pending ++ (piece ++ replicate n 120)) ++ [])).places ≡ after =
-      ap (λ (r : ReadResult). r.places) (goes (replicate n 120) []) ∙ long_line tree prefix name new after n far none in
+      let is : (reading tree prefix before (lines_from name old.number (old.pending ++ (piece ++ replicate n 120)) ++ [])).input.places ≡ after.places =
+      ap (λ (r : ReadResult). r.input.places) (goes (replicate n 120) []) ∙ long_line tree prefix name new after n far none in
       subst (ArePlaces tree) is (reading_keeps tree prefix formed setting selecting
       (lines_from name old.number (old.pending ++ (piece ++ replicate n 120)) ++ []) before
       (no_more_lines name old.number (old.pending ++ (piece ++ replicate n 120))) held)
 
-  call_keeps : (call : Call) (old new : ReaderState) (before after : Places) (warned : List ℕ) → IsWellFormed old.tree →
-      Answers call old new before after warned → ArePlaces old.tree before → (new.tree ≡ old.tree) × ArePlaces old.tree after
+  call_keeps : (call : Call) (old new : ReaderState) (before after : UserInput) (warned : List ℕ) → IsWellFormed old.tree →
+      Answers call old new before after warned → ArePlaces old.tree before.places → (new.tree ≡ old.tree) × ArePlaces old.tree after.places
   call_keeps (Feed piece) old new before after warned formed (is, goes) held = (
     ap (λ (r : ReaderState). r.tree) is,
     feed_keeps old.tree old.prefix old.name piece old.position new.position before after warned 65536 (omega arith) formed
@@ -253,16 +253,16 @@ module _ (setting : SettingKeepsPlaces) (selecting : SelectingKeepsPlaces) where
       (ap (λ (r : ReaderState). r.tree) is, end_keeps old.tree old.prefix old.name old.position before after warned formed ends held)
 
   pub calls_keep : ReadingKeepsPlaces
-  calls_keep [] old new before after warned formed (same, places, nothing) held = subst (ArePlaces old.tree) (sym places) held
+  calls_keep [] old new before after warned formed (same, places, nothing) held = subst (λ (i : UserInput). ArePlaces old.tree i.places) (sym places) held
   calls_keep (call ∷ calls) old new before after warned formed (mid, middle, first, later, answers, run, joined) held =
       let (same, there_now) = call_keeps call old mid before middle first formed answers held in
-      subst (λ t. ArePlaces t after) same
-      (calls_keep calls mid new middle after later (subst IsWellFormed (sym same) formed) run (subst (λ t. ArePlaces t middle) (sym same) there_now))
+      subst (λ t. ArePlaces t after.places) same
+      (calls_keep calls mid new middle after later (subst IsWellFormed (sym same) formed) run (subst (λ t. ArePlaces t middle.places) (sym same) there_now))
 
   -- what reading streams leaves, from empty places
   pub streams_leave : EmptyArePlaces → StreamsLeavePlaces
-  streams_leave empty tree prefix streams formed =
-      reading_keeps tree prefix formed setting selecting (lines_of streams) (no_places tree) (streams_lines streams) (empty tree)
+  streams_leave empty tree prefix keeps_lines streams formed =
+      reading_keeps tree prefix formed setting selecting (lines_of streams) (no_input keeps_lines tree) (streams_lines streams) (empty tree)
 
   -- the lines before a refused one
   pub refusals_keep : RefusalsKeepPlaces

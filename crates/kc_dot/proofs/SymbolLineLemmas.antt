@@ -1,11 +1,10 @@
 -- The line of a symbol, read again.
-use Rattle.std.proofs.Common.{◌≡◌, ℕ, ◌+◌, ◌-◌, ◌<◌, ◌≤◌, List, [], ◌∷◌, ◌++◌, Bool, true, false, not, length, get_or, eqb, cond, refl, sym, ap, ◌∙◌, subst, arith, inl, inr, ◌⊎◌, Option, Some, None, append_assoc, codes}
+use Rattle.std.proofs.Common.{◌≡◌, ℕ, ◌+◌, ◌<◌, ◌≤◌, List, [], ◌∷◌, ◌++◌, Bool, true, false, not, length, get_or, cond, refl, sym, ap, ◌∙◌, subst, arith, inl, inr, Option, Some, None, append_assoc, codes}
 use Rattle.std.specs.Prelude.{◌&&◌, All, is_some, nat_le, slice_get}
 use Rattle.std.specs.List.{list_any, list_all, cons_option, position_or_len}
 use Rattle.std.specs.Str.Lines.{strip_carriage_return}
 use Rattle.std.specs.Cmp.Lexicographic.{same_text}
-use Rattle.std.proofs.Math.Seq.{get_or-append_seam}
-use Rattle.std.proofs.lemmas.Bool.{lt-ltb, leb-true, cases_Bool, or_parts, and_parts, not-true, false_from_ne_true}
+use Rattle.std.proofs.lemmas.Bool.{lt-ltb, leb-true, cases_Bool, and_parts, not-true, false_from_ne_true}
 use Rattle.std.proofs.lemmas.Option.{slice_get-get_or}
 use Rattle.std.proofs.lemmas.List.{length-append}
 use Rattle.std.proofs.lemmas.List.Elements.{All-append, All-cons}
@@ -26,7 +25,7 @@ use Rattle.kc_tree.specs.TreeFacts.{TreeFacts, SymbolFacts, IsWellFormed}
 use Rattle.kc_user.specs.GivenValue.{GivenValue, GivenTruth, GivenText}
 use Rattle.kc_user.specs.Places.{allowed, allowed_by, allowed_for, fits_quoted}
 use Rattle.kc_values.specs.Differs.{given_of}
-use Rattle.kc_dot.specs.DotLine.{Set, Unset, meaning_of, trimmed}
+use Rattle.kc_dot.specs.DotLine.{Set, Unset, meaning_of}
 use Rattle.kc_dot.specs.Effects.{effect_of, set_by_kind, unset_by_kind, assigned_or, symbol_named, name_of}
 use Rattle.kc_dot.specs.LineValue.{line_value, number_value}
 use Rattle.kc_expr.specs.Names.{is_name_byte}

@@ -1,9 +1,8 @@
 -- Trusted: What any list of calls of a reader comes to.
 use Rattle.std.specs.Prelude.{◌≡◌, ℕ, ◌++◌, List, [], ◌∷◌}
-use Rattle.kc_user.specs.Places.{Places}
 use Rattle.kc_dot.specs.Feeding.{StreamPosition, fed, ended, stream_start, ReadsPiece, EndsStream}
 use Rattle.kc_dot.specs.ReaderState.{ReaderState}
-use Rattle.kc_dot.specs.Reading.{Line, lines_from, reading, with_warnings}
+use Rattle.kc_dot.specs.Reading.{Line, UserInput, lines_from, reading, with_warnings}
 
 pub data Call : Type 0 where
   Feed : List ℕ → Call
@@ -11,7 +10,7 @@ pub data Call : Type 0 where
   NextStream : List ℕ → Call
 
 -- a call that was answered Ok, with these warnings handed out
-abbrev pub Answers : Call → ReaderState → ReaderState → Places → Places → List ℕ → Type 0
+abbrev pub Answers : Call → ReaderState → ReaderState → UserInput → UserInput → List ℕ → Type 0
 Answers (Feed piece) old new before after warned =
     (new ≡ record old { position = fed piece old.position }) × ReadsPiece old.tree old.prefix old.name piece old.position new.position before after warned
 Answers Finish old new before after warned =
@@ -20,10 +19,10 @@ Answers (NextStream name) old new before after warned =
     (new ≡ record old { name = name; position = stream_start }) × EndsStream old.tree old.prefix old.name old.position before after warned
 
 -- calls, one after another, each answered Ok
-abbrev pub AllAnswered : List Call → ReaderState → ReaderState → Places → Places → List ℕ → Type 0
+abbrev pub AllAnswered : List Call → ReaderState → ReaderState → UserInput → UserInput → List ℕ → Type 0
 AllAnswered [] old new before after warned = (new ≡ old) × (after ≡ before) × (warned ≡ [])
 AllAnswered (call ∷ calls) old new before after warned =
-    (mid : ReaderState) × (middle : Places) × (first later : List ℕ)
+    (mid : ReaderState) × (middle : UserInput) × (first later : List ℕ)
     × Answers call old mid before middle first × AllAnswered calls mid new middle after later × (warned ≡ first ++ later)
 
 -- The bytes that calls feed before the first of them that ends a stream, and the lines of the streams after it, whose
@@ -48,6 +47,6 @@ lines_fed reader calls =
 -- Whatever the calls: reading all that was fed is their warnings, and then reading what is still pending.
 abbrev pub CallsJoin : Type 0
 CallsJoin =
-    (calls : List Call) (old new : ReaderState) (before after : Places) (warned : List ℕ) → AllAnswered calls old new before after warned →
+    (calls : List Call) (old new : ReaderState) (before after : UserInput) (warned : List ℕ) → AllAnswered calls old new before after warned →
     reading old.tree old.prefix before (lines_fed old calls)
     ≡ with_warnings warned (reading old.tree old.prefix after (lines_from new.name new.position.number new.position.pending))

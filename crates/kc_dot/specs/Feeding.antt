@@ -5,11 +5,10 @@ use Rattle.kc_text.specs.Bytes.{byte}
 use Rattle.kc_text.specs.Limits.{last_count, one_more}
 use Rattle.kc_text.specs.Lines.{HoldsNoLineFeed, is_line_feed}
 use Rattle.kc_tree.specs.TreeFacts.{TreeFacts}
-use Rattle.kc_user.specs.Places.{Places}
 use Rattle.kc_dot.specs.declared.fault.DotFault.{DotFault}
 use Rattle.kc_dot.specs.declared.fault.DotFault.TheVariants.{DotLineTooLong, Sink, Memory}
 use Rattle.kc_dot.specs.Limits.{longest_dot_line}
-use Rattle.kc_dot.specs.Reading.{Line, line, is_within, lines_from, reading, with_warnings, warning}
+use Rattle.kc_dot.specs.Reading.{Line, UserInput, line, is_within, lines_from, reading, with_warnings, warning}
 use Rattle.kc_dot.specs.Sink.{extended, next_failure, BreaksOff, GoesBeyond}
 
 -- where a reader stands in its stream: the number of the line not yet ended, and its bytes so far
@@ -55,45 +54,45 @@ to_come name position rest more = lines_from name position.number (position.pend
 
 -- For a tree, a prefix and the name of the stream.
 module _ (tree : TreeFacts) (prefix name : List ℕ) where
-  -- Whatever follows: reading the piece and it from the old position and places is these warnings, and then reading it
-  -- from the new position and places.
-  abbrev pub ReadsPiece : List ℕ → StreamPosition → StreamPosition → Places → Places → List ℕ → Type 0
+  -- Whatever follows: reading the piece and it from the old position and input is these warnings, and then reading it
+  -- from the new position and input.
+  abbrev pub ReadsPiece : List ℕ → StreamPosition → StreamPosition → UserInput → UserInput → List ℕ → Type 0
   ReadsPiece piece old new before after warned =
       (rest : List ℕ) (more : List Line) →
       reading tree prefix before (to_come name old (piece ++ rest) more) ≡ with_warnings warned (reading tree prefix after (to_come name new rest more))
 
   -- the warnings of the piece were handed out
-  abbrev pub Feeds : List ℕ → StreamPosition → StreamPosition → Places → Places → Option (List ℕ) → Option (List ℕ) → Type 0
+  abbrev pub Feeds : List ℕ → StreamPosition → StreamPosition → UserInput → UserInput → Option (List ℕ) → Option (List ℕ) → Type 0
   Feeds piece old new before after taken taken_after =
       (warned : List ℕ) × (taken_after ≡ extended taken warned) × ReadsPiece piece old new before after warned
 
   -- Whatever follows: the line at this position is too long.
-  abbrev pub MeetsLongLine : List ℕ → StreamPosition → Places → Type 0
-  MeetsLongLine left position places =
+  abbrev pub MeetsLongLine : List ℕ → StreamPosition → UserInput → Type 0
+  MeetsLongLine left position input =
       (rest : List ℕ) (more : List Line) →
-      reading tree prefix places (to_come name position (left ++ rest) more)
-      ≡ record { places = places; warned = []; stopped = Some (record { stream = name; number = position.number }) }
+      reading tree prefix input (to_come name position (left ++ rest) more)
+      ≡ record { input = input; warned = []; stopped = Some (record { stream = name; number = position.number }) }
 
   -- The sink failed at the warning of the line at this position: that line is the pending bytes and the first of what is
   -- left, up to an LF, and of its warning a beginning was handed out, and not the whole.
-  pub record BreaksAt (left : List ℕ) (position : StreamPosition) (places : Places) (front : List ℕ) : Type 0 where
+  pub record BreaksAt (left : List ℕ) (position : StreamPosition) (input : UserInput) (front : List ℕ) : Type 0 where
     pub text : List ℕ
     pub later : List ℕ
     pub ends : left ≡ text ++ byte "\n" ∷ later
     pub one_line : HoldsNoLineFeed (position.pending ++ text)
     pub within : length (position.pending ++ text) ≤ longest_dot_line
-    pub begun : GoesBeyond (warning tree prefix places (line name position.number (position.pending ++ text) true)) front
+    pub begun : GoesBeyond (warning tree prefix input (line name position.number (position.pending ++ text) true)) front
 
   -- Why a reader stops before what is left, with a beginning of the next line's warning handed out. Memory it wants only where
   -- something is left.
-  abbrev pub StopsBecause : DotFault → List ℕ → StreamPosition → Places → List ℕ → Type 0
-  StopsBecause (DotLineTooLong n) left position places front =
-      (front ≡ []) × (n ≡ position.number) × (length position.pending ≡ longest_dot_line) × GoesOn left × MeetsLongLine left position places
-  StopsBecause Sink left position places front = BreaksAt left position places front
-  StopsBecause Memory left position places front = (front ≡ []) × (0 < length left)
+  abbrev pub StopsBecause : DotFault → List ℕ → StreamPosition → UserInput → List ℕ → Type 0
+  StopsBecause (DotLineTooLong n) left position input front =
+      (front ≡ []) × (n ≡ position.number) × (length position.pending ≡ longest_dot_line) × GoesOn left × MeetsLongLine left position input
+  StopsBecause Sink left position input front = BreaksAt left position input front
+  StopsBecause Memory left position input front = (front ≡ []) × (0 < length left)
 
   -- The lines before the refused one are read, and their warnings handed out; there the reader stands.
-  pub record Refuses (fault : DotFault) (piece : List ℕ) (old new : StreamPosition) (before after : Places) (taken taken_after : Option (List ℕ)) : Type 0 where
+  pub record Refuses (fault : DotFault) (piece : List ℕ) (old new : StreamPosition) (before after : UserInput) (taken taken_after : Option (List ℕ)) : Type 0 where
     pub done : List ℕ
     pub left : List ℕ
     pub warned : List ℕ
@@ -105,20 +104,20 @@ module _ (tree : TreeFacts) (prefix name : List ℕ) where
     pub because : StopsBecause fault left new after front
 
   -- Whatever lines follow: the last line is ended, with its warning.
-  abbrev pub EndsStream : StreamPosition → Places → Places → List ℕ → Type 0
+  abbrev pub EndsStream : StreamPosition → UserInput → UserInput → List ℕ → Type 0
   EndsStream old before after warned =
       (more : List Line) →
       reading tree prefix before (lines_from name old.number old.pending ++ more) ≡ with_warnings warned (reading tree prefix after more)
 
-  abbrev pub FinishesStream : StreamPosition → Places → Places → Option (List ℕ) → Option (List ℕ) → Type 0
+  abbrev pub FinishesStream : StreamPosition → UserInput → UserInput → Option (List ℕ) → Option (List ℕ) → Type 0
   FinishesStream old before after taken taken_after =
       (warned : List ℕ) × (taken_after ≡ extended taken warned) × EndsStream old before after warned
 
   -- The last line could not be ended: where the sink failed, a beginning of its warning was handed out, and not the whole; where
   -- there was no memory, nothing was, and bytes are pending.
-  abbrev pub FailsToEnd : DotFault → StreamPosition → Places → Option (List ℕ) → Option (List ℕ) → Type 0
-  FailsToEnd (DotLineTooLong n) position places taken taken_after = ⊥
-  FailsToEnd Sink position places taken taken_after =
+  abbrev pub FailsToEnd : DotFault → StreamPosition → UserInput → Option (List ℕ) → Option (List ℕ) → Type 0
+  FailsToEnd (DotLineTooLong n) position input taken taken_after = ⊥
+  FailsToEnd Sink position input taken taken_after =
       (last : Line) × (lines_from name position.number position.pending ≡ last ∷ []) × (is_within last ≡ true)
-      × BreaksOff (warning tree prefix places last) taken taken_after
-  FailsToEnd Memory position places taken taken_after = (taken_after ≡ taken) × (0 < length position.pending)
+      × BreaksOff (warning tree prefix input last) taken taken_after
+  FailsToEnd Memory position input taken taken_after = (taken_after ≡ taken) × (0 < length position.pending)

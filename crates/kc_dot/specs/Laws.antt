@@ -17,7 +17,7 @@ abbrev pub MinimalGivesBack : TreeFacts → List ℕ → Places → (ℕ → Sym
 MinimalGivesBack tree prefix places V =
     (name : List ℕ) →
     let read = read_alone tree prefix name (minimal_text tree prefix (valuation_view tree (place_at places) V)) in
-    (read.stopped ≡ None) × IsOneSolution tree read.places V
+    (read.stopped ≡ None) × IsOneSolution tree read.input.places V
 
 -- one line: its bytes, of which none is a line feed, and behind them its LF
 abbrev pub IsOneLine : List ℕ → Type 0
@@ -29,7 +29,7 @@ MinimalNeedsEach tree prefix places V =
     (name : List ℕ) (keep : SymId → Bool) (s : SymId) → s.0 < symbol_count tree → differs tree (place_at places) V s.0 ≡ true → keep s ≡ false →
     let view = valuation_view tree (place_at places) V in
     let read = read_alone tree prefix name (kept_lines tree prefix view keep) in
-    IsOneLine (symbol_config tree prefix view s) × (read.stopped ≡ None) × HasOtherSolution tree read.places V
+    IsOneLine (symbol_config tree prefix view s) × (read.stopped ≡ None) × HasOtherSolution tree read.input.places V
 
 -- Reading the .config, from empty places, leaves places of which they are the one solution exactly where no visible
 -- tristate symbol outside a choice stands above both its visibility and its reverse dependency.
@@ -37,7 +37,7 @@ abbrev pub ConfigGivesBack : TreeFacts → List ℕ → Places → (ℕ → Symb
 ConfigGivesBack tree prefix places V =
     HasPlainNumbers tree V → HasPlainTitles tree prefix (valuation_view tree (place_at places) V) → (name : List ℕ) →
     let read = read_alone tree prefix name (config_text tree prefix (valuation_view tree (place_at places) V)) in
-    (read.stopped ≡ None) × (IsOneSolution tree read.places V ↔ ((i : ℕ) → i < symbol_count tree → changes_on_reread tree V i ≡ false))
+    (read.stopped ≡ None) × (IsOneSolution tree read.input.places V ↔ ((i : ℕ) → i < symbol_count tree → changes_on_reread tree V i ≡ false))
 
 -- no line of the text, whatever its name, is too long to be read again
 abbrev pub HasShortLines : List ℕ → Type 0

@@ -1,10 +1,12 @@
 pub mod Calls
+pub mod Changes
 pub mod DotLine
 pub mod EffectView
 pub mod Effects
 pub mod EntryTexts
 pub mod Feeding
 pub mod HasNames
+pub mod InputView
 pub mod Laws
 pub mod LineSteps
 pub mod Limits
@@ -18,6 +20,7 @@ pub mod ReaderView
 pub mod Reading
 pub mod Reread
 pub mod RoundTrip
+pub mod ShownView
 pub mod Sink
 pub mod SolvedView
 pub mod Streams

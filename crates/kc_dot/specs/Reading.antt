@@ -1,5 +1,5 @@
--- Trusted: What reading named streams of .config text gives: the user's places and the warnings.
-use Rattle.std.specs.Prelude.{ℕ, ◌+◌, ◌++◌, List, [], ◌∷◌, length, take, Bool, true, false, not, ◌&&◌, ◌==◌, nat_le, find, take_while, Option, Some, None, is_some, if◌then◌else◌}
+-- Trusted: What reading named streams of .config text gives: the user's values, the lines that gave them and the warnings.
+use Rattle.std.specs.Prelude.{ℕ, ◌+◌, ◌++◌, List, [], ◌∷◌, length, replicate, take, slice_index_or, Bool, true, false, not, ◌&&◌, ◌==◌, nat_le, find, take_while, Option, Some, None, is_some, if◌then◌else◌}
 use Rattle.std.specs.Option.{option_map, option_and_then}
 use Rattle.std.specs.List.{slice_split, filter_map, flat_map, enumerate_from, last_or}
 use Rattle.std.specs.Str.Lines.{strip_carriage_return}
@@ -8,11 +8,13 @@ use Rattle.kc_text.specs.Lines.{is_line_feed}
 use Rattle.kc_expr.specs.declared.expression.SymId.{SymId}
 use Rattle.kc_tree.specs.TreeFacts.{TreeFacts}
 use Rattle.kc_user.specs.GivenValue.{GivenValue, SymbolPlace, is_yes}
-use Rattle.kc_user.specs.Places.{Places, place_at}
+use Rattle.kc_user.specs.Places.{Places, no_places, place_at}
 use Rattle.kc_values.specs.Lookups.{facts}
 use Rattle.kc_dot.specs.DotLine.{meaning_of}
 use Rattle.kc_dot.specs.Limits.{longest_dot_line}
-use Rattle.kc_dot.specs.Effects.{Effect, Silent, Warns, Assigns, LineWarning, SetAgain, effect_of, name_of, warning_line}
+pub use Rattle.kc_dot.specs.Changes.{StreamLocation}
+use Rattle.kc_dot.specs.Changes.{change_text, is_change}
+use Rattle.kc_dot.specs.Effects.{Effect, Silent, Warns, Assigns, LineWarning, SetAgain, effect_of, kind_of, name_of, warning_line}
 
 -- A line of a stream: its bytes before the LF, and whether an LF ended it.
 pub record Line : Type 0 where
@@ -83,21 +85,32 @@ places_given tree places given = record {
   choices = each_from (λ c old. last_or old (filter_map (chosen_in tree c) given)) 0 places.choices;
 }
 
--- what a reading gives: the places, the warnings' lines, and the stream and number of the line that is too long
-pub record StreamLocation : Type 0 where
-  pub stream : List ℕ
-  pub number : ℕ
+abbrev pub stream_location : Line → StreamLocation
+stream_location l = record { stream = l.stream; number = l.number }
 
-pub record ReadResult : Type 0 where
+-- What the lines of a user's input files gave: the user's values; for each symbol the line that gave its value last, or no
+-- list at all where these lines are not kept; and whether every line was taken as written.
+pub record UserInput : Type 0 where
   pub places : Places
+  pub lines : List (Option StreamLocation)
+  pub all_taken : Bool
+
+-- nothing given yet
+abbrev pub no_input : Bool → TreeFacts → UserInput
+no_input keeps_lines tree = record {
+  places = no_places tree;
+  lines = if keeps_lines then replicate (length tree.symbols) None else [];
+  all_taken = true;
+}
+
+-- what a reading gives: the user's input, the warnings' lines, and the stream and number of the line that is too long
+pub record ReadResult : Type 0 where
+  pub input : UserInput
   pub warned : List ℕ
   pub stopped : Option StreamLocation
 
 abbrev pub with_warnings : List ℕ → ReadResult → ReadResult
-with_warnings warned read = record { places = read.places; warned = warned ++ read.warned; stopped = read.stopped }
-
-abbrev pub stream_location : Line → StreamLocation
-stream_location l = record { stream = l.stream; number = l.number }
+with_warnings warned read = record { input = read.input; warned = warned ++ read.warned; stopped = read.stopped }
 
 -- the symbol's place is filled already
 abbrev pub set_again : TreeFacts → Places → SymId → Option LineWarning
@@ -111,6 +124,29 @@ effect_warning tree places (Assigns s given) = set_again tree places s
 abbrev pub warning_line_if : List ℕ → ℕ → Option LineWarning → List ℕ
 warning_line_if stream number None = []
 warning_line_if stream number (Some line_warning) = warning_line stream number line_warning
+
+-- what a line changes, where the lines of the user's values are kept
+abbrev pub effect_change : TreeFacts → UserInput → StreamLocation → Effect → List ℕ
+effect_change tree input at Silent = []
+effect_change tree input at (Warns line_warning) = []
+effect_change tree input at (Assigns s given) =
+    change_text at (name_of tree s) (kind_of tree s) (place_at input.places (SymbolPlace s.0)) (slice_index_or input.lines s.0 None) given
+
+-- what a line of this effect warns of, given the input before it
+abbrev pub effect_text : TreeFacts → UserInput → StreamLocation → Effect → List ℕ
+effect_text tree input at effect = warning_line_if at.stream at.number (effect_warning tree input.places effect) ++ effect_change tree input at effect
+
+-- A line is taken as written: it says nothing, or it gives a symbol a value where no other value was given before.
+abbrev pub is_taken : Places → Effect → Bool
+is_taken places Silent = true
+is_taken places (Warns line_warning) = false
+is_taken places (Assigns s given) = not (is_change (place_at places (SymbolPlace s.0)) given)
+
+-- the line that gives symbol i a value
+abbrev pub line_for : ℕ → StreamLocation → Effect → Option StreamLocation
+line_for i at Silent = None
+line_for i at (Warns line_warning) = None
+line_for i at (Assigns s given) = if s.0 == i then Some at else None
 
 -- the lines before the first that is too long count
 abbrev pub before_too_long : List Line → List Line
@@ -128,18 +164,37 @@ module _ (tree : TreeFacts) (prefix : List ℕ) where
   abbrev pub places_after : Places → List Line → Places
   places_after places lines = places_given tree places (assignments lines)
 
-  -- what a line warns of, given the places before it
-  unfoldable pub warning : Places → Line → List ℕ
-  warning places l = warning_line_if l.stream l.number (effect_warning tree places (effect l))
+  -- each symbol has the last line that gave it a value; else what was there
+  unfoldable pub lines_after : List (Option StreamLocation) → List Line → List (Option StreamLocation)
+  lines_after old lines = each_from (λ i last. last_or last (filter_map (λ l. line_for i (stream_location l) (effect l)) lines)) 0 old
 
-  -- what the lines warn of, from these places on: each line given the places after the lines before it
-  unfoldable pub warnings : Places → List Line → List ℕ
-  warnings places lines = flat_map (λ (i, l). warning (places_after places (take i lines)) l) (enumerate_from 0 lines)
+  -- the line, where it is not taken as written
+  unfoldable pub untaken_line : Places → Line → List Line
+  untaken_line places l = if is_taken places (effect l) then [] else l ∷ []
 
-  unfoldable pub reading : Places → List Line → ReadResult
-  reading places lines = record {
-    places = places_after places (before_too_long lines);
-    warned = warnings places (before_too_long lines);
+  -- the lines that are not taken as written: each given the user's values after the lines before it
+  unfoldable pub untaken : Places → List Line → List Line
+  untaken places lines = flat_map (λ (i, l). untaken_line (places_after places (take i lines)) l) (enumerate_from 0 lines)
+
+  abbrev pub input_after : UserInput → List Line → UserInput
+  input_after input lines = record {
+    places = places_after input.places lines;
+    lines = lines_after input.lines lines;
+    all_taken = input.all_taken && (length (untaken input.places lines) == 0);
+  }
+
+  -- what a line warns of, given the input before it
+  unfoldable pub warning : UserInput → Line → List ℕ
+  warning input l = effect_text tree input (stream_location l) (effect l)
+
+  -- what the lines warn of, from this input on: each line given the input after the lines before it
+  unfoldable pub warnings : UserInput → List Line → List ℕ
+  warnings input lines = flat_map (λ (i, l). warning (input_after input (take i lines)) l) (enumerate_from 0 lines)
+
+  unfoldable pub reading : UserInput → List Line → ReadResult
+  reading input lines = record {
+    input = input_after input (before_too_long lines);
+    warned = warnings input (before_too_long lines);
     stopped = option_map stream_location (find (λ l. not (is_within l)) lines);
   }
 
@@ -151,6 +206,6 @@ pub record Stream : Type 0 where
 abbrev pub lines_of : List Stream → List Line
 lines_of streams = flat_map (λ s. lines_from s.name 1 s.bytes) streams
 
--- what reading the streams gives, from these places: each stream ends its own last line
-abbrev pub reading_of : TreeFacts → List ℕ → Places → List Stream → ReadResult
-reading_of tree prefix places streams = reading tree prefix places (lines_of streams)
+-- what reading the streams gives, from this input on: each stream ends its own last line
+abbrev pub reading_of : TreeFacts → List ℕ → UserInput → List Stream → ReadResult
+reading_of tree prefix input streams = reading tree prefix input (lines_of streams)

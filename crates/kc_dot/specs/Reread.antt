@@ -1,17 +1,17 @@
 -- Trusted: What reading a written text gives.
-use Rattle.std.specs.Prelude.{◌≡◌, ℕ, ◌<◌, List, [], ◌∷◌, Bool, if◌then◌else◌, Option}
+use Rattle.std.specs.Prelude.{◌≡◌, ℕ, ◌<◌, List, [], ◌∷◌, Bool, false, if◌then◌else◌, Option}
 use Rattle.std.specs.List.{flat_map}
 use Rattle.kc_expr.specs.declared.expression.SymId.{SymId}
 use Rattle.kc_expr.specs.Value.{SymbolValue}
 use Rattle.kc_tree.specs.TreeFacts.{TreeFacts}
 use Rattle.kc_user.specs.GivenValue.{GivenValue, UserPlace}
 use Rattle.kc_values.specs.Differs.{differs}
-use Rattle.kc_user.specs.Places.{Places, no_places, place_at}
+use Rattle.kc_user.specs.Places.{Places, place_at}
 use Rattle.kc_order.specs.Solution.{Solves, IsOnlySolution}
 use Rattle.kc_values.specs.Solution.{symbol_count, known_from, equations}
 use Rattle.kc_values.specs.Values.{condition}
 use Rattle.kc_values.specs.WrittenSymbols.{written}
-use Rattle.kc_dot.specs.Reading.{ReadResult, reading_of}
+use Rattle.kc_dot.specs.Reading.{ReadResult, no_input, reading_of}
 use Rattle.kc_dot.specs.Texts.{minimal_if, symbols_of}
 use Rattle.kc_dot.specs.SolutionView.{SolutionView}
 
@@ -30,7 +30,7 @@ kept_lines tree prefix solution keep = flat_map (λ s. if keep s then minimal_if
 
 -- what reading this text alone gives, from empty places, under this name
 abbrev pub read_alone : TreeFacts → List ℕ → List ℕ → List ℕ → ReadResult
-read_alone tree prefix name text = reading_of tree prefix (no_places tree) (record { name = name; bytes = text } ∷ [])
+read_alone tree prefix name text = reading_of tree prefix (no_input false tree) (record { name = name; bytes = text } ∷ [])
 
 -- these values are the one solution under these places
 pub record IsOneSolution (tree : TreeFacts) (places : Places) (V : ℕ → SymbolValue) : Type 0 where

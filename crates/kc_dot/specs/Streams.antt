@@ -1,13 +1,13 @@
 -- Trusted: Streams that are handed to a reader in pieces of any size.
-use Rattle.std.specs.Prelude.{◌≡◌, ℕ, List, [], ◌∷◌, ◌++◌, map, Option, None}
+use Rattle.std.specs.Prelude.{◌≡◌, ℕ, List, [], ◌∷◌, ◌++◌, map, Bool, Option, None}
 use Rattle.std.specs.List.{concat}
-use Rattle.kc_user.specs.Places.{ArePlaces, Places, no_places}
+use Rattle.kc_user.specs.Places.{ArePlaces}
 use Rattle.kc_tree.specs.TreeFacts.{TreeFacts, IsWellFormed}
 use Rattle.kc_dot.specs.Calls.{Call, Feed, Finish, NextStream, AllAnswered}
 use Rattle.kc_dot.specs.declared.fault.DotFault.{DotFault}
 use Rattle.kc_dot.specs.Feeding.{StreamPosition, Refuses, stream_start}
 use Rattle.kc_dot.specs.ReaderState.{ReaderState}
-use Rattle.kc_dot.specs.Reading.{Stream, reading_of}
+use Rattle.kc_dot.specs.Reading.{Stream, UserInput, no_input, reading_of}
 
 -- a stream's name, and its bytes as they are handed in
 pub record Pieces : Type 0 where
@@ -28,25 +28,25 @@ calls_after (s ∷ streams) = NextStream s.name ∷ (feeds s.pieces ++ calls_aft
 -- The calls of a new reader that hand in all streams give what reading them at once gives.
 abbrev pub StreamsAreRead : Type 0
 StreamsAreRead =
-    (first : Pieces) (streams : List Pieces) (old new : ReaderState) (before after : Places) (warned : List ℕ) →
+    (first : Pieces) (streams : List Pieces) (old new : ReaderState) (before after : UserInput) (warned : List ℕ) →
     old.name ≡ first.name → old.position ≡ stream_start → AllAnswered (feeds first.pieces ++ calls_after streams) old new before after warned →
-    reading_of old.tree old.prefix before (map stream_of (first ∷ streams)) ≡ record { places = after; warned = warned; stopped = None }
+    reading_of old.tree old.prefix before (map stream_of (first ∷ streams)) ≡ record { input = after; warned = warned; stopped = None }
 
 -- Places that hold what is allowed still do after any calls.
 abbrev pub ReadingKeepsPlaces : Type 0
 ReadingKeepsPlaces =
-    (calls : List Call) (old new : ReaderState) (before after : Places) (warned : List ℕ) → IsWellFormed old.tree →
-    AllAnswered calls old new before after warned → ArePlaces old.tree before → ArePlaces old.tree after
+    (calls : List Call) (old new : ReaderState) (before after : UserInput) (warned : List ℕ) → IsWellFormed old.tree →
+    AllAnswered calls old new before after warned → ArePlaces old.tree before.places → ArePlaces old.tree after.places
 
 -- What reading any streams leaves, from empty places, holds what is allowed.
 abbrev pub StreamsLeavePlaces : Type 0
 StreamsLeavePlaces =
-    (tree : TreeFacts) (prefix : List ℕ) (streams : List Stream) → IsWellFormed tree →
-    ArePlaces tree (reading_of tree prefix (no_places tree) streams).places
+    (tree : TreeFacts) (prefix : List ℕ) (keeps_lines : Bool) (streams : List Stream) → IsWellFormed tree →
+    ArePlaces tree (reading_of tree prefix (no_input keeps_lines tree) streams).input.places
 
 -- Places that hold what is allowed still do after a call that was refused.
 abbrev pub RefusalsKeepPlaces : Type 0
 RefusalsKeepPlaces =
-    (tree : TreeFacts) (prefix name : List ℕ) (fault : DotFault) (piece : List ℕ) (old new : StreamPosition) (before after : Places) (taken taken_after : Option (List ℕ)) →
+    (tree : TreeFacts) (prefix name : List ℕ) (fault : DotFault) (piece : List ℕ) (old new : StreamPosition) (before after : UserInput) (taken taken_after : Option (List ℕ)) →
     IsWellFormed tree → Refuses tree prefix name fault piece old new before after taken taken_after →
-    ArePlaces tree before → ArePlaces tree after
+    ArePlaces tree before.places → ArePlaces tree after.places

@@ -55,7 +55,7 @@ pub fn line_effect<'a>(
 }
 
 // The type of a symbol; a name that is not defined has none.
-fn kind_of(tree: &Tree, id: SymId) -> Kind
+pub(crate) fn kind_of(tree: &Tree, id: SymId) -> Kind
     ensures { result ≡ spec.kind_of tree.now id }
 {
     match tree.facts(id) {

@@ -12,9 +12,11 @@ mod line_buffer;
 mod page;
 pub mod prefix;
 pub mod reader;
+pub mod shown;
 pub mod sink;
 mod step;
 mod symbol_line;
+pub mod user_input;
 pub mod value;
 
 pub use batch::put;

@@ -6,16 +6,16 @@ ghost use Rattle.kc_user.specs.Places.{ArePlacesOf};
 ghost use Rattle.kc_dot.specs.Feeding.{StreamPosition, IsWithinLine, Feeds, Refuses, FinishesStream, FailsToEnd, fed, ended, failures_after};
 ghost use Rattle.kc_dot.specs.LineSteps.{FailsIn, StopsAt};
 ghost use Rattle.kc_text.specs.Limits.{one_more};
-ghost use Rattle.kc_dot.specs.Reading.{line, places_after, warning};
+ghost use Rattle.kc_dot.specs.Reading.{line, input_after, warning};
 ghost use Rattle.kc_dot.specs.ReaderView.{position_of};
 ghost use Rattle.kc_dot.specs.Sink.{extended};
 
 use crate::fault::DotFault;
 use crate::sink::Sink;
 use crate::step::{NamedStream, read_line};
+use crate::user_input::UserInput;
 use bstr::ByteSlice;
 use kc_text::without_carriage_return;
-use kc_user::user::User;
 use std::alloc::Global;
 
 /// The most bytes of a line.
@@ -40,16 +40,16 @@ fn text_of(bytes: &[u8], ended: bool) -> &[u8]
 }
 
 /// Reads the pending bytes as a line, and goes on to the next. After an error all is as it was.
-pub(crate) fn end_line<S: Sink>(
+pub(crate) fn end_line<'a, S: Sink>(
     alloc: Global,
-    stream: &NamedStream<'_>,
+    stream: &NamedStream<'a>,
     line_buffer: &mut LineBuffer,
     ended: bool,
-    user: &mut User,
+    user: &mut UserInput<'a>,
     sink: &mut S,
 ) -> Result<(), DotFault>
-    requires { ArePlacesOf stream.now.tree.now user.old }
-    ensures places { OnOk result (user.new ≡ places_after stream.now.tree.now stream.now.prefix.now user.old (line stream.now.name.now line_buffer.old.number line_buffer.old.pending.items ended ∷ [])) }
+    requires { ArePlacesOf stream.now.tree.now user.old.places }
+    ensures places { OnOk result (user.new ≡ input_after stream.now.tree.now stream.now.prefix.now user.old (line stream.now.name.now line_buffer.old.number line_buffer.old.pending.items ended ∷ [])) }
     ensures warned { OnOk result (S.taken sink.new ≡ extended (S.taken sink.old) (warning stream.now.tree.now stream.now.prefix.now user.old (line stream.now.name.now line_buffer.old.number line_buffer.old.pending.items ended))) }
     ensures next { OnOk result (position_of line_buffer.new ≡ record { number = one_more line_buffer.old.number; pending = [] }) }
     ensures unchanged { OnErr result (user.new ≡ user.old) }
@@ -68,15 +68,15 @@ pub(crate) fn end_line<S: Sink>(
 }
 
 // Takes one byte: an LF ends the line, another byte waits for it, unless it is the 65,536th of its line.
-fn take_byte<S: Sink>(
+fn take_byte<'a, S: Sink>(
     alloc: Global,
-    stream: &NamedStream<'_>,
+    stream: &NamedStream<'a>,
     line_buffer: &mut LineBuffer,
     byte: u8,
-    user: &mut User,
+    user: &mut UserInput<'a>,
     sink: &mut S,
 ) -> Result<(), DotFault>
-    requires user { ArePlacesOf stream.now.tree.now user.old }
+    requires user { ArePlacesOf stream.now.tree.now user.old.places }
     requires opened { IsWithinLine (position_of line_buffer.old) }
     ensures ok { OnOk result (Feeds stream.now.tree.now stream.now.prefix.now stream.now.name.now (byte ∷ []) (position_of line_buffer.old) (position_of line_buffer.new) user.old user.new (S.taken sink.old) (S.taken sink.new)) }
     ensures position { OnOk result (position_of line_buffer.new ≡ fed (byte ∷ []) (position_of line_buffer.old)) }
@@ -86,7 +86,7 @@ fn take_byte<S: Sink>(
     ensures quiet { OnOk result (S.failures sink.new ≡ S.failures sink.old) }
     ensures counted { IfErr result (λ fault. S.failures sink.new ≡ failures_after fault (S.failures sink.old)) }
     ensures keeps { S.goes_to sink.old sink.new }
-    ensures user { OnOk result (ArePlacesOf stream.now.tree.now user.new) }
+    ensures user { OnOk result (ArePlacesOf stream.now.tree.now user.new.places) }
     ensures opened { OnOk result (IsWithinLine (position_of line_buffer.new)) }
 {
     if byte == b'\n' {
@@ -115,16 +115,16 @@ fn bytes_before_lf(bytes: &[u8], room: usize) -> usize
 
 // Takes a beginning of the bytes, and answers how many: those before the next LF, as far as the line does not get too long
 // by them, or where there are none, one.
-fn take_front<S: Sink>(
+fn take_front<'a, S: Sink>(
     alloc: Global,
-    stream: &NamedStream<'_>,
+    stream: &NamedStream<'a>,
     line_buffer: &mut LineBuffer,
     bytes: &[u8],
-    user: &mut User,
+    user: &mut UserInput<'a>,
     sink: &mut S,
 ) -> Result<usize, DotFault>
     requires some { 0 < length bytes.now }
-    requires user { ArePlacesOf stream.now.tree.now user.old }
+    requires user { ArePlacesOf stream.now.tree.now user.old.places }
     requires opened { IsWithinLine (position_of line_buffer.old) }
     ensures some { IfOk result (λ n. 0 < n) }
     ensures within { IfOk result (λ n. n ≤ length bytes.now) }
@@ -137,7 +137,7 @@ fn take_front<S: Sink>(
     ensures quiet { OnOk result (S.failures sink.new ≡ S.failures sink.old) }
     ensures counted { IfErr result (λ fault. S.failures sink.new ≡ failures_after fault (S.failures sink.old)) }
     ensures keeps { S.goes_to sink.old sink.new }
-    ensures user { OnOk result (ArePlacesOf stream.now.tree.now user.new) }
+    ensures user { OnOk result (ArePlacesOf stream.now.tree.now user.new.places) }
     ensures opened { OnOk result (IsWithinLine (position_of line_buffer.new)) }
 {
     let count = bytes_before_lf(bytes, LONGEST_DOT_LINE - line_buffer.pending.len());
@@ -150,15 +150,15 @@ fn take_front<S: Sink>(
 }
 
 /// Takes the piece.
-pub(crate) fn take_piece<S: Sink>(
+pub(crate) fn take_piece<'a, S: Sink>(
     alloc: Global,
-    stream: &NamedStream<'_>,
+    stream: &NamedStream<'a>,
     line_buffer: &mut LineBuffer,
     piece: &[u8],
-    user: &mut User,
+    user: &mut UserInput<'a>,
     sink: &mut S,
 ) -> Result<(), DotFault>
-    requires user { ArePlacesOf stream.now.tree.now user.old }
+    requires user { ArePlacesOf stream.now.tree.now user.old.places }
     requires opened { IsWithinLine (position_of line_buffer.old) }
     ensures ok { OnOk result (Feeds stream.now.tree.now stream.now.prefix.now stream.now.name.now piece.now (position_of line_buffer.old) (position_of line_buffer.new) user.old user.new (S.taken sink.old) (S.taken sink.new)) }
     ensures position { OnOk result (position_of line_buffer.new ≡ fed piece.now (position_of line_buffer.old)) }
@@ -167,7 +167,7 @@ pub(crate) fn take_piece<S: Sink>(
     ensures quiet { OnOk result (S.failures sink.new ≡ S.failures sink.old) }
     ensures counted { IfErr result (λ fault. S.failures sink.new ≡ failures_after fault (S.failures sink.old)) }
     ensures keeps { S.goes_to sink.old sink.new }
-    ensures user { ArePlacesOf stream.now.tree.now user.new }
+    ensures user { ArePlacesOf stream.now.tree.now user.new.places }
     ensures opened { IsWithinLine (position_of line_buffer.new) }
 {
     let mut at = 0;
@@ -178,14 +178,14 @@ pub(crate) fn take_piece<S: Sink>(
 }
 
 /// Ends the stream: pending bytes are its last line. After an error all is as it was.
-pub(crate) fn end_stream<S: Sink>(
+pub(crate) fn end_stream<'a, S: Sink>(
     alloc: Global,
-    stream: &NamedStream<'_>,
+    stream: &NamedStream<'a>,
     line_buffer: &mut LineBuffer,
-    user: &mut User,
+    user: &mut UserInput<'a>,
     sink: &mut S,
 ) -> Result<(), DotFault>
-    requires user { ArePlacesOf stream.now.tree.now user.old }
+    requires user { ArePlacesOf stream.now.tree.now user.old.places }
     requires opened { IsWithinLine (position_of line_buffer.old) }
     ensures ok { OnOk result (FinishesStream stream.now.tree.now stream.now.prefix.now stream.now.name.now (position_of line_buffer.old) user.old user.new (S.taken sink.old) (S.taken sink.new)) }
     ensures position { OnOk result (position_of line_buffer.new ≡ ended (position_of line_buffer.old)) }
@@ -195,7 +195,7 @@ pub(crate) fn end_stream<S: Sink>(
     ensures quiet { OnOk result (S.failures sink.new ≡ S.failures sink.old) }
     ensures counted { IfErr result (λ fault. S.failures sink.new ≡ failures_after fault (S.failures sink.old)) }
     ensures keeps { S.goes_to sink.old sink.new }
-    ensures user { OnOk result (ArePlacesOf stream.now.tree.now user.new) }
+    ensures user { OnOk result (ArePlacesOf stream.now.tree.now user.new.places) }
     ensures opened { OnOk result (IsWithinLine (position_of line_buffer.new)) }
 {
     if line_buffer.pending.is_empty() {

@@ -10,12 +10,12 @@ use crate::line_buffer::{LineBuffer, end_stream, take_piece};
 use crate::prefix::Prefix;
 use crate::sink::Sink;
 use crate::step::NamedStream;
+use crate::user_input::UserInput;
 use kc_tree::tree::Tree;
-use kc_user::user::User;
 use std::alloc::Global;
 use std::marker::Model;
 
-/// Reads streams of `.config` text line by line: each valid assignment goes to the user's places, each warning to a
+/// Reads streams of `.config` text line by line: each valid assignment goes to the user's input, each warning to a
 /// sink, as its line ends. Besides the tree, the prefix and the stream's name it keeps the number of the line not yet
 /// ended, that line's bytes, of which there are at most 65,535, and the first refusal, which every later call answers
 /// again, changing nothing.
@@ -72,10 +72,10 @@ impl<'a> DotReader<'a> {
     pub fn feed<S: Sink>(
         &mut self,
         piece: &[u8],
-        user: &mut User,
+        user: &mut UserInput<'a>,
         sink: &mut S,
     ) -> Result<(), DotFault>
-        requires { ArePlacesOf self.old.tree user.old }
+        requires { ArePlacesOf self.old.tree user.old.places }
         ensures ok { OnOk result (Feeds self.old.tree self.old.prefix self.old.name piece.now self.old.position self.new.position user.old user.new (S.taken sink.old) (S.taken sink.new)) }
         ensures stands { OnOk result ((self.old.refusal ≡ None) × (self.new ≡ record self.old { position = fed piece.now self.old.position })) }
         ensures refused { self.old.refusal ≡ None → IfErr result
@@ -86,7 +86,7 @@ impl<'a> DotReader<'a> {
         ensures quiet { OnOk result (S.failures sink.new ≡ S.failures sink.old) }
         ensures counted { self.old.refusal ≡ None → IfErr result (λ fault. S.failures sink.new ≡ failures_after fault (S.failures sink.old)) }
         ensures keeps { S.goes_to sink.old sink.new }
-        ensures user { ArePlacesOf self.new.tree user.new }
+        ensures user { ArePlacesOf self.new.tree user.new.places }
     {
         if let Some(fault) = self.refusal {
             return Err(fault);
@@ -111,8 +111,12 @@ impl<'a> DotReader<'a> {
     /// is the reader but that it keeps the fault and answers it to every later call; where the sink failed it took a
     /// beginning of the line's warning, never the whole, and otherwise nothing. Where no byte is pending nothing fails, unless
     /// the reader keeps a fault.
-    pub fn finish<S: Sink>(&mut self, user: &mut User, sink: &mut S) -> Result<(), DotFault>
-        requires { ArePlacesOf self.old.tree user.old }
+    pub fn finish<S: Sink>(
+        &mut self,
+        user: &mut UserInput<'a>,
+        sink: &mut S,
+    ) -> Result<(), DotFault>
+        requires { ArePlacesOf self.old.tree user.old.places }
         ensures ok { OnOk result (FinishesStream self.old.tree self.old.prefix self.old.name self.old.position user.old user.new (S.taken sink.old) (S.taken sink.new)) }
         ensures stands { OnOk result ((self.old.refusal ≡ None) × (self.new ≡ record self.old { position = ended self.old.position })) }
         ensures failed { self.old.refusal ≡ None → IfErr result (λ fault. FailsToEnd self.old.tree self.old.prefix self.old.name fault self.old.position user.old (S.taken sink.old) (S.taken sink.new)) }
@@ -121,7 +125,7 @@ impl<'a> DotReader<'a> {
         ensures quiet { OnOk result (S.failures sink.new ≡ S.failures sink.old) }
         ensures counted { self.old.refusal ≡ None → IfErr result (λ fault. S.failures sink.new ≡ failures_after fault (S.failures sink.old)) }
         ensures keeps { S.goes_to sink.old sink.new }
-        ensures user { ArePlacesOf self.new.tree user.new }
+        ensures user { ArePlacesOf self.new.tree user.new.places }
     {
         let ended = match self.refusal {
             None => end_stream(self.alloc, &self.stream, &mut self.line_buffer, user, sink),
@@ -138,10 +142,10 @@ impl<'a> DotReader<'a> {
     pub fn next_stream<S: Sink>(
         &mut self,
         name: &'a [u8],
-        user: &mut User,
+        user: &mut UserInput<'a>,
         sink: &mut S,
     ) -> Result<(), DotFault>
-        requires { ArePlacesOf self.old.tree user.old }
+        requires { ArePlacesOf self.old.tree user.old.places }
         ensures ok { OnOk result (FinishesStream self.old.tree self.old.prefix self.old.name self.old.position user.old user.new (S.taken sink.old) (S.taken sink.new)) }
         ensures stands { OnOk result ((self.old.refusal ≡ None) × (self.new ≡ record self.old { name = name.now; position = stream_start })) }
         ensures failed { self.old.refusal ≡ None → IfErr result (λ fault. FailsToEnd self.old.tree self.old.prefix self.old.name fault self.old.position user.old (S.taken sink.old) (S.taken sink.new)) }
@@ -150,7 +154,7 @@ impl<'a> DotReader<'a> {
         ensures quiet { OnOk result (S.failures sink.new ≡ S.failures sink.old) }
         ensures counted { self.old.refusal ≡ None → IfErr result (λ fault. S.failures sink.new ≡ failures_after fault (S.failures sink.old)) }
         ensures keeps { S.goes_to sink.old sink.new }
-        ensures user { ArePlacesOf self.new.tree user.new }
+        ensures user { ArePlacesOf self.new.tree user.new.places }
     {
         self.finish(user, sink)?;
         self.stream.name = name;

@@ -1,28 +1,33 @@
-//! What one line of a stream does to the user's places.
-ghost use Rattle.std.specs.Prelude.{◌≡◌, ◌<◌, true, [], ◌∷◌, length, None, OnOk, OnErr, IfErr, IfSome};
+//! What one line of a stream does to the user's input.
+ghost use Rattle.std.specs.Prelude.{◌≡◌, ◌++◌, ◌<◌, true, [], ◌∷◌, length, map, slice_set, Some, None, IfOk, OnOk, OnErr, IfErr, IfSome};
 ghost use Rattle.std.specs.Option.{option_map};
 ghost use Rattle.kc_user.specs.ValueView.{given_of_value};
+ghost use Rattle.kc_dot.specs.Changes.{change_line, change_text, is_change};
 ghost use Rattle.kc_dot.specs.DotLine.{meaning_of};
-ghost use Rattle.kc_dot.specs.Effects.{effect_of};
-ghost use Rattle.kc_user.specs.Places.{ArePlacesOf};
+ghost use Rattle.kc_dot.specs.Effects.{Assigns, SetAgain, effect_of, warning_line};
+ghost use Rattle.kc_user.specs.Places.{ArePlacesOf, place_at};
 ghost use Rattle.kc_dot.specs.Feeding.{failures_after};
-ghost use Rattle.kc_dot.specs.LineSteps.{places_by, with_member, FailsIn};
-ghost use Rattle.kc_dot.specs.Reading.{set_again, effect_warning, warning_line_if, choice_of, places_given};
-ghost use Rattle.kc_user.specs.GivenValue.{is_yes};
+ghost use Rattle.kc_dot.specs.LineSteps.{input_by, with_member, FailsIn, Hands};
+ghost use Rattle.kc_dot.specs.Reading.{effect_text, choice_of, places_given};
+ghost use Rattle.kc_dot.specs.ShownView.{given_by, location_of};
+ghost use Rattle.kc_user.specs.GivenValue.{SymbolPlace, is_yes};
 ghost use Rattle.kc_dot.specs.Sink.{extended};
-ghost use Rattle.kc_dot.specs.Writing.{Puts};
 
-use crate::effect::{Effect, LineWarning, line_effect, warn};
+use crate::batch::put;
+use crate::effect::{Effect, LineWarning, kind_of, line_effect, warn};
 use crate::fault::DotFault;
 use crate::line::parse_dot_line;
+use crate::page::add_parts;
 use crate::prefix::Prefix;
+use crate::shown::{InputLine, ShownValue, add_location, add_value, is_same, shown_given};
 use crate::sink::{Fault, Sink};
-use kc_expr::expression::{SymId, Tri};
+use crate::user_input::UserInput;
+use kc_expr::expression::{Kind, SymId, Tri};
 use kc_tree::rows::ChoiceId;
 use kc_tree::tree::Tree;
 use kc_user::user::User;
 use kc_user::value::UserValue;
-use std::alloc::Global;
+use std::alloc::{AllocError, Global};
 
 /// A stream's name, and the tree and prefix that it is read for.
 #[derive(Clone, Copy)]
@@ -79,52 +84,197 @@ fn assign(tree: &Tree, id: SymId, value: UserValue, user: &mut User)
     user.set(id, value);
 }
 
-// Warns where the symbol's place is filled.
-fn warn_again<S: Sink>(
-    stream: &NamedStream<'_>,
-    number: u64,
-    id: SymId,
-    user: &User,
-    sink: &mut S,
-) -> Result<(), Fault>
-    requires defined { id.0 < length stream.now.tree.now.symbols }
-    requires user { ArePlacesOf stream.now.tree.now user.now }
-    ensures { Puts S.Sink (warning_line_if stream.now.name.now number (set_again stream.now.tree.now user.now id)) result sink.old sink.new }
+// Whether a value stands in the place of another.
+fn is_change(user: &User, id: SymId, value: &UserValue) -> bool
+    requires { id.0 < length user.now.symbols }
+    ensures { result ≡ is_change (place_at user.now (SymbolPlace id.0)) (given_of_value value.now) }
 {
-    if user.get(id).is_none() || id.0 >= stream.tree.symbol_count() {
-        return Ok(());
+    match user.get(id) {
+        Some(old) => !is_same(shown_given(old), shown_given(value)),
+        None => false,
     }
-    warn(
-        stream.name,
-        number,
-        LineWarning::SetAgain(stream.tree.name(id)),
-        sink,
-    )
 }
 
-/// Reads one line, given without its end: hands out its warning, and then changes the places. After an error the places
-/// are as they were.
-pub(crate) fn read_line<S: Sink>(
+// Puts the line into the symbol's place, where there is one.
+fn set_line<'a>(lines: &mut Vec<Option<InputLine<'a>>>, id: SymId, at: InputLine<'a>)
+    ensures { map (option_map location_of) lines.new.items ≡ slice_set (map (option_map location_of) lines.old.items) id.0 (Some (location_of at.entry)) }
+{
+    if id.0 < lines.len() {
+        lines[id.0] = Some(at);
+    }
+}
+
+// Gives the symbol the value, by this line.
+fn give<'a>(tree: &Tree, at: InputLine<'a>, id: SymId, value: UserValue, input: &mut UserInput<'a>)
+    requires defined { id.0 < length tree.now.symbols }
+    requires user { ArePlacesOf tree.now input.old.places }
+    ensures { input.new ≡ input_by tree.now input.old (location_of at.entry) (Assigns id (given_of_value value)) }
+{
+    let is_kept = !is_change(&input.user, id, &value);
+    set_line(&mut input.lines, id, at);
+    assign(tree, id, value, &mut input.user);
+    input.all_taken = input.all_taken && is_kept;
+}
+
+// Adds the line that tells that the symbol is set again.
+fn add_again(at: InputLine<'_>, name: &[u8], text: &mut Vec<u8>) -> Result<(), AllocError>
+    ensures { OnOk result (text.new.items ≡ text.old.items ++ warning_line at.entry.file.now at.entry.number (SetAgain name.now)) }
+{
+    add_location(at, text)?;
+    add_parts(&[b": warning K10: ", name, b" is set again\n"], text)
+}
+
+// A value, and the line that gave it.
+#[derive(Clone, Copy)]
+struct Given<'a> {
+    value: ShownValue<'a>,
+    at: InputLine<'a>,
+}
+
+// Adds the line that tells what the symbol was and is now.
+fn add_change(
+    name: &[u8],
+    kind: Kind,
+    old: Given<'_>,
+    new: Given<'_>,
+    text: &mut Vec<u8>,
+) -> Result<(), AllocError>
+    ensures { OnOk result (text.new.items ≡ text.old.items
+        ++ change_line (location_of new.entry.at) name.now kind (given_by old.entry.value) (location_of old.entry.at) (given_by new.entry.value)) }
+{
+    add_location(new.at, text)?;
+    add_parts(&[b": warning K15: ", name, b" was "], text)?;
+    add_value(kind, old.value, text)?;
+    text.extend_from_slice(b" (")?;
+    add_location(old.at, text)?;
+    text.extend_from_slice(b") and is now ")?;
+    add_value(kind, new.value, text)?;
+    add_parts(&[b"\n"], text)
+}
+
+// Hands out that the symbol is set again.
+fn hand_again<S: Sink>(at: InputLine<'_>, name: &[u8], sink: &mut S) -> Result<(), DotFault>
+    ensures { Hands S.Sink (warning_line at.entry.file.now at.entry.number (SetAgain name.now)) result sink.old sink.new }
+{
+    match warn(at.file, at.number, LineWarning::SetAgain(name), sink) {
+        Ok(()) => Ok(()),
+        Err(Fault) => Err(DotFault::Sink),
+    }
+}
+
+// Hands out that the symbol is set again, and what it was and is now.
+fn hand_change<S: Sink>(
     alloc: Global,
-    stream: &NamedStream<'_>,
-    number: u64,
-    text: &[u8],
-    user: &mut User,
+    name: &[u8],
+    kind: Kind,
+    old: Given<'_>,
+    new: Given<'_>,
     sink: &mut S,
 ) -> Result<(), DotFault>
-    requires { ArePlacesOf stream.now.tree.now user.old }
-    ensures places { OnOk result (user.new ≡ places_by stream.now.tree.now user.old (effect_of stream.now.tree.now (meaning_of stream.now.prefix.now text.now))) }
+    ensures { Hands S.Sink (warning_line new.entry.at.file.now new.entry.at.number (SetAgain name.now)
+        ++ change_line (location_of new.entry.at) name.now kind (given_by old.entry.value) (location_of old.entry.at) (given_by new.entry.value)) result sink.old sink.new }
+{
+    let mut text = Vec::new(alloc);
+    add_again(new.at, name, &mut text)?;
+    add_change(name, kind, old, new, &mut text)?;
+    put(&text, sink)?;
+    Ok(())
+}
+
+// Hands out that the symbol is set again, and the change where there is one and its line is known.
+fn hand_both<S: Sink>(
+    alloc: Global,
+    name: &[u8],
+    kind: Kind,
+    old: ShownValue<'_>,
+    from: Option<InputLine<'_>>,
+    new: Given<'_>,
+    sink: &mut S,
+) -> Result<(), DotFault>
+    ensures { Hands S.Sink (warning_line new.entry.at.file.now new.entry.at.number (SetAgain name.now)
+        ++ change_text (location_of new.entry.at) name.now kind (Some (given_by old.entry)) (option_map location_of from.entry) (given_by new.entry.value)) result sink.old sink.new }
+{
+    match from {
+        None => hand_again(new.at, name, sink),
+        Some(from) => {
+            if is_same(old, new.value) {
+                hand_again(new.at, name, sink)
+            } else {
+                let old = Given {
+                    value: old,
+                    at: from,
+                };
+                hand_change(alloc, name, kind, old, new, sink)
+            }
+        }
+    }
+}
+
+// Warns where the symbol has a value already.
+fn warn_again<S: Sink>(
+    alloc: Global,
+    tree: &Tree,
+    at: InputLine<'_>,
+    id: SymId,
+    value: &UserValue,
+    input: &UserInput<'_>,
+    sink: &mut S,
+) -> Result<(), DotFault>
+    requires defined { id.0 < length tree.now.symbols }
+    requires user { ArePlacesOf tree.now input.now.places }
+    ensures { Hands S.Sink (effect_text tree.now input.now (location_of at.entry) (Assigns id (given_of_value value.now))) result sink.old sink.new }
+{
+    if id.0 >= tree.symbol_count() {
+        return Ok(());
+    }
+    match input.user().get(id) {
+        None => Ok(()),
+        Some(old) => {
+            let new = Given {
+                value: shown_given(value),
+                at,
+            };
+            let from = input.line(id);
+            hand_both(
+                alloc,
+                tree.name(id),
+                kind_of(tree, id),
+                shown_given(old),
+                from,
+                new,
+                sink,
+            )
+        }
+    }
+}
+
+/// Reads one line, given without its end: hands out its warning, and then changes the input. After an error the input
+/// is as it was.
+pub(crate) fn read_line<'a, S: Sink>(
+    alloc: Global,
+    stream: &NamedStream<'a>,
+    number: u64,
+    text: &[u8],
+    user: &mut UserInput<'a>,
+    sink: &mut S,
+) -> Result<(), DotFault>
+    requires { ArePlacesOf stream.now.tree.now user.old.places }
+    ensures places { OnOk result (user.new ≡ input_by stream.now.tree.now user.old (record { stream = stream.now.name.now; number = number })
+        (effect_of stream.now.tree.now (meaning_of stream.now.prefix.now text.now))) }
     ensures warned { OnOk result (S.taken sink.new ≡ extended (S.taken sink.old)
-        (warning_line_if stream.now.name.now number (effect_warning stream.now.tree.now user.old
-        (effect_of stream.now.tree.now (meaning_of stream.now.prefix.now text.now))))) }
+        (effect_text stream.now.tree.now user.old (record { stream = stream.now.name.now; number = number })
+        (effect_of stream.now.tree.now (meaning_of stream.now.prefix.now text.now)))) }
     ensures unchanged { OnErr result (user.new ≡ user.old) }
-    ensures fault { IfErr result (λ fault. FailsIn (warning_line_if stream.now.name.now number
-        (effect_warning stream.now.tree.now user.old (effect_of stream.now.tree.now (meaning_of stream.now.prefix.now text.now)))) fault (S.taken sink.old)
-        (S.taken sink.new)) }
+    ensures fault { IfErr result (λ fault. FailsIn (effect_text stream.now.tree.now user.old (record { stream = stream.now.name.now; number = number })
+        (effect_of stream.now.tree.now (meaning_of stream.now.prefix.now text.now))) fault (S.taken sink.old) (S.taken sink.new)) }
     ensures quiet { OnOk result (S.failures sink.new ≡ S.failures sink.old) }
     ensures counted { IfErr result (λ fault. S.failures sink.new ≡ failures_after fault (S.failures sink.old)) }
     ensures keeps { S.goes_to sink.old sink.new }
 {
+    let at = InputLine {
+        file: stream.name,
+        number,
+    };
     match line_effect(
         alloc,
         stream.tree,
@@ -133,11 +283,12 @@ pub(crate) fn read_line<S: Sink>(
         Effect::Silent => Ok(()),
         Effect::Warns(line_warning) => {
             warn(stream.name, number, line_warning, sink)?;
+            user.leave_out();
             Ok(())
         }
         Effect::Assigns(id, value) => {
-            warn_again(stream, number, id, user, sink)?;
-            assign(stream.tree, id, value, user);
+            warn_again(alloc, stream.tree, at, id, &value, user, sink)?;
+            give(stream.tree, at, id, value, user);
             Ok(())
         }
     }

@@ -42,8 +42,10 @@ pub struct RunRequest<'a> {
     pub minimal: Option<&'a str>,
     /// The name of the rule for make, where it is wanted.
     pub depfile: Option<&'a str>,
-    /// Whether a warning is refused.
+    /// Whether a line that is not taken as written is refused.
     pub strict: bool,
+    /// Whether any warning is refused.
+    pub strict_tree: bool,
     /// Whether a value that was given and is not the symbol's is warned of.
     pub warn_lost: bool,
 }
@@ -58,6 +60,7 @@ pub const PLAIN: RunRequest<'static> = RunRequest {
     minimal: None,
     depfile: None,
     strict: false,
+    strict_tree: false,
     warn_lost: false,
 };
 
@@ -89,6 +92,7 @@ fn options(alloc: Global, request: &RunRequest<'_>) -> Result<Options, Fail> {
         prefix,
         must_exist: false,
         strict: request.strict,
+        strict_tree: request.strict_tree,
         warn_lost: request.warn_lost,
         replace: false,
     })

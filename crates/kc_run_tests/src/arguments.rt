@@ -64,6 +64,7 @@ fn flags_into(options: &Options, text: &mut String) -> Result<(), AllocError> {
     let flags = [
         (options.must_exist, "must-exist "),
         (options.strict, "strict "),
+        (options.strict_tree, "strict-tree "),
         (options.warn_lost, "warn-lost "),
         (options.replace, "replace "),
     ];
@@ -148,9 +149,9 @@ const OPTIONS: &[(&str, Want)] = &[
         },
     ),
     (
-        "--replace|--warn-lost|Kconfig|--strict",
+        "--replace|--warn-lost|Kconfig|--strict-tree|--strict",
         Want {
-            flags: "strict warn-lost replace ",
+            flags: "strict strict-tree warn-lost replace ",
             ..PLAIN
         },
     ),

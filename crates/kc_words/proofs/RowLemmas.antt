@@ -59,6 +59,14 @@ lenient : is_given (codes "strict") (matches_of kconf_app (codes "--must-exist" 
 unfolding clap_on_literals kconf_app with_options
 lenient = refl
 
+strict_tree : is_given (codes "strict-tree") (matches_of kconf_app (codes "--strict-tree" ∷ codes "Kconfig" ∷ [])) ≡ true
+unfolding clap_on_literals kconf_app with_options
+strict_tree = refl
+
+lenient_tree : is_given (codes "strict-tree") (matches_of kconf_app (codes "--strict" ∷ codes "Kconfig" ∷ [])) ≡ false
+unfolding clap_on_literals kconf_app with_options
+lenient_tree = refl
+
 warned : is_given (codes "warn-lost") (matches_of kconf_app (codes "--warn-lost" ∷ codes "Kconfig" ∷ [])) ≡ true
 unfolding clap_on_literals kconf_app with_options
 warned = refl

@@ -24,5 +24,6 @@ pub record AreOptionsOf (rows : List Row) (options : Options) : Type 0 where
   pub prefix : options.prefix ≡ prefix_option rows
   pub must_exist : options.must_exist ≡ is_given (codes "must-exist") rows
   pub strict : options.strict ≡ is_given (codes "strict") rows
+  pub strict_tree : options.strict_tree ≡ is_given (codes "strict-tree") rows
   pub warn_lost : options.warn_lost ≡ is_given (codes "warn-lost") rows
   pub replace : options.replace ≡ is_given (codes "replace") rows

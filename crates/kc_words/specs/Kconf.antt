@@ -26,10 +26,10 @@ abbrev pub empty_app : App
 empty_app = on_top (λ s. record s { no_binary_name = true; has_version = true }) (new_app (codes "kconf"))
 
 -- [--root DIR] [--config FILE] [--out FILE] [--header FILE] [--savedefconfig FILE] [--depfile FILE] [--prefix TEXT]
--- [--must-exist] [--strict] [--warn-lost] [--replace]
+-- [--must-exist] [--strict] [--strict-tree] [--warn-lost] [--replace]
 unfoldable pub with_options : App → App
 with_options app =
-    with_rule (with_rule (with_rule (with_rule (with_rule (with_rule (with_rule (with_rule (with_rule (with_rule (with_rule app
+    with_rule (with_rule (with_rule (with_rule (with_rule (with_rule (with_rule (with_rule (with_rule (with_rule (with_rule (with_rule app
     (option_rule (codes "root")))
     (option_rule (codes "config")))
     (option_rule (codes "out")))
@@ -39,6 +39,7 @@ with_options app =
     (option_rule (codes "prefix")))
     (flag_rule (codes "must-exist")))
     (flag_rule (codes "strict")))
+    (flag_rule (codes "strict-tree")))
     (flag_rule (codes "warn-lost")))
     (flag_rule (codes "replace"))
 

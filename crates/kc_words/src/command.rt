@@ -69,10 +69,11 @@ const PREFIX: OptionTexts = OptionTexts {
 
 const MUST_EXIST: &str = "Fail if the --config file does not exist (E18)";
 
-const STRICT: &str = "Begin no file where any warning was told";
+const STRICT: &str = "Fail if a line of the .config or a fragment was not taken as written";
 
-const WARN_LOST: &str =
-    "Warn where the value last read for a symbol with a prompt is not its value";
+const STRICT_TREE: &str = "Fail on any warning, also about the tree";
+
+const WARN_LOST: &str = "Warn about values you set that did not take effect, and about conflicts";
 
 const REPLACE: &str = "Write files atomically, and leave unchanged files untouched";
 
@@ -157,6 +158,7 @@ fn with_options<'a>(alloc: Global, command: Command<'a>) -> Result<Command<'a>, 
     let command = with_option(alloc, command, "prefix", PREFIX)?;
     let command = with_flag(alloc, command, "must-exist", MUST_EXIST)?;
     let command = with_flag(alloc, command, "strict", STRICT)?;
+    let command = with_flag(alloc, command, "strict-tree", STRICT_TREE)?;
     let command = with_flag(alloc, command, "warn-lost", WARN_LOST)?;
     with_flag(alloc, command, "replace", REPLACE)
 }

@@ -99,6 +99,7 @@ fn read_options(alloc: Global, matches: &ArgMatches<'_>) -> Result<Options, Usag
     let prefix = prefix_of(alloc, prefix.as_str())?;
     let must_exist = flag_of(matches, "must-exist");
     let strict = flag_of(matches, "strict");
+    let strict_tree = flag_of(matches, "strict-tree");
     let warn_lost = flag_of(matches, "warn-lost");
     let replace = flag_of(matches, "replace");
     Ok(Options {
@@ -113,6 +114,7 @@ fn read_options(alloc: Global, matches: &ArgMatches<'_>) -> Result<Options, Usag
         prefix,
         must_exist,
         strict,
+        strict_tree,
         warn_lost,
         replace,
     })
@@ -135,12 +137,12 @@ fn usage_of(alloc: Global, error: &Error) -> UsageError
 
 /// Reads the words after the program's name, as the command line
 /// `[--root DIR] [--config FILE] [--out FILE] [--header FILE] [--savedefconfig FILE] [--depfile FILE] [--prefix TEXT]
-/// [--must-exist] [--strict] [--warn-lost] [--replace] KCONFIG [FRAGMENT ..]`,
+/// [--must-exist] [--strict] [--strict-tree] [--warn-lost] [--replace] KCONFIG [FRAGMENT ..]`,
 /// `--help`, `-h`, `--version` or `-V`
 /// (our own; the reading of the words is that of Rust's `clap`, whose documentation has the rules).
 ///
 /// Each field is what the words hold, or for an absent option: root `.`, config `.config`, out the file of `--config`, prefix
-/// `CONFIG_`, header, minimal and depfile none, `--must-exist`, `--strict`, `--warn-lost` and `--replace` false.
+/// `CONFIG_`, header, minimal and depfile none, `--must-exist`, `--strict`, `--strict-tree`, `--warn-lost` and `--replace` false.
 /// The errors are those of `UsageError`. They leave nothing behind.
 pub fn options_of(alloc: Global, words: &[String]) -> Result<Options, UsageError>
     // Each field is what the words hold, or what an absent option means.

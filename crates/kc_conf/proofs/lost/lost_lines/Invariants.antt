@@ -5,4 +5,4 @@ use Rattle.kc_conf.specs.Lost.{lost_at}
 use Rattle.kc_conf.proofs.lost.lost_lines.Given as goal
 
 abbrev pub invariant-loop-i : goal.invariant-loop-i
-invariant-loop-i l = map (λ w. w.items) l.lines.items ≡ flat_map (lost_at l.solved) (range_with_len 0 l.i)
+invariant-loop-i l = map (λ w. w.items) l.lines.items ≡ flat_map (lost_at l.input.lines l.solved) (range_with_len 0 l.i)

@@ -21,7 +21,7 @@ invariant-pieces g l =
       there_stays : g.I.Input.is_there l.input ≡ g.I.Input.is_there l.fn.input;
       may_fail_stays : g.I.Input.may_fail l.input ≡ g.I.Input.may_fail l.fn.input;
       keeps : g.S.Sink.goes_to l.fn.sink l.sink;
-      user : ArePlacesOf l.fn.reader.tree l.user;
+      user : ArePlacesOf l.fn.reader.tree l.user.places;
     }
 
 abbrev pub decreases-pieces : goal.decreases-pieces

@@ -23,5 +23,5 @@ invariant-loop-at g l =
       may_fail_stays : map g.I.Input.may_fail l.inputs ≡ map g.I.Input.may_fail l.fn.inputs;
       there : (i : ℕ) → i < l.at → get_or (map is_there l.fn.inputs) i false ≡ true;
       keeps : g.S.Sink.goes_to l.fn.sink l.sink;
-      user : ArePlacesOf l.tree l.user;
+      user : ArePlacesOf l.tree l.user.places;
     }

@@ -12,7 +12,7 @@ pub returns-in_err-user-clause-err : goal.returns-in_err-user-clause-err
 returns-in_err-user-clause-err g c =
     let p = err_from_is_err_and c.from_residual.result c.from_residual.ensures.1 in
     let given = map g.I.Input.remaining c.args.inputs.now in
-    rw (p.1, p.2) (map left_of given, AreAllToCome-self given, λ part is. BreaksRun-nothing (strictly_after c.args.options.now.strict c.args.is_warned part) (g.O.Outputs.states c.args.outputs.now), tt)
+    rw (p.1, p.2) (map left_of given, AreAllToCome-self given, λ part is. BreaksRun-nothing (strictly_after c.args.options.now.strict_tree c.args.is_warned part) (g.O.Outputs.states c.args.outputs.now), tt)
 
 pub returns-in-Err-clause-err : goal.returns-in-Err-clause-err
 returns-in-Err-clause-err g c =

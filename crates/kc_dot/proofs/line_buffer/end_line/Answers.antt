@@ -3,7 +3,7 @@ use Rattle.std.proofs.lemmas.Result.{err_from_is_err_and}
 use Rattle.kc_dot.specs.LineSteps.{FailsIn}
 use Rattle.kc_dot.specs.Reading.{line}
 use Rattle.kc_dot.specs.Sink.{extended}
-use Rattle.kc_dot.proofs.LineLemmas.{places_after-line, warning-line}
+use Rattle.kc_dot.proofs.LineLemmas.{input_after-line, warning-line}
 use Rattle.kc_dot.proofs.line_buffer.end_line.Goals as goal
 
 pub returns-clause-places : goal.returns-clause-places
@@ -11,7 +11,7 @@ returns-clause-places g c =
     let stream = c.args.stream.now in
     let l = line stream.name.now c.args.line_buffer.now.number c.args.line_buffer.now.pending.items c.args.ended in
     c.in_ok-read_line.ensures.places
-    ∙ sym (places_after-line stream.tree.now stream.prefix.now c.args.user.now l c.text_of-text.result.now (rw c.deref.ensures.value at c.text_of-text.ensures))
+    ∙ sym (input_after-line stream.tree.now stream.prefix.now c.args.user.now l c.text_of-text.result.now (rw c.deref.ensures.value at c.text_of-text.ensures))
 
 pub returns-clause-warned : goal.returns-clause-warned
 returns-clause-warned g c =

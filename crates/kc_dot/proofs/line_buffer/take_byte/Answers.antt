@@ -31,7 +31,7 @@ returns-then-byte-eq10-clause-user g c =
     let tree = stream.tree.now in
     let l = line stream.name.now c.args.line_buffer.now.number c.args.line_buffer.now.pending.items true in
     on_ok_weaker c.end_line.result
-    (λ places. rw places (ArePlacesOf-given tree c.args.user.now (assignments tree stream.prefix.now (l ∷ [])) c.requires.user))
+    (λ places. rw places (ArePlacesOf-given tree c.args.user.now.places (assignments tree stream.prefix.now (l ∷ [])) c.requires.user))
     c.end_line.ensures.places
 
 pub returns-clause-position : goal.returns-clause-position

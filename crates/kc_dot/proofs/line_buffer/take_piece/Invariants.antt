@@ -12,7 +12,7 @@ invariant-loop-at g l = record {
       l.fn.user l.user (g.S.Sink.taken l.fn.sink) (g.S.Sink.taken l.sink);
   position : position_of l.line_buffer ≡ fed (take l.at l.piece) (position_of l.fn.line_buffer);
   opened : IsWithinLine (position_of l.line_buffer);
-  fits : ArePlacesOf l.stream.tree.now l.user;
+  fits : ArePlacesOf l.stream.tree.now l.user.places;
   quiet : g.S.Sink.failures l.sink ≡ g.S.Sink.failures l.fn.sink;
   keeps : g.S.Sink.goes_to l.fn.sink l.sink;
 }

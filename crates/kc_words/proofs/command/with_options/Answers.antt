@@ -20,5 +20,6 @@ returns c =
     let seven = c.in_ok-command-7.ensures ∙ ap (λ a. with_rule a (option_rule (codes "prefix"))) six in
     let eight = c.in_ok-command-8.ensures ∙ ap (λ a. with_rule a (flag_rule (codes "must-exist"))) seven in
     let nine = c.in_ok-command-9.ensures ∙ ap (λ a. with_rule a (flag_rule (codes "strict"))) eight in
-    let ten = c.in_ok-command-10.ensures ∙ ap (λ a. with_rule a (flag_rule (codes "warn-lost"))) nine in
-    last_rule c.with_flag-4.result _ _ (flag_rule (codes "replace")) ten c.with_flag-4.ensures
+    let ten = c.in_ok-command-10.ensures ∙ ap (λ a. with_rule a (flag_rule (codes "strict-tree"))) nine in
+    let eleven = c.in_ok-command-11.ensures ∙ ap (λ a. with_rule a (flag_rule (codes "warn-lost"))) ten in
+    last_rule c.with_flag-5.result _ _ (flag_rule (codes "replace")) eleven c.with_flag-5.ensures

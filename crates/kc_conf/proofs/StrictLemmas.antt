@@ -1,0 +1,281 @@
+-- That --strict lets no line pass that was not taken as written.
+use Rattle.std.proofs.Common.{◌≡◌, ℕ, zero, suc, ◌<◌, Bool, true, false, true≢false, List, [], ◌∷◌, ◌++◌, length, Some, None, refl, sym, ap, subst, ◌∙◌, arith, eqb}
+use Rattle.std.specs.Prelude.{not, ◌&&◌, ◌==◌, replicate, slice_index_or, if◌then◌else◌}
+use Rattle.std.specs.List.{Contains, list_any}
+use Rattle.std.proofs.Math.Dec.{eqb-suc-zero}
+use Rattle.std.proofs.lemmas.Bool.{eqb-false, eqb-true}
+use Rattle.std.proofs.lemmas.List.{get_or-set_same, get_or-set_other, length-replicate}
+use Rattle.std.proofs.lemmas.Option.{slice_get_within}
+use Rattle.kc_expr.specs.declared.expression.SymId.{SymId}
+use Rattle.kc_read.specs.Files.{Files}
+use Rattle.kc_tree.specs.TreeFacts.{SymbolFacts, TreeFacts}
+use Rattle.kc_user.specs.GivenValue.{GivenValue, SymbolPlace, same_given}
+use Rattle.kc_user.specs.Places.{ArePlacesOf, Places, place_at}
+use Rattle.kc_values.specs.Differs.{given_of}
+use Rattle.kc_values.specs.Lookups.{facts}
+use Rattle.kc_solve.specs.Solved.{Solution, known, warnings}
+use Rattle.kc_dot.specs.Changes.{StreamLocation, is_change}
+use Rattle.kc_dot.specs.Effects.{Effect, Silent, Warns, Assigns}
+use Rattle.kc_dot.specs.Reading.{Line, UserInput, assignments, effect, input_after, lines_of, places_after, stream_location, untaken, untaken_line}
+use Rattle.kc_dot.specs.Reading.{is_taken as is_taken_by}
+use Rattle.kc_dot.specs.SolvedView.{solution_view}
+use Rattle.kc_dot.specs.Texts.{config_text}
+use Rattle.kc_dot.proofs.PlaceLemmas.{ArePlacesOf-given, places_given-one}
+use Rattle.kc_dot.proofs.ReadingLemmas.{input_after-append, input_after-nothing, lines_after-length, untaken-append, untaken-cons}
+use Rattle.kc_conf.specs.declared.options.Options.{Options}
+use Rattle.kc_conf.specs.Lost.{has_prompt, lost_lines}
+use Rattle.kc_conf.specs.Outcome.{Outcome, fresh_input, names_of, read_of, streams}
+use Rattle.kc_conf.specs.Reruns.{RefusesNothing, WrittenAreWhole}
+use Rattle.kc_conf.specs.Strict.{IsTakenAsWritten, StrictTakesAll}
+use Rattle.kc_conf.specs.Taken.{is_outside, is_taken, lost_warnings, refuses_input}
+use Rattle.kc_conf.proofs.AccountedLemmas.{given_is, input_is, lost_if, no_line, number_of, places_are, same_symbol, step}
+
+-- ---- lists and truths
+
+nothing_left : {A : Type 0} (xs : List A) → (length xs == 0) ≡ true → xs ≡ []
+nothing_left [] e = refl
+nothing_left (x ∷ xs) e = absurd (true≢false (sym e ∙ eqb-suc-zero (length xs)))
+
+first_nothing : {A : Type 0} (xs ys : List A) → xs ++ ys ≡ [] → xs ≡ []
+first_nothing [] ys e = refl
+first_nothing (x ∷ xs) ys e = absurd (let clash : x ∷ (xs ++ ys) ≡ [] = e in cc)
+
+second_nothing : {A : Type 0} (xs ys : List A) → xs ++ ys ≡ [] → ys ≡ []
+second_nothing [] ys e = e
+second_nothing (x ∷ xs) ys e = absurd (let clash : x ∷ (xs ++ ys) ≡ [] = e in cc)
+
+and_left : (a b : Bool) → (a && b) ≡ true → a ≡ true
+and_left true b e = refl
+and_left false b e = e
+
+and_right : (a b : Bool) → (a && b) ≡ true → b ≡ true
+and_right true b e = e
+and_right false b e = absurd (true≢false (sym e))
+
+not_false : (b : Bool) → not b ≡ false → b ≡ true
+not_false true e = refl
+not_false false e = absurd (true≢false e)
+
+not_is_true : (b : Bool) → not b ≡ true → b ≡ false
+not_is_true true e = absurd (true≢false (sym e))
+not_is_true false e = refl
+
+-- ---- lines
+
+module _ (tree : TreeFacts) (prefix : List ℕ) (asked : Bool) where
+  -- each line was taken, given what was given before it
+  abbrev pub AllTaken : UserInput → List Line → Type 0
+  AllTaken p lines = untaken tree prefix p.places lines ≡ []
+
+  taken_here : (p : UserInput) (l : Line) (later : List Line) (e : Effect) → effect tree prefix l ≡ e → AllTaken p (l ∷ later) → is_taken_by p.places e ≡ true
+  unfolding untaken_line
+  taken_here p l later e is none = by (is_taken_by p.places e) refl
+    where
+      line_is : untaken_line tree prefix p.places l ≡ []
+      line_is = first_nothing (untaken_line tree prefix p.places l) (untaken tree prefix (places_after tree prefix p.places (l ∷ [])) later) (sym (untaken-cons tree prefix p.places l later) ∙ none)
+
+      by : (b : Bool) → is_taken_by p.places e ≡ b → is_taken_by p.places e ≡ true
+      by true t = t
+      by false t =
+          let listed : untaken_line tree prefix p.places l ≡ l ∷ [] = ap (λ x. if is_taken_by p.places x then [] else l ∷ []) is ∙ ap (λ b. if b then [] else l ∷ []) t in
+          absurd (let clash : l ∷ [] ≡ [] = sym listed ∙ line_is in cc)
+
+  taken_later : (p : UserInput) (l : Line) (later : List Line) → AllTaken p (l ∷ later) → AllTaken (input_after tree prefix p (l ∷ [])) later
+  taken_later p l later none =
+      second_nothing (untaken_line tree prefix p.places l) (untaken tree prefix (places_after tree prefix p.places (l ∷ [])) later) (sym (untaken-cons tree prefix p.places l later) ∙ none)
+
+  -- the symbol has this value, which some line gave where the lines are kept
+  abbrev Keeps : UserInput → SymId → GivenValue → Type 0
+  Keeps p s given = (place_at p.places (SymbolPlace s.0) ≡ Some given) × (asked ≡ true → (at : StreamLocation) × (slice_index_or p.lines s.0 None ≡ Some at))
+
+  -- there is room for what is given to it
+  abbrev Fits : UserInput → SymId → Type 0
+  Fits p s = (s.0 < length p.places.symbols) × (asked ≡ true → s.0 < length p.lines)
+
+  assigned_keeps : (p : UserInput) (l : Line) (s : SymId) (given : GivenValue) → effect tree prefix l ≡ Assigns s given → Fits p s → Keeps (input_after tree prefix p (l ∷ [])) s given
+  assigned_keeps p l s given is fits =
+      let here = step tree prefix p l (Assigns s given) is in (
+        ap (λ (q : UserInput). place_at q.places (SymbolPlace s.0)) here ∙ ap (λ (q : Places). place_at q (SymbolPlace s.0)) (places_given-one tree p.places s given)
+            ∙ get_or-set_same p.places.symbols s.0 (Some given) None fits.0,
+        λ on. (stream_location l, ap (λ (q : UserInput). slice_index_or q.lines s.0 None) here ∙ get_or-set_same p.lines s.0 (Some (stream_location l)) None (fits.1 on)),
+      )
+
+  other_keeps : (p : UserInput) (l : Line) (t : SymId) (other : GivenValue) (s : SymId) (given : GivenValue) → effect tree prefix l ≡ Assigns t other → (s.0 ≡ t.0 → ⊥) →
+      Keeps p s given → Keeps (input_after tree prefix p (l ∷ [])) s given
+  other_keeps p l t other s given is differs keeps =
+      let here = step tree prefix p l (Assigns t other) is in (
+        ap (λ (q : UserInput). place_at q.places (SymbolPlace s.0)) here ∙ ap (λ (q : Places). place_at q (SymbolPlace s.0)) (places_given-one tree p.places t other)
+            ∙ get_or-set_other p.places.symbols t.0 s.0 (Some other) None differs ∙ keeps.0,
+        λ on. let (at, by_line) = keeps.1 on in
+            (at, ap (λ (q : UserInput). slice_index_or q.lines s.0 None) here ∙ get_or-set_other p.lines t.0 s.0 (Some (stream_location l)) None differs ∙ by_line),
+      )
+
+  quiet_keeps : (p : UserInput) (l : Line) (s : SymId) (given : GivenValue) → effect tree prefix l ≡ Silent → Keeps p s given → Keeps (input_after tree prefix p (l ∷ [])) s given
+  quiet_keeps p l s given is keeps =
+      let here = step tree prefix p l Silent is in (
+        ap (λ (q : UserInput). place_at q.places (SymbolPlace s.0)) here ∙ keeps.0,
+        λ on. let (at, by_line) = keeps.1 on in (at, ap (λ (q : UserInput). slice_index_or q.lines s.0 None) here ∙ by_line),
+      )
+
+  module _ (s : SymId) (given : GivenValue) where
+    -- each of these lines that gives the symbol a value gives it this one
+    abbrev GiveThis : List Line → Type 0
+    GiveThis lines = (m : Line) (other : GivenValue) → Contains lines m → effect tree prefix m ≡ Assigns s other → other ≡ given
+
+    gives_first : (l : Line) (lines : List Line) → ((other : GivenValue) → effect tree prefix l ≡ Assigns s other → other ≡ given) → GiveThis lines → GiveThis (l ∷ lines)
+    gives_first l lines first rest m other (zero, within, at) sets = first other (ap (effect tree prefix) at ∙ sets)
+    gives_first l lines first rest m other (suc n, within, at) sets = rest m other (n, omega (arith, within), at) sets
+
+    fits_later : (p : UserInput) (l : Line) → ArePlacesOf tree p.places → Fits p s → Fits (input_after tree prefix p (l ∷ [])) s
+    fits_later p l there fits =
+        let next = ArePlacesOf-given tree p.places (assignments tree prefix (l ∷ [])) there in (
+          subst (λ n. s.0 < n) (there.symbols ∙ sym next.symbols) fits.0,
+          λ on. subst (λ n. s.0 < n) (sym (lines_after-length tree prefix p.lines (l ∷ []))) (fits.1 on),
+        )
+
+    abbrev given_in : GivenValue → Effect → GivenValue
+    given_in d Silent = d
+    given_in d (Warns line_warning) = d
+    given_in d (Assigns u g) = g
+
+    same_value : (g h : GivenValue) → Assigns s g ≡ Assigns s h → g ≡ h
+    same_value g h e = ap (given_in g) e
+
+    -- one line that is taken keeps the value, if the later ones do
+    one_keeps : (p : UserInput) (l : Line) (lines : List Line) → AllTaken p (l ∷ lines) → Fits p s → Keeps p s given →
+        (Keeps (input_after tree prefix p (l ∷ [])) s given → GiveThis lines × Keeps (input_after tree prefix (input_after tree prefix p (l ∷ [])) lines) s given) →
+        GiveThis (l ∷ lines) × Keeps (input_after tree prefix p (l ∷ lines)) s given
+    one_keeps p l lines none fits keeps later = by (effect tree prefix l) refl
+      where
+        on : ((other : GivenValue) → effect tree prefix l ≡ Assigns s other → other ≡ given) → Keeps (input_after tree prefix p (l ∷ [])) s given →
+            GiveThis (l ∷ lines) × Keeps (input_after tree prefix p (l ∷ lines)) s given
+        on first kept =
+            let (rest, whole) = later kept in
+            (gives_first l lines first rest, subst (λ (q : UserInput). Keeps q s given) (sym (input_after-append tree prefix p (l ∷ []) lines)) whole)
+
+        same_or : (t : SymId) (other : GivenValue) → effect tree prefix l ≡ Assigns t other → (b : Bool) → eqb t.0 s.0 ≡ b →
+            GiveThis (l ∷ lines) × Keeps (input_after tree prefix p (l ∷ lines)) s given
+        same_or t other is true e =
+            let is_s : effect tree prefix l ≡ Assigns s other = is ∙ ap (λ x. Assigns x other) (same_symbol t s (eqb-true t.0 s.0 e)) in
+            let taken = taken_here p l lines (Assigns s other) is_s none in
+            let equal : same_given given other ≡ true = not_false (same_given given other)
+            (not_is_true (not (same_given given other)) (sym (ap (λ o. not (is_change o other)) keeps.0) ∙ taken)) in
+            let same : given ≡ other = given_is given other equal in
+            on (λ g sets. same_value g other (sym sets ∙ is_s) ∙ sym same) (subst (λ g. Keeps (input_after tree prefix p (l ∷ [])) s g) (sym same) (assigned_keeps p l s other is_s fits))
+        same_or t other is false e =
+            on (λ g sets. absurd (eqb-false t.0 s.0 e (ap number_of (sym is ∙ sets)))) (other_keeps p l t other s given is (λ same. eqb-false t.0 s.0 e (sym same)) keeps)
+
+        by : (e : Effect) → effect tree prefix l ≡ e → GiveThis (l ∷ lines) × Keeps (input_after tree prefix p (l ∷ lines)) s given
+        by Silent is = on (λ g sets. absurd (let clash : Silent ≡ Assigns s g = sym is ∙ sets in cc)) (quiet_keeps p l s given is keeps)
+        by (Warns line_warning) is = absurd (true≢false (sym (taken_here p l lines (Warns line_warning) is none)))
+        by (Assigns t other) is = same_or t other is (eqb t.0 s.0) refl
+
+    -- lines that are all taken keep the value
+    all_keep : (p : UserInput) (lines : List Line) → ArePlacesOf tree p.places → Fits p s → AllTaken p lines → Keeps p s given → GiveThis lines × Keeps (input_after tree prefix p lines) s given
+    all_keep p [] there fits none keeps =
+        (λ m other (n, within, at) sets. absurd (let never : n < 0 = within in omega arith), subst (λ (q : UserInput). Keeps q s given) (sym (input_after-nothing tree prefix p)) keeps)
+    all_keep p (l ∷ lines) there fits none keeps =
+        one_keeps p l lines none fits keeps
+        (all_keep (input_after tree prefix p (l ∷ [])) lines (ArePlacesOf-given tree p.places (assignments tree prefix (l ∷ [])) there) (fits_later p l there fits) (taken_later p l lines none))
+
+-- ---- a whole run
+
+module _ (files : Files) (options : Options) (all : List (List ℕ)) (tree : TreeFacts) (solution : Solution)
+    (is_whole : RefusesNothing files options all tree solution) (strict : options.strict ≡ true) (passed : refuses_input options (read_of options tree all).input solution ≡ false) where
+  abbrev lines : List Line
+  lines = lines_of (streams (names_of options) all)
+
+  abbrev prefix : List ℕ
+  prefix = options.prefix
+
+  abbrev empty : UserInput
+  empty = fresh_input options tree
+
+  abbrev last : UserInput
+  last = input_after tree prefix empty lines
+
+  all_is_taken : is_taken options last solution ≡ true
+  all_is_taken =
+      not_false (is_taken options last solution)
+      (sym (ap (λ b. b && not (is_taken options last solution)) strict) ∙ ap (λ (i : UserInput). refuses_input options i solution) (sym (input_is files options all tree solution is_whole)) ∙ passed)
+
+  none_outside : list_any is_outside (warnings solution) ≡ false
+  none_outside =
+      not_is_true (list_any is_outside (warnings solution))
+      (and_left (not (list_any is_outside (warnings solution))) (length (lost_warnings options last solution) == 0)
+      (and_right last.all_taken (not (list_any is_outside (warnings solution)) && (length (lost_warnings options last solution) == 0)) all_is_taken))
+
+  none_lost : options.warn_lost ≡ true → lost_lines last.lines solution ≡ []
+  none_lost asked =
+      sym (ap (λ b. if b then lost_lines last.lines solution else []) asked)
+      ∙ nothing_left (lost_warnings options last solution)
+      (and_right (not (list_any is_outside (warnings solution))) (length (lost_warnings options last solution) == 0)
+      (and_right last.all_taken (not (list_any is_outside (warnings solution)) && (length (lost_warnings options last solution) == 0)) all_is_taken))
+
+  none_untaken : untaken tree prefix empty.places lines ≡ []
+  none_untaken =
+      nothing_left (untaken tree prefix empty.places lines)
+      (and_left last.all_taken (not (list_any is_outside (warnings solution)) && (length (lost_warnings options last solution) == 0)) all_is_taken)
+
+  module _ (before later : List Line) (l : Line) (split : lines ≡ before ++ l ∷ later) where
+    abbrev here : UserInput
+    here = input_after tree prefix empty before
+
+    from_here : AllTaken tree prefix options.warn_lost here (l ∷ later)
+    from_here =
+        second_nothing (untaken tree prefix empty.places before) (untaken tree prefix (places_after tree prefix empty.places before) (l ∷ later))
+        (sym (untaken-append tree prefix empty.places before (l ∷ later)) ∙ ap (untaken tree prefix empty.places) (sym split) ∙ none_untaken)
+
+    counts : ArePlacesOf tree here.places
+    counts = ArePlacesOf-given tree empty.places (assignments tree prefix before) (record { symbols = length-replicate (length tree.symbols) None; choices = length-replicate (length tree.choices) None })
+
+    module _ (s : SymId) (given : GivenValue) (assigns : effect tree prefix l ≡ Assigns s given) (f : SymbolFacts) (defined : facts tree s ≡ Some f) where
+      within : s.0 < length tree.symbols
+      within = slice_get_within tree.symbols s.0 f defined
+
+      fits : Fits tree prefix options.warn_lost here s
+      fits = (
+        subst (λ n. s.0 < n) (sym counts.symbols) within,
+        λ asked. subst (λ n. s.0 < n)
+            (sym (lines_after-length tree prefix empty.lines before ∙ ap (λ b. length (if b then replicate (length tree.symbols) no_line else [])) asked ∙ length-replicate (length tree.symbols) no_line)) within,
+      )
+
+      after : GiveThis tree prefix options.warn_lost s given later × Keeps tree prefix options.warn_lost (input_after tree prefix (input_after tree prefix here (l ∷ [])) later) s given
+      after =
+          all_keep tree prefix options.warn_lost s given (input_after tree prefix here (l ∷ [])) later
+          (ArePlacesOf-given tree here.places (assignments tree prefix (l ∷ [])) counts) (fits_later tree prefix options.warn_lost s given here l counts fits)
+          (taken_later tree prefix options.warn_lost here l later from_here)
+          (assigned_keeps tree prefix options.warn_lost here l s given assigns fits)
+
+      at_end : last ≡ input_after tree prefix (input_after tree prefix here (l ∷ [])) later
+      at_end =
+          ap (input_after tree prefix empty) split ∙ input_after-append tree prefix empty before (l ∷ later) ∙ input_after-append tree prefix here (l ∷ []) later
+
+      value_is : options.warn_lost ≡ true → has_prompt f.prompts ≡ true → given ≡ given_of (known solution s)
+      value_is asked prompted =
+          let (at, by_line) = after.1.1 asked in
+          lost_if last.lines solution s f given at (subst (λ (t : TreeFacts). facts t s ≡ Some f) (sym is_whole.solution_is.tree_is) defined) prompted
+          (ap (λ (q : Places). place_at q (SymbolPlace s.0)) (places_are files options all tree solution is_whole) ∙ ap (λ (q : UserInput). place_at q.places (SymbolPlace s.0)) at_end ∙ after.1.0)
+          (ap (λ (q : UserInput). slice_index_or q.lines s.0 None) at_end ∙ by_line) (none_lost asked)
+
+    is_taken_as_written : IsTakenAsWritten tree prefix options.warn_lost solution later (effect tree prefix l)
+    is_taken_as_written = by (effect tree prefix l) refl
+      where
+        by : (e : Effect) → effect tree prefix l ≡ e → IsTakenAsWritten tree prefix options.warn_lost solution later e
+        by Silent is = tt
+        by (Warns line_warning) is = true≢false (sym (taken_here tree prefix options.warn_lost here l later (Warns line_warning) is from_here))
+        by (Assigns s given) is = λ f defined. ((after s given is f defined).0, value_is s given is f defined)
+
+pub strict_takes_all : WrittenAreWhole → StrictTakesAll
+strict_takes_all written files options all outcome text is_outcome there strict =
+    let (tree, solution, is_whole, (opened, are, is), passed) = written files options all outcome text is_outcome there in
+    let text_is : text ≡ config_text tree options.prefix (solution_view solution) =
+    let same : Some text ≡ Some (config_text tree options.prefix (solution_view solution)) = sym there ∙ ap (λ (o : Outcome). o.config) is in cc
+    in (
+      tree,
+      solution,
+      is_whole,
+      text_is,
+      none_outside files options all tree solution is_whole strict passed,
+      is_taken_as_written files options all tree solution is_whole strict passed,
+    )
