@@ -17,7 +17,9 @@ enum Role {
     Kept,
     // It goes, with its value.
     Dropped,
-    // It goes, and has no value.
+    // It stays, and holds its value.
+    Whole,
+    // It goes, with the value that it may hold.
     Flag,
 }
 
@@ -25,6 +27,7 @@ fn role_of(option: &str) -> Role {
     match option {
         "--root" | "--prefix" => Role::Kept,
         "--config" | "--out" | "--header" | "--savedefconfig" | "--depfile" => Role::Dropped,
+        _ if option.starts_with("--root=") || option.starts_with("--prefix=") => Role::Whole,
         _ => Role::Flag,
     }
 }
@@ -58,6 +61,7 @@ pub(crate) fn rerun_arguments(
                         wanted = Some(false);
                         false
                     }
+                    Role::Whole => true,
                     Role::Flag => false,
                 }
             }

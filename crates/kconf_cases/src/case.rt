@@ -76,7 +76,7 @@ fn holds_on_outputs(
     before: &[Entry],
 ) -> io::Result<bool> {
     let is_written = has_file(before, "expect/.config") && !has_file(before, "expect/status");
-    if !is_written || text.lines().any(|line| line == "--out") {
+    if !is_written || text.lines().any(|line| line == "--out" || line == "--") {
         return Ok(true);
     }
     let path = if has_file(before, "expect/again") {

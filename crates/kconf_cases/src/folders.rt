@@ -41,9 +41,9 @@ pub(crate) fn entries_of(rt: &HostRuntime, folder: &str) -> io::Result<Vec<Entry
     Ok(entries)
 }
 
-// Adds what lies in the folders among the entries from `first` on.
-fn add_below(rt: &HostRuntime, first: usize, entries: &mut Vec<Entry>) -> io::Result<()> {
-    for at in first..entries.len() {
+// Adds what lies in the folders among the entries of this range.
+fn add_below(rt: &HostRuntime, from: usize, to: usize, entries: &mut Vec<Entry>) -> io::Result<()> {
+    for at in from..to {
         if at < entries.len() && entries[at].is_folder {
             let folder = String::from_str(rt.alloc(), entries[at].path.as_str())?;
             add_entries(rt, folder.as_str(), entries)?;
@@ -55,7 +55,10 @@ fn add_below(rt: &HostRuntime, first: usize, entries: &mut Vec<Entry>) -> io::Re
 /// Returns what lies in the current folder, in its folders and in theirs, in no order.
 pub(crate) fn entries_here(rt: &HostRuntime) -> io::Result<Vec<Entry>> {
     let mut entries = entries_of(rt, "")?;
-    add_below(rt, 0, &mut entries)?;
+    let here = entries.len();
+    add_below(rt, 0, here, &mut entries)?;
+    let below = entries.len();
+    add_below(rt, here, below, &mut entries)?;
     Ok(entries)
 }
 

@@ -1,0 +1,16 @@
+.config: \
+ ./Kconfig \
+ ./b \
+ ./d/c \
+ ./c \
+ ./a
+
+./Kconfig:
+
+./b:
+
+./d/c:
+
+./c:
+
+./a:

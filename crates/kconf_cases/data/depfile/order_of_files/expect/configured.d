@@ -1,0 +1,16 @@
+.config: \
+ ./Kconfig \
+ ./b \
+ ./a\ b \
+ ./c\# \
+ x.cfg
+
+./Kconfig:
+
+./b:
+
+./a\ b:
+
+./c\#:
+
+x.cfg:

@@ -1,0 +1,7 @@
+build/.config: \
+ tree/Kconfig \
+ x.cfg
+
+tree/Kconfig:
+
+x.cfg:

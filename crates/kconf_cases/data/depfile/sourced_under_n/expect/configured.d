@@ -1,0 +1,7 @@
+.config: \
+ ./Kconfig \
+ ./a
+
+./Kconfig:
+
+./a:

@@ -1,0 +1,7 @@
+.config: \
+ ./Kconfig \
+ x.cfg
+
+./Kconfig:
+
+x.cfg:
