@@ -43,8 +43,8 @@ pub fn configure<F: Folder, I: Input, O: Outputs>(
         × Leaves tree_files options.now (map I.remaining inputs.old) (map I.remaining inputs.new) (map I.is_there inputs.old) (map I.may_fail inputs.old)
         (map I.failures inputs.old) (map I.failures inputs.new) status (O.states outputs.old) (O.states outputs.new)
         × ((r : Refused) → IsRefusedTree tree_files (root_file options.now) r → inputs.new ≡ inputs.old)
-        × ((name : List ℕ) → IsRefusedName tree_files options.now name → inputs.new ≡ inputs.old)
-        × Keeps tree_files options.now status kept.old kept.new) }
+        × Keeps tree_files options.now status kept.old kept.new
+        × ((name : List ℕ) → IsRefusedName tree_files options.now name → inputs.new ≡ inputs.old)) }
     // A file that could not be read is one whose turn it was, and at whose path the folder may fail.
     ensures fault { IfErr result (IsLoadFault (F.files folder.old) (F.failing folder.old) (string_bytes options.now.root) (root_file options.now)) }
     // After a fault of loading all is as it was.

@@ -20,6 +20,6 @@ returns-clause-ran g c =
       e.1,
       leaves_over files loaded c.args.options.now _ _ _ _ _ _ c.run_keeping.result _ _ e.2 e.3 k.leaves,
       λ r h. k.refused_inputs r (refused_over root files loaded e.2 r h),
-      λ name h. k.unread_inputs name (refused_name_over c.opened_are_one_list.ensures.there c.opened_are_one_list.ensures.one files loaded c.args.options.now e.2 e.3 name h),
       keeps_over files loaded c.args.options.now c.run_keeping.result _ _ e.2 k.keeps,
+      λ name h. k.unread_inputs name (refused_name_over c.opened_are_one_list.ensures.there c.opened_are_one_list.ensures.one files loaded c.args.options.now e.2 e.3 name h),
     )
