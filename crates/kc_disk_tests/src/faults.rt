@@ -87,6 +87,24 @@ const FAULTLESS: &[Case] = &[
         ..DONE
     },
     Case {
+        name: "the dependency file names files in the order of their first opening, each once, and then fragments",
+        arguments: "--depfile rule.d Kconfig x.cfg ./b x.cfg",
+        tree: &[
+            (
+                "./Kconfig",
+                b"source \"b\"\nsource \"/a b\"\nsource \"b\"\n",
+            ),
+            ("/a b", b"source \"c#\"\n"),
+            ("./b", b"config B\n\tbool\n\thelp\n\t  source \"d\"\n"),
+            ("./c#", b""),
+        ],
+        inputs: &[("x.cfg", b""), ("./b", b"")],
+        log: "make .config\nclose config\nmake rule.d\nclose depfile\n",
+        config: b"#\n# Automatically generated file; DO NOT EDIT.\n# Main menu\n#\n",
+        depfile: b".config: \\\n ./Kconfig \\\n ./b \\\n /a\\ b \\\n ./c\\# \\\n x.cfg\n\n./Kconfig:\n\n./b:\n\n/a\\ b:\n\n./c\\#:\n\nx.cfg:\n",
+        ..DONE
+    },
+    Case {
         name: "the dependency file alone, of two files and a fragment",
         arguments: "--root dir --out new --depfile rule.d Kconfig x.cfg",
         tree: &[("dir/Kconfig", b"source \"a\"\n"), ("dir/a", b"")],

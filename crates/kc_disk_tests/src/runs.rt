@@ -66,12 +66,12 @@ fn run_inputs(
 {
     let mut arguments = Vec::new(rt.alloc());
     let mut files = FileMap::new(rt.alloc());
-    let mut inputs = FileMap::new(rt.alloc());
+    let mut input_files = FileMap::new(rt.alloc());
     let is_filled = arguments_into(rt.alloc(), case.arguments, &mut arguments).is_ok()
         && files_into(rt.alloc(), tree, &mut files).is_ok()
-        && files_into(rt.alloc(), inputs, &mut inputs).is_ok();
+        && files_into(rt.alloc(), inputs, &mut input_files).is_ok();
     if is_filled {
-        Some(run_over_files(rt, case, &arguments, &files, &inputs, mover, fail_at))
+        Some(run_over_files(rt, case, &arguments, &files, &input_files, mover, fail_at))
     } else {
         None
     }
