@@ -6,4 +6,4 @@ mod memory;
 mod trial;
 
 pub use memory::{MemoryFile, MemoryInput, MemoryOutputs};
-pub use trial::{PLAIN, RunRequest, config_text, files, header_text, run_once, run_request};
+pub use trial::{PLAIN, RunRequest, files, run_once, run_request};

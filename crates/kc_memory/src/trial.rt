@@ -141,27 +141,3 @@ pub fn run_once(
     }
     Ok((status, reads))
 }
-
-/// The heading of a `.config` and the text behind it. `AllocError` where there is no memory for them.
-pub fn config_text(alloc: Global, title: &[u8], text: &[u8]) -> Result<Vec<u8>, AllocError> {
-    let mut whole = Vec::from_slice(
-        alloc,
-        b"#\n# Automatically generated file; DO NOT EDIT.\n# ",
-    )?;
-    whole.extend_from_slice(title)?;
-    whole.extend_from_slice(b"\n#\n")?;
-    whole.extend_from_slice(text)?;
-    Ok(whole)
-}
-
-/// The heading of a header and the text behind it. `AllocError` where there is no memory for them.
-pub fn header_text(alloc: Global, title: &[u8], text: &[u8]) -> Result<Vec<u8>, AllocError> {
-    let mut whole = Vec::from_slice(
-        alloc,
-        b"/*\n * Automatically generated file; DO NOT EDIT.\n * ",
-    )?;
-    whole.extend_from_slice(title)?;
-    whole.extend_from_slice(b"\n */\n")?;
-    whole.extend_from_slice(text)?;
-    Ok(whole)
-}
