@@ -1,4 +1,4 @@
--- Trusted: The text of a rule for make, and the names that make reads in it.
+-- Trusted: The text of the dependency file, and the names that make reads in it.
 use Rattle.std.specs.Prelude.{ℕ, ◌-◌, List, [], ◌∷◌, ◌++◌, Bool, true, false, not, ◌==◌, ◌||◌, ◌&&◌, nat_le, codes, flat_map, length, slice_get, Option, None, Some, if◌then◌else◌}
 use Rattle.std.specs.List.{list_any}
 use Rattle.std.specs.Option.{option_map_or}
@@ -10,12 +10,12 @@ use Rattle.kc_make.specs.declared.rule.Position.TheVariants.{Target, Prerequisit
 
 -- ---- the text
 
--- only at this position make reads the byte as more than a part of a name, if no `\` stands before it
+-- make reads the byte as more than a part of a name at this position only, if no `\` stands before it
 abbrev pub is_special_at : Position → ℕ → Bool
 is_special_at Target b = b == byte "%"
 is_special_at Prerequisite b = b == byte "|"
 
--- and these at both
+-- these bytes have to be escaped at this position
 abbrev pub is_special : Position → ℕ → Bool
 is_special at b = b == byte " " || b == byte "\t" || b == byte "#" || b == byte ":" || is_special_at at b
 
@@ -45,7 +45,7 @@ empty_rule name = codes "\n" ++ escaped Target name ++ codes ":\n"
 abbrev pub ends_in : List ℕ → List ℕ → Bool
 ends_in bytes text = option_map_or (λ last. list_any (λ b. b == last) bytes) (slice_get text (length text - 1)) false
 
--- no line ends in `\`: behind ` |` stand prerequisites of another kind, and here none
+-- no line ends in `\`: ` |` follows, and after it no prerequisite
 abbrev pub closed : List ℕ → List ℕ
 closed line = line ++ (if ends_in (codes "\\") line then codes " |" else [])
 
@@ -55,24 +55,24 @@ rule_text out names = closed (escaped Target out ++ codes ":" ++ flat_map prereq
 
 -- ---- the names
 
--- make reads the byte as more than a part of a name, also behind a `\`: at some place, or in each
+-- make reads the byte as more than a part of a name, in some position or in all, and no `\` helps
 abbrev pub is_beyond_make : ℕ → Bool
 is_beyond_make b = b == 0 || nat_le 9 b && nat_le b 13 || list_any (λ c. c == b) (codes "=;*?[")
 
--- the targets that say how make works
+-- the special targets of make
 abbrev pub special_targets : List (List ℕ)
 special_targets =
     codes ".DEFAULT" ∷ codes ".DELETE_ON_ERROR" ∷ codes ".EXPORT_ALL_VARIABLES" ∷ codes ".IGNORE" ∷ codes ".INTERMEDIATE" ∷ codes ".LOW_RESOLUTION_TIME"
     ∷ codes ".NOTINTERMEDIATE" ∷ codes ".NOTPARALLEL" ∷ codes ".ONESHELL" ∷ codes ".PHONY" ∷ codes ".POSIX" ∷ codes ".PRECIOUS" ∷ codes ".SECONDARY"
     ∷ codes ".SECONDEXPANSION" ∷ codes ".SILENT" ∷ codes ".SUFFIXES" ∷ codes ".WAIT" ∷ []
 
--- a name without the `./`s at its front, which make leaves out
+-- a name without each `./` at its start, which make ignores
 abbrev pub without_dots : Bool → List ℕ → List ℕ
 without_dots behind_dot [] = []
 without_dots behind_dot (b ∷ rest) =
     if b == byte "/" && behind_dot || b == byte "." && begins_with_slash rest then without_dots true rest else b ∷ rest
 
--- a library, which make looks for in its own folders
+-- make looks for a library of this name
 abbrev pub is_library : List ℕ → Bool
 is_library [] = false
 is_library (b ∷ []) = false
@@ -83,7 +83,7 @@ abbrev pub is_plain : List ℕ → Bool
 is_plain [] = false
 is_plain (b ∷ rest) = not (b == byte "~") && not (is_library (b ∷ rest)) && not (list_any (same_name (b ∷ rest)) special_targets)
 
--- make reads the name as it is, where it stands in a rule
+-- make reads the name correctly in every position of a rule
 abbrev pub is_read_by_make : List ℕ → Bool
 is_read_by_make name = not (list_any is_beyond_make name) && not (ends_in (codes " &)") name) && is_plain (without_dots false name)
 
@@ -92,6 +92,6 @@ abbrev pub first_unreadable : List (List ℕ) → Option (List ℕ)
 first_unreadable [] = None
 first_unreadable (name ∷ names) = if is_read_by_make name then first_unreadable names else Some name
 
--- and of those in a rule
+-- the first unreadable name of a rule
 abbrev pub unreadable_of : List ℕ → List (List ℕ) → Option (List ℕ)
 unreadable_of out names = first_unreadable (out ∷ names)

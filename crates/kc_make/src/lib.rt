@@ -1,4 +1,4 @@
-//! A rule for make: what a file was made of.
+//! The dependency file: the prerequisites of a file, as a rule for make.
 #![tactic(auto)]
 
 pub mod laws;

@@ -1,4 +1,4 @@
-//! The names that make reads in a rule.
+//! The names that make reads in the dependency file.
 
 ghost use Rattle.std.specs.Prelude.{◌≡◌, false};
 ghost use Rattle.std.specs.List.{list_any};
@@ -11,7 +11,7 @@ use kc_expr::expression::SymId;
 use kc_expr::names::Names;
 use kc_load::begins_with_slash;
 
-// Whether make reads the byte as more than a part of a name, also behind a `\`.
+// Whether make reads the byte as more than a part of a name, also after a `\`.
 fn is_beyond_make(byte: u8) -> bool
     ensures { result ≡ is_beyond_make byte }
 {
@@ -35,7 +35,7 @@ pub(crate) fn ends_in(bytes: &[u8], text: &[u8]) -> bool
     }
 }
 
-// The name without the `./`s at its front.
+// The name without each `./` at its start.
 fn without_dots(name: &[u8]) -> &[u8]
     ensures { result.now ≡ without_dots false name.now }
 {
@@ -52,7 +52,7 @@ fn without_dots(name: &[u8]) -> &[u8]
     rest
 }
 
-// Whether the name is that of a target that says how make works.
+// Whether the name is a special target of make.
 fn is_special_target(name: &[u8]) -> bool
     ensures { result ≡ list_any (same_name name.now) spec.special_targets }
 {
@@ -95,19 +95,19 @@ fn is_plain(name: &[u8]) -> bool
     }
 }
 
-// Whether make reads the name as it is, where it stands in a rule.
+// Whether make reads the name correctly in every position of a rule.
 fn is_read_by_make(name: &[u8]) -> bool
     ensures { result ≡ is_read_by_make name.now }
 {
     !has_beyond_make(name) && !ends_in(b" &)", name) && is_plain(without_dots(name))
 }
 
-/// Returns the first name of a rule that make cannot read: that of `out`, or else the first one of the files.
+/// Returns the first name in a dependency file that GNU make cannot read: `out`, or else the first such file.
 ///
-/// GNU make 4.3 cannot read a name with a tab, a line feed or another of the bytes 9 to 13 in it, nor one with `=`, `;`, `*`,
-/// `?` or `[`, nor one that ends in a blank, `&` or `)`. A `~` at the front is a home folder, and `-l` a library. Names such as `.PHONY` tell
-/// make how to work. Before the last three make leaves out each `./` at the front. Some of these names it can read in some
-/// places, if they are written with care; they are refused all the same (our own). It takes no memory.
+/// make cannot read an empty name, a name with the byte 0, one of 9 to 13 (tab, line feed, ..), `=`, `;`, `*`, `?` or
+/// `[`, and a name that ends in a blank, `&` or `)`. It reads a `~` at the start as a home folder and `-l` as a library, and
+/// names such as `.PHONY` as special targets. It ignores each `./` before these. Some of these names it reads in some
+/// positions. They are refused in every position (our own; tested with GNU make 4.3). It takes no memory.
 pub fn unreadable_name<'n>(out: &'n [u8], files: &'n Names) -> Option<&'n [u8]>
     ensures { option_map (λ name. name.now) result ≡ unreadable_of out.now files.now }
 {

@@ -1,4 +1,4 @@
-//! The text of a rule for make.
+//! The text of the dependency file.
 
 ghost use Rattle.std.specs.Prelude.{◌≡◌, ◌++◌, IfOk, OnOk, flat_map};
 ghost use Rattle.kc_make.specs.Rules.{closed, empty_rule, escaped, escaped_byte, is_special, needs_backslash, prerequisite};
