@@ -15,6 +15,8 @@ cd "$room"
 git init -q
 for crate in "$@"; do
     mkdir -p "crates/$crate/must-fail"
-    cp "$here/mutants/$crate"/*.edit "crates/$crate/must-fail"
+    if [ -d "$here/mutants/$crate" ]; then
+        cp "$here/mutants/$crate"/*.edit "crates/$crate/must-fail"
+    fi
     rt must-fail "$crate"
 done
