@@ -6,7 +6,7 @@ use Rattle.kc_conf.specs.declared.options.Options.{Options}
 use Rattle.kc_conf.specs.Taken.{refuses_input}
 use Rattle.kc_conf.specs.FaultParts.{BreaksFile}
 use Rattle.kc_conf.specs.Faults.{BreaksRun, Completes, StopsNotes, finished, in_file, in_notes, not_begun, up_to}
-use Rattle.kc_conf.specs.Outcome.{IsOutcomeOfReading, IsOutcomeOfTree, Outcome, depfile_text, is_done, has_text, long_line, notes_of, read_of, refused, strictly, whole, with_rule, refused_if, warned_files, text_if}
+use Rattle.kc_conf.specs.Outcome.{IsOutcomeOfReading, IsOutcomeOfTree, Outcome, depfile_text, is_done, has_text, long_line, notes_of, read_of, strictly, whole, with_rule, refused_if, warned_files}
 use Rattle.kc_conf.specs.OutputStates.{OutputStates, made_if, with_text}
 use Rattle.kc_conf.specs.Rules.{BreaksInRule, EndsWithRule}
 use Rattle.kc_conf.specs.declared.run_fault.RunFault.{RunFault}

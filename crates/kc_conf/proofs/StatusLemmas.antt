@@ -7,8 +7,7 @@ use Rattle.kc_dot.specs.Reading.{ReadResult}
 use Rattle.kc_conf.specs.declared.options.Options.{Options}
 use Rattle.kc_conf.specs.declared.options.Status.{Status}
 use Rattle.kc_conf.specs.declared.options.Status.TheVariants.{Done, Refused as IsRefused, Usage, Faulted}
-use Rattle.kc_conf.specs.ErrorLines.{strict_line}
-use Rattle.kc_conf.specs.Outcome.{IsLenientOutcome, IsOutcome, IsOutcomeOfReading, Outcome, accepted_tree, depfile_text, has_text, is_done, long_line, refused, refused_name, refused_tree, strictly, whole, refused_if, text_if, warned_files}
+use Rattle.kc_conf.specs.Outcome.{IsLenientOutcome, IsOutcome, IsOutcomeOfReading, Outcome, accepted_tree, depfile_text, has_text, is_done, long_line, refused_name, refused_tree, strictly, whole, refused_if, warned_files}
 use Rattle.kc_conf.specs.Taken.{refuses_input}
 
 abbrev is_faulted : Status → Bool
@@ -41,5 +40,5 @@ IsOutcome-not_faulted files options all outcome (lenient, opened, x, are, is) fa
     let strict = strictly options.strict_tree lenient in
     let e : is_faulted outcome.status ≡ false =
     ap (λ o. is_faulted o.status) is ∙ if_ruled (is_done strict.status) options opened strict
-    ∙ if_strict (is_done lenient.status && (options.strict_tree && has_text lenient.warned)) lenient.warned lenient (of_lenient files options opened all lenient x) in
+    ∙ if_strict (is_done lenient.status && (options.strict_tree && has_text lenient.warned)) lenient (of_lenient files options opened all lenient x) in
     true≢false (sym (ap is_faulted faulted) ∙ e)

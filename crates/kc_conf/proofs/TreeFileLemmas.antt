@@ -7,7 +7,7 @@ use Rattle.kc_build.specs.Numberings.{IsListingOf}
 use Rattle.kc_build.specs.Trees.{IsTreeOf}
 use Rattle.kc_build.specs.declared.numbering.Listing.{Listing}
 use Rattle.kc_conf.specs.declared.options.Options.{Options}
-use Rattle.kc_conf.specs.Outcome.{names_listed, root_file}
+use Rattle.kc_conf.specs.Outcome.{root_file}
 use Rattle.kc_conf.specs.Rules.{AreListed}
 use Rattle.kc_make.specs.Opened.{AreOpened}
 

@@ -1,5 +1,5 @@
 -- A run over an accepted tree refuses a name, ends with its rule for make, or breaks off before it or in it.
-use Rattle.std.proofs.Common.{◌∙◌, List, ℕ, None, ap, map, subst, sym}
+use Rattle.std.proofs.Common.{◌∙◌, List, ℕ, ap, map, subst, sym}
 use Rattle.std.specs.Option.{option_map}
 use Rattle.std.proofs.lemmas.Result.{IfOk-weaker, IfErr-weaker}
 use Rattle.kc_conf.specs.Faults.{CountsInputs}

@@ -1,9 +1,8 @@
 -- The names in the rule, and none where it is not wanted.
-use Rattle.std.proofs.Common.{◌≡◌, ◌∙◌, List, ℕ, Some, ap, map, rules, string_bytes, subst}
-use Rattle.std.specs.Option.{option_map}
+use Rattle.std.proofs.Common.{◌∙◌, List, ℕ, Some, ap, map, rules, string_bytes, subst}
 use Rattle.kc_read.specs.Files.{bytes_in}
 use Rattle.kc_make.specs.Opened.{AreOpened, prerequisites_of}
-use Rattle.kc_conf.specs.Outcome.{names_listed, root_file}
+use Rattle.kc_conf.specs.Outcome.{root_file}
 use Rattle.kc_conf.proofs.TreeFileLemmas.{listed_if}
 use Rattle.kc_conf.proofs.tree_files.names_listed.Goals as goal
 
