@@ -57,7 +57,10 @@ def run(program, folder):
 def differences(program, folder):
     """Runs the case in this folder, and returns each thing that differs: its name, what is expected and what came."""
     before = files_below(folder)
-    done = run(program, folder)
+    try:
+        done = run(program, folder)
+    except subprocess.TimeoutExpired:
+        return [("the end of the run", b"within a minute\n", b"later\n")]
     expected = {name.removeprefix("expect/"): read(f"{folder}/{name}") for name in before if name.startswith("expect/")}
     came = {"status": b"%d\n" % done.returncode, "diagnostics": done.stderr, "output": done.stdout}
     usual = {"status": b"0\n", "diagnostics": b"", "output": b""}
