@@ -229,6 +229,16 @@ def links():
     return complaints, count
 
 
+def cases():
+    """Complaints about the cases that the documents name and that are not there."""
+    complaints, data = [], os.path.join(TOP, "crates", "kconf_cases", "data")
+    for name in ("language", "formats", "differences"):
+        for line in re.findall(r"^Cases: [^.]*\.$", read(f"docs/{name}.md"), re.M):
+            missing = [case for case in re.findall(r"`([^`]+)`", line) if not os.path.isdir(os.path.join(data, case))]
+            complaints += [f"docs/{name}.md names the case {case}, which is not there" for case in missing]
+    return complaints
+
+
 def widths():
     """Complaints about lines of more than 120 columns outside tables."""
     lines = ((page, at, line) for page in pages() for at, line in enumerate(read(page).split("\n"), 1))
@@ -256,7 +266,7 @@ def main():
     for name, text in makefiles().items():
         unmade += makefile(kconf, name, text)
     broken, count = links()
-    complaints = wrong + unmade + broken + widths() + chart() + trusted()
+    complaints = wrong + unmade + broken + cases() + widths() + chart() + trusted()
     for complaint in complaints:
         print(complaint)
     print(f"{runs} examples, {count} links, {len(complaints)} complaints")
