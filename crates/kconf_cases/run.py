@@ -3,7 +3,8 @@
 
 usage: run.py PROGRAM [NAME..]          a program that takes kconf's arguments; all cases without a NAME
        run.py --show PROGRAM NAME..     prints what the program does in each case
-       run.py --conf CONF [NAME..]      the kernel's conf, by --olddefconfig: compares the values in the .config
+       run.py --conf CONF [NAME..]      the kernel's conf, by --olddefconfig: compares the values in the .config, and prints
+                                        what differs and is not in conf.txt
 
 NAME is the name of a case (choice/user_member_hidden) or of a family (choice). Each case runs in a copy of its folder.
 """
@@ -122,11 +123,14 @@ def values_of(text, prefix):
     return values
 
 
-# The kernel's conf wants quotes round a prompt and a file name, and `modules` in place of `option modules`.
+# The kernel's conf wants quotes round a prompt and a file name, `modules` in place of `option modules`, and a `modules`
+# line in the symbol MODULES.
 BARE_TEXT = re.compile(rb"(?m)^(\s*(?:source|mainmenu|menu|comment|prompt|bool|tristate|int|hex|string)[ \t]+)([^\s\"'#=!(&|]+)")
 
 
-def for_conf(text):
+def for_conf(text, is_modules_by_name):
+    if is_modules_by_name:
+        text = re.sub(rb"(?m)^config MODULES\n", rb"config MODULES\n\tmodules\n", text)
     text = BARE_TEXT.sub(lambda found: found[0] if found[2] == b"if" else found[1] + b'"' + found[2] + b'"', text)
     return re.sub(rb"(?m)^(\s*)option\s+modules\s*$", rb"\1modules", text)
 
@@ -157,14 +161,15 @@ def merged_config(folder, names):
 
 def prepare_for_conf(folder, options, rest):
     """Writes what conf reads, and returns whether the case can be given to it."""
-    if not rest or any(name in options for name in ("--strict", "--strict-tree", "--must-exist", "--version")):
+    if not rest or any(name in options for name in ("--strict", "--strict-tree", "--must-exist", "--version", "--")):
         return False
     config = merged_config(folder, [options.get("--config", ".config"), *rest[1:]])
     if config is None:
         return False
-    for name in files_below(folder):
-        if name != "arguments" and not name.startswith("expect/"):
-            write(f"{folder}/{name}", for_conf(read(f"{folder}/{name}")))
+    names = [name for name in files_below(folder) if name != "arguments" and not name.startswith("expect/")]
+    is_by_name = not any(re.search(rb"(?m)^\s*(option\s+)?modules\b", read(f"{folder}/{name}")) for name in names)
+    for name in names:
+        write(f"{folder}/{name}", for_conf(read(f"{folder}/{name}"), is_by_name and not folder.endswith("/modules_by_name")))
     if os.path.isfile(f"{folder}/.config"):
         os.remove(f"{folder}/.config")
     if config:
@@ -183,8 +188,10 @@ def first_place(text):
 def conf_outcome(program, folder):
     """Runs conf in the case's folder, and returns what came of it and why."""
     options, rest = parsed(lines_of(f"{folder}/arguments"))
-    if not prepare_for_conf(folder, options, rest):
+    errors = re.findall(rb"error (E\d+):", read(f"{folder}/expect/diagnostics") or b"")
+    if errors and int(errors[0][1:]) >= 17 or not prepare_for_conf(folder, options, rest):
         return "no counterpart", " ".join(lines_of(f"{folder}/arguments"))
+    out = options.get("--out", options.get("--config", ".config"))
     prefix = options.get("--prefix", "CONFIG_")
     environment = {"PATH": "/usr/bin:/bin", "CONFIG_": prefix, "srctree": options.get("--root", ".")}
     try:
@@ -200,12 +207,26 @@ def conf_outcome(program, folder):
         return ("both refuse, same line" if is_same else "both refuse, other line"), said
     if not is_taken:
         return "conf alone takes", said
-    ours = values_of(read(f"{folder}/expect/.config"), prefix)
+    ours = values_of(read(f"{folder}/expect/{out}"), prefix)
     theirs = values_of(read(f"{folder}/.config"), prefix)
     unlike = [name for name in sorted({*ours, *theirs}) if ours.get(name) != theirs.get(name)]
     if not unlike:
         return "same values", ""
     return "other values", "; ".join(f"{name}: {ours.get(name, '-')}, conf {theirs.get(name, '-')}" for name in unlike)[:200]
+
+
+def listed_differences():
+    """Returns the outcomes that conf.txt lists, by case: those of the conf of Linux 7.2."""
+    lines = lines_of(os.path.join(os.path.dirname(DATA), "conf.txt"))
+    return {line.split()[0]: line.split(" ", 1)[1].split(":")[0] for line in lines}
+
+
+def print_outcome(case, outcome, why, listed):
+    """Prints an outcome that conf.txt does not list, or lists otherwise."""
+    wanted = listed.get(case)
+    is_difference = outcome in ("other values", "conf alone refuses", "conf alone takes", "conf does not end")
+    if wanted is None and is_difference or wanted is not None and wanted != outcome:
+        print(f"{case}: {outcome}: {why}" + (f" (conf.txt: {wanted})" if wanted else ""))
 
 
 def main():
@@ -219,15 +240,15 @@ def main():
     if not chosen:
         sys.exit(f"no case {' '.join(wanted)}")
     failed, outcomes = 0, collections.Counter()
+    listed = listed_differences() if mode == "--conf" else {}
     for case in chosen:
         with tempfile.TemporaryDirectory() as room:
-            folder = f"{room}/case"
+            folder = f"{room}/{case.split('/')[1]}"
             shutil.copytree(f"{DATA}/{case}", folder)
             if mode == "--conf":
                 outcome, why = conf_outcome(program, folder)
                 outcomes[outcome] += 1
-                if outcome not in ("same values", "both refuse, same line"):
-                    print(f"{case}: {outcome}: {why}")
+                print_outcome(case, outcome, why, listed)
             else:
                 failed += not (show_case if mode else try_case)(program, case, folder)
     print(", ".join(f"{count} {outcome}" for outcome, count in outcomes.most_common()) if outcomes else f"{len(chosen)} cases, {failed} failed")
