@@ -1,14 +1,18 @@
 #!/usr/bin/python3
-"""Checks what kconf --replace does to files: replace.py [KCONF]
+"""Checks what kconf --replace does to files: replace.py [KCONF [KILLS]]
 
-Each check has a folder of its own. The last two start runs on one place at once, and runs that are
-killed (SIGKILL) at random moments: each place has to hold the old text or the new one, whole. The
-script ends with status 1 where one does not, and names it. Where a run was killed a file may be
-left beside a place: how many were is said.
+Each check has a folder of its own. The last two start runs on one place at once, and KILLS runs that
+are killed (SIGKILL) at random moments: each place has to hold the old text or the new one, whole.
+Where a run was killed a file may be left beside a place: how many were is reported. If root starts
+the script, each check runs as root and then again as nobody. A check that this machine does not
+allow is skipped, and the reason is printed. The script ends with status 1 if a check fails, and
+names it.
 """
 
 import os
+import pwd
 import random
+import shutil
 import signal
 import stat
 import subprocess
@@ -16,17 +20,22 @@ import sys
 import tempfile
 import threading
 import time
+import traceback
 
 TOP = os.path.dirname(os.path.dirname(os.path.abspath(__file__)))
 KCONF = os.path.abspath(sys.argv[1]) if len(sys.argv) > 1 else TOP + "/crates/kconf/out/kconf"
 TREE = "config A\n\tbool \"a\"\n\nconfig N\n\tint \"n\"\n\tdefault 3\n\nconfig S\n\tstring \"s\"\n\tdefault \"x\"\n"
-KILLS = 400
+KILLS = int(sys.argv[2]) if len(sys.argv) > 2 else 400
 FILES = ("--header", "h", "--savedefconfig", "min", "--depfile", "d")
 RULE = ".config: \\\n ./Kconfig\n\n./Kconfig:\n"
 
 
 class Wrong(Exception):
     """What was found, where it is not what is wanted."""
+
+
+class Skipped(Exception):
+    """Why a check cannot be made here."""
 
 
 def want(what, found, wanted):
@@ -49,11 +58,15 @@ class Folder:
             file.write(text)
 
     def get(self, name):
-        with open(self.at(name), encoding="utf-8") as file:
-            return file.read()
+        """A file's text; None if it is not there."""
+        try:
+            with open(self.at(name), encoding="utf-8") as file:
+                return file.read()
+        except FileNotFoundError:
+            return None
 
     def run(self, *words, status=0, **more):
-        ran = subprocess.run([KCONF, *words], cwd=self.path, capture_output=True, text=True, **more)
+        ran = subprocess.run([KCONF, *words], **({"cwd": self.path, "capture_output": True, "text": True} | more))
         want(f"status of {' '.join(words)} ({ran.stderr.strip()})", ran.returncode, status)
         return ran
 
@@ -61,7 +74,8 @@ class Folder:
         return [(os.stat(self.at(n)).st_ino, os.stat(self.at(n)).st_mtime_ns) for n in names]
 
     def left(self):
-        return sorted(n for _, _, names in os.walk(self.path) for n in names if ".kconf-" in n)
+        """The temporary files that are there, by their paths."""
+        return sorted(os.path.join(at, n) for at, _, names in os.walk(self.path) for n in names if ".kconf-" in n)
 
 
 def plain_texts(folder):
@@ -121,7 +135,7 @@ def a_rule_that_cannot_be_made_leaves_all(folder):
     ran = folder.run("--replace", "--header", "h", "--depfile", "none/d", "Kconfig", status=3)
     want("the line", ran.stderr, "error E19: cannot write none/d\n")
     want("times and inodes", folder.marks(".config"), before)
-    want("the header", os.path.exists(folder.at("h")), False)
+    want("the header", folder.get("h"), None)
 
 
 def a_links_target_is_replaced_with_its_mode(folder):
@@ -147,9 +161,68 @@ def a_link_to_nothing_makes_its_target(folder):
 
 
 def a_new_file_has_the_mode_of_a_new_file(folder):
-    folder.run("--replace", "Kconfig")
+    for mask in (0o022, 0o077, 0o002, 0o027):
+        folder.run("--replace", "--out", f"new{mask}", "Kconfig", umask=mask)
+        want("the mode", stat.S_IMODE(os.stat(folder.at(f"new{mask}")).st_mode), 0o666 & ~mask)
+
+
+def every_mode_is_kept(folder):
+    for mode in (0o600, 0o400, 0o444, 0o644, 0o666, 0o640, 0o755, 0o2644, 0o4755, 0o1644):
+        if os.path.exists(folder.at("x")):
+            os.remove(folder.at("x"))
+        folder.put("x", "old\n")
+        os.chmod(folder.at("x"), mode)
+        before = folder.marks("x")
+        folder.run("--config", "none", "--replace", "--out", "x", "Kconfig")
+        want(f"another file, of mode {mode:o}", folder.marks("x") != before, True)
+        want("the mode", oct(stat.S_IMODE(os.stat(folder.at("x")).st_mode)), oct(mode))
+
+
+def set_id_bits_go_to_no_other_owner(folder):
+    if os.geteuid():
+        raise Skipped("only root can give a file away")
+    nobody = pwd.getpwnam("nobody")
+    for owner in ((nobody.pw_uid, 0), (0, nobody.pw_gid)):
+        folder.put("x", "old\n")
+        os.chown(folder.at("x"), *owner)
+        os.chmod(folder.at("x"), 0o6755)
+        folder.run("--config", "none", "--replace", "--out", "x", "Kconfig")
+        want("the mode", oct(stat.S_IMODE(os.stat(folder.at("x")).st_mode)), oct(0o755))
+
+
+def another_users_link_in_a_sticky_folder_is_not_followed(folder):
+    if os.geteuid():
+        raise Skipped("only root can make links as another user")
+    with open("/proc/sys/fs/protected_symlinks", encoding="utf-8") as file:
+        if file.read().strip() == "0":
+            raise Skipped("this kernel follows such links: fs.protected_symlinks is 0")
+    os.chmod(folder.path, 0o755)
+    os.mkdir(folder.at("shared"))
+    os.chmod(folder.at("shared"), 0o1777)
+    nobody = pwd.getpwnam("nobody")
+    for name, target in (("there", folder.at("secret")), ("none", folder.at("new"))):
+        os.symlink(target, folder.at(f"shared/{name}"))
+        os.chown(folder.at(f"shared/{name}"), nobody.pw_uid, nobody.pw_gid, follow_symlinks=False)
+    folder.put("secret", "old\n")
+    for flags in ([], ["--replace"]):
+        for name in ("there", "none"):
+            ran = folder.run(*flags, "--config", "none", "--out", f"shared/{name}", "Kconfig", status=3)
+            want("the line", ran.stderr, f"error E19: cannot write shared/{name}\n")
+    want("the files", (folder.get("secret"), folder.get("new")), ("old\n", None))
+
+
+def a_file_that_is_mounted_is_written_where_it_lies(folder):
     folder.run("--out", "plain", "Kconfig")
-    want("the mode", os.stat(folder.at(".config")).st_mode, os.stat(folder.at("plain")).st_mode)
+    folder.put("real", "old\n")
+    folder.put("place", "")
+    before = folder.marks("real")[0][0]
+    script = 'mount --bind real place || exit 77; "$0" --config none --replace --out place Kconfig || exit; "$0" --config none --replace --out place Kconfig'
+    ran = subprocess.run(["unshare", "-rm", "sh", "-c", script, KCONF], cwd=folder.path, capture_output=True, text=True)
+    if ran.returncode in (1, 77) and ("unshare" in ran.stderr or "mount" in ran.stderr):
+        raise Skipped("no file can be mounted here")
+    want("the status", (ran.returncode, ran.stderr), (0, ""))
+    want("the text", folder.get("real"), folder.get("plain"))
+    want("the inode", folder.marks("real")[0][0], before)
 
 
 def a_refused_run_leaves_all(folder):
@@ -182,6 +255,48 @@ def a_file_without_room_leaves_all(folder):
     want("times and inodes", folder.marks(".config"), before)
 
 
+# Names of standard output: the last ones through a link, and from another folder.
+STANDARD_OUTPUT = ("/dev/stdout", "/dev/fd/1", "//dev/fd/1", "/dev/../dev/fd/1", "/proc/self/fd/1", "/proc/self/../self/fd/1", "fds/1", "link")
+
+
+def standard_output_is_written_by_each_of_its_names(folder):
+    folder.run("--out", "plain", "Kconfig")
+    plain = folder.get("plain")
+    os.symlink("/dev/fd", folder.at("fds"))
+    os.symlink("fds/1", folder.at("link"))
+    tree = ("--root", folder.path, "--config", folder.at("none"), "--replace")
+    for name in STANDARD_OUTPUT:
+        want(f"{name}, a pipe", folder.run(*tree, "--out", name, "Kconfig").stdout, plain)
+    want("fd/1 from /dev, a pipe", folder.run(*tree, "--out", "fd/1", "Kconfig", cwd="/dev").stdout, plain)
+    for name in STANDARD_OUTPUT:
+        folder.put("got", "old\n" * 1000)
+        before = folder.marks("got")[0][0]
+        with open(folder.at("got"), "r+", encoding="utf-8") as got:
+            folder.run(*tree, "--out", name, "Kconfig", capture_output=False, stdout=got, stderr=subprocess.PIPE)
+        want(f"{name}, a regular file", (folder.get("got"), folder.marks("got")[0][0]), (plain, before))
+
+
+def a_process_substitution_is_written(folder):
+    folder.run("--out", "plain", "--header", "plain.h", "Kconfig")
+    script = '"$0" --replace --config none --out >(cat > got) --header >(cat > got.h) Kconfig; code=$?; wait; sleep 0.2; exit $code'
+    for _ in range(3):
+        ran = subprocess.run(["bash", "-c", script, KCONF], cwd=folder.path, capture_output=True, text=True)
+        want("the status", (ran.returncode, ran.stderr), (0, ""))
+        want("the texts", (folder.get("got"), folder.get("got.h")), (folder.get("plain"), folder.get("plain.h")))
+
+
+def a_large_text_and_a_long_warning_are_whole(folder):
+    value = "x" * 3_000
+    folder.put("Kconfig", "".join(f'config S_{n}\n\tstring "s"\n\tdefault "{value}"\n' for n in range(50)))
+    folder.put("dot", "".join(f"CONFIG_{'U' * size}=y\n" for size in (200, 255, 256, 257, 3_000)))
+    plain = folder.run("--config", "dot", "--out", "plain", "--header", "plain.h", "Kconfig")
+    want("the lengths", (len(folder.get("plain")) > 65_536, max(map(len, plain.stderr.splitlines())) > 256), (True, True))
+    for _ in range(2):
+        ran = folder.run("--replace", "--config", "dot", "--out", "x", "--header", "h", "Kconfig")
+        want("the warnings", ran.stderr, plain.stderr)
+        want("the texts", (folder.get("x"), folder.get("h")), (folder.get("plain"), folder.get("plain.h")))
+
+
 def standard_output_and_a_pipe_are_written(folder):
     folder.run("--out", "plain", "Kconfig")
     ran = folder.run("--replace", "--out", "/dev/stdout", "Kconfig")
@@ -211,11 +326,52 @@ def a_regular_file_below_dev_is_replaced(folder):
         want("what lies there", sorted(os.listdir(place)), ["first", "out"])
 
 
-def a_taken_name_beside_stays(folder):
-    folder.put(".config.kconf-0", "mine\n")
-    folder.run("--replace", "Kconfig")
-    want("the taken name", folder.get(".config.kconf-0"), "mine\n")
-    os.remove(folder.at(".config.kconf-0"))
+def taken_names_beside_stay(folder):
+    names = [f".kconf-{n}" for n in range(3)]
+    for name in names[:2]:
+        folder.put(name, "mine\n")
+    os.symlink("other", folder.at(names[2]))
+    folder.put("other", "mine\n")
+    folder.run("--replace", *FILES, "Kconfig")
+    want("the taken names", [folder.get(name) for name in [*names, "other"]], ["mine\n"] * 4)
+    want("the temporary files", folder.left(), [folder.at(name) for name in names])
+    for name in names:
+        os.remove(folder.at(name))
+
+
+def no_free_name_is_an_error(folder):
+    folder.put(".config", "CONFIG_N=5\n")
+    before = folder.marks(".config")
+    for n in range(1_000):
+        folder.put(f".kconf-{n}", "mine\n")
+    want("the line", folder.run("--replace", "Kconfig", status=3).stderr, "error E19: cannot write .config\n")
+    want("times and inodes", folder.marks(".config"), before)
+    want("the taken names", {folder.get(f".kconf-{n}") for n in range(1_000)}, {"mine\n"})
+    for n in range(1_000):
+        os.remove(folder.at(f".kconf-{n}"))
+
+
+def long_names_are_replaced(folder):
+    folder.run("--out", "plain", "Kconfig")
+    for length in (1, 2, 200, 247, 248, 251, 255):
+        name = "n" * length
+        for _ in range(2):
+            folder.put(name, "old\n")
+            folder.run("--config", "none", "--replace", "--out", name, "Kconfig")
+            want(f"the text of a name of {length} bytes", folder.get(name), folder.get("plain"))
+    want("a longer name", folder.run("--replace", "--out", "n" * 256, "Kconfig", status=3).stderr, f"error E19: cannot write {'n' * 256}\n")
+
+
+def names_that_are_none_of_a_file_are_errors(folder):
+    os.mkdir(folder.at("folder"))
+    os.symlink("none/", folder.at("slash"))
+    os.symlink("round", folder.at("round"))
+    os.symlink("Kconfig/x", folder.at("through"))
+    for name in ("", "none/", "none/.", "folder", "folder/", "folder/.", "..", "Kconfig/", "Kconfig/x", "slash", "round", "through", "none/x"):
+        ran = folder.run("--config", "none", "--replace", "--header", "h", "--out", name, "Kconfig", status=3)
+        want(f"the line of {name!r}", ran.stderr, f"error E19: cannot write {name}\n")
+        want("the header", folder.get("h"), None)
+    want("the files", sorted(os.listdir(folder.path)), ["Kconfig", "folder", "round", "slash", "through"])
 
 
 def two_outputs_of_one_name_leave_the_later(folder):
@@ -270,37 +426,82 @@ def killed_runs_leave_the_old_or_the_new(folder):
     print(f"  of {KILLS} killed runs {ended} were done before, {changes} changed .config, {left} files were left beside")
 
 
-def main():
+CHECKS = (
+    plain_texts,
+    equal_text_keeps_time_and_inode,
+    a_text_that_is_cut_or_longer_is_replaced,
+    another_text_changes_its_file_alone,
+    a_new_fragment_changes_the_rule_alone,
+    a_rule_that_cannot_be_made_leaves_all,
+    a_links_target_is_replaced_with_its_mode,
+    a_link_to_nothing_makes_its_target,
+    a_new_file_has_the_mode_of_a_new_file,
+    every_mode_is_kept,
+    set_id_bits_go_to_no_other_owner,
+    another_users_link_in_a_sticky_folder_is_not_followed,
+    a_refused_run_leaves_all,
+    a_fault_leaves_all,
+    a_file_without_room_leaves_all,
+    standard_output_is_written_by_each_of_its_names,
+    standard_output_and_a_pipe_are_written,
+    a_process_substitution_is_written,
+    a_regular_file_below_dev_is_replaced,
+    a_file_that_is_mounted_is_written_where_it_lies,
+    a_large_text_and_a_long_warning_are_whole,
+    long_names_are_replaced,
+    names_that_are_none_of_a_file_are_errors,
+    taken_names_beside_stay,
+    no_free_name_is_an_error,
+    two_outputs_of_one_name_leave_the_later,
+    runs_at_once_leave_one_of_the_texts,
+    killed_runs_leave_the_old_or_the_new,
+)
+
+
+def check_all():
+    """Makes each check, and returns how many failed."""
     wrong = 0
-    for check in (
-        plain_texts,
-        equal_text_keeps_time_and_inode,
-        a_text_that_is_cut_or_longer_is_replaced,
-        another_text_changes_its_file_alone,
-        a_new_fragment_changes_the_rule_alone,
-        a_rule_that_cannot_be_made_leaves_all,
-        a_links_target_is_replaced_with_its_mode,
-        a_link_to_nothing_makes_its_target,
-        a_new_file_has_the_mode_of_a_new_file,
-        a_refused_run_leaves_all,
-        a_fault_leaves_all,
-        a_file_without_room_leaves_all,
-        standard_output_and_a_pipe_are_written,
-        a_regular_file_below_dev_is_replaced,
-        a_taken_name_beside_stays,
-        two_outputs_of_one_name_leave_the_later,
-        runs_at_once_leave_one_of_the_texts,
-        killed_runs_leave_the_old_or_the_new,
-    ):
+    for check in CHECKS:
         with tempfile.TemporaryDirectory() as path:
             folder = Folder(path)
             try:
                 check(folder)
-                want("files left beside", folder.left(), [])
-                print(f"ok {check.__name__}")
+                want("temporary files that were left", folder.left(), [])
+                print(f"ok {check.__name__}", flush=True)
+            except Skipped as it:
+                print(f"skipped {check.__name__}: {it}", flush=True)
             except Wrong as it:
                 wrong += 1
-                print(f"WRONG {check.__name__}: {it}")
+                print(f"WRONG {check.__name__}: {it}", flush=True)
+            except (OSError, TypeError, subprocess.SubprocessError):
+                wrong += 1
+                print(f"WRONG {check.__name__}:\n{traceback.format_exc()}", flush=True)
+    return wrong
+
+
+def check_as_nobody():
+    """Makes each check in a process of the user nobody, on a copy of the program."""
+    global KCONF
+    with tempfile.TemporaryDirectory() as path:
+        os.chmod(path, 0o755)
+        KCONF = shutil.copy(KCONF, path)
+        os.chmod(KCONF, 0o755)
+        child = os.fork()
+        if child == 0:
+            nobody = pwd.getpwnam("nobody")
+            os.setgroups([])
+            os.setgid(nobody.pw_gid)
+            os.setuid(nobody.pw_uid)
+            os.environ["HOME"] = "/"
+            os._exit(check_all() > 0)
+        return os.waitstatus_to_exitcode(os.waitpid(child, 0)[1])
+
+
+def main():
+    wrong = check_all()
+    if os.geteuid() == 0:
+        print("as nobody", flush=True)
+        wrong += check_as_nobody()
     sys.exit(wrong > 0)
 
 

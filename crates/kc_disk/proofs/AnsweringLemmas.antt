@@ -8,10 +8,10 @@ use Rattle.kc_conf.specs.declared.options.Status.{Status}
 use Rattle.kc_words.specs.declared.usage.UsageError.TheVariants.{Memory}
 use Rattle.kc_disk.specs.Answering.{KconfEndsOnDisk, ProcessEnds, none}
 use Rattle.kc_disk.specs.Makers.{maker_call}
-use Rattle.kc_disk.specs.Program.{ReportsUsage, usage_status}
+use Rattle.kc_disk.specs.Program.{ReportsUsage, EndsUsage}
 
 -- no memory was to be had before there were devices
-pub no-memory : (arguments : List (String Global)) (status : Status) → status ≡ usage_status Memory → ReportsUsage Memory (maker_call None None true) → KconfEndsOnDisk arguments status
+pub no-memory : (arguments : List (String Global)) (status : Status) → EndsUsage Memory status → ReportsUsage Memory (maker_call None None true) → KconfEndsOnDisk arguments status
 no-memory arguments status is tells = (None, 0, none Memory (tt, λ takes good. refl) is tells refl refl refl)
 
 -- the words behind the first are the arguments

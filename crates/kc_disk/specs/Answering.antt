@@ -19,7 +19,7 @@ use Rattle.kc_conf.specs.declared.options.Status.{Status}
 use Rattle.kc_disk.specs.Openers.{FolderCall, IsQuiet, ReadDevice, folder_call, unknown_device}
 use Rattle.kc_disk.specs.Makers.{MakerCall, maker_call}
 use Rattle.kc_disk.specs.Movers.{IsStill, MoverCall, fails_anywhere, mover_call}
-use Rattle.kc_disk.specs.Program.{IsAsItWas, KeptCall, ReportsUsage, kept_call, usage_status}
+use Rattle.kc_disk.specs.Program.{IsAsItWas, KeptCall, ReportsUsage, kept_call, EndsUsage}
 use Rattle.kc_disk.specs.Replacing.{EndsBy}
 
 -- the arguments give these options: clap finds no fault in them, and each field is what they hold
@@ -36,7 +36,7 @@ GiveNone arguments usage = IsRefused (fault_of kconf_app (arguments_of arguments
 -- is made, moved or kept.
 pub data KconfEnds (folder : FolderCall) (opened : ReadDevice) (arguments : List (String Global)) (status : Status) (maker : MakerCall) (mover : MoverCall) (kept : KeptCall) : Type 0 where
   options : (o : Options) → GiveOptions arguments o → EndsBy o.replace folder opened o status maker mover kept → KconfEnds folder opened arguments status maker mover kept
-  none : (usage : NoOptions) → GiveNone arguments usage → status ≡ usage_status usage → ReportsUsage usage maker → IsStill mover → IsAsItWas kept → IsQuiet folder →
+  none : (usage : NoOptions) → GiveNone arguments usage → EndsUsage usage status → ReportsUsage usage maker → IsStill mover → IsAsItWas kept → IsQuiet folder →
       KconfEnds folder opened arguments status maker mover kept
 
 -- the same over the disk, which tells nothing and may fail anywhere, where nothing was kept before
@@ -59,4 +59,4 @@ AreUnread error Memory = ⊤
 -- be read.
 abbrev pub ProcessEnds : Result (IntoIter (String Global) Global) Error → Status → Type 0
 ProcessEnds (Ok words) status = KconfEndsOnDisk (drop 1 (into_iter_items words)) status
-ProcessEnds (Err error) status = (usage : NoOptions) × AreUnread error usage × (status ≡ usage_status usage)
+ProcessEnds (Err error) status = (usage : NoOptions) × AreUnread error usage × EndsUsage usage status

@@ -91,12 +91,12 @@ pub data RunEnds (folder : FolderCall) (opened : ReadDevice) (options : Options)
   unloaded : (fault : LoadFault) → IsUnloaded folder options fault → status ≡ ended.Faulted → Reports (load_line fault) maker → IsAsItWas kept →
       RunEnds folder opened options status maker kept
 
--- the status where the arguments give no options
-abbrev pub usage_status : NoOptions → Status
-usage_status (Help text) = ended.Done
-usage_status (Version text) = ended.Done
-usage_status (Bad text) = ended.Usage
-usage_status NoMemory = ended.Faulted
+-- the status where the arguments give no options; help and the version are a fault where standard output does not take them
+abbrev pub EndsUsage : NoOptions → Status → Type 0
+EndsUsage (Help text) status = (status ≡ ended.Done) ⊎ (status ≡ ended.Faulted)
+EndsUsage (Version text) status = (status ≡ ended.Done) ⊎ (status ≡ ended.Faulted)
+EndsUsage (Bad text) status = status ≡ ended.Usage
+EndsUsage NoMemory status = status ≡ ended.Faulted
 
 -- what is wrong is told on standard error; help and the version are not
 abbrev pub ReportsUsage : NoOptions → MakerCall → Type 0

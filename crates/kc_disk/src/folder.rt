@@ -3,13 +3,14 @@ ghost use Rattle.std.specs.Prelude.{◌≡◌, true, None, IfOk};
 
 use kc_load::{Folder, FolderFault};
 use std::alloc::AllocError;
-use std::fs::File;
+use std::fs::{self, File, Metadata};
 use std::io::{self, ErrorKind, Read};
+use std::os::unix::fs::FileTypeExt;
 
 /// Reads the files of a tree from a disk by their paths (our own).
 ///
-/// A path where nothing is has no file. A folder, a path that runs through a file and a file that may not be read are
-/// failures of the device.
+/// A path where nothing is has no file. A folder, a device as `/dev/zero`, a path that runs through a file and a file that may
+/// not be read are failures of the device. So is a pipe that gives more than 67,108,864 bytes.
 #[derive(Drop)]
 pub struct SystemFolder<'a> {
     rt: &'a HostRuntime,
@@ -40,9 +41,35 @@ impl<'a> SystemFolder<'a> {
 // How many bytes are read at once.
 const BUFFER_SIZE: usize = 65_536;
 
+// How many bytes a pipe may give: it has no length of its own.
+const MOST_PIPE_BYTES: usize = 67_108_864;
+
+// Fails for a device: it may have no end, and to open one may do something.
+fn refuse_device(found: &Metadata) -> io::Result<()> {
+    let kind = found.file_type();
+    if kind.is_char_device() || kind.is_block_device() {
+        return Err(io::Error::from(ErrorKind::InvalidInput));
+    }
+    Ok(())
+}
+
+// Opens a file of the tree, and returns how many bytes it may give.
+fn open_bounded(rt: &HostRuntime, path: &str) -> io::Result<(File, usize)> {
+    refuse_device(&fs::metadata(rt, path)?)?;
+    let file = File::open(rt, path)?;
+    let opened = file.metadata()?;
+    refuse_device(&opened)?;
+    let most = if opened.is_file() {
+        usize::MAX
+    } else {
+        MOST_PIPE_BYTES
+    };
+    Ok((file, most))
+}
+
 // The bytes of a file, read through the buffer. A read that was interrupted is tried again.
 fn read_whole(rt: &HostRuntime, path: &str, buffer: &mut [u8]) -> io::Result<Vec<u8>> {
-    let mut file = File::open(rt, path)?;
+    let (mut file, most) = open_bounded(rt, path)?;
     let mut bytes = Vec::new(rt.alloc());
     for _ in 0..u64::MAX {
         let count = match file.read(buffer) {
@@ -52,6 +79,9 @@ fn read_whole(rt: &HostRuntime, path: &str, buffer: &mut [u8]) -> io::Result<Vec
         };
         if count == 0 {
             return Ok(bytes);
+        }
+        if count > most.saturating_sub(bytes.len()) {
+            return Err(io::Error::from(ErrorKind::FileTooLarge));
         }
         bytes.extend_from_slice(&buffer[..count])?;
     }

@@ -3,6 +3,7 @@
 
 mod arguments;
 mod buffer;
+mod destination;
 mod devices;
 mod drafts;
 mod folder;

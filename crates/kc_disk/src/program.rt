@@ -6,7 +6,7 @@ ghost use Rattle.kc_disk.specs.Answering.{KconfEnds, KconfEndsOnDisk, ProcessEnd
 ghost use Rattle.kc_disk.specs.Openers.{folder_call, read_device};
 ghost use Rattle.kc_disk.specs.Makers.{IsOpen, Tells, maker_call, none_made};
 ghost use Rattle.kc_disk.specs.Movers.{IsClear, mover_call};
-ghost use Rattle.kc_disk.specs.Program.{ReportsUsage, kept_call, usage_status};
+ghost use Rattle.kc_disk.specs.Program.{EndsUsage, ReportsUsage, kept_call};
 ghost use Rattle.kc_disk.specs.Replacing.{EndsBy};
 
 use crate::arguments::{after_name, unread};
@@ -26,17 +26,21 @@ use std::alloc::Global;
 use std::env::Args;
 use std::{io, mem};
 
-// Prints what the arguments ask for, to standard output, or tells what is wrong with them. A fault in it changes no status.
+// Prints what the arguments ask for, to standard output, or tells what is wrong with them. Where standard output does not take all
+// of it, that is a fault; a fault of the diagnostics changes no status.
 fn print_usage<M: Maker>(rt: &HostRuntime, maker: &mut M, usage: &UsageError) -> Status
     requires { Tells (M.state maker.old) (IsOpen Notes) }
-    ensures status { result ≡ usage_status usage.now }
+    ensures status { EndsUsage usage.now result }
     ensures tells { ReportsUsage usage.now (maker_call (M.state maker.old) (M.state maker.new) (M.failing maker.old Notes)) }
 {
     let text = usage.text().as_bytes();
     match usage {
         UsageError::Help(_) | UsageError::Version(_) => {
-            let _ = rt.stdout().write_all(text);
-            Status::Done
+            if rt.stdout().write_all(text).is_ok() {
+                Status::Done
+            } else {
+                Status::Faulted
+            }
         }
         UsageError::Bad(_) => {
             report_line(rt.alloc(), maker, &[text]);
@@ -78,7 +82,7 @@ fn run_by<F: Folder, P: Opener, M: Maker + Drop, V: Mover>(
 /// (our own).
 ///
 /// The caller owes a maker that has made nothing, and a mover beside whose places nothing stands. The help and the version go
-/// to standard output. A bad command line is told on the maker's standard error, and so is a file of the tree that cannot be
+/// to standard output; if that does not take all of it, the status is that of a fault. A bad command line is told on the maker's standard error, and so is a file of the tree that cannot be
 /// read (E18) and being out of memory before the run (E20), each in one line; no file is made then, and `kept` is as it was.
 /// Else it is what the run keeps.
 pub fn kconf_over<F: Folder, P: Opener, M: Maker + Drop, V: Mover>(

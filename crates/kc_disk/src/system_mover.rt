@@ -2,42 +2,56 @@
 ghost use Rattle.std.specs.Prelude.{None};
 ghost use Rattle.kc_disk.specs.Movers.{fails_anywhere};
 
+use crate::destination::{Destination, changed, destination_of, is_same_file, open_found};
 use crate::mover::Mover;
 use crate::same_text::holds_text;
 use crate::system::SystemOpener;
 use kc_dot::Fault;
-use std::fs;
-use std::fs::{File, Permissions};
+use std::fs::{self, File, Metadata, OpenOptions, Permissions};
 use std::io::{self, ErrorKind, Write};
-use std::path::{Path, PathBuf};
-
-// A link that leads on over more links than these has no end.
-const MOST_LINKS: usize = 40;
+use std::os::unix::fs::{MetadataExt, OpenOptionsExt, PermissionsExt};
+use std::path::PathBuf;
 
 // How many names beside one destination are tried.
 const MOST_NAMES: usize = 1_000;
 
-// Where a text goes.
+// Who may do what with a new file, before the system narrows it by the umask.
+const NEW_MODE: u32 = 0o666;
+
+// The same of a file that only its owner may open.
+const PRIVATE_MODE: u32 = 0o600;
+
+// The bits of a mode that say who may read, write and run a file.
+const ACCESS_BITS: u32 = 0o777;
+
+// All bits of a mode that can be set.
+const MODE_BITS: u32 = 0o7777;
+
+// What a temporary file is to become.
 #[derive(Drop)]
-enum Destination {
-    // To a file, which is there with these permissions or not at all.
-    File(PathBuf, Option<Permissions>),
-    // To what is no regular file: it is written as it stands.
-    Other,
+enum Replaced {
+    // It replaces this file.
+    File(Metadata),
+    // There is none.
+    Nothing,
+    // There is none, and this name leads there over links.
+    NothingBehind(String),
 }
 
-// A file that stands beside the one that it is to replace.
+// A file that stands beside the place that it is to take.
 #[derive(Drop)]
 struct TemporaryFile {
-    path: String,
+    path: PathBuf,
     destination: PathBuf,
+    replaced: Replaced,
 }
 
 /// Makes files beside the places of a disk and moves them there (our own). It tells nothing.
 ///
-/// The destination of a text is the end of the links of its name. A temporary file stands beside it, as `DESTINATION.kconf-N`
-/// with the first N from 0 on that is free, and has the permissions of the file that it replaces. What is no regular file, or
-/// lies under `/dev/fd/` or `/proc/`, takes its text at once and is not moved.
+/// The destination of a text is the end of the links of its name, if the system follows them. A temporary file stands in the
+/// same folder, as `.kconf-N` with the first N from 0 on that is free. Only its owner may open it until it has the permissions of
+/// the file that it replaces. What is no regular file, or lies below `/proc` as a descriptor does, takes its text at once
+/// and is not moved.
 #[derive(Drop)]
 pub struct SystemMover<'a> {
     rt: &'a HostRuntime,
@@ -57,48 +71,35 @@ impl<'a> SystemMover<'a> {
     }
 }
 
-// What the link at the path leads to: a name that begins with no slash is one in the link's folder.
-fn target_of(rt: &HostRuntime, path: &PathBuf) -> io::Result<PathBuf> {
-    let target = fs::read_link(rt, path.as_path())?;
-    match path.as_path().parent() {
-        Some(folder) => Ok(folder.join(rt.alloc(), target.as_path())?),
-        None => Ok(target),
-    }
-}
-
-// Where a text of this name goes.
-fn destination_of(rt: &HostRuntime, name: &str) -> io::Result<Destination> {
-    if name.is_empty() || name.ends_with("/") {
-        return Ok(Destination::Other);
-    }
-    let mut path = Path::new(name).to_path_buf(rt.alloc())?;
-    for _ in 0..MOST_LINKS {
-        let text = path.as_path().as_str();
-        if text.starts_with("/dev/fd/") || text.starts_with("/proc/") {
-            return Ok(Destination::Other);
-        }
-        match fs::symlink_metadata(rt, path.as_path()) {
-            Ok(found) if found.file_type().is_symlink() => path = target_of(rt, &path)?,
-            Ok(found) if found.is_file() => return Ok(Destination::File(
-                path,
-                Some(found.permissions()),
-            )),
-            Ok(_) => return Ok(Destination::Other),
-            Err(error) if error.kind() == ErrorKind::NotFound => return Ok(Destination::File(
-                path, None,
-            )),
-            Err(error) => return Err(error),
-        }
-    }
-    Ok(Destination::Other)
-}
-
-// Makes an empty file beside the destination, under a name that was free.
-fn create_temporary(rt: &HostRuntime, destination: &str) -> io::Result<(File, String)> {
+// Makes an empty file in the folder of the destination, under a name that was free.
+fn create_temporary(
+    rt: &HostRuntime,
+    destination: PathBuf,
+    replaced: Replaced,
+) -> io::Result<(File, TemporaryFile)> {
+    let mode = match &replaced {
+        Replaced::File(_) => PRIVATE_MODE,
+        Replaced::Nothing | Replaced::NothingBehind(_) => NEW_MODE,
+    };
     for count in 0..MOST_NAMES {
-        let path = format!(in rt.alloc(); "{destination}.kconf-{count}")?;
-        match File::create_new(rt, path.as_str()) {
-            Ok(file) => return Ok((file, path)),
+        let name = format!(in rt.alloc(); ".kconf-{count}")?;
+        let path = destination
+            .as_path()
+            .with_file_name(rt.alloc(), name.as_str())?;
+        match OpenOptions::new()
+            .write(true)
+            .create_new(true)
+            .mode(mode)
+            .open(rt, path.as_path())
+        {
+            Ok(file) => {
+                let temporary = TemporaryFile {
+                    path,
+                    destination,
+                    replaced,
+                };
+                return Ok((file, temporary));
+            }
             Err(error) if error.kind() == ErrorKind::AlreadyExists => {}
             Err(error) => return Err(error),
         }
@@ -108,32 +109,106 @@ fn create_temporary(rt: &HostRuntime, destination: &str) -> io::Result<(File, St
 
 // Makes the file for a text of this name.
 fn start(rt: &HostRuntime, name: &str) -> io::Result<(File, Option<TemporaryFile>)> {
-    let (destination, permissions) = match destination_of(rt, name)? {
-        Destination::File(destination, permissions) => (destination, permissions),
-        Destination::Other => return Ok((File::create(rt, name)?, None)),
+    let (destination, replaced) = match destination_of(rt, name)? {
+        Destination::Taken(path, found) => (path, Replaced::File(found)),
+        Destination::Free(path) => (path, Replaced::Nothing),
+        Destination::FreeBehindLinks(path) => (
+            path,
+            Replaced::NothingBehind(String::from_str(rt.alloc(), name)?),
+        ),
+        Destination::AsItStands(found) => return Ok((open_found(rt, name, &found)?, None)),
     };
-    let (file, path) = create_temporary(rt, destination.as_path().as_str())?;
-    if let Some(permissions) = permissions
-        && let Err(error) = file.set_permissions(permissions)
-    {
-        let _ = fs::remove_file(rt, path.as_str());
-        return Err(error);
-    }
-    Ok((file, Some(TemporaryFile { path, destination })))
+    let (file, temporary) = create_temporary(rt, destination, replaced)?;
+    Ok((file, Some(temporary)))
 }
 
-// Where the text of this name lies, if that is a regular file.
-fn regular_file_of(rt: &HostRuntime, name: &str) -> io::Result<Option<PathBuf>> {
-    match destination_of(rt, name)? {
-        Destination::File(place, Some(_)) => Ok(Some(place)),
-        Destination::File(_, None) | Destination::Other => Ok(None),
+// The permissions of a file that replaces another. Its set-user-id and set-group-id bits go to no other owner or group.
+fn permissions_over(file: &File, replaced: &Metadata) -> io::Result<Permissions> {
+    let mode = replaced.mode() & MODE_BITS;
+    let made = file.metadata()?;
+    if made.uid() == replaced.uid() && made.gid() == replaced.gid() {
+        Ok(Permissions::from_mode(mode))
+    } else {
+        Ok(Permissions::from_mode(mode & ACCESS_BITS))
     }
+}
+
+// Gives a file that is written its permissions, and waits until the disk has it.
+fn complete(file: &File, temporary: &TemporaryFile) -> io::Result<()> {
+    if let Replaced::File(replaced) = &temporary.replaced {
+        file.set_permissions(permissions_over(file, replaced)?)?;
+    }
+    file.sync_all()
+}
+
+// Has the system make the file to which a name leads over links: it follows them by its own rules. That file has to be the
+// destination.
+fn make_behind_links(rt: &HostRuntime, name: &str, destination: &PathBuf) -> io::Result<()> {
+    let made = OpenOptions::new()
+        .write(true)
+        .create(true)
+        .mode(PRIVATE_MODE)
+        .open(rt, name)?;
+    let there = fs::symlink_metadata(rt, destination.as_path())?;
+    if is_same_file(&made.metadata()?, &there) {
+        Ok(())
+    } else {
+        Err(changed())
+    }
+}
+
+// Writes the text of a temporary file to the file that it cannot replace, where that lies.
+fn write_in_place(
+    rt: &HostRuntime,
+    temporary: &TemporaryFile,
+    replaced: &Metadata,
+) -> io::Result<()> {
+    let mut text = File::open(rt, temporary.path.as_path())?;
+    let mut place = open_found(rt, temporary.destination.as_path().as_str(), replaced)?;
+    io::copy(&mut text, &mut place)?;
+    place.sync_all()?;
+    let _ = fs::remove_file(rt, temporary.path.as_path());
+    Ok(())
+}
+
+// Moves a temporary file to its destination. A file that the system does not let go, as one that is mounted there, is written
+// where it lies.
+fn move_to_place(rt: &HostRuntime, temporary: &TemporaryFile) -> io::Result<()> {
+    if let Replaced::NothingBehind(name) = &temporary.replaced {
+        make_behind_links(rt, name, &temporary.destination)?;
+    }
+    match (
+        fs::rename(
+            rt,
+            temporary.path.as_path(),
+            temporary.destination.as_path(),
+        ),
+        &temporary.replaced,
+    ) {
+        (Ok(()), _) => Ok(()),
+        (Err(error), Replaced::File(replaced)) if is_held(&error) => write_in_place(
+            rt, temporary, replaced,
+        ),
+        (Err(error), Replaced::NothingBehind(_)) => {
+            let _ = fs::remove_file(rt, temporary.destination.as_path());
+            Err(error)
+        }
+        (Err(error), _) => Err(error),
+    }
+}
+
+// Whether the system does not let go of a file that is to be replaced.
+fn is_held(error: &io::Error) -> bool {
+    matches!(
+        error.kind(),
+        ErrorKind::ResourceBusy | ErrorKind::CrossesDevices
+    )
 }
 
 // Removes a temporary file. A fault in it changes nothing.
 fn remove(rt: &HostRuntime, temporary: &Option<TemporaryFile>) {
     if let Some(temporary) = temporary {
-        let _ = fs::remove_file(rt, temporary.path.as_str());
+        let _ = fs::remove_file(rt, temporary.path.as_path());
     }
 }
 
@@ -143,12 +218,12 @@ impl<'a> Mover for SystemMover<'a> {
     ghost failing = { λ _. fails_anywhere };
 
     fn holds(&self, name: &str, bytes: &[u8]) -> bool {
-        let Ok(Some(place)) = regular_file_of(self.rt, name) else {
+        let Ok(Destination::Taken(path, _)) = destination_of(self.rt, name) else {
             return false;
         };
         let opener = SystemOpener::new(self.rt);
         matches!(
-            holds_text(&opener, place.as_path().as_str(), bytes),
+            holds_text(&opener, path.as_path().as_str(), bytes),
             Ok(true)
         )
     }
@@ -175,7 +250,9 @@ impl<'a> Mover for SystemMover<'a> {
 
     fn finish(&mut self) -> Result<(), Fault> {
         match &self.begun {
-            Some((file, Some(_))) if file.sync_all().is_err() => return Err(Fault),
+            Some((file, Some(temporary))) if complete(file, temporary).is_err() => return Err(
+                Fault,
+            ),
             _ => {}
         }
         if self.whole.reserve(1).is_err() {
@@ -195,12 +272,7 @@ impl<'a> Mover for SystemMover<'a> {
             return Err(Fault);
         };
         if let Some(temporary) = first
-            && fs::rename(
-                self.rt,
-                temporary.path.as_str(),
-                temporary.destination.as_path(),
-            )
-            .is_err()
+            && move_to_place(self.rt, temporary).is_err()
         {
             return Err(Fault);
         }
