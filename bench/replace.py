@@ -211,16 +211,32 @@ def another_users_link_in_a_sticky_folder_is_not_followed(folder):
     want("the files", (folder.get("secret"), folder.get("new")), ("old\n", None))
 
 
+def mounted(folder, script):
+    """Runs a script of the shell, whose $0 is the program, where it may mount."""
+    ran = subprocess.run(["unshare", "-rm", "sh", "-c", script, KCONF], cwd=folder.path, capture_output=True, text=True)
+    if ran.returncode in (1, 77) and ("unshare" in ran.stderr or "mount" in ran.stderr):
+        raise Skipped("nothing can be mounted here")
+    return ran.returncode, ran.stderr
+
+
+def a_read_only_file_system_is_an_error(folder):
+    os.mkdir(folder.at("shut"))
+    folder.put("shut/there", "old\n")
+    mount = "mount --bind shut shut && mount -o remount,bind,ro shut || exit 77; "
+    for flags in ("", "--replace "):
+        for name in ("shut/there", "shut/new"):
+            said = mounted(folder, f'{mount}"$0" {flags}--config none --out {name} Kconfig')
+            want("it", said, (3, f"error E19: cannot write {name}\n"))
+    want("the file", folder.get("shut/there"), "old\n")
+
+
 def a_file_that_is_mounted_is_written_where_it_lies(folder):
     folder.run("--out", "plain", "Kconfig")
     folder.put("real", "old\n")
     folder.put("place", "")
     before = folder.marks("real")[0][0]
     script = 'mount --bind real place || exit 77; "$0" --config none --replace --out place Kconfig || exit; "$0" --config none --replace --out place Kconfig'
-    ran = subprocess.run(["unshare", "-rm", "sh", "-c", script, KCONF], cwd=folder.path, capture_output=True, text=True)
-    if ran.returncode in (1, 77) and ("unshare" in ran.stderr or "mount" in ran.stderr):
-        raise Skipped("no file can be mounted here")
-    want("the status", (ran.returncode, ran.stderr), (0, ""))
+    want("it", mounted(folder, script), (0, ""))
     want("the text", folder.get("real"), folder.get("plain"))
     want("the inode", folder.marks("real")[0][0], before)
 
@@ -367,11 +383,12 @@ def names_that_are_none_of_a_file_are_errors(folder):
     os.symlink("none/", folder.at("slash"))
     os.symlink("round", folder.at("round"))
     os.symlink("Kconfig/x", folder.at("through"))
-    for name in ("", "none/", "none/.", "folder", "folder/", "folder/.", "..", "Kconfig/", "Kconfig/x", "slash", "round", "through", "none/x"):
+    os.symlink(b"\xff", folder.at("bytes"))
+    for name in ("", "none/", "none/.", "folder", "folder/", "folder/.", "..", "Kconfig/", "Kconfig/x", "slash", "round", "through", "bytes", "none/x"):
         ran = folder.run("--config", "none", "--replace", "--header", "h", "--out", name, "Kconfig", status=3)
         want(f"the line of {name!r}", ran.stderr, f"error E19: cannot write {name}\n")
         want("the header", folder.get("h"), None)
-    want("the files", sorted(os.listdir(folder.path)), ["Kconfig", "folder", "round", "slash", "through"])
+    want("the files", sorted(os.listdir(folder.path)), ["Kconfig", "bytes", "folder", "round", "slash", "through"])
 
 
 def two_outputs_of_one_name_leave_the_later(folder):
@@ -447,6 +464,7 @@ CHECKS = (
     a_process_substitution_is_written,
     a_regular_file_below_dev_is_replaced,
     a_file_that_is_mounted_is_written_where_it_lies,
+    a_read_only_file_system_is_an_error,
     a_large_text_and_a_long_warning_are_whole,
     long_names_are_replaced,
     names_that_are_none_of_a_file_are_errors,

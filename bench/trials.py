@@ -2,8 +2,9 @@
 """Tries the built program as somebody new to it would: trials.py [KCONF]
 
 Runs at once into one log, full disks, a closed standard error, folders and files that may not be written or read, names that are
-folders, readers that go away, limits of a file's size, and 2,000,000 warnings. Each run has to end with the status and the line
-of docs/formats.md, and to leave what is said there. Root may write everywhere, so where root starts this it goes on as nobody.
+folders, readers that go away, limits of a file's size, paths through a file, devices and pipes, many files, and 2,000,000 warnings.
+Each run has to end with the status and the line of docs/formats.md, and to leave what is said there. If root starts this, some trials
+run as root, and then all run as nobody: root may write everywhere.
 
 Each trial has a folder of its own. The script ends with status 1 where one does not end so, and names it.
 """
@@ -18,6 +19,7 @@ import signal
 import subprocess
 import sys
 import tempfile
+import traceback
 
 TOP = pathlib.Path(__file__).resolve().parent.parent
 TREE = 'config A\n\tbool "a"\n\nconfig S\n\tstring "s"\n\tdefault "x"\n'
@@ -30,6 +32,8 @@ LINES = 300  # of warnings of each of them
 HELD = 1_500  # of warnings that --strict holds, which are more than 64 KiB
 MOST = 2_000_000  # warnings of one run
 SECONDS = 2.0  # of processor time for them
+PIPE_BYTES = 67_108_864  # that a pipe of the tree may give
+FRAGMENTS = 1_100  # more than there are descriptors
 
 
 class Wrong(Exception):
@@ -229,6 +233,169 @@ def many_warnings_cost_little(place):
     want(f"under {SECONDS} s", min(spent) < SECONDS, True)
 
 
+def a_path_through_a_file_is_no_missing_file(place):
+    place.put("dot.config", "")
+    for words, name in (
+        (["Kconfig/x"], "Kconfig/x"),
+        (["Kconfig", "Kconfig/x"], "Kconfig/x"),
+        (["--config", "Kconfig/x", "Kconfig"], "Kconfig/x"),
+        (["--config", "Kconfig/", "Kconfig"], "Kconfig/"),
+        (["--root", "Kconfig", "x"], "x"),
+    ):
+        for flags in ([], ["--replace"]):
+            want(f"{words}", place.run(*flags, "--out", "o", *words), (3, f"error E18: cannot read {name}\n"))
+    place.put("tree", 'source "Kconfig/x"\n')
+    want("source", place.run("--out", "o", "tree"), (3, "error E18: cannot read Kconfig/x\n"))
+    place.put("loop", 'source "round"\n')
+    os.symlink("round", place.path / "round")
+    want("a link without an end", place.run("--out", "o", "loop"), (3, "error E18: cannot read round\n"))
+    long = "n" * 256
+    place.put("long", f'source "{long}"\n')
+    want("a name that is too long", place.run("--out", "o", "long"), (3, f"error E18: cannot read {long}\n"))
+    want("an output", place.get("o"), None)
+    want("a folder below a file", place.run("--out", "Kconfig/o", "Kconfig"), (3, "error E19: cannot write Kconfig/o\n"))
+
+
+def a_device_is_no_file_of_the_tree(place):
+    os.symlink("/dev/null", place.path / "link")
+    for name in ("/dev/null", "/dev/../dev/null", "link", "/dev/zero", "/dev/urandom"):
+        place.put("tree", f'source "{name}"\n')
+        want(f"source {name}", place.run("--out", "o", "tree", timeout=20), (3, f"error E18: cannot read {name}\n"))
+    want("the root file", place.run("--out", "o", "/dev/null"), (3, "error E18: cannot read /dev/null\n"))
+    want("an output", place.get("o"), None)
+    want("a .config", place.run("--config", "/dev/null", "--out", "o", "Kconfig"), (0, ""))
+    want("a fragment", place.run("--config", "none", "--out", "o", "Kconfig", "/dev/null"), (0, ""))
+
+
+def through_pipe(place, text, *words):
+    """A run whose arguments name a pipe (PIPE) that gives a text: its status, and its diagnostics."""
+    reader, writer = os.pipe()
+    child = os.fork()
+    if child == 0:
+        os.close(reader)
+        try:
+            with open(writer, "wb") as pipe:
+                pipe.write(text)
+        finally:
+            os._exit(0)
+    os.close(writer)
+    place.put("tree", f'source "/dev/fd/{reader}"\n')
+    said = place.run(*[f"/dev/fd/{reader}" if word == "PIPE" else word for word in words], pass_fds=[reader])
+    os.close(reader)
+    os.waitpid(child, 0)
+    return said[0], said[1].replace(f"/dev/fd/{reader}", "PIPE")
+
+
+def a_pipe_of_the_tree_has_a_bound(place):
+    want("the root file", through_pipe(place, TREE.encode(), "--out", "o", "PIPE"), (0, ""))
+    want("its text", place.get("o"), CONFIG)
+    os.unlink(place.path / "o")
+    want("a sourced file", through_pipe(place, TREE.encode(), "--config", "none", "--out", "o", "tree"), (0, ""))
+    want("its text", place.get("o"), CONFIG)
+    os.unlink(place.path / "o")
+    line = b"#" + b"x" * 8_190 + b"\n"
+    whole = TREE.encode()
+    rest = PIPE_BYTES - len(whole)
+    whole += line * (rest // len(line)) + b"#" * (rest % len(line) - 1) + b"\n"
+    want("the bytes", len(whole), PIPE_BYTES)
+    want("a pipe of as many bytes as it may have", through_pipe(place, whole, "--config", "none", "--out", "o", "PIPE"), (0, ""))
+    want("its text", place.get("o"), CONFIG)
+    os.unlink(place.path / "o")
+    want("a pipe of one byte more", through_pipe(place, whole + b"#", "--config", "none", "--out", "o", "PIPE"), (3, "error E18: cannot read PIPE\n"))
+    want("an output", place.get("o"), None)
+    place.put("Kconfig", whole.decode() + "#\n")
+    want("a regular file of more", place.run("--config", "none", "--out", "o", "Kconfig"), (0, ""))
+
+
+def help_that_is_not_written_is_told_by_the_status(place):
+    for word in ("--help", "--version"):
+        with open(place.path / "got", "w") as got:
+            want(word, subprocess.run([place.kconf, word], stdout=got, stderr=subprocess.PIPE, text=True).returncode, 0)
+        want("a text", len(place.get("got")) > 5, True)
+        with open("/dev/full", "w") as full:
+            want(f"{word} on a full disk", subprocess.run([place.kconf, word], stdout=full).returncode, 3)
+        ran = subprocess.run([place.kconf, word], preexec_fn=lambda: os.close(1))
+        want(f"{word} with a closed output", ran.returncode, 3)
+        reader, writer = os.pipe()
+        os.close(reader)
+        want(f"{word} without a reader", subprocess.run([place.kconf, word], stdout=writer).returncode, 3)
+        os.close(writer)
+        want(f"{word} with a closed standard error", place.run(word, preexec_fn=lambda: os.close(2))[0], 0)
+
+
+def a_full_pipe_that_does_not_wait_is_told(place):
+    reader, writer = os.pipe()
+    os.set_blocking(writer, False)
+    try:
+        while True:
+            os.write(writer, b"x" * 4096)
+    except BlockingIOError:
+        pass
+    place.put("dot.config", "CONFIG_Q=y\n")
+    for flags in ([], ["--replace"]):
+        run = subprocess.run([place.kconf, *flags, "--config", "dot.config", "--out", "o", "Kconfig"], cwd=place.path, stderr=writer)
+        want("a warning", (run.returncode, place.get("o")), (3, None))
+    for word in ("--help", "--version"):
+        want(word, subprocess.run([place.kconf, word], stdout=writer).returncode, 3)
+    os.close(reader)
+    os.close(writer)
+
+
+def a_closed_standard_error_keeps_the_status(place):
+    shut = lambda: os.close(2)
+    want("no arguments", place.run(preexec_fn=shut)[0], 2)
+    want("another option", place.run("--frobnicate", "Kconfig", preexec_fn=shut)[0], 2)
+    for flags in ([], ["--replace"]):
+        want("no root file", place.run(*flags, "--out", "o", "none", preexec_fn=shut)[0], 3)
+        want("no fragment", place.run(*flags, "--out", "o", "Kconfig", "none", preexec_fn=shut)[0], 3)
+        want("an output", place.get("o"), None)
+        for closed in ((0,), (1,), (0, 1), (0, 2), (1, 2), (0, 1, 2)):
+            said = place.run(*flags, "--config", "none", "--out", "o", "--header", "h", "Kconfig", preexec_fn=lambda: [os.close(file) for file in closed])
+            want(f"with {closed} closed", (said, place.get("o"), place.get("h")), ((0, ""), CONFIG, HEADER))
+            os.unlink(place.path / "o")
+
+
+def an_argument_that_is_not_utf_8_is_told(place):
+    told = "error: invalid UTF-8 was detected in one or more arguments\n\nFor more information, try '--help'.\n"
+    for words in ([b"K\xff"], [b"--out", b"\xff", b"Kconfig"], [b"Kconfig", b"\xc3"], [b"--help", b"\xff"]):
+        want(f"{words}", place.run(*words), (2, told))
+    (place.path / "tree").write_bytes(b'source "K\xff"\n')
+    (place.path / os.fsdecode(b"K\xff")).write_text(TREE)
+    ran = subprocess.run([place.kconf, "--out", "o", "tree"], cwd=place.path, capture_output=True)
+    want("source", (ran.returncode, ran.stderr), (1, b"tree:1: error E1: no file K\xff\n"))
+    want("an output", place.get("o"), None)
+
+
+def many_files_are_read(place):
+    place.put("Kconfig", "".join(f'source "part{n}"\n' for n in range(150)) + TREE)
+    for n in range(150):
+        place.put(f"part{n}", f'config P_{n}\n\tbool "p"\n')
+    for n in range(40):
+        place.put(f"frag{n}", f"CONFIG_P_{n}=y\n")
+    names = [f"./{name}" for name in ["Kconfig", *(f"part{n}" for n in range(150))]] + [f"frag{n}" for n in range(40)]
+    rule = "o: \\\n" + " \\\n".join(f" {name}" for name in names) + "\n" + "".join(f"\n{name}:\n" for name in names)
+    for flags in ([], ["--replace"]):
+        said = place.run(*flags, "--config", "none", "--out", "o", "--depfile", "d", "Kconfig", *(f"frag{n}" for n in range(40)))
+        want("it", said, (0, ""))
+        want("the values", place.get("o").count("=y\n"), 40)
+        want("the dependency file", place.get("d"), rule)
+        os.unlink(place.path / "o")
+        os.unlink(place.path / "d")
+
+
+def more_files_than_descriptors_are_read(place):
+    names = [f"frag{n}" for n in range(FRAGMENTS)]
+    for n, name in enumerate(names):
+        place.put(name, f"CONFIG_P_{n}=y\n")
+    place.put("Kconfig", "".join(f'source "part{n}"\n' for n in range(FRAGMENTS)))
+    for n in range(FRAGMENTS):
+        place.put(f"part{n}", f'config P_{n}\n\tbool "p"\n')
+    limit = lambda: resource.setrlimit(resource.RLIMIT_NOFILE, (1024, 1024))
+    for flags in ([], ["--replace"]):
+        want("it", place.run(*flags, "--config", "none", "--out", f"o{len(flags)}", "Kconfig", *names, preexec_fn=limit), (0, ""))
+        want("the values", place.get(f"o{len(flags)}").count("=y\n"), FRAGMENTS)
+
+
 def become_nobody(folder):
     """Goes on as nobody, who then owns the folder."""
     nobody = pwd.getpwnam("nobody")
@@ -238,35 +405,64 @@ def become_nobody(folder):
     os.setuid(nobody.pw_uid)
 
 
-def main():
-    kconf = pathlib.Path(sys.argv[1] if len(sys.argv) > 1 else TOP / "crates/kconf/out/kconf").resolve()
+# Those that root makes too.
+AS_ROOT = (
+    a_path_through_a_file_is_no_missing_file,
+    a_device_is_no_file_of_the_tree,
+    a_pipe_of_the_tree_has_a_bound,
+    help_that_is_not_written_is_told_by_the_status,
+    a_full_pipe_that_does_not_wait_is_told,
+    a_closed_standard_error_keeps_the_status,
+    an_argument_that_is_not_utf_8_is_told,
+    many_files_are_read,
+    more_files_than_descriptors_are_read,
+)
+TRIALS = (
+    runs_at_once_tear_no_line,
+    runs_at_once_tear_no_line_that_was_held,
+    a_full_disk_is_told,
+    a_closed_standard_error_gets_into_no_file,
+    what_may_not_be_written_or_read_is_named,
+    a_name_that_is_a_folder_is_named,
+    a_missing_name_is_told,
+    a_reader_that_goes_away_is_told,
+    a_limit_of_file_sizes_ends_the_run,
+    *AS_ROOT,
+    many_warnings_cost_little,
+)
+
+
+def count_wrong(trials, folder, kconf):
+    """Makes these trials, each in a folder of its own, and returns how many failed."""
     wrong = 0
-    folder = tempfile.mkdtemp()
-    shutil.copy(kconf, folder)
-    os.chmod(f"{folder}/{kconf.name}", 0o755)
-    if os.geteuid() == 0:
-        become_nobody(folder)
-    for trial in (
-        runs_at_once_tear_no_line,
-        runs_at_once_tear_no_line_that_was_held,
-        a_full_disk_is_told,
-        a_closed_standard_error_gets_into_no_file,
-        what_may_not_be_written_or_read_is_named,
-        a_name_that_is_a_folder_is_named,
-        a_missing_name_is_told,
-        a_reader_that_goes_away_is_told,
-        a_limit_of_file_sizes_ends_the_run,
-        many_warnings_cost_little,
-    ):
+    for trial in trials:
         with tempfile.TemporaryDirectory(dir=folder) as path:
-            place = Place(path, f"{folder}/{kconf.name}")
+            place = Place(path, kconf)
             try:
                 trial(place)
-                want("files left beside", place.left(), [])
-                print(f"ok {trial.__name__}")
+                want("temporary files that were left", place.left(), [])
+                print(f"ok {trial.__name__}", flush=True)
             except Wrong as it:
                 wrong += 1
-                print(f"WRONG {trial.__name__}: {it}")
+                print(f"WRONG {trial.__name__}: {it}", flush=True)
+            except (OSError, subprocess.SubprocessError):
+                wrong += 1
+                print(f"WRONG {trial.__name__}:\n{traceback.format_exc()}", flush=True)
+    return wrong
+
+
+def main():
+    kconf = pathlib.Path(sys.argv[1] if len(sys.argv) > 1 else TOP / "crates/kconf/out/kconf").resolve()
+    folder = tempfile.mkdtemp()
+    shutil.copy(kconf, folder)
+    program = f"{folder}/{kconf.name}"
+    os.chmod(program, 0o755)
+    wrong = 0
+    if os.geteuid() == 0:
+        wrong = count_wrong(AS_ROOT, folder, program)
+        become_nobody(folder)
+        print("as nobody", flush=True)
+    wrong += count_wrong(TRIALS, folder, program)
     shutil.rmtree(folder)
     sys.exit(wrong > 0)
 

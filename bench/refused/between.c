@@ -3,8 +3,10 @@
  *
  * KIND names the kind. REFUSED is the number of the call that is refused, counted from 1; with 0 none is. Where LASTING is
  * there, each later call of the kind for the same file is refused too. A refused call of the kinds "short read" and "short
- * write" moves one byte, one of the kinds "interrupted read" and "interrupted write" is told to be tried again. BESIDES names a
- * kind of which every call is refused, whatever KIND says.
+ * write" moves one byte. One of the kinds "interrupted read", "interrupted write" and "interrupted open" is told to be tried
+ * again. One of the kind "busy move" is a move to a place that is in use. The kind "followed link" is a look or an open by a path
+ * that is a link: it is refused as another user's link in a sticky folder is. BESIDES names a kind of which every call is refused,
+ * whatever KIND says.
  * When the program ends, the file that REPORT names gets one line: how many calls of the kind there were, how many writes
  * standard error took, and what the refused call was for: '<' or '>' and the name of a file that was opened to read or to write,
  * '>' and the place of a file that was to be moved, or ">&2" for standard error.
@@ -74,6 +76,12 @@ static int is_open_refused(const char *path, int flags) {
     return is_refused("open", file);
 }
 
+/* Whether the system may not follow the link at this path, if it is one. */
+static int is_follow_refused(const char *path) {
+    struct stat found;
+    return !lstat(path, &found) && S_ISLNK(found.st_mode) && is_refused("followed link", path);
+}
+
 void *malloc(size_t size) {
     REAL("malloc", void *, size_t);
     if (is_refused("growth", "")) return errno = ENOMEM, NULL;
@@ -94,6 +102,8 @@ int open(const char *path, int flags, ...) {
     mode = flags & O_CREAT ? va_arg(more, mode_t) : 0;
     va_end(more);
     if (is_open_refused(path, flags)) return errno = EIO, -1;
+    if (is_refused("interrupted open", path)) return errno = EINTR, -1;
+    if (!(flags & O_EXCL) && is_follow_refused(path)) return errno = EACCES, -1;
     return opened(real(path, flags, mode), path, flags);
 }
 
@@ -109,6 +119,7 @@ int open64(const char *path, int flags, ...) {
 int statx(int folder, const char *path, int flags, unsigned mask, struct statx *told) {
     REAL("statx", int, int, const char *, int, unsigned, struct statx *);
     if (is_refused("look", *path ? path : file_of(folder))) return errno = EIO, -1;
+    if (*path && !(flags & AT_SYMLINK_NOFOLLOW) && is_follow_refused(path)) return errno = EACCES, -1;
     return real(folder, path, flags, mask, told);
 }
 
@@ -167,6 +178,7 @@ int rename(const char *path, const char *place) {
     REAL("rename", int, const char *, const char *);
     snprintf(file, sizeof file, ">%s", place);
     if (is_refused("move", file)) return errno = EIO, -1;
+    if (is_refused("busy move", file)) return errno = EBUSY, -1;
     return real(path, place);
 }
 

@@ -18,7 +18,8 @@ With --replace a run that does not end with status 0 leaves every output as it w
 beside it (no file *.kconf-*); only where a move is refused the outputs before that one are the new ones. A file that stands
 beside stays where its removal is refused as well. A fault of what is made beside X is E19 with the name X, and so is want of
 memory for the text of X. Where an output held its text the file stays, but where the look at it was refused, or a growth: then
-the run may replace it, and ends with status 0.
+the run may replace it, and ends with status 0. No file gives more access than the one that it replaces, at any time: what is left
+beside shows that. Where the system refuses to follow a link once, the run may go on; where it always does, that is E19.
 
 Where standard error is closed the notes can't be written, so a run that has any ends with status 3 and begins nothing, and no
 word of the notes or of an error line stands in an output, whatever is refused besides.
@@ -63,6 +64,7 @@ KINDS = [
     Kind("write", is_lasting=True),
     Kind("interrupted read", may_go_on=True),
     Kind("interrupted write", may_go_on=True),
+    Kind("interrupted open", may_go_on=True),
     Kind("close", may_go_on=True),
     Kind("short read", may_go_on=True, has_to=True),
     Kind("short write", may_go_on=True, has_to=True),
@@ -70,9 +72,12 @@ KINDS = [
 # Those of runs with --replace besides.
 REPLACING = [
     Kind("link", may_go_on=True),
+    Kind("followed link", may_go_on=True),
+    Kind("followed link", is_lasting=True),
     Kind("mode"),
     Kind("sync"),
     Kind("move"),
+    Kind("busy move", may_go_on=True),
     Kind("mode", besides="removal"),
     Kind("write", besides="removal"),
     Kind("sync", besides="removal"),
@@ -82,6 +87,8 @@ REPLACING = [
 CLOSED = ["growth", "open", "read", "write"]
 # What each output holds before a run, where the case says nothing else.
 BEFORE = b"from the run before\n"
+# The mode of each file that is there before a run.
+MODE = 0o640
 
 
 def before(case):
@@ -96,7 +103,7 @@ def needed(case):
         return names
     new = [name for name, text in cases.texts_of(case).items() if before(case)[name] != text]
     made_over = [name for name in new if before(case)[name] is not None]
-    return names + ["look"] + ["write", "sync", "move"] * bool(new) + ["mode"] * bool(made_over) + ["link"] * bool(case.links)
+    return names + ["look"] + ["write", "sync", "move"] * bool(new) + ["mode"] * bool(made_over) + ["link", "followed link"] * bool(case.links)
 
 
 class Run:
@@ -122,6 +129,7 @@ class Run:
         self.outputs = {name: (work / name).read_bytes() if (work / name).exists() else None for name in before(case)}
         self.touched = [name for name, mark in self.marks().items() if mark != marks[name]]
         self.beside = self.standing()
+        self.exposed = [name for name in [*self.beside, *self.outputs] if self.is_exposed(name)]
         count, told, self.struck = (report.read_text() if report.exists() else "0 0 ").rstrip("\n").split(" ", 2)
         self.calls, self.note_writes = int(count), int(told)
 
@@ -137,10 +145,19 @@ class Run:
                 (self.work / name).symlink_to(self.case.links[name])
             if text is not None:
                 place.write_bytes(text)
+                place.chmod(MODE)
 
     def standing(self):
         """The files that stand beside a place."""
         return [str(path.relative_to(self.work)) for path in self.work.rglob("*.kconf-*")]
+
+    def is_exposed(self, name):
+        """Whether a file that replaces another, or is to replace it, has another mode. What stands beside may have less access."""
+        output = temporary_files(self.case).get(name, name)
+        if before(self.case).get(output) is None or not (self.work / name).exists():
+            return False
+        mode = (self.work / name).stat().st_mode & 0o7777
+        return mode != MODE if name == output else bool(mode & ~MODE)
 
     def marks(self):
         """What tells one file of an output from another, and when it was written last."""
@@ -157,9 +174,21 @@ def right(case):
     return case.status, b"", case.notes.encode(), cases.texts_of(case) or before(case)
 
 
+def temporary_files(case):
+    """What a run makes beside its outputs, where nothing is refused before: the output of each, by its path."""
+    found, counts = {}, {}
+    for name, text in cases.texts_of(case).items():
+        if before(case)[name] != text:
+            folder = os.path.dirname(case.links.get(name, name))
+            counts[folder] = counts.get(folder, -1) + 1
+            found[os.path.join(folder, f".kconf-{counts[folder]}")] = name
+    return found
+
+
 def output_of(case, struck):
     """The output that a call was for, also where it was for what stands beside it; None where it was for none."""
-    path = re.sub(r"\.kconf-[0-9]+$", "", os.path.normpath(struck.lstrip("<>")))
+    path = os.path.normpath(struck.lstrip("<>"))
+    path = temporary_files(case).get(path, path)
     path = {target: name for name, target in case.links.items()}.get(path, path)
     return path if path in case.outputs else None
 
@@ -199,7 +228,7 @@ def begun_in_order(case, outputs, are_notes_whole):
 
 def judge_places(case, run, kind):
     """What is wrong with the places of a run with --replace that did not end with status 0; None where nothing is."""
-    moved = list(case.outputs).index(output_of(case, run.struck)) if kind.name == "move" else 0
+    moved = list(case.outputs).index(output_of(case, run.struck)) if kind.name.endswith("move") else 0
     for at, (name, text) in enumerate(run.outputs.items()):
         if at < moved and text != cases.texts_of(case)[name]:
             return f"{name} was not moved"
@@ -263,7 +292,8 @@ def judge_writes(run, kind):
 
 def judge(case, run, kind):
     """What is wrong with a run in which a call was refused; None where nothing is."""
-    return judge_writes(run, kind) or judge_left(case, run, kind)
+    exposed = f"{run.exposed} give other access than the files before" if run.exposed else None
+    return exposed or judge_writes(run, kind) or judge_left(case, run, kind)
 
 
 def judge_left(case, run, kind):
@@ -337,7 +367,8 @@ def check_kind(work, between, program, case, kind):
     start = Run(work, between, program, case, kind._replace(besides=""), 0)
     if start.left() != right(case):
         return 0, 0, [f"without a refused call: status {start.status}, notes {start.notes[-200:]!r}, or another text of an output"]
-    wrong = judge_whole(case, start, kind) or judge_writes(start, Kind("none"))
+    exposed = f"{start.exposed} give other access than the files before" if start.exposed else None
+    wrong = exposed or judge_whole(case, start, kind) or judge_writes(start, Kind("none"))
     if wrong:
         return 0, 0, [f"without a refused call: {wrong}"]
     if start.calls == 0 and kind.name in needed(case):

@@ -17,9 +17,11 @@
  * ONE_BY_ONE moves each output to its place before the next one is made
  * LEAVES     leaves beside the places what it made there before a fault
  * TOUCHES    replaces a file of the same text too
+ * EXPOSES    makes what stands beside a file with the mode of a new file
  */
 #define _GNU_SOURCE
 #include <fcntl.h>
+#include <stdio.h>
 #include <stdlib.h>
 #include <string.h>
 #include <sys/stat.h>
@@ -105,16 +107,25 @@ static int is_same(const struct text *output) {
 #endif
 }
 
+#ifdef EXPOSES
+#define MODE 0666
+#else
+#define MODE 0600
+#endif
+
 #ifndef IN_PLACE
 static char beside[OUTPUTS][256];
+static int made;
 
 /* Makes an output beside its place, whole. */
 static int make_beside(size_t at) {
     const struct text *output = &outputs[at];
-    char *name = strcat(strcpy(beside[at], output->name), ".kconf-0");
-    int file = open(name, O_WRONLY | O_CREAT | O_EXCL, 0666), has_failed;
+    int file, has_failed;
+    snprintf(beside[at], sizeof beside[at], ".kconf-%d", made);
+    file = open(beside[at], O_WRONLY | O_CREAT | O_EXCL, MODE);
     if (file < 0) return beside[at][0] = 0, -1;
-    has_failed = fchmod(file, 0644) || put(file, output->bytes, output->count) || fsync(file);
+    made += 1;
+    has_failed = fchmod(file, 0640) || put(file, output->bytes, output->count) || fsync(file);
     close(file);
     return has_failed ? -1 : 0;
 }

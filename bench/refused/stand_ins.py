@@ -17,7 +17,7 @@ import cases
 import check
 
 FAULTS = ["ANY_TEXT", "SILENT", "OTHER_NAME", "EARLY", "GOES_ON", "TORN"]
-REPLACING = ["IN_PLACE", "ONE_BY_ONE", "LEAVES", "TOUCHES", "SILENT"]
+REPLACING = ["IN_PLACE", "ONE_BY_ONE", "LEAVES", "TOUCHES", "EXPOSES", "SILENT"]
 RUNS = [
     ("fragments", FAULTS),
     ("the warnings of a tree, in a folder", FAULTS),
