@@ -11,8 +11,8 @@ file that could not be read, E19 with the name of the output that could not be w
 a beginning and nothing else. Of the outputs, each that was begun holds a beginning of its text, and nothing is begun before the
 notes and the outputs before it are whole. Behind a file that could not be read nothing is begun, and before an output that
 could not be written all is whole. What a program may get along without, it may also get along without, to the same end as if
-nothing had been refused: a growth, the closing of a file. A call that was interrupted may be tried again, and where it is not
-it counts as refused. A call that moves one byte is no fault.
+nothing had been refused: a growth, the closing of a file. A read of a file of the tree that was interrupted has to be tried again.
+Another call that was interrupted may be, and where it is not it counts as refused. A call that moves one byte is no fault.
 
 With --replace a run that does not end with status 0 leaves every output as it was, the same file of the same time, and nothing
 beside it (no file *.kconf-*); only where a move is refused the outputs before that one are the new ones. A file that stands
@@ -176,12 +176,10 @@ def right(case):
 
 def temporary_files(case):
     """What a run makes beside its outputs, where nothing is refused before: the output of each, by its path."""
-    found, counts = {}, {}
+    found = {}
     for name, text in cases.texts_of(case).items():
         if before(case)[name] != text:
-            folder = os.path.dirname(case.links.get(name, name))
-            counts[folder] = counts.get(folder, -1) + 1
-            found[os.path.join(folder, f".kconf-{counts[folder]}")] = name
+            found[os.path.join(os.path.dirname(case.links.get(name, name)), f".kconf-{len(found)}")] = name
     return found
 
 
@@ -196,6 +194,12 @@ def output_of(case, struck):
 def is_compared(case, struck):
     """Whether the call was one that reads an output."""
     return case.replaces() and struck.startswith("<") and output_of(case, struck) is not None
+
+
+def is_repeated(case, kind, struck):
+    """Whether the call was an interrupted read of a file of the tree, which has to be made again."""
+    tree = [os.path.normpath(f"{case.root}/{name}") for name in case.tree]
+    return kind.name == "interrupted read" and os.path.normpath(struck.lstrip("<")) in tree
 
 
 def error_lines(case, kind, struck):
@@ -301,7 +305,7 @@ def judge_left(case, run, kind):
     compared = is_compared(case, run.struck)
     if (kind.may_go_on or compared) and run.left() == right(case):
         return judge_whole(case, run, kind)
-    if kind.has_to or compared:
+    if kind.has_to or compared or is_repeated(case, kind, run.struck):
         return "it did not go on"
     if run.status != 3 or run.said:
         return "it did not end with status 3, and nothing on standard output"

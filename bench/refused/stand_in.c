@@ -20,6 +20,7 @@
  * EXPOSES    makes what stands beside a file with the mode of a new file
  */
 #define _GNU_SOURCE
+#include <errno.h>
 #include <fcntl.h>
 #include <stdio.h>
 #include <stdlib.h>
@@ -80,7 +81,7 @@ static int take(const struct text *input) {
     if (file < 0) return input->count ? fault("E18: cannot read ", name) : 0;
     buffer = malloc(65536);
     if (!buffer) return fault("E20: out of memory", "");
-    while (count > 0) count = read(file, buffer, 65536);
+    while (count > 0 || (count < 0 && errno == EINTR)) count = read(file, buffer, 65536);
     free(buffer);
     close(file);
     return count < 0 ? fault("E18: cannot read ", name) : 0;

@@ -12,7 +12,7 @@ use std::io::{self, ErrorKind, Write};
 use std::os::unix::fs::{MetadataExt, OpenOptionsExt, PermissionsExt};
 use std::path::PathBuf;
 
-// How many names beside one destination are tried.
+// How many names of temporary files are tried.
 const MOST_NAMES: usize = 1_000;
 
 // Who may do what with a new file, before the system narrows it by the umask.
@@ -49,7 +49,7 @@ struct TemporaryFile {
 /// Makes files beside the places of a disk and moves them there (our own). It tells nothing.
 ///
 /// The destination of a text is the end of the links of its name, if the system follows them. A temporary file stands in the
-/// same folder, as `.kconf-N` with the first N from 0 on that is free. Only its owner may open it until it has the permissions of
+/// same folder, as `.kconf-N` with the next N from 0 on that is free. Only its owner may open it until it has the permissions of
 /// the file that it replaces. What is no regular file, or lies below `/proc` as a descriptor does, takes its text at once
 /// and is not moved.
 #[derive(Drop)]
@@ -58,6 +58,8 @@ pub struct SystemMover<'a> {
     // The file that was started, and where it stands, if it is a temporary one.
     begun: Option<(File, Option<TemporaryFile>)>,
     whole: Vec<Option<TemporaryFile>>,
+    // How many names of temporary files were tried.
+    tried: usize,
 }
 
 impl<'a> SystemMover<'a> {
@@ -67,21 +69,24 @@ impl<'a> SystemMover<'a> {
             rt,
             begun: None,
             whole: Vec::new(rt.alloc()),
+            tried: 0,
         }
     }
 }
 
-// Makes an empty file in the folder of the destination, under a name that was free.
+// Makes an empty file in the folder of the destination, under the next name that is free.
 fn create_temporary(
     rt: &HostRuntime,
     destination: PathBuf,
     replaced: Replaced,
+    tried: &mut usize,
 ) -> io::Result<(File, TemporaryFile)> {
     let mode = match &replaced {
         Replaced::File(_) => PRIVATE_MODE,
         Replaced::Nothing | Replaced::NothingBehind(_) => NEW_MODE,
     };
-    for count in 0..MOST_NAMES {
+    for count in *tried..MOST_NAMES {
+        *tried = count + 1;
         let name = format!(in rt.alloc(); ".kconf-{count}")?;
         let path = destination
             .as_path()
@@ -108,7 +113,11 @@ fn create_temporary(
 }
 
 // Makes the file for a text of this name.
-fn start(rt: &HostRuntime, name: &str) -> io::Result<(File, Option<TemporaryFile>)> {
+fn start(
+    rt: &HostRuntime,
+    name: &str,
+    tried: &mut usize,
+) -> io::Result<(File, Option<TemporaryFile>)> {
     let (destination, replaced) = match destination_of(rt, name)? {
         Destination::Taken(path, found) => (path, Replaced::File(found)),
         Destination::Free(path) => (path, Replaced::Nothing),
@@ -118,7 +127,7 @@ fn start(rt: &HostRuntime, name: &str) -> io::Result<(File, Option<TemporaryFile
         ),
         Destination::AsItStands(found) => return Ok((open_found(rt, name, &found)?, None)),
     };
-    let (file, temporary) = create_temporary(rt, destination, replaced)?;
+    let (file, temporary) = create_temporary(rt, destination, replaced, tried)?;
     Ok((file, Some(temporary)))
 }
 
@@ -229,7 +238,7 @@ impl<'a> Mover for SystemMover<'a> {
     }
 
     fn start(&mut self, name: &str) -> Result<(), Fault> {
-        match start(self.rt, name) {
+        match start(self.rt, name, &mut self.tried) {
             Ok(begun) => {
                 self.begun = Some(begun);
                 Ok(())
