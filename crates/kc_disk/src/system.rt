@@ -56,9 +56,14 @@ impl<'a> SystemMaker<'a> {
 
     /// Returns the diagnostics that were kept: none, if they went to standard error.
     pub fn into_diagnostics(self) -> Vec<u8> {
-        match self.diagnostics {
+        let SystemMaker {
+            rt,
+            file: _,
+            diagnostics,
+        } = self;
+        match diagnostics {
             Diagnostics::Kept(bytes) => bytes,
-            Diagnostics::StandardError | Diagnostics::Closed => Vec::new(self.rt.alloc()),
+            Diagnostics::StandardError | Diagnostics::Closed => Vec::new(rt.alloc()),
         }
     }
 
