@@ -1,5 +1,5 @@
 //! The calls of the system that open files, make them, read and write.
-ghost use Rattle.std.specs.Prelude.{[], true, None};
+ghost use Rattle.std.specs.Prelude.{◌≤◌, [], true, IfOk, None, length};
 
 use crate::maker::Maker;
 use crate::opener::{OpenFault, Opener};
@@ -68,7 +68,9 @@ impl<'a> SystemMaker<'a> {
     }
 
     // Writes a prefix of the bytes to where the diagnostics go, and returns how many were written.
-    fn write_diagnostic(&mut self, bytes: &[u8]) -> io::Result<usize> {
+    fn write_diagnostic(&mut self, bytes: &[u8]) -> io::Result<usize>
+        ensures { IfOk result (λ count. count ≤ length bytes.now) }
+    {
         match &mut self.diagnostics {
             Diagnostics::StandardError => self.rt.stderr().write(bytes),
             Diagnostics::Closed => Err(io::Error::from_raw_os_error(NOT_OPEN)),
@@ -80,7 +82,9 @@ impl<'a> SystemMaker<'a> {
     }
 
     // Writes a prefix of the bytes to the open file, and returns how many were written.
-    fn write_file(&mut self, bytes: &[u8]) -> io::Result<usize> {
+    fn write_file(&mut self, bytes: &[u8]) -> io::Result<usize>
+        ensures { IfOk result (λ count. count ≤ length bytes.now) }
+    {
         match &mut self.file {
             Some(file) => file.write(bytes),
             None => Err(io::Error::from_raw_os_error(NOT_OPEN)),
