@@ -502,8 +502,8 @@ fn run_over<I: Input, O: Outputs>(
 /// only where every output is exactly what the definition of the outcome says and no device failed; the values are then
 /// the one solution of the tree's equations. A refused tree (E1 to E16) reads no byte and begins nothing. Nor does a run whose
 /// dependency file would have a name that make cannot read (E23), nor does a line
-/// of more than 65,535 bytes (E17) begin anything; nor, where `options.strict` refuses them, does any warning (E21): those
-/// of the streams are then told once all streams are read. `Faulted` means that an input failed (E18), an output failed (E19) or
+/// of more than 65,535 bytes (E17) begin anything; nor, with `options.strict`, does a line that was not taken as written, and
+/// with `options.strict_tree` any warning (E21): with either the warnings of the streams are told once all streams are read. `Faulted` means that an input failed (E18), an output failed (E19) or
 /// no memory was to be had (E20). Where that was before the files, the notes hold whole lines of the warnings, or where they
 /// failed themselves a beginning of all that the run was to add to them, never the whole; behind an input that failed they are
 /// exactly the tree's warnings and those of the lines that were read. Where it was in a file, the notes and the files before

@@ -1,4 +1,4 @@
--- For proofs: A value that is shown, as what was given, and a line of an input file.
+-- Trusted: A value that is shown, as what was given, and a line of an input file.
 use Rattle.kc_user.specs.GivenValue.{GivenValue, GivenTruth, GivenText}
 use Rattle.kc_dot.specs.Changes.{StreamLocation}
 use Rattle.kc_dot.specs.declared.shown.InputLine.{InputLine}
