@@ -273,10 +273,10 @@ OPTIONS = [
         fragments={"y.cfg": "CONFIG_Y=y\n"},
         flags=("--warn-lost",),
         outputs=outputs("# CONFIG_A is not set\n# CONFIG_X is not set\nCONFIG_Y=y\n", "#define CONFIG_Y 1\n", "# CONFIG_A is not set\nCONFIG_Y=y\n"),
-        notes="warning K14: B was given y and is n\n"
-        'warning K14: S was given "q\\"" and is ""\n'
-        "warning K14: N was given 5 and is \n"
-        "warning K14: X was given y and is n\n",
+        notes="start.config:2: warning K14: B was given y and is n\n"
+        'start.config:3: warning K14: S was given "q\\"" and is ""\n'
+        "start.config:4: warning K14: N was given 5 and is \n"
+        "start.config:5: warning K14: X was given y and is n\n",
     ),
     Case(
         name="--warn-lost, behind other warnings",
@@ -285,9 +285,10 @@ OPTIONS = [
         flags=("--warn-lost",),
         outputs=outputs("CONFIG_N=10\n", "#define CONFIG_N 10\n", ""),
         notes="start.config:2: warning K10: N is set again\n"
+        "start.config:2: warning K15: N was 3 (start.config:1) and is now 20\n"
         "warning K12: user value 20 of N is outside 5 to 10\n"
         "warning K13: default 20 of N is outside 5 to 10, 10 is used\n"
-        "warning K14: N was given 20 and is 10\n",
+        "start.config:2: warning K14: N was given 20 and is 10\n",
     ),
     Case(
         name="--warn-lost and --strict",
@@ -295,7 +296,7 @@ OPTIONS = [
         settings="CONFIG_A=n\nCONFIG_B=y\n",
         flags=("--warn-lost", "--strict"),
         status=1,
-        notes="warning K14: B was given y and is n\nerror E21: warnings are refused\n",
+        notes="start.config:2: warning K14: B was given y and is n\nerror E21: warnings are refused\n",
     ),
 ]
 
