@@ -183,6 +183,20 @@ def run_places():
     return []
 
 
+def run_without_kconfiglib():
+    """The help and errors of the arguments need no kconfiglib; a run says that it is missing."""
+    faults = []
+    for words, status, beginning in ((["--help"], 0, "usage: kconf-flatten "),
+                                     (["--out", "flat"], 2, "usage: kconf-flatten "),
+                                     (["--out", "flat", "Kconfig"], 3,
+                                      "kconf-flatten: error: there is no kconfiglib")):
+        run = subprocess.run([compare.PYTHON, "-IS", compare.FLATTEN, *words], text=True,
+                             stdout=subprocess.PIPE, stderr=subprocess.STDOUT, check=False)
+        if run.returncode != status or not run.stdout.startswith(beginning):
+            faults.append(f"{words}: status {run.returncode} and {run.stdout!r}")
+    return faults
+
+
 def report(name, faults, out):
     """Prints what was wrong, at most three lines; answers whether there was anything."""
     for fault in faults[:3]:
@@ -207,6 +221,7 @@ def main():
     for bad in cases.BAD:
         failed += report(bad.name, run_bad(bad), out)
     failed += report("places", run_places(), out)
+    failed += report("without kconfiglib", run_without_kconfiglib(), out)
     trees, runs, faults = random_trees.run()
     failed += report("random trees", faults, out)
     print(f"{len(cases.CASES)} trees with {all_combinations} combinations, {len(cases.BAD)} refused,"

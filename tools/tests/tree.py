@@ -216,6 +216,12 @@ def test_status(folder):
     expect(faults, "standard error is closed", (closed.returncode, closed.stdout), (3, b""))
     expect(faults, "no KCONFIG", place.run("--replace").returncode, 2)
     expect(faults, "the version", place.run("--version").stdout.split()[0], "kconf")
+    expect(faults, "the version without kconf", place.run("--version", KCONF="/none").returncode, 3)
+    for kconf, beginning in ((compare.KCONF, "The options of kconf:\n"), ("/none", "kconf --help ")):
+        ran = place.run("--help", KCONF=kconf)
+        expect(faults, f"the status of the help with {kconf}", ran.returncode, 0)
+        expect(faults, "its usage", ran.stdout.startswith("usage: kconf-tree "), True)
+        expect(faults, "its last part", "\n" + beginning in ran.stdout, True)
     loop = 'config L\n\tbool "l" if !L\n'
     compare.write_files(place.tree, {"deep/er/Kconfig": loop})
     ran = place.run("Kconfig")
