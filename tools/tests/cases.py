@@ -34,6 +34,8 @@ class Bad:
     error: str
     files: dict = field(default_factory=dict)
     options: tuple = ()
+    environment: dict = field(default_factory=dict)
+    status: int = 1
 
 
 def one_choice_state(names):
@@ -819,4 +821,21 @@ BAD = [
         "Kconfig:1: error: a line of more than 8191 bytes"),
     Bad("no such file", "", "kconf-flatten: error: ./Kconfig: No such file",
         files={"Kconfig": None}),
+    Bad("a file that cannot be read", "", "kconf-flatten: error: ./Kconfig: Is a directory",
+        files={"Kconfig": None, "Kconfig/other": ""}, status=3),
+    Bad("a sourced file that cannot be read", 'source "more"\n', "kconf-flatten: error: ",
+        files={"more/other": ""}, status=3),
+    Bad("a text with a line feed", 'config S\n\tstring "$(TEXT)"\n',
+        "Kconfig:1: error: a text with a line feed", environment={"TEXT": "a\nb"}),
+    Bad("a $ in the text of --dollar", "", "kconf-flatten: error: the TEXT of --dollar contains a $",
+        options=("--dollar", "a$"), status=2),
+    Bad("a name that make cannot read", 'source "a=b"\n',
+        "kconf-flatten: error: make cannot read the name ", files={"a=b": ""},
+        options=("--depfile", "/dev/null")),
+    Bad("a dependency file that cannot be written", "config A\n\tbool\n",
+        "kconf-flatten: error: /dev/null/d: Not a directory", options=("--depfile", "/dev/null/d"),
+        status=3),
+    Bad("a record that cannot be written", "config A\n\tbool\n",
+        "kconf-flatten: error: /dev/null/r: Not a directory", options=("--record", "/dev/null/r"),
+        status=3),
 ]

@@ -120,12 +120,14 @@ def run_bad(bad):
         source, flat = os.path.join(folder, "tree"), os.path.join(folder, "flat")
         os.makedirs(source)
         compare.write_files(source, files)
-        run = compare.flatten(source, flat, bad.options)
+        run = compare.flatten(source, flat, bad.options, bad.environment)
         faults = []
-        if run.returncode != 1:
+        if run.returncode != bad.status:
             faults.append(f"status {run.returncode}")
         if not any(line.startswith(bad.error) for line in run.stderr.splitlines()):
             faults.append(f"the error is {run.stderr.strip()!r}")
+        if ("kconf-flatten: nothing is written" in run.stderr.splitlines()) != (bad.status == 1):
+            faults.append("whether nothing is written")
         if "Traceback" in run.stderr:
             faults.append("it fell over")
         if os.path.exists(flat):

@@ -232,6 +232,11 @@ def test_status(folder):
     expect(faults, "its location", "deep/er/Kconfig:1" in ran.stderr, True)
     os.unlink(place.path("deep/er/Kconfig"))
     expect(faults, "a file that is not there", place.run("Kconfig").returncode, 1)
+    os.mkdir(place.path("deep/er/Kconfig"))
+    expect(faults, "a file that cannot be read", place.run("Kconfig").returncode, 3)
+    ran = place.run("Kconfig", KCONF_FLATTEN="/none")
+    expect(faults, "no kconf-flatten", (ran.returncode, ran.stderr),
+           (3, "kconf-tree: error: there is no program /none\n"))
     return faults
 
 
