@@ -255,7 +255,7 @@ def test_depfile(folder):
     place.run("--depfile", "d", "--out", "o%", "Kconfig", "s #1.config")
     expect(faults, "a target", place.text("d").splitlines()[0], "o\\%: \\")
     flat = os.path.join(folder, "flat")
-    ran = compare.flatten(place.tree, flat, ("--quiet", "--depfile", "d2"), place.environment)
+    ran = compare.flatten(place.tree, flat, ("--quiet", "--depfile", "/dev/null"), place.environment)
     expect(faults, "kconf-flatten", ran.returncode, 0)
     expect(faults, "its reports", ran.stderr.splitlines(), ["kconf-flatten: 3 x macro"])
     return faults
