@@ -8,6 +8,8 @@
 - The version must be the same in the program, the man pages and the changelog.
 - Each option of the help must stand in README.md, the man page and both completions.
 - Each link from a document to a file of the repository must lead to a file.
+- Each case that a document names must be there, and each case and cause of crates/kconf_cases/conf.txt: the case in the
+  data, the cause in docs/differences.md.
 - A line of a document has at most 120 columns, except in tables.
 - docs/bench.svg must be the chart of the table in README.md.
 - README.md must have the number of trusted definitions and of their lines that bench/trusted.py counts.
@@ -239,6 +241,17 @@ def cases():
     return complaints
 
 
+def causes():
+    """Complaints about the list of the differences from conf: cases that are not there, causes that the page does not have."""
+    complaints, page = [], " ".join(read("docs/differences.md").split())
+    for line in read("crates/kconf_cases/conf.txt").splitlines():
+        case, named = line.split()[0], line.partition(": ")[2].split("; ")
+        if not os.path.isdir(os.path.join(TOP, "crates", "kconf_cases", "data", case)):
+            complaints.append(f"conf.txt: the case {case} is not there")
+        complaints += [f"conf.txt: {case}: docs/differences.md does not have {cause!r}" for cause in named if cause not in page]
+    return complaints
+
+
 def widths():
     """Complaints about lines of more than 120 columns outside tables."""
     lines = ((page, at, line) for page in pages() for at, line in enumerate(read(page).split("\n"), 1))
@@ -266,7 +279,7 @@ def main():
     for name, text in makefiles().items():
         unmade += makefile(kconf, name, text)
     broken, count = links()
-    complaints = wrong + unmade + broken + cases() + widths() + chart() + trusted()
+    complaints = wrong + unmade + broken + cases() + causes() + widths() + chart() + trusted()
     for complaint in complaints:
         print(complaint)
     print(f"{runs} examples, {count} links, {len(complaints)} complaints")

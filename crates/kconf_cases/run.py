@@ -3,8 +3,9 @@
 
 usage: run.py PROGRAM [NAME..]          a program that takes kconf's arguments; all cases without a NAME
        run.py --show PROGRAM NAME..     prints what the program does in each case
-       run.py --conf CONF [NAME..]      the kernel's conf, by --olddefconfig: compares the values in the .config, and prints
-                                        what differs and is not in conf.txt
+       run.py --conf CONF [NAME..]      the conf of Linux 7.2, by --olddefconfig: compares the values in the .config, and
+                                        prints what conf.txt does not list, or lists otherwise
+       run.py --conf-6.1 CONF [NAME..]  the same with the conf of Linux 6.1
 
 NAME is the name of a case (choice/user_member_hidden) or of a family (choice). Each case runs in a copy of its folder.
 """
@@ -21,6 +22,8 @@ import tempfile
 DATA = os.path.join(os.path.dirname(os.path.abspath(__file__)), "data")
 OUTPUTS = (".config", "autoconf.h", "defconfig", "configured.d")
 NO_FILES = ("status", "diagnostics", "output", "again")
+# The options for a conf, and the version of Linux that each is for.
+CONFS = {"--conf": "7.2", "--conf-6.1": "6.1"}
 # Options of kconf with a value.
 VALUED = ("--config", "--out", "--header", "--savedefconfig", "--depfile", "--prefix", "--root")
 
@@ -123,8 +126,8 @@ def values_of(text, prefix):
     return values
 
 
-# The kernel's conf wants quotes round a prompt and a file name, `modules` in place of `option modules`, and a `modules`
-# line in the symbol MODULES.
+# The kernel's conf wants quotes round a prompt and a file name, `modules` in place of `option modules`, a `modules` line
+# in the symbol MODULES, and a line feed at the end of a file.
 BARE_TEXT = re.compile(rb"(?m)^(\s*(?:source|mainmenu|menu|comment|prompt|bool|tristate|int|hex|string)[ \t]+)([^\s\"'#=!(&|]+)")
 
 
@@ -132,7 +135,7 @@ def for_conf(text, is_modules_by_name):
     if is_modules_by_name:
         text = re.sub(rb"(?m)^config MODULES\n", rb"config MODULES\n\tmodules\n", text)
     text = BARE_TEXT.sub(lambda found: found[0] if found[2] == b"if" else found[1] + b'"' + found[2] + b'"', text)
-    return re.sub(rb"(?m)^(\s*)option\s+modules\s*$", rb"\1modules", text)
+    return re.sub(rb"(?m)^(\s*)option\s+modules[ \t]*$", rb"\1modules", text)
 
 
 def parsed(words):
@@ -169,7 +172,9 @@ def prepare_for_conf(folder, options, rest):
     names = [name for name in files_below(folder) if name != "arguments" and not name.startswith("expect/")]
     is_by_name = not any(re.search(rb"(?m)^\s*(option\s+)?modules\b", read(f"{folder}/{name}")) for name in names)
     for name in names:
-        write(f"{folder}/{name}", for_conf(read(f"{folder}/{name}"), is_by_name and not folder.endswith("/modules_by_name")))
+        text = for_conf(read(f"{folder}/{name}"), is_by_name and not folder.endswith("/modules_by_name"))
+        is_complete = not text or text.endswith(b"\n") or "/lines/" in folder
+        write(f"{folder}/{name}", text if is_complete else text + b"\n")
     if os.path.isfile(f"{folder}/.config"):
         os.remove(f"{folder}/.config")
     if config:
@@ -215,10 +220,10 @@ def conf_outcome(program, folder):
     return "other values", "; ".join(f"{name}: {ours.get(name, '-')}, conf {theirs.get(name, '-')}" for name in unlike)[:200]
 
 
-def listed_differences():
-    """Returns the outcomes that conf.txt lists, by case: those of the conf of Linux 7.2."""
-    lines = lines_of(os.path.join(os.path.dirname(DATA), "conf.txt"))
-    return {line.split()[0]: line.split(" ", 1)[1].split(":")[0] for line in lines}
+def listed_differences(version):
+    """Returns the outcomes that conf.txt lists for the conf of this version of Linux, by case."""
+    lines = [line.split(" ", 2) for line in lines_of(os.path.join(os.path.dirname(DATA), "conf.txt"))]
+    return {case: rest.split(":")[0] for case, versions, rest in lines if version in versions.split(",")}
 
 
 def print_outcome(case, outcome, why, listed):
@@ -231,7 +236,7 @@ def print_outcome(case, outcome, why, listed):
 
 def main():
     arguments = sys.argv[1:]
-    mode = arguments.pop(0) if arguments and arguments[0] in ("--show", "--conf") else ""
+    mode = arguments.pop(0) if arguments and arguments[0] in ("--show", *CONFS) else ""
     if not arguments or arguments[0].startswith("-") or mode == "--show" and len(arguments) < 2:
         sys.exit(__doc__.strip())
     program, wanted = os.path.abspath(arguments[0]), arguments[1:]
@@ -240,12 +245,12 @@ def main():
     if not chosen:
         sys.exit(f"no case {' '.join(wanted)}")
     failed, outcomes = 0, collections.Counter()
-    listed = listed_differences() if mode == "--conf" else {}
+    listed = listed_differences(CONFS[mode]) if mode in CONFS else {}
     for case in chosen:
         with tempfile.TemporaryDirectory() as room:
-            folder = f"{room}/{case.split('/')[1]}"
+            folder = f"{room}/{case}"
             shutil.copytree(f"{DATA}/{case}", folder)
-            if mode == "--conf":
+            if mode in CONFS:
                 outcome, why = conf_outcome(program, folder)
                 outcomes[outcome] += 1
                 print_outcome(case, outcome, why, listed)
