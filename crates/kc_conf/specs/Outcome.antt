@@ -13,7 +13,7 @@ use Rattle.kc_dot.specs.Reading.{ReadResult, StreamLocation, Stream, UserInput, 
 use Rattle.kc_dot.specs.SolvedView.{solution_view}
 use Rattle.kc_dot.specs.Texts.{config_text, header_text, minimal_text}
 use Rattle.kc_conf.specs.declared.options.Options.{Options}
-use Rattle.kc_make.specs.Opened.{AreOpened, prerequisites_of}
+use Rattle.kc_make.specs.Opened.{AreOpened, inputs_of, prerequisites_of}
 use Rattle.kc_make.specs.Rules.{rule_text, unreadable_of}
 use Rattle.kc_conf.specs.ErrorLines.{refusal_line, strict_line, too_long_line, unreadable_line}
 pub use Rattle.kc_conf.specs.Taken.{lost_warnings}
@@ -128,10 +128,13 @@ outcome_of options tree input solution = refused_if (refuses_input options input
 
 -- ---- the rule for make
 
--- The names in the rule for make, where it is wanted: the files that the tree opens, by their paths, and the fragments.
+-- the input files that the file of --out is made of: the file of --config, if that is another one, and the fragments
+abbrev pub inputs_listed : Options → List (List ℕ)
+inputs_listed options = inputs_of (string_bytes options.out) (string_bytes options.config) (map string_bytes options.fragments.items)
+
+-- The names in the rule for make, where it is wanted: the files that the tree opens, by their paths, and the input files.
 abbrev pub names_listed : Options → List (List ℕ) → Option (List (List ℕ))
-names_listed options opened =
-    option_map (λ name. prerequisites_of (string_bytes options.root) opened (map string_bytes options.fragments.items)) options.depfile
+names_listed options opened = option_map (λ name. prerequisites_of (string_bytes options.root) opened (inputs_listed options)) options.depfile
 
 -- the rule: what the file of --out is made of, where the tree opens these files
 abbrev pub depfile_text : Options → List (List ℕ) → Option (List ℕ)

@@ -20,7 +20,7 @@ ghost use Rattle.kc_conf.specs.Outcome.{Outcome, has_text, lines_text, outcome_o
 ghost use Rattle.kc_conf.specs.Taken.{is_outside, lost_warnings, refuses_input};
 ghost use Rattle.kc_conf.specs.OutputStates.{ChangesOnly};
 ghost use Rattle.kc_conf.specs.Presence.{MayStrike, StreamsAreThere};
-ghost use Rattle.kc_conf.specs.Rules.{AreListed, BreaksInRule, EndsWithRule, rule_of, unreadable_among};
+ghost use Rattle.kc_conf.specs.Rules.{AreListed, AreOpenedIf, BreaksInRule, EndsWithRule, rule_of, unreadable_among};
 ghost use Rattle.kc_conf.specs.Stops.{IsOutOfMemory};
 ghost use Rattle.kc_conf.specs.Leaves.{Keeps, Leaves};
 ghost use Rattle.kc_conf.specs.TreeFiles.{files_in};
@@ -37,7 +37,7 @@ use crate::outputs::{Output, Outputs};
 use crate::reading::LongLine;
 use crate::run_fault::RunFault;
 use crate::stream_warnings::tell_streams;
-use crate::tree_files::{TreeFiles, names_listed, unreadable_among};
+use crate::tree_files::{TreeFiles, names_listed, opened_if, unreadable_among};
 use crate::writing::{make_depfile, make_files};
 use kc_build::laws::one_tree;
 use kc_build::{read_listing, tree_of};
@@ -382,7 +382,32 @@ fn run_accepted<I: Input, O: Outputs>(
     }
 }
 
-// The tree, and the names in the rule for make, where it is wanted. Files of the run's own are let go before the tree is built.
+// The tree, and the files that it opens, where a rule for make is wanted. Files of the run's own are let go before the tree is built.
+fn read_opened(
+    alloc: Global,
+    files: TreeFiles<'_>,
+    options: &Options,
+) -> Result<(Tree, Option<Names>), Refusal>
+    ensures built { IfOk result (λ r. IsTreeOf (files_in files.entry) (root_file options.now) (Ok r.0)) }
+    ensures opened { IfOk result (λ r. AreOpenedIf options.now (files_in files.entry) r.1) }
+    ensures refused { IfErr result (λ r. r.code ≢ Memory → IsTreeOf (files_in files.entry) (root_file options.now) (Err (refusal_view r))) }
+{
+    let listing = match read_listing(alloc, files.map(), options.kconfig.as_bytes()) {
+        Ok(listing) => listing,
+        Err(refusal) => return Err(refusal),
+    };
+    let opened = match opened_if(alloc, options, files.map()) {
+        Ok(opened) => opened,
+        Err(_) => return Err(Refusal::out_of_memory(alloc)),
+    };
+    drop(files);
+    match tree_of(alloc, listing) {
+        Ok(tree) => Ok((tree, opened)),
+        Err(refusal) => Err(refusal),
+    }
+}
+
+// The tree, and the names in the rule for make, where it is wanted.
 fn read_tree(
     alloc: Global,
     files: TreeFiles<'_>,
@@ -392,18 +417,13 @@ fn read_tree(
     ensures listed { IfOk result (λ r. AreListed options.now (files_in files.entry) r.1) }
     ensures refused { IfErr result (λ r. r.code ≢ Memory → IsTreeOf (files_in files.entry) (root_file options.now) (Err (refusal_view r))) }
 {
-    let listing = match read_listing(alloc, files.map(), options.kconfig.as_bytes()) {
-        Ok(listing) => listing,
+    let (tree, opened) = match read_opened(alloc, files, options) {
+        Ok(read) => read,
         Err(refusal) => return Err(refusal),
     };
-    let names = match names_listed(alloc, options, files.map()) {
-        Ok(names) => names,
-        Err(_) => return Err(Refusal::out_of_memory(alloc)),
-    };
-    drop(files);
-    match tree_of(alloc, listing) {
-        Ok(tree) => Ok((tree, names)),
-        Err(refusal) => Err(refusal),
+    match names_listed(alloc, options, &opened) {
+        Ok(names) => Ok((tree, names)),
+        Err(_) => Err(Refusal::out_of_memory(alloc)),
     }
 }
 

@@ -1,7 +1,7 @@
 -- Trusted: The files that a tree was made of.
-use Rattle.std.specs.Prelude.{◌≡◌, ℕ, List, [], ◌∷◌, ◌++◌, None, Some, Ok, map}
+use Rattle.std.specs.Prelude.{◌≡◌, ℕ, List, [], ◌∷◌, ◌++◌, None, Some, Ok, map, if◌then◌else◌}
 use Rattle.kc_text.specs.Lines.{unread_lines}
-use Rattle.kc_expr.specs.Names.{all_mentioned}
+use Rattle.kc_expr.specs.Names.{all_mentioned, same_name}
 use Rattle.kc_read.specs.Expansion.{Expands, Log, Rest, bytes_cause, root_context, with_file, nothing_read}
 use Rattle.kc_read.specs.Files.{Files}
 use Rattle.kc_read.specs.OpenedFiles.{sourced_files}
@@ -24,7 +24,11 @@ abbrev pub OpenedAreOne : Type 0
 OpenedAreOne =
     (files : Files) (root : List ℕ) (log : Log) (opened others : List (List ℕ)) → Expands files root (Ok log) → AreOpened files root opened → AreOpened files root others → opened ≡ others
 
--- The prerequisites of what is made from the files that a tree opens and from fragments, each once: the files by their paths,
--- as they were read, and then the fragments.
+-- The input files that `out` is made of: the `.config`, unless `out` takes its place, and the fragments.
+abbrev pub inputs_of : List ℕ → List ℕ → List (List ℕ) → List (List ℕ)
+inputs_of out config fragments = if same_name config out then fragments else config ∷ fragments
+
+-- The prerequisites of what is made from the files that a tree opens and from input files, each once: the tree's files by their
+-- paths, as they were read, and then the input files.
 abbrev pub prerequisites_of : List ℕ → List (List ℕ) → List (List ℕ) → List (List ℕ)
-prerequisites_of dir opened fragments = all_mentioned [] (map (path_of dir) opened ++ fragments)
+prerequisites_of dir opened inputs = all_mentioned [] (map (path_of dir) opened ++ inputs)

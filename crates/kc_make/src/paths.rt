@@ -1,16 +1,13 @@
-//! The files by the paths at which they were read, and the fragments.
+//! The files by the paths at which they were read, and the input files.
 
-ghost use Rattle.std.specs.Prelude.{◌≡◌, List, ℕ, map, string_bytes, IfOk, OnOk};
+ghost use Rattle.std.specs.Prelude.{◌≡◌, map, string_bytes, IfOk, OnOk};
 ghost use Rattle.kc_expr.specs.Names.{all_mentioned};
 ghost use Rattle.kc_load.specs.Folders.{path_of};
-ghost use Rattle.kc_make.specs.Opened.{AreOpened, prerequisites_of};
-ghost use Rattle.kc_read.specs.Files.{bytes_in};
+ghost use Rattle.kc_make.specs.Opened.{inputs_of, prerequisites_of};
 
-use crate::walk::opened_files;
 use kc_expr::expression::SymId;
 use kc_expr::names::Names;
 use kc_load::begins_with_slash;
-use kc_read::FileMap;
 use std::alloc::{AllocError, Global};
 
 // DIR/NAME, or the name itself where it begins with `/`.
@@ -47,24 +44,44 @@ fn add_fragments(fragments: &[String], names: &mut Names) -> Result<(), AllocErr
     Ok(())
 }
 
-/// The prerequisites of what is made from the files that the root file opens and from the fragments, each once: the files
-/// in the order of their first opening, each by the path at which it was read (`DIR/NAME`, or the name itself where it
-/// begins with `/`), and then the fragments by their names (our own).
+// Mentions the input files that `out` is made of.
+fn add_inputs(
+    out: &[u8],
+    config: &[u8],
+    fragments: &[String],
+    names: &mut Names,
+) -> Result<(), AllocError>
+    ensures { OnOk result (names.new ≡ all_mentioned names.old (inputs_of out.now config.now (map string_bytes fragments.now))) }
+{
+    if config == out {
+        return add_fragments(fragments, names);
+    }
+    names.id(config)?;
+    add_fragments(fragments, names)?;
+    Ok(())
+}
+
+/// Lists the prerequisites of `out`, which is made from the files that a tree opens and from input files, each once.
 ///
-/// Of a tree that is refused it promises nothing of the files. Its only error is to be out of memory.
+/// The tree's files come in the order of their first opening, each by the path at which it was read (`DIR/NAME`, or the
+/// name itself where it begins with `/`). Then comes the `.config`, unless `out` takes its place, and then the fragments, by
+/// their names (our own).
+///
+/// # Errors
+///
+/// Its only error is to be out of memory.
 pub fn prerequisites_of(
     alloc: Global,
-    files: &FileMap,
+    opened: &Names,
     dir: &str,
-    root: &[u8],
+    out: &[u8],
+    config: &[u8],
     fragments: &[String],
 ) -> Result<Names, AllocError>
-    ensures { IfOk result (λ names. (opened : List (List ℕ)) × AreOpened (bytes_in files.now) root.now opened
-        × (names ≡ prerequisites_of dir.now opened (map string_bytes fragments.now))) }
+    ensures { IfOk result (λ names. names ≡ prerequisites_of dir.now opened.now (inputs_of out.now config.now (map string_bytes fragments.now))) }
 {
-    let opened = opened_files(alloc, files, root)?;
     let mut names = Names::new(alloc);
-    add_paths(alloc, dir, &opened, &mut names)?;
-    add_fragments(fragments, &mut names)?;
+    add_paths(alloc, dir, opened, &mut names)?;
+    add_inputs(out, config, fragments, &mut names)?;
     Ok(names)
 }
