@@ -7,8 +7,7 @@ use Rattle.kc_build.specs.Numberings.{IsListingOf}
 use Rattle.kc_build.specs.Trees.{IsTreeOf}
 use Rattle.kc_build.specs.declared.numbering.Listing.{Listing}
 use Rattle.kc_conf.specs.declared.options.Options.{Options}
-use Rattle.kc_conf.specs.Outcome.{root_file}
-use Rattle.kc_conf.specs.Rules.{AreOpenedIf}
+use Rattle.kc_conf.specs.Outcome.{AreOpenedIf}
 
 -- a listing of files that are others by name
 pub listing_as : (files others : Files) (name root : List ℕ) (l : Listing) → files ≡ others → name ≡ root → IsListingOf files name l → IsListingOf others root l

@@ -20,3 +20,5 @@ pub mod Stops
 pub mod Strict
 pub mod Taken
 pub mod TreeFiles
+pub mod Many
+pub mod Parts

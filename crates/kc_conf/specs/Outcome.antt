@@ -136,6 +136,11 @@ inputs_listed options = inputs_of (string_bytes options.out) (string_bytes optio
 abbrev pub names_listed : Options → List (List ℕ) → Option (List (List ℕ))
 names_listed options opened = option_map (λ name. prerequisites_of (string_bytes options.root) opened (inputs_listed options)) options.depfile
 
+-- these are the files that the tree opens, where a rule for make is wanted
+abbrev pub AreOpenedIf : Options → Files → Option (List (List ℕ)) → Type 0
+AreOpenedIf options files None = options.depfile ≡ None
+AreOpenedIf options files (Some opened) = AreOpened files (root_file options) opened
+
 -- the rule: what the file of --out is made of, where the tree opens these files
 abbrev pub depfile_text : Options → List (List ℕ) → Option (List ℕ)
 depfile_text options opened = option_map (rule_text (string_bytes options.out)) (names_listed options opened)

@@ -45,6 +45,15 @@ module _ (tree : TreeFacts) (prefix : List ℕ) (names : List (List ℕ)) (befor
 abbrev pub holds_warnings : Options → Bool
 holds_warnings options = options.strict || options.strict_tree
 
+-- where an input failed: the streams were read up to a place of it, and what they warn of up to there is told; where a file
+-- failed: all of them were read
+abbrev pub StopsStreams : Options → TreeFacts → List (Option (List ℕ)) → List (Option (List ℕ)) → List Bool → List (List ℕ) → RunFault → OutputStates → OutputStates → Type 0
+StopsStreams options tree given left there all (Read input) old new =
+    (warned : List ℕ) × ReadsUpTo tree options.prefix (names_of options) (fresh_input options tree) given left there all input warned
+    × (new ≡ with_text Notes (if holds_warnings options then [] else warned) old)
+StopsStreams options tree given left there all Memory old new = ⊤
+StopsStreams options tree given left there all (Write output) old new = output ≢ Notes → StreamsAreThere all there
+
 -- what is told then: the tree's warnings and those of the streams, unless these are held back
 abbrev pub told_by : Options → TreeFacts → List ℕ → List ℕ
 told_by options tree warned = lines_text tree.warnings ++ (if holds_warnings options then [] else warned)

@@ -15,6 +15,7 @@ use Rattle.kc_conf.specs.Taken.{refuses_input}
 use Rattle.kc_conf.specs.OutputStates.{OutputStates, with_text}
 use Rattle.kc_conf.specs.Presence.{StreamsAreThere}
 use Rattle.kc_conf.specs.ReadFaults.{ReadsUpTo, ended_lines, holds_warnings, told_by}
+pub use Rattle.kc_conf.specs.ReadFaults.{StopsStreams}
 use Rattle.kc_conf.specs.declared.options.Options.{Options}
 use Rattle.kc_conf.specs.declared.run_fault.RunFault.{RunFault}
 use Rattle.kc_conf.specs.declared.run_fault.RunFault.TheVariants as fault
@@ -177,16 +178,7 @@ module _ (tree : TreeFacts) (prefix : List ℕ) where
       × (reading tree prefix before (lines_of (streams names (done ++ left))) ≡ with_warnings warned (reading tree prefix after (lines_of (streams names_left left)))))
       × Reads (lines_of (streams names done)) before after warned × All HasShortLines done
 
--- where an input failed: the streams were read up to a place of it, and what they warn of up to there is told; where a file
--- failed: all of them were read
-abbrev pub StopsStreams : Options → TreeFacts → List (Option (List ℕ)) → List (Option (List ℕ)) → List Bool → List (List ℕ) → RunFault → OutputStates → OutputStates → Type 0
-StopsStreams options tree given left there all (fault.Read input) old new =
-    (warned : List ℕ) × ReadsUpTo tree options.prefix (names_of options) (fresh_input options tree) given left there all input warned
-    × (new ≡ with_text Notes (if holds_warnings options then [] else warned) old)
-StopsStreams options tree given left there all fault.Memory old new = ⊤
-StopsStreams options tree given left there all (fault.Write output) old new = output ≢ Notes → StreamsAreThere all there
-
--- the same behind the tree's warnings
+-- where a run stopped among the streams, behind the tree's warnings
 abbrev pub StopsTree : Options → TreeFacts → List (Option (List ℕ)) → List (Option (List ℕ)) → List Bool → List (List ℕ) → RunFault → OutputStates → OutputStates → Type 0
 StopsTree options tree given left there all (fault.Read input) old new =
     (warned : List ℕ) × ReadsUpTo tree options.prefix (names_of options) (fresh_input options tree) given left there all input warned × (new ≡ with_text Notes (told_by options tree warned) old)

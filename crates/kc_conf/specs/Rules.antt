@@ -1,5 +1,5 @@
 -- For proofs: The rule for make behind the files of a run.
-use Rattle.std.specs.Prelude.{◌≡◌, ℕ, List, Option, None, Some, string_bytes, if◌then◌else◌}
+use Rattle.std.specs.Prelude.{◌≡◌, ℕ, List, Option, None, string_bytes, if◌then◌else◌}
 use Rattle.std.specs.Option.{option_map, option_map_or}
 use Rattle.kc_read.specs.Files.{Files}
 use Rattle.kc_make.specs.Opened.{AreOpened}
@@ -20,11 +20,6 @@ rule_of options names = option_map (rule_text (string_bytes options.out)) names
 -- the first of these names that make cannot read
 abbrev pub unreadable_among : Options → Option (List (List ℕ)) → Option (List ℕ)
 unreadable_among options names = option_map_or (unreadable_of (string_bytes options.out)) names None
-
--- these are the files that the tree opens, where a rule for make is wanted
-abbrev pub AreOpenedIf : Options → Files → Option (List (List ℕ)) → Type 0
-AreOpenedIf options files None = options.depfile ≡ None
-AreOpenedIf options files (Some opened) = AreOpened files (root_file options) opened
 
 -- these are the names in the rule, where it is wanted
 abbrev pub AreListed : Options → Files → Option (List (List ℕ)) → Type 0

@@ -196,23 +196,23 @@ pub(crate) fn note_unreadable<O: Outputs>(outputs: &mut O, name: &[u8]) -> Resul
     )
 }
 
-// Writes an error line, or as much of it as the notes take.
-fn note_line<O: Outputs>(outputs: &mut O, parts: &[&[u8]])
+// Writes an error line, or as much of it as the notes take: whether that is all of it.
+fn note_line<O: Outputs>(outputs: &mut O, parts: &[&[u8]]) -> bool
     ensures { NotesLine (flat_map (λ part. part.now) parts.now) (O.states outputs.old) (O.states outputs.new) }
 {
     match note_parts(outputs, parts) {
-        Ok(()) => {}
-        Err(Fault) => {}
+        Ok(()) => true,
+        Err(Fault) => false,
     }
 }
 
-// Writes the one error line of a fault, unless the notes are what failed.
-pub(crate) fn report<O: Outputs>(options: &Options, fault: RunFault, outputs: &mut O)
+// Writes the one error line of a fault, unless the notes are what failed: whether the notes took it.
+pub(crate) fn report<O: Outputs>(options: &Options, fault: RunFault, outputs: &mut O) -> bool
     ensures { Reports options.now fault (O.states outputs.old) (O.states outputs.new) }
 {
     match fault {
         RunFault::Read(input) => note_line(outputs, &cannot_read(stream_name(options, input))),
-        RunFault::Write(Output::Notes) => {}
+        RunFault::Write(Output::Notes) => false,
         RunFault::Write(output) => note_line(outputs, &cannot_write(name_of(options, output))),
         RunFault::Memory => note_line(outputs, &[out_of_memory().as_bytes()]),
     }

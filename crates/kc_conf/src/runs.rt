@@ -16,11 +16,11 @@ ghost use Rattle.kc_conf.specs.FaultParts.{IsNoInputFault, IsNotesFault};
 ghost use Rattle.kc_conf.specs.Faults.{Completes, BreaksRun, CountsInputs, Faults};
 ghost use Rattle.kc_conf.specs.InputBytes.{AreAllToCome};
 ghost use Rattle.kc_conf.specs.AcceptedTree.{HoldsTree};
-ghost use Rattle.kc_conf.specs.Outcome.{Outcome, has_text, lines_text, outcome_of, refused, strictly, root_file, read_of, IsAcceptedTree, IsRefusedName, IsRefusedTree, IsSolutionFor, IsOutcome, IsOutcomeOfReading, IsOutcomeOfTree, NamesAreRead, OneAnswer, OneOutcome, files_of, refused_if};
+ghost use Rattle.kc_conf.specs.Outcome.{AreOpenedIf, Outcome, has_text, lines_text, outcome_of, refused, strictly, root_file, read_of, IsAcceptedTree, IsRefusedName, IsRefusedTree, IsSolutionFor, IsOutcome, IsOutcomeOfReading, IsOutcomeOfTree, NamesAreRead, OneAnswer, OneOutcome, files_of, refused_if};
 ghost use Rattle.kc_conf.specs.Taken.{is_outside, lost_warnings, refuses_input};
 ghost use Rattle.kc_conf.specs.OutputStates.{ChangesOnly};
 ghost use Rattle.kc_conf.specs.Presence.{MayStrike, StreamsAreThere};
-ghost use Rattle.kc_conf.specs.Rules.{AreListed, AreOpenedIf, BreaksInRule, EndsWithRule, rule_of, unreadable_among};
+ghost use Rattle.kc_conf.specs.Rules.{AreListed, BreaksInRule, EndsWithRule, rule_of, unreadable_among};
 ghost use Rattle.kc_conf.specs.Stops.{IsOutOfMemory};
 ghost use Rattle.kc_conf.specs.Leaves.{Keeps, Leaves};
 ghost use Rattle.kc_conf.specs.TreeFiles.{files_in};
@@ -101,7 +101,7 @@ fn refuse_warnings<O: Outputs>(outputs: &mut O) -> Result<Status, RunFault>
 }
 
 // Refuses a name that make cannot read.
-fn refuse_name<O: Outputs>(outputs: &mut O, name: &[u8]) -> Result<Status, RunFault>
+pub(crate) fn refuse_name<O: Outputs>(outputs: &mut O, name: &[u8]) -> Result<Status, RunFault>
     ensures ok { IfOk result (λ status. Completes (refused (unreadable_line name.now)) status (O.states outputs.old) (O.states outputs.new)) }
     ensures err { IfErr result (λ fault. BreaksRun (refused (unreadable_line name.now)) fault (O.states outputs.old) (O.states outputs.new)) }
     ensures fault { IfErr result IsNotesFault }
@@ -135,7 +135,7 @@ fn make_or_refuse<O: Outputs>(
 
 // Whether anything was warned of before, or is by these lines.
 #[tactic(auto, using(crate::proofs::TellingLemmas::told_by_lines))]
-fn is_warned_by(before: bool, lines: &[Vec<u8>]) -> bool
+pub(crate) fn is_warned_by(before: bool, lines: &[Vec<u8>]) -> bool
     ensures { result ≡ (before || has_text (lines_text (map (λ line. line.items) lines.now))) }
 {
     before || !lines.is_empty()
@@ -244,7 +244,7 @@ fn run_solved<O: Outputs>(
 }
 
 // Reads the streams, and writes what follows from them.
-fn run_read<I: Input, O: Outputs>(
+pub(crate) fn run_read<I: Input, O: Outputs>(
     alloc: Global,
     options: &Options,
     tree: &Tree,
@@ -318,7 +318,7 @@ fn run_tree<I: Input, O: Outputs>(
 }
 
 // Writes the rule for make behind the files, where the run wrote them and the rule is wanted.
-fn end_run<O: Outputs>(
+pub(crate) fn end_run<O: Outputs>(
     alloc: Global,
     options: &Options,
     names: &Option<Names>,
@@ -383,7 +383,7 @@ fn run_accepted<I: Input, O: Outputs>(
 }
 
 // The tree, and the files that it opens, where a rule for make is wanted. Files of the run's own are let go before the tree is built.
-fn read_opened(
+pub(crate) fn read_opened(
     alloc: Global,
     files: TreeFiles<'_>,
     options: &Options,

@@ -2,8 +2,8 @@
 ghost use Rattle.std.specs.Prelude.{◌≡◌, IfOk, List, ℕ};
 ghost use Rattle.std.specs.Option.{option_map};
 ghost use Rattle.kc_read.specs.Files.{Files, bytes_in};
-ghost use Rattle.kc_conf.specs.Outcome.{names_listed};
-ghost use Rattle.kc_conf.specs.Rules.{AreListed, AreOpenedIf, unreadable_among};
+ghost use Rattle.kc_conf.specs.Outcome.{AreOpenedIf, names_listed};
+ghost use Rattle.kc_conf.specs.Rules.{AreListed, unreadable_among};
 ghost use Rattle.kc_conf.specs.TreeFiles.{files_in};
 
 use crate::options::Options;
