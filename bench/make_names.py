@@ -158,7 +158,7 @@ def unlike(name, work, kconf):
     except UnicodeDecodeError:
         return None
     line = b"" if is_read_by_make(name) else b"error E23: make cannot read the name " + name.split(b"\n")[0] + b"\n"
-    for options, fragments, rule in (([b"--out", b"goal"], [name], rule_text(b"goal", [b"./Kconfig", name])), ([b"--out=" + name], [], rule_text(name, [b"./Kconfig"]))):
+    for options, fragments, rule in (([b"--config", b"goal"], [name], rule_text(b"goal", [b"./Kconfig", name])), ([b"--config=" + name], [], rule_text(name, [b"./Kconfig"]))):
         with tempfile.TemporaryDirectory(dir=work) as path:
             folder = Folder(path, b"")
             folder.touch(b"Kconfig", OLD)

@@ -241,11 +241,11 @@ def test_status(folder):
 
 
 def test_depfile(folder):
-    """The dependency file names the files of the tree and the fragments."""
+    """The dependency file names the files of the tree, the .config and the fragments."""
     faults, place = [], Place(folder, FILES)
     compare.write_files(place.tree, {"s #1.config": "CONFIG_A=y\n"})
     expect(faults, "flattens", place.flattens("--depfile", "d", "--out", "o", "Kconfig", "s #1.config"), True)
-    names = ["./Kconfig", "./deep/Kconfig", "./deep/er/Kconfig", "./parts/one/Kconfig", r"s\ \#1.config"]
+    names = ["./Kconfig", "./deep/Kconfig", "./deep/er/Kconfig", "./parts/one/Kconfig", ".config", r"s\ \#1.config"]
     wanted = " \\\n ".join(["o:", *names]) + "\n" + "".join(f"\n{name}:\n" for name in names)
     expect(faults, "text", place.text("d"), wanted)
     ran = place.run("--depfile", "d", "--out", "a=b", "Kconfig")
@@ -273,8 +273,8 @@ def test_strings(folder):
     expect(faults, "lines", compare.lines_of(place.text("o")), {"S": '"a$b"', "T": '"\\n\\"'})
     expect(faults, "header", '#define CONFIG_T "\\n\\"' in place.text("h").splitlines(), True)
     expect(faults, "minimal file", place.text("m"), 'CONFIG_T="\\n\\"\n')
-    expect(faults, "dependency file", place.text("d").splitlines()[:3],
-           ["o: \\", " ./Kconfig \\", " ./base.config"])
+    expect(faults, "dependency file", place.text("d").splitlines()[:4],
+           ["o: \\", " ./Kconfig \\", " board_defconfig \\", " ./base.config"])
     ran = place.run("--config", "o", "--out", "again", "Kconfig")
     expect(faults, "read again", place.text("again"), place.text("o"))
     compare.write_files(place.tree, {"site.config": '# a conflict\nCONFIG_T="a\\b"\n'})

@@ -41,11 +41,11 @@ pub(crate) fn opened_if(
 ) -> Result<Option<Names>, AllocError>
     ensures { IfOk result (λ opened. AreOpenedIf options.now (bytes_in files.now) opened) }
 {
-    if options.depfile.is_none() {
-        return Ok(None);
+    if let Some(_) = &options.depfile {
+        let opened = opened_files(alloc, files, options.kconfig.as_bytes())?;
+        return Ok(Some(opened));
     }
-    let opened = opened_files(alloc, files, options.kconfig.as_bytes())?;
-    Ok(Some(opened))
+    Ok(None)
 }
 
 // The names in the rule for make, where it is wanted.

@@ -105,12 +105,12 @@ const FAULTLESS: &[Case] = &[
         ..DONE
     },
     Case {
-        name: "the dependency file alone, of two files and a fragment",
+        name: "the dependency file alone, of two files, a .config of another name and a fragment",
         arguments: "--root dir --out new --depfile rule.d Kconfig x.cfg",
         tree: &[("dir/Kconfig", b"source \"a\"\n"), ("dir/a", b"")],
         inputs: &[("x.cfg", b"")],
         log: "make new\nclose config\nmake rule.d\nclose depfile\n",
-        depfile: b"new: \\\n dir/Kconfig \\\n dir/a \\\n x.cfg\n\ndir/Kconfig:\n\ndir/a:\n\nx.cfg:\n",
+        depfile: b"new: \\\n dir/Kconfig \\\n dir/a \\\n .config \\\n x.cfg\n\ndir/Kconfig:\n\ndir/a:\n\n.config:\n\nx.cfg:\n",
         ..DONE
     },
 ];

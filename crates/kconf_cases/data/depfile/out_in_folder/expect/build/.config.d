@@ -1,7 +1,10 @@
 build/.config: \
  tree/Kconfig \
+ old \
  x.cfg
 
 tree/Kconfig:
+
+old:
 
 x.cfg:

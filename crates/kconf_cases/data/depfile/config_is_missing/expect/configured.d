@@ -1,0 +1,7 @@
+.config: \
+ ./Kconfig \
+ none
+
+./Kconfig:
+
+none:

@@ -1,0 +1,10 @@
+.config: \
+ ./Kconfig \
+ x.cfg \
+ y.cfg
+
+./Kconfig:
+
+x.cfg:
+
+y.cfg:
