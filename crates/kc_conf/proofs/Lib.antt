@@ -18,3 +18,4 @@ pub mod TreeFileLemmas
 pub mod StatusLemmas
 pub mod StopLemmas
 pub mod StrictLemmas
+pub mod ManyLemmas

@@ -239,7 +239,7 @@ StopsStreams-part options tree given left there all user Memory front warned old
 StopsStreams-part options tree given left there all user (Write output) front warned old new empty strikes grew part told = λ other. absurd (other strikes)
 
 -- a fault of no input comes behind all of them
-StopsStreams-outputs : (options : Options) (tree : TreeFacts) (given left : List (Option (List ℕ))) (there : List Bool) (all : List (List ℕ)) (fault : RunFault)
+pub StopsStreams-outputs : (options : Options) (tree : TreeFacts) (given left : List (Option (List ℕ))) (there : List Bool) (all : List (List ℕ)) (fault : RunFault)
     (old new : OutputStates) → IsNoInputFault fault → StreamsAreThere all there → StopsStreams options tree given left there all fault old new
 StopsStreams-outputs options tree given left there all (why.Read input) old new never are = absurd never
 StopsStreams-outputs options tree given left there all Memory old new is are = tt

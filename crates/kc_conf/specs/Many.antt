@@ -1,5 +1,5 @@
 -- Trusted: What a run leaves for one of many configurations of a tree.
-use Rattle.std.specs.Prelude.{◌≡◌, ◌≢◌, ◌⊎◌, ℕ, Bool, List, [], Option, None, Some, Result, IfOk, IfErr}
+use Rattle.std.specs.Prelude.{◌≡◌, ◌⊎◌, ℕ, Bool, List, [], Option, None, Some, Result, IfOk, IfErr}
 use Rattle.kc_read.specs.Expansion.{Refused}
 use Rattle.kc_read.specs.Files.{Files}
 use Rattle.kc_tree.specs.TreeFacts.{TreeFacts}
@@ -48,7 +48,7 @@ PartsAreOfRuns =
 
 -- No tree was accepted, and the status and the notes say why; or its warnings broke off.
 pub data StopsAtTree (files : Files) (options : Options) (status : Status) (old new : OutputStates) : Type 0 where
-  refused_tree : (r : Refused) → IsRefusedTree files (root_file options) r → Completes (refused (refusal_line r)) status old new → StopsAtTree files options status old new
+  unaccepted : (r : Refused) → IsRefusedTree files (root_file options) r → Completes (refused (refusal_line r)) status old new → StopsAtTree files options status old new
   no_memory : status ≡ Faulted → Reports options Memory old new → StopsAtTree files options status old new
   in_refusal : (r : Refused) → IsRefusedTree files (root_file options) r → status ≡ Faulted → BreaksOutput Notes (refusal_line r) old new → StopsAtTree files options status old new
   in_warnings : (tree : TreeFacts) → IsAcceptedTree files (root_file options) tree → status ≡ Faulted → BreaksOutput Notes (lines_text tree.warnings) old new →

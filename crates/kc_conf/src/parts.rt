@@ -1,13 +1,15 @@
 //! A run in two parts: the tree, which many configurations share, and what follows for one of them.
-ghost use Rattle.std.specs.Prelude.{◌≡◌, ◌≢◌, ◌+◌, ◌⊎◌, List, ℕ, length, map, IfErr, IfOk, OnOk, Ok, Err};
+ghost use Rattle.std.specs.Prelude.{◌≡◌, ◌≢◌, ◌+◌, ◌⊎◌, List, ℕ, length, map, IfErr, IfOk, OnOk, if◌then◌else◌};
 ghost use Rattle.kc_read.specs.Files.{Files, bytes_in};
 ghost use Rattle.kc_read.specs.RefusalView.{refusal_view};
 ghost use Rattle.kc_read.specs.declared.refusal.Code.TheVariants.{Memory};
+ghost use Rattle.kc_solve.specs.Graphs.{IsGraphOf};
+ghost use Rattle.kc_tree.specs.Layouts.{IsLayoutOf};
 ghost use Rattle.kc_conf.specs.ErrorLines.{refusal_line};
 ghost use Rattle.kc_conf.specs.Faults.{BreaksRun, Completes, CountsInputs, Reports};
 ghost use Rattle.kc_conf.specs.InputBytes.{AreAllToCome};
 ghost use Rattle.kc_conf.specs.Many.{ExactlyOnePart, IsPart, LeavesBehind, PartsAreOfRuns, StopsAtTree};
-ghost use Rattle.kc_conf.specs.Outcome.{AreOpenedIf, IsAcceptedTree, NamesAreRead, Outcome, lines_text, refused, root_file};
+ghost use Rattle.kc_conf.specs.Outcome.{NamesAreRead, Outcome, lines_text, refused};
 ghost use Rattle.kc_conf.specs.OutputStates.{BreaksOutput, with_text};
 ghost use Rattle.kc_conf.specs.Parts.{IsAcceptedOf, IsReadingOf, IsReady};
 ghost use Rattle.kc_conf.specs.Presence.{MayStrike, StreamsAreThere};
@@ -61,9 +63,9 @@ pub fn read_files(alloc: Global, files: FileMap, options: &Options) -> TreeReadi
 
 // Reports a refusal of the tree, or that memory ran out.
 fn report_refusal<O: Outputs>(options: &Options, refusal: &Refusal, outputs: &mut O) -> Status
-    ensures memory { refusal.now.code ≡ Memory → (result ≡ Status.Faulted) × Reports options.now RunFault.Memory (O.states outputs.old) (O.states outputs.new) }
-    ensures told { refusal.now.code ≢ Memory → Completes (refused (refusal_line (refusal_view refusal.now))) result (O.states outputs.old) (O.states outputs.new)
-        ⊎ ((result ≡ Status.Faulted) × BreaksOutput Output.Notes (refusal_line (refusal_view refusal.now)) (O.states outputs.old) (O.states outputs.new)) }
+    ensures { ((refusal.now.code ≡ Memory) × (result ≡ Status.Faulted) × Reports options.now RunFault.Memory (O.states outputs.old) (O.states outputs.new))
+        ⊎ ((refusal.now.code ≢ Memory) × (Completes (refused (refusal_line (refusal_view refusal.now))) result (O.states outputs.old) (O.states outputs.new)
+        ⊎ ((result ≡ Status.Faulted) × BreaksOutput Output.Notes (refusal_line (refusal_view refusal.now)) (O.states outputs.old) (O.states outputs.new)))) }
 {
     match refusal.code {
         Code::Memory => {
@@ -91,10 +93,11 @@ pub fn accept<'t, O: Outputs>(
     ensures warned { IfOk result (λ accepted. O.states outputs.new ≡ with_text Output.Notes (lines_text accepted.tree.now.warnings) (O.states outputs.old)) }
     ensures stops { IfErr result (λ status. (files : Files) → IsReadingOf files options.now reading.now → StopsAtTree files options.now status (O.states outputs.old) (O.states outputs.new)) }
 {
-    let (tree, opened) = match &reading.read {
-        Ok((tree, opened)) => (tree, opened),
+    let read = match &reading.read {
+        Ok(read) => read,
         Err(refusal) => return Err(report_refusal(options, refusal, outputs)),
     };
+    let tree = &read.0;
     let layout = tree.layout();
     let order = match EvaluationOrder::of(alloc, tree, layout) {
         Ok(order) => order,
@@ -107,7 +110,7 @@ pub fn accept<'t, O: Outputs>(
         tree,
         layout,
         order,
-        opened,
+        opened: &read.1,
     })
 }
 
@@ -119,7 +122,8 @@ fn run_part<I: Input, O: Outputs>(
     inputs: &mut [I],
     outputs: &mut O,
 ) -> Result<Status, RunFault>
-    requires ready { IsReady accepted.now }
+    requires laid { IsLayoutOf accepted.now.tree.now accepted.now.layout.now }
+    requires order { IsGraphOf accepted.now.tree.now accepted.now.layout.now accepted.now.order }
     requires inputs { length inputs.old ≡ length options.now.fragments.items + 1 }
     ensures ok { IfOk result (λ status. (files : Files) → IsAcceptedOf files options.now accepted.now
         → (all : List (List ℕ)) × AreAllToCome (map I.remaining inputs.old) all × (NamesAreRead files options.now → StreamsAreThere all (map I.is_there inputs.old))
@@ -159,6 +163,17 @@ fn run_part<I: Input, O: Outputs>(
     }
 }
 
+// What is answered of a fault: the notes, if they failed while it was reported.
+fn ended_by(fault: RunFault, is_told: bool) -> RunFault
+    ensures { result ≡ (if is_told then fault else (RunFault.Write Output.Notes)) }
+{
+    if is_told {
+        fault
+    } else {
+        RunFault::Write(Output::Notes)
+    }
+}
+
 /// Runs for one configuration of an accepted tree: what [`run`](crate::run) does behind the tree's warnings (our own).
 ///
 /// What it leaves does not depend on other configurations, before or after it. A name that make cannot read in the
@@ -183,11 +198,8 @@ pub fn run_behind<I: Input, O: Outputs>(
     match run_part(alloc, accepted, options, inputs, outputs) {
         Ok(status) => Ok(status),
         Err(fault) => {
-            if report(options, fault, outputs) {
-                Err(fault)
-            } else {
-                Err(RunFault::Write(Output::Notes))
-            }
+            let is_told = report(options, fault, outputs);
+            Err(ended_by(fault, is_told))
         }
     }
 }
