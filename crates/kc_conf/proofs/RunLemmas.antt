@@ -16,9 +16,9 @@ use Rattle.kc_conf.specs.InputBytes.{AreAllToCome}
 use Rattle.kc_conf.specs.Outcome.{AreLines, Outcome, has_text, IsLenientOutcome, strictly, noted, lines_text, refused, outcome_of, lost_warnings, read_of, names_of, streams, IsSolutionFor, IsOutcomeOfReading, long_line, whole, IsOutcomeOfTree, OneAnswer, IsAcceptedTree, IsRefusedTree, IsOutcome, IsRefusedName, NamesAreRead, refused_name, refused_tree, accepted_tree, root_file, unreadable_name, with_rule, refused_if, files_of, fresh_input, warned_files}
 use Rattle.kc_conf.specs.OutputStates.{OutputStates, BreaksOutput, with_text}
 use Rattle.kc_conf.specs.Presence.{MayStrike, StreamsAreThere}
-use Rattle.kc_conf.specs.ReadFaults.{ReadsUpTo, StopsReading, holds_warnings}
+use Rattle.kc_conf.specs.ReadFaults.{ReadsUpTo, StopsReading, StopsStreams, holds_warnings}
 use Rattle.kc_conf.specs.Taken.{refuses_input}
-use Rattle.kc_conf.specs.Reads.{AreRead, ReadPart, StopsStreams, StopsTree, StopsWarnings, Told, behind_warnings, ended_with, strictly_after, TellsStreams, BreaksTelling}
+use Rattle.kc_conf.specs.Reads.{AreRead, ReadPart, StopsTree, StopsWarnings, Told, behind_warnings, ended_with, strictly_after, TellsStreams, BreaksTelling}
 use Rattle.kc_conf.specs.declared.run_fault.RunFault.{RunFault}
 use Rattle.kc_conf.specs.declared.run_fault.RunFault.TheVariants.{Write, Memory}
 use Rattle.kc_conf.specs.declared.run_fault.RunFault.TheVariants as why

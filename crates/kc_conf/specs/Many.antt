@@ -16,7 +16,7 @@ use Rattle.kc_conf.specs.InputBytes.{AreAllToCome}
 use Rattle.kc_conf.specs.Outcome.{IsAcceptedTree, IsOutcome, IsRefusedName, IsRefusedTree, NamesAreRead, Outcome, lines_text, noted, refused, root_file, unreadable_name}
 use Rattle.kc_conf.specs.OutputStates.{BreaksOutput, OutputStates}
 use Rattle.kc_conf.specs.Presence.{MayStrike, StreamsAreThere}
-use Rattle.kc_conf.specs.Reads.{StopsStreams}
+use Rattle.kc_conf.specs.ReadFaults.{StopsStreams}
 
 -- ---- what one configuration leaves
 

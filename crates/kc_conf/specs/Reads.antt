@@ -14,8 +14,7 @@ use Rattle.kc_conf.specs.Outcome.{AreLines, Outcome, files_of, fresh_input, is_d
 use Rattle.kc_conf.specs.Taken.{refuses_input}
 use Rattle.kc_conf.specs.OutputStates.{OutputStates, with_text}
 use Rattle.kc_conf.specs.Presence.{StreamsAreThere}
-use Rattle.kc_conf.specs.ReadFaults.{ReadsUpTo, ended_lines, holds_warnings, told_by}
-pub use Rattle.kc_conf.specs.ReadFaults.{StopsStreams}
+use Rattle.kc_conf.specs.ReadFaults.{ReadsUpTo, ended_lines, told_by}
 use Rattle.kc_conf.specs.declared.options.Options.{Options}
 use Rattle.kc_conf.specs.declared.run_fault.RunFault.{RunFault}
 use Rattle.kc_conf.specs.declared.run_fault.RunFault.TheVariants as fault

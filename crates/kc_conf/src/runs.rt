@@ -24,8 +24,8 @@ ghost use Rattle.kc_conf.specs.Rules.{AreListed, BreaksInRule, EndsWithRule, rul
 ghost use Rattle.kc_conf.specs.Stops.{IsOutOfMemory};
 ghost use Rattle.kc_conf.specs.Leaves.{Keeps, Leaves};
 ghost use Rattle.kc_conf.specs.TreeFiles.{files_in};
-ghost use Rattle.kc_conf.specs.ReadFaults.{StopsReading};
-ghost use Rattle.kc_conf.specs.Reads.{AreRead, StopsStreams, StopsTree, behind_warnings, stop_of, strictly_after};
+ghost use Rattle.kc_conf.specs.ReadFaults.{StopsReading, StopsStreams};
+ghost use Rattle.kc_conf.specs.Reads.{AreRead, StopsTree, behind_warnings, stop_of, strictly_after};
 ghost use Rattle.kc_conf.specs.declared.run_fault.RunFault.{RunFault};
 
 use crate::input::Input;

@@ -1,5 +1,5 @@
 //! The files that a run reads, lent to it or its own, and the names in its rule for make.
-ghost use Rattle.std.specs.Prelude.{◌≡◌, IfOk, List, ℕ};
+ghost use Rattle.std.specs.Prelude.{◌≡◌, IfOk};
 ghost use Rattle.std.specs.Option.{option_map};
 ghost use Rattle.kc_read.specs.Files.{Files, bytes_in};
 ghost use Rattle.kc_conf.specs.Outcome.{AreOpenedIf, names_listed};

@@ -1,5 +1,4 @@
 -- The names in the rule of the files that are known.
-use Rattle.std.proofs.Common.{sym, ap, ◌∙◌}
 use Rattle.std.proofs.lemmas.Result.{IfOk-weaker}
 use Rattle.kc_conf.specs.Outcome.{root_file}
 use Rattle.kc_conf.proofs.TreeFileLemmas.{mapped_none}
