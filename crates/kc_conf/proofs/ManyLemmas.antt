@@ -92,9 +92,9 @@ module _ (law : OneAnswer) (one : OpenedAreOne) (files : Files) (tree : TreeFact
           let after : lenient ≡ noted warnings rest = e ∙ ap (λ (t : TreeFacts). noted (lines_text t.warnings) rest) same in
           let part : Outcome = with_rule options opened (strictly_after options.strict_tree (has_text warnings) rest) in
           let whole : outcome ≡ noted warnings part =
-              is ∙ ap (λ o. with_rule options opened (strictly options.strict_tree o)) after
-              ∙ ap (with_rule options opened) (sym (strictly_after-noted options.strict_tree false warnings rest))
-              ∙ sym (with_rule-noted options opened warnings (strictly_after options.strict_tree (has_text warnings) rest)) in
+          is ∙ ap (λ o. with_rule options opened (strictly options.strict_tree o)) after
+          ∙ ap (with_rule options opened) (sym (strictly_after-noted options.strict_tree false warnings rest))
+          ∙ sym (with_rule-noted options opened warnings (strictly_after options.strict_tree (has_text warnings) rest)) in
           let here : IsOutcome files options all outcome = (lenient, opened, accepted_tree other second read (rest, of_reading, e), are, is) in
           (part, part_of_rest opened part are read (subst (λ o. IsOutcome files options all o) whole here), inl whole)
 

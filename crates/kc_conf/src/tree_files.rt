@@ -49,11 +49,7 @@ pub(crate) fn opened_if(
 }
 
 // The names in the rule for make, where it is wanted.
-fn names_for(
-    alloc: Global,
-    options: &Options,
-    opened: &Names,
-) -> Result<Option<Names>, AllocError>
+fn names_for(alloc: Global, options: &Options, opened: &Names) -> Result<Option<Names>, AllocError>
     ensures { IfOk result (λ names. names ≡ names_listed options.now opened.now) }
 {
     if options.depfile.is_none() {

@@ -109,8 +109,8 @@ pub returns-in-Ok-run_read-clause-may : goal.returns-in-Ok-run_read-clause-may
 returns-in-Ok-run_read-clause-may g c =
     IfErr-weaker c.end_run.result _ _ (λ fault is. MayStrike-outputs fault (map g.I.Input.may_fail c.args.inputs.now) is) c.end_run.ensures.fault
 
-pub returns-in-Err-run_read-clause-err : goal.returns-in-Err-run_read-clause-err
-returns-in-Err-run_read-clause-err g c = λ files of.
+pub returns-clause-err : goal.returns-clause-err
+returns-clause-err g c = λ files of.
     let (all, to_come, broken, stops) = c.in-Err-run_read.ensures.err in
     let read = sym c.unreadable_among.ensures ∙ ap (option_map (λ n. n.now)) c.in_default.is in
     let told = c.is_warned_by-is_warned.ensures ∙ ap (λ l. has_text (lines_text l)) c.parse_warnings.ensures in
