@@ -30,7 +30,7 @@ EXAMPLE = re.compile(
     r"(?: with the `\.config` lines? ((?:(?!\n\n).)*))?\n\n```\n(.*?)```$".replace(" ", r"\s"),
     re.MULTILINE | re.DOTALL,
 )
-CODES = [f"E{n}" for n in [*range(1, 22), 23]] + [f"K{n}" for n in range(1, 16)]
+CODES = [f"E{n}" for n in range(1, 24)] + [f"K{n}" for n in range(1, 16)]
 
 
 def read(name):

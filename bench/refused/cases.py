@@ -41,6 +41,10 @@ class Case:
         """Whether files take their places at the end."""
         return "--replace" in self.flags
 
+    def checks(self):
+        """Whether files are only compared with their texts."""
+        return "--check" in self.flags
+
     def words(self):
         """The words behind the program's name."""
         said = ["--root", self.root, "--config", "start.config", "--out", "out.config"]
@@ -348,6 +352,33 @@ def replacing():
     ]
 
 
+def stale_lines(case, names):
+    """The error lines of these outputs, which do not hold their texts."""
+    return "".join(f"error E22: {name} is not up to date\n" for name in case.outputs if name in names)
+
+
+def checked(case, name, before):
+    """The same run with --check, over outputs of these texts; None where one is not there."""
+    stale = [name for name, text in texts_of(case).items() if before[name] != text]
+    notes = case.notes + stale_lines(case, stale)
+    return dataclasses.replace(case, name=name, flags=("--check",), before=before, notes=notes, status=1 if stale else 0)
+
+
+def checking():
+    """Runs with --check: over the same texts, over other texts, over no file, over each of these, and one that compares none."""
+    some = {case.name: case for case in SMALL}
+    three = some["fragments"]
+    same, none = texts_of(three), dict.fromkeys(three.outputs)
+    return [
+        checked(three, "--check, over the same texts", same),
+        checked(three, "--check, over other texts", {name: text[:-1] for name, text in same.items()}),
+        checked(three, "--check, over no files", none),
+        checked(three, "--check, over each of these", none | {"out.config": same["out.config"], "out.min": b""}),
+        checked(wide(), "--check, of a wide tree", texts_of(wide()) | {"out.h": b""}),
+        replaced(some["a loop"], "--check, and a loop", flags=("--check",)),
+    ]
+
+
 def texts_of(case):
     """The text of each output."""
     return {name: text.encode() for name, text in case.outputs.items()}
@@ -382,4 +413,4 @@ def wide():
 
 def cases():
     """All runs."""
-    return [*SMALL, *OPTIONS, firmware(), wide(), *replacing()]
+    return [*SMALL, *OPTIONS, firmware(), wide(), *replacing(), *checking()]

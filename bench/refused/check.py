@@ -21,6 +21,9 @@ memory for the text of X. Where an output held its text the file stays, but wher
 the run may replace it, and ends with status 0. No file gives more access than the one that it replaces, at any time: what is left
 beside shows that. Where the system refuses to follow a link once, the run may go on; where it always does, that is E19.
 
+With --check every output stays as it was. An output that could not be compared, since a read of it or a growth was refused,
+counts as one that does not hold its text: the run then ends with status 1 and E22 for it. The lines of E22 come in one write.
+
 Where standard error is closed the notes can't be written, so a run that has any ends with status 3 and begins nothing, and no
 word of the notes or of an error line stands in an output, whatever is refused besides.
 
@@ -98,7 +101,7 @@ def before(case):
 
 def needed(case):
     """The kinds of which a run has to make a call: without one nothing is looked at."""
-    names = ["growth", "open", "read", "close"] + ["write"] * bool(case.notes or case.outputs)
+    names = ["growth", "open", "read", "close"] + ["write"] * bool(case.notes or case.outputs and not case.checks())
     if not case.replaces() or case.status:
         return names
     new = [name for name, text in cases.texts_of(case).items() if before(case)[name] != text]
@@ -171,7 +174,8 @@ class Run:
 
 def right(case):
     """What a run leaves in which no call was refused."""
-    return case.status, b"", case.notes.encode(), cases.texts_of(case) or before(case)
+    texts = {} if case.checks() else cases.texts_of(case)
+    return case.status, b"", case.notes.encode(), texts or before(case)
 
 
 def temporary_files(case):
@@ -191,9 +195,32 @@ def output_of(case, struck):
     return path if path in case.outputs else None
 
 
+def keeps_places(case):
+    """Whether a run that does not end with status 0 leaves every output as it was."""
+    return case.replaces() or case.checks()
+
+
+def warnings_of(case):
+    """The notes of a run without its error lines."""
+    lines = case.notes.splitlines(keepends=True)
+    return "".join(line for line in (lines if case.outputs else lines[:-1]) if not line.startswith("error E22: ")).encode()
+
+
+def is_stale_by_fault(case, run, kind):
+    """Whether the run reports each output that does not hold its text, and besides only such as could not be compared."""
+    stale = {name for name, text in cases.texts_of(case).items() if before(case)[name] != text}
+    found = {name for name in case.outputs if cases.stale_lines(case, [name]).encode() in run.notes}
+    besides = set(case.outputs) if kind.name in ("growth", "look") else {output_of(case, run.struck)}
+    return (
+        case.checks()
+        and (run.status, run.notes) == (1, warnings_of(case) + cases.stale_lines(case, found).encode())
+        and stale <= found <= stale | besides
+    )
+
+
 def is_compared(case, struck):
     """Whether the call was one that reads an output."""
-    return case.replaces() and struck.startswith("<") and output_of(case, struck) is not None
+    return keeps_places(case) and struck.startswith("<") and output_of(case, struck) is not None
 
 
 def is_repeated(case, kind, struck):
@@ -205,7 +232,7 @@ def is_repeated(case, kind, struck):
 def error_lines(case, kind, struck):
     """The error lines, of which one has to come, each with whether it tells of an output."""
     if kind.name == "growth":
-        kept = case.outputs if case.replaces() else {}
+        kept = case.outputs if keeps_places(case) else {}
         return [("error E20: out of memory\n", False)] + [(f"error E19: cannot write {name}\n", True) for name in kept]
     output = output_of(case, struck)
     if output and not struck.startswith("<"):
@@ -231,7 +258,7 @@ def begun_in_order(case, outputs, are_notes_whole):
 
 
 def judge_places(case, run, kind):
-    """What is wrong with the places of a run with --replace that did not end with status 0; None where nothing is."""
+    """What is wrong with the places of a run that has to leave them as they were; None where nothing is."""
     moved = list(case.outputs).index(output_of(case, run.struck)) if kind.name.endswith("move") else 0
     for at, (name, text) in enumerate(run.outputs.items()):
         if at < moved and text != cases.texts_of(case)[name]:
@@ -248,6 +275,8 @@ def judge_whole(case, run, kind):
     if run.beside:
         return f"{run.beside} stands there"
     excused = run.outputs if kind.name == "growth" else [output_of(case, run.struck)]
+    if case.checks():
+        return judge_places(case, run, kind)
     for name in run.touched if case.replaces() else []:
         if run.outputs[name] == before(case)[name] and name not in excused:
             return f"{name} was touched"
@@ -258,7 +287,7 @@ def judge_notes_refused(case, run, kind):
     """What is wrong with a run in which a write of the notes was refused."""
     if not case.notes.encode().startswith(run.notes):
         return "the notes are no beginning of the right ones"
-    return judge_places(case, run, kind) if case.replaces() else begun_in_order(case, run.outputs, False)
+    return judge_places(case, run, kind) if keeps_places(case) else begun_in_order(case, run.outputs, False)
 
 
 def judge_output(case, run, path):
@@ -275,7 +304,7 @@ def judge_output(case, run, path):
 
 def judge_outputs(case, run, kind, are_notes_whole, is_output):
     """What is wrong with the outputs of a run that told a fault; None where nothing is."""
-    if case.replaces():
+    if keeps_places(case):
         return judge_places(case, run, kind)
     wrong = begun_in_order(case, run.outputs, are_notes_whole)
     if wrong or kind.name == "growth":
@@ -289,7 +318,9 @@ def judge_outputs(case, run, kind, are_notes_whole, is_output):
 
 def judge_writes(run, kind):
     """What is wrong with the writes of the notes; None where nothing is."""
-    if kind.name == "growth" or kind.name.endswith("write") or run.note_writes == run.notes.count(b"\n"):
+    lines = run.notes.splitlines()
+    stale = sum(line.startswith(b"error E22: ") for line in lines)
+    if kind.name == "growth" or kind.name.endswith("write") or run.note_writes == len(lines) - max(stale - 1, 0):
         return None
     return f"{run.note_writes} writes of {run.notes.count(bytes([10]))} lines of notes"
 
@@ -305,6 +336,8 @@ def judge_left(case, run, kind):
     compared = is_compared(case, run.struck)
     if (kind.may_go_on or compared) and run.left() == right(case):
         return judge_whole(case, run, kind)
+    if is_stale_by_fault(case, run, kind):
+        return judge_places(case, run, kind)
     if kind.has_to or compared or is_repeated(case, kind, run.struck):
         return "it did not go on"
     if run.status != 3 or run.said:
@@ -317,8 +350,7 @@ def judge_left(case, run, kind):
         return f"its last note is not: {lines[0][0].strip()}"
     [(line, is_output)] = found
     told = run.notes[: len(run.notes) - len(line.encode())]
-    lines = case.notes.encode().splitlines(keepends=True)
-    warnings = b"".join(lines if case.outputs else lines[:-1])
+    warnings = warnings_of(case)
     if not warnings.startswith(told) or (told and not told.endswith(b"\n")):
         return "its notes before the error line are no beginning of the right ones"
     if is_output and told != warnings:
@@ -334,7 +366,7 @@ def judge_closed(case, run, kind, is_refused):
         return "it did not end with status 3"
     if run.status == 3 and not (case.notes or is_refused):
         return "it did not go on"
-    if case.replaces():
+    if keeps_places(case):
         return judge_places(case, run, kind) if run.status else judge_whole(case, run, kind)
     return begun_in_order(case, run.outputs, not case.notes)
 

@@ -139,16 +139,18 @@ def for_conf(text, is_modules_by_name):
 
 
 def parsed(words):
-    """Returns the options of a case by name, and its other words."""
-    options, rest, words = {}, [], iter(words)
+    """Returns the options of a case by name, and its other words, to which the files of --fragment belong."""
+    options, rest, more, words = {}, [], [], iter(words)
     for word in words:
-        if word in VALUED:
+        if word.startswith("--fragment"):
+            more.append(word.partition("=")[2] or next(words))
+        elif word in VALUED:
             options[word] = next(words)
         elif word.startswith("-"):
             options[word.split("=")[0]] = word.partition("=")[2]
         else:
             rest.append(word)
-    return options, rest
+    return options, rest + more
 
 
 def merged_config(folder, names):
@@ -164,7 +166,7 @@ def merged_config(folder, names):
 
 def prepare_for_conf(folder, options, rest):
     """Writes what conf reads, and returns whether the case can be given to it."""
-    if not rest or any(name in options for name in ("--strict", "--strict-tree", "--must-exist", "--version", "--")):
+    if not rest or any(name in options for name in ("--strict", "--strict-tree", "--must-exist", "--check", "--version", "--")):
         return False
     config = merged_config(folder, [options.get("--config", ".config"), *rest[1:]])
     if config is None:

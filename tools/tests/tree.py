@@ -309,6 +309,38 @@ def test_replace(folder):
     return faults
 
 
+def test_check(folder):
+    """With --check nothing is written, and each file that does not hold its text is reported."""
+    faults = []
+    for number, files in enumerate((FILES, RAW)):
+        place = Place(os.path.join(folder, str(number)), files)
+        words = ["--out", "o", "--depfile", "d", "--config", "none", "Kconfig"]
+        stale = "error E22: o is not up to date\nerror E22: d is not up to date\n"
+        ran = place.run("--check", *words)
+        expect(faults, "no files yet", (ran.returncode, ran.stderr.endswith(stale)), (1, True))
+        expect(faults, "files", sorted(os.listdir(place.tree)), sorted(after_names(files)))
+        place.run(*words)
+        expect(faults, "up to date", place.run("--check", *words).returncode, 0)
+        compare.write_files(place.tree, {"d": ""})
+        ran = place.run(*words, "--check")
+        expect(faults, "one is stale", (ran.returncode, ran.stderr.splitlines()[-1:]),
+               (1, ["error E22: d is not up to date"]))
+        expect(faults, "its text", place.text("d"), "")
+    expect(faults, "with --replace", place.run("--check", "--replace", *words).returncode, 2)
+    return faults
+
+
+def test_fragments(folder):
+    """The files of --fragment follow the other fragments."""
+    faults, place = [], Place(folder, FILES)
+    compare.write_files(place.tree, {"a": "CONFIG_N=4\n", "b": "CONFIG_N=5\n"})
+    words = ["--config", "none", "--out", "o"]
+    place.run("--fragment", "b", *words, "Kconfig", "a")
+    expect(faults, "the last one", compare.lines_of(place.text("o"))["N"], "5")
+    expect(faults, "no KCONFIG", place.run("--fragment", "b", *words).returncode, 2)
+    return faults
+
+
 def test_settings(folder):
     """In a tree with the kernel's layout, variables that are not set get what its Makefile gives."""
     faults, place = [], Place(folder, KERNEL)
@@ -349,7 +381,7 @@ def test_at_once(folder):
 
 
 TESTS = (test_cache, test_locations, test_status, test_depfile, test_strings, test_replace,
-         test_settings, test_at_once)
+         test_check, test_fragments, test_settings, test_at_once)
 
 
 def main():

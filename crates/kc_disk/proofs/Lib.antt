@@ -1,4 +1,5 @@
 pub mod AnsweringLemmas
+pub mod CheckLemmas
 pub mod DraftLemmas
 pub mod KeptLemmas
 pub mod LineLemmas

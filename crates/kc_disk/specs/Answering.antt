@@ -7,11 +7,10 @@ use Rattle.std.specs.declared.vec.IntoIter.{IntoIter}
 use Rattle.std.specs.IoError.{error_kind}
 use Rattle.std.specs.Vec.Iter.{into_iter_items}
 use Rattle.clap.specs.Words.{fault_of, takes}
-use Rattle.kc_dot.specs.Prefixes.{is_prefix}
-use Rattle.kc_words.specs.Fields.{AreOptionsOf, prefix_option}
+use Rattle.kc_words.specs.Fields.{IsRequestOf}
 use Rattle.kc_words.specs.Kconf.{kconf_app, rows_for, arguments_of}
-use Rattle.kc_words.specs.Refusals.{IsRefused}
-use Rattle.kc_conf.specs.declared.options.Options.{Options}
+use Rattle.kc_words.specs.Refusals.{IsRefused, refusal_of}
+use Rattle.kc_words.specs.declared.options.Request.{Request}
 use Rattle.kc_conf.specs.declared.runs.AcceptedTree.{AcceptedTree}
 use Rattle.kc_words.specs.declared.usage.UsageError.{UsageError as NoOptions}
 use Rattle.kc_words.specs.declared.usage.UsageError.TheVariants.{Help, Version, Bad, Memory}
@@ -20,22 +19,22 @@ use Rattle.kc_disk.specs.Openers.{FolderCall, IsQuiet, ReadDevice, folder_call, 
 use Rattle.kc_disk.specs.Makers.{MakerCall, maker_call}
 use Rattle.kc_disk.specs.Movers.{IsStill, MoverCall, fails_anywhere, mover_call}
 use Rattle.kc_disk.specs.Program.{IsAsItWas, KeptCall, ReportsUsage, kept_call, EndsUsage}
-use Rattle.kc_disk.specs.Replacing.{EndsBy}
+use Rattle.kc_disk.specs.Checking.{EndsAsked}
 
--- the arguments give these options: clap finds no fault in them, and each field is what they hold
-abbrev pub GiveOptions : List (String Global) → Options → Type 0
-GiveOptions arguments options = (fault_of kconf_app (arguments_of arguments) ≡ []) × AreOptionsOf (rows_for arguments) options
+-- the arguments ask for this: clap finds no fault in them, and each field is what they hold
+abbrev pub GiveRequest : List (String Global) → Request → Type 0
+GiveRequest arguments request = (fault_of kconf_app (arguments_of arguments) ≡ []) × IsRequestOf (rows_for arguments) request
 
--- the arguments give none, for this cause: clap finds it, or the prefix is none; and for want of memory, which is the only
--- cause where the command takes the arguments and the prefix is one
+-- the arguments ask for nothing, for this cause: clap finds it, or they are refused for what they hold; and for want of memory,
+-- which is the only cause where the command takes the arguments and nothing that they hold is refused
 abbrev pub GiveNone : List (String Global) → NoOptions → Type 0
-GiveNone arguments usage = IsRefused (fault_of kconf_app (arguments_of arguments)) (prefix_option (rows_for arguments)) usage
-    × (takes kconf_app (arguments_of arguments) ≡ true → is_prefix (prefix_option (rows_for arguments)) ≡ true → usage ≡ Memory)
+GiveNone arguments usage = IsRefused (fault_of kconf_app (arguments_of arguments)) (rows_for arguments) usage
+    × (takes kconf_app (arguments_of arguments) ≡ true → refusal_of (rows_for arguments) ≡ None → usage ≡ Memory)
 
--- The program's arguments: they give options, and the run for these ends so; or they give none, for this cause, and nothing
+-- The program's arguments: they ask for a run, and it ends so; or they ask for none, for this cause, and nothing
 -- is made, moved or kept.
 pub data KconfEnds (folder : FolderCall) (opened : ReadDevice) (arguments : List (String Global)) (status : Status) (maker : MakerCall) (mover : MoverCall) (kept : KeptCall) : Type 0 where
-  options : (o : Options) → GiveOptions arguments o → EndsBy o.replace folder opened o status maker mover kept → KconfEnds folder opened arguments status maker mover kept
+  request : (r : Request) → GiveRequest arguments r → EndsAsked r.check folder opened r.options status maker mover kept → KconfEnds folder opened arguments status maker mover kept
   none : (usage : NoOptions) → GiveNone arguments usage → EndsUsage usage status → ReportsUsage usage maker → IsStill mover → IsAsItWas kept → IsQuiet folder →
       KconfEnds folder opened arguments status maker mover kept
 

@@ -1,5 +1,6 @@
--- Trusted: What --replace promises.
-use Rattle.std.specs.Prelude.{◌≡◌, ℕ, ◌+◌, true, false, List, Some, All}
+-- Trusted: What --replace and --check promise.
+use Rattle.std.specs.Prelude.{◌≡◌, ℕ, ◌+◌, true, false, List, [], Some, All}
+use Rattle.kc_disk.specs.Checking.{error_lines, stale}
 use Rattle.kc_disk.specs.Movers.{Held, MoverState, NamedText, has_name, is_held, replaced, share_name}
 
 -- The place of a text holds its bytes and no others. Where it held them before it was not touched, and else one file took it.
@@ -19,3 +20,10 @@ EachTextIsInItsPlace =
     (texts : List NamedText) (s : MoverState) → share_name texts ≡ false →
     All (IsInItsPlace s.held (replaced texts s).held) texts
     × ((name : List ℕ) → has_name name texts ≡ false → IsUntouched s.held (replaced texts s).held name)
+
+-- Nothing is reported of these texts exactly if each file holds its own.
+abbrev pub CheckIsExact : Type 0
+CheckIsExact =
+    (texts : List NamedText) (held : Held) →
+    (error_lines (stale texts held) ≡ [] → All (λ t. is_held held t.name t.bytes ≡ true) texts)
+    × (All (λ t. is_held held t.name t.bytes ≡ true) texts → error_lines (stale texts held) ≡ [])

@@ -1,4 +1,5 @@
 pub mod Answering
+pub mod Checking
 pub mod Devices
 pub mod Drafted
 pub mod FileStates

@@ -53,9 +53,9 @@ abbrev pub MadeNoFile : MakerState → Type 0
 MadeNoFile t = t ≡ with_made none_made Notes t.notes
 
 -- A run over the folder's files and over what the opener holds under the names of the streams: it leaves their outcome, or a
--- part of it and a fault. What it handed out is in drafts, of which the maker took the notes alone, and the drafts took their
--- places where the run is done. It keeps the tree for its caller.
-pub record RanReplacing (folder opened : ReadDevice) (options : Options) (result : Result Status ReplaceFault) (maker : MakerCall) (mover : MoverCall) (kept : KeptCall) : Type 0 where
+-- part of it and a fault. What it handed out is in drafts, of which the maker took the notes alone. Their texts were used so,
+-- by how the run ended. It keeps the tree for its caller.
+pub record RanInDrafts (folder opened : ReadDevice) (options : Options) (Uses : List NamedText → Status → Type 0) (maker : MakerCall) (kept : KeptCall) : Type 0 where
   pub files : Files
   pub are_files : AreFilesOf folder.files (string_bytes options.root) files
   pub left : List (Option (List ℕ))
@@ -68,7 +68,11 @@ pub record RanReplacing (folder opened : ReadDevice) (options : Options) (result
   pub notes_fail : states.notes.failures ≢ 0 → maker.may_fail ≡ true
   pub reached : Tells maker.state_after (λ t. MadeNoFile t × Reached states (with_made drafts Notes t.notes))
   pub told : TellsAll ran leaves.outcome maker
-  pub replaces : Replaces (texts_made options drafts) ran result mover
+  pub used : Uses (texts_made options drafts) ran
+
+-- the drafts took their places where the run is done
+abbrev pub RanReplacing : ReadDevice → ReadDevice → Options → Result Status ReplaceFault → MakerCall → MoverCall → KeptCall → Type 0
+RanReplacing folder opened options result maker mover kept = RanInDrafts folder opened options (λ texts how. Replaces texts how result mover) maker kept
 
 -- the line of a text that could not take its place
 abbrev pub replace_fault_line : ReplaceFault → List ℕ

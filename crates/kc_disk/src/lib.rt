@@ -3,8 +3,10 @@
 
 mod arguments;
 mod buffer;
+mod check;
 mod destination;
 mod devices;
+mod draft_run;
 mod drafts;
 mod folder;
 mod input;
@@ -23,6 +25,7 @@ mod same_text;
 mod system;
 mod system_mover;
 
+pub use check::{Found, run_checking};
 pub use folder::SystemFolder;
 pub use maker::Maker;
 pub use mover::Mover;

@@ -3,6 +3,7 @@ ghost use Rattle.std.specs.Prelude.{◌≡◌};
 ghost use Rattle.kc_conf.specs.declared.outputs.Output.TheVariants.{Notes};
 ghost use Rattle.kc_disk.specs.Devices.{exit_status};
 ghost use Rattle.kc_disk.specs.Answering.{KconfEnds, KconfEndsOnDisk, ProcessEnds};
+ghost use Rattle.kc_disk.specs.Checking.{EndsAsked};
 ghost use Rattle.kc_disk.specs.Openers.{folder_call, read_device};
 ghost use Rattle.kc_disk.specs.Makers.{IsOpen, Tells, maker_call, none_made};
 ghost use Rattle.kc_disk.specs.Movers.{IsClear, mover_call};
@@ -10,6 +11,7 @@ ghost use Rattle.kc_disk.specs.Program.{EndsUsage, ReportsUsage, kept_call};
 ghost use Rattle.kc_disk.specs.Replacing.{EndsBy};
 
 use crate::arguments::{after_name, unread};
+use crate::check::run_checking;
 use crate::folder::SystemFolder;
 use crate::maker::Maker;
 use crate::mover::Mover;
@@ -21,7 +23,7 @@ use crate::system::{SystemMaker, SystemOpener};
 use crate::system_mover::SystemMover;
 use kc_conf::{AcceptedTree, Options, Status};
 use kc_load::Folder;
-use kc_words::{UsageError, options_of};
+use kc_words::{Request, UsageError, request_of};
 use std::alloc::Global;
 use std::env::Args;
 use std::{io, mem};
@@ -77,9 +79,33 @@ fn run_by<F: Folder, P: Opener, M: Maker + Drop, V: Mover>(
     }
 }
 
+// Runs as the arguments ask: the files are compared with their texts, or written.
+fn run_request<F: Folder, P: Opener, M: Maker + Drop, V: Mover>(
+    alloc: Global,
+    folder: &mut F,
+    opener: &P,
+    request: &Request,
+    maker: M,
+    mover: &mut V,
+    kept: &mut Option<AcceptedTree>,
+) -> (Status, M)
+    requires maker { Tells (M.state maker) (λ t. t ≡ none_made) }
+    requires clear { Tells (V.state mover.old) IsClear }
+    ensures ends { EndsAsked request.now.check (folder_call (read_device (F.files folder.old) (F.failing folder.old)) (F.failures folder.old) (F.failures folder.new)) (read_device (P.files opener.now) (P.failing opener.now))
+        request.now.options result.0 (maker_call (M.state maker) (M.state result.1) (M.failing maker Notes)) (mover_call (V.state mover.old) (V.state mover.new) (V.failing mover.old))
+        (kept_call kept.old kept.new) }
+    ensures folder_stays { read_device (F.files folder.new) (F.failing folder.new) ≡ read_device (F.files folder.old) (F.failing folder.old) }
+{
+    if request.check {
+        run_checking(alloc, folder, opener, &request.options, maker, mover, kept)
+    } else {
+        run_by(alloc, folder, opener, &request.options, maker, mover, kept)
+    }
+}
+
 /// Runs `kconf` with these arguments after the program's name over devices: what they ask for, over the folder's files, the
 /// streams that the opener holds and the files that the maker makes, or with `--replace` the mover, and hands the maker back
-/// (our own).
+/// (our own). With `--check` it compares the files with what the mover holds, and makes none.
 ///
 /// The caller owes a maker that has made nothing, and a mover beside whose places nothing stands. The help and the version go
 /// to standard output; if that does not take all of it, the status is that of a fault. A bad command line is told on the maker's standard error, and so is a file of the tree that cannot be
@@ -102,8 +128,8 @@ pub fn kconf_over<F: Folder, P: Opener, M: Maker + Drop, V: Mover>(
     // The folder's files stay, and the paths at which it may fail.
     ensures folder_stays { read_device (F.files folder.new) (F.failing folder.new) ≡ read_device (F.files folder.old) (F.failing folder.old) }
 {
-    match options_of(rt.alloc(), arguments) {
-        Ok(options) => run_by(rt.alloc(), folder, opener, &options, maker, mover, kept),
+    match request_of(rt.alloc(), arguments) {
+        Ok(request) => run_request(rt.alloc(), folder, opener, &request, maker, mover, kept),
         Err(usage) => {
             let status = print_usage(rt, &mut maker, &usage);
             (status, maker)

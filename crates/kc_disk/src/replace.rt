@@ -10,13 +10,13 @@ ghost use Rattle.kc_disk.specs.Program.{kept_call};
 ghost use Rattle.kc_disk.specs.Replacing.{EndsReplacing, RanReplacing, Replaces, text_at, wanted_texts};
 ghost use Rattle.kc_disk.specs.Texts.{texts_of};
 
+use crate::draft_run::run_in_drafts;
 use crate::drafts::Drafts;
 use crate::maker::Maker;
 use crate::mover::Mover;
 use crate::opener::Opener;
 use crate::replace_files::{NamedText, ReplaceFault, replace_files};
 use crate::report::{report_load_fault, report_replace_fault};
-use crate::run::configure_over;
 use kc_conf::{AcceptedTree, Options, Status};
 use kc_load::{Folder, LoadFault};
 use std::alloc::{AllocError, Global};
@@ -39,8 +39,8 @@ fn add<'n, 'b>(
     Ok(())
 }
 
-// The texts of the files that are wanted, in the order of the outputs.
-fn wanted<'n, 'b>(
+/// The texts of the files that are wanted, in the order of the outputs.
+pub(crate) fn wanted<'n, 'b>(
     alloc: Global,
     options: &'n Options,
     config: &'b [u8],
@@ -123,12 +123,11 @@ pub fn replace_over<'n, F: Folder, P: Opener, N: Maker + Drop, M: Mover>(
     ensures quiet { OnOk result.0 (F.failures folder.new ≡ F.failures folder.old) }
     ensures counted { IfErr result.0 (λ fault. F.failures folder.new ≡ load_failures_after fault (F.failures folder.old)) }
 {
-    let drafts = Drafts::new(alloc, notes);
-    let (ran, drafts) = configure_over(alloc, folder, opener, options, drafts, kept);
-    match ran {
+    let (ended, drafts) = run_in_drafts(alloc, folder, opener, options, notes, kept);
+    match ended {
         Ok(ran) => {
-            let ended = replace_drafts(alloc, options, ran, &drafts, mover);
-            (Ok(ended), drafts.into_notes())
+            let placed = replace_drafts(alloc, options, ran, &drafts, mover);
+            (Ok(placed), drafts.into_notes())
         }
         Err(fault) => (Err(fault), drafts.into_notes()),
     }

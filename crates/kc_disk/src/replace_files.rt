@@ -69,8 +69,8 @@ fn is_changed<M: Mover>(share_name: bool, text: NamedText<'_, '_>, mover: &M) ->
     share_name || !mover.holds(text.name, text.bytes)
 }
 
-// The texts that are not in their places, or all.
-fn changed_or_all<'n, 'b, M: Mover>(
+/// The texts that are not in their places, or all.
+pub(crate) fn changed_or_all<'n, 'b, M: Mover>(
     alloc: Global,
     share_name: bool,
     texts: &[NamedText<'n, 'b>],

@@ -4,7 +4,7 @@ use kc_conf::{AcceptedTree, FileMap, Options, Status};
 use kc_configure::configure;
 use kc_load::LoadFault;
 use kc_memory::{MemoryInput, MemoryOutputs};
-use kc_words::options_of;
+use kc_words::request_of;
 use std::alloc::{AllocError, Global};
 
 fn push_root(alloc: Global, words: &mut Vec<String>) -> Result<(), AllocError> {
@@ -18,8 +18,8 @@ fn plain(alloc: Global) -> Option<Options> {
     if push_root(alloc, &mut words).is_err() {
         return None;
     }
-    match options_of(alloc, &words) {
-        Ok(options) => Some(options),
+    match request_of(alloc, &words) {
+        Ok(request) => Some(request.options),
         Err(_usage) => None,
     }
 }

@@ -1,10 +1,10 @@
-//! Runs whose files take their places at the end.
+//! Runs whose files take their places at the end, or are compared with them.
 ghost use Rattle.kc_disk.specs.Movers.{IsClear};
 ghost use Rattle.kc_disk_tests.specs.Memory.{places_by};
 
 use crate::case::{Case, DONE};
 use crate::mover::MemoryMover;
-use crate::runs::run_into;
+use crate::runs::{run_case, run_into};
 use kc_conf::Status;
 
 // A run, what the places hold before and after it, and which of them were taken.
@@ -178,5 +178,76 @@ fn files_take_their_places_at_the_end(rt: HostRuntime) {
 fn each_call_of_the_mover_fails_in_turn(rt: HostRuntime) {
     for (fail_at, case) in CALLS {
         assert!(rt; gives_at(&rt, case, *fail_at), "{}", case.name);
+    }
+}
+
+// The same with --check, where neither file is there.
+const STALE: Replaced = Replaced {
+    name: "--check: neither file is there",
+    arguments: "--check --header h Kconfig",
+    config: None,
+    header: None,
+    moved: "",
+    notes: b"error E22: .config is not up to date\nerror E22: h is not up to date\n",
+    status: Status::Refused,
+    ..NEW
+};
+
+const COMPARED: &[Replaced] = &[
+    STALE,
+    Replaced {
+        name: "--check: both are up to date",
+        before: &[(".config", CONFIG), ("h", HEADER)],
+        config: Some(CONFIG),
+        header: Some(HEADER),
+        notes: b"",
+        status: Status::Done,
+        ..STALE
+    },
+    Replaced {
+        name: "--check: the header is empty",
+        before: &[(".config", CONFIG), ("h", b"")],
+        config: Some(CONFIG),
+        header: Some(b""),
+        notes: b"error E22: h is not up to date\n",
+        ..STALE
+    },
+    Replaced {
+        name: "--check: a refused tree",
+        root: b"source \"a\"\n",
+        notes: b"Kconfig:1: error E1: no file a\n",
+        ..STALE
+    },
+    Replaced {
+        name: "--check: an input file that cannot be read",
+        arguments: "--check --must-exist Kconfig",
+        notes: b"error E18: cannot read .config\n",
+        status: Status::Faulted,
+        ..STALE
+    },
+];
+
+#[test]
+fn a_check_changes_no_place(rt: HostRuntime) {
+    for case in COMPARED {
+        assert!(rt; gives_at(&rt, case, 0), "{}", case.name);
+    }
+}
+
+// A check whose lines standard error does not take.
+#[test]
+fn a_check_without_standard_error_is_a_fault(rt: HostRuntime) {
+    let asked = Case {
+        name: STALE.name,
+        arguments: STALE.arguments,
+        ..DONE
+    };
+    match run_case(&rt, &asked, 1) {
+        Some((status, maker)) => {
+            assert!(rt; status == Status::Faulted);
+            assert!(rt; maker.notes.bytes.is_empty());
+            assert!(rt; maker.log.is_empty());
+        }
+        None => assert!(rt; false),
     }
 }

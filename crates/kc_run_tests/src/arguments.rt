@@ -1,6 +1,5 @@
-//! Arguments of the command line, and the options that they give (kc_words).
-use kc_conf::Options;
-use kc_words::{UsageError, options_of};
+//! Arguments of the command line, and what they ask for (kc_words).
+use kc_words::{Request, UsageError, request_of};
 use std::alloc::{AllocError, Global};
 
 // Adds the arguments between the `|` of a line.
@@ -60,13 +59,15 @@ fn are_fragments(names: &[String], want: &[&str]) -> bool {
 }
 
 // Adds the flags that are given.
-fn flags_into(options: &Options, text: &mut String) -> Result<(), AllocError> {
+fn flags_into(request: &Request, text: &mut String) -> Result<(), AllocError> {
+    let options = &request.options;
     let flags = [
         (options.must_exist, "must-exist "),
         (options.strict, "strict "),
         (options.strict_tree, "strict-tree "),
         (options.warn_lost, "warn-lost "),
         (options.replace, "replace "),
+        (request.check, "check "),
     ];
     for (is_given, word) in flags {
         if is_given {
@@ -76,12 +77,13 @@ fn flags_into(options: &Options, text: &mut String) -> Result<(), AllocError> {
     Ok(())
 }
 
-fn are_flags(alloc: Global, options: &Options, want: &str) -> bool {
+fn are_flags(alloc: Global, request: &Request, want: &str) -> bool {
     let mut text = String::new(alloc);
-    flags_into(options, &mut text).is_ok() && text.as_str() == want
+    flags_into(request, &mut text).is_ok() && text.as_str() == want
 }
 
-fn are_options(alloc: Global, options: &Options, want: &Want) -> bool {
+fn is_request(alloc: Global, request: &Request, want: &Want) -> bool {
+    let options = &request.options;
     options.root.as_str() == want.root
         && options.config.as_str() == want.config
         && options.out.as_str() == want.out
@@ -91,12 +93,12 @@ fn are_options(alloc: Global, options: &Options, want: &Want) -> bool {
         && is_name(&options.depfile, want.depfile)
         && options.prefix.as_bytes() == want.prefix
         && are_fragments(&options.fragments, want.fragments)
-        && are_flags(alloc, options, want.flags)
+        && are_flags(alloc, request, want.flags)
 }
 
 fn words_give(alloc: Global, words: &[String], want: &Want) -> bool {
-    match options_of(alloc, words) {
-        Ok(options) => are_options(alloc, &options, want),
+    match request_of(alloc, words) {
+        Ok(request) => is_request(alloc, &request, want),
         Err(_usage) => false,
     }
 }
@@ -156,6 +158,14 @@ const OPTIONS: &[(&str, Want)] = &[
         },
     ),
     (
+        "--fragment|a|Kconfig|b|--fragment=c|--check|d",
+        Want {
+            fragments: &["b", "d", "a", "c"],
+            flags: "check ",
+            ..PLAIN
+        },
+    ),
+    (
         "--|--strict|--replace|-x",
         Want {
             kconfig: "--strict",
@@ -182,8 +192,8 @@ fn is_usage(usage: &UsageError, want: &str) -> bool {
 }
 
 fn words_ask_for(alloc: Global, words: &[String], want: &str) -> bool {
-    match options_of(alloc, words) {
-        Ok(_options) => false,
+    match request_of(alloc, words) {
+        Ok(_request) => false,
         Err(usage) => is_usage(&usage, want),
     }
 }
@@ -225,6 +235,12 @@ const OTHERS: &[(&str, &str)] = &[
     ("--depfile=a|--depfile=b|K", "bad"),
     ("--replace=1|K", "bad"),
     ("--replace|--replace|K", "bad"),
+    ("--check=1|K", "bad"),
+    ("--check|--check|K", "bad"),
+    ("--check|--replace|K", "bad"),
+    ("--replace|K|--check|--prefix|9X", "bad"),
+    ("--fragment|K", "bad"),
+    ("K|--fragment", "bad"),
 ];
 
 #[test]
@@ -235,8 +251,8 @@ fn other_arguments_are_bad_or_ask_for_help_or_the_version(rt: HostRuntime) {
 }
 
 fn are_answered_by(alloc: Global, words: &[String], part: &str) -> bool {
-    match options_of(alloc, words) {
-        Ok(_options) => false,
+    match request_of(alloc, words) {
+        Ok(_request) => false,
         Err(usage) => usage.text().contains(part),
     }
 }
@@ -252,6 +268,10 @@ const USAGES: &[(&str, &str)] = &[
     ("--help", "Exit status:"),
     ("", "<KCONFIG>"),
     ("--prefix|9X|K", "invalid value '9X' for '--prefix <TEXT>'"),
+    (
+        "--check|--replace|K",
+        "error: the argument '--check' cannot be used with '--replace'\n",
+    ),
 ];
 
 #[test]

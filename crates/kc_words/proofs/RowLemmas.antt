@@ -86,3 +86,15 @@ written = refl
 rule_for_make : first_of (codes "depfile") (matches_of kconf_app (codes "--depfile=d" ∷ codes "Kconfig" ∷ [])) ≡ Some (codes "d")
 unfolding clap_on_literals kconf_app with_options
 rule_for_make = refl
+
+checked : is_given (codes "check") (matches_of kconf_app (codes "--check" ∷ codes "Kconfig" ∷ [])) ≡ true
+unfolding clap_on_literals kconf_app with_options
+checked = refl
+
+unchecked : is_given (codes "check") (matches_of kconf_app (codes "--replace" ∷ codes "Kconfig" ∷ [])) ≡ false
+unfolding clap_on_literals kconf_app with_options
+unchecked = refl
+
+more_fragments : all_of (codes "fragment") (matches_of kconf_app (codes "--fragment" ∷ codes "a" ∷ codes "Kconfig" ∷ codes "b" ∷ codes "--fragment=c" ∷ [])) ≡ Some (codes "a" ∷ codes "c" ∷ [])
+unfolding clap_on_literals kconf_app with_options
+more_fragments = refl

@@ -13,6 +13,10 @@ option_rule name = record (new_rule name) { long = Some name; value_names = 1 }
 abbrev pub flag_rule : Text → Rule
 flag_rule name = record (new_rule name) { long = Some name; action = Some SetTrue }
 
+-- --NAME VALUE, as often as it is wanted
+abbrev pub repeated_rule : Text → Rule
+repeated_rule name = record (new_rule name) { long = Some name; action = Some Append; value_names = 1 }
+
 -- the one word that has to be there
 abbrev pub kconfig_rule : Rule
 kconfig_rule = record (new_rule (codes "KCONFIG")) { required = true }
@@ -29,7 +33,7 @@ empty_app = on_top (λ s. record s { no_binary_name = true; has_version = true }
 -- [--must-exist] [--strict] [--strict-tree] [--warn-lost] [--replace]
 unfoldable pub with_options : App → App
 with_options app =
-    with_rule (with_rule (with_rule (with_rule (with_rule (with_rule (with_rule (with_rule (with_rule (with_rule (with_rule (with_rule app
+    with_rule (with_rule (with_rule (with_rule (with_rule (with_rule (with_rule (with_rule (with_rule (with_rule (with_rule (with_rule (with_rule (with_rule app
     (option_rule (codes "root")))
     (option_rule (codes "config")))
     (option_rule (codes "out")))
@@ -41,7 +45,9 @@ with_options app =
     (flag_rule (codes "strict")))
     (flag_rule (codes "strict-tree")))
     (flag_rule (codes "warn-lost")))
-    (flag_rule (codes "replace"))
+    (flag_rule (codes "replace")))
+    (flag_rule (codes "check")))
+    (repeated_rule (codes "fragment"))
 
 -- the options, and then KCONFIG [FRAGMENT ..]
 unfoldable pub kconf_app : App

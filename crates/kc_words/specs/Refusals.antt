@@ -1,11 +1,12 @@
 -- Trusted: Why words give no options.
-use Rattle.std.specs.Prelude.{◌≡◌, ◌≢◌, ◌⊎◌, ◌++◌, [], false, codes, decimal, string_bytes}
-use Rattle.clap.specs.Words.{Kinds, IsAmong, Text}
+use Rattle.std.specs.Prelude.{◌≡◌, ◌≢◌, ◌⊎◌, ◌++◌, List, [], Option, None, Some, false, if◌then◌else◌, codes, decimal, string_bytes}
+use Rattle.clap.specs.Words.{Kinds, IsAmong, Row, Text}
 use Rattle.clap.specs.declared.error.kind.ErrorKind.{ErrorKind}
 use Rattle.clap.specs.declared.error.kind.ErrorKind.TheVariants as kind
 use Rattle.kc_dot.specs.Limits.{longest_prefix}
 use Rattle.kc_dot.specs.Prefixes.{is_prefix}
 use Rattle.kc_conf.specs.ErrorLines.{out_of_memory_line}
+use Rattle.kc_words.specs.Fields.{are_exclusive, prefix_option}
 use Rattle.kc_words.specs.declared.usage.UsageError.{UsageError}
 use Rattle.kc_words.specs.declared.usage.UsageError.TheVariants as usage
 
@@ -31,20 +32,42 @@ abbrev pub no_prefix_text : Text → Text
 no_prefix_text text = codes "error: invalid value '" ++ text
     ++ (codes "' for '--prefix <TEXT>': " ++ prefix_rule ++ codes "\n\nFor more information, try '--help'.\n")
 
--- memory was refused, or the text is no prefix, and this tells so
+-- out of memory, or the text is no prefix, and this reports it
 abbrev pub IsNoPrefix : Text → UsageError → Type 0
 IsNoPrefix text (usage.Help _) = ⊥
 IsNoPrefix text (usage.Version _) = ⊥
 IsNoPrefix text (usage.Bad told) = (is_prefix text ≡ false) × (string_bytes told ≡ no_prefix_text text)
 IsNoPrefix text usage.Memory = Unit {0}
 
+-- what is reported of --check beside --replace (our own)
+abbrev pub exclusion_text : Text
+exclusion_text = codes "error: the argument '--check' cannot be used with '--replace'\n\nFor more information, try '--help'.\n"
+
+-- out of memory, or this reports that
+abbrev pub IsExclusion : UsageError → Type 0
+IsExclusion (usage.Help _) = ⊥
+IsExclusion (usage.Version _) = ⊥
+IsExclusion (usage.Bad told) = string_bytes told ≡ exclusion_text
+IsExclusion usage.Memory = Unit {0}
+
+-- what is reported of arguments that the command takes and that are refused for what they hold
+abbrev pub refusal_of : List Row → Option Text
+refusal_of rows = if are_exclusive rows then Some exclusion_text else if is_prefix (prefix_option rows) then None else Some (no_prefix_text (prefix_option rows))
+
+-- out of memory, or this reports it
+abbrev pub IsNoRequest : List Row → UsageError → Type 0
+IsNoRequest rows (usage.Help _) = ⊥
+IsNoRequest rows (usage.Version _) = ⊥
+IsNoRequest rows (usage.Bad told) = refusal_of rows ≡ Some (string_bytes told)
+IsNoRequest rows usage.Memory = Unit {0}
+
 -- one of the faults is no call for help or the version
 abbrev pub HasOther : Kinds → Type 0
 HasOther kinds = (k : ErrorKind) × (k ≢ kind.DisplayHelp) × (k ≢ kind.DisplayVersion) × IsAmong k kinds
 
--- words with these faults, which ask for this prefix, are refused so
-abbrev pub IsRefused : Kinds → Text → UsageError → Type 0
-IsRefused kinds prefix (usage.Help _) = IsAmong kind.DisplayHelp kinds
-IsRefused kinds prefix (usage.Version _) = IsAmong kind.DisplayVersion kinds
-IsRefused kinds prefix (usage.Bad told) = HasOther kinds ⊎ ((kinds ≡ []) × IsNoPrefix prefix (usage.Bad told))
-IsRefused kinds prefix usage.Memory = Unit {0}
+-- arguments with these faults, in which the command finds these rows, are refused so
+abbrev pub IsRefused : Kinds → List Row → UsageError → Type 0
+IsRefused kinds rows (usage.Help _) = IsAmong kind.DisplayHelp kinds
+IsRefused kinds rows (usage.Version _) = IsAmong kind.DisplayVersion kinds
+IsRefused kinds rows (usage.Bad told) = HasOther kinds ⊎ ((kinds ≡ []) × IsNoRequest rows (usage.Bad told))
+IsRefused kinds rows usage.Memory = Unit {0}

@@ -2,7 +2,7 @@
 
 ghost use Rattle.std.specs.Prelude.{◌≡◌, IfOk};
 ghost use Rattle.clap.specs.Words.{app_of, with_rule};
-ghost use Rattle.kc_words.specs.Kconf.{empty_app, flag_rule, fragment_rule, kconf_app, kconfig_rule, option_rule, with_options};
+ghost use Rattle.kc_words.specs.Kconf.{empty_app, flag_rule, fragment_rule, kconf_app, kconfig_rule, option_rule, repeated_rule, with_options};
 
 use clap::{Arg, ArgAction, Command};
 use std::alloc::{AllocError, Global};
@@ -17,8 +17,9 @@ Example: update .config from a fragment, and write the minimal .config too:
 
 Exit status:
   0  success: every output file is complete
-  1  refused: an error in the input (the tree, a .config file, a file name with --depfile), or a warning
-     under --strict or --strict-tree; no file was created or changed
+  1  refused: an error in the input (the tree, a .config file, a file name with --depfile), a warning
+     under --strict or --strict-tree, or a file that is not up to date (--check); no file was created
+     or changed
   2  wrong arguments
   3  I/O error or out of memory: output files may be truncated; with --replace they are unchanged,
      unless a rename failed
@@ -77,6 +78,13 @@ const WARN_LOST: &str = "Warn about values you set that did not take effect, and
 
 const REPLACE: &str = "Write files atomically, and leave unchanged files untouched";
 
+const CHECK: &str = "Write no file, and fail for each that is not up to date (E22)";
+
+const MORE_FRAGMENTS: OptionTexts = OptionTexts {
+    value: "FILE",
+    help: "Read FILE after the FRAGMENTs; may be repeated",
+};
+
 // Adds `--NAME VALUE`.
 fn with_option<'a>(
     alloc: Global,
@@ -89,6 +97,24 @@ fn with_option<'a>(
     command.arg(
         Arg::new(alloc, name)
             .long(name)
+            .value_name(texts.value)
+            .help(texts.help),
+    )
+}
+
+// Adds `--NAME VALUE`, which may be repeated.
+fn with_repeated<'a>(
+    alloc: Global,
+    command: Command<'a>,
+    name: &'a str,
+    texts: OptionTexts,
+) -> Result<Command<'a>, AllocError>
+    ensures { IfOk result (λ longer. app_of longer ≡ with_rule (app_of command.entry) (repeated_rule name.entry.now)) }
+{
+    command.arg(
+        Arg::new(alloc, name)
+            .long(name)
+            .action(ArgAction::Append)
             .value_name(texts.value)
             .help(texts.help),
     )
@@ -160,7 +186,9 @@ fn with_options<'a>(alloc: Global, command: Command<'a>) -> Result<Command<'a>, 
     let command = with_flag(alloc, command, "strict", STRICT)?;
     let command = with_flag(alloc, command, "strict-tree", STRICT_TREE)?;
     let command = with_flag(alloc, command, "warn-lost", WARN_LOST)?;
-    with_flag(alloc, command, "replace", REPLACE)
+    let command = with_flag(alloc, command, "replace", REPLACE)?;
+    let command = with_flag(alloc, command, "check", CHECK)?;
+    with_repeated(alloc, command, "fragment", MORE_FRAGMENTS)
 }
 
 // The command line of the program.

@@ -5,5 +5,5 @@ mod command;
 mod options;
 mod usage;
 
-pub use options::options_of;
+pub use options::{Request, request_of};
 pub use usage::UsageError;

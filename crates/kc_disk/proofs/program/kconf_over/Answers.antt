@@ -1,10 +1,10 @@
--- The arguments give options, or none.
+-- The arguments ask for a run, or for none.
 use Rattle.std.proofs.Common.{refl}
-use Rattle.kc_disk.specs.Answering.{none, options}
+use Rattle.kc_disk.specs.Answering.{none, request}
 use Rattle.kc_disk.proofs.program.kconf_over.Goals as goal
 
 pub returns-in-Ok-clause-ends : goal.returns-in-Ok-clause-ends
-returns-in-Ok-clause-ends g c = options c.in-Ok.options (c.in-Ok.ensures.faultless, c.in-Ok.ensures.ok) c.run_by.ensures.ends
+returns-in-Ok-clause-ends g c = request c.in-Ok.request (c.in-Ok.ensures.faultless, c.in-Ok.ensures.ok) c.run_request.ensures.ends
 
 pub returns-in-Err-clause-ends : goal.returns-in-Err-clause-ends
 returns-in-Err-clause-ends g c =

@@ -3,7 +3,7 @@ use Rattle.std.specs.declared.alloc.AllocError.{AllocError}
 use Rattle.std.proofs.lemmas.Result.{IfOk-weaker}
 use Rattle.clap.specs.Words.{App, Rule, app_of, with_rule}
 use Rattle.clap.specs.declared.builder.command.Command.{Command}
-use Rattle.kc_words.specs.Kconf.{flag_rule, option_rule, with_options}
+use Rattle.kc_words.specs.Kconf.{flag_rule, option_rule, repeated_rule, with_options}
 use Rattle.kc_words.proofs.command.with_options.Goals as goal
 
 last_rule : (r : Result Command AllocError) (a b : App) (rule : Rule) → a ≡ b → IfOk r (λ longer. app_of longer ≡ with_rule a rule) → IfOk r (λ longer. app_of longer ≡ with_rule b rule)
@@ -22,4 +22,6 @@ returns c =
     let nine = c.in_ok-command-9.ensures ∙ ap (λ a. with_rule a (flag_rule (codes "strict"))) eight in
     let ten = c.in_ok-command-10.ensures ∙ ap (λ a. with_rule a (flag_rule (codes "strict-tree"))) nine in
     let eleven = c.in_ok-command-11.ensures ∙ ap (λ a. with_rule a (flag_rule (codes "warn-lost"))) ten in
-    last_rule c.with_flag-5.result _ _ (flag_rule (codes "replace")) eleven c.with_flag-5.ensures
+    let twelve = c.in_ok-command-12.ensures ∙ ap (λ a. with_rule a (flag_rule (codes "replace"))) eleven in
+    let thirteen = c.in_ok-command-13.ensures ∙ ap (λ a. with_rule a (flag_rule (codes "check"))) twelve in
+    last_rule c.with_repeated.result _ _ (repeated_rule (codes "fragment")) thirteen c.with_repeated.ensures
