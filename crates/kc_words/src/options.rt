@@ -147,7 +147,8 @@ fn read_options(alloc: Global, matches: &ArgMatches<'_>) -> Result<Options, Usag
 fn exclusion(alloc: Global) -> UsageError
     ensures { IsExclusion result }
 {
-    let text = "error: the argument '--check' cannot be used with '--replace'\n\nFor more information, try '--help'.\n";
+    let text =
+        "error: the argument '--check' cannot be used with '--replace'\n\nFor more information, try '--help'.\n";
     match String::from_str(alloc, text) {
         Ok(text) => UsageError::Bad(text),
         Err(_) => UsageError::Memory,

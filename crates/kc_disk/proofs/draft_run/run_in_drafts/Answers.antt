@@ -33,24 +33,24 @@ returns-clause-ran g c =
     (λ texts how. (texts ≡ wanted_texts options d.config.bytes.items d.header.bytes.items d.minimal.bytes.items d.depfile.bytes.items) × (how ≡ status))
     (maker_call (g.N.Maker.state c.args.notes) (g.N.Maker.state d.notes) (g.N.Maker.failing c.args.notes Notes)) kept)
     (λ status r.
-      let (leaves, same) = leaves-from r.files options _ r.left _ _ _ r.counts status _ _ r.states first r.leaves in
-      record {
-        files = r.files;
-        are_files = r.are_files;
-        left = r.left;
-        counts = r.counts;
-        ran = status;
-        states = r.states;
-        drafts = drafts;
-        leaves = leaves;
-        keeps = r.keeps;
-        notes_fail = rw (sym c.new-drafts.ensures.notes) r.notes_fail;
-        reached = λ t is. (d.notes_alone t is, r.reached (with_made drafts Notes t.notes) (ap (drafted d.made.items d.config d.header d.minimal d.depfile) is));
-        told = λ un first_told is t after.
-            r.told un _ (ap (drafted fresh.made.items fresh.config fresh.header fresh.minimal fresh.depfile) (ap (g.N.Maker.state) c.new-drafts.ensures.notes ∙ is)) (with_made drafts Notes t.notes)
-            (ap (drafted d.made.items d.config d.header d.minimal d.depfile) after) ∙ ap notes_of (sym same);
-        used = (refl, refl);
-      }) c.configure_over.ensures.ran
+    let (leaves, same) = leaves-from r.files options _ r.left _ _ _ r.counts status _ _ r.states first r.leaves in
+    record {
+      files = r.files;
+      are_files = r.are_files;
+      left = r.left;
+      counts = r.counts;
+      ran = status;
+      states = r.states;
+      drafts = drafts;
+      leaves = leaves;
+      keeps = r.keeps;
+      notes_fail = rw (sym c.new-drafts.ensures.notes) r.notes_fail;
+      reached = λ t is. (d.notes_alone t is, r.reached (with_made drafts Notes t.notes) (ap (drafted d.made.items d.config d.header d.minimal d.depfile) is));
+      told = λ un first_told is t after.
+          r.told un _ (ap (drafted fresh.made.items fresh.config fresh.header fresh.minimal fresh.depfile) (ap (g.N.Maker.state) c.new-drafts.ensures.notes ∙ is)) (with_made drafts Notes t.notes)
+          (ap (drafted d.made.items d.config d.header d.minimal d.depfile) after) ∙ ap notes_of (sym same);
+      used = (refl, refl);
+    }) c.configure_over.ensures.ran
 
 pub returns-clause-silent : goal.returns-clause-silent
 returns-clause-silent g c =
