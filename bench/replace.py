@@ -110,7 +110,7 @@ def a_text_that_is_cut_or_longer_is_replaced(folder):
 
 
 def another_text_changes_its_file_alone(folder):
-    folder.run("--replace", *FILES, "Kconfig")
+    folder.run("--config", "none", "--out", ".config", "--replace", *FILES, "Kconfig")
     before = folder.marks(".config", "h", "min", "d")
     folder.put("Kconfig", TREE.replace('"x"', '"y"'))
     folder.run("--config", "none", "--out", ".config", "--replace", *FILES, "Kconfig")

@@ -372,7 +372,8 @@ def many_files_are_read(place):
         place.put(f"part{n}", f'config P_{n}\n\tbool "p"\n')
     for n in range(40):
         place.put(f"frag{n}", f"CONFIG_P_{n}=y\n")
-    names = [f"./{name}" for name in ["Kconfig", *(f"part{n}" for n in range(150))]] + [f"frag{n}" for n in range(40)]
+    tree = [f"./{name}" for name in ["Kconfig", *(f"part{n}" for n in range(150))]]
+    names = [*tree, "none", *(f"frag{n}" for n in range(40))]
     rule = "o: \\\n" + " \\\n".join(f" {name}" for name in names) + "\n" + "".join(f"\n{name}:\n" for name in names)
     for flags in ([], ["--replace"]):
         said = place.run(*flags, "--config", "none", "--out", "o", "--depfile", "d", "Kconfig", *(f"frag{n}" for n in range(40)))
