@@ -178,14 +178,14 @@ SMALL = [
         root="tree",
         fragments={"x.cfg": "CONFIG_A=y\n", "y.cfg": ""},
         outputs=outputs("CONFIG_A=y\n", "#define CONFIG_A 1\n", "CONFIG_A=y\n")
-        | {"out.d": rule_of("tree/Kconfig", "tree/b/Kconfig", "tree/d", "tree/c", "x.cfg", "y.cfg")},
+        | {"out.d": rule_of("tree/Kconfig", "tree/b/Kconfig", "tree/d", "tree/c", "start.config", "x.cfg", "y.cfg")},
         notes="",
     ),
     Case(
         name="a rule for make of one file, and the .config alone",
         tree={"Kconfig": TWO},
         settings="CONFIG_Q=y\n",
-        outputs=outputs("CONFIG_A=y\n# CONFIG_B is not set\n") | {"out.d": rule_of("./Kconfig")},
+        outputs=outputs("CONFIG_A=y\n# CONFIG_B is not set\n") | {"out.d": rule_of("./Kconfig", "start.config")},
         notes="start.config:1: warning K7: unknown symbol Q\n",
     ),
     Case(
