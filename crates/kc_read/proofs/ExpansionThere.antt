@@ -73,7 +73,7 @@ may_open files names n name h = by (list_any (same_name name) names) (nat_le 64 
     by false false (Some bytes) e f g = record { bytes = bytes; there = f; fewer = grind (arith, nat_tests) }
 
 module _ (files : Files) (a : FileContext) (deeper : (own : List (Located Named)) (log : Log) (name bytes : List ℕ) → length a.open_files < 64 →
-    RestThere files (inside a own name) (unread_lines bytes 1) [] (with_file log bytes)) where
+    RestThere files (inside a own name) (unread_lines bytes 1) [] (with_file log name bytes)) where
   module _ (l : UnreadLines) (own : List (Located Named)) (log : Log)
       (on : (m : UnreadLines) (own' : List (Located Named)) (log' : Log) → length m.lines < length l.lines → RestThere files a m own' log') where
     end_there : l.lines ≡ [] → (os : List OpenBlock) → located_blocks own ≡ os → RestThere files a l own log
@@ -91,7 +91,7 @@ module _ (files : Files) (a : FileContext) (deeper : (own : List (Located Named)
 
     opened_there : (m : UnreadLines) (name bytes : List ℕ) → NextStatement l m (context_of a own log) (Ok (SourceLine name)) → length m.lines < length l.lines →
         source_cause files a log.total_lines name ≡ None → files name ≡ Some bytes →
-        RestThere files (inside a own name) (unread_lines bytes 1) [] (with_file log bytes) → RestThere files a l own log
+        RestThere files (inside a own name) (unread_lines bytes 1) [] (with_file log name bytes) → RestThere files a l own log
     opened_there m name bytes n less free there (Err e, d) = (Err e, refused_inside a l m own log name bytes e n free there d)
     opened_there m name bytes n less free there (Ok more, d) =
         let x = on m (with_line own a l.number (SourceLine name)) more less in
@@ -144,15 +144,15 @@ file_there : (files : Files) (depth : ℕ) (a : FileContext) → 64 - length a.o
 file_there files zero a few l own log = lines_there files a (λ own' log' name bytes lt. absurd (omega arith)) (length l.lines) l own log (omega arith)
 file_there files (suc depth) a few l own log =
     lines_there files a (λ own' log' name bytes lt. file_there files depth (inside a own' name) (omega (arith, length-append a.open_files (name ∷ [])))
-    (unread_lines bytes 1) [] (with_file log' bytes)) (length l.lines) l own log (omega arith)
+    (unread_lines bytes 1) [] (with_file log' name bytes)) (length l.lines) l own log (omega arith)
 
 root_there : (files : Files) (root : List ℕ) (o : Option (List ℕ)) (c : Option Cause) → files root ≡ o → bytes_cause root 0 o ≡ c → (r : Result Log Refused)
-    × MatchOption c ((bytes : List ℕ) × (files root ≡ Some bytes) × Rest files (root_context root) (unread_lines bytes 1) [] (with_file nothing_read bytes) r)
+    × MatchOption c ((bytes : List ℕ) × (files root ≡ Some bytes) × Rest files (root_context root) (unread_lines bytes 1) [] (with_file nothing_read root bytes) r)
     (λ w. r ≡ Err (refused w root 0))
 root_there files root o (Some w) e f = (Err (refused w root 0), refl)
 root_there files root None None e f = absurd cc
 root_there files root (Some bytes) None e f =
-    let x = file_there files 64 (root_context root) (omega arith) (unread_lines bytes 1) [] (with_file nothing_read bytes) in
+    let x = file_there files 64 (root_context root) (omega arith) (unread_lines bytes 1) [] (with_file nothing_read root bytes) in
     (x.0, (bytes, e, x.1))
 
 pub has_one_expansion : HasOneExpansion

@@ -11,6 +11,7 @@ pub mod NameLemmas
 pub mod OneExpansion
 pub mod OneLine
 pub mod OpenedFileLemmas
+pub mod OpenedOnce
 pub mod PartLemmas
 pub mod ReplacedLemmas
 pub mod RestLemmas

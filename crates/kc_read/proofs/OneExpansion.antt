@@ -88,9 +88,9 @@ module _ (files : Files) (a : FileContext) (l : UnreadLines) (own : List (Locate
     said_plain : is_source s ≡ false → limit_cause a own log s ≡ None → Rest files a m (with_line own a l.number s) (logged log a l.number s) r → Said m s r
     said_bad_source : (name : List ℕ) (c : Cause) → s ≡ SourceLine name → source_cause files a log.total_lines name ≡ Some c → r ≡ Err (refused c a.file l.number) → Said m s r
     said_inside : (name bytes : List ℕ) (e : Refused) → s ≡ SourceLine name → source_cause files a log.total_lines name ≡ None → files name ≡ Some bytes →
-        Rest files (inside a own name) (unread_lines bytes 1) [] (with_file log bytes) (Err e) → r ≡ Err e → Said m s r
+        Rest files (inside a own name) (unread_lines bytes 1) [] (with_file log name bytes) (Err e) → r ≡ Err e → Said m s r
     said_source : (name bytes : List ℕ) (more : Log) → s ≡ SourceLine name → source_cause files a log.total_lines name ≡ None → files name ≡ Some bytes →
-        Rest files (inside a own name) (unread_lines bytes 1) [] (with_file log bytes) (Ok more) →
+        Rest files (inside a own name) (unread_lines bytes 1) [] (with_file log name bytes) (Ok more) →
         Rest files a m (with_line own a l.number (SourceLine name)) more r → Said m s r
 
   abbrev Says : UnreadLines → Result Named Cause → Result Log Refused → Type 0
@@ -196,13 +196,13 @@ module _ (files : Files) (a : FileContext) (l m : UnreadLines) (own : List (Loca
     module _ (bytes : List ℕ) (free : source_cause files a log.total_lines name ≡ None) (there : files name ≡ Some bytes) where
       -- the same file is opened
       abbrev Inner : Result Log Refused → Type 0
-      Inner r = Rest files (inside a own name) (unread_lines bytes 1) [] (with_file log bytes) r
+      Inner r = Rest files (inside a own name) (unread_lines bytes 1) [] (with_file log name bytes) r
 
-      inner : (n b : List ℕ) (r : Result Log Refused) → source_line name ≡ source_line n → files n ≡ Some b → Rest files (inside a own n) (unread_lines b 1) [] (with_file log b) r → Inner r
+      inner : (n b : List ℕ) (r : Result Log Refused) → source_line name ≡ source_line n → files n ≡ Some b → Rest files (inside a own n) (unread_lines b 1) [] (with_file log n b) r → Inner r
       inner n b r e f d =
           let g : n ≡ name = sym (one_name name n e) in
           let h : b ≡ bytes = one_some (files name) b bytes (subst (λ k. files k ≡ Some b) g f) there in
-          subst (λ x. Rest files (inside a own name) (unread_lines x 1) [] (with_file log x) r) h (subst (λ k. Rest files (inside a own k) (unread_lines b 1) [] (with_file log b) r) g d)
+          subst (λ x. Rest files (inside a own name) (unread_lines x 1) [] (with_file log name x) r) h (subst (λ k. Rest files (inside a own k) (unread_lines b 1) [] (with_file log k b) r) g d)
 
       -- what the file gives, and what follows it
       abbrev Entered : Type 0
@@ -263,7 +263,7 @@ one_rest {files} (source a l m own log more name bytes r n free there d f) other
     one_log g h i = cc
 
 abbrev RootGives : Files → List ℕ → Result Log Refused → Type 0
-RootGives files root r = (bytes : List ℕ) × (files root ≡ Some bytes) × Rest files (root_context root) (unread_lines bytes 1) [] (with_file nothing_read bytes) r
+RootGives files root r = (bytes : List ℕ) × (files root ≡ Some bytes) × Rest files (root_context root) (unread_lines bytes 1) [] (with_file nothing_read root bytes) r
 
 pub one_expansion_law : OneExpansion
 one_expansion_law files root r other d e = by (bytes_cause root 0 (files root)) d e
@@ -272,4 +272,4 @@ one_expansion_law files root r other d e = by (bytes_cause root 0 (files root)) 
     by (Some c) x y = x ∙ sym y
     by None x y =
         let b : y.0 ≡ x.0 = one_some (files root) y.0 x.0 y.1 x.1 in
-        one_rest x.2 other (subst (λ b. Rest files (root_context root) (unread_lines b 1) [] (with_file nothing_read b) other) b y.2)
+        one_rest x.2 other (subst (λ b. Rest files (root_context root) (unread_lines b 1) [] (with_file nothing_read root b) other) b y.2)

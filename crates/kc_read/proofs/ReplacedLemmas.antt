@@ -66,7 +66,7 @@ pub expanded_is_list_of : ExpandedIsListOf
 expanded_is_list_of files root log h = by (bytes_cause root 0 (files root)) h
   where
     by : (o : Option Cause) → MatchOption o ((bytes : List ℕ) × (files root ≡ Some bytes)
-        × Rest files (root_context root) (unread_lines bytes 1) [] (with_file nothing_read bytes) (Ok log)) (λ c. Ok log ≡ Err (refused c root 0)) →
+        × Rest files (root_context root) (unread_lines bytes 1) [] (with_file nothing_read root bytes) (Ok log)) (λ c. Ok log ≡ Err (refused c root 0)) →
         IsListOf files root log.lines
     by None x =
         let m : Adds files root (unread_lines x.0 1) [] log.lines = made x.2 in

@@ -136,7 +136,7 @@ source_allowed files first modules names a own log f p name i allowed = (λ j. s
 pub inside_refused : (files : Files) (first : List (List ℕ)) (modules : Option SymId) (names : List (List ℕ)) (a : FileContext) (l m : UnreadLines)
     (own : List (Located Named)) (log : Log) (f : Frame) (p : Progress) (name bytes : List ℕ) (r : Refusal) → IsState first modules names a own log p f →
     NextStatement l m (context_of a own log) (Ok (SourceLine name)) → sourcing_cause files (open_names p) p.total_lines name ≡ None → files name ≡ Some bytes →
-    IsRestRefusal files (inside a own name) (unread_lines bytes 1) [] (with_file log bytes) r → IsRestRefusal files a l own log r
+    IsRestRefusal files (inside a own name) (unread_lines bytes 1) [] (with_file log name bytes) r → IsRestRefusal files a l own log r
 inside_refused files first modules names a l m own log f p name bytes r i next allowed found inner ne =
     refused_inside a l m own log name bytes (refusal_view r) next (source_allowed files first modules names a own log f p name i allowed) found (inner ne)
 
@@ -153,7 +153,7 @@ no_entry a own n name e =
 pub source_goes : (files : Files) (first : List (List ℕ)) (modules : Option SymId) (known names : List (List ℕ)) (a : FileContext) (l m : UnreadLines)
     (own : List (Located Named)) (log : Log) (f g : Frame) (p q done : Progress) (name bytes : List ℕ) (line : ℕ) → IsState first modules known a own log p f →
     NextStatement l m (context_of a own log) (Ok (SourceLine name)) → line ≡ l.number → sourcing_cause files (open_names p) p.total_lines name ≡ None →
-    files name ≡ Some bytes → IsFileRead files first modules names (inside a own name) (unread_lines bytes 1) (with_file log bytes) q →
+    files name ≡ Some bytes → IsFileRead files first modules names (inside a own name) (unread_lines bytes 1) (with_file log name bytes) q →
     g ≡ record f { entry = entry.Nothing } → open_names done ≡ open_names p → done ≡ record q { open_files = done.open_files } →
     HasAdvanced files first modules names a l m own log done g
 source_goes files first modules known names a l m own log f g p q done name bytes line i next e allowed found inner frame_is files_are done_is = record {
@@ -164,6 +164,7 @@ source_goes files first modules known names a l m own log f g p q done name byte
       lines = inner.progress.lines;
       mentions = inner.progress.mentions;
       total_lines = inner.progress.total_lines;
+      opened = inner.progress.opened;
       defined_is = inner.progress.defined_is;
       config = inner.progress.config;
       modules_is = inner.progress.modules_is;

@@ -8,7 +8,7 @@ use Rattle.std.proofs.lemmas.Grind.{flat_map-append}
 use Rattle.std.proofs.lemmas.List.Elements.{filter-append, filter_map-append}
 use Rattle.std.proofs.lemmas.List.Folds.{list_any-append}
 use Rattle.kc_expr.specs.declared.expression.SymId.{SymId}
-use Rattle.kc_expr.specs.Names.{all_mentioned, number_of, symbol, Extends}
+use Rattle.kc_expr.specs.Names.{all_mentioned, mention, number_of, symbol, Extends}
 use Rattle.kc_expr.proofs.NamesLemmas.{extends_on, mentioned_on, mentioned_extends, all_mentioned-append}
 use Rattle.kc_read.specs.declared.frame.Frame.{Frame}
 use Rattle.kc_read.specs.declared.progress.Progress.{Progress}
@@ -120,6 +120,7 @@ progress_taken first modules known names a own log f g p q s x n i fr m t begun 
       mentions = mentioned_on first known names (flat_map names_in_statement ss) (names_in_statement x) i.mentions m.mentions
           ∙ ap (all_mentioned first) (words_push ss x ∙ ap (flat_map names_in_statement) (sym pushed));
       total_lines = t.total_lines ∙ i.total_lines;
+      opened = t.opened ∙ i.opened;
       defined_is =
           λ later e.
           t.defined_is
@@ -168,7 +169,7 @@ context_same first modules names a own log f p c i e_entry e_own e_choice e_modu
 -- inside a file that is sourced
 pub state_inside : (first : List (List ℕ)) (modules : Option SymId) (names : List (List ℕ)) (a : FileContext) (own : List (Located Named)) (log : Log)
     (f g : Frame) (p q : Progress) (name bytes : List ℕ) (total_lines : ℕ) → IsState first modules names a own log p f → IsSourcedFrame f name g →
-    IsEntered name total_lines p q → total_lines ≡ p.total_lines + lines_of bytes → IsState first modules names (inside a own name) [] (with_file log bytes) q g
+    IsEntered name total_lines p q → total_lines ≡ p.total_lines + lines_of bytes → IsState first modules names (inside a own name) [] (with_file log name bytes) q g
 state_inside first modules names a own log f g p q name bytes total_lines i n t c =
     let blocks : map (λ o. o.block) f.blocks.items ≡ open_blocks (statements own) = ap (map (λ o. o.block)) i.frame.blocks ∙ blocks_of_located own in
     let mapped : length (map (λ o. o.block) f.blocks.items) ≡ length f.blocks.items = simp length-map in
@@ -179,6 +180,7 @@ state_inside first modules names a own log f g p q name bytes total_lines i n t 
         lines = λ later e. ap (λ ls. map line_view ls.items) t.lines ∙ i.progress.lines later e;
         mentions = i.progress.mentions;
         total_lines = t.total_lines_is ∙ c ∙ ap (λ k. k + lines_of bytes) i.progress.total_lines;
+        opened = t.opened_is ∙ ap (λ ns. mention ns name) i.progress.opened;
         defined_is = λ later e. t.defined_is ∙ i.progress.defined_is later e;
         config = subst (λ o. IsNamed names o (last_of (definitions (statements log.lines)))) (sym t.config) i.progress.config;
         modules_is = subst (λ o. IsNamed names o (modules_of (statements log.lines))) (sym t.modules_is) i.progress.modules_is;
@@ -217,12 +219,13 @@ effect_same first modules known names a own log f p s x i m =
 
 -- as the root file is opened
 pub state_begun : (modules : Option SymId) (names : List (List ℕ)) (root bytes : List ℕ) (total_lines : ℕ) (f : Frame) (p : Progress) →
-    IsBegun root total_lines f p → total_lines ≡ 0 + lines_of bytes → IsState names modules names (root_context root) [] (with_file nothing_read bytes) p f
+    IsBegun root total_lines f p → total_lines ≡ 0 + lines_of bytes → IsState names modules names (root_context root) [] (with_file nothing_read root bytes) p f
 state_begun modules names root bytes total_lines f p b c = record {
   progress = record {
     lines = λ later e. ap (map line_view) b.lines;
     mentions = refl;
     total_lines = b.total_lines_is ∙ c;
+    opened = b.opened_is;
     defined_is = λ later e. b.defined_is;
     config = subst (λ o. IsNamed names o None) (sym b.config) tt;
     modules_is = subst (λ o. IsNamed names o None) (sym b.modules_is) tt;
@@ -240,7 +243,7 @@ state_begun modules names root bytes total_lines f p b c = record {
 }
 
 pub expands_read : (files : Files) (root bytes : List ℕ) (r : Result Log Refused) → bytes_cause root 0 (files root) ≡ None → files root ≡ Some bytes →
-    Rest files (root_context root) (unread_lines bytes 1) [] (with_file nothing_read bytes) r → Expands files root r
+    Rest files (root_context root) (unread_lines bytes 1) [] (with_file nothing_read root bytes) r → Expands files root r
 expands_read files root bytes r allowed found rest = rw allowed (bytes, found, rest)
 
 pub expands_refused : (files : Files) (root : List ℕ) (why : Cause) (e : Refused) → bytes_cause root 0 (files root) ≡ Some why → e ≡ refused why root 0 → Expands files root (Err e)

@@ -27,3 +27,4 @@ pub record IsExpansion (first : List (List ℕ)) (modules : Option SymId) (names
   pub mentions : names ≡ all_mentioned first (flat_map names_in_statement (statements log.lines))
   pub defined_is : AreNumbers names e.defined (defined (statements log.lines))
   pub modules_is : IsNamed names e.modules (modules_of (statements log.lines))
+  pub opened_is : e.opened ≡ log.opened

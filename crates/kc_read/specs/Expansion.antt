@@ -34,10 +34,12 @@ pub record FileContext : Type 0 where
   pub file : List ℕ
   pub blocks : List Block
 
--- what was read: the statements of all files, and how many physical lines the files opened so far have
+-- what was read: the statements of all files, how many physical lines the files opened so far have, and the names of these
+-- files, each once, in the order of their first opening
 pub record Log : Type 0 where
   pub lines : List (Located Named)
   pub total_lines : ℕ
+  pub opened : List (List ℕ)
 
 abbrev pub is_choice : Block → Bool
 is_choice block.Choice = true
@@ -105,14 +107,14 @@ source_cause files a n name = sourcing_cause files a.open_files n name
 abbrev pub inside : FileContext → List (Located Named) → List ℕ → FileContext
 inside a own name = record { open_files = a.open_files ++ name ∷ []; file = name; blocks = a.blocks ++ open_blocks (statements own) }
 
-abbrev pub with_file : Log → List ℕ → Log
-with_file log bytes = record { lines = log.lines; total_lines = log.total_lines + lines_of bytes }
+abbrev pub with_file : Log → List ℕ → List ℕ → Log
+with_file log name bytes = record { lines = log.lines; total_lines = log.total_lines + lines_of bytes; opened = mention log.opened name }
 
 abbrev pub with_line : List (Located Named) → FileContext → ℕ → Named → List (Located Named)
 with_line ls a n s = ls ++ record { file = a.file; line = n; statement = s } ∷ []
 
 abbrev pub logged : Log → FileContext → ℕ → Named → Log
-logged log a n s = record { lines = with_line log.lines a n s; total_lines = log.total_lines }
+logged log a n s = record { lines = with_line log.lines a n s; total_lines = log.total_lines; opened = log.opened }
 
 -- the help lines are dropped
 abbrev pub without_help : UnreadLines → UnreadLines
@@ -182,22 +184,22 @@ pub data Rest (files : Files) : FileContext → UnreadLines → List (Located Na
       Rest files a l own log (Err (refused c a.file l.number))
   refused_inside : (a : FileContext) (l m : UnreadLines) (own : List (Located Named)) (log : Log) (name bytes : List ℕ) (e : Refused) →
       NextStatement l m (context_of a own log) (Ok (SourceLine name)) → source_cause files a log.total_lines name ≡ None → files name ≡ Some bytes →
-      Rest files (inside a own name) (unread_lines bytes 1) [] (with_file log bytes) (Err e) → Rest files a l own log (Err e)
+      Rest files (inside a own name) (unread_lines bytes 1) [] (with_file log name bytes) (Err e) → Rest files a l own log (Err e)
   source : (a : FileContext) (l m : UnreadLines) (own : List (Located Named)) (log more : Log) (name bytes : List ℕ) (r : Result Log Refused) →
       NextStatement l m (context_of a own log) (Ok (SourceLine name)) → source_cause files a log.total_lines name ≡ None → files name ≡ Some bytes →
-      Rest files (inside a own name) (unread_lines bytes 1) [] (with_file log bytes) (Ok more) →
+      Rest files (inside a own name) (unread_lines bytes 1) [] (with_file log name bytes) (Ok more) →
       Rest files a m (with_line own a l.number (SourceLine name)) more r → Rest files a l own log r
 
 abbrev pub root_context : List ℕ → FileContext
 root_context root = record { open_files = root ∷ []; file = root; blocks = [] }
 
 abbrev pub nothing_read : Log
-nothing_read = record { lines = []; total_lines = 0 }
+nothing_read = record { lines = []; total_lines = 0; opened = [] }
 
 -- the expanded list of the root file, or the first refusal
 abbrev pub Expands : Files → List ℕ → Result Log Refused → Type 0
 Expands files root r = MatchOption (bytes_cause root 0 (files root))
-    ((bytes : List ℕ) × (files root ≡ Some bytes) × Rest files (root_context root) (unread_lines bytes 1) [] (with_file nothing_read bytes) r)
+    ((bytes : List ℕ) × (files root ≡ Some bytes) × Rest files (root_context root) (unread_lines bytes 1) [] (with_file nothing_read root bytes) r)
     (λ c. r ≡ Err (refused c root 0))
 
 -- a root file gives at most one list or refusal

@@ -1,11 +1,21 @@
 -- Trusted: The files that an expansion opens.
-use Rattle.std.specs.Prelude.{◌≡◌, ℕ, List, [], ◌∷◌, ◌++◌, Some, Result}
+use Rattle.std.specs.Prelude.{◌≡◌, ℕ, List, [], ◌∷◌, ◌++◌, Some, Ok, Result}
 use Rattle.std.specs.List.{Contains}
 use Rattle.kc_text.specs.Lines.{UnreadLines, unread_lines}
-use Rattle.kc_read.specs.Expansion.{FileContext, Log, Refused, Rest, at_end, unclosed, too_long, no_tokens, blank, bad_line, over_limit, statement, bad_source, refused_inside, source, root_context, with_file, nothing_read}
+use Rattle.kc_read.specs.Expansion.{FileContext, Log, Refused, Rest, Expands, at_end, unclosed, too_long, no_tokens, blank, bad_line, over_limit, statement, bad_source, refused_inside, source, root_context, with_file, nothing_read}
 use Rattle.kc_read.specs.Files.{Files}
 use Rattle.kc_read.specs.Sources.{SourceNames}
 use Rattle.kc_read.specs.Statements.{Located, Named}
+
+-- Where the root file is accepted, these are the files that are opened, each once, in the order of their first opening.
+abbrev pub AreOpened : Files → List ℕ → List (List ℕ) → Type 0
+AreOpened files root names = (log : Log) → Expands files root (Ok log) → names ≡ log.opened
+
+-- there is such a list, and where the root file is accepted, no other
+abbrev pub OpenedAreOneList : Type 0
+OpenedAreOneList =
+    (files : Files) (root : List ℕ) → (names : List (List ℕ)) × AreOpened files root names
+    × ((log : Log) (others : List (List ℕ)) → Expands files root (Ok log) → AreOpened files root others → others ≡ names)
 
 -- The files that are asked for along the rest of a file, in order: those that are opened, and last the one that may not
 -- be opened or has no bytes, where there is one.
@@ -34,7 +44,7 @@ IsNamedByOne files before name = (by bytes : List ℕ) × Contains before by × 
 abbrev pub SourcedFilesAreNamed : Type 0
 SourcedFilesAreNamed =
     (files : Files) (root bytes : List ℕ) (r : Result Log Refused) → files root ≡ Some bytes →
-    (d : Rest files (root_context root) (unread_lines bytes 1) [] (with_file nothing_read bytes) r) (before after : List (List ℕ)) (name : List ℕ) →
+    (d : Rest files (root_context root) (unread_lines bytes 1) [] (with_file nothing_read root bytes) r) (before after : List (List ℕ)) (name : List ℕ) →
     sourced_files d ≡ before ++ name ∷ after → IsNamedByOne files (root ∷ before) name
 
 -- lines have one list of names, and no other

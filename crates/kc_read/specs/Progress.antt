@@ -88,6 +88,7 @@ pub record IsProgress (first : List (List ℕ)) (modules : Option SymId) (names 
   pub lines : ForLater names (λ number. map line_view p.lines.items ≡ map (located_numbered modules number) log.lines)
   pub mentions : names ≡ all_mentioned first (flat_map names_in_statement (statements log.lines))
   pub total_lines : p.total_lines ≡ log.total_lines
+  pub opened : p.opened ≡ log.opened
   pub defined_is : AreNumbers names p.defined (defined (statements log.lines))
   pub config : IsNamed names p.config (last_of (definitions (statements log.lines)))
   pub modules_is : IsNamed names p.modules (modules_of (statements log.lines))
@@ -142,6 +143,7 @@ pub record IsRemembered (s : Numbered) (old new : Progress) : Type 0 where
   pub modules_is : new.modules ≡ option_or old.modules (if is_modules s then old.config else None)
   pub lines : new.lines ≡ old.lines
   pub total_lines : new.total_lines ≡ old.total_lines
+  pub opened : new.opened ≡ old.opened
   pub open_files : new.open_files ≡ old.open_files
 
 -- a statement was taken
@@ -151,6 +153,7 @@ pub record IsTaken (s : Numbered) (line : ℕ) (f g : Frame) (old new : Progress
   pub modules_is : new.modules ≡ option_or old.modules (if is_modules s then old.config else None)
   pub lines : map line_view new.lines.items ≡ map line_view old.lines.items ++ record { file = f.file.value.items; line = line; statement = s } ∷ []
   pub total_lines : new.total_lines ≡ old.total_lines
+  pub opened : new.opened ≡ old.opened
   pub open_files : new.open_files ≡ old.open_files
   pub file : g.file ≡ f.file
   pub depth : g.depth ≡ f.depth
@@ -174,6 +177,7 @@ pub record IsSourcedFrame (f : Frame) (name : List ℕ) (g : Frame) : Type 0 whe
 pub record IsEntered (name : List ℕ) (total_lines : ℕ) (old new : Progress) : Type 0 where
   pub open_files : (f : Rc (Vec ℕ Global) Global) × (f.value.items ≡ name) × (new.open_files.items ≡ old.open_files.items ++ f ∷ [])
   pub total_lines_is : new.total_lines ≡ total_lines
+  pub opened_is : new.opened ≡ mention old.opened name
   pub lines : new.lines ≡ old.lines
   pub defined_is : new.defined ≡ old.defined
   pub config : new.config ≡ old.config
@@ -228,6 +232,7 @@ pub record IsBegun (root : List ℕ) (total_lines : ℕ) (f : Frame) (p : Progre
   pub entry : f.entry ≡ entry.Nothing
   pub lines : p.lines.items ≡ []
   pub total_lines_is : p.total_lines ≡ total_lines
+  pub opened_is : p.opened ≡ root ∷ []
   pub defined_is : p.defined ≡ []
   pub config : p.config ≡ None
   pub modules_is : p.modules ≡ None

@@ -23,13 +23,15 @@ use kc_expr::order::SymbolOrder;
 use std::alloc::Global;
 use std::rc::Rc;
 
-/// The expanded list of a root file: its lines, the defined symbols in order of their first definition, and the symbol
-/// in whose entry the first `modules` line stands.
+/// The expanded list of a root file: its lines, the defined symbols in order of their first definition, the symbol
+/// in whose entry the first `modules` line stands, and the names of the files that were opened, each once, in the order of
+/// their first opening.
 #[derive(Drop)]
 pub struct Expansion {
     pub lines: Vec<Line>,
     pub defined: SymbolOrder,
     pub modules: Option<SymId>,
+    pub opened: Names,
 }
 
 // What is known as the root file is opened.
@@ -44,6 +46,8 @@ fn begin(
     ensures bounded { IfOk result (λ r. IsBounded r.1) }
     ensures memory { IfErr result (λ f. f.code ≡ Memory) }
 {
+    let mut opened = Names::new(alloc);
+    opened.id(root)?;
     let name = Vec::from_slice(alloc, root)?;
     let file = Rc::new(alloc, name)?;
     let mut open_files = Vec::new(alloc);
@@ -61,6 +65,7 @@ fn begin(
         defined: SymbolOrder::new(alloc),
         config: None,
         modules: None,
+        opened,
         open_files,
     };
     Ok((frame, progress))
@@ -110,5 +115,6 @@ pub fn expand(
         lines: progress.lines,
         defined: progress.defined,
         modules: progress.modules,
+        opened: progress.opened,
     })
 }

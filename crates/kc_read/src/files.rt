@@ -171,6 +171,7 @@ fn enter(
     ensures bounded { OnOk result (IsBounded progress.new) }
     ensures memory { IfErr result (λ f. f.code ≡ Memory) }
 {
+    progress.opened.id(&name)?;
     let file = Rc::new(alloc, name)?;
     progress.open_files.push(file.clone()?)?;
     progress.total_lines = total_lines;

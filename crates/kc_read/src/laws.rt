@@ -3,7 +3,7 @@
 ghost use Rattle.kc_read.specs.Existing.{HasOneExpansion};
 ghost use Rattle.kc_read.specs.Expansion.{OneExpansion};
 ghost use Rattle.kc_read.specs.Lines.{OneStatement};
-ghost use Rattle.kc_read.specs.OpenedFiles.{SourcedFilesAreNamed, HasOneListOfNames};
+ghost use Rattle.kc_read.specs.OpenedFiles.{OpenedAreOneList, SourcedFilesAreNamed, HasOneListOfNames};
 ghost use Rattle.kc_read.specs.Replaced.{ExpandedIsListOf, OneListOf};
 
 /// The law of statements: in each context the tokens of a line are one statement or are refused for one cause, and
@@ -20,6 +20,12 @@ pub fn one_expansion()
 /// The law of answers: over any files a root file gives a list or a refusal, and no other. It does nothing.
 pub fn has_one_expansion()
     ensures { HasOneExpansion }
+{}
+
+/// The law of opened files: over any files the files that the expansion of a root file opens are one list, each once and in
+/// the order of their first opening. It does nothing.
+pub fn opened_are_one_list()
+    ensures { OpenedAreOneList }
 {}
 
 /// The law of the expanded list: it is the list of the root file, which has that file's own statements, in order and each

@@ -11,6 +11,7 @@ ghost use Rattle.kc_read.specs.Blocks.{defined_name};
 use crate::refusal::Code;
 use crate::statement::{Line, LineFault, Statement};
 use kc_expr::expression::SymId;
+use kc_expr::names::Names;
 use kc_expr::order::SymbolOrder;
 use std::rc::Rc;
 
@@ -18,8 +19,8 @@ use std::rc::Rc;
 const MOST_SYMBOLS: usize = 65535;
 
 /// What is remembered of all files read so far: their lines, the sum of their physical lines, the defined symbols in
-/// order of their first definition, the symbol defined last, the symbol of the first `modules` line, and the open
-/// files, the innermost last.
+/// order of their first definition, the symbol defined last, the symbol of the first `modules` line, the names of all files
+/// that were opened, in the order of their first opening, and the files that are open now, the innermost last.
 #[derive(Drop)]
 pub(crate) struct Progress {
     pub lines: Vec<Line>,
@@ -27,6 +28,7 @@ pub(crate) struct Progress {
     pub defined: SymbolOrder,
     pub config: Option<SymId>,
     pub modules: Option<SymId>,
+    pub opened: Names,
     pub open_files: Vec<Rc<Vec<u8>>>,
 }
 
@@ -47,7 +49,7 @@ impl Progress {
         requires { HasSymbolsWithin self.old }
         ensures defined { OnOk result (self.new.defined ≡ ranked self.old.defined id) }
         ensures config { OnOk result (self.new.config ≡ Some id) }
-        ensures kept { (self.new.lines ≡ self.old.lines) × (self.new.total_lines ≡ self.old.total_lines) × (self.new.modules ≡ self.old.modules) × (self.new.open_files ≡ self.old.open_files) }
+        ensures kept { (self.new.lines ≡ self.old.lines) × (self.new.total_lines ≡ self.old.total_lines) × (self.new.modules ≡ self.old.modules) × (self.new.opened ≡ self.old.opened) × (self.new.open_files ≡ self.old.open_files) }
         ensures within { OnOk result (HasSymbolsWithin self.new) }
         ensures allowed { OnOk result (symbol_limit_cause self.old.defined id ≡ None) }
         ensures fault { IfErr result (λ f. IsFault f (λ c. symbol_limit_cause self.old.defined id ≡ Some c)) }
@@ -66,7 +68,7 @@ impl Progress {
     // The symbol that was defined last has a `modules` line.
     fn note_modules(&mut self)
         ensures modules { self.new.modules ≡ option_or self.old.modules self.old.config }
-        ensures kept { (self.new.lines ≡ self.old.lines) × (self.new.total_lines ≡ self.old.total_lines) × (self.new.defined ≡ self.old.defined) × (self.new.config ≡ self.old.config) × (self.new.open_files ≡ self.old.open_files) }
+        ensures kept { (self.new.lines ≡ self.old.lines) × (self.new.total_lines ≡ self.old.total_lines) × (self.new.defined ≡ self.old.defined) × (self.new.config ≡ self.old.config) × (self.new.opened ≡ self.old.opened) × (self.new.open_files ≡ self.old.open_files) }
     {
         if self.modules.is_none() {
             self.modules = self.config;

@@ -20,7 +20,7 @@ returns-in_err-read_file-clause-refused c =
     let state = state_begun c.args.modules c.args.names.now root bytes c.in-Ok.opened.1 c.in-Ok-begin.begun.0 c.in-Ok-begin.begun.1 c.in-Ok-begin.ensures.begun c.in-Ok.ensures.total_lines.0 in
     refusal_passed c.from_residual.result (λ r. r.code ≢ Memory → Expands files root (Err (refusal_view r))) c.in_err-read_file.field-0.0 c.from_residual.ensures.1 (λ ne.
     expands_read files root bytes (Err (refusal_view c.in_err-read_file.field-0.0)) c.in-Ok.ensures.allowed c.in-Ok.ensures.bytes
-    (c.in_err-read_file.ensures.read c.args.names.now (root_context root) (with_file nothing_read bytes) state ne))
+    (c.in_err-read_file.ensures.read c.args.names.now (root_context root) (with_file nothing_read root bytes) state ne))
 
 pub returns-clause-expanded : goal.returns-clause-expanded
 returns-clause-expanded c =
@@ -28,7 +28,7 @@ returns-clause-expanded c =
     let root = c.args.root.now in
     let bytes = c.in-Ok.opened.0.now in
     let state = state_begun c.args.modules c.args.names.now root bytes c.in-Ok.opened.1 c.in-Ok-begin.begun.0 c.in-Ok-begin.begun.1 c.in-Ok-begin.ensures.begun c.in-Ok.ensures.total_lines.0 in
-    let read = c.in_ok-read_file.ensures.read c.args.names.now (root_context root) (with_file nothing_read bytes) state in (
+    let read = c.in_ok-read_file.ensures.read c.args.names.now (root_context root) (with_file nothing_read root bytes) state in (
       read.log_now,
       expands_read files root bytes (Ok read.log_now) c.in-Ok.ensures.allowed c.in-Ok.ensures.bytes read.rest,
       record {
@@ -36,5 +36,6 @@ returns-clause-expanded c =
         mentions = read.progress.mentions;
         defined_is = read.progress.defined_is;
         modules_is = read.progress.modules_is;
+        opened_is = read.progress.opened;
       },
     )

@@ -167,7 +167,7 @@ source-returns-in_err-read_file-clause-read t c = λ first a own log l m i next 
     statement_passed files first modules c.read_file.new.names a l m own log c.read_file.new.progress c.args.frame.now c.from_residual.result c.in_err-read_file.field-0.0 c.from_residual.ensures.1
     (inside_refused files first modules c.args.names.now a l m own log c.args.frame.now c.args.progress.now name bytes c.in_err-read_file.field-0.0 i next
     (rw c.deref.ensures.value at c.in-Ok.ensures.allowed) (rw c.deref.ensures.value at c.in-Ok.ensures.bytes)
-    (c.in_err-read_file.ensures.read first (inside a own name) (with_file log bytes) within))
+    (c.in_err-read_file.ensures.read first (inside a own name) (with_file log name bytes) within))
 
 pub source-returns-clause-read : goal.source-returns-clause-read
 source-returns-clause-read t c = λ first a own log l m i next line.
@@ -184,7 +184,7 @@ source-returns-clause-read t c = λ first a own log l m i next line.
     source_goes files first modules c.args.names.now c.read_file.new.names a l m own log c.args.frame.now (record c.args.frame.now { entry = entry.Nothing })
     c.args.progress.now q (record q { open_files = c.pop.new.self }) name bytes c.args.line i next line
     (rw c.deref.ensures.value at c.in-Ok.ensures.allowed) (rw c.deref.ensures.value at c.in-Ok.ensures.bytes)
-    (c.in_ok-read_file.ensures.read first (inside a own name) (with_file log bytes) within) refl (ap (map (λ f. f.value.items)) same_files) refl
+    (c.in_ok-read_file.ensures.read first (inside a own name) (with_file log name bytes) within) refl (ap (map (λ f. f.value.items)) same_files) refl
 
 pub read_file-returns-in_err-read_next-clause-names : goal.read_file-returns-in_err-read_next-clause-names
 read_file-returns-in_err-read_next-clause-names t c = extends_on _ _ _ c.loop-tokens.invariant.names c.in_err-read_next.ensures.names
