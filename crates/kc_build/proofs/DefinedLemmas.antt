@@ -262,7 +262,7 @@ module _ (files : Files) where
 
   by_bytes : (root : List ℕ) (log : Log) (o : Option Cause) →
       MatchOption o ((bytes : List ℕ) × (files root ≡ Some bytes)
-      × Rest files (root_context root) (unread_lines bytes 1) [] (with_file nothing_read bytes) (Ok log)) (λ c. Ok log ≡ Err (refused c root 0)) →
+      × Rest files (root_context root) (unread_lines bytes 1) [] (with_file nothing_read root bytes) (Ok log)) (λ c. Ok log ≡ Err (refused c root 0)) →
       Known log.lines
   by_bytes root log None h = rest_known h.2 (record { good = All-nil (λ m. is_good_name m ≡ true); few = omega arith })
   by_bytes root log (Some c) h = absurd (let e : ◌≡◌ {A = Result Log Refused} (Ok log) (Err (refused c root 0)) = h in cc)
@@ -301,7 +301,7 @@ module _ (files : Files) where
 
   allowed_by : (root : List ℕ) (log : Log) (o : Option Cause) →
       MatchOption o ((bytes : List ℕ) × (files root ≡ Some bytes)
-      × Rest files (root_context root) (unread_lines bytes 1) [] (with_file nothing_read bytes) (Ok log)) (λ c. Ok log ≡ Err (refused c root 0)) →
+      × Rest files (root_context root) (unread_lines bytes 1) [] (with_file nothing_read root bytes) (Ok log)) (λ c. Ok log ≡ Err (refused c root 0)) →
       AreAllowed log.lines
   allowed_by root log None h = rest_allowed h.2 (λ i l e. absurd cc)
   allowed_by root log (Some c) h = absurd (let e : ◌≡◌ {A = Result Log Refused} (Ok log) (Err (refused c root 0)) = h in cc)

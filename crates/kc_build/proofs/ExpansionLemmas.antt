@@ -157,7 +157,7 @@ rest_leaves (statement a l m own log s r n e f rest) i = rest_leaves rest (line_
 rest_leaves (bad_source a l m own log name c n e) i = tt
 rest_leaves (refused_inside a l m own log name bytes e n f g inner) i = tt
 rest_leaves (source a l m own log more name bytes r n e f inner rest) i =
-    let stands : Stands (inside a own name) [] (with_file log bytes) = record {
+    let stands : Stands (inside a own name) [] (with_file log name bytes) = record {
       nested = i.nested;
       blocks = i.blocks ∙ sym (append-nil (a.blocks ++ open_blocks (statements own)));
     } in
@@ -168,7 +168,7 @@ pub expansion_is_nested : (files : Files) (root : List ℕ) (log : Log) → Expa
 expansion_is_nested files root log x = by (bytes_cause root 0 (files root)) x
   where
     by : (o : Option Cause) → MatchOption o ((bytes : List ℕ) × (files root ≡ Some bytes)
-        × Rest files (root_context root) (unread_lines bytes 1) [] (with_file nothing_read bytes) (Ok log)) (λ c. Ok log ≡ Err (refused c root 0)) →
+        × Rest files (root_context root) (unread_lines bytes 1) [] (with_file nothing_read root bytes) (Ok log)) (λ c. Ok log ≡ Err (refused c root 0)) →
         IsNested [] (statements log.lines)
     by None e = rest_leaves e.2 (record { nested = λ i s f. absurd cc; blocks = refl })
     by (Some c) e = absurd cc

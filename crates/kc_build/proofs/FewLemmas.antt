@@ -3,7 +3,7 @@ use Rattle.std.proofs.Common.{◌≡◌, ℕ, ◌+◌, ◌<◌, ◌≤◌, nat_l
 use Rattle.std.specs.List.{list_any}
 use Rattle.std.proofs.lemmas.Bool.Decides.{nat_tests}
 use Rattle.std.proofs.lemmas.List.{length-map}
-use Rattle.kc_expr.specs.Names.{same_name}
+use Rattle.kc_expr.specs.Names.{mention, same_name}
 use Rattle.kc_text.specs.Lines.{UnreadLines, unread_lines}
 use Rattle.kc_read.specs.declared.refusal.Code.TheVariants as code
 use Rattle.kc_read.specs.Expansion.{FileContext, Expands, Log, Refused, Rest, bytes_cause, lines_of, nothing_read, of_file, with_file, refused, root_context, sourcing_cause, at_end, unclosed, too_long, no_tokens, blank, bad_line, over_limit, statement, bad_source, refused_inside, source}
@@ -43,10 +43,10 @@ later : (m l : ℕ) (log next : Log) (r : Result Log Refused) → m < l → leng
 later m l log next (Ok more) less one same h = (omega (arith, h.0), λ few. h.1 (omega arith))
 later m l log next (Err r) less one same h = tt
 
-behind : (m l opened n : ℕ) (log more : Log) (r : Result Log Refused) → m < l → opened ≡ n → (log.total_lines + n ≤ most_lines) →
-    Adds opened (record { lines = log.lines; total_lines = log.total_lines + n }) (Ok more) → Adds m more r → Adds l log r
-behind m l opened n log more (Ok last) less size few h g = (omega (arith, h.0, g.0), λ _. g.1 (h.1 few))
-behind m l opened n log more (Err r) less size few h g = tt
+behind : (m l opened n : ℕ) (log more : Log) (names : List (List ℕ)) (r : Result Log Refused) → m < l → opened ≡ n → (log.total_lines + n ≤ most_lines) →
+    Adds opened (record { lines = log.lines; total_lines = log.total_lines + n; opened = names }) (Ok more) → Adds m more r → Adds l log r
+behind m l opened n log more names (Ok last) less size few h g = (omega (arith, h.0, g.0), λ _. g.1 (h.1 few))
+behind m l opened n log more names (Err r) less size few h g = tt
 
 rest_adds : {files : Files} {a : FileContext} {l : UnreadLines} {own : List (Located Named)} {log : Log} {r : Result Log Refused} → Rest files a l own log r → Adds (length l.lines) log r
 rest_adds (at_end a l own log e none) = (omega arith, λ few. few)
@@ -59,19 +59,19 @@ rest_adds (bad_line a l m own log c n) = tt
 rest_adds (over_limit a l m own log s c n e) = tt
 rest_adds (statement a l m own log s r n e f rest) =
     let added : Located Named = record { file = a.file; line = l.number; statement = s } in
-    later (length m.lines) (length l.lines) log (record { lines = log.lines ++ added ∷ []; total_lines = log.total_lines }) r (next_less l m n.tokens None n.next)
+    later (length m.lines) (length l.lines) log (record { lines = log.lines ++ added ∷ []; total_lines = log.total_lines; opened = log.opened }) r (next_less l m n.tokens None n.next)
     (omega (arith, length-append log.lines (added ∷ []))) refl (rest_adds rest)
 rest_adds (bad_source a l m own log name c n e) = tt
 rest_adds (refused_inside a l m own log name bytes e n f g inner) = tt
 rest_adds {files} (source a l m own log more name bytes r n e f inner rest) =
-    behind (length m.lines) (length l.lines) (lines_of bytes) (lines_of bytes) log more r (next_less l m n.tokens None n.next) refl
+    behind (length m.lines) (length l.lines) (lines_of bytes) (lines_of bytes) log more (mention log.opened name) r (next_less l m n.tokens None n.next) refl
     (few_sourced files a.open_files log.total_lines name bytes e f) (rest_adds inner) (rest_adds rest)
 
 pub expansion_few : (files : Files) (root : List ℕ) (log : Log) → Expands files root (Ok log) → length log.lines ≤ most_lines
 expansion_few files root log x = by (bytes_cause root 0 (files root)) refl x
   where
     by : (o : Option Cause) → bytes_cause root 0 (files root) ≡ o →
-        MatchOption o ((bytes : List ℕ) × (files root ≡ Some bytes) × Rest files (root_context root) (unread_lines bytes 1) [] (with_file nothing_read bytes) (Ok log))
+        MatchOption o ((bytes : List ℕ) × (files root ≡ Some bytes) × Rest files (root_context root) (unread_lines bytes 1) [] (with_file nothing_read root bytes) (Ok log))
         (λ c. Ok log ≡ Err (refused c root 0)) → length log.lines ≤ most_lines
     by None none e =
         let few : 0 + lines_of e.0 ≤ most_lines = few_opened root 0 e.0 (ap (bytes_cause root 0) (sym e.1) ∙ none) in

@@ -263,7 +263,7 @@ module _ (files : Files) where
 
   by_bytes : (root : List ℕ) (log : Log) (o : Option Cause) →
       MatchOption o ((bytes : List ℕ) × (files root ≡ Some bytes)
-      × Rest files (root_context root) (unread_lines bytes 1) [] (with_file nothing_read bytes) (Ok log)) (λ c. Ok log ≡ Err (refused c root 0)) →
+      × Rest files (root_context root) (unread_lines bytes 1) [] (with_file nothing_read root bytes) (Ok log)) (λ c. Ok log ≡ Err (refused c root 0)) →
       AreInLines log.lines
   by_bytes root log None h = rest_lines h.2 (file_lines h.0) (All-nil IsInLines)
   by_bytes root log (Some c) h = absurd (let e : ◌≡◌ {A = Result Log Refused} (Ok log) (Err (refused c root 0)) = h in cc)

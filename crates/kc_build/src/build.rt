@@ -113,6 +113,6 @@ pub fn build_tree(alloc: Global, map: &FileMap, root: &[u8]) -> Result<Tree, Ref
     ensures refused { IfErr result (λ r. r.code ≢ Memory → IsTreeOf (bytes_in map.now) root.now (Err (refusal_view r))) }
     ensures memory { IfErr result IsMemory }
 {
-    let listing = read_listing(alloc, map, root)?;
-    tree_of(alloc, listing)
+    let reading = read_listing(alloc, map, root)?;
+    tree_of(alloc, reading.listing)
 }

@@ -16,4 +16,4 @@ mod symbols;
 mod warning;
 
 pub use build::{build_tree, tree_of};
-pub use numbering::{Listing, read_listing};
+pub use numbering::{Listing, RootReading, read_listing};

@@ -5,6 +5,7 @@ ghost use Rattle.kc_expr.specs.Names.{IsNumber, all_mentioned, mention, number_o
 ghost use Rattle.kc_read.specs.Expansion.{Log, Expands};
 ghost use Rattle.kc_read.specs.Files.{bytes_in};
 ghost use Rattle.kc_read.specs.Expanded.{AreNumbers, IsExpansion, IsNamed};
+ghost use Rattle.kc_read.specs.OpenedFiles.{AreOpened};
 ghost use Rattle.kc_read.specs.RefusalView.{IsMemory, refusal_view};
 ghost use Rattle.kc_read.specs.declared.refusal.Code.TheVariants.{Memory};
 ghost use Rattle.kc_build.specs.Numberings.{IsListing, IsListingOf};
@@ -28,6 +29,14 @@ pub struct Listing {
     pub count: usize,
     pub modules: SymId,
     pub lines: Vec<Line>,
+}
+
+/// What reading a root file gives: its listing, and the names of the files that were opened, each once, in the order of
+/// their first opening.
+#[derive(Drop)]
+pub struct RootReading {
+    pub listing: Listing,
+    pub opened: Names,
 }
 
 // The modules symbol: this one, or that of the name `MODULES`, which is then mentioned.
@@ -66,10 +75,11 @@ fn number_lines(
     mentioned: Names,
     unknown: SymId,
     expansion: Expansion,
-) -> Result<Listing, AllocError>
+) -> Result<RootReading, AllocError>
     requires unknown { unknown.0 ≡ usize.MAX }
     requires expanded { (log : Log) × IsExpansion [] (Some unknown) mentioned log expansion }
-    ensures { IfOk result (λ l. (log : Log) → IsExpansion [] (Some unknown) mentioned log expansion → IsListing log l) }
+    ensures listing { IfOk result (λ r. (log : Log) → IsExpansion [] (Some unknown) mentioned log expansion → IsListing log r.listing) }
+    ensures opened { IfOk result (λ r. r.opened ≡ expansion.opened) }
 {
     let mut names = mentioned;
     let mut order = expansion.defined;
@@ -80,19 +90,23 @@ fn number_lines(
     let mut lines = expansion.lines;
     rename_lines(alloc, &mut lines, &numbers, modules)?;
     names.renumber(numbers);
-    Ok(Listing {
-        names,
-        count,
-        modules,
-        lines,
+    Ok(RootReading {
+        listing: Listing {
+            names,
+            count,
+            modules,
+            lines,
+        },
+        opened: expansion.opened,
     })
 }
 
-/// The lines of a root file with their names numbered, or its first refusal: E1 to E12 and E16, each at the first line with
-/// a fault, as `expand` of kc_read answers them. The files are not looked at again afterwards. E20, which has no location and
-/// no detail, is being out of memory.
-pub fn read_listing(alloc: Global, map: &FileMap, root: &[u8]) -> Result<Listing, Refusal>
-    ensures listed { IfOk result (IsListingOf (bytes_in map.now) root.now) }
+/// The lines of a root file with their names numbered, and the files that were opened for them, or its first refusal: E1 to
+/// E12 and E16, each at the first line with a fault, as `expand` of kc_read answers them. The files are not looked at again
+/// afterwards. E20, which has no location and no detail, is being out of memory.
+pub fn read_listing(alloc: Global, map: &FileMap, root: &[u8]) -> Result<RootReading, Refusal>
+    ensures listed { IfOk result (λ r. IsListingOf (bytes_in map.now) root.now r.listing) }
+    ensures opened { IfOk result (λ r. AreOpened (bytes_in map.now) root.now r.opened) }
     ensures refused { IfErr result (λ r. r.code ≢ Memory → Expands (bytes_in map.now) root.now (Err (refusal_view r))) }
     ensures memory { IfErr result IsMemory }
 {
@@ -100,7 +114,7 @@ pub fn read_listing(alloc: Global, map: &FileMap, root: &[u8]) -> Result<Listing
     let mut mentioned = Names::new(alloc);
     let expansion = expand(alloc, map, root, Some(unknown), &mut mentioned)?;
     match number_lines(alloc, mentioned, unknown, expansion) {
-        Ok(listing) => Ok(listing),
+        Ok(reading) => Ok(reading),
         Err(_) => Err(Refusal::out_of_memory(alloc)),
     }
 }

@@ -17,8 +17,8 @@ renumber-requires c =
           (λ placed h. c.in_ok-numbers.ensures.numbers placed (subst (λ l. AreNumbers c.modules_symbol.new.names l placed) (sym c.in_ok-modules.ensures.order) h)),
     )
 
-pub returns : goal.returns
-returns c = λ log x.
+pub returns-clause-listing : goal.returns-clause-listing
+returns-clause-listing c = λ log x.
     let named = modules_of (statements log.lines) in
     let few : length c.modules_symbol.new.names ≤ c.args.unknown.0 = omega (arith, c.in_ok-numbers.ensures.few, c.requires.unknown) in
     listing-is log c.args.expansion c.args.mentioned c.args.unknown x c.modules_symbol.new.names c.in_ok-symbol.symbol c.in_ok-modules.modules c.deref.result.now

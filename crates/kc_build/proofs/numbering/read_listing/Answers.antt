@@ -1,3 +1,6 @@
+use Rattle.std.proofs.Common.{◌∙◌}
+use Rattle.kc_read.specs.Files.{bytes_in}
+use Rattle.kc_read.proofs.OpenedOnce.{are_opened}
 use Rattle.kc_build.proofs.numbering.read_listing.Goals as goal
 
 pub number_lines-requires-clause-expanded : goal.number_lines-requires-clause-expanded
@@ -8,4 +11,9 @@ number_lines-requires-clause-expanded c =
 pub returns-in-Ok-clause-listed : goal.returns-in-Ok-clause-listed
 returns-in-Ok-clause-listed c =
     let x = c.in_ok-expansion.ensures.expanded in
-    (x.0, x.1, c.in-Ok.ensures x.0 (rw c.new-mentioned.ensures at x.2))
+    (x.0, x.1, c.in-Ok.ensures.listing x.0 (rw c.new-mentioned.ensures at x.2))
+
+pub returns-in-Ok-clause-opened : goal.returns-in-Ok-clause-opened
+returns-in-Ok-clause-opened c =
+    let x = c.in_ok-expansion.ensures.expanded in
+    are_opened (bytes_in c.args.map.now) c.args.root.now x.0 c.in-Ok.reading.opened x.1 (c.in-Ok.ensures.opened ∙ x.2.opened_is)
