@@ -1,7 +1,7 @@
-//! The dependency file (kc_make): how a name is written there.
+//! The dependency file (kc_load): how a name is written there.
 
 use kc_expr::names::Names;
-use kc_make::{rule_text, unreadable_name};
+use kc_load::{rule_text, unreadable_name};
 use std::alloc::{AllocError, Global};
 
 fn mention_all(names: &mut Names, files: &[&str]) -> Result<(), AllocError> {

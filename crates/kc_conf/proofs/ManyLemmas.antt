@@ -2,7 +2,7 @@
 use Rattle.std.proofs.Common.{◌≡◌, ◌≢◌, ◌⊎◌, inl, inr, ℕ, Bool, true, false, List, refl, sym, ap, subst, ◌∙◌, Option, None, Some}
 use Rattle.std.specs.Prelude.{if◌then◌else◌}
 use Rattle.std.proofs.lemmas.List.{append_cancel_left}
-use Rattle.kc_make.specs.Opened.{AreOpened, OpenedAreOne}
+use Rattle.kc_read.specs.OpenedFiles.{AreOpened, OpenedAreOne}
 use Rattle.kc_read.specs.Files.{Files}
 use Rattle.kc_read.specs.RefusalView.{refusal_view}
 use Rattle.kc_read.specs.declared.refusal.Code.TheVariants.{Memory as NoMemory}

@@ -1,6 +1,6 @@
 -- A run has one outcome.
 use Rattle.std.proofs.Common.{◌≡◌, ℕ, ◌<◌, List, [], ◌++◌, length, Option, Some, None, Result, Ok, Err, true, false, sym, ap, subst, ◌∙◌, slice_index}
-use Rattle.kc_make.specs.Opened.{AreOpened, OpenedAreOne}
+use Rattle.kc_read.specs.OpenedFiles.{AreOpened, OpenedAreOne}
 use Rattle.kc_read.specs.Expansion.{Expands, Log, Refused}
 use Rattle.kc_read.specs.Files.{Files}
 use Rattle.kc_tree.specs.TreeFacts.{TreeFacts}

@@ -1,7 +1,7 @@
 -- What the parts of a run say of its outcome.
 use Rattle.std.proofs.Common.{◌≡◌, ℕ, Bool, true, false, List, [], ◌++◌, Option, Some, None, refl, sym, ap, subst, ◌∙◌, append_assoc, append-nil}
 use Rattle.std.specs.Prelude.{◌&&◌, ◌||◌, if◌then◌else◌}
-use Rattle.kc_make.specs.Opened.{AreOpened, OpenedAreOne}
+use Rattle.kc_read.specs.OpenedFiles.{AreOpened, OpenedAreOne}
 use Rattle.kc_read.specs.Expansion.{Refused}
 use Rattle.kc_read.specs.Files.{Files}
 use Rattle.kc_tree.specs.TreeFacts.{TreeFacts}

@@ -1,7 +1,7 @@
 -- A run whose tree is not accepted, and what is kept of one that is.
 use Rattle.std.proofs.Common.{◌≡◌, ◌≢◌, ◌⊎◌, inl, inr, ℕ, Bool, List, map, Option, Some, Result, Ok, Err, OnOk, refl, sym, subst}
 use Rattle.std.specs.Prelude.{IfOk}
-use Rattle.kc_make.specs.Opened.{OpenedAreThere}
+use Rattle.kc_read.specs.OpenedFiles.{OpenedAreThere}
 use Rattle.kc_order.specs.Graph.{Nodes}
 use Rattle.kc_read.specs.Files.{Files}
 use Rattle.kc_read.specs.RefusalView.{refusal_view}

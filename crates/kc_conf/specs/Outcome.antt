@@ -13,8 +13,9 @@ use Rattle.kc_dot.specs.Reading.{ReadResult, StreamLocation, Stream, UserInput, 
 use Rattle.kc_dot.specs.SolvedView.{solution_view}
 use Rattle.kc_dot.specs.Texts.{config_text, header_text, minimal_text}
 use Rattle.kc_conf.specs.declared.options.Options.{Options}
-use Rattle.kc_make.specs.Opened.{AreOpened, inputs_of, prerequisites_of}
-use Rattle.kc_make.specs.Rules.{rule_text, unreadable_of}
+use Rattle.kc_read.specs.OpenedFiles.{AreOpened}
+use Rattle.kc_load.specs.Prerequisites.{inputs_of, prerequisites_of}
+use Rattle.kc_load.specs.Rules.{rule_text, unreadable_of}
 use Rattle.kc_conf.specs.ErrorLines.{refusal_line, strict_line, too_long_line, unreadable_line}
 pub use Rattle.kc_conf.specs.Taken.{lost_warnings}
 use Rattle.kc_conf.specs.Taken.{refuses_input}

@@ -1,6 +1,6 @@
 -- Trusted: What the texts that a run writes give when they are read again.
 use Rattle.std.specs.Prelude.{◌≡◌, ℕ, List, [], ◌∷◌, Some, None, true, false}
-use Rattle.kc_make.specs.Opened.{AreOpened}
+use Rattle.kc_read.specs.OpenedFiles.{AreOpened}
 use Rattle.kc_read.specs.Files.{Files}
 use Rattle.kc_tree.specs.TreeFacts.{TreeFacts}
 use Rattle.kc_user.specs.Places.{place_at}

@@ -2,8 +2,8 @@
 use Rattle.std.specs.Prelude.{◌≡◌, ℕ, List, Option, None, string_bytes, if◌then◌else◌}
 use Rattle.std.specs.Option.{option_map, option_map_or}
 use Rattle.kc_read.specs.Files.{Files}
-use Rattle.kc_make.specs.Opened.{AreOpened}
-use Rattle.kc_make.specs.Rules.{rule_text, unreadable_of}
+use Rattle.kc_read.specs.OpenedFiles.{AreOpened}
+use Rattle.kc_load.specs.Rules.{rule_text, unreadable_of}
 use Rattle.kc_conf.specs.declared.options.Options.{Options}
 use Rattle.kc_conf.specs.FaultParts.{BreaksFile}
 use Rattle.kc_conf.specs.Outcome.{is_done, names_listed, root_file}

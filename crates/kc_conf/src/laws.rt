@@ -11,7 +11,7 @@ use kc_dot::laws::{
     config_is_idempotent, minimal_gives_back, reading_leaves_allowed_places,
     written_texts_are_short,
 };
-use kc_make::laws::opened_are_one_list;
+use kc_read::laws::opened_are_one_list;
 use kc_order::unordered_have_a_loop;
 use kc_read::laws::has_one_expansion;
 use kc_values::laws::{accepted_have_one_solution, equations_read_needs, needs_are_defined};

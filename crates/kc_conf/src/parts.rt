@@ -27,7 +27,7 @@ use crate::runs::{
 use crate::tree_files::{TreeFiles, names_listed, unreadable_among};
 use kc_dot::Fault;
 use kc_expr::names::Names;
-use kc_make::laws::opened_are_one_list;
+use kc_read::laws::opened_are_one_list;
 use kc_read::file_map::FileMap;
 use kc_read::refusal::{Code, Refusal};
 use kc_solve::order::EvaluationOrder;

@@ -44,7 +44,7 @@ use kc_build::{read_listing, tree_of};
 use kc_dot::Fault;
 use kc_dot::user_input::UserInput;
 use kc_expr::names::Names;
-use kc_make::laws::opened_are_one_list;
+use kc_read::laws::opened_are_one_list;
 use kc_order::one_named_loop;
 use kc_read::file_map::FileMap;
 use kc_read::refusal::{Code, Refusal};

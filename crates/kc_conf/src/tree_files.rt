@@ -8,8 +8,8 @@ ghost use Rattle.kc_conf.specs.TreeFiles.{files_in};
 
 use crate::options::Options;
 use kc_expr::names::Names;
-use kc_make::laws::opened_are_one_list;
-use kc_make::{opened_files, prerequisites_of, unreadable_name};
+use kc_read::laws::opened_are_one_list;
+use kc_load::{prerequisites_of, unreadable_name};
 use kc_read::file_map::FileMap;
 use std::alloc::{AllocError, Global};
 

@@ -2,7 +2,7 @@
 ghost use Rattle.std.specs.Prelude.{◌≡◌, ◌≢◌, Some, OnOk, IfErr, string_bytes};
 ghost use Rattle.kc_dot.specs.SolvedView.{solution_view};
 ghost use Rattle.kc_dot.specs.Texts.{config_text, header_text, minimal_text};
-ghost use Rattle.kc_make.specs.Rules.{rule_text};
+ghost use Rattle.kc_load.specs.Rules.{rule_text};
 ghost use Rattle.kc_conf.specs.FaultParts.{BreaksFile, BreaksFiles, IsNoInputFault, write_fault};
 ghost use Rattle.kc_conf.specs.Faults.{files_made, after_fault};
 ghost use Rattle.kc_conf.specs.Outcome.{files_of, text_if};
@@ -16,7 +16,7 @@ use kc_dot::config::write_config;
 use kc_dot::fault::WriteFault;
 use kc_dot::header::{write_header, write_minimal};
 use kc_expr::names::Names;
-use kc_make::rule_text;
+use kc_load::rule_text;
 use kc_solve::solved::Solved;
 use kc_tree::tree::Tree;
 use std::alloc::Global;

@@ -5,7 +5,7 @@ use Rattle.kc_read.specs.Files.{Files}
 use Rattle.kc_tree.specs.TreeFacts.{TreeFacts}
 use Rattle.kc_build.specs.Trees.{IsTreeOf}
 use Rattle.kc_load.specs.Expanding.{ExpandsAlike, OpensAlike}
-use Rattle.kc_make.specs.Opened.{AreOpened, OpenedAreOne, OpenedAreThere}
+use Rattle.kc_read.specs.OpenedFiles.{AreOpened, OpenedAreOne, OpenedAreThere}
 use Rattle.kc_expr.specs.Names.{all_mentioned}
 use Rattle.kc_conf.specs.declared.options.Options.{Options}
 use Rattle.kc_conf.specs.Outcome.{IsAcceptedTree, IsLenientOutcome, IsOutcome, IsRefusedName, IsRefusedTree, NamesAreRead, Outcome, accepted_tree, looped, no_tree, refused_name, refused_tree, root_file, unreadable_name}

@@ -9,7 +9,7 @@ ghost use Rattle.kc_conf.specs.Leaves.{Keeps, Leaves};
 
 use kc_conf::{AcceptedTree, Input, Options, Outputs, Status, run_keeping};
 use kc_load::{Folder, LoadFault, load};
-use kc_make::laws::opened_are_one_list;
+use kc_read::laws::opened_are_one_list;
 use std::alloc::Global;
 
 /// Loads the tree from the folder, reads the streams, and writes the files and the notes (our own; the values are those of

@@ -13,3 +13,6 @@ pub mod OneOrder
 pub mod OneMap
 pub mod MapExists
 pub mod ReachedLemmas
+pub mod EscapeLemmas
+pub mod MentionLemmas
+pub mod ReadableLemmas

@@ -5,3 +5,5 @@ pub mod Reached
 pub mod Expanding
 pub mod Faults
 pub mod Steps
+pub mod Prerequisites
+pub mod Rules

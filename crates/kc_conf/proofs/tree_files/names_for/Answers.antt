@@ -1,6 +1,6 @@
 -- The names in the rule, and none where it is not wanted.
 use Rattle.std.proofs.Common.{◌∙◌, Some, ap, rules, string_bytes}
-use Rattle.kc_make.specs.Opened.{prerequisites_of}
+use Rattle.kc_load.specs.Prerequisites.{prerequisites_of}
 use Rattle.kc_conf.specs.Outcome.{inputs_listed}
 use Rattle.kc_conf.proofs.TreeFileLemmas.{listed_if, mapped_none, none_is}
 use Rattle.kc_conf.proofs.tree_files.names_for.Goals as goal

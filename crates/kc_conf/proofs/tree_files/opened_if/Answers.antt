@@ -1,7 +1,7 @@
 -- The files that the root file opens, and none where no rule is wanted.
 use Rattle.std.proofs.Common.{ℕ, List, subst}
 use Rattle.kc_read.specs.Files.{bytes_in}
-use Rattle.kc_make.specs.Opened.{AreOpened}
+use Rattle.kc_read.specs.OpenedFiles.{AreOpened}
 use Rattle.kc_conf.proofs.tree_files.opened_if.Goals as goal
 
 pub returns-in-Some : goal.returns-in-Some

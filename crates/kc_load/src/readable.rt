@@ -1,0 +1,124 @@
+//! The names that make reads in the dependency file.
+
+ghost use Rattle.std.specs.Prelude.{◌≡◌, false};
+ghost use Rattle.std.specs.List.{list_any};
+ghost use Rattle.std.specs.Option.{option_map};
+ghost use Rattle.kc_expr.specs.Names.{same_name};
+ghost use Rattle.kc_load.specs.Rules.{ends_in, first_unreadable, is_beyond_make, is_library, is_plain, is_read_by_make, unreadable_of, without_dots};
+ghost use Rattle.kc_load.specs.Rules as spec;
+
+use crate::path::begins_with_slash;
+use kc_expr::expression::SymId;
+use kc_expr::names::Names;
+
+// Whether make reads the byte as more than a part of a name, also after a `\`.
+fn is_beyond_make(byte: u8) -> bool
+    ensures { result ≡ is_beyond_make byte }
+{
+    matches!(byte, 0 | 9..=13 | b'=' | b';' | b'*' | b'?' | b'[')
+}
+
+// Whether such a byte is in the name.
+fn has_beyond_make(name: &[u8]) -> bool
+    ensures { result ≡ list_any is_beyond_make name.now }
+{
+    name.iter().any(|byte| is_beyond_make(*byte))
+}
+
+// Whether the last byte of the text is one of these.
+pub(crate) fn ends_in(bytes: &[u8], text: &[u8]) -> bool
+    ensures { result ≡ ends_in bytes.now text.now }
+{
+    match text.last() {
+        Some(last) => bytes.contains(last),
+        None => false,
+    }
+}
+
+// The name without each `./` at its start.
+fn without_dots(name: &[u8]) -> &[u8]
+    ensures { result.now ≡ without_dots false name.now }
+{
+    let mut rest = name;
+    let mut behind_dot = false;
+    'along: while let [byte, behind @ ..] = rest {
+        let is_left_out = *byte == b'/' && behind_dot || *byte == b'.' && begins_with_slash(behind);
+        if !is_left_out {
+            return rest;
+        }
+        behind_dot = true;
+        rest = behind;
+    }
+    rest
+}
+
+// Whether the name is a special target of make.
+fn is_special_target(name: &[u8]) -> bool
+    ensures { result ≡ list_any (same_name name.now) spec.special_targets }
+{
+    name == b".DEFAULT".as_slice()
+        || name == b".DELETE_ON_ERROR".as_slice()
+        || name == b".EXPORT_ALL_VARIABLES".as_slice()
+        || name == b".IGNORE".as_slice()
+        || name == b".INTERMEDIATE".as_slice()
+        || name == b".LOW_RESOLUTION_TIME".as_slice()
+        || name == b".NOTINTERMEDIATE".as_slice()
+        || name == b".NOTPARALLEL".as_slice()
+        || name == b".ONESHELL".as_slice()
+        || name == b".PHONY".as_slice()
+        || name == b".POSIX".as_slice()
+        || name == b".PRECIOUS".as_slice()
+        || name == b".SECONDARY".as_slice()
+        || name == b".SECONDEXPANSION".as_slice()
+        || name == b".SILENT".as_slice()
+        || name == b".SUFFIXES".as_slice()
+        || name == b".WAIT".as_slice()
+}
+
+// Whether make looks for the name among its libraries.
+fn is_library(name: &[u8]) -> bool
+    ensures { result ≡ is_library name.now }
+{
+    match name {
+        [first, second, ..] => *first == b'-' && *second == b'l',
+        _ => false,
+    }
+}
+
+// Whether the name is no home folder, no library and no special target.
+fn is_plain(name: &[u8]) -> bool
+    ensures { result ≡ is_plain name.now }
+{
+    match name {
+        [] => false,
+        [first, ..] => *first != b'~' && !is_library(name) && !is_special_target(name),
+    }
+}
+
+// Whether make reads the name correctly in every position of a rule.
+fn is_read_by_make(name: &[u8]) -> bool
+    ensures { result ≡ is_read_by_make name.now }
+{
+    !has_beyond_make(name) && !ends_in(b" &)", name) && is_plain(without_dots(name))
+}
+
+/// Returns the first name in a dependency file that GNU make cannot read: `out`, or else the first such file.
+///
+/// make cannot read an empty name, a name with the byte 0, one of 9 to 13 (tab, line feed, ..), `=`, `;`, `*`, `?` or
+/// `[`, and a name that ends in a blank, `&` or `)`. It reads a `~` at the start as a home folder and `-l` as a library, and
+/// names such as `.PHONY` as special targets. It ignores each `./` before these. Some of these names it reads in some
+/// positions. They are refused in every position (our own; tested with GNU make 4.3). It takes no memory.
+pub fn unreadable_name<'n>(out: &'n [u8], files: &'n Names) -> Option<&'n [u8]>
+    ensures { option_map (λ name. name.now) result ≡ unreadable_of out.now files.now }
+{
+    if !is_read_by_make(out) {
+        return Some(out);
+    }
+    for i in 0..files.count() {
+        let name = files.name(SymId(i));
+        if !is_read_by_make(name) {
+            return Some(name);
+        }
+    }
+    None
+}

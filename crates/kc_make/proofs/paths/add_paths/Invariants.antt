@@ -1,8 +1,0 @@
-use Rattle.std.proofs.Common.{◌≡◌, map, take}
-use Rattle.kc_expr.specs.Names.{all_mentioned}
-use Rattle.kc_load.specs.Folders.{path_of}
-use Rattle.kc_make.proofs.paths.add_paths.Given as goal
-
--- the files so far are mentioned
-abbrev pub invariant-loop-i : goal.invariant-loop-i
-invariant-loop-i l = l.names ≡ all_mentioned l.fn.names (map (path_of l.dir) (take l.i l.opened))

@@ -1,7 +1,0 @@
-use Rattle.std.proofs.Common.{ap, is_some, ◌∙◌}
-use Rattle.kc_expr.specs.Names.{same_name}
-use Rattle.kc_load.proofs.ListLemmas.{found_is}
-use Rattle.kc_make.proofs.walk.SourceWalk.was_opened.Goals as goal
-
-pub returns : goal.returns
-returns c = c.is_some.ensures ∙ ap is_some c.find.ensures ∙ found_is (same_name c.args.name.now) c.args.self.now.opened

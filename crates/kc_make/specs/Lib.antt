@@ -1,3 +1,0 @@
-pub mod Opened
-pub mod Rules
-pub mod Steps
