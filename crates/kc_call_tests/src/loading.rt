@@ -1,5 +1,5 @@
 //! Loading, over a folder in memory: the order in which files are asked for, one that fails, and a million lines (kc_load).
-ghost use Rattle.std.specs.Prelude.{◌≡◌, Some, IfOk, bytes_eq, option_map};
+ghost use Rattle.std.specs.Prelude.{◌≡◌, Some, IfOk, map, option_map};
 ghost use Rattle.kc_read.specs.Files.{bytes_in};
 
 use crate::files::{Piece, has_files, has_names, put_pieces};
@@ -7,27 +7,24 @@ use kc_load::*;
 use kc_read::FileMap;
 use std::alloc::{AllocError, Global};
 
-// Files by path, of which one may fail; the paths that were asked for, each followed by a blank.
+// Files by path, of which one may fail; the paths at which one failed; and those that were asked for, each followed by a blank.
 #[derive(Drop)]
 struct MemoryFolder<'a> {
     files: FileMap,
     failing: &'a str,
-    failures: u64,
+    failed: Vec<Vec<u8>>,
     asked: String,
     alloc: Global,
 }
 
 impl<'a> Folder for MemoryFolder<'a> {
-    ghost files = { λ s. Some (bytes_in s.files) };
-
-    ghost failing = { λ s path. bytes_eq path s.failing.now };
-
-    ghost failures = { λ s. s.failures };
+    ghost state = { λ s. Some (record { files = bytes_in s.files; failed = map (λ p. p.items) s.failed.items }) };
 
     fn read(&mut self, path: &str) -> Result<Option<Vec<u8>>, FolderFault> {
         note(&mut self.asked, path)?;
         if path == self.failing {
-            self.failures = self.failures.saturating_add(1);
+            self.failed
+                .push(Vec::from_slice(self.alloc, path.as_bytes())?)?;
             return Err(FolderFault::Device);
         }
         Ok(copied(self.alloc, self.files.get(path.as_bytes()))?)
@@ -59,7 +56,7 @@ struct Case {
     dir: &'static str,
     root: &'static str,
     asked: &'static str,
-    failures: u64,
+    failures: usize,
     loaded: Loaded,
 }
 
@@ -92,7 +89,7 @@ fn holds(alloc: Global, case: &Case) -> bool {
     let mut folder = MemoryFolder {
         files: FileMap::new(alloc),
         failing: case.failing,
-        failures: 0,
+        failed: Vec::new(alloc),
         asked: String::new(alloc),
         alloc,
     };
@@ -101,7 +98,7 @@ fn holds(alloc: Global, case: &Case) -> bool {
     filled
         && is_loaded(&outcome, case.loaded)
         && folder.asked.as_str() == case.asked
-        && folder.failures == case.failures
+        && folder.failed.len() == case.failures
 }
 
 const ONCE: Case = Case {

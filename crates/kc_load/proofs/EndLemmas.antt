@@ -101,19 +101,17 @@ module _ (folder_files : FolderFiles) (dir first : List ℕ) (s : State) (h : On
             (subst (λ (l : List (List ℕ)). AskedAlong (files_found h.asked) (names_of h.asked) l (name ∷ behind)) (sym (waits_first folder_files dir first s h rest name last)) along),
       )
 
-  pub at_fault : s.lines ≤ most_lines → (failing now : List ℕ → Bool) → now ≡ failing → (rest : List (List ℕ)) (name : List ℕ) → s.waiting ≡ rest ++ name ∷ [] →
-      (fault : LoadFault) → FailsAt now dir (record s { waiting = rest }) name fault →
-      IsLoadFault folder_files failing dir first fault
-  at_fault within failing now same rest name last (CannotRead n) f =
+  pub at_fault : s.lines ≤ most_lines → (rest : List (List ℕ)) (name : List ℕ) → s.waiting ≡ rest ++ name ∷ [] →
+      (fault : LoadFault) → FailsAt (record s { waiting = rest }) name fault → IsLoadFault folder_files dir first fault
+  at_fault within rest name last (CannotRead n) f =
       let (behind, are) = next_is rest name last (record { utf8 = f.1.utf8; is_new = f.1.is_new }) in
-      subst (λ (x : List ℕ). IsNext folder_files failing dir first x) (sym f.0) (record {
+      subst (λ (x : List ℕ). IsNext folder_files dir first x) (sym f.0) (record {
         asked = h.asked;
         behind = behind;
         are_asked = are;
         within = let t = h.total in omega arith;
-        may_fail = sym (ap (λ (p : List ℕ → Bool). p (path_of dir name)) same) ∙ f.2;
       })
-  at_fault within failing now same rest name last Memory f = tt
+  at_fault within rest name last Memory f = tt
 
 -- What falls with each turn: the lines that may still come, and, where none came, the names that wait.
 abbrev pub still_left : State → ℕ
@@ -146,10 +144,3 @@ falls folder_files dir s rest name n last within later fits v = by v
             let same : n.lines ≡ s.lines = let l = lines_now in omega arith in
             fewer waits same
         taken (suc k) e = let l = lines_now in let more = shorter in omega arith
-
--- the turn of a name, as another state of the folder told it
-pub turned : (folder_files given : FolderFiles) (dir first : List ℕ) (s : State) → Ongoing folder_files dir first s → s.lines ≤ most_lines → given ≡ folder_files →
-    (rest : List (List ℕ)) (name : List ℕ) → s.waiting ≡ rest ++ name ∷ [] → (n : State) → Visits given dir name (record s { waiting = rest }) n →
-    Ongoing folder_files dir first n
-turned folder_files given dir first s h within same rest name last n v =
-    turn folder_files dir first s h rest name last within n (subst (λ (t : FolderFiles). Visits t dir name (record s { waiting = rest }) n) same v)

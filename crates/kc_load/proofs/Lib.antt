@@ -9,6 +9,8 @@ pub mod EndLemmas
 pub mod Walks
 pub mod FollowLemmas
 pub mod EnoughLemmas
+pub mod FolderLemmas
+pub mod SoFar
 pub mod OneOrder
 pub mod OneMap
 pub mod MapExists

@@ -159,13 +159,6 @@ walk_goes_on folder_files dir first s rest name last on n v w m b d =
         (ap reverse (takes.waiting_is ∙ ap (λ l. l ++ reverse takes.names) asks.waiting_is) ∙ reverse-append rest (reverse takes.names) ∙ ap (λ l. l ++ reverse rest) (reverse-reverse takes.names))
         d)
 
--- the same, as another state of the folder told it
-pub walk_turned : (folder_files given : FolderFiles) (dir first : List ℕ) (s : State) → IsOnWay folder_files dir first s → given ≡ folder_files →
-    (rest : List (List ℕ)) (name : List ℕ) → s.waiting ≡ rest ++ name ∷ [] → (n : State) → Visits given dir name (record s { waiting = rest }) n →
-    IsOnWay folder_files dir first n
-walk_turned folder_files given dir first s on same rest name last n v =
-    walk_goes_on folder_files dir first s rest name last on n (subst (λ (t : FolderFiles). Visits t dir name (record s { waiting = rest }) n) same v)
-
 -- where no name waits, the walk is at its end
 pub ended_walk : (folder_files : FolderFiles) (dir first : List ℕ) (s : State) → IsOnWay folder_files dir first s → s.waiting ≡ [] → Walks folder_files dir [] 0 (first ∷ []) s.requested s.lines false
 ended_walk folder_files dir first s on none = on s.requested s.lines false (subst (λ l. Walks folder_files dir s.requested s.lines (reverse l) s.requested s.lines false) (sym none) (ended s.requested s.lines))

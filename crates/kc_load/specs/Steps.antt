@@ -65,7 +65,7 @@ pub data Visits (folder_files : FolderFiles) (dir name : List ℕ) (old new : St
   no_file : IsDue old name → AnswersAs folder_files (path_of dir name) None → AddsName name old new → Visits folder_files dir name old new
   file : (middle : State) (bytes : List ℕ) → IsDue old name → AnswersAs folder_files (path_of dir name) (Some bytes) → AddsName name old middle → AddsFile name bytes middle new → Visits folder_files dir name old new
 
--- the device fails at a name that is due, and may fail at its path
-abbrev pub FailsAt : (List ℕ → Bool) → List ℕ → State → List ℕ → LoadFault → Type 0
-FailsAt failing dir s name (CannotRead n) = (n.items ≡ name) × IsDue s name × (failing (path_of dir name) ≡ true)
-FailsAt failing dir s name Memory = Unit {0}
+-- the file of a name that is due could not be read
+abbrev pub FailsAt : State → List ℕ → LoadFault → Type 0
+FailsAt s name (CannotRead n) = (n.items ≡ name) × IsDue s name
+FailsAt s name Memory = Unit {0}

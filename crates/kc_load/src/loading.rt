@@ -1,9 +1,9 @@
 //! Loading: all the files that a first one reaches, name by name.
 
-ghost use Rattle.std.specs.Prelude.{◌≡◌, ◌+◌, IfOk, IfErr, OnOk, min, nat_lt, option_map};
+ghost use Rattle.std.specs.Prelude.{◌≡◌, ◌+◌, IfOk, IfErr, OnOk, min, nat_lt};
 ghost use Rattle.kc_load.specs.Expanding.{Suffices};
-ghost use Rattle.kc_load.specs.Folders.{AnswersAs, FailsWhere, failures_after, path_of};
-ghost use Rattle.kc_load.specs.Faults.{IsLoadFault, load_failures_after};
+ghost use Rattle.kc_load.specs.Folders.{Leads, ReadsAt, files_told, path_of};
+ghost use Rattle.kc_load.specs.Faults.{IsLoadFault, failed_load};
 ghost use Rattle.kc_load.specs.Loaded.{Loads};
 ghost use Rattle.kc_read.specs.Files.{bytes_in};
 ghost use Rattle.kc_read.specs.Limits.{most_lines};
@@ -41,12 +41,7 @@ fn read_named<F: Folder>(
     dir: &str,
     name: &str,
 ) -> Result<Option<Vec<u8>>, FolderFault>
-    ensures answer { IfOk result (λ found. AnswersAs (F.files folder.old) (path_of dir.now name.now) (option_map (λ b. b.items) found)) }
-    ensures fault { IfErr result (FailsWhere (F.failing folder.old) (path_of dir.now name.now)) }
-    ensures stays { F.files folder.new ≡ F.files folder.old }
-    ensures failing_stays { F.failing folder.new ≡ F.failing folder.old }
-    ensures quiet { OnOk result (F.failures folder.new ≡ F.failures folder.old) }
-    ensures failures_after { IfErr result (λ fault. F.failures folder.new ≡ failures_after fault (F.failures folder.old)) }
+    ensures { ReadsAt (path_of dir.now name.now) (F.state folder.old) (F.state folder.new) result }
 {
     let path = path_of(alloc, dir, name)?;
     folder.read(path.as_str())
@@ -117,12 +112,9 @@ impl Loading {
         dir: &str,
         name: Vec<u8>,
     ) -> Result<(), LoadFault>
-        ensures ok { OnOk result (Visits (F.files folder.old) dir.now name.items (state_of self.old) (state_of self.new)) }
-        ensures err { IfErr result (FailsAt (F.failing folder.old) dir.now (state_of self.old) name.items) }
-        ensures stays { F.files folder.new ≡ F.files folder.old }
-        ensures failing_stays { F.failing folder.new ≡ F.failing folder.old }
-        ensures quiet { OnOk result (F.failures folder.new ≡ F.failures folder.old) }
-        ensures failures_after { IfErr result (λ fault. F.failures folder.new ≡ load_failures_after fault (F.failures folder.old)) }
+        ensures ok { OnOk result (Visits (files_told (F.state folder.new)) dir.now name.items (state_of self.old) (state_of self.new)) }
+        ensures err { IfErr result (FailsAt (state_of self.old) name.items) }
+        ensures leads { Leads (failed_load dir.now result) (F.state folder.old) (F.state folder.new) }
     {
         let Ok(text) = str::from_utf8(&name) else {
             return Ok(());
@@ -151,8 +143,8 @@ impl Loading {
 /// physical lines; otherwise all is. What was found is always enough: over it the root file gives the list, or the refusal,
 /// that it gives over all the files of the folder, and where it gives a list it opens the same files.
 ///
-/// E18, with the name whose turn it was, where the folder's device failed; E20 where memory was refused. Nothing of the
-/// map is left then.
+/// E18, with the name whose turn it was, where the folder's device failed at that name's path; E20 where memory was
+/// refused, and the device did not fail. Nothing of the map is left then.
 pub fn load<F: Folder>(
     alloc: Global,
     folder: &mut F,
@@ -160,18 +152,13 @@ pub fn load<F: Folder>(
     kconfig: &str,
 ) -> Result<FileMap, LoadFault>
     // The map holds the files that were found, asked for in order, with the folder's bytes.
-    ensures loaded { IfOk result (λ map. Loads (F.files folder.old) dir.now kconfig.now (bytes_in map)) }
+    ensures loaded { IfOk result (λ map. Loads (files_told (F.state folder.new)) dir.now kconfig.now (bytes_in map)) }
     // They are enough: over them the first file gives what it gives over all the folder's files.
-    ensures enough { IfOk result (λ map. Suffices (F.files folder.old) dir.now kconfig.now (bytes_in map)) }
-    // The folder's files stay, and the paths at which it may fail.
-    ensures stays { F.files folder.new ≡ F.files folder.old }
-    ensures failing_stays { F.failing folder.new ≡ F.failing folder.old }
-    // No failure is counted where all was read.
-    ensures quiet { OnOk result (F.failures folder.new ≡ F.failures folder.old) }
-    // The name of a file that could not be read is the next one in that order, and the device may fail at its path.
-    ensures fault { IfErr result (IsLoadFault (F.files folder.old) (F.failing folder.old) dir.now kconfig.now) }
-    // The device's failure is counted, being out of memory is not.
-    ensures counted { IfErr result (λ fault. F.failures folder.new ≡ load_failures_after fault (F.failures folder.old)) }
+    ensures enough { IfOk result (λ map. Suffices (files_told (F.state folder.new)) dir.now kconfig.now (bytes_in map)) }
+    // The name of a file that could not be read is the next one in that order.
+    ensures fault { IfErr result (IsLoadFault (files_told (F.state folder.new)) dir.now kconfig.now) }
+    // The folder's files stay, and its device failed at the path of the name that E18 tells, just now, and nowhere else.
+    ensures leads { Leads (failed_load dir.now result) (F.state folder.old) (F.state folder.new) }
 {
     let mut loading = Loading::new(alloc, kconfig)?;
     while let Some(name) = loading.waiting.pop() {

@@ -1,6 +1,6 @@
 use Rattle.std.proofs.Common.{ℕ, List, Some, IsUtf8, refl, sym, ap, subst, ◌∙◌}
 use Rattle.kc_expr.specs.Names.{mention}
-use Rattle.kc_load.specs.Folders.{AnswersAs, path_of}
+use Rattle.kc_load.specs.Folders.{AnswersAs, files_told, path_of}
 use Rattle.kc_load.specs.Steps.{file, was_requested}
 use Rattle.kc_load.proofs.loading.Loading.visit.Goals as goal
 
@@ -13,7 +13,7 @@ returns-in_ok-take-in-Ok-Some-clause-ok g c =
       utf8 = subst IsUtf8 c.deref.ensures.value text.1;
       is_new = ap (was_requested c.args.self.now.requested) (sym c.deref-2.ensures.value) ∙ sym c.if-was_requested.ensures;
     })
-    (subst (λ (name : List ℕ). AnswersAs (g.F.Folder.files c.args.folder.now) (path_of c.args.dir.now name) (Some c.in-Ok-Some.bytes.items)) (text.0 ∙ c.deref.ensures.value) answer)
+    (subst (λ (name : List ℕ). AnswersAs (files_told (g.F.Folder.state c.read_named.new.folder)) (path_of c.args.dir.now name) (Some c.in-Ok-Some.bytes.items)) (text.0 ∙ c.deref.ensures.value) answer)
     (record {
       files_are = refl;
       waiting_is = refl;
