@@ -21,7 +21,7 @@ use Rattle.kc_load.proofs.OrderLemmas.{flat}
 use Rattle.kc_load.proofs.RequestedLemmas.{in_requested}
 use Rattle.kc_load.proofs.SourceLemmas.{no_lines_no_sources}
 use Rattle.kc_load.proofs.Ongoing.{Ongoing}
-use Rattle.kc_load.proofs.TurnLemmas.{is_new, turn, waits_first}
+use Rattle.kc_load.proofs.TurnLemmas.{is_new, waits_first}
 
 pub not_over : (n : ℕ) → false ≡ nat_lt most_lines n → n ≤ most_lines
 not_over n e = grind (arith, nat_tests)

@@ -1,5 +1,5 @@
 -- What was loaded is enough: the expansion over it is the expansion over the folder's files.
-use Rattle.std.proofs.Common.{◌≡◌, ℕ, Bool, true, false, cond, nat_le, List, [], ◌∷◌, ◌++◌, length, Option, Some, None, MatchOption, Result, Ok, Err, Contains, IsUtf8, arith, refl, sym, ap, ◌∙◌, subst}
+use Rattle.std.proofs.Common.{◌≡◌, ℕ, Bool, true, false, cond, nat_le, List, [], ◌∷◌, ◌++◌, length, Option, Some, None, MatchOption, Result, Err, Contains, IsUtf8, arith, refl, sym, ap, ◌∙◌, subst}
 use Rattle.std.proofs.lemmas.Bool.{false≢true}
 use Rattle.std.proofs.lemmas.List.Elements.{Contains-append_left, Contains-append_right}
 use Rattle.std.proofs.lemmas.Str.{IsUtf8-from_is_utf8, is_utf8-from_IsUtf8}
@@ -15,7 +15,7 @@ use Rattle.kc_read.specs.OpenedFiles.{sourced_files}
 use Rattle.kc_read.specs.Statements.{Located, Named}
 use Rattle.kc_read.proofs.ExpansionThere.{has_one_expansion}
 use Rattle.kc_read.proofs.OneExpansion.{one_expansion_law}
-use Rattle.kc_load.specs.Expanding.{ExpandsAlike, OpensAlike, Suffices, named}
+use Rattle.kc_load.specs.Expanding.{ExpandsAlike, Suffices, named}
 use Rattle.kc_load.specs.Folders.{FolderFiles, path_of}
 use Rattle.kc_load.specs.Loaded.{files_found}
 use Rattle.kc_load.specs.Steps.{State, was_requested}
@@ -55,29 +55,10 @@ module _ (files others : Files) where
       (over d (λ y c. h y (Contains-append_right (name ∷ []) (sourced_files d ++ sourced_files g) y (Contains-append_left (sourced_files d) (sourced_files g) y c))))
       (over g (λ y c. h y (Contains-append_right (name ∷ []) (sourced_files d ++ sourced_files g) y (Contains-append_right (sourced_files d) (sourced_files g) y c))))
 
-  -- and it opens the same files
-  requested_over : {a : FileContext} {l : UnreadLines} {own : List (Located Named)} {log : Log} {r : Result Log Refused} (d : Rest files a l own log r)
-      (h : (y : List ℕ) → Contains (sourced_files d) y → others y ≡ files y) → sourced_files (over d h) ≡ sourced_files d
-  unfolding over
-  requested_over (at_end a l own log none closed) h = refl
-  requested_over (unclosed a l own log line none unmatched) h = refl
-  requested_over (too_long a l own log long) h = refl
-  requested_over (no_tokens a l m own log ts why next) h = refl
-  requested_over (blank a l m own log r next d) h = requested_over d h
-  requested_over (bad_line a l m own log c n) h = refl
-  requested_over (over_limit a l m own log s c n f) h = refl
-  requested_over (statement a l m own log s r n plain f d) h = requested_over d h
-  requested_over (bad_source a l m own log name c n f) h = refl
-  requested_over (refused_inside a l m own log name bytes e n free there d) h = ap (λ (t : List (List ℕ)). name ∷ t) (requested_over d (λ y c. h y (Contains-append_right (name ∷ []) (sourced_files d) y c)))
-  requested_over (source a l m own log more name bytes r n free there d g) h =
-      let within = λ (y : List ℕ) (c : Contains (sourced_files d) y). h y (Contains-append_right (name ∷ []) (sourced_files d ++ sourced_files g) y (Contains-append_left (sourced_files d) (sourced_files g) y c)) in
-      let later = λ (y : List ℕ) (c : Contains (sourced_files g) y). h y (Contains-append_right (name ∷ []) (sourced_files d ++ sourced_files g) y (Contains-append_right (sourced_files d) (sourced_files g) y c)) in
-      ap (λ (t : List (List ℕ)). name ∷ (t ++ sourced_files (over g later))) (requested_over d within) ∙ ap (λ (t : List (List ℕ)). name ∷ (sourced_files d ++ t)) (requested_over g later)
-
 -- ---- From the root file on
 
 abbrev RootGives : Files → List ℕ → Result Log Refused → Type 0
-RootGives files root r = (bytes : List ℕ) × (files root ≡ Some bytes) × Rest files (root_context root) (unread_lines bytes 1) [] (with_file nothing_read bytes) r
+RootGives files root r = (bytes : List ℕ) × (files root ≡ Some bytes) × Rest files (root_context root) (unread_lines bytes 1) [] (with_file nothing_read root bytes) r
 
 module _ (folder_files : List ℕ → Option (List ℕ)) (dir first : List ℕ) (loaded : Files) (w : List (List ℕ)) (m : ℕ) (b : Bool)
     (walk : Walks (Some folder_files) dir [] 0 (first ∷ []) w m b) (agree : (y : List ℕ) → IsMetIn w y → loaded y ≡ named folder_files dir y) where
@@ -86,7 +67,7 @@ module _ (folder_files : List ℕ → Option (List ℕ)) (dir first : List ℕ) 
 
   -- what the root file asks for was loaded
   requested_agree : (bytes : List ℕ) (r : Result Log Refused) → bytes_cause first 0 (named folder_files dir first) ≡ None → named folder_files dir first ≡ Some bytes →
-      (d : Rest (named folder_files dir) (root_context first) (unread_lines bytes 1) [] (with_file nothing_read bytes) r) → (y : List ℕ) → Contains (sourced_files d) y → loaded y ≡ named folder_files dir y
+      (d : Rest (named folder_files dir) (root_context first) (unread_lines bytes 1) [] (with_file nothing_read first bytes) r) → (y : List ℕ) → Contains (sourced_files d) y → loaded y ≡ named folder_files dir y
   requested_agree bytes r free there d y c =
       let few = few_lines first bytes 0 (named folder_files dir first) free there in
       let free : list_any (same_name first) [] ≡ false = refl in
@@ -97,11 +78,6 @@ module _ (folder_files : List ℕ → Option (List ℕ)) (dir first : List ℕ) 
 
   opened_alike : (r : Result Log Refused) → bytes_cause first 0 (named folder_files dir first) ≡ None → RootGives (named folder_files dir) first r → RootGives loaded first r
   opened_alike r free (bytes, there, d) = (bytes, same_root ∙ there, over (named folder_files dir) loaded d (requested_agree bytes r free there d))
-
-  pub opens_alike : OpensAlike first (named folder_files dir) loaded
-  opens_alike bytes log there few d =
-      let agrees = requested_agree bytes (Ok log) (ap (bytes_cause first 0) there ∙ few) there d in
-      (same_root ∙ there, (over (named folder_files dir) loaded d agrees, requested_over (named folder_files dir) loaded d agrees))
 
   pub forward : (r : Result Log Refused) → Expands (named folder_files dir) first r → Expands loaded first r
   forward r d = by (bytes_cause first 0 (named folder_files dir first)) refl d
@@ -141,9 +117,8 @@ module _ (folder_files : List ℕ → Option (List ℕ)) (dir first : List ℕ) 
     named folder_files dir,
     refl,
     alike folder_files dir first s.files s.requested s.lines b walk requested_are_whole,
-    opens_alike folder_files dir first s.files s.requested s.lines b walk requested_are_whole,
   )
 
 pub enough : (folder_files : FolderFiles) (dir first : List ℕ) (s : State) → Ongoing folder_files dir first s → (b : Bool) → Walks folder_files dir [] 0 (first ∷ []) s.requested s.lines b → Suffices folder_files dir first s.files
-enough None dir first s h b walk = (s.files, tt, λ r. (λ x. x, λ x. x), λ bytes log there few d. (there, (d, refl)))
+enough None dir first s h b walk = (s.files, tt, λ r. (λ x. x, λ x. x))
 enough (Some folder_files) dir first s h b walk = enough_told folder_files dir first s h b walk

@@ -1,10 +1,8 @@
 -- Trusted: A folder's files by the names of a tree, and that enough of them was loaded.
-use Rattle.std.specs.Prelude.{◌≡◌, ℕ, List, [], Option, Some, None, Result, Ok, if◌then◌else◌}
+use Rattle.std.specs.Prelude.{◌≡◌, ℕ, List, Option, Some, None, Result, if◌then◌else◌}
 use Rattle.std.specs.Str.{is_utf8}
-use Rattle.kc_text.specs.Lines.{unread_lines}
-use Rattle.kc_read.specs.Expansion.{Expands, Log, Refused, Rest, bytes_cause, nothing_read, with_file, root_context}
+use Rattle.kc_read.specs.Expansion.{Expands, Log, Refused}
 use Rattle.kc_read.specs.Files.{Files}
-use Rattle.kc_read.specs.OpenedFiles.{sourced_files}
 use Rattle.kc_load.specs.Folders.{FolderFiles, path_of}
 
 -- the folder's file of each UTF-8 name; no other name has one
@@ -16,17 +14,10 @@ abbrev pub AreFilesOf : FolderFiles → List ℕ → Files → Type 0
 AreFilesOf None dir files = Unit {0}
 AreFilesOf (Some folder_files) dir files = files ≡ named folder_files dir
 
--- the root file gives the same list or refusal over both
+-- the root file gives the same list, with the files that it opens, or the same refusal over both
 abbrev pub ExpandsAlike : List ℕ → Files → Files → Type 0
 ExpandsAlike root files others = (r : Result Log Refused) → (Expands files root r → Expands others root r) × (Expands others root r → Expands files root r)
 
--- where the root file is accepted, it opens the same files over both
-abbrev pub OpensAlike : List ℕ → Files → Files → Type 0
-OpensAlike root files others =
-    (bytes : List ℕ) (log : Log) → files root ≡ Some bytes → bytes_cause root 0 (Some bytes) ≡ None →
-    (d : Rest files (root_context root) (unread_lines bytes 1) [] (with_file nothing_read bytes) (Ok log)) →
-    (others root ≡ Some bytes) × ((e : Rest others (root_context root) (unread_lines bytes 1) [] (with_file nothing_read bytes) (Ok log)) × (sourced_files e ≡ sourced_files d))
-
--- What was loaded is enough: over it the first file gives what it gives over all the files of the folder, and opens the same.
+-- What was loaded is enough: over it the first file gives what it gives over all the files of the folder, with the files that it opens.
 abbrev pub Suffices : FolderFiles → List ℕ → List ℕ → Files → Type 0
-Suffices folder_files dir first loaded = (files : Files) × AreFilesOf folder_files dir files × ExpandsAlike first files loaded × OpensAlike first files loaded
+Suffices folder_files dir first loaded = (files : Files) × AreFilesOf folder_files dir files × ExpandsAlike first files loaded

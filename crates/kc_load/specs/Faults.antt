@@ -1,5 +1,5 @@
 -- Trusted: Why loading ends early.
-use Rattle.std.specs.Prelude.{◌≡◌, ℕ, ◌≤◌, List, [], ◌∷◌, Result, Ok, Err}
+use Rattle.std.specs.Prelude.{ℕ, ◌≤◌, List, [], ◌∷◌, Result, Ok, Err}
 use Rattle.kc_load.specs.Folders.{FolderFiles, path_of}
 use Rattle.kc_read.specs.Limits.{most_lines}
 use Rattle.kc_load.specs.Loaded.{Answer, AreAsked, line_total}

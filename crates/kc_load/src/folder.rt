@@ -9,7 +9,7 @@ use std::alloc::AllocError;
 /// Why a file could not be read.
 #[derive(Clone, Copy, Debug, PartialEq, Eq)]
 pub enum FolderFault {
-    /// The device failed at the path.
+    /// The device failed at this path.
     Device,
     /// A growth was refused.
     Memory,
@@ -28,14 +28,13 @@ pub trait Folder {
     /// What each path holds and at which paths a read failed, or nothing told, as of a folder on a disk.
     ghost state: { Self → Option FolderState };
 
-    /// The bytes of the file at this path, or None where there is no such file.
-    ///
-    /// What is told afterwards follows from what was told before: a folder may stop telling, and none begins to.
+    /// Reads the file at this path: its bytes, or None where there is no such file. Nothing of what is told changes then. A
+    /// folder may stop telling, and none begins to.
     ///
     /// # Errors
     ///
-    /// `Device` where the device failed, which this path is told to have failed for; `Memory` where a growth was refused,
-    /// which changes nothing.
+    /// It is `Device` where the device failed: then this path is told as the last one at which a read failed. It is `Memory`
+    /// where a growth was refused: then nothing of what is told changes.
     fn read(&mut self, path: &str) -> Result<Option<Vec<u8>>, FolderFault>
         ensures { ReadsAt path.now (state self.old) (state self.new) result };
 }

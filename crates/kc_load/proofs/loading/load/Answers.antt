@@ -21,7 +21,7 @@ pub loop-name-preserved : goal.loop-name-preserved
 loop-name-preserved g c =
     let i = c.loop-name.invariant in
     record {
-      so_far = turned _ _ _ (state_of c.loop-name.loading) i.so_far i.within _ _ c.in_ok-visit.ensures.leads _ c.in-Some.name.items
+      so_far = turned (g.F.Folder.state c.loop-name.folder) c.args.dir.now c.args.kconfig.now (state_of c.loop-name.loading) i.so_far i.within (g.F.Folder.state c.visit.new.folder) [] c.in_ok-visit.ensures.leads _ c.in-Some.name.items
           (popped_last (λ (v : Vec ℕ Global). v.items) c.pop.new.self.items c.in-Some.name _ c.in-Some.ensures.items) (state_of c.visit.new.self)
           c.in_ok-visit.ensures.ok;
       within = not_over _ c.if-is_over.ensures;
@@ -39,7 +39,7 @@ pub returns-in_err-visit-clause-fault : goal.returns-in_err-visit-clause-fault
 returns-in_err-visit-clause-fault g c =
     let i = c.loop-name.invariant in
     let p = err_from_is_err_and c.from_residual-in_err-visit.result c.from_residual-in_err-visit.ensures.1 in
-    rw (p.1, p.2) (at_fault _ _ _ (state_of c.loop-name.loading) i.so_far i.within _ _ c.in_err-visit.ensures.leads _ c.in-Some.name.items
+    rw (p.1, p.2) (at_fault (g.F.Folder.state c.loop-name.folder) c.args.dir.now c.args.kconfig.now (state_of c.loop-name.loading) i.so_far i.within (g.F.Folder.state c.visit.new.folder) _ c.in_err-visit.ensures.leads _ c.in-Some.name.items
     (popped_last (λ (v : Vec ℕ Global). v.items) c.pop.new.self.items c.in-Some.name _ c.in-Some.ensures.items) c.in_err-visit.field-0.0 c.in_err-visit.ensures.err)
 
 pub returns-in_err-visit-clause-leads : goal.returns-in_err-visit-clause-leads
@@ -50,14 +50,14 @@ returns-in_err-visit-clause-leads g c =
 pub returns-then-is_over-clause-loaded : goal.returns-then-is_over-clause-loaded
 returns-then-is_over-clause-loaded g c =
     let i = c.loop-name.invariant in
-    loaded_over _ _ _ (state_of c.visit.new.self) (turned _ _ _ (state_of c.loop-name.loading) i.so_far i.within _ _ c.in_ok-visit.ensures.leads _ c.in-Some.name.items
+    loaded_over _ _ _ (state_of c.visit.new.self) (turned (g.F.Folder.state c.loop-name.folder) c.args.dir.now c.args.kconfig.now (state_of c.loop-name.loading) i.so_far i.within (g.F.Folder.state c.visit.new.folder) [] c.in_ok-visit.ensures.leads _ c.in-Some.name.items
     (popped_last (λ (v : Vec ℕ Global). v.items) c.pop.new.self.items c.in-Some.name _ c.in-Some.ensures.items) (state_of c.visit.new.self)
     c.in_ok-visit.ensures.ok) (is_over _ c.if-is_over.ensures)
 
 pub returns-then-is_over-clause-enough : goal.returns-then-is_over-clause-enough
 returns-then-is_over-clause-enough g c =
     let i = c.loop-name.invariant in
-    enough_over _ _ _ (state_of c.visit.new.self) (turned _ _ _ (state_of c.loop-name.loading) i.so_far i.within _ _ c.in_ok-visit.ensures.leads _ c.in-Some.name.items
+    enough_over _ _ _ (state_of c.visit.new.self) (turned (g.F.Folder.state c.loop-name.folder) c.args.dir.now c.args.kconfig.now (state_of c.loop-name.loading) i.so_far i.within (g.F.Folder.state c.visit.new.folder) [] c.in_ok-visit.ensures.leads _ c.in-Some.name.items
     (popped_last (λ (v : Vec ℕ Global). v.items) c.pop.new.self.items c.in-Some.name _ c.in-Some.ensures.items) (state_of c.visit.new.self)
     c.in_ok-visit.ensures.ok) (is_over _ c.if-is_over.ensures)
 
