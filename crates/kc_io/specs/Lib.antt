@@ -1,0 +1,7 @@
+pub mod Log
+pub mod WholeLines
+pub mod Reading
+pub mod Scripts
+pub mod Delivered
+pub mod Held
+pub mod TextViews
