@@ -92,4 +92,4 @@ held journal name = (fold (after name) (record { held = journal.files name; besi
 
 -- whether it is there and holds these bytes
 abbrev pub is_held : Journal → List ℕ → List ℕ → Bool
-is_held journal name bytes = option_map_or (λ found. bytes_eq found bytes) false (held journal name)
+is_held journal name bytes = option_map_or (λ found. bytes_eq found bytes) (held journal name) false

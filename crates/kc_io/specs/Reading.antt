@@ -1,5 +1,5 @@
 -- Trusted: How a file is read.
-use Rattle.std.specs.Prelude.{◌≡◌, ℕ, ◌<◌, ◌≤◌, Bool, true, false, ◌&&◌, List, [], take, length, ◌++◌, is_some, is_none, unwrap_or, Option, None, Some, Result, Ok, Err, IfOk, OnErr, ⊤}
+use Rattle.std.specs.Prelude.{◌≡◌, ℕ, zero, suc, ◌<◌, ◌≤◌, Bool, true, false, ◌&&◌, List, [], take, length, ◌++◌, is_some, is_none, unwrap_or, Option, None, Some, Result, Ok, Err, IfOk, OnErr, ⊤}
 use Rattle.std.specs.Option.{option_map}
 use Rattle.kc_io.specs.Log.{Event, Journal, Log, Tells, did, each_byte, failed, held}
 use Rattle.kc_io.specs.declared.device.Action.TheVariants.{Open, Miss, Read}
@@ -37,8 +37,8 @@ IsOpened log name file = (file.name ≡ name) × (file.to_come ≡ contents log 
 
 -- the events of an answer to reading: the bytes, the end of the file, or it failed
 abbrev pub reading : Result ℕ Fault → List ℕ → List ℕ → List Event
-reading (Ok 0) name buffer = did Read name
-reading (Ok count) name buffer = each_byte Read name (take count buffer)
+reading (Ok zero) name buffer = did Read name
+reading (Ok (suc count)) name buffer = each_byte Read name (take (suc count) buffer)
 reading (Err fault) name buffer = failed Read name fault
 
 -- So many bytes of the buffer are the next ones that the file gives. None is its end, and some take one of the reads that are left.

@@ -90,7 +90,7 @@ pub fn deliver<'a, D: Device>(
     texts: Vec<Text<'a>>,
     device: &mut D,
 ) -> Result<(), Failure<'a>>
-    ensures { Delivered manner (map text_view texts.items) (D.log device.old) (D.log device.new) result }
+    ensures { Delivered manner (map text_view texts.entry.items) (D.log device.old) (D.log device.new) result }
 {
     let mut texts = texts;
     choose(manner, &mut texts, device);

@@ -1,5 +1,5 @@
 //! What follows from the contracts.
-ghost use Rattle.std.specs.Prelude.{◌≡◌, ℕ, List};
+ghost use Rattle.std.specs.Prelude.{◌≡◌, ℕ, List, []};
 ghost use Rattle.kc_io.specs.Held.{last_of};
 ghost use Rattle.kc_io.specs.Log.{Journal, held, with_events};
 ghost use Rattle.kc_io.specs.Scripts.{NamedText, delivery};

@@ -1,0 +1,10 @@
+use Rattle.std.proofs.Common.{take, []}
+use Rattle.std.specs.List.{flat_map}
+use Rattle.kc_io.specs.Log.{Leads}
+use Rattle.kc_io.specs.Scripts.{moved}
+use Rattle.kc_io.specs.TextViews.{text_view}
+use Rattle.kc_io.proofs.steps.move_all.Given as goal
+
+-- the texts so far were moved
+abbrev pub invariant-loop-text : goal.invariant-loop-text
+invariant-loop-text g l = Leads (flat_map (λ text. moved (text_view text)) (take l.text-index l.texts)) [] (g.D.Device.log l.fn.device) (g.D.Device.log l.device)
