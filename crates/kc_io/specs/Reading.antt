@@ -5,9 +5,8 @@ use Rattle.kc_io.specs.Log.{Event, Journal, Log, Tells, did, each_byte, failed, 
 use Rattle.kc_io.specs.declared.device.Action.TheVariants.{Open, Miss, Read}
 use Rattle.kc_io.specs.declared.device.Fault.{Fault}
 
--- The file that was opened last: its name, what it has still to give, or nothing told, and how many reads may still give bytes.
+-- The file that was opened last: what it has still to give, or nothing told, and how many reads may still give bytes.
 pub record OpenFile : Type 0 where
-  pub name : List ℕ
   pub to_come : Option (List ℕ)
   pub reads_left : ℕ
 
@@ -33,7 +32,7 @@ pub record IsFound (log : Log) (name : List ℕ) (may_be_missing there : Bool) :
 
 -- a file of this name that was opened, of which nothing was read
 abbrev pub IsOpened : Log → List ℕ → OpenFile → Type 0
-IsOpened log name file = (file.name ≡ name) × (file.to_come ≡ contents log name)
+IsOpened log name file = file.to_come ≡ contents log name
 
 -- the events of an answer to reading: the bytes, the end of the file, or it failed
 abbrev pub reading : Result ℕ Fault → List ℕ → List ℕ → List Event
@@ -43,7 +42,6 @@ reading (Err fault) name buffer = failed Read name fault
 
 -- So many bytes of the buffer are the next ones that the file gives. None is its end, and some take one of the reads that are left.
 pub record ReadsOn (count : ℕ) (buffer : List ℕ) (old new : OpenFile) : Type 0 where
-  pub name : new.name ≡ old.name
   pub bytes : old.to_come ≡ option_map (λ rest. take count buffer ++ rest) new.to_come
   pub end : count ≡ 0 → 0 < length buffer → IsAtEnd new.to_come
   pub fewer : 0 < count → new.reads_left < old.reads_left

@@ -61,11 +61,11 @@ pub trait Device {
         ensures found { IfOk result (IsFound (log self.old) name.now may_be_missing) }
         ensures file { IfOk result (λ there. IsTrue there → IsOpened (log self.old) name.now (file self.new)) };
 
-    /// Puts the next bytes of the open file at the front of the buffer, and answers how many. None into a buffer with room is
+    /// Puts the next bytes of the open file, which has this name, at the front of the buffer, and answers how many. None into a buffer with room is
     /// the end, at which the file is closed.
-    fn read(&mut self, buffer: &mut [u8]) -> Result<usize, Fault>
+    fn read(&mut self, name: &str, buffer: &mut [u8]) -> Result<usize, Fault>
         ensures within { IfOk result (λ count. count ≤ length buffer.old) }
-        ensures log { Leads (reading result (file self.old).name buffer.new) [] (log self.old) (log self.new) }
+        ensures log { Leads (reading result name.now buffer.new) [] (log self.old) (log self.new) }
         ensures given { IfOk result (λ count. ReadsOn count buffer.new (file self.old) (file self.new)) };
 
     /// Writes whole lines to the diagnostics, all parts in one piece, however long they are (at most 65,536 bytes in one call of the system).
