@@ -1,0 +1,11 @@
+use Rattle.std.proofs.Common.{◌≡◌, map, length}
+use Rattle.kc_io.specs.Scripts.{share_name}
+use Rattle.kc_io.specs.TextViews.{text_view}
+use Rattle.kc_io.proofs.delivery.share_name.Given as goal
+
+-- what is left is to be answered
+abbrev pub invariant-loop-rest : goal.invariant-loop-rest
+invariant-loop-rest l = share_name (map text_view l.texts) ≡ share_name (map text_view l.rest)
+
+abbrev pub decreases-loop-rest : goal.decreases-loop-rest
+decreases-loop-rest l = length l.rest
