@@ -1,15 +1,14 @@
 -- How the parts of a delivery make its script.
-use Rattle.std.proofs.Common.{◌≡◌, ℕ, Bool, true, false, not, ◌||◌, if◌then◌else◌, cond, List, [], ◌∷◌, ◌++◌, map, filter, refl, sym, ◌∙◌, ap, append_assoc, Ok, Err, Result, subst}
+use Rattle.std.proofs.Common.{◌≡◌, Bool, true, false, not, ◌||◌, cond, List, [], ◌∷◌, map, filter, refl, ◌∙◌, ap, Ok, Err, Result}
 use Rattle.std.proofs.lemmas.List.Folds.{flat_map-map}
 use Rattle.std.specs.List.{flat_map, list_any}
-use Rattle.kc_io.specs.Log.{Event, Journal, Log, Leads, Tells, did, is_held}
+use Rattle.kc_io.specs.Log.{Journal, Log, Leads, Tells, is_held}
 use Rattle.kc_io.specs.Scripts.{NamedText, put, moved, chosen, delivery, share_name}
 use Rattle.kc_io.specs.TextViews.{text_view}
-use Rattle.kc_io.specs.Delivered.{Delivered, Went, cleared, failure_of}
+use Rattle.kc_io.specs.Delivered.{Delivered, Went, cleared}
 use Rattle.kc_io.specs.declared.delivery.Manner.{Manner}
 use Rattle.kc_io.specs.declared.delivery.Manner.TheVariants.{Plain, Replacing}
 use Rattle.kc_io.specs.declared.delivery.Text.{Text}
-use Rattle.kc_io.specs.declared.device.Action.TheVariants.{Clear}
 use Rattle.kc_io.specs.declared.device.Site.TheVariants.{Place, Beside}
 use Rattle.kc_io.specs.declared.steps.Failure.{Failure}
 use Rattle.kc_io.proofs.LogLemmas.{leads_both}

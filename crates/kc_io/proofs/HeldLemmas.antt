@@ -8,7 +8,7 @@ use Rattle.kc_io.specs.Scripts.{NamedText, put, moved, delivery}
 use Rattle.kc_io.specs.declared.delivery.Manner.{Manner}
 use Rattle.kc_io.specs.declared.delivery.Manner.TheVariants.{Plain, Replacing}
 use Rattle.kc_io.specs.Held.{last_of}
-use Rattle.kc_io.specs.declared.device.Action.TheVariants.{Create, Write, Close, Move}
+use Rattle.kc_io.specs.declared.device.Action.TheVariants.{Create, Write, Close}
 use Rattle.kc_io.specs.declared.device.Site.{Site}
 use Rattle.kc_io.specs.declared.device.Site.TheVariants.{Place, Beside}
 

@@ -4,9 +4,8 @@ use Rattle.std.proofs.lemmas.List.{append-nil, take-append-drop, take_all, map-a
 use Rattle.std.proofs.lemmas.Grind.{flat_map-append}
 use Rattle.std.proofs.Math.Seq.{drop-cons, take-add}
 use Rattle.std.specs.List.{flat_map}
-use Rattle.kc_io.specs.Log.{Event, Journal, Log, Leads, did, each_byte, failed, with_events}
+use Rattle.kc_io.specs.Log.{Event, Log, Leads, did, each_byte, failed}
 use Rattle.kc_io.specs.Scripts.{NamedText, put}
-use Rattle.kc_io.specs.declared.device.Action.{Action}
 use Rattle.kc_io.specs.declared.device.Action.TheVariants.{Create, Write, Close}
 use Rattle.kc_io.specs.declared.device.Fault.{Fault}
 use Rattle.kc_io.specs.declared.device.Site.{Site}

@@ -1,6 +1,6 @@
 -- Trusted: What is left of what was to be done, where something failed.
-use Rattle.std.specs.Prelude.{◌≡◌, ℕ, List, [], ◌∷◌, ◌++◌, Result, Ok, Err}
-use Rattle.kc_io.specs.Log.{Event, Journal, Log, Leads, Tells, did, failed}
+use Rattle.std.specs.Prelude.{◌≡◌, List, [], ◌∷◌, ◌++◌, Result, Ok, Err}
+use Rattle.kc_io.specs.Log.{Event, Log, Leads, Tells, did, failed}
 use Rattle.kc_io.specs.Scripts.{NamedText, chosen, delivery}
 use Rattle.kc_io.specs.declared.delivery.Manner.{Manner}
 use Rattle.kc_io.specs.declared.delivery.Manner.TheVariants.{Plain, Replacing}

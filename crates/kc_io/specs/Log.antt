@@ -1,8 +1,8 @@
 -- Trusted: What a device tells of itself: what its files held, what was done with them, and what was said.
-use Rattle.std.specs.Prelude.{◌≡◌, ℕ, Bool, true, false, not, ◌||◌, if◌then◌else◌, List, [], ◌∷◌, ◌++◌, map, fold, take, length, is_some, is_none, Option, None, Some, Result, Ok, Err, bytes_eq, codes}
+use Rattle.std.specs.Prelude.{◌≡◌, ℕ, Bool, false, not, ◌||◌, if◌then◌else◌, List, [], ◌∷◌, ◌++◌, map, fold, take, is_some, Option, None, Some, Result, Ok, Err, bytes_eq}
 use Rattle.std.specs.Option.{option_map, option_map_or}
 use Rattle.kc_io.specs.declared.device.Action.{Action}
-use Rattle.kc_io.specs.declared.device.Action.TheVariants.{Open, Miss, Read, Create, Write, Close, Move, Clear, Note}
+use Rattle.kc_io.specs.declared.device.Action.TheVariants.{Create, Write, Move, Note}
 use Rattle.kc_io.specs.declared.device.Site.{Site}
 use Rattle.kc_io.specs.declared.device.Site.TheVariants.{Place, Beside}
 use Rattle.kc_io.specs.declared.device.Fault.{Fault}

@@ -1,5 +1,5 @@
 -- Trusted: What is to be done with files, event by event.
-use Rattle.std.specs.Prelude.{ℕ, Bool, true, false, not, ◌||◌, if◌then◌else◌, List, [], ◌∷◌, ◌++◌, filter, bytes_eq}
+use Rattle.std.specs.Prelude.{ℕ, Bool, false, not, ◌||◌, if◌then◌else◌, List, [], ◌∷◌, ◌++◌, filter, bytes_eq}
 use Rattle.std.specs.List.{flat_map, list_any}
 use Rattle.kc_io.specs.Log.{Event, Journal, did, each_byte, is_held}
 use Rattle.kc_io.specs.declared.device.Action.TheVariants.{Create, Write, Close, Move}

@@ -1,5 +1,4 @@
 -- Trusted: A text to be delivered, as its contracts see it.
-use Rattle.std.specs.Prelude.{List, map, string_bytes}
 use Rattle.kc_io.specs.Scripts.{NamedText}
 use Rattle.kc_io.specs.declared.delivery.Text.{Text}
 

@@ -7,6 +7,6 @@ pub returns : goal.returns
 returns g c =
     let went = rw c.deref.ensures.value at c.in-Err.ensures in
     elim c.match-manner.branch [
-    | in-Replacing w ↦ delivered _ _ _ _ _ _ _ c.choose.ensures went (rw (w.in-Replacing.is, w.device-is) w.clear.ensures)
-    | in_default w ↦ delivered _ _ _ _ _ _ _ c.choose.ensures went (rw (w.in_default.is, w.device-is) (leads_nothing _))
+      | in-Replacing w ↦ delivered _ _ _ _ _ _ _ c.choose.ensures went (rw (w.in-Replacing.is, w.device-is) w.clear.ensures)
+      | in_default w ↦ delivered _ _ _ _ _ _ _ c.choose.ensures went (rw (w.in_default.is, w.device-is) (leads_nothing _))
     ]

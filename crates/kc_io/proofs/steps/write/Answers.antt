@@ -1,6 +1,5 @@
 use Rattle.std.proofs.Common.{arith, length, length-drop, ◌-◌, ◌≡◌, take, drop}
 use Rattle.std.proofs.lemmas.List.{take_all}
-use Rattle.kc_io.proofs.LogLemmas.{leads_nothing}
 use Rattle.kc_io.proofs.WentLemmas.{bytes_more, bytes_stopped, went_all}
 use Rattle.kc_io.proofs.steps.write.Goals as goal
 
