@@ -13,7 +13,7 @@ pub mod GivesLemmas
 pub mod InTurnLemmas
 pub mod LineLemmas
 pub mod LongLineLemmas
-pub mod PageLemmas
+pub mod PendingLemmas
 pub mod MinimalLaws
 pub mod MinimalTextLemmas
 pub mod PartLemmas

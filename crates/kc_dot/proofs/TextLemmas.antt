@@ -1,5 +1,5 @@
 -- Texts that are handed out symbol by symbol and entry by entry.
-use Rattle.std.proofs.Common.{◌≡◌, ℕ, ◌+◌, ◌<◌, ◌≤◌, List, [], ◌∷◌, ◌++◌, Bool, true, false, length, map, drop, get_or, refl, sym, ap, ◌∙◌, arith, Some}
+use Rattle.std.proofs.Common.{◌≡◌, ℕ, ◌+◌, ◌<◌, ◌≤◌, List, [], ◌∷◌, ◌++◌, Bool, true, false, length, map, drop, get_or, refl, sym, ap, ◌∙◌, arith, Some, append_assoc, append-nil, length-append}
 use Rattle.std.specs.Prelude.{slice_get}
 use Rattle.std.specs.List.{flat_map}
 use Rattle.std.specs.Option.{option_map}
@@ -20,6 +20,18 @@ use Rattle.kc_dot.specs.SymbolLines.{dot_line, header_line}
 use Rattle.kc_dot.specs.EntryTexts.{ends_after, entries_after}
 use Rattle.kc_dot.specs.Texts.{symbols_of, header_if, minimal_if, gap, entry_text}
 use Rattle.kc_dot.specs.SolutionView.{SolutionView}
+
+-- a text grows by the next part of what is still to come
+pub grows : (whole text grown part rest more : List ℕ) → text ++ rest ≡ whole → rest ≡ part ++ more → grown ≡ text ++ part → grown ++ more ≡ whole
+grows whole text grown part rest more is next added = rw added (append_assoc text part more ∙ ap (λ t. text ++ t) (sym next) ∙ is)
+
+-- the whole is not empty where a part of a byte or more is still to come
+pub grows_some : (whole text part rest more : List ℕ) → text ++ rest ≡ whole → rest ≡ part ++ more → 0 < length part → 0 < length whole
+grows_some whole text part rest more is next some = omega (arith, ap length is, length-append text rest, ap length next, length-append part more)
+
+-- nothing more is to come
+pub is_grown : (whole text rest : List ℕ) → text ++ rest ≡ whole → rest ≡ [] → text ≡ whole
+is_grown whole text rest is none = sym (append-nil text) ∙ ap (λ t. text ++ t) (sym none) ∙ is
 
 -- the name of a symbol, as the tree hands it out
 pub name_is : (tree : TreeFacts) (s : SymId) (name : List ℕ) → slice_get tree.names s.0 ≡ Some name → name ≡ name_of tree s

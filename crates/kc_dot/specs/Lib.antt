@@ -12,7 +12,7 @@ pub mod LineSteps
 pub mod Limits
 pub mod LineValue
 pub mod Named
-pub mod Pages
+pub mod Pending
 pub mod Plain
 pub mod Prefixes
 pub mod ReaderState

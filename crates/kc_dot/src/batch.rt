@@ -1,8 +1,9 @@
 //! Texts that are handed out, whole or part by part.
 ghost use Rattle.std.specs.Prelude.{◌++◌, flat_map};
-ghost use Rattle.kc_dot.specs.Pages.{PutsOn};
-ghost use Rattle.kc_dot.specs.Writing.{Puts};
+ghost use Rattle.kc_dot.specs.Pending.{PutsOn};
+ghost use Rattle.kc_dot.specs.Writing.{Puts, Writes};
 
+use crate::fault::WriteFault;
 use crate::sink::{Fault, Sink};
 use arrayvec::ArrayVec;
 
@@ -21,6 +22,14 @@ pub fn put<S: Sink>(text: &[u8], sink: &mut S) -> Result<(), Fault>
         let count = sink.write(&text[at..])?;
         at += count;
     }
+    Ok(())
+}
+
+/// Hands out the whole text, as `put` does.
+pub(crate) fn put_text<S: Sink>(text: &[u8], sink: &mut S) -> Result<(), WriteFault>
+    ensures { Writes S.Sink text.now result sink.old sink.new }
+{
+    put(text, sink)?;
     Ok(())
 }
 

@@ -1,5 +1,5 @@
 //! The writer of the `.config`.
-ghost use Rattle.std.specs.Prelude.{◌≡◌, ◌++◌, ◌<◌, length, slice_get, Some, is_some, true, false, OnOk, OnErr, IfOk, if◌then◌else◌};
+ghost use Rattle.std.specs.Prelude.{◌≡◌, ◌++◌, ◌<◌, length, slice_get, Some, is_some, true, false, OnOk, IfOk, if◌then◌else◌};
 ghost use Rattle.std.specs.Option.{option_copied};
 ghost use Rattle.kc_tree.specs.TreeFacts.{SymbolShown};
 ghost use Rattle.kc_tree.specs.Layouts.{IsLayoutOf, shown_of, title_at, title_text};
@@ -13,13 +13,13 @@ ghost use Rattle.kc_dot.specs.Writing.{Writes};
 ghost use Rattle.kc_solve.specs.Solved.{value_of};
 ghost use Rattle.kc_user.specs.Places.{ArePlaces};
 
-use crate::batch::put;
+use crate::batch::put_text;
 use crate::fault::WriteFault;
 use crate::laws::{config_is_idempotent, written_texts_are_short};
-use crate::page::{add_parts, new_page, put_full};
 use crate::prefix::Prefix;
 use crate::sink::Sink;
 use crate::symbol_line::{add_dot_line, symbol_value};
+use crate::text::{add_parts, new_text};
 use kc_expr::expression::{SymId, Tri};
 use kc_solve::solved::Solved;
 use kc_tree::layout::Layout;
@@ -38,36 +38,33 @@ fn is_shown(tri: Tri) -> bool
 }
 
 // Adds an empty line, the title and the lines around it, where it is shown.
-fn add_title_if(shown: bool, text: &[u8], page: &mut Vec<u8>) -> Result<(), AllocError>
-    ensures title { OnOk result (page.new.items ≡ page.old.items ++ title_if shown text.now) }
-    ensures some { OnErr result (0 < length (title_if shown text.now)) }
+fn add_title_if(shown: bool, text: &[u8], file: &mut Vec<u8>) -> Result<(), AllocError>
+    ensures { OnOk result (file.new.items ≡ file.old.items ++ title_if shown text.now) }
 {
     if !shown {
         return Ok(());
     }
-    add_parts(&[b"\n#\n# ", text, b"\n#\n"], page)
+    add_parts(&[b"\n#\n# ", text, b"\n#\n"], file)
 }
 
 // Adds the end line of a menu, where its title is shown.
-fn add_end_if(title: Option<&[u8]>, page: &mut Vec<u8>) -> Result<(), AllocError>
-    ensures line { OnOk result (page.new.items ≡ page.old.items ++ end_if (option_copied title.entry)) }
-    ensures some { OnErr result (0 < length (end_if (option_copied title.entry))) }
+fn add_end_if(title: Option<&[u8]>, file: &mut Vec<u8>) -> Result<(), AllocError>
+    ensures { OnOk result (file.new.items ≡ file.old.items ++ end_if (option_copied title.entry)) }
 {
     match title {
         None => Ok(()),
-        Some(text) => add_parts(&[b"# end of ", text, b"\n"], page),
+        Some(text) => add_parts(&[b"# end of ", text, b"\n"], file),
     }
 }
 
 // Adds an empty line after an end line.
-fn add_gap(after_end: bool, page: &mut Vec<u8>) -> Result<(), AllocError>
-    ensures gap { OnOk result (page.new.items ≡ page.old.items ++ gap after_end) }
-    ensures some { OnErr result (0 < length (gap after_end)) }
+fn add_gap(after_end: bool, file: &mut Vec<u8>) -> Result<(), AllocError>
+    ensures { OnOk result (file.new.items ≡ file.old.items ++ gap after_end) }
 {
     if !after_end {
         return Ok(());
     }
-    page.extend_from_slice(b"\n")
+    file.extend_from_slice(b"\n")
 }
 
 // The text of a title.
@@ -106,18 +103,17 @@ fn add_symbol_if(
     prefix: &Prefix,
     id: SymId,
     after_end: bool,
-    page: &mut Vec<u8>,
+    file: &mut Vec<u8>,
 ) -> Result<bool, AllocError>
     requires { id.0 < length tree.now.names }
-    ensures text { OnOk result (page.new.items ≡ page.old.items ++ entry_text tree.now prefix.now (solution_view solved.now) after_end (SymbolShown id)) }
-    ensures some { OnErr result (0 < length (entry_text tree.now prefix.now (solution_view solved.now) after_end (SymbolShown id))) }
+    ensures text { OnOk result (file.new.items ≡ file.old.items ++ entry_text tree.now prefix.now (solution_view solved.now) after_end (SymbolShown id)) }
     ensures next { IfOk result (λ next. next ≡ ends_after tree.now (solution_view solved.now) after_end (SymbolShown id)) }
 {
     if !solved.written(id) {
         return Ok(after_end);
     }
-    add_gap(after_end, page)?;
-    add_dot_line(prefix, tree.name(id), symbol_value(solved, id), page)?;
+    add_gap(after_end, file)?;
+    add_dot_line(prefix, tree.name(id), symbol_value(solved, id), file)?;
     Ok(false)
 }
 
@@ -126,23 +122,21 @@ fn add_title(
     shown: bool,
     text: &[u8],
     after_end: bool,
-    page: &mut Vec<u8>,
+    file: &mut Vec<u8>,
 ) -> Result<bool, AllocError>
-    ensures text { OnOk result (page.new.items ≡ page.old.items ++ title_if shown text.now) }
-    ensures some { OnErr result (0 < length (title_if shown text.now)) }
+    ensures text { OnOk result (file.new.items ≡ file.old.items ++ title_if shown text.now) }
     ensures next { IfOk result (λ next. next ≡ (if shown then false else after_end)) }
 {
-    add_title_if(shown, text, page)?;
+    add_title_if(shown, text, file)?;
     Ok(!shown && after_end)
 }
 
 // Adds the end line where there is a title. Answers whether the last line is an end line now.
-fn add_end(title: Option<&[u8]>, after_end: bool, page: &mut Vec<u8>) -> Result<bool, AllocError>
-    ensures text { OnOk result (page.new.items ≡ page.old.items ++ end_if (option_copied title.entry)) }
-    ensures some { OnErr result (0 < length (end_if (option_copied title.entry))) }
+fn add_end(title: Option<&[u8]>, after_end: bool, file: &mut Vec<u8>) -> Result<bool, AllocError>
+    ensures text { OnOk result (file.new.items ≡ file.old.items ++ end_if (option_copied title.entry)) }
     ensures next { IfOk result (λ next. next ≡ (if is_some (option_copied title.entry) then true else after_end)) }
 {
-    add_end_if(title, page)?;
+    add_end_if(title, file)?;
     Ok(title.is_some() || after_end)
 }
 
@@ -155,40 +149,38 @@ fn add_entry(
     index: usize,
     entry: &ShownEntry,
     after_end: bool,
-    page: &mut Vec<u8>,
+    file: &mut Vec<u8>,
 ) -> Result<bool, AllocError>
     requires there { slice_get tree.now.entries index ≡ Some (shown_of layout.now.tables entry.now) }
     requires laid { IsLayoutOf tree.now layout.now }
     requires name { HasName tree.now (shown_of layout.now.tables entry.now) }
     requires same { solved.now.tree ≡ tree.now }
-    ensures text { OnOk result (page.new.items ≡ page.old.items ++ entry_text tree.now prefix.now (solution_view solved.now) after_end (shown_of layout.now.tables entry.now)) }
-    ensures some { OnErr result (0 < length (entry_text tree.now prefix.now (solution_view solved.now) after_end (shown_of layout.now.tables entry.now))) }
+    ensures text { OnOk result (file.new.items ≡ file.old.items ++ entry_text tree.now prefix.now (solution_view solved.now) after_end (shown_of layout.now.tables entry.now)) }
     ensures next { IfOk result (λ next. next ≡ ends_after tree.now (solution_view solved.now) after_end (shown_of layout.now.tables entry.now)) }
 {
     match entry {
-        ShownEntry::Symbol(id) => add_symbol_if(tree, solved, prefix, *id, after_end, page),
+        ShownEntry::Symbol(id) => add_symbol_if(tree, solved, prefix, *id, after_end, file),
         ShownEntry::Menu(title) | ShownEntry::Comment(title) => {
             let shown = is_shown(solved.shown(index));
-            add_title(shown, text_of(layout, *title), after_end, page)
+            add_title(shown, text_of(layout, *title), after_end, file)
         }
         ShownEntry::End(menu) => add_end(
             shown_title(tree, solved, *menu as usize),
             after_end,
-            page,
+            file,
         ),
     }
 }
 
-// Hands out what waits on the page, and what the entries give.
-fn put_entries<S: Sink>(
+// Adds what the entries give.
+fn add_entries(
     tree: &Tree,
     solved: &Solved<'_>,
     prefix: &Prefix,
-    page: &mut Vec<u8>,
-    sink: &mut S,
-) -> Result<(), WriteFault>
+    file: &mut Vec<u8>,
+) -> Result<(), AllocError>
     requires { solved.now.tree ≡ tree.now }
-    ensures { Writes S.Sink (page.old.items ++ entries_text tree.now prefix.now (solution_view solved.now) tree.now.entries) result sink.old sink.new }
+    ensures { OnOk result (file.new.items ≡ file.old.items ++ entries_text tree.now prefix.now (solution_view solved.now) tree.now.entries) }
 {
     // The entries name symbols of the tree alone: `symbol_count` says so.
     let _ = tree.symbol_count();
@@ -196,16 +188,14 @@ fn put_entries<S: Sink>(
     let entries = layout.entries();
     let mut after_end = false;
     for (index, entry) in entries.iter().enumerate() {
-        after_end = add_entry(tree, layout, solved, prefix, index, entry, after_end, page)?;
-        put_full(page, sink)?;
+        after_end = add_entry(tree, layout, solved, prefix, index, entry, after_end, file)?;
     }
-    put(page, sink)?;
     Ok(())
 }
 
 // Adds the heading.
-fn add_heading(title: &[u8], page: &mut Vec<u8>) -> Result<(), AllocError>
-    ensures { OnOk result (page.new.items ≡ page.old.items ++ config_heading title.now) }
+fn add_heading(title: &[u8], file: &mut Vec<u8>) -> Result<(), AllocError>
+    ensures { OnOk result (file.new.items ≡ file.old.items ++ config_heading title.now) }
 {
     add_parts(
         &[
@@ -213,11 +203,32 @@ fn add_heading(title: &[u8], page: &mut Vec<u8>) -> Result<(), AllocError>
             title,
             b"\n#\n",
         ],
-        page,
+        file,
     )
 }
 
-// Hands out the full `.config`.
+/// The full `.config`: the heading, then in the order of the entries the line of each written symbol at its first
+/// definition, the titles of the menus and comments that are shown, and `# end of` lines of these menus; an empty line
+/// stands where a symbol's line directly follows such an end line. (Our own layout, in the manner of the kernel's conf
+/// and of kconfiglib.)
+///
+/// The caller owes the solution of that tree. The only error is to be out of memory.
+pub fn config_text(
+    alloc: Global,
+    tree: &Tree,
+    solved: &Solved<'_>,
+    prefix: &Prefix,
+) -> Result<Vec<u8>, AllocError>
+    requires { solved.now.tree ≡ tree.now }
+    ensures { IfOk result (λ text. text.items ≡ config_text tree.now prefix.now (solution_view solved.now)) }
+{
+    let mut file = new_text(alloc)?;
+    add_heading(tree.main_menu(), &mut file)?;
+    add_entries(tree, solved, prefix, &mut file)?;
+    Ok(file)
+}
+
+// Makes the full `.config`, and hands it out.
 fn put_config<S: Sink>(
     alloc: Global,
     tree: &Tree,
@@ -228,16 +239,12 @@ fn put_config<S: Sink>(
     requires { solved.now.tree ≡ tree.now }
     ensures { Writes S.Sink (config_text tree.now prefix.now (solution_view solved.now)) result sink.old sink.new }
 {
-    let mut page = new_page(alloc)?;
-    add_heading(tree.main_menu(), &mut page)?;
-    put_entries(tree, solved, prefix, &mut page, sink)
+    let text = config_text(alloc, tree, solved, prefix)?;
+    put_text(&text, sink)
 }
 
-/// Hands out the full `.config`: the heading, then in the order of the entries the line of each written symbol at its
-/// first definition, the titles of the menus and comments that are shown, and `# end of` lines of these menus; an
-/// empty line stands where a symbol's line directly follows such an end line. (Our own layout, in the manner of the
-/// kernel's conf and of kconfiglib.) The caller owes the solution of that tree. After an error, also where there was no
-/// memory, the sink took a beginning of it, never the whole.
+/// Hands out the full `.config`, the text that `config_text` makes. The caller owes the solution of that tree. After an
+/// error, also where there was no memory, the sink took a beginning of it, never the whole.
 ///
 /// With the places that reading it leaves, from empty places, the one solution is the one that was written exactly where
 /// no visible tristate symbol outside a choice stands above both its visibility and its reverse dependency. This asks

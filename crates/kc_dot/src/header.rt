@@ -1,5 +1,5 @@
 //! The writers of the header and of the minimal file.
-ghost use Rattle.std.specs.Prelude.{◌≡◌, ◌<◌, ◌++◌, length, OnOk, OnErr, flat_map};
+ghost use Rattle.std.specs.Prelude.{◌≡◌, ◌<◌, ◌++◌, length, OnOk, OnErr, IfOk, flat_map};
 ghost use Rattle.kc_dot.specs.Laws.{HasShortLines, MinimalGivesBack, MinimalNeedsEach};
 ghost use Rattle.kc_dot.specs.Texts.{header_heading, header_text, minimal_text, header_if, minimal_if, symbols_of};
 ghost use Rattle.kc_dot.specs.SolvedView.{solution_view};
@@ -8,13 +8,13 @@ ghost use Rattle.kc_solve.specs.Solved.{value_of};
 ghost use Rattle.kc_user.specs.Places.{ArePlaces};
 ghost use Rattle.kc_values.specs.Solution.{symbol_count};
 
-use crate::batch::put;
+use crate::batch::put_text;
 use crate::fault::WriteFault;
 use crate::laws::{minimal_gives_back, written_texts_are_short};
-use crate::page::{add_parts, new_page, put_full};
 use crate::prefix::Prefix;
 use crate::sink::Sink;
 use crate::symbol_line::{add_dot_line, add_header_line, symbol_value};
+use crate::text::{add_parts, new_text};
 use kc_expr::expression::SymId;
 use kc_solve::solved::Solved;
 use kc_tree::tree::Tree;
@@ -26,16 +26,15 @@ fn add_header_if(
     solved: &Solved<'_>,
     prefix: &Prefix,
     id: SymId,
-    page: &mut Vec<u8>,
+    file: &mut Vec<u8>,
 ) -> Result<(), AllocError>
     requires { id.0 < length tree.now.names }
-    ensures line { OnOk result (page.new.items ≡ page.old.items ++ header_if tree.now prefix.now (solution_view solved.now) id) }
-    ensures some { OnErr result (0 < length (header_if tree.now prefix.now (solution_view solved.now) id)) }
+    ensures { OnOk result (file.new.items ≡ file.old.items ++ header_if tree.now prefix.now (solution_view solved.now) id) }
 {
     if !solved.written(id) {
         return Ok(());
     }
-    add_header_line(prefix, tree.name(id), symbol_value(solved, id), page)
+    add_header_line(prefix, tree.name(id), symbol_value(solved, id), file)
 }
 
 // Adds the symbol's line where it differs.
@@ -44,40 +43,37 @@ fn add_minimal_if(
     solved: &Solved<'_>,
     prefix: &Prefix,
     id: SymId,
-    page: &mut Vec<u8>,
+    file: &mut Vec<u8>,
 ) -> Result<(), AllocError>
     requires named { id.0 < length tree.now.names }
     requires defined { id.0 < symbol_count solved.now.tree }
-    ensures line { OnOk result (page.new.items ≡ page.old.items ++ minimal_if tree.now prefix.now (solution_view solved.now) id) }
+    ensures line { OnOk result (file.new.items ≡ file.old.items ++ minimal_if tree.now prefix.now (solution_view solved.now) id) }
     ensures some { OnErr result (0 < length (minimal_if tree.now prefix.now (solution_view solved.now) id)) }
 {
     if !solved.differs(id) {
         return Ok(());
     }
-    add_dot_line(prefix, tree.name(id), symbol_value(solved, id), page)
+    add_dot_line(prefix, tree.name(id), symbol_value(solved, id), file)
 }
 
-// Hands out what waits on the page, and the header lines of the written symbols.
-fn put_header_lines<S: Sink>(
+// Adds the header lines of the written symbols.
+fn add_header_lines(
     tree: &Tree,
     solved: &Solved<'_>,
     prefix: &Prefix,
-    page: &mut Vec<u8>,
-    sink: &mut S,
-) -> Result<(), WriteFault>
-    ensures { Writes S.Sink (page.old.items ++ flat_map (header_if tree.now prefix.now (solution_view solved.now)) (symbols_of tree.now)) result sink.old sink.new }
+    file: &mut Vec<u8>,
+) -> Result<(), AllocError>
+    ensures { OnOk result (file.new.items ≡ file.old.items ++ flat_map (header_if tree.now prefix.now (solution_view solved.now)) (symbols_of tree.now)) }
 {
     for i in 0..tree.symbol_count() {
-        add_header_if(tree, solved, prefix, tree.symbol(i), page)?;
-        put_full(page, sink)?;
+        add_header_if(tree, solved, prefix, tree.symbol(i), file)?;
     }
-    put(page, sink)?;
     Ok(())
 }
 
 // Adds the heading.
-fn add_heading(title: &[u8], page: &mut Vec<u8>) -> Result<(), AllocError>
-    ensures { OnOk result (page.new.items ≡ page.old.items ++ header_heading title.now) }
+fn add_heading(title: &[u8], file: &mut Vec<u8>) -> Result<(), AllocError>
+    ensures { OnOk result (file.new.items ≡ file.old.items ++ header_heading title.now) }
 {
     add_parts(
         &[
@@ -85,34 +81,31 @@ fn add_heading(title: &[u8], page: &mut Vec<u8>) -> Result<(), AllocError>
             title,
             b"\n */\n",
         ],
-        page,
+        file,
     )
 }
 
-// Hands out the minimal file.
-fn put_minimal<S: Sink>(
+/// The header: the heading, and a `#define` line for each written symbol, in the order of their first definition. (The
+/// kernel's conf writes such lines; the heading is our own.)
+///
+/// The caller owes the solution of that tree. The only error is to be out of memory.
+pub fn header_text(
     alloc: Global,
     tree: &Tree,
     solved: &Solved<'_>,
     prefix: &Prefix,
-    sink: &mut S,
-) -> Result<(), WriteFault>
+) -> Result<Vec<u8>, AllocError>
     requires { solved.now.tree ≡ tree.now }
-    ensures { Writes S.Sink (minimal_text tree.now prefix.now (solution_view solved.now)) result sink.old sink.new }
+    ensures { IfOk result (λ text. text.items ≡ header_text tree.now prefix.now (solution_view solved.now)) }
 {
-    // A file without a line takes no memory.
-    let mut page = Vec::new(alloc);
-    for i in 0..tree.symbol_count() {
-        add_minimal_if(tree, solved, prefix, tree.symbol(i), &mut page)?;
-        put_full(&mut page, sink)?;
-    }
-    put(&page, sink)?;
-    Ok(())
+    let mut file = new_text(alloc)?;
+    add_heading(tree.main_menu(), &mut file)?;
+    add_header_lines(tree, solved, prefix, &mut file)?;
+    Ok(file)
 }
 
-/// Hands out the header: the heading, and a `#define` line for each written symbol, in the order of their first
-/// definition. (The kernel's conf writes such lines; the heading is our own.) The caller owes the solution of that
-/// tree. After an error, also where there was no memory, the sink took a beginning of it, never the whole.
+/// Hands out the header, the text that `header_text` makes. The caller owes the solution of that tree. After an error,
+/// also where there was no memory, the sink took a beginning of it, never the whole.
 pub fn write_header<S: Sink>(
     alloc: Global,
     tree: &Tree,
@@ -123,14 +116,48 @@ pub fn write_header<S: Sink>(
     requires { solved.now.tree ≡ tree.now }
     ensures { Writes S.Sink (header_text tree.now prefix.now (solution_view solved.now)) result sink.old sink.new }
 {
-    let mut page = new_page(alloc)?;
-    add_heading(tree.main_menu(), &mut page)?;
-    put_header_lines(tree, solved, prefix, &mut page, sink)
+    let text = header_text(alloc, tree, solved, prefix)?;
+    put_text(&text, sink)
 }
 
-/// Hands out the minimal file: the lines of the symbols that differ, in the order of their first definition. (Our own
-/// form.) The caller owes the solution of that tree. After an error, also where there was no memory, the sink took a beginning
-/// of it, never the whole: a file without a line takes no memory.
+/// The minimal file: the lines of the symbols that differ, in the order of their first definition. (Our own form.)
+///
+/// The caller owes the solution of that tree. The only error is to be out of memory, for a file with a line: one without
+/// takes no memory.
+pub fn minimal_text(
+    alloc: Global,
+    tree: &Tree,
+    solved: &Solved<'_>,
+    prefix: &Prefix,
+) -> Result<Vec<u8>, AllocError>
+    requires { solved.now.tree ≡ tree.now }
+    ensures text { IfOk result (λ text. text.items ≡ minimal_text tree.now prefix.now (solution_view solved.now)) }
+    ensures some { OnErr result (0 < length (minimal_text tree.now prefix.now (solution_view solved.now))) }
+{
+    let mut file = Vec::new(alloc);
+    for i in 0..tree.symbol_count() {
+        add_minimal_if(tree, solved, prefix, tree.symbol(i), &mut file)?;
+    }
+    Ok(file)
+}
+
+// Makes the minimal file, and hands it out.
+fn put_minimal<S: Sink>(
+    alloc: Global,
+    tree: &Tree,
+    solved: &Solved<'_>,
+    prefix: &Prefix,
+    sink: &mut S,
+) -> Result<(), WriteFault>
+    requires { solved.now.tree ≡ tree.now }
+    ensures { Writes S.Sink (minimal_text tree.now prefix.now (solution_view solved.now)) result sink.old sink.new }
+{
+    let text = minimal_text(alloc, tree, solved, prefix)?;
+    put_text(&text, sink)
+}
+
+/// Hands out the minimal file, the text that `minimal_text` makes. The caller owes the solution of that tree. After an
+/// error, also where there was no memory, the sink took a beginning of it, never the whole.
 ///
 /// With the places that reading it leaves, from empty places, the one solution is the one that was written. It has one line
 /// for each symbol that differs, and with any nonempty set of these left out it is not. No line is too long to be read again.

@@ -9,13 +9,13 @@ pub mod header;
 pub mod laws;
 pub mod line;
 mod line_buffer;
-mod page;
 pub mod prefix;
 pub mod reader;
 pub mod shown;
 pub mod sink;
 mod step;
 mod symbol_line;
+mod text;
 pub mod user_input;
 pub mod value;
 

@@ -6,8 +6,8 @@ ghost use Rattle.kc_dot.specs.SymbolLines.{dot_line, header_line, hex_text};
 ghost use Rattle.kc_dot.specs.KnownValue.{value_view};
 ghost use Rattle.kc_expr.specs.Value.{value_by_kind};
 
-use crate::page::add_parts;
 use crate::prefix::Prefix;
+use crate::text::add_parts;
 use kc_expr::expression::{Kind, SymId, Tri};
 use kc_expr::values::Values;
 use kc_solve::solved::Solved;
@@ -44,12 +44,12 @@ pub(crate) fn symbol_value<'a>(solved: &'a Solved<'_>, id: SymId) -> WrittenValu
 }
 
 // Adds the parts before a string, the string with a `\` before each `"` and `\`, and the end of its line.
-fn add_string_line(before: &[&[u8]], text: &[u8], page: &mut Vec<u8>) -> Result<(), AllocError>
-    ensures { OnOk result (page.new.items ≡ page.old.items ++ flat_map (λ part. part.now) before.now ++ escape text.now ++ codes "\"\n") }
+fn add_string_line(before: &[&[u8]], text: &[u8], file: &mut Vec<u8>) -> Result<(), AllocError>
+    ensures { OnOk result (file.new.items ≡ file.old.items ++ flat_map (λ part. part.now) before.now ++ escape text.now ++ codes "\"\n") }
 {
-    add_parts(before, page)?;
-    escape_into(text, page)?;
-    page.extend_from_slice(b"\"\n")
+    add_parts(before, file)?;
+    escape_into(text, file)?;
+    file.extend_from_slice(b"\"\n")
 }
 
 // What a header has before a hex.
@@ -64,56 +64,55 @@ pub(crate) fn add_dot_line<'a>(
     prefix: &'a Prefix,
     name: &'a [u8],
     value: WrittenValue<'a>,
-    page: &mut Vec<u8>,
+    file: &mut Vec<u8>,
 ) -> Result<(), AllocError>
-    ensures line { OnOk result (page.new.items ≡ page.old.items ++ dot_line (prefix.now ++ name.now) (value_view value.entry)) }
+    ensures line { OnOk result (file.new.items ≡ file.old.items ++ dot_line (prefix.now ++ name.now) (value_view value.entry)) }
     ensures some { OnErr result (0 < length (dot_line (prefix.now ++ name.now) (value_view value.entry))) }
 {
     let prefix = prefix.as_bytes();
     match value {
-        WrittenValue::Truth(Tri::N) => add_parts(&[b"# ", prefix, name, b" is not set\n"], page),
-        WrittenValue::Truth(Tri::M) => add_parts(&[prefix, name, b"=m\n"], page),
-        WrittenValue::Truth(Tri::Y) => add_parts(&[prefix, name, b"=y\n"], page),
+        WrittenValue::Truth(Tri::N) => add_parts(&[b"# ", prefix, name, b" is not set\n"], file),
+        WrittenValue::Truth(Tri::M) => add_parts(&[prefix, name, b"=m\n"], file),
+        WrittenValue::Truth(Tri::Y) => add_parts(&[prefix, name, b"=y\n"], file),
         WrittenValue::TextValue(Kind::Str, text) => add_string_line(
             &[prefix, name, b"=\""],
             text,
-            page,
+            file,
         ),
         WrittenValue::TextValue(Kind::Int, text) => add_parts(
             &[prefix, name, b"=", text, b"\n"],
-            page,
+            file,
         ),
         WrittenValue::TextValue(Kind::Hex, text) => add_parts(
             &[prefix, name, b"=", text, b"\n"],
-            page,
+            file,
         ),
         WrittenValue::TextValue(Kind::Undefined | Kind::Bool | Kind::Tristate, _) => Ok(()),
     }
 }
 
-/// Adds the symbol's line of a header, where it has one. Its only error is to be out of memory, for a line of a byte or more.
+/// Adds the symbol's line of a header, where it has one.
 pub(crate) fn add_header_line<'a>(
     prefix: &'a Prefix,
     name: &'a [u8],
     value: WrittenValue<'a>,
-    page: &mut Vec<u8>,
+    file: &mut Vec<u8>,
 ) -> Result<(), AllocError>
-    ensures line { OnOk result (page.new.items ≡ page.old.items ++ header_line (prefix.now ++ name.now) (value_view value.entry)) }
-    ensures some { OnErr result (0 < length (header_line (prefix.now ++ name.now) (value_view value.entry))) }
+    ensures { OnOk result (file.new.items ≡ file.old.items ++ header_line (prefix.now ++ name.now) (value_view value.entry)) }
 {
     let prefix = prefix.as_bytes();
     match value {
         WrittenValue::Truth(Tri::N) => Ok(()),
         WrittenValue::Truth(Tri::M) => add_parts(
             &[b"#define ", prefix, name, b"_MODULE 1\n"],
-            page,
+            file,
         ),
-        WrittenValue::Truth(Tri::Y) => add_parts(&[b"#define ", prefix, name, b" 1\n"], page),
+        WrittenValue::Truth(Tri::Y) => add_parts(&[b"#define ", prefix, name, b" 1\n"], file),
         WrittenValue::TextValue(Kind::Str, text) => {
-            add_string_line(&[b"#define ", prefix, name, b" \""], text, page)
+            add_string_line(&[b"#define ", prefix, name, b" \""], text, file)
         }
         WrittenValue::TextValue(Kind::Int, text) => {
-            add_parts(&[b"#define ", prefix, name, b" ", text, b"\n"], page)
+            add_parts(&[b"#define ", prefix, name, b" ", text, b"\n"], file)
         }
         WrittenValue::TextValue(Kind::Hex, text) => add_parts(
             &[
@@ -125,7 +124,7 @@ pub(crate) fn add_header_line<'a>(
                 text,
                 b"\n",
             ],
-            page,
+            file,
         ),
         WrittenValue::TextValue(Kind::Undefined | Kind::Bool | Kind::Tristate, _) => Ok(()),
     }

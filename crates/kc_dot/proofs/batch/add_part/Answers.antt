@@ -1,5 +1,5 @@
 use Rattle.std.proofs.Common.{refl}
-use Rattle.kc_dot.proofs.PageLemmas.{hands_none}
+use Rattle.kc_dot.proofs.PendingLemmas.{hands_none}
 use Rattle.kc_dot.proofs.batch.add_part.Goals as goal
 
 pub returns-in-Ok : goal.returns-in-Ok

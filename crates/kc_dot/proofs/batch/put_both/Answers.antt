@@ -1,7 +1,7 @@
 use Rattle.std.proofs.Common.{◌∙◌, ap}
 use Rattle.std.proofs.lemmas.Result.{err_from_is_err_and, on_ok_weaker, on_err_weaker}
 use Rattle.kc_dot.specs.Sink.{next_failure}
-use Rattle.kc_dot.proofs.PageLemmas.{hands_both}
+use Rattle.kc_dot.proofs.PendingLemmas.{hands_both}
 use Rattle.kc_dot.proofs.PartLemmas.{BreaksOff-first, BreaksOff-second}
 use Rattle.kc_dot.proofs.batch.put_both.Goals as goal
 

@@ -1,7 +1,7 @@
 use Rattle.std.proofs.Common.{[], List, ℕ, refl, sym, subst}
 use Rattle.std.specs.Prelude.{flat_map}
 use Rattle.std.proofs.lemmas.Result.{err_from_is_err_and}
-use Rattle.kc_dot.specs.Pages.{IsUnderWay}
+use Rattle.kc_dot.specs.Pending.{IsUnderWay}
 use Rattle.kc_dot.proofs.PartLemmas.{parts_next, parts_end}
 use Rattle.kc_dot.proofs.WritingLemmas.{puts_all, puts_broken, way_from, way_more, way_on}
 use Rattle.kc_dot.proofs.batch.put_parts.Goals as goal

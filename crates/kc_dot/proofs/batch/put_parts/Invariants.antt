@@ -1,6 +1,6 @@
 use Rattle.std.proofs.Common.{drop}
 use Rattle.std.specs.Prelude.{flat_map}
-use Rattle.kc_dot.specs.Pages.{IsUnderWay}
+use Rattle.kc_dot.specs.Pending.{IsUnderWay}
 use Rattle.kc_dot.proofs.batch.put_parts.Given as goal
 
 -- the rest are the parts behind

@@ -10,8 +10,8 @@ pub returns-clause-text : goal.returns-clause-text
 returns-clause-text c =
     let line = dot_line (c.args.prefix.now ++ c.name.result.now) (value_view c.symbol_value.result) in
     c.in_ok-add_dot_line.ensures.line
-    ∙ ap (λ t. t ++ line) c.in_ok-add_gap.ensures.gap
-    ∙ append_assoc c.args.page.now.items (gap c.args.after_end) line
-    ∙ ap (λ t. c.args.page.now.items ++ t)
+    ∙ ap (λ t. t ++ line) c.in_ok-add_gap.ensures
+    ∙ append_assoc c.args.file.now.items (gap c.args.after_end) line
+    ∙ ap (λ t. c.args.file.now.items ++ t)
     (symbol-written c.args.tree.now c.args.prefix.now (solution_view c.args.solved.now) c.args.after_end c.args.id c.name.result.now
     (value_view c.symbol_value.result) (sym c.if-not-written.ensures) c.name.ensures c.symbol_value.ensures)

@@ -4,14 +4,14 @@ use Rattle.kc_dot.proofs.TextLemmas.{header_if-written, header_if-not}
 use Rattle.kc_dot.specs.SolvedView.{solution_view}
 use Rattle.kc_dot.proofs.header.add_header_if.Goals as goal
 
-pub returns-then-not-written-clause-line : goal.returns-then-not-written-clause-line
-returns-then-not-written-clause-line c =
-    sym (append-nil c.args.page.now.items)
-    ∙ ap (λ t. c.args.page.now.items ++ t) (header_if-not c.args.tree.now c.args.prefix.now (solution_view c.args.solved.now) c.args.id (sym c.if-not-written.ensures))
+pub returns-then-not-written : goal.returns-then-not-written
+returns-then-not-written c =
+    sym (append-nil c.args.file.now.items)
+    ∙ ap (λ t. c.args.file.now.items ++ t) (header_if-not c.args.tree.now c.args.prefix.now (solution_view c.args.solved.now) c.args.id (sym c.if-not-written.ensures))
 
-pub returns-clause-line : goal.returns-clause-line
-returns-clause-line c =
-    let P : List ℕ → Type 0 = λ text. OnOk c.add_header_line.result (c.add_header_line.new.page.items ≡ c.args.page.now.items ++ text) in
+pub returns : goal.returns
+returns c =
+    let P : List ℕ → Type 0 = λ text. OnOk c.add_header_line.result (c.add_header_line.new.file.items ≡ c.args.file.now.items ++ text) in
     subst P (header_if-written c.args.tree.now c.args.prefix.now (solution_view c.args.solved.now) c.args.id c.name.result.now
     (value_view c.symbol_value.result) (sym c.if-not-written.ensures) c.name.ensures c.symbol_value.ensures)
-    c.add_header_line.ensures.line
+    c.add_header_line.ensures

@@ -21,8 +21,8 @@ pub record PutsOn {S : Type 0} (sink : Ghosts S) (waited waits : List ℕ) (resu
 abbrev pub Waits : List ℕ → List ℕ → List ℕ → Option (List ℕ) → Option (List ℕ) → Type 0
 Waits text waits rest old new = (front : List ℕ) × (text ≡ front ++ (waits ++ rest)) × (new ≡ extended old front)
 
--- a text is under way to a sink that did not fail: this waits on the page, and the rest is still to come
-pub record IsUnderWay {S : Type 0} (sink : Ghosts S) (text page rest : List ℕ) (old new : S) : Type 0 where
-  pub waits : Waits text page rest (sink.taken old) (sink.taken new)
+-- a text is under way to a sink that did not fail: this waits, and the rest is still to come
+pub record IsUnderWay {S : Type 0} (sink : Ghosts S) (text held rest : List ℕ) (old new : S) : Type 0 where
+  pub waits : Waits text held rest (sink.taken old) (sink.taken new)
   pub quiet : sink.failures new ≡ sink.failures old
   pub keeps : sink.goes_to old new

@@ -1,0 +1,24 @@
+//! A file's text in memory, which grows part by part.
+ghost use Rattle.std.specs.Prelude.{◌≡◌, ◌++◌, [], OnOk, IfOk, flat_map};
+
+use std::alloc::{AllocError, Global};
+
+/// The room of a text at first. Its room doubles where it is longer.
+const ROOM: usize = 65_536;
+
+/// An empty text.
+pub(crate) fn new_text(alloc: Global) -> Result<Vec<u8>, AllocError>
+    ensures { IfOk result (λ text. text.items ≡ []) }
+{
+    Vec::with_capacity(alloc, ROOM)
+}
+
+/// Adds the parts, one after another.
+pub(crate) fn add_parts(parts: &[&[u8]], text: &mut Vec<u8>) -> Result<(), AllocError>
+    ensures { OnOk result (text.new.items ≡ text.old.items ++ flat_map (λ part. part.now) parts.now) }
+{
+    for part in parts {
+        text.extend_from_slice(part)?;
+    }
+    Ok(())
+}
