@@ -34,4 +34,5 @@ pub mod TextBytes
 pub mod TextLemmas
 pub mod ValueTextLemmas
 pub mod WarningLemmas
+pub mod WholeLinesLemmas
 pub mod WritingLemmas

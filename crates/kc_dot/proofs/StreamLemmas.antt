@@ -266,6 +266,6 @@ module _ (setting : SettingKeepsPlaces) (selecting : SelectingKeepsPlaces) where
 
   -- the lines before a refused one
   pub refusals_keep : RefusalsKeepPlaces
-  refusals_keep tree prefix name fault piece old new before after taken taken_after formed refuses held =
+  refusals_keep tree prefix name fault piece old new before after told told_after formed refuses held =
       feed_keeps tree prefix name refuses.done old new before after refuses.warned 65536 (omega arith) formed
       (subst HasNoLf (sym (ap (λ (s : StreamPosition). s.pending) refuses.stands)) (waiting_no_lf (old.pending ++ refuses.done))) refuses.goes held

@@ -1,15 +1,13 @@
 -- Trusted: What a reader does with the bytes that it is fed, whatever follows them.
-use Rattle.std.specs.Prelude.{◌≡◌, ℕ, ◌+◌, ◌<◌, ◌≤◌, ◌++◌, List, [], ◌∷◌, length, min, count_by, Option, Some, true, false, if◌then◌else◌, ◌==◌}
+use Rattle.std.specs.Prelude.{◌≡◌, ℕ, ◌+◌, ◌<◌, ◌≤◌, ◌++◌, List, [], ◌∷◌, length, min, count_by, Some, true, false, if◌then◌else◌, ◌==◌}
 use Rattle.std.specs.List.{after_last}
-use Rattle.kc_text.specs.Bytes.{byte}
 use Rattle.kc_text.specs.Limits.{last_count, one_more}
 use Rattle.kc_text.specs.Lines.{HoldsNoLineFeed, is_line_feed}
 use Rattle.kc_tree.specs.TreeFacts.{TreeFacts}
 use Rattle.kc_dot.specs.declared.fault.DotFault.{DotFault}
-use Rattle.kc_dot.specs.declared.fault.DotFault.TheVariants.{DotLineTooLong, Sink, Memory}
+use Rattle.kc_dot.specs.declared.fault.DotFault.TheVariants.{DotLineTooLong, Memory}
 use Rattle.kc_dot.specs.Limits.{longest_dot_line}
-use Rattle.kc_dot.specs.Reading.{Line, UserInput, line, is_within, lines_from, reading, with_warnings, warning}
-use Rattle.kc_dot.specs.Sink.{extended, next_failure, BreaksOff, GoesBeyond}
+use Rattle.kc_dot.specs.Reading.{Line, UserInput, lines_from, reading, with_warnings}
 
 -- where a reader stands in its stream: the number of the line not yet ended, and its bytes so far
 pub record StreamPosition : Type 0 where
@@ -38,12 +36,6 @@ fed piece position = record { number = number_after position.number piece; pendi
 abbrev pub ended : StreamPosition → StreamPosition
 ended position = record { number = if length position.pending == 0 then position.number else one_more position.number; pending = [] }
 
--- a count of failures after a fault: the sink's alone counts
-abbrev pub failures_after : DotFault → ℕ → ℕ
-failures_after (DotLineTooLong n) count = count
-failures_after Sink count = next_failure count
-failures_after Memory count = count
-
 -- another byte than an LF comes next
 abbrev pub GoesOn : List ℕ → Type 0
 GoesOn bytes = (b : ℕ) × (rest : List ℕ) × (bytes ≡ b ∷ rest) × (is_line_feed b ≡ false)
@@ -61,10 +53,10 @@ module _ (tree : TreeFacts) (prefix name : List ℕ) where
       (rest : List ℕ) (more : List Line) →
       reading tree prefix before (to_come name old (piece ++ rest) more) ≡ with_warnings warned (reading tree prefix after (to_come name new rest more))
 
-  -- the warnings of the piece were handed out
-  abbrev pub Feeds : List ℕ → StreamPosition → StreamPosition → UserInput → UserInput → Option (List ℕ) → Option (List ℕ) → Type 0
-  Feeds piece old new before after taken taken_after =
-      (warned : List ℕ) × (taken_after ≡ extended taken warned) × ReadsPiece piece old new before after warned
+  -- the piece was read, and its warnings were told
+  abbrev pub Feeds : List ℕ → StreamPosition → StreamPosition → UserInput → UserInput → List ℕ → List ℕ → Type 0
+  Feeds piece old new before after told told_after =
+      (warned : List ℕ) × (told_after ≡ told ++ warned) × ReadsPiece piece old new before after warned
 
   -- Whatever follows: the line at this position is too long.
   abbrev pub MeetsLongLine : List ℕ → StreamPosition → UserInput → Type 0
@@ -73,35 +65,22 @@ module _ (tree : TreeFacts) (prefix name : List ℕ) where
       reading tree prefix input (to_come name position (left ++ rest) more)
       ≡ record { input = input; warned = []; stopped = Some (record { stream = name; number = position.number }) }
 
-  -- The sink failed at the warning of the line at this position: that line is the pending bytes and the first of what is
-  -- left, up to an LF, and of its warning a beginning was handed out, and not the whole.
-  pub record BreaksAt (left : List ℕ) (position : StreamPosition) (input : UserInput) (front : List ℕ) : Type 0 where
-    pub text : List ℕ
-    pub later : List ℕ
-    pub ends : left ≡ text ++ byte "\n" ∷ later
-    pub one_line : HoldsNoLineFeed (position.pending ++ text)
-    pub within : length (position.pending ++ text) ≤ longest_dot_line
-    pub begun : GoesBeyond (warning tree prefix input (line name position.number (position.pending ++ text) true)) front
+  -- Why a reader stops before what is left. Memory it wants only where something is left.
+  abbrev pub StopsBecause : DotFault → List ℕ → StreamPosition → UserInput → Type 0
+  StopsBecause (DotLineTooLong n) left position input =
+      (n ≡ position.number) × (length position.pending ≡ longest_dot_line) × GoesOn left × MeetsLongLine left position input
+  StopsBecause Memory left position input = 0 < length left
 
-  -- Why a reader stops before what is left, with a beginning of the next line's warning handed out. Memory it wants only where
-  -- something is left.
-  abbrev pub StopsBecause : DotFault → List ℕ → StreamPosition → UserInput → List ℕ → Type 0
-  StopsBecause (DotLineTooLong n) left position input front =
-      (front ≡ []) × (n ≡ position.number) × (length position.pending ≡ longest_dot_line) × GoesOn left × MeetsLongLine left position input
-  StopsBecause Sink left position input front = BreaksAt left position input front
-  StopsBecause Memory left position input front = (front ≡ []) × (0 < length left)
-
-  -- The lines before the refused one are read, and their warnings handed out; there the reader stands.
-  pub record Refuses (fault : DotFault) (piece : List ℕ) (old new : StreamPosition) (before after : UserInput) (taken taken_after : Option (List ℕ)) : Type 0 where
+  -- The lines before the refused one are read, and their warnings told, and no more; there the reader stands.
+  pub record Refuses (fault : DotFault) (piece : List ℕ) (old new : StreamPosition) (before after : UserInput) (told told_after : List ℕ) : Type 0 where
     pub done : List ℕ
     pub left : List ℕ
     pub warned : List ℕ
-    pub front : List ℕ
     pub split : piece ≡ done ++ left
     pub stands : new ≡ fed done old
     pub goes : ReadsPiece done old new before after warned
-    pub handed : taken_after ≡ extended taken (warned ++ front)
-    pub because : StopsBecause fault left new after front
+    pub tells : told_after ≡ told ++ warned
+    pub because : StopsBecause fault left new after
 
   -- Whatever lines follow: the last line is ended, with its warning.
   abbrev pub EndsStream : StreamPosition → UserInput → UserInput → List ℕ → Type 0
@@ -109,15 +88,11 @@ module _ (tree : TreeFacts) (prefix name : List ℕ) where
       (more : List Line) →
       reading tree prefix before (lines_from name old.number old.pending ++ more) ≡ with_warnings warned (reading tree prefix after more)
 
-  abbrev pub FinishesStream : StreamPosition → UserInput → UserInput → Option (List ℕ) → Option (List ℕ) → Type 0
-  FinishesStream old before after taken taken_after =
-      (warned : List ℕ) × (taken_after ≡ extended taken warned) × EndsStream old before after warned
+  abbrev pub FinishesStream : StreamPosition → UserInput → UserInput → List ℕ → List ℕ → Type 0
+  FinishesStream old before after told told_after =
+      (warned : List ℕ) × (told_after ≡ told ++ warned) × EndsStream old before after warned
 
-  -- The last line could not be ended: where the sink failed, a beginning of its warning was handed out, and not the whole; where
-  -- there was no memory, nothing was, and bytes are pending.
-  abbrev pub FailsToEnd : DotFault → StreamPosition → UserInput → Option (List ℕ) → Option (List ℕ) → Type 0
-  FailsToEnd (DotLineTooLong n) position input taken taken_after = ⊥
-  FailsToEnd Sink position input taken taken_after =
-      (last : Line) × (lines_from name position.number position.pending ≡ last ∷ []) × (is_within last ≡ true)
-      × BreaksOff (warning tree prefix input last) taken taken_after
-  FailsToEnd Memory position input taken taken_after = (taken_after ≡ taken) × (0 < length position.pending)
+-- The last line could not be ended, and nothing of its warning was told: there was no memory, and bytes are pending.
+abbrev pub FailsToEnd : DotFault → StreamPosition → List ℕ → List ℕ → Type 0
+FailsToEnd (DotLineTooLong n) position told told_after = ⊥
+FailsToEnd Memory position told told_after = (told_after ≡ told) × (0 < length position.pending)

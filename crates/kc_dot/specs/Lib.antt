@@ -15,6 +15,7 @@ pub mod Named
 pub mod Pending
 pub mod Plain
 pub mod Prefixes
+pub mod ReaderCalls
 pub mod ReaderState
 pub mod ReaderView
 pub mod Reading
@@ -28,5 +29,6 @@ pub mod SymbolLines
 pub mod Texts
 pub mod SolutionView
 pub mod KnownValue
+pub mod WholeLines
 pub mod Writing
 pub mod WrittenLaws

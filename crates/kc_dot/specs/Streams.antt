@@ -1,5 +1,5 @@
 -- Trusted: Streams that are handed to a reader in pieces of any size.
-use Rattle.std.specs.Prelude.{◌≡◌, ℕ, List, [], ◌∷◌, ◌++◌, map, Bool, Option, None}
+use Rattle.std.specs.Prelude.{◌≡◌, ℕ, List, [], ◌∷◌, ◌++◌, map, Bool, None}
 use Rattle.std.specs.List.{concat}
 use Rattle.kc_user.specs.Places.{ArePlaces}
 use Rattle.kc_tree.specs.TreeFacts.{TreeFacts, IsWellFormed}
@@ -47,6 +47,6 @@ StreamsLeavePlaces =
 -- Places that hold what is allowed still do after a call that was refused.
 abbrev pub RefusalsKeepPlaces : Type 0
 RefusalsKeepPlaces =
-    (tree : TreeFacts) (prefix name : List ℕ) (fault : DotFault) (piece : List ℕ) (old new : StreamPosition) (before after : UserInput) (taken taken_after : Option (List ℕ)) →
-    IsWellFormed tree → Refuses tree prefix name fault piece old new before after taken taken_after →
+    (tree : TreeFacts) (prefix name : List ℕ) (fault : DotFault) (piece : List ℕ) (old new : StreamPosition) (before after : UserInput) (told told_after : List ℕ) →
+    IsWellFormed tree → Refuses tree prefix name fault piece old new before after told told_after →
     ArePlaces tree before.places → ArePlaces tree after.places

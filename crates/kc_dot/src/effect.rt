@@ -1,13 +1,11 @@
 //! What a line does for a tree: nothing, a warning, or an assignment.
-ghost use Rattle.std.specs.Prelude.{◌≡◌, ◌++◌, IfOk, Some};
+ghost use Rattle.std.specs.Prelude.{◌≡◌, ◌++◌, IfOk, OnOk, OnErr, Some};
 ghost use Rattle.kc_dot.specs.DotLine.{meaning_view};
 ghost use Rattle.kc_dot.specs.Effects as spec;
 ghost use Rattle.kc_dot.specs.EffectView.{AssignsDefined, warning_view, effect_view};
-ghost use Rattle.kc_dot.specs.Writing.{Puts};
 
-use crate::batch::put_parts;
 use crate::line::DotLine;
-use crate::sink::{Fault, Sink};
+use crate::told::tell_parts;
 use crate::value::line_value;
 use itoa::Buffer;
 use kc_expr::expression::{Kind, SymId, Tri};
@@ -121,20 +119,21 @@ fn message<'a>(line_warning: LineWarning<'a>) -> (&'a [u8], &'a [u8], &'a [u8])
     }
 }
 
-/// Hands out the warning's whole line: the stream's name, the number of the line, the code and the text. After an error
-/// the sink took a beginning of it, never the whole.
-pub fn warn<S: Sink>(
+/// Adds the warning's whole line: the stream's name, the number of the line, the code and the text. Its only error is to be
+/// out of memory, and then nothing was added.
+pub fn warn(
     stream: &[u8],
     number: u64,
     line_warning: LineWarning<'_>,
-    sink: &mut S,
-) -> Result<(), Fault>
-    ensures { Puts S.Sink (spec.warning_line stream.now number (warning_view line_warning.entry)) result sink.old sink.new }
+    told: &mut Vec<u8>,
+) -> Result<(), AllocError>
+    ensures whole { OnOk result (told.new.items ≡ told.old.items ++ spec.warning_line stream.now number (warning_view line_warning.entry)) }
+    ensures nothing { OnErr result (told.new.items ≡ told.old.items) }
 {
     let mut buffer = Buffer::new();
     let digits = buffer.format(number).as_bytes();
     let (before, name, after) = message(line_warning);
-    put_parts(
+    tell_parts(
         &[
             stream,
             b":",
@@ -145,6 +144,6 @@ pub fn warn<S: Sink>(
             after,
             b"\n",
         ],
-        sink,
+        told,
     )
 }

@@ -1,6 +1,6 @@
 //! Why reading stopped.
 ghost use Rattle.std.specs.Prelude.{◌≡◌};
-ghost use Rattle.kc_dot.specs.declared.fault.DotFault.TheVariants.{Memory, Sink};
+ghost use Rattle.kc_dot.specs.declared.fault.DotFault.TheVariants.{Memory};
 ghost use Rattle.kc_dot.specs.declared.fault.WriteFault.TheVariants as write;
 
 use crate::sink::Fault;
@@ -13,9 +13,6 @@ pub enum DotFault {
     /// The line of this number has more than 65,535 bytes (E17).
     #[error("line {0} is longer than 65535 bytes")]
     DotLineTooLong(u64),
-    /// The sink of the warnings failed (E19).
-    #[error("cannot write the warnings")]
-    Sink,
     /// No memory was to be had (E20).
     #[error("out of memory")]
     Memory,
@@ -34,14 +31,6 @@ impl<T: Drop> From<AllocFailed<T>> for DotFault {
 
     fn from(_e: AllocFailed<T>) -> DotFault {
         DotFault::Memory
-    }
-}
-
-impl From<Fault> for DotFault {
-    ghost from_gives = { λ _ e. e ≡ Sink };
-
-    fn from(_e: Fault) -> DotFault {
-        DotFault::Sink
     }
 }
 

@@ -16,6 +16,7 @@ pub mod sink;
 mod step;
 mod symbol_line;
 mod text;
+mod told;
 pub mod user_input;
 pub mod value;
 

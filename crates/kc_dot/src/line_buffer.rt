@@ -3,20 +3,17 @@ ghost use Rattle.std.specs.Prelude.{◌≡◌, ◌<◌, ◌≤◌, ◌∷◌, �
 ghost use Rattle.std.specs.Str.Lines.{strip_carriage_return};
 ghost use Rattle.kc_text.specs.Lines.{HoldsNoLineFeed, is_line_feed};
 ghost use Rattle.kc_user.specs.Places.{ArePlacesOf};
-ghost use Rattle.kc_dot.specs.Feeding.{StreamPosition, IsWithinLine, Feeds, Refuses, FinishesStream, FailsToEnd, fed, ended, failures_after};
-ghost use Rattle.kc_dot.specs.LineSteps.{FailsIn, StopsAt};
+ghost use Rattle.kc_dot.specs.Feeding.{StreamPosition, IsWithinLine, Feeds, Refuses, StopsBecause, FinishesStream, fed, ended};
 ghost use Rattle.kc_text.specs.Limits.{one_more};
 ghost use Rattle.kc_dot.specs.Reading.{line, input_after, warning};
 ghost use Rattle.kc_dot.specs.ReaderView.{position_of};
-ghost use Rattle.kc_dot.specs.Sink.{extended};
 
 use crate::fault::DotFault;
-use crate::sink::Sink;
 use crate::step::{NamedStream, read_line};
 use crate::user_input::UserInput;
 use bstr::ByteSlice;
 use kc_text::without_carriage_return;
-use std::alloc::Global;
+use std::alloc::{AllocError, Global};
 
 /// The most bytes of a line.
 pub(crate) const LONGEST_DOT_LINE: usize = 65535;
@@ -39,58 +36,49 @@ fn text_of(bytes: &[u8], ended: bool) -> &[u8]
     }
 }
 
-/// Reads the pending bytes as a line, and goes on to the next. After an error all is as it was.
-pub(crate) fn end_line<'a, S: Sink>(
+/// Reads the pending bytes as a line, and goes on to the next. Its only error is to be out of memory; then all is as it was.
+pub(crate) fn end_line<'a>(
     alloc: Global,
     stream: &NamedStream<'a>,
     line_buffer: &mut LineBuffer,
     ended: bool,
     user: &mut UserInput<'a>,
-    sink: &mut S,
-) -> Result<(), DotFault>
+    told: &mut Vec<u8>,
+) -> Result<(), AllocError>
     requires { ArePlacesOf stream.now.tree.now user.old.places }
     ensures places { OnOk result (user.new ≡ input_after stream.now.tree.now stream.now.prefix.now user.old (line stream.now.name.now line_buffer.old.number line_buffer.old.pending.items ended ∷ [])) }
-    ensures warned { OnOk result (S.taken sink.new ≡ extended (S.taken sink.old) (warning stream.now.tree.now stream.now.prefix.now user.old (line stream.now.name.now line_buffer.old.number line_buffer.old.pending.items ended))) }
+    ensures warned { OnOk result (told.new.items ≡ told.old.items ++ warning stream.now.tree.now stream.now.prefix.now user.old (line stream.now.name.now line_buffer.old.number line_buffer.old.pending.items ended)) }
     ensures next { OnOk result (position_of line_buffer.new ≡ record { number = one_more line_buffer.old.number; pending = [] }) }
-    ensures unchanged { OnErr result (user.new ≡ user.old) }
-    ensures stays { OnErr result (position_of line_buffer.new ≡ position_of line_buffer.old) }
-    ensures fault { IfErr result (λ fault. FailsIn (warning stream.now.tree.now stream.now.prefix.now user.old
-        (line stream.now.name.now line_buffer.old.number line_buffer.old.pending.items ended)) fault (S.taken sink.old) (S.taken sink.new)) }
-    ensures quiet { OnOk result (S.failures sink.new ≡ S.failures sink.old) }
-    ensures counted { IfErr result (λ fault. S.failures sink.new ≡ failures_after fault (S.failures sink.old)) }
-    ensures keeps { S.goes_to sink.old sink.new }
+    ensures unchanged { OnErr result ((user.new ≡ user.old) × (position_of line_buffer.new ≡ position_of line_buffer.old) × (told.new.items ≡ told.old.items)) }
 {
     let text = text_of(&line_buffer.pending, ended);
-    read_line(alloc, stream, line_buffer.number, text, user, sink)?;
+    read_line(alloc, stream, line_buffer.number, text, user, told)?;
     line_buffer.number = line_buffer.number.saturating_add(1);
     line_buffer.pending.clear();
     Ok(())
 }
 
 // Takes one byte: an LF ends the line, another byte waits for it, unless it is the 65,536th of its line.
-fn take_byte<'a, S: Sink>(
+fn take_byte<'a>(
     alloc: Global,
     stream: &NamedStream<'a>,
     line_buffer: &mut LineBuffer,
     byte: u8,
     user: &mut UserInput<'a>,
-    sink: &mut S,
+    told: &mut Vec<u8>,
 ) -> Result<(), DotFault>
     requires user { ArePlacesOf stream.now.tree.now user.old.places }
     requires opened { IsWithinLine (position_of line_buffer.old) }
-    ensures ok { OnOk result (Feeds stream.now.tree.now stream.now.prefix.now stream.now.name.now (byte ∷ []) (position_of line_buffer.old) (position_of line_buffer.new) user.old user.new (S.taken sink.old) (S.taken sink.new)) }
+    ensures ok { OnOk result (Feeds stream.now.tree.now stream.now.prefix.now stream.now.name.now (byte ∷ []) (position_of line_buffer.old) (position_of line_buffer.new) user.old user.new told.old.items told.new.items) }
     ensures position { OnOk result (position_of line_buffer.new ≡ fed (byte ∷ []) (position_of line_buffer.old)) }
-    ensures unchanged { OnErr result (user.new ≡ user.old) }
-    ensures stays { OnErr result (position_of line_buffer.new ≡ position_of line_buffer.old) }
-    ensures err { IfErr result (λ fault. StopsAt stream.now.tree.now stream.now.prefix.now stream.now.name.now fault (byte ∷ []) (position_of line_buffer.old) user.old (S.taken sink.old) (S.taken sink.new)) }
-    ensures quiet { OnOk result (S.failures sink.new ≡ S.failures sink.old) }
-    ensures counted { IfErr result (λ fault. S.failures sink.new ≡ failures_after fault (S.failures sink.old)) }
-    ensures keeps { S.goes_to sink.old sink.new }
+    ensures unchanged { OnErr result ((user.new ≡ user.old) × (position_of line_buffer.new ≡ position_of line_buffer.old) × (told.new.items ≡ told.old.items)) }
+    ensures err { IfErr result (λ fault. StopsBecause stream.now.tree.now stream.now.prefix.now stream.now.name.now fault (byte ∷ []) (position_of line_buffer.old) user.old) }
     ensures user { OnOk result (ArePlacesOf stream.now.tree.now user.new.places) }
     ensures opened { OnOk result (IsWithinLine (position_of line_buffer.new)) }
 {
     if byte == b'\n' {
-        return end_line(alloc, stream, line_buffer, true, user, sink);
+        end_line(alloc, stream, line_buffer, true, user, told)?;
+        return Ok(());
     }
     if line_buffer.pending.len() >= LONGEST_DOT_LINE {
         return Err(DotFault::DotLineTooLong(line_buffer.number));
@@ -115,13 +103,13 @@ fn bytes_before_lf(bytes: &[u8], room: usize) -> usize
 
 // Takes a beginning of the bytes, and answers how many: those before the next LF, as far as the line does not get too long
 // by them, or where there are none, one.
-fn take_front<'a, S: Sink>(
+fn take_front<'a>(
     alloc: Global,
     stream: &NamedStream<'a>,
     line_buffer: &mut LineBuffer,
     bytes: &[u8],
     user: &mut UserInput<'a>,
-    sink: &mut S,
+    told: &mut Vec<u8>,
 ) -> Result<usize, DotFault>
     requires some { 0 < length bytes.now }
     requires user { ArePlacesOf stream.now.tree.now user.old.places }
@@ -129,14 +117,10 @@ fn take_front<'a, S: Sink>(
     ensures some { IfOk result (λ n. 0 < n) }
     ensures within { IfOk result (λ n. n ≤ length bytes.now) }
     ensures ok { IfOk result (λ n. Feeds stream.now.tree.now stream.now.prefix.now stream.now.name.now (take n bytes.now) (position_of line_buffer.old)
-        (position_of line_buffer.new) user.old user.new (S.taken sink.old) (S.taken sink.new)) }
+        (position_of line_buffer.new) user.old user.new told.old.items told.new.items) }
     ensures position { IfOk result (λ n. (before : List ℕ) (first : StreamPosition) → position_of line_buffer.old ≡ fed before first → position_of line_buffer.new ≡ fed (before ++ take n bytes.now) first) }
-    ensures unchanged { OnErr result (user.new ≡ user.old) }
-    ensures stays { OnErr result (position_of line_buffer.new ≡ position_of line_buffer.old) }
-    ensures err { IfErr result (λ fault. StopsAt stream.now.tree.now stream.now.prefix.now stream.now.name.now fault bytes.now (position_of line_buffer.old) user.old (S.taken sink.old) (S.taken sink.new)) }
-    ensures quiet { OnOk result (S.failures sink.new ≡ S.failures sink.old) }
-    ensures counted { IfErr result (λ fault. S.failures sink.new ≡ failures_after fault (S.failures sink.old)) }
-    ensures keeps { S.goes_to sink.old sink.new }
+    ensures unchanged { OnErr result ((user.new ≡ user.old) × (position_of line_buffer.new ≡ position_of line_buffer.old) × (told.new.items ≡ told.old.items)) }
+    ensures err { IfErr result (λ fault. StopsBecause stream.now.tree.now stream.now.prefix.now stream.now.name.now fault bytes.now (position_of line_buffer.old) user.old) }
     ensures user { OnOk result (ArePlacesOf stream.now.tree.now user.new.places) }
     ensures opened { OnOk result (IsWithinLine (position_of line_buffer.new)) }
 {
@@ -145,61 +129,54 @@ fn take_front<'a, S: Sink>(
         line_buffer.pending.extend_from_slice(&bytes[..count])?;
         return Ok(count);
     }
-    take_byte(alloc, stream, line_buffer, bytes[0], user, sink)?;
+    take_byte(alloc, stream, line_buffer, bytes[0], user, told)?;
     Ok(1)
 }
 
 /// Takes the piece.
-pub(crate) fn take_piece<'a, S: Sink>(
+pub(crate) fn take_piece<'a>(
     alloc: Global,
     stream: &NamedStream<'a>,
     line_buffer: &mut LineBuffer,
     piece: &[u8],
     user: &mut UserInput<'a>,
-    sink: &mut S,
+    told: &mut Vec<u8>,
 ) -> Result<(), DotFault>
     requires user { ArePlacesOf stream.now.tree.now user.old.places }
     requires opened { IsWithinLine (position_of line_buffer.old) }
-    ensures ok { OnOk result (Feeds stream.now.tree.now stream.now.prefix.now stream.now.name.now piece.now (position_of line_buffer.old) (position_of line_buffer.new) user.old user.new (S.taken sink.old) (S.taken sink.new)) }
+    ensures ok { OnOk result (Feeds stream.now.tree.now stream.now.prefix.now stream.now.name.now piece.now (position_of line_buffer.old) (position_of line_buffer.new) user.old user.new told.old.items told.new.items) }
     ensures position { OnOk result (position_of line_buffer.new ≡ fed piece.now (position_of line_buffer.old)) }
     ensures err { IfErr result (λ fault. Refuses stream.now.tree.now stream.now.prefix.now stream.now.name.now fault piece.now (position_of line_buffer.old)
-        (position_of line_buffer.new) user.old user.new (S.taken sink.old) (S.taken sink.new)) }
-    ensures quiet { OnOk result (S.failures sink.new ≡ S.failures sink.old) }
-    ensures counted { IfErr result (λ fault. S.failures sink.new ≡ failures_after fault (S.failures sink.old)) }
-    ensures keeps { S.goes_to sink.old sink.new }
+        (position_of line_buffer.new) user.old user.new told.old.items told.new.items) }
     ensures user { ArePlacesOf stream.now.tree.now user.new.places }
     ensures opened { IsWithinLine (position_of line_buffer.new) }
 {
     let mut at = 0;
     while at < piece.len() {
-        at += take_front(alloc, stream, line_buffer, &piece[at..], user, sink)?;
+        at += take_front(alloc, stream, line_buffer, &piece[at..], user, told)?;
     }
     Ok(())
 }
 
-/// Ends the stream: pending bytes are its last line. After an error all is as it was.
-pub(crate) fn end_stream<'a, S: Sink>(
+/// Ends the stream: pending bytes are its last line. Its only error is to be out of memory; then all is as it was.
+pub(crate) fn end_stream<'a>(
     alloc: Global,
     stream: &NamedStream<'a>,
     line_buffer: &mut LineBuffer,
     user: &mut UserInput<'a>,
-    sink: &mut S,
-) -> Result<(), DotFault>
+    told: &mut Vec<u8>,
+) -> Result<(), AllocError>
     requires user { ArePlacesOf stream.now.tree.now user.old.places }
     requires opened { IsWithinLine (position_of line_buffer.old) }
-    ensures ok { OnOk result (FinishesStream stream.now.tree.now stream.now.prefix.now stream.now.name.now (position_of line_buffer.old) user.old user.new (S.taken sink.old) (S.taken sink.new)) }
+    ensures ok { OnOk result (FinishesStream stream.now.tree.now stream.now.prefix.now stream.now.name.now (position_of line_buffer.old) user.old user.new told.old.items told.new.items) }
     ensures position { OnOk result (position_of line_buffer.new ≡ ended (position_of line_buffer.old)) }
-    ensures unchanged { OnErr result (user.new ≡ user.old) }
-    ensures stays { OnErr result (position_of line_buffer.new ≡ position_of line_buffer.old) }
-    ensures err { IfErr result (λ fault. FailsToEnd stream.now.tree.now stream.now.prefix.now stream.now.name.now fault (position_of line_buffer.old) user.old (S.taken sink.old) (S.taken sink.new)) }
-    ensures quiet { OnOk result (S.failures sink.new ≡ S.failures sink.old) }
-    ensures counted { IfErr result (λ fault. S.failures sink.new ≡ failures_after fault (S.failures sink.old)) }
-    ensures keeps { S.goes_to sink.old sink.new }
+    ensures unchanged { OnErr result ((user.new ≡ user.old) × (position_of line_buffer.new ≡ position_of line_buffer.old) × (told.new.items ≡ told.old.items)) }
+    ensures pending { OnErr result (0 < length line_buffer.old.pending.items) }
     ensures user { OnOk result (ArePlacesOf stream.now.tree.now user.new.places) }
     ensures opened { OnOk result (IsWithinLine (position_of line_buffer.new)) }
 {
     if line_buffer.pending.is_empty() {
         return Ok(());
     }
-    end_line(alloc, stream, line_buffer, false, user, sink)
+    end_line(alloc, stream, line_buffer, false, user, told)
 }

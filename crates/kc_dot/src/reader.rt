@@ -1,22 +1,21 @@
 //! The reader of `.config` text, fed in pieces of any size.
-ghost use Rattle.std.specs.Prelude.{◌≡◌, ◌≤◌, length, Some, None, Err, OnOk, IfErr};
-ghost use Rattle.kc_dot.specs.declared.fault.DotFault.{DotFault};
+ghost use Rattle.std.specs.Prelude.{◌≡◌, ◌≤◌, length, None};
 ghost use Rattle.kc_user.specs.Places.{ArePlacesOf};
-ghost use Rattle.kc_dot.specs.Feeding.{IsWithinLine, Feeds, Refuses, FinishesStream, FailsToEnd, fed, ended, stream_start, failures_after};
+ghost use Rattle.kc_dot.specs.Feeding.{IsWithinLine, ended, stream_start};
 ghost use Rattle.kc_dot.specs.Limits.{longest_dot_line};
+ghost use Rattle.kc_dot.specs.ReaderCalls.{AnswersFeed, AnswersEnd};
 
 use crate::fault::DotFault;
 use crate::line_buffer::{LineBuffer, end_stream, take_piece};
 use crate::prefix::Prefix;
-use crate::sink::Sink;
 use crate::step::NamedStream;
 use crate::user_input::UserInput;
 use kc_tree::tree::Tree;
 use std::alloc::Global;
 use std::marker::Model;
 
-/// Reads streams of `.config` text line by line: each valid assignment goes to the user's input, each warning to a
-/// sink, as its line ends. Besides the tree, the prefix and the stream's name it keeps the number of the line not yet
+/// Reads streams of `.config` text line by line: as a line ends, a valid assignment goes to the user's input, and a warning
+/// is told, as whole lines behind those told before. Besides the tree, the prefix and the stream's name it keeps the number of the line not yet
 /// ended, that line's bytes, of which there are at most 65,535, and the first refusal, which every later call answers
 /// again, changing nothing.
 #[derive(Drop)]
@@ -65,28 +64,18 @@ impl<'a> DotReader<'a> {
         self.line_buffer.pending.len()
     }
 
-    /// Takes the next piece of the stream. After an error the places are exactly those after the lines before the refused
-    /// one, and the sink took their warnings. Where it failed, it did at the next line's warning: it took a beginning of
-    /// that, never the whole, and the line, which the piece ends, assigned nothing. Memory is wanted only before a byte of
-    /// the piece: an empty piece never fails, and one that was taken whole does not, unless the reader keeps a fault.
-    pub fn feed<S: Sink>(
+    /// Takes the next piece of the stream, and adds the warnings of the lines that it ends behind what was told. After an error
+    /// the places are exactly those after the lines before the refused one, and their warnings were told, no more: a line whose
+    /// warning finds no memory assigns nothing. Memory is wanted only before a byte of the piece: an empty piece never fails,
+    /// and one that was taken whole does not, unless the reader keeps a fault.
+    pub fn feed(
         &mut self,
         piece: &[u8],
         user: &mut UserInput<'a>,
-        sink: &mut S,
+        told: &mut Vec<u8>,
     ) -> Result<(), DotFault>
         requires { ArePlacesOf self.old.tree user.old.places }
-        ensures ok { OnOk result (Feeds self.old.tree self.old.prefix self.old.name piece.now self.old.position self.new.position user.old user.new (S.taken sink.old) (S.taken sink.new)) }
-        ensures stands { OnOk result ((self.old.refusal ≡ None) × (self.new ≡ record self.old { position = fed piece.now self.old.position })) }
-        ensures refused { self.old.refusal ≡ None → IfErr result
-            (λ fault. Refuses self.old.tree self.old.prefix self.old.name fault piece.now self.old.position self.new.position user.old user.new (S.taken sink.old)
-            (S.taken sink.new)) }
-        ensures kept { self.old.refusal ≡ None → IfErr result (λ fault. self.new ≡ record self.old { position = self.new.position; refusal = Some fault }) }
-        ensures again { (fault : DotFault) → self.old.refusal ≡ Some fault → (result ≡ Err fault) × (self.new ≡ self.old) × (user.new ≡ user.old) × (sink.new ≡ sink.old) }
-        ensures quiet { OnOk result (S.failures sink.new ≡ S.failures sink.old) }
-        ensures counted { self.old.refusal ≡ None → IfErr result (λ fault. S.failures sink.new ≡ failures_after fault (S.failures sink.old)) }
-        ensures keeps { S.goes_to sink.old sink.new }
-        ensures user { ArePlacesOf self.new.tree user.new.places }
+        ensures { AnswersFeed piece.now result self.old self.new user.old user.new told.old.items told.new.items }
     {
         if let Some(fault) = self.refusal {
             return Err(fault);
@@ -97,7 +86,7 @@ impl<'a> DotReader<'a> {
             &mut self.line_buffer,
             piece,
             user,
-            sink,
+            told,
         ) {
             Ok(()) => Ok(()),
             Err(fault) => {
@@ -107,56 +96,38 @@ impl<'a> DotReader<'a> {
         }
     }
 
-    /// Ends the last line; a later `feed` begins the next one. After an error the user's places are as they were, and so
-    /// is the reader but that it keeps the fault and answers it to every later call; where the sink failed it took a
-    /// beginning of the line's warning, never the whole, and otherwise nothing. Where no byte is pending nothing fails, unless
-    /// the reader keeps a fault.
-    pub fn finish<S: Sink>(
-        &mut self,
-        user: &mut UserInput<'a>,
-        sink: &mut S,
-    ) -> Result<(), DotFault>
+    /// Ends the last line, with its warning added behind what was told; a later `feed` begins the next one. Its only error is to
+    /// be out of memory, unless the reader keeps a fault. After an error nothing was told, the user's places are as they were,
+    /// and so is the reader but that it keeps the fault and answers it to every later call. Where no byte is pending nothing
+    /// fails, unless the reader keeps a fault.
+    pub fn finish(&mut self, user: &mut UserInput<'a>, told: &mut Vec<u8>) -> Result<(), DotFault>
         requires { ArePlacesOf self.old.tree user.old.places }
-        ensures ok { OnOk result (FinishesStream self.old.tree self.old.prefix self.old.name self.old.position user.old user.new (S.taken sink.old) (S.taken sink.new)) }
-        ensures stands { OnOk result ((self.old.refusal ≡ None) × (self.new ≡ record self.old { position = ended self.old.position })) }
-        ensures failed { self.old.refusal ≡ None → IfErr result (λ fault. FailsToEnd self.old.tree self.old.prefix self.old.name fault self.old.position user.old (S.taken sink.old) (S.taken sink.new)) }
-        ensures kept { self.old.refusal ≡ None → IfErr result (λ fault. (self.new ≡ record self.old { refusal = Some fault }) × (user.new ≡ user.old)) }
-        ensures again { (fault : DotFault) → self.old.refusal ≡ Some fault → (result ≡ Err fault) × (self.new ≡ self.old) × (user.new ≡ user.old) × (sink.new ≡ sink.old) }
-        ensures quiet { OnOk result (S.failures sink.new ≡ S.failures sink.old) }
-        ensures counted { self.old.refusal ≡ None → IfErr result (λ fault. S.failures sink.new ≡ failures_after fault (S.failures sink.old)) }
-        ensures keeps { S.goes_to sink.old sink.new }
-        ensures user { ArePlacesOf self.new.tree user.new.places }
+        ensures { AnswersEnd (record self.old { position = ended self.old.position }) result self.old self.new user.old user.new told.old.items told.new.items }
     {
-        let ended = match self.refusal {
-            None => end_stream(self.alloc, &self.stream, &mut self.line_buffer, user, sink),
-            Some(fault) => Err(fault),
-        };
-        if let Err(fault) = ended {
-            self.refusal = Some(fault);
+        if let Some(fault) = self.refusal {
+            return Err(fault);
         }
-        ended
+        match end_stream(self.alloc, &self.stream, &mut self.line_buffer, user, told) {
+            Ok(()) => Ok(()),
+            Err(_) => {
+                self.refusal = Some(DotFault::Memory);
+                Err(DotFault::Memory)
+            }
+        }
     }
 
     /// Ends the last line, and goes on at line 1 of another stream. After an error it is as after one of `finish`, and the
     /// stream is the one that was to end.
-    pub fn next_stream<S: Sink>(
+    pub fn next_stream(
         &mut self,
         name: &'a [u8],
         user: &mut UserInput<'a>,
-        sink: &mut S,
+        told: &mut Vec<u8>,
     ) -> Result<(), DotFault>
         requires { ArePlacesOf self.old.tree user.old.places }
-        ensures ok { OnOk result (FinishesStream self.old.tree self.old.prefix self.old.name self.old.position user.old user.new (S.taken sink.old) (S.taken sink.new)) }
-        ensures stands { OnOk result ((self.old.refusal ≡ None) × (self.new ≡ record self.old { name = name.now; position = stream_start })) }
-        ensures failed { self.old.refusal ≡ None → IfErr result (λ fault. FailsToEnd self.old.tree self.old.prefix self.old.name fault self.old.position user.old (S.taken sink.old) (S.taken sink.new)) }
-        ensures kept { self.old.refusal ≡ None → IfErr result (λ fault. (self.new ≡ record self.old { refusal = Some fault }) × (user.new ≡ user.old)) }
-        ensures again { (fault : DotFault) → self.old.refusal ≡ Some fault → (result ≡ Err fault) × (self.new ≡ self.old) × (user.new ≡ user.old) × (sink.new ≡ sink.old) }
-        ensures quiet { OnOk result (S.failures sink.new ≡ S.failures sink.old) }
-        ensures counted { self.old.refusal ≡ None → IfErr result (λ fault. S.failures sink.new ≡ failures_after fault (S.failures sink.old)) }
-        ensures keeps { S.goes_to sink.old sink.new }
-        ensures user { ArePlacesOf self.new.tree user.new.places }
+        ensures { AnswersEnd (record self.old { name = name.now; position = stream_start }) result self.old self.new user.old user.new told.old.items told.new.items }
     {
-        self.finish(user, sink)?;
+        self.finish(user, told)?;
         self.stream.name = name;
         self.line_buffer.number = 1;
         Ok(())

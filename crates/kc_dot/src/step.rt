@@ -1,25 +1,20 @@
 //! What one line of a stream does to the user's input.
-ghost use Rattle.std.specs.Prelude.{◌≡◌, ◌++◌, ◌<◌, true, [], ◌∷◌, length, map, slice_set, Some, None, IfOk, OnOk, OnErr, IfErr, IfSome};
+ghost use Rattle.std.specs.Prelude.{◌≡◌, ◌++◌, ◌<◌, true, [], ◌∷◌, length, map, slice_set, Some, None, IfOk, OnOk, OnErr, IfSome};
 ghost use Rattle.std.specs.Option.{option_map};
 ghost use Rattle.kc_user.specs.ValueView.{given_of_value};
 ghost use Rattle.kc_dot.specs.Changes.{change_line, change_text, is_change};
 ghost use Rattle.kc_dot.specs.DotLine.{meaning_of};
 ghost use Rattle.kc_dot.specs.Effects.{Assigns, SetAgain, effect_of, warning_line};
 ghost use Rattle.kc_user.specs.Places.{ArePlacesOf, place_at};
-ghost use Rattle.kc_dot.specs.Feeding.{failures_after};
-ghost use Rattle.kc_dot.specs.LineSteps.{input_by, with_member, FailsIn, Hands};
+ghost use Rattle.kc_dot.specs.LineSteps.{input_by, with_member};
 ghost use Rattle.kc_dot.specs.Reading.{effect_text, choice_of, places_given};
 ghost use Rattle.kc_dot.specs.ShownView.{given_by, location_of};
 ghost use Rattle.kc_user.specs.GivenValue.{SymbolPlace, is_yes};
-ghost use Rattle.kc_dot.specs.Sink.{extended};
 
-use crate::batch::put;
 use crate::effect::{Effect, LineWarning, kind_of, line_effect, warn};
-use crate::fault::DotFault;
 use crate::line::parse_dot_line;
 use crate::prefix::Prefix;
 use crate::shown::{InputLine, ShownValue, add_location, add_value, is_same, shown_given};
-use crate::sink::{Fault, Sink};
 use crate::text::add_parts;
 use crate::user_input::UserInput;
 use kc_expr::expression::{Kind, SymId, Tri};
@@ -152,77 +147,77 @@ fn add_change(
     add_parts(&[b"\n"], text)
 }
 
-// Hands out that the symbol is set again.
-fn hand_again<S: Sink>(at: InputLine<'_>, name: &[u8], sink: &mut S) -> Result<(), DotFault>
-    ensures { Hands S.Sink (warning_line at.entry.file.now at.entry.number (SetAgain name.now)) result sink.old sink.new }
+// Tells that the symbol is set again.
+fn tell_again(at: InputLine<'_>, name: &[u8], told: &mut Vec<u8>) -> Result<(), AllocError>
+    ensures whole { OnOk result (told.new.items ≡ told.old.items ++ warning_line at.entry.file.now at.entry.number (SetAgain name.now)) }
+    ensures nothing { OnErr result (told.new.items ≡ told.old.items) }
 {
-    match warn(at.file, at.number, LineWarning::SetAgain(name), sink) {
-        Ok(()) => Ok(()),
-        Err(Fault) => Err(DotFault::Sink),
-    }
+    warn(at.file, at.number, LineWarning::SetAgain(name), told)
 }
 
-// Hands out that the symbol is set again, and what it was and is now.
-fn hand_change<S: Sink>(
+// Tells that the symbol is set again, and what it was and is now.
+fn tell_change(
     alloc: Global,
     name: &[u8],
     kind: Kind,
     old: Given<'_>,
     new: Given<'_>,
-    sink: &mut S,
-) -> Result<(), DotFault>
-    ensures { Hands S.Sink (warning_line new.entry.at.file.now new.entry.at.number (SetAgain name.now)
-        ++ change_line (location_of new.entry.at) name.now kind (given_by old.entry.value) (location_of old.entry.at) (given_by new.entry.value)) result sink.old sink.new }
+    told: &mut Vec<u8>,
+) -> Result<(), AllocError>
+    ensures whole { OnOk result (told.new.items ≡ told.old.items ++ (warning_line new.entry.at.file.now new.entry.at.number (SetAgain name.now)
+        ++ change_line (location_of new.entry.at) name.now kind (given_by old.entry.value) (location_of old.entry.at) (given_by new.entry.value))) }
+    ensures nothing { OnErr result (told.new.items ≡ told.old.items) }
 {
     let mut text = Vec::new(alloc);
     add_again(new.at, name, &mut text)?;
     add_change(name, kind, old, new, &mut text)?;
-    put(&text, sink)?;
-    Ok(())
+    told.extend_from_slice(&text)
 }
 
-// Hands out that the symbol is set again, and the change where there is one and its line is known.
-fn hand_both<S: Sink>(
+// Tells that the symbol is set again, and the change where there is one and its line is known.
+fn tell_both(
     alloc: Global,
     name: &[u8],
     kind: Kind,
     old: ShownValue<'_>,
     from: Option<InputLine<'_>>,
     new: Given<'_>,
-    sink: &mut S,
-) -> Result<(), DotFault>
-    ensures { Hands S.Sink (warning_line new.entry.at.file.now new.entry.at.number (SetAgain name.now)
-        ++ change_text (location_of new.entry.at) name.now kind (Some (given_by old.entry)) (option_map location_of from.entry) (given_by new.entry.value)) result sink.old sink.new }
+    told: &mut Vec<u8>,
+) -> Result<(), AllocError>
+    ensures whole { OnOk result (told.new.items ≡ told.old.items ++ (warning_line new.entry.at.file.now new.entry.at.number (SetAgain name.now)
+        ++ change_text (location_of new.entry.at) name.now kind (Some (given_by old.entry)) (option_map location_of from.entry) (given_by new.entry.value))) }
+    ensures nothing { OnErr result (told.new.items ≡ told.old.items) }
 {
     match from {
-        None => hand_again(new.at, name, sink),
+        None => tell_again(new.at, name, told),
         Some(from) => {
             if is_same(old, new.value) {
-                hand_again(new.at, name, sink)
+                tell_again(new.at, name, told)
             } else {
                 let old = Given {
                     value: old,
                     at: from,
                 };
-                hand_change(alloc, name, kind, old, new, sink)
+                tell_change(alloc, name, kind, old, new, told)
             }
         }
     }
 }
 
 // Warns where the symbol has a value already.
-fn warn_again<S: Sink>(
+fn warn_again(
     alloc: Global,
     tree: &Tree,
     at: InputLine<'_>,
     id: SymId,
     value: &UserValue,
     input: &UserInput<'_>,
-    sink: &mut S,
-) -> Result<(), DotFault>
+    told: &mut Vec<u8>,
+) -> Result<(), AllocError>
     requires defined { id.0 < length tree.now.symbols }
     requires user { ArePlacesOf tree.now input.now.places }
-    ensures { Hands S.Sink (effect_text tree.now input.now (location_of at.entry) (Assigns id (given_of_value value.now))) result sink.old sink.new }
+    ensures whole { OnOk result (told.new.items ≡ told.old.items ++ effect_text tree.now input.now (location_of at.entry) (Assigns id (given_of_value value.now))) }
+    ensures nothing { OnErr result (told.new.items ≡ told.old.items) }
 {
     if id.0 >= tree.symbol_count() {
         return Ok(());
@@ -235,41 +230,36 @@ fn warn_again<S: Sink>(
                 at,
             };
             let from = input.line(id);
-            hand_both(
+            tell_both(
                 alloc,
                 tree.name(id),
                 kind_of(tree, id),
                 shown_given(old),
                 from,
                 new,
-                sink,
+                told,
             )
         }
     }
 }
 
-/// Reads one line, given without its end: hands out its warning, and then changes the input. After an error the input
-/// is as it was.
-pub(crate) fn read_line<'a, S: Sink>(
+/// Reads one line, given without its end: tells its warning, and then changes the input. Its only error is to be out of
+/// memory; then the input is as it was, and nothing was told.
+pub(crate) fn read_line<'a>(
     alloc: Global,
     stream: &NamedStream<'a>,
     number: u64,
     text: &[u8],
     user: &mut UserInput<'a>,
-    sink: &mut S,
-) -> Result<(), DotFault>
+    told: &mut Vec<u8>,
+) -> Result<(), AllocError>
     requires { ArePlacesOf stream.now.tree.now user.old.places }
     ensures places { OnOk result (user.new ≡ input_by stream.now.tree.now user.old (record { stream = stream.now.name.now; number = number })
         (effect_of stream.now.tree.now (meaning_of stream.now.prefix.now text.now))) }
-    ensures warned { OnOk result (S.taken sink.new ≡ extended (S.taken sink.old)
-        (effect_text stream.now.tree.now user.old (record { stream = stream.now.name.now; number = number })
-        (effect_of stream.now.tree.now (meaning_of stream.now.prefix.now text.now)))) }
-    ensures unchanged { OnErr result (user.new ≡ user.old) }
-    ensures fault { IfErr result (λ fault. FailsIn (effect_text stream.now.tree.now user.old (record { stream = stream.now.name.now; number = number })
-        (effect_of stream.now.tree.now (meaning_of stream.now.prefix.now text.now))) fault (S.taken sink.old) (S.taken sink.new)) }
-    ensures quiet { OnOk result (S.failures sink.new ≡ S.failures sink.old) }
-    ensures counted { IfErr result (λ fault. S.failures sink.new ≡ failures_after fault (S.failures sink.old)) }
-    ensures keeps { S.goes_to sink.old sink.new }
+    ensures warned { OnOk result (told.new.items ≡ told.old.items
+        ++ effect_text stream.now.tree.now user.old (record { stream = stream.now.name.now; number = number })
+        (effect_of stream.now.tree.now (meaning_of stream.now.prefix.now text.now))) }
+    ensures unchanged { OnErr result ((user.new ≡ user.old) × (told.new.items ≡ told.old.items)) }
 {
     let at = InputLine {
         file: stream.name,
@@ -282,12 +272,12 @@ pub(crate) fn read_line<'a, S: Sink>(
     )? {
         Effect::Silent => Ok(()),
         Effect::Warns(line_warning) => {
-            warn(stream.name, number, line_warning, sink)?;
+            warn(stream.name, number, line_warning, told)?;
             user.leave_out();
             Ok(())
         }
         Effect::Assigns(id, value) => {
-            warn_again(alloc, stream.tree, at, id, &value, user, sink)?;
+            warn_again(alloc, stream.tree, at, id, &value, user, told)?;
             give(stream.tree, at, id, value, user);
             Ok(())
         }
