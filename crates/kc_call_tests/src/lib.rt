@@ -1,8 +1,10 @@
 //! Tests of single calls of the crates up to kc_dot, of what no run of the program shows by itself: limits whose inputs are
-//! made by code, a folder and a sink that fail, the order in which files are read, the plain slow solver beside the solver,
+//! made by code, a folder that fails, a `.config` in pieces, the order in which files are read, the plain slow solver beside the solver,
 //! user values, and generic functions at a type. Whole runs are cases in kconf_cases.
 #![tactic(auto)]
 
+#[cfg(test)]
+mod config_reader;
 #[cfg(test)]
 mod dependency_file;
 #[cfg(test)]
@@ -17,8 +19,6 @@ mod order;
 mod places;
 #[cfg(test)]
 mod reading;
-#[cfg(test)]
-mod sinks;
 #[cfg(test)]
 mod slow;
 #[cfg(test)]

@@ -37,6 +37,9 @@ const SETTINGS: &[u8] = b"CONFIG_Q=y\n\
 
 const TEXT: &[u8] = b"a text \"in quotes\"";
 
+// The room that is made at first, in which all warnings have place: so telling one needs no memory.
+const ROOM: usize = 1_000;
+
 const UNKNOWN: &[u8] = b".config:1: warning K7: unknown symbol Q\n";
 
 // The prefix `CONFIG_`.
@@ -74,25 +77,25 @@ fn is_empty_or_text(user: &User, id: SymId, is_empty: bool) -> bool {
 }
 
 // The places are as after so many lines of `SETTINGS`, and the warnings are theirs.
-fn stands_after(user: &User, notes: &MemorySink, lines: u8) -> bool {
+fn stands_after(user: &User, notes: &[u8], lines: u8) -> bool {
     let warned = if lines > 0 { UNKNOWN } else { b"".as_slice() };
-    notes.text() == warned
+    notes == warned
         && is_empty_or_text(user, B, lines < 2)
         && is_empty_or_n(user, A, lines < 3)
         && given(user, N).is_none()
 }
 
 // After how many lines of `SETTINGS` the places stand.
-fn lines_read(user: &User, notes: &MemorySink) -> Option<u8> {
+fn lines_read(user: &User, notes: &[u8]) -> Option<u8> {
     (0u8..4).find(|lines| stands_after(user, notes, *lines))
 }
 
-// A reader over places, and where its warnings go. Its calls have no contract of their own: what they leave is looked at.
+// A reader over places, and what it told. Its calls have no contract of their own: what they leave is looked at.
 #[derive(Drop)]
 struct Fed<'a> {
     reader: DotReader<'a>,
     user: UserInput<'a>,
-    notes: MemorySink,
+    notes: Vec<u8>,
     ghost places: { ArePlacesOf reader.tree user.places },
 }
 
@@ -101,7 +104,7 @@ impl<'a> Fed<'a> {
         Ok(Fed {
             reader: DotReader::new(alloc, tree, prefix, b".config"),
             user: UserInput::new(alloc, tree, true)?,
-            notes: MemorySink::new(alloc)?,
+            notes: Vec::with_capacity(alloc, ROOM)?,
         })
     }
 
@@ -127,8 +130,7 @@ impl<'a> Fed<'a> {
                 let is_kept = again == Err(DotFault::Memory) && ends == Err(DotFault::Memory);
                 let stands = before.is_some()
                     && before == lines_read(self.user.user(), &self.notes);
-                let is_memory = fault == DotFault::Memory && !self.notes.has_failed();
-                refused(is_memory && is_kept && stands)
+                refused(fault == DotFault::Memory && is_kept && stands)
             }
         }
     }
@@ -151,7 +153,7 @@ fn read_into<'a>(
     tree: &'a Tree,
     prefix: &'a Prefix,
     user: &mut UserInput<'a>,
-    notes: &mut MemorySink,
+    notes: &mut Vec<u8>,
 ) -> bool
     requires { ArePlacesOf tree.now user.old.places }
     ensures { ArePlacesOf tree.now user.new.places }
@@ -160,7 +162,7 @@ fn read_into<'a>(
     reader.feed(SETTINGS, user, notes).is_ok() && reader.finish(user, notes).is_ok()
 }
 
-// The same, with a sink of its own.
+// The same, with a text of its own for the warnings.
 fn fill<'a>(
     alloc: Global,
     tree: &'a Tree,
@@ -170,7 +172,7 @@ fn fill<'a>(
     requires { ArePlacesOf tree.now user.old.places }
     ensures { ArePlacesOf tree.now user.new.places }
 {
-    let mut notes = MemorySink::new(alloc)?;
+    let mut notes = Vec::with_capacity(alloc, ROOM)?;
     Ok(read_into(alloc, tree, prefix, user, &mut notes))
 }
 

@@ -21,7 +21,7 @@ use Rattle.kc_dot.specs.Feeding.{StreamPosition, fed, ended, stream_start, Reads
 use Rattle.kc_dot.specs.LineSteps.{with_member}
 use Rattle.kc_dot.specs.ReaderState.{ReaderState}
 use Rattle.kc_text.specs.Limits.{one_more}
-use Rattle.kc_dot.specs.Reading.{Assignment, Line, ReadResult, Stream, UserInput, no_input, assignment_of, assignments, choice_of, before_too_long, effect, is_within, last_line, line, lines_from, lines_of, lines_in_stream, places_given, reading, text_of, with_warnings}
+use Rattle.kc_dot.specs.Reading.{Assignment, Line, ReadResult, Stream, StreamLocation, UserInput, no_input, assignment_of, assignments, choice_of, before_too_long, effect, is_within, last_line, line, lines_from, lines_of, lines_in_stream, places_given, reading, stream_location, text_of, with_warnings}
 use Rattle.kc_dot.specs.Streams.{Pieces, stream_of, feeds, calls_after, RefusalsKeepPlaces, StreamsAreRead, StreamsLeavePlaces, ReadingKeepsPlaces}
 use Rattle.kc_dot.proofs.AllowedLemmas.{assigned_allowed, strip_no_lf}
 use Rattle.kc_dot.proofs.CallLemmas.{calls_join}
@@ -204,6 +204,22 @@ waiting_no_lf bytes k d lt =
     let passes : p (get_or (reverse bytes) j d) ≡ true = prefix_len_passes p (reverse bytes) j d within in
     not-true (is_line_feed (get_or (drop n bytes) k d)) (ap p (get_or-drop n bytes k d ∙ sym at) ∙ passes)
 
+-- a line that is too long changes nothing, and warns of nothing
+pub reading-long_end : (tree : TreeFacts) (prefix name : List ℕ) (position : StreamPosition) (after : UserInput) (n : ℕ) → 65535 < n → HasNoLf position.pending →
+    (stop : Option StreamLocation)
+    × (reading tree prefix after (lines_from name position.number (position.pending ++ replicate n 120) ++ []) ≡ record { input = after; warned = []; stopped = stop })
+reading-long_end tree prefix name position after n far none =
+    let bytes : List ℕ = position.pending ++ replicate n 120 in
+    let size : length bytes ≡ length position.pending + n = length-append position.pending (replicate n 120) ∙ ap (λ k. length position.pending + k) (length-replicate n 120) in
+    let one : HasNoLf bytes = All-append (λ b. is_line_feed b ≡ false) position.pending (replicate n 120) none
+    (λ k d lt. ap is_line_feed (get_or-replicate n k 120 d (subst (λ m. k < m) (length-replicate n 120) lt))) in
+    let some : (length bytes == 0) ≡ false = ne_eqb (length bytes) 0 (λ e. absurd (omega arith)) in
+    let l : Line = line name position.number bytes false in
+    let lines : lines_from name position.number bytes ++ [] ≡ l ∷ [] = append-nil (lines_from name position.number bytes)
+    ∙ lines_from-last name position.number bytes one ∙ ap (λ b. cond b [] (l ∷ [])) some in
+    let long : is_within l ≡ false = lt-leb (length bytes) 65535 (omega arith) in
+    (Some (stream_location l), ap (reading tree prefix after) lines ∙ reading_long tree prefix after l [] long)
+
 -- A call leaves places that hold what is allowed.
 module _ (setting : SettingKeepsPlaces) (selecting : SelectingKeepsPlaces) where
   no_more_lines : (name : List ℕ) (n : ℕ) (bytes : List ℕ) → AllByRecursion (λ (l : Line). HasNoLf l.bytes) (lines_from name n bytes ++ [])
@@ -217,25 +233,11 @@ module _ (setting : SettingKeepsPlaces) (selecting : SelectingKeepsPlaces) where
       subst (ArePlaces tree) is (reading_keeps tree prefix formed setting selecting (lines_from name position.number position.pending ++ []) before
       (no_more_lines name position.number position.pending) old)
 
-  -- a line that is too long changes nothing
-  long_line : (tree : TreeFacts) (prefix name : List ℕ) (position : StreamPosition) (after : UserInput) (n : ℕ) → 65535 < n → HasNoLf position.pending →
-      (reading tree prefix after (lines_from name position.number (position.pending ++ replicate n 120) ++ [])).input.places ≡ after.places
-  long_line tree prefix name position after n far none =
-      let bytes : List ℕ = position.pending ++ replicate n 120 in
-      let size : length bytes ≡ length position.pending + n = length-append position.pending (replicate n 120) ∙ ap (λ k. length position.pending + k) (length-replicate n 120) in
-      let one : HasNoLf bytes = All-append (λ b. is_line_feed b ≡ false) position.pending (replicate n 120) none
-      (λ k d lt. ap is_line_feed (get_or-replicate n k 120 d (subst (λ m. k < m) (length-replicate n 120) lt))) in
-      let some : (length bytes == 0) ≡ false = ne_eqb (length bytes) 0 (λ e. absurd (omega arith)) in
-      let lines : lines_from name position.number bytes ++ [] ≡ line name position.number bytes false ∷ [] = append-nil (lines_from name position.number bytes)
-      ∙ lines_from-last name position.number bytes one ∙ ap (λ b. cond b [] (line name position.number bytes false ∷ [])) some in
-      let long : is_within (line name position.number bytes false) ≡ false = lt-leb (length bytes) 65535 (omega arith) in
-      ap (λ (r : ReadResult). r.input.places) (ap (reading tree prefix after) lines ∙ reading_long tree prefix after (line name position.number bytes false) [] long)
-
   feed_keeps : (tree : TreeFacts) (prefix name piece : List ℕ) (old new : StreamPosition) (before after : UserInput) (warned : List ℕ) (n : ℕ) → 65535 < n →
       IsWellFormed tree → HasNoLf new.pending → ReadsPiece tree prefix name piece old new before after warned → ArePlaces tree before.places → ArePlaces tree after.places
   feed_keeps tree prefix name piece old new before after warned n far formed none goes held =
       let is : (reading tree prefix before (lines_from name old.number (old.pending ++ (piece ++ replicate n 120)) ++ [])).input.places ≡ after.places =
-      ap (λ (r : ReadResult). r.input.places) (goes (replicate n 120) []) ∙ long_line tree prefix name new after n far none in
+      ap (λ (r : ReadResult). r.input.places) (goes (replicate n 120) [] ∙ ap (with_warnings warned) (reading-long_end tree prefix name new after n far none).1) in
       subst (ArePlaces tree) is (reading_keeps tree prefix formed setting selecting
       (lines_from name old.number (old.pending ++ (piece ++ replicate n 120)) ++ []) before
       (no_more_lines name old.number (old.pending ++ (piece ++ replicate n 120))) held)

@@ -8,9 +8,13 @@ use Rattle.kc_user.specs.GivenValue.{GivenValue, SymbolPlace, same_given}
 use Rattle.kc_user.specs.Places.{place_at}
 use Rattle.kc_dot.specs.Changes.{StreamLocation, change_line, change_text, location_text, value_text}
 use Rattle.kc_dot.specs.Effects.{Effect, Silent, Warns, Assigns, LineWarning, kind_of, name_of, warning_line, warning_text}
-use Rattle.kc_dot.specs.Reading.{UserInput, Line, before_too_long, effect, effect_change, effect_text, effect_warning, input_after, reading, stream_location, warning, warning_line_if, warnings}
+use Rattle.kc_dot.specs.declared.fault.DotFault.{DotFault}
+use Rattle.kc_dot.specs.Feeding.{StreamPosition, ReadsPiece, EndsStream, Feeds, Refuses, FinishesStream, fed}
+use Rattle.kc_dot.specs.Reading.{UserInput, Line, ReadResult, before_too_long, effect, effect_change, effect_text, effect_warning, input_after, reading, stream_location, warning, warning_line_if, warnings, with_warnings, lines_from}
 use Rattle.kc_dot.specs.WholeLines.{AddsWholeLines, ends_line, is_whole_lines}
-use Rattle.kc_dot.proofs.ReadingLemmas.{warnings-cons, warnings-nothing}
+use Rattle.kc_dot.proofs.LineLemmas.{HasNoLf}
+use Rattle.kc_dot.proofs.ReadingLemmas.{reading-nothing, warnings-cons, warnings-nothing}
+use Rattle.kc_dot.proofs.StreamLemmas.{reading-long_end, waiting_no_lf}
 
 -- the last of two lists is that of the second, where it has one
 last_or-append : {A : Type 0} (o : Option A) (a b : List A) → last_or o (a ++ b) ≡ last_or (last_or o a) b
@@ -28,6 +32,9 @@ is_whole_lines-line text = ap ends_line (last_or-append None text (codes "\n"))
 
 pub AddsWholeLines-nothing : (told : List ℕ) → AddsWholeLines told told
 AddsWholeLines-nothing told = ([], sym (append-nil told), refl)
+
+pub AddsWholeLines-same : (old new : List ℕ) → new ≡ old → AddsWholeLines old new
+AddsWholeLines-same old new same = rw same (AddsWholeLines-nothing old)
 
 -- what whole lines were added, where nothing was told before
 pub AddsWholeLines-first : (told : List ℕ) → AddsWholeLines [] told → is_whole_lines told ≡ true
@@ -83,3 +90,43 @@ module _ (tree : TreeFacts) (prefix : List ℕ) where
   pub whole-reading : (lines : List Line) (input : UserInput) → is_whole_lines (reading tree prefix input lines).warned ≡ true
   unfolding reading
   whole-reading lines input = whole-warnings (before_too_long lines) input
+
+module _ (tree : TreeFacts) (prefix name : List ℕ) where
+  -- what the lines of a piece warn of: a line that is too long, behind the piece, warns of nothing
+  whole-long : (n : ℕ) → 65535 < n → (piece : List ℕ) (old new : StreamPosition) (before after : UserInput) (warned : List ℕ) → HasNoLf new.pending →
+      ReadsPiece tree prefix name piece old new before after warned → is_whole_lines warned ≡ true
+  whole-long n far piece old new before after warned none goes =
+      let (stop, ends) = reading-long_end tree prefix name new after n far none in
+      let lines = lines_from name old.number (old.pending ++ (piece ++ replicate n 120)) ++ [] in
+      let is : (reading tree prefix before lines).warned ≡ warned =
+      ap (λ (r : ReadResult). r.warned) (goes (replicate n 120) [] ∙ ap (with_warnings warned) ends) ∙ append-nil warned in
+      subst (λ text. is_whole_lines text ≡ true) is (whole-reading tree prefix lines before)
+
+  pub whole-piece : (piece : List ℕ) (old new : StreamPosition) (before after : UserInput) (warned : List ℕ) → new ≡ fed piece old →
+      ReadsPiece tree prefix name piece old new before after warned → is_whole_lines warned ≡ true
+  whole-piece piece old new before after warned stands goes =
+      whole-long 65536 (omega arith) piece old new before after warned
+      (subst HasNoLf (sym (ap (λ (s : StreamPosition). s.pending) stands)) (waiting_no_lf (old.pending ++ piece))) goes
+
+  -- what the last line warns of
+  pub whole-end : (position : StreamPosition) (before after : UserInput) (warned : List ℕ) → EndsStream tree prefix name position before after warned → is_whole_lines warned ≡ true
+  whole-end position before after warned ends =
+      let lines = lines_from name position.number position.pending ++ [] in
+      let is : (reading tree prefix before lines).warned ≡ warned =
+      ap (λ (r : ReadResult). r.warned) (ends [] ∙ ap (with_warnings warned) (reading-nothing tree prefix after)) ∙ append-nil warned in
+      subst (λ text. is_whole_lines text ≡ true) is (whole-reading tree prefix lines before)
+
+  pub Feeds-lines : {piece : List ℕ} {old new : StreamPosition} {before after : UserInput} {told told_after : List ℕ} → new ≡ fed piece old →
+      Feeds tree prefix name piece old new before after told told_after → AddsWholeLines told told_after
+  Feeds-lines {piece = piece} {old = old} {new = new} {before = before} {after = after} stands (warned, tells, goes) =
+      (warned, tells, whole-piece piece old new before after warned stands goes)
+
+  pub Refuses-lines : {fault : DotFault} {piece : List ℕ} {old new : StreamPosition} {before after : UserInput} {told told_after : List ℕ} →
+      Refuses tree prefix name fault piece old new before after told told_after → AddsWholeLines told told_after
+  Refuses-lines {old = old} {new = new} {before = before} {after = after} refuses =
+      (refuses.warned, refuses.tells, whole-piece refuses.done old new before after refuses.warned refuses.stands refuses.goes)
+
+  pub FinishesStream-lines : {position : StreamPosition} {before after : UserInput} {told told_after : List ℕ} →
+      FinishesStream tree prefix name position before after told told_after → AddsWholeLines told told_after
+  FinishesStream-lines {position = position} {before = before} {after = after} (warned, tells, ends) =
+      (warned, tells, whole-end position before after warned ends)

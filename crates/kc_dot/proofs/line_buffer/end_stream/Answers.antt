@@ -1,20 +1,20 @@
 use Rattle.std.proofs.Common.{[], ◌∷◌, false, arith}
-use Rattle.std.proofs.lemmas.Result.{IfErr-weaker, on_ok_weaker}
+use Rattle.std.proofs.lemmas.Result.{on_err_weaker, on_ok_weaker}
 use Rattle.kc_dot.specs.Reading.{line, assignments}
 use Rattle.kc_dot.specs.ReaderView.{position_of}
 use Rattle.kc_dot.proofs.FedLemmas.{no_bytes, some_bytes}
-use Rattle.kc_dot.proofs.FeedLemmas.{FinishesStream-nothing, FinishesStream-line, FailsToEnd-line, OnOk-three}
+use Rattle.kc_dot.proofs.FeedLemmas.{FinishesStream-nothing, FinishesStream-line, OnOk-three}
 use Rattle.kc_dot.proofs.PlaceLemmas.{ArePlacesOf-given}
 use Rattle.kc_dot.proofs.line_buffer.end_stream.Goals as goal
 
 pub returns-then-is_empty-clause-ok : goal.returns-then-is_empty-clause-ok
-returns-then-is_empty-clause-ok g c =
+returns-then-is_empty-clause-ok c =
     let stream = c.args.stream.now in
-    FinishesStream-nothing stream.tree.now stream.prefix.now stream.name.now (position_of c.args.line_buffer.now) c.args.user.now (g.S.Sink.taken c.args.sink.now)
+    FinishesStream-nothing stream.tree.now stream.prefix.now stream.name.now (position_of c.args.line_buffer.now) c.args.user.now c.args.told.now.items
     (no_bytes c.args.line_buffer.now.pending.items c.args.line_buffer.now.pending.len (omega (arith, c.args.line_buffer.now.pending.ok.0)) c.if-is_empty.ensures)
 
 pub returns-clause-ok : goal.returns-clause-ok
-returns-clause-ok g c =
+returns-clause-ok c =
     let stream = c.args.stream.now in
     OnOk-three c.end_line.result _ _ _ _
     (λ places warned next.
@@ -22,16 +22,14 @@ returns-clause-ok g c =
     (some_bytes c.args.line_buffer.now.pending.items c.args.line_buffer.now.pending.len (omega (arith, c.args.line_buffer.now.pending.ok.0)) c.if-is_empty.ensures) places warned)
     c.end_line.ensures.places c.end_line.ensures.warned c.end_line.ensures.next
 
-pub returns-clause-err : goal.returns-clause-err
-returns-clause-err g c =
-    let stream = c.args.stream.now in
-    IfErr-weaker c.end_line.result _ _
-    (λ fault fails. FailsToEnd-line stream.tree.now stream.prefix.now stream.name.now fault (position_of c.args.line_buffer.now) c.args.user.now _ _ c.requires.opened
-    (some_bytes c.args.line_buffer.now.pending.items c.args.line_buffer.now.pending.len (omega (arith, c.args.line_buffer.now.pending.ok.0)) c.if-is_empty.ensures) fails)
-    c.end_line.ensures.fault
+pub returns-clause-pending : goal.returns-clause-pending
+returns-clause-pending c =
+    on_err_weaker c.end_line.result
+    (λ unchanged. some_bytes c.args.line_buffer.now.pending.items c.args.line_buffer.now.pending.len (omega (arith, c.args.line_buffer.now.pending.ok.0)) c.if-is_empty.ensures)
+    c.end_line.ensures.unchanged
 
 pub returns-clause-user : goal.returns-clause-user
-returns-clause-user g c =
+returns-clause-user c =
     let stream = c.args.stream.now in
     let tree = stream.tree.now in
     let l = line stream.name.now c.args.line_buffer.now.number c.args.line_buffer.now.pending.items false in

@@ -4,18 +4,16 @@ use Rattle.kc_dot.specs.Feeding.{IsWithinLine, Feeds, fed}
 use Rattle.kc_dot.specs.ReaderView.{position_of}
 use Rattle.kc_dot.proofs.line_buffer.take_piece.Given as goal
 
--- the bytes so far were taken, with no failure
+-- the bytes so far were taken
 abbrev pub invariant-loop-at : goal.invariant-loop-at
-invariant-loop-at g l = record {
+invariant-loop-at l = record {
   within : l.at ≤ length l.piece;
   taken : Feeds l.stream.tree.now l.stream.prefix.now l.stream.name.now (take l.at l.piece) (position_of l.fn.line_buffer) (position_of l.line_buffer)
-      l.fn.user l.user (g.S.Sink.taken l.fn.sink) (g.S.Sink.taken l.sink);
+      l.fn.user l.user l.fn.told.items l.told.items;
   position : position_of l.line_buffer ≡ fed (take l.at l.piece) (position_of l.fn.line_buffer);
   opened : IsWithinLine (position_of l.line_buffer);
   fits : ArePlacesOf l.stream.tree.now l.user.places;
-  quiet : g.S.Sink.failures l.sink ≡ g.S.Sink.failures l.fn.sink;
-  keeps : g.S.Sink.goes_to l.fn.sink l.sink;
 }
 
 abbrev pub decreases-loop-at : goal.decreases-loop-at
-decreases-loop-at g l = length l.piece - l.at
+decreases-loop-at l = length l.piece - l.at

@@ -1,0 +1,238 @@
+//! Reading a `.config` in any pieces: what the calls tell, what they leave, and what waits (kc_dot).
+ghost use Rattle.kc_user.specs.Places.{ArePlacesOf};
+
+use crate::trial::{Claim, is_true_of};
+use kc_dot::fault::DotFault;
+use kc_dot::prefix::Prefix;
+use kc_dot::reader::DotReader;
+use kc_dot::user_input::UserInput;
+use kc_expr::expression::Tri;
+use kc_tree::tree::Tree;
+use kc_user::value::UserValue;
+use std::alloc::{AllocError, Global};
+
+const KCONFIG: &[u8] = b"config A\n\tbool \"a\"\n";
+
+// Its second and third line are none of a `.config`, its fourth sets A again.
+const LINES: &[u8] = b"CONFIG_A=y\nfoo\nbar\n# CONFIG_A is not set\n";
+
+const WARNINGS: &[u8] = b".config:2: warning K9: malformed line\n\
+    .config:3: warning K9: malformed line\n\
+    .config:4: warning K10: A is set again\n";
+
+// A reader of `.config` over no user values, and what it told. Its calls have no contract of their own: what they leave is looked at.
+#[derive(Drop)]
+struct Trial<'a> {
+    reader: DotReader<'a>,
+    user: UserInput<'a>,
+    told: Vec<u8>,
+    ghost places: { ArePlacesOf reader.tree user.places },
+}
+
+// A call of the reader.
+enum Call {
+    Feed(&'static [u8]),
+    // So many bytes `#`.
+    FeedHashes(usize),
+    Finish,
+    NextStream(&'static [u8]),
+}
+
+impl<'a> Trial<'a> {
+    fn new(alloc: Global, tree: &'a Tree, prefix: &'a Prefix) -> Result<Trial<'a>, AllocError> {
+        let user = UserInput::new(alloc, tree, false)?;
+        Ok(Trial {
+            reader: DotReader::new(alloc, tree, prefix, b".config"),
+            user,
+            told: Vec::new(alloc),
+        })
+    }
+
+    fn feed(&mut self, piece: &[u8]) -> Result<(), DotFault> {
+        self.reader.feed(piece, &mut self.user, &mut self.told)
+    }
+
+    fn feed_hashes(&mut self, count: usize) -> Result<(), DotFault> {
+        for _ in 0..count {
+            self.feed(b"#")?;
+        }
+        Ok(())
+    }
+
+    fn call(&mut self, call: &Call) -> Result<(), DotFault> {
+        match call {
+            Call::Feed(piece) => self.feed(piece),
+            Call::FeedHashes(count) => self.feed_hashes(*count),
+            Call::Finish => self.reader.finish(&mut self.user, &mut self.told),
+            Call::NextStream(name) => self
+                .reader
+                .next_stream(name, &mut self.user, &mut self.told),
+        }
+    }
+
+    // How many of the calls answer that this line is too long.
+    fn refused_calls(&mut self, calls: &[Call], line: u64) -> usize {
+        let mut refused = 0_usize;
+        for call in calls {
+            if self.call(call) == Err(DotFault::DotLineTooLong(line)) {
+                refused = refused.saturating_add(1);
+            }
+        }
+        refused
+    }
+
+    // A, as the user has it.
+    fn value_of_a(&self, tree: &Tree) -> Option<Tri> {
+        let id = tree.find(b"A")?;
+        match self.user.user().symbols().get(id.0) {
+            Some(Some(UserValue::Tri(value))) => Some(*value),
+            _ => None,
+        }
+    }
+
+    // Whether what is left is what the case says.
+    fn is_at(&self, tree: &Tree, case: &Case) -> bool {
+        self.value_of_a(tree) == Some(case.a)
+            && self.reader.pending() == case.waits
+            && self.told.as_slice() == case.told
+    }
+}
+
+// Calls: how many of them are refused, what A is then, what was told, and how much of a line waits.
+#[derive(Clone, Copy)]
+struct Case {
+    name: &'static str,
+    calls: &'static [Call],
+    refused: usize,
+    a: Tri,
+    told: &'static [u8],
+    waits: usize,
+}
+
+const ALL: Case = Case {
+    name: "each line tells its warning",
+    calls: &[Call::Feed(LINES)],
+    refused: 0,
+    a: Tri::N,
+    told: WARNINGS,
+    waits: 0,
+};
+
+const LAST: Case = Case {
+    name: "a line that is not at its end tells nothing",
+    calls: &[Call::Feed(b"CONFIG_A=y\nfoo")],
+    refused: 0,
+    a: Tri::Y,
+    told: b"",
+    waits: 3,
+};
+
+const CASES: &[Case] = &[
+    ALL,
+    LAST,
+    Case {
+        name: "the last line is ended once",
+        calls: &[Call::Feed(b"CONFIG_A=y\nfoo"), Call::Finish, Call::Finish],
+        told: b".config:2: warning K9: malformed line\n",
+        waits: 0,
+        ..LAST
+    },
+    Case {
+        name: "the next input file begins at line 1",
+        calls: &[
+            Call::Feed(b"CONFIG_A=y\nfoo"),
+            Call::NextStream(b"x.cfg"),
+            Call::Feed(b"bar\n"),
+        ],
+        a: Tri::Y,
+        told: b".config:2: warning K9: malformed line\nx.cfg:1: warning K9: malformed line\n",
+        ..ALL
+    },
+    Case {
+        name: "a line may have 65535 bytes",
+        calls: &[
+            Call::Feed(b"CONFIG_A=y\nfoo\n"),
+            Call::FeedHashes(65_535),
+            Call::Feed(b"\nbar\n"),
+        ],
+        a: Tri::Y,
+        told: b".config:2: warning K9: malformed line\n.config:4: warning K9: malformed line\n",
+        ..ALL
+    },
+    Case {
+        name: "a line of more is refused, and so is all behind it",
+        calls: &[
+            Call::Feed(b"CONFIG_A=y\nfoo\n"),
+            Call::FeedHashes(65_536),
+            Call::Feed(b"\n# CONFIG_A is not set\n"),
+            Call::Finish,
+            Call::NextStream(b"x.cfg"),
+        ],
+        refused: 4,
+        a: Tri::Y,
+        told: b".config:2: warning K9: malformed line\n",
+        waits: 65_535,
+        ..ALL
+    },
+];
+
+// Whether the calls leave what the case says, where line 3 is the one that may be too long.
+fn leaves(alloc: Global, tree: &Tree, prefix: &Prefix, case: &Case) -> bool {
+    match Trial::new(alloc, tree, prefix) {
+        Ok(mut trial) => {
+            trial.refused_calls(case.calls, 3) == case.refused && trial.is_at(tree, case)
+        }
+        Err(_) => false,
+    }
+}
+
+impl Claim for Case {
+    fn holds_of(&self, alloc: Global, tree: &Tree) -> bool {
+        match Prefix::new(alloc, b"CONFIG_") {
+            Ok(Some(prefix)) => leaves(alloc, tree, &prefix, self),
+            _ => false,
+        }
+    }
+}
+
+// The lines, cut here into two pieces.
+#[derive(Clone, Copy)]
+struct Cut(usize);
+
+impl Cut {
+    // Whether the two leave what the lines leave as one.
+    fn leaves_all(&self, alloc: Global, tree: &Tree, prefix: &Prefix) -> bool {
+        let at = self.0.min(LINES.len());
+        match Trial::new(alloc, tree, prefix) {
+            Ok(mut trial) => {
+                trial.feed(&LINES[..at]).is_ok()
+                    && trial.feed(&LINES[at..]).is_ok()
+                    && trial.is_at(tree, &ALL)
+            }
+            Err(_) => false,
+        }
+    }
+}
+
+impl Claim for Cut {
+    fn holds_of(&self, alloc: Global, tree: &Tree) -> bool {
+        match Prefix::new(alloc, b"CONFIG_") {
+            Ok(Some(prefix)) => self.leaves_all(alloc, tree, &prefix),
+            _ => false,
+        }
+    }
+}
+
+#[test]
+fn calls_tell_what_the_lines_that_they_end_warn_of(rt: HostRuntime) {
+    for case in CASES {
+        assert!(rt; is_true_of(rt.alloc(), KCONFIG, case), "{}", case.name);
+    }
+}
+
+#[test]
+fn the_lines_may_be_cut_at_each_byte(rt: HostRuntime) {
+    for at in 0..LINES.len() {
+        assert!(rt; is_true_of(rt.alloc(), KCONFIG, &Cut(at)), "{}", at);
+    }
+}
