@@ -19,6 +19,7 @@ pub mod MinimalTextLemmas
 pub mod PartLemmas
 pub mod PlaceLemmas
 pub mod QuotedLemmas
+mod ReaderLemmas
 pub mod ReadingLemmas
 pub mod RoundTripLemmas
 pub mod IdempotentLaws

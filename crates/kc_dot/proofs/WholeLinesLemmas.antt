@@ -116,17 +116,17 @@ module _ (tree : TreeFacts) (prefix name : List ℕ) where
       ap (λ (r : ReadResult). r.warned) (ends [] ∙ ap (with_warnings warned) (reading-nothing tree prefix after)) ∙ append-nil warned in
       subst (λ text. is_whole_lines text ≡ true) is (whole-reading tree prefix lines before)
 
-  pub Feeds-lines : {piece : List ℕ} {old new : StreamPosition} {before after : UserInput} {told told_after : List ℕ} → new ≡ fed piece old →
+  pub Feeds-lines : (piece : List ℕ) (old new : StreamPosition) (before after : UserInput) (told told_after : List ℕ) → new ≡ fed piece old →
       Feeds tree prefix name piece old new before after told told_after → AddsWholeLines told told_after
-  Feeds-lines {piece = piece} {old = old} {new = new} {before = before} {after = after} stands (warned, tells, goes) =
+  Feeds-lines piece old new before after told told_after stands (warned, tells, goes) =
       (warned, tells, whole-piece piece old new before after warned stands goes)
 
-  pub Refuses-lines : {fault : DotFault} {piece : List ℕ} {old new : StreamPosition} {before after : UserInput} {told told_after : List ℕ} →
+  pub Refuses-lines : (fault : DotFault) (piece : List ℕ) (old new : StreamPosition) (before after : UserInput) (told told_after : List ℕ) →
       Refuses tree prefix name fault piece old new before after told told_after → AddsWholeLines told told_after
-  Refuses-lines {old = old} {new = new} {before = before} {after = after} refuses =
+  Refuses-lines fault piece old new before after told told_after refuses =
       (refuses.warned, refuses.tells, whole-piece refuses.done old new before after refuses.warned refuses.stands refuses.goes)
 
-  pub FinishesStream-lines : {position : StreamPosition} {before after : UserInput} {told told_after : List ℕ} →
+  pub FinishesStream-lines : (position : StreamPosition) (before after : UserInput) (told told_after : List ℕ) →
       FinishesStream tree prefix name position before after told told_after → AddsWholeLines told told_after
-  FinishesStream-lines {position = position} {before = before} {after = after} (warned, tells, ends) =
+  FinishesStream-lines position before after told told_after (warned, tells, ends) =
       (warned, tells, whole-end position before after warned ends)

@@ -1,0 +1,12 @@
+use Rattle.std.proofs.Common.{◌≡◌}
+use Rattle.kc_dot.specs.ReaderView.{position_of}
+use Rattle.kc_dot.proofs.ReaderLemmas.{AnswersEnd-ok}
+use Rattle.kc_dot.proofs.reader.DotReader.finish.Goals as goal
+
+pub returns-in-Ok : goal.returns-in-Ok
+returns-in-Ok c =
+    let stream = c.self.inside.stream in
+    let ensures = c.in-Ok.ensures in
+    rw (← c.self.view_is, c.in_default.is)
+    (AnswersEnd-ok stream.tree.now stream.prefix.now stream.name.now (position_of c.self.inside.line_buffer) (position_of c.end_stream.new.line_buffer)
+    c.args.user.now c.end_stream.new.user c.args.told.now.items c.end_stream.new.told.items ensures.ok ensures.position ensures.user)
