@@ -1,7 +1,7 @@
 -- Feeding in pieces is reading at once.
-use Rattle.std.proofs.Common.{◌≡◌, ℕ, ◌+◌, ◌<◌, ◌≤◌, List, [], ◌∷◌, ◌++◌, true, false, length, take, drop, refl, sym, ap, ◌∙◌, arith, append_assoc, append-nil, length-append, subst, Option, Result, Ok, Err, OnOk}
+use Rattle.std.proofs.Common.{◌≡◌, ℕ, ◌+◌, ◌<◌, ◌≤◌, List, [], ◌∷◌, ◌++◌, true, false, length, take, drop, refl, sym, ap, ◌∙◌, arith, append_assoc, append-nil, length-append, Result, Ok, Err, OnOk}
 use Rattle.std.specs.Prelude.{◌==◌}
-use Rattle.std.proofs.lemmas.Bool.{eqb-true, ne_eqb}
+use Rattle.std.proofs.lemmas.Bool.{ne_eqb}
 use Rattle.std.proofs.lemmas.List.{take-append-drop}
 use Rattle.kc_text.specs.Lines.{is_line_feed}
 use Rattle.kc_tree.specs.TreeFacts.{TreeFacts}
@@ -9,8 +9,8 @@ use Rattle.kc_dot.specs.declared.fault.DotFault.{DotFault}
 use Rattle.kc_dot.specs.declared.fault.DotFault.TheVariants.{DotLineTooLong, Memory}
 use Rattle.kc_dot.specs.Feeding.{StreamPosition, IsWithinLine, fed, to_come, ReadsPiece, Feeds, StopsBecause, Refuses, FinishesStream}
 use Rattle.kc_text.specs.Limits.{one_more}
-use Rattle.kc_dot.specs.Reading.{UserInput, Line, line, is_within, lines_from, reading, with_warnings, input_after, warning}
-use Rattle.kc_dot.proofs.LineLemmas.{HasNoLf, lines_from-lf, lines_from-last, is_within-line}
+use Rattle.kc_dot.specs.Reading.{UserInput, line, lines_from, reading, with_warnings, input_after, warning}
+use Rattle.kc_dot.proofs.LineLemmas.{lines_from-lf, lines_from-last, is_within-line}
 use Rattle.kc_dot.proofs.LongLineLemmas.{MeetsLongLine-long, MeetsLongLine-longer}
 use Rattle.kc_dot.proofs.ReadingLemmas.{with_warnings-with_warnings, reading_within}
 

@@ -1,5 +1,5 @@
 -- What is told is whole lines.
-use Rattle.std.proofs.Common.{◌≡◌, ℕ, ◌<◌, Bool, true, false, List, [], ◌∷◌, ◌++◌, length, codes, refl, sym, ap, subst, ◌∙◌, append_assoc, append-nil, Option, Some, None, arith}
+use Rattle.std.proofs.Common.{◌≡◌, ℕ, ◌<◌, Bool, true, false, List, [], ◌∷◌, ◌++◌, codes, refl, sym, ap, subst, ◌∙◌, append_assoc, append-nil, Option, Some, None, arith}
 use Rattle.std.specs.Prelude.{decimal, replicate, slice_index_or, if◌then◌else◌}
 use Rattle.std.specs.List.{last_or}
 use Rattle.kc_expr.specs.declared.expression.Kind.{Kind}
@@ -7,7 +7,7 @@ use Rattle.kc_tree.specs.TreeFacts.{TreeFacts}
 use Rattle.kc_user.specs.GivenValue.{GivenValue, SymbolPlace, same_given}
 use Rattle.kc_user.specs.Places.{place_at}
 use Rattle.kc_dot.specs.Changes.{StreamLocation, change_line, change_text, location_text, value_text}
-use Rattle.kc_dot.specs.Effects.{Effect, Silent, Warns, Assigns, LineWarning, kind_of, name_of, warning_line, warning_text}
+use Rattle.kc_dot.specs.Effects.{Effect, Silent, Warns, Assigns, LineWarning, kind_of, name_of, warning_text}
 use Rattle.kc_dot.specs.declared.fault.DotFault.{DotFault}
 use Rattle.kc_dot.specs.Feeding.{StreamPosition, ReadsPiece, EndsStream, Feeds, Refuses, FinishesStream, fed}
 use Rattle.kc_dot.specs.Reading.{UserInput, Line, ReadResult, before_too_long, effect, effect_change, effect_text, effect_warning, input_after, reading, stream_location, warning, warning_line_if, warnings, with_warnings, lines_from}

@@ -1,5 +1,5 @@
 -- Trusted: What a reader does with the bytes that it is fed, whatever follows them.
-use Rattle.std.specs.Prelude.{◌≡◌, ℕ, ◌+◌, ◌<◌, ◌≤◌, ◌++◌, List, [], ◌∷◌, length, min, count_by, Some, true, false, if◌then◌else◌, ◌==◌}
+use Rattle.std.specs.Prelude.{◌≡◌, ℕ, ◌+◌, ◌<◌, ◌≤◌, ◌++◌, List, [], ◌∷◌, length, min, count_by, Some, false, if◌then◌else◌, ◌==◌}
 use Rattle.std.specs.List.{after_last}
 use Rattle.kc_text.specs.Limits.{last_count, one_more}
 use Rattle.kc_text.specs.Lines.{HoldsNoLineFeed, is_line_feed}

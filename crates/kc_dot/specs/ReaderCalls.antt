@@ -1,5 +1,5 @@
 -- Trusted: What one call of a reader leaves, whatever its answer.
-use Rattle.std.specs.Prelude.{◌≡◌, ℕ, List, Option, Some, None, Result, Err, OnOk, IfErr}
+use Rattle.std.specs.Prelude.{◌≡◌, ℕ, List, Some, None, Result, Err, OnOk, IfErr}
 use Rattle.kc_user.specs.Places.{ArePlacesOf}
 use Rattle.kc_dot.specs.declared.fault.DotFault.{DotFault}
 use Rattle.kc_dot.specs.Feeding.{Feeds, Refuses, FinishesStream, FailsToEnd, fed}

@@ -1,4 +1,3 @@
-use Rattle.std.proofs.Common.{◌≡◌}
 use Rattle.kc_dot.specs.ReaderView.{position_of}
 use Rattle.kc_dot.proofs.ReaderLemmas.{AnswersFeed-ok, AnswersFeed-err}
 use Rattle.kc_dot.proofs.reader.DotReader.feed.Goals as goal

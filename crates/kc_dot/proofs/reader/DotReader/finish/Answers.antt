@@ -1,4 +1,3 @@
-use Rattle.std.proofs.Common.{◌≡◌}
 use Rattle.kc_dot.specs.ReaderView.{position_of}
 use Rattle.kc_dot.proofs.ReaderLemmas.{AnswersEnd-ok}
 use Rattle.kc_dot.proofs.reader.DotReader.finish.Goals as goal
