@@ -6,9 +6,10 @@ definitions, directly or through other definitions, and with `-- For proofs: ` w
 trusted files are listed with their line counts, and a file without such a head line ends the run with status 1.
 With --cited the definitions are followed from the contracts, by name, and each file whose head line says something else
 than was found is printed, with the names that are cited in it; the status is then 1.
-With --run only the files are listed that the contracts of `run`, of the laws over runs, of the program and of the traits of its devices cite: what somebody has to
-trust who uses kconf and calls no crate of it, and at the end how many definitions of them these cite and how many lines those
-definitions take alone. The other trusted files say what the crates promise each other.
+With --run only the files are listed that the contracts of `run`, of the laws over runs and deliveries, of the program and of the traits of
+its devices cite: what somebody has to trust who uses kconf and calls no crate of it. Then come the lines of these contracts and of the views of
+the types that they cite, which stand in the code; and in one number all that is to be trusted. At the end it says how many definitions
+are cited and how many lines those definitions take alone. The other trusted files say what the crates promise each other.
 With --table the table of docs/architecture.md is printed, and the lines and files that serve proofs.
 """
 import os
@@ -16,19 +17,16 @@ import re
 import sys
 
 TOP = os.path.dirname(os.path.dirname(os.path.abspath(__file__)))
-# The calls that a user of the program rests on: the run, the laws over runs, the program; and what the traits of the devices
-# ask of these, and a tree tells of itself. None is all of a room, an empty set what its types and traits tell of themselves.
+# The calls that a user of the program rests on: the run, the laws over runs and deliveries, the program; and what the traits of the devices
+# ask of these. None is all of a room.
 RUN = {
-    ("kc_conf", "runs"): {"run"},
+    ("kc_conf", "run"): {"run"},
+    ("kc_conf", "folder_run"): {"run_in_folder"},
     ("kc_conf", "laws"): None,
-    ("kc_disk", "program"): {"kconf", "kconf_of", "kconf_over", "exit_status"},
-    ("kc_conf", "input"): None,
-    ("kc_conf", "outputs"): None,
+    ("kc_io", "laws"): None,
+    ("kc_io", "device"): None,
     ("kc_load", "folder"): None,
-    ("kc_disk", "opener"): None,
-    ("kc_disk", "maker"): None,
-    ("kc_disk", "mover"): None,
-    ("kc_tree", "tree"): set(),
+    ("kc_disk", "program"): {"kconf", "kconf_of", "kconf_over", "exit_status"},
 }
 HEADS = {"-- Trusted: ": True, "-- For proofs: ": False}
 WORD = re.compile(r"[A-Za-z_][\w'«»-]*(?:\.[A-Za-z_0-9][\w'-]*)*")
@@ -62,6 +60,24 @@ def imports(text):
             parts = item.strip().split(" as ")
             names[parts[-1].strip()] = (crate, module, parts[0].strip())
     return names, modules
+
+
+def types(text):
+    """The types that `use` lines bring, each with the crate and the module of the code that it stands in."""
+    return {kind: (crate, module, kind) for crate, module, kind in re.findall(r"use Rattle\.(\w+)\.specs\.declared\.(\w+)\.(\w+)", text)}
+
+
+def views():
+    """How contracts see the types that have a view: the ghost lines of each `impl Model`, with what they import, by crate, module and type."""
+    found = {}
+    for crate in crates():
+        folder = os.path.join(TOP, "crates", crate, "src")
+        for name in sorted(os.listdir(folder)):
+            text = read(os.path.join(folder, name))
+            for kind, body in re.findall(r"^impl(?:<[^>]*>)? Model for (\w+)(?:<[^>]*>)? \{\n(.*?)^\}", text, re.M | re.S):
+                lines = [line for line in body.split("\n") if re.match(r" +ghost (?!use|coded)", line)]
+                found[crate, name[:-3], kind] = ("\n".join(lines), text)
+    return found
 
 
 def definitions(text):
@@ -146,7 +162,7 @@ def contracts(crate, calls=None):
             if part == "item" and line.endswith(("};", "},")) or part == "clause" and line.endswith(";"):
                 part = None
         if clauses:
-            yield "\n".join(clauses), imports(text)
+            yield "\n".join(clauses), imports(text), types(text)
 
 
 def cited(calls=None):
@@ -156,11 +172,17 @@ def cited(calls=None):
     for crate in crates():
         for name in spec_files(crate):
             text = read(os.path.join(TOP, "crates", crate, "specs", name))
-            texts[crate, name[:-5]] = (definitions(text), imports(text))
-    found, defined, waiting = set(), set(), []
+            texts[crate, name[:-5]] = (definitions(text), imports(text), types(text))
+    found, defined, waiting, seen = set(), set(), [], views()
+    shown, clauses = {}, []
 
-    def follow(text, uses, here):
+    def follow(text, uses, here, kinds):
         names, modules = uses
+        for word in set(WORD.findall(text)):
+            view = kinds.get(word.split(".")[0])
+            if view in seen and view not in shown:
+                shown[view] = seen[view][0]
+                follow(seen[view][0], imports(seen[view][1]), None, types(seen[view][1]))
         for word in set(WORD.findall(text)):
             parts = word.split(".")
             if parts[0] in modules and len(parts) > 1:
@@ -176,17 +198,18 @@ def cited(calls=None):
                 waiting.append(goal)
 
     for crate in crates():
-        for text, uses in contracts(crate, calls):
-            follow(text, uses, None)
+        for text, uses, kinds in contracts(crate, calls):
+            clauses.append(text)
+            follow(text, uses, None, kinds)
     while waiting:
         crate, module, name = waiting.pop()
-        known, uses = texts[crate, module]
+        known, uses, kinds = texts[crate, module]
         defined.update((crate, module, name, block) for block in known.get(name, []))
         # Another name is a constructor or a field: it stands in the block of its type.
         for block in known.get(name) or [block for blocks in known.values() for block in blocks]:
             if name in known or re.search(rf"(?<![\w.]){re.escape(name)}(?![\w'])", block):
-                follow(block, uses, (crate, module))
-    return found, defined
+                follow(block, uses, (crate, module), kinds)
+    return found, defined, clauses, shown
 
 
 def missing_calls():
@@ -218,7 +241,7 @@ def main():
     if missing:
         sys.exit("\n".join(missing))
     compare, of_run = "--cited" in sys.argv[1:], "--run" in sys.argv[1:]
-    found, defined = cited(RUN if of_run else None) if compare or of_run else (set(), set())
+    found, defined, clauses, shown = cited(RUN if of_run else None) if compare or of_run else (set(), set(), [], {})
     wrong, files, lines = 0, 0, 0
     for crate in crates():
         for name in spec_files(crate):
@@ -240,6 +263,10 @@ def main():
                     wrong += trusted is not None
     print(f"{lines:5} lines in {files} trusted files")
     if of_run:
+        told = sum(text.count("\n") + 1 for text in clauses)
+        seen = sum(text.count("\n") + 1 for text in shown.values())
+        print(f"{told:5} lines of contracts that cite them, and {seen} of views of {len(shown)} types")
+        print(f"{lines + told + seen:5} lines in all")
         names = {(crate, module, name) for crate, module, name, _ in defined}
         texts = {(crate, module, block) for crate, module, _, block in defined}
         alone = sum(not line.lstrip().startswith("--") for _, _, text in texts for line in text.split("\n"))
