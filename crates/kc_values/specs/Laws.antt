@@ -1,13 +1,16 @@
 -- Trusted: What holds of the equations of a tree.
-use Rattle.std.specs.Prelude.{◌≡◌, ℕ, ◌<◌, ◌↔◌, Option, Some, Bool, true, false}
+use Rattle.std.specs.Prelude.{◌≡◌, ℕ, ◌<◌, ◌↔◌, Option, Some, Bool, true, false, slice_get}
+use Rattle.std.specs.Option.{option_map}
 use Rattle.kc_expr.specs.Value.{SymbolValue}
 use Rattle.kc_expr.specs.Names.{symbol}
 use Rattle.kc_expr.specs.declared.expression.SymId.{SymId}
+use Rattle.kc_tree.specs.Layouts.{IsLayoutOf, facts_of}
 use Rattle.kc_tree.specs.TreeFacts.{Condition, ChoiceFacts, TreeFacts, IsWellFormed}
+use Rattle.kc_tree.specs.declared.layout.Layout.{Layout}
 use Rattle.kc_order.specs.Needs.{needs_in, AreWithin}
 use Rattle.kc_order.specs.Solution.{Solves, IsOnlySolution, HasOneSolution, ReadsNeeds}
 use Rattle.kc_order.specs.Minimal.{Restores, NothingCanGo}
-use Rattle.kc_values.specs.Lookups.{choice_at}
+use Rattle.kc_values.specs.Lookups.{choice_at, facts}
 use Rattle.kc_user.specs.GivenValue.{GivenValue, UserPlace}
 use Rattle.kc_user.specs.Places.{allowed, AllowedPlaces}
 use Rattle.kc_values.specs.Values.{prompt_value, condition}
@@ -74,3 +77,7 @@ abbrev pub ModeIsPromptCondition : Type 0
 ModeIsPromptCondition =
     (tree : TreeFacts) (known : SymId → SymbolValue) (c : ℕ) (f : ChoiceFacts) (p : Condition) → IsWellFormed tree → choice_at tree c ≡ Some f → f.prompt ≡ Some p →
     prompt_value known f.prompt ≡ condition tree known p
+
+-- What a tree says of a symbol is what the symbol's row says in any layout of the tree: nothing where it has no row.
+abbrev pub RowsTellFacts : Type 0
+RowsTellFacts = (tree : TreeFacts) (l : Layout) (s : SymId) → IsLayoutOf tree l → facts tree s ≡ option_map (facts_of l s.0) (slice_get l.symbols.items s.0)

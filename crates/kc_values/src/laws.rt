@@ -1,6 +1,6 @@
 //! What holds of the equations of every tree.
 
-ghost use Rattle.kc_values.specs.Laws.{EquationsReadNeeds, NeedsAreDefined, AcceptedHaveOneSolution, SolutionsAgree, LinesAreFixed, MinimalRestores, MinimalHasNothingToSpare, IdempotentWhere, DifferingAreAllowed, ModeIsPromptCondition};
+ghost use Rattle.kc_values.specs.Laws.{EquationsReadNeeds, NeedsAreDefined, AcceptedHaveOneSolution, SolutionsAgree, LinesAreFixed, MinimalRestores, MinimalHasNothingToSpare, IdempotentWhere, DifferingAreAllowed, ModeIsPromptCondition, RowsTellFacts};
 
 use kc_expr::values::value_depends_on_symbols;
 
@@ -58,4 +58,10 @@ pub fn differing_are_allowed()
 /// prompt's condition is not n (our own; the kernel's kconfig-language document on choices).
 pub fn choices_stand_alone()
     ensures { ModeIsPromptCondition }
+{}
+
+/// What a tree says of a symbol is what the symbol's row says in any layout of the tree; of a name that is not defined there
+/// is no row, and the tree says nothing (our own).
+pub fn rows_tell_facts()
+    ensures { RowsTellFacts }
 {}
