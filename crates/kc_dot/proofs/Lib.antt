@@ -11,6 +11,7 @@ pub mod FeedLemmas
 pub mod FilledLemmas
 pub mod GivesLemmas
 pub mod InTurnLemmas
+mod LineLaws
 pub mod LineLemmas
 pub mod LongLineLemmas
 pub mod PendingLemmas

@@ -19,6 +19,7 @@ pub mod ReaderCalls
 pub mod ReaderState
 pub mod ReaderView
 pub mod Reading
+pub mod ReadingLaws
 pub mod Reread
 pub mod RoundTrip
 pub mod ShownView

@@ -1,11 +1,11 @@
 -- Trusted: What holds of reading, and of the texts that are written, for every tree, every prefix and every solution.
-use Rattle.std.specs.Prelude.{◌≡◌, ℕ, List, true}
+use Rattle.std.specs.Prelude.{◌≡◌, ℕ, List, Option, true}
 use Rattle.kc_text.specs.Lines.{HoldsNoLineFeed}
 use Rattle.kc_expr.specs.declared.expression.SymId.{SymId}
 use Rattle.kc_expr.specs.Value.{SymbolValue}
 use Rattle.kc_order.specs.Solution.{Solves}
 use Rattle.kc_tree.specs.TreeFacts.{TreeFacts, IsWellFormed}
-use Rattle.kc_user.specs.GivenValue.{GivenValue}
+use Rattle.kc_user.specs.GivenValue.{GivenValue, UserPlace}
 use Rattle.kc_user.specs.Places.{ArePlaces, Places, allowed, place_at}
 use Rattle.kc_values.specs.Needs.{IsAccepted}
 use Rattle.kc_values.specs.Solution.{equations, symbol_count}
@@ -56,3 +56,9 @@ abbrev pub ConfigIsIdempotent : Type 0
 ConfigIsIdempotent =
     (tree : TreeFacts) (prefix : List ℕ) (places : Places) (V : ℕ → SymbolValue) → is_prefix prefix ≡ true →
     IsSolutionOf tree places V → ConfigGivesBack tree prefix places V
+
+-- The .config is that of the values alone: under any other places, the same values have the same text.
+abbrev pub ConfigIsOfValues : Type 0
+ConfigIsOfValues =
+    (tree : TreeFacts) (prefix : List ℕ) (user other : UserPlace → Option GivenValue) (V : ℕ → SymbolValue) →
+    config_text tree prefix (valuation_view tree user V) ≡ config_text tree prefix (valuation_view tree other V)

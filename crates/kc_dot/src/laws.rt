@@ -1,6 +1,7 @@
 //! What holds of reading, stated as the contracts of functions that do nothing.
 ghost use Rattle.kc_dot.specs.Calls.{CallsJoin};
-ghost use Rattle.kc_dot.specs.WrittenLaws.{AllowedAreAssigned, AssignedAreAllowed, ConfigIsIdempotent, MinimalHasNothingToSpare, MinimalRestores, WrittenTextsAreShort};
+ghost use Rattle.kc_dot.specs.ReadingLaws.{LinesAreCut, LinesGiveInTurn, ReadingGoesLineByLine};
+ghost use Rattle.kc_dot.specs.WrittenLaws.{AllowedAreAssigned, AssignedAreAllowed, ConfigIsIdempotent, ConfigIsOfValues, MinimalHasNothingToSpare, MinimalRestores, WrittenTextsAreShort};
 ghost use Rattle.kc_dot.specs.RoundTrip.{UnsetLineReadAgain, SetLineReadAgain, StringReadAgain, WrittenLinesAreShort};
 ghost use Rattle.kc_dot.specs.Streams.{ReadingKeepsPlaces, RefusalsKeepPlaces, StreamsAreRead, StreamsLeavePlaces};
 
@@ -9,6 +10,24 @@ use kc_values::laws::{
     accepted_have_one_solution, differing_are_allowed, equations_read_needs, idempotent_where,
     minimal_restores, needs_are_defined,
 };
+
+/// The bytes of a stream are cut into lines at each line feed, and what is left behind the last one is the last line, where
+/// it is not empty. (Our own.)
+pub fn lines_are_cut()
+    ensures { LinesAreCut }
+{}
+
+/// Reading goes line by line, each from the input that those before it leave, and stops at the first that is too long. (Our
+/// own.)
+pub fn reading_goes_line_by_line()
+    ensures { ReadingGoesLineByLine }
+{}
+
+/// What lines give, in turn: what some leave, warn of and do not take as written adds up with what the others do from there
+/// on; each line does what it says, and no more; and there stay as many places as there were. (Our own.)
+pub fn lines_give_in_turn()
+    ensures { LinesGiveInTurn }
+{}
 
 /// Any list of calls of a reader, each answered Ok, is one reading: of the lines of all bytes that were fed, each
 /// stretch between two ends of a stream cut into lines by itself, the warnings are those that the calls handed out,
@@ -105,3 +124,9 @@ pub fn config_is_idempotent()
     needs_are_defined();
     idempotent_where();
 }
+
+/// The written `.config` is that of the values alone: what the user gave, and which symbols differ by it, has no part in it.
+/// (Our own.)
+pub fn config_is_of_values()
+    ensures { ConfigIsOfValues }
+{}
