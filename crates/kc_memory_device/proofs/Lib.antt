@@ -1,0 +1,4 @@
+pub mod StrippedLemmas
+pub mod RecordLemmas
+pub mod ReadLemmas
+pub mod ToldLemmas

@@ -1,0 +1,6 @@
+pub mod Recorded
+pub mod Spots
+pub mod Opened
+pub mod Sights
+pub mod Stripped
+pub mod Told

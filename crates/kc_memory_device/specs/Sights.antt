@@ -1,0 +1,11 @@
+-- For proofs: What is to come of bytes, as the code has it.
+use Rattle.std.specs.Prelude.{ℕ, List, Option, option_map}
+use Rattle.std.specs.Borrow.{Bor}
+use Rattle.kc_memory_device.specs.Stripped.{Seen}
+use Rattle.kc_memory_device.specs.declared.sight.Sight.{Sight}
+
+abbrev pub bytes_of : Option (Bor (List ℕ)) → Option (List ℕ)
+bytes_of rest = option_map (λ r. r.now) rest
+
+abbrev pub seen : Sight → Seen
+seen s = record { held = bytes_of s.held; beside = bytes_of s.beside }

@@ -1,0 +1,37 @@
+-- For proofs: What is to come of bytes after their beginning.
+use Rattle.std.specs.Prelude.{ℕ, List, [], ◌∷◌, nat_eq, Option, None, Some, if◌then◌else◌}
+use Rattle.kc_io.specs.Log.{Spot}
+use Rattle.kc_io.specs.declared.device.Action.{Action}
+use Rattle.kc_io.specs.declared.device.Action.TheVariants.{Create, Write, Move}
+use Rattle.kc_io.specs.declared.device.Site.TheVariants.{Place, Beside}
+
+-- what is to come of these bytes after those, or nothing where they do not begin so
+abbrev pub stripped : List ℕ → List ℕ → Option (List ℕ)
+stripped bytes [] = Some bytes
+stripped [] (x ∷ xs) = None
+stripped (b ∷ bytes) (x ∷ xs) = if nat_eq x b then stripped bytes xs else None
+
+abbrev pub stripped_of : Option (List ℕ) → List ℕ → Option (List ℕ)
+stripped_of None written = None
+stripped_of (Some bytes) written = stripped bytes written
+
+-- at a place, and beside it
+pub record Seen : Type 0 where
+  pub held : Option (List ℕ)
+  pub beside : Option (List ℕ)
+
+abbrev pub to_come : List ℕ → Option (List ℕ) → Option (List ℕ)
+to_come bytes None = None
+to_come bytes (Some written) = stripped bytes written
+
+-- what is to come of the bytes at this spot
+abbrev pub seen_at : List ℕ → Spot → Seen
+seen_at bytes spot = record { held = to_come bytes spot.held; beside = stripped bytes spot.beside }
+
+abbrev pub acted_seen : List ℕ → Action → List ℕ → Seen → Seen
+acted_seen bytes (Create Place) written s = record s { held = Some bytes }
+acted_seen bytes (Create Beside) written s = record s { beside = Some bytes }
+acted_seen bytes (Write Place) written s = record s { held = stripped_of s.held written }
+acted_seen bytes (Write Beside) written s = record s { beside = stripped_of s.beside written }
+acted_seen bytes Move written s = record s { held = s.beside }
+acted_seen bytes _ written s = s

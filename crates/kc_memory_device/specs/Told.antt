@@ -1,0 +1,7 @@
+-- Trusted: What a device in memory tells, and what is given of the file that is open.
+use Rattle.kc_io.specs.Log.{Log}
+use Rattle.kc_memory_device.specs.Recorded.{first_held, told}
+use Rattle.kc_memory_device.specs.declared.device.MemoryDevice.{MemoryDevice}
+
+abbrev pub log_of : MemoryDevice → Log
+log_of device = told (first_held device.first.now) device.records device.said.items
