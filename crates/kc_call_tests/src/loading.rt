@@ -1,5 +1,5 @@
 //! Loading, over a folder in memory: the order in which files are asked for, one that fails, and a million lines (kc_load).
-ghost use Rattle.std.specs.Prelude.{◌≡◌, Some, IfOk, map, option_map};
+ghost use Rattle.std.specs.Prelude.{◌≡◌, ◌++◌, ◌∷◌, [], Some, IfOk, OnErr, OnOk, map, option_map};
 ghost use Rattle.kc_read.specs.Files.{bytes_in};
 
 use crate::files::{Piece, has_files, has_names, put_pieces};
@@ -23,12 +23,21 @@ impl<'a> Folder for MemoryFolder<'a> {
     fn read(&mut self, path: &str) -> Result<Option<Vec<u8>>, FolderFault> {
         note(&mut self.asked, path)?;
         if path == self.failing {
-            self.failed
-                .push(Vec::from_slice(self.alloc, path.as_bytes())?)?;
+            keep(self.alloc, &mut self.failed, path)?;
             return Err(FolderFault::Device);
         }
         Ok(copied(self.alloc, self.files.get(path.as_bytes()))?)
     }
+}
+
+// Keeps a path at which the device failed. Where memory is refused, nothing changes.
+fn keep(alloc: Global, failed: &mut Vec<Vec<u8>>, path: &str) -> Result<(), AllocError>
+    ensures kept { OnOk result (map (λ p. p.items) failed.new.items ≡ map (λ p. p.items) failed.old.items ++ path.now ∷ []) }
+    ensures refused { OnErr result (failed.new.items ≡ failed.old.items) }
+{
+    let copy = Vec::from_slice(alloc, path.as_bytes())?;
+    failed.push(copy)?;
+    Ok(())
 }
 
 // Writes a path that was asked for.
