@@ -1,5 +1,5 @@
 -- That no line of the streams goes unaccounted for where lost values are warned of.
-use Rattle.std.proofs.Common.{◌≡◌, ◌⊎◌, inl, inr, ℕ, ◌+◌, ◌<◌, zero, suc, Bool, true, false, List, [], ◌∷◌, ◌++◌, length, Some, None, refl, sym, ap, subst, ◌∙◌, append_assoc, append-nil, arith, codes, eqb, Option}
+use Rattle.std.proofs.Common.{◌≡◌, ◌⊎◌, inl, inr, ℕ, ◌+◌, ◌<◌, zero, suc, Bool, true, false, List, [], ◌∷◌, ◌++◌, length, Some, None, refl, sym, ap, subst, ◌∙◌, append_assoc, append-nil, arith, codes, eqb, map, Option}
 use Rattle.std.specs.Prelude.{not, find, is_some, replicate, slice_index_or, if◌then◌else◌}
 use Rattle.std.specs.List.{All, flat_map, range_with_len}
 use Rattle.std.specs.Option.{option_map}
@@ -23,16 +23,15 @@ use Rattle.kc_values.specs.Solution.{symbol_count}
 use Rattle.kc_solve.specs.Solved.{Solution, known, warnings as value_warnings}
 use Rattle.kc_dot.specs.Changes.{StreamLocation, change_line, change_text}
 use Rattle.kc_dot.specs.Effects.{Effect, Silent, Warns, Assigns, SetAgain, LineWarning, kind_in, kind_of, warning_line}
-use Rattle.kc_dot.specs.LineSteps.{input_by}
-use Rattle.kc_dot.specs.Reading.{Line, UserInput, assignments, before_too_long, effect, effect_text, input_after, is_within, lines_of, reading, stream_location, text_of, warning, warning_line_if, warnings}
-use Rattle.kc_dot.proofs.LineLemmas.{input_after-line}
-use Rattle.kc_dot.proofs.PlaceLemmas.{ArePlacesOf-given, places_given-one}
-use Rattle.kc_dot.proofs.ReadingLemmas.{input_after-append, input_after-nothing, lines_after-length, warnings-append, warnings-cons}
+use Rattle.kc_dot.specs.Reading.{Line, UserInput, before_too_long, effect, effect_text, input_after, is_within, lines_of, reading, stream_location, warning, warning_line_if, warnings}
+use Rattle.kc_dot.specs.ReadingLaws.{LinesGiveInTurn, LinesInTurn}
 use Rattle.kc_dot.specs.SolvedView.{solution_view}
 use Rattle.kc_dot.specs.Texts.{config_text}
 use Rattle.kc_conf.specs.declared.options.Options.{Options}
 use Rattle.kc_conf.specs.Accounted.{HoldsLine, IsAccountedFor, IsKeptOrWarned, IsSetAgain, LeavesAlone, NothingIsLost}
 use Rattle.kc_conf.specs.Lost.{has_prompt, lost_at, lost_by, lost_line, lost_lines, lost_of}
+use Rattle.kc_conf.specs.Asked.{lead}
+use Rattle.kc_conf.proofs.OutcomeLemmas.{text_if_is}
 use Rattle.kc_conf.specs.Outcome.{AreLines, Outcome, fresh_input, lines_text, lost_warnings, names_of, noted, read_of, streams, warned_files, with_rule}
 use Rattle.kc_conf.specs.Reruns.{RefusesNothing, WrittenAreWhole}
 use Rattle.kc_conf.proofs.PartLemmas.{AreLines-append, AreLines-nothing, AreLines-reading, AreLines-warning_if, AreLines-warnings}
@@ -152,19 +151,17 @@ number_of (Assigns s given) = s.0
 pub same_symbol : (a b : SymId) → a.0 ≡ b.0 → a ≡ b
 same_symbol a b same = λ i. record { 0 = same i }
 
-module _ (tree : TreeFacts) (prefix : List ℕ) where
-  -- the warning of a line stands in those of all lines
-  warned_at : (p : UserInput) (before later : List Line) (l : Line) →
-      StandsIn (warning tree prefix (input_after tree prefix p before) l) (warnings tree prefix p (before ++ l ∷ later))
-  warned_at p before later l =
-      let here = input_after tree prefix p before in
-      let split : warnings tree prefix p (before ++ l ∷ later)
-      ≡ warnings tree prefix p before ++ (warning tree prefix here l ++ warnings tree prefix (input_after tree prefix here (l ∷ [])) later) =
-      warnings-append tree prefix p before (l ∷ later) ∙ ap (λ w. warnings tree prefix p before ++ w) (warnings-cons tree prefix here l later) in
-      subst (StandsIn (warning tree prefix here l)) (sym split)
-      (stands_after (warnings tree prefix p before) _ _ (AreLines-warnings tree prefix before p)
-      (stands_first (warning tree prefix here l) (warnings tree prefix (input_after tree prefix here (l ∷ [])) later)))
+-- a symbol has this value, which this line gave
+abbrev Has : UserInput → ℕ → GivenValue → StreamLocation → Type 0
+Has p i given at = (place_at p.places (SymbolPlace i) ≡ Some given) × (slice_index_or p.lines i None ≡ Some at)
 
+abbrev pub value_in : ℕ → List (Option GivenValue) → Option GivenValue
+value_in i places = slice_index_or places i None
+
+abbrev pub line_in : ℕ → List (Option StreamLocation) → Option StreamLocation
+line_in i lines = slice_index_or lines i None
+
+module _ (tree : TreeFacts) (prefix : List ℕ) where
   -- no line is too long: all count
   all_count : (lines : List Line) → option_map stream_location (find (λ l. not (is_within l)) lines) ≡ None → before_too_long lines ≡ lines
   all_count [] e = refl
@@ -172,46 +169,6 @@ module _ (tree : TreeFacts) (prefix : List ℕ) where
     by : (b : Bool) → is_within l ≡ b → (option_map stream_location (find (λ m. not (is_within m)) lines) ≡ None → before_too_long lines ≡ lines) → before_too_long (l ∷ lines) ≡ l ∷ lines
     by true w others = take_while-cons is_within l lines ∙ rw w (ap (λ ls. l ∷ ls) (others (rw w at e)))
     by false w others = absurd (let long : Some (stream_location l) ≡ None = rw w at e in cc)
-
-  -- what one line leaves
-  pub step : (p : UserInput) (l : Line) (e : Effect) → effect tree prefix l ≡ e → input_after tree prefix p (l ∷ []) ≡ input_by tree p (stream_location l) e
-  unfolding effect
-  step p l e is = input_after-line tree prefix p l (text_of l) refl ∙ ap (input_by tree p (stream_location l)) is
-
-  -- a symbol has this value, which this line gave
-  abbrev Has : UserInput → ℕ → GivenValue → StreamLocation → Type 0
-  Has p i given at = (place_at p.places (SymbolPlace i) ≡ Some given) × (slice_index_or p.lines i None ≡ Some at)
-
-  -- what a line assigns, the symbol has
-  assigned : (p : UserInput) (l : Line) (s : SymId) (given : GivenValue) → effect tree prefix l ≡ Assigns s given → s.0 < length p.places.symbols → s.0 < length p.lines →
-      Has (input_after tree prefix p (l ∷ [])) s.0 given (stream_location l)
-  assigned p l s given is below line_below =
-      let here = step p l (Assigns s given) is in (
-        ap (λ (q : UserInput). place_at q.places (SymbolPlace s.0)) here ∙ ap (λ (q : Places). place_at q (SymbolPlace s.0)) (places_given-one tree p.places s given)
-            ∙ get_or-set_same p.places.symbols s.0 (Some given) None below,
-        ap (λ (q : UserInput). slice_index_or q.lines s.0 None) here ∙ get_or-set_same p.lines s.0 (Some (stream_location l)) None line_below,
-      )
-
-  -- what another line assigns leaves it
-  not_assigned : (p : UserInput) (l : Line) (s : SymId) (other : GivenValue) (i : ℕ) (given : GivenValue) (at : StreamLocation) → effect tree prefix l ≡ Assigns s other → (i ≡ s.0 → ⊥) →
-      Has p i given at → Has (input_after tree prefix p (l ∷ [])) i given at
-  not_assigned p l s other i given at is differs has =
-      let here = step p l (Assigns s other) is in (
-        ap (λ (q : UserInput). place_at q.places (SymbolPlace i)) here ∙ ap (λ (q : Places). place_at q (SymbolPlace i)) (places_given-one tree p.places s other)
-            ∙ get_or-set_other p.places.symbols s.0 i (Some other) None differs ∙ has.0,
-        ap (λ (q : UserInput). slice_index_or q.lines i None) here ∙ get_or-set_other p.lines s.0 i (Some (stream_location l)) None differs ∙ has.1,
-      )
-
-  silent : (p : UserInput) (l : Line) (i : ℕ) (given : GivenValue) (at : StreamLocation) → effect tree prefix l ≡ Silent → Has p i given at → Has (input_after tree prefix p (l ∷ [])) i given at
-  silent p l i given at is has =
-      let here = step p l Silent is in
-      (ap (λ (q : UserInput). place_at q.places (SymbolPlace i)) here ∙ has.0, ap (λ (q : UserInput). slice_index_or q.lines i None) here ∙ has.1)
-
-  warns : (p : UserInput) (l : Line) (line_warning : LineWarning) (i : ℕ) (given : GivenValue) (at : StreamLocation) → effect tree prefix l ≡ Warns line_warning → Has p i given at →
-      Has (input_after tree prefix p (l ∷ [])) i given at
-  warns p l line_warning i given at is has =
-      let here = step p l (Warns line_warning) is in
-      (ap (λ (q : UserInput). place_at q.places (SymbolPlace i)) here ∙ has.0, ap (λ (q : UserInput). slice_index_or q.lines i None) here ∙ has.1)
 
   -- the next later line that sets the symbol
   abbrev SetsAgain : UserInput → SymId → GivenValue → StreamLocation → List Line → Type 0
@@ -226,13 +183,58 @@ module _ (tree : TreeFacts) (prefix : List ℕ) where
   abbrev Next : UserInput → Line → List Line → SymId → GivenValue → StreamLocation → Type 0
   Next p l later s given at = Has (input_after tree prefix p (l ∷ [])) s.0 given at → StaysOrSet (input_after tree prefix p (l ∷ [])) later s given at
 
+module _ (tree : TreeFacts) (prefix : List ℕ) (turn : LinesInTurn tree prefix) where
+  -- a line's warning, and then those of the others from the input after it
+  warnings-cons : (p : UserInput) (l : Line) (lines : List Line) → warnings tree prefix p (l ∷ lines) ≡ warning tree prefix p l ++ warnings tree prefix (input_after tree prefix p (l ∷ [])) lines
+  warnings-cons p l lines =
+      turn.add_up.warn p (l ∷ []) lines ∙ ap (λ w. w ++ warnings tree prefix (input_after tree prefix p (l ∷ [])) lines) (turn.add_up.one_warns p l)
+
+  -- the warning of a line stands in those of all lines
+  warned_at : (p : UserInput) (before later : List Line) (l : Line) →
+      StandsIn (warning tree prefix (input_after tree prefix p before) l) (warnings tree prefix p (before ++ l ∷ later))
+  warned_at p before later l =
+      let here = input_after tree prefix p before in
+      let split : warnings tree prefix p (before ++ l ∷ later)
+      ≡ warnings tree prefix p before ++ (warning tree prefix here l ++ warnings tree prefix (input_after tree prefix here (l ∷ [])) later) =
+      turn.add_up.warn p before (l ∷ later) ∙ ap (λ w. warnings tree prefix p before ++ w) (warnings-cons here l later) in
+      subst (StandsIn (warning tree prefix here l)) (sym split)
+      (stands_after (warnings tree prefix p before) _ _ (AreLines-warnings tree prefix before p)
+      (stands_first (warning tree prefix here l) (warnings tree prefix (input_after tree prefix here (l ∷ [])) later)))
+
+  -- what a line assigns, the symbol has
+  assigned : (p : UserInput) (l : Line) (s : SymId) (given : GivenValue) → effect tree prefix l ≡ Assigns s given → s.0 < length p.places.symbols → s.0 < length p.lines →
+      Has (input_after tree prefix p (l ∷ [])) s.0 given (stream_location l)
+  assigned p l s given is below line_below = (
+    ap (value_in s.0) (turn.says.value p l s given is) ∙ get_or-set_same p.places.symbols s.0 (Some given) None below,
+    ap (line_in s.0) (turn.says.by_line p l s given is) ∙ get_or-set_same p.lines s.0 (Some (stream_location l)) None line_below,
+  )
+
+  -- what another line assigns leaves it
+  not_assigned : (p : UserInput) (l : Line) (s : SymId) (other : GivenValue) (i : ℕ) (given : GivenValue) (at : StreamLocation) → effect tree prefix l ≡ Assigns s other → (i ≡ s.0 → ⊥) →
+      Has p i given at → Has (input_after tree prefix p (l ∷ [])) i given at
+  not_assigned p l s other i given at is differs has = (
+    ap (value_in i) (turn.says.value p l s other is) ∙ get_or-set_other p.places.symbols s.0 i (Some other) None differs ∙ has.0,
+    ap (line_in i) (turn.says.by_line p l s other is) ∙ get_or-set_other p.lines s.0 i (Some (stream_location l)) None differs ∙ has.1,
+  )
+
+  silent : (p : UserInput) (l : Line) (i : ℕ) (given : GivenValue) (at : StreamLocation) → effect tree prefix l ≡ Silent → Has p i given at → Has (input_after tree prefix p (l ∷ [])) i given at
+  silent p l i given at is has =
+      let here = turn.says.silent p l is in
+      (ap (λ (q : UserInput). value_in i q.places.symbols) here ∙ has.0, ap (λ (q : UserInput). line_in i q.lines) here ∙ has.1)
+
+  warns : (p : UserInput) (l : Line) (line_warning : LineWarning) (i : ℕ) (given : GivenValue) (at : StreamLocation) → effect tree prefix l ≡ Warns line_warning → Has p i given at →
+      Has (input_after tree prefix p (l ∷ [])) i given at
+  warns p l line_warning i given at is has =
+      let here = turn.says.warned p l line_warning is in
+      (ap (λ (q : UserInput). value_in i q.places.symbols) here ∙ has.0, ap (λ (q : UserInput). line_in i q.lines) here ∙ has.1)
+
   -- what a symbol has stays, or a line sets it again
-  stays_or_set : (p : UserInput) (later : List Line) (s : SymId) (given : GivenValue) (at : StreamLocation) → Has p s.0 given at → StaysOrSet p later s given at
-  stays_or_set p [] s given at has = inl (subst (λ (q : UserInput). Has q s.0 given at) (sym (input_after-nothing tree prefix p)) has)
+  stays_or_set : (p : UserInput) (later : List Line) (s : SymId) (given : GivenValue) (at : StreamLocation) → Has p s.0 given at → StaysOrSet tree prefix p later s given at
+  stays_or_set p [] s given at has = inl (subst (λ (q : UserInput). Has q s.0 given at) (sym (turn.add_up.none_leave p)) has)
   stays_or_set p (l ∷ later) s given at has = by (effect tree prefix l) refl (stays_or_set (input_after tree prefix p (l ∷ [])) later s given at) where
-    on : LeavesAlone tree prefix s l → Next p l later s given at → Has (input_after tree prefix p (l ∷ [])) s.0 given at → StaysOrSet p (l ∷ later) s given at
+    on : LeavesAlone tree prefix s l → Next tree prefix p l later s given at → Has (input_after tree prefix p (l ∷ [])) s.0 given at → StaysOrSet tree prefix p (l ∷ later) s given at
     on alone next here = elim (next here) [
-      | inl stays ↦ inl (subst (λ (q : UserInput). Has q s.0 given at) (sym (input_after-append tree prefix p (l ∷ []) later)) stays)
+      | inl stays ↦ inl (subst (λ (q : UserInput). Has q s.0 given at) (sym (turn.add_up.leave p (l ∷ []) later)) stays)
       | inr (before, after, m, other, is, leaves, sets, had) ↦
           inr (
             l ∷ before,
@@ -242,11 +244,11 @@ module _ (tree : TreeFacts) (prefix : List ℕ) where
             ap (λ ls. l ∷ ls) is,
             All-cons (LeavesAlone tree prefix s) l before alone leaves,
             sets,
-            subst (λ (q : UserInput). Has q s.0 given at) (sym (input_after-append tree prefix p (l ∷ []) before)) had,
+            subst (λ (q : UserInput). Has q s.0 given at) (sym (turn.add_up.leave p (l ∷ []) before)) had,
           )
     ]
 
-    set_or : (t : SymId) (other : GivenValue) → effect tree prefix l ≡ Assigns t other → Next p l later s given at → (b : Bool) → eqb t.0 s.0 ≡ b → StaysOrSet p (l ∷ later) s given at
+    set_or : (t : SymId) (other : GivenValue) → effect tree prefix l ≡ Assigns t other → Next tree prefix p l later s given at → (b : Bool) → eqb t.0 s.0 ≡ b → StaysOrSet tree prefix p (l ∷ later) s given at
     set_or t other is next true e =
         inr (
           [],
@@ -256,13 +258,13 @@ module _ (tree : TreeFacts) (prefix : List ℕ) where
           refl,
           All-nil (LeavesAlone tree prefix s),
           is ∙ ap (λ x. Assigns x other) (same_symbol t s (eqb-true t.0 s.0 e)),
-          subst (λ (q : UserInput). Has q s.0 given at) (sym (input_after-nothing tree prefix p)) has,
+          subst (λ (q : UserInput). Has q s.0 given at) (sym (turn.add_up.none_leave p)) has,
         )
     set_or t other is next false e =
         on (λ g sets. absurd (eqb-false t.0 s.0 e (ap number_of (sym is ∙ sets)))) next
         (not_assigned p l t other s.0 given at is (λ same. eqb-false t.0 s.0 e (sym same)) has)
 
-    by : (e : Effect) → effect tree prefix l ≡ e → Next p l later s given at → StaysOrSet p (l ∷ later) s given at
+    by : (e : Effect) → effect tree prefix l ≡ e → Next tree prefix p l later s given at → StaysOrSet tree prefix p (l ∷ later) s given at
     by Silent is next = on (λ g sets. absurd (let clash : Silent ≡ Assigns s g = sym is ∙ sets in cc)) next (silent p l s.0 given at is has)
     by (Warns line_warning) is next = on (λ g sets. absurd (let clash : Warns line_warning ≡ Assigns s g = sym is ∙ sets in cc)) next (warns p l line_warning s.0 given at is has)
     by (Assigns t other) is next = set_or t other is next (eqb t.0 s.0) refl
@@ -298,27 +300,27 @@ module _ (files : Files) (options : Options) (all : List (List ℕ)) (tree : Tre
   abbrev last_lines : List (Option StreamLocation)
   last_lines = (input_after tree prefix empty lines).lines
 
-  module _ (asked : options.warn_lost ≡ true) (outcome : Outcome) (opened : List (List ℕ)) (is : outcome ≡ with_rule options opened
+  module _ (turn : LinesInTurn tree prefix) (asked : options.warn_lost ≡ true) (outcome : Outcome) (opened : List (List ℕ)) (is : outcome ≡ with_rule options opened
       (noted (lines_text tree.warnings) (noted (read_of options tree all).warned (warned_files options tree (read_of options tree all).input solution)))) where
-    notes_are : outcome.warned ≡ lines_text tree.warnings ++ (warnings tree prefix empty lines ++ (lines_text (value_warnings solution) ++ lines_text (lost_lines last_lines solution)))
+    notes_are : outcome.warned ≡ lines_text tree.warnings ++ (warnings tree prefix empty lines ++ (lines_text (map (λ line. lead options ++ line) (value_warnings solution)) ++ lines_text (lost_lines last_lines solution)))
     notes_are =
         ap (λ (o : Outcome). o.warned) is
-        ∙ ap (λ w. lines_text tree.warnings ++ (w ++ (lines_text (value_warnings solution) ++ lines_text (lost_warnings options (read_of options tree all).input solution)))) warned_are
-        ∙ ap (λ (i : UserInput). lines_text tree.warnings ++ (warnings tree prefix empty lines ++ (lines_text (value_warnings solution) ++ lines_text (lost_warnings options i solution)))) input_is
-        ∙ ap (λ b. lines_text tree.warnings ++ (warnings tree prefix empty lines ++ (lines_text (value_warnings solution) ++ lines_text (if b then lost_lines last_lines solution else [])))) asked
+        ∙ ap (λ w. lines_text tree.warnings ++ (w ++ (lines_text (map (λ line. lead options ++ line) (value_warnings solution)) ++ lines_text (lost_warnings options (read_of options tree all).input solution)))) warned_are
+        ∙ ap (λ (i : UserInput). lines_text tree.warnings ++ (warnings tree prefix empty lines ++ (lines_text (map (λ line. lead options ++ line) (value_warnings solution)) ++ lines_text (lost_warnings options i solution)))) input_is
+        ∙ ap (λ b. lines_text tree.warnings ++ (warnings tree prefix empty lines ++ (lines_text (map (λ line. lead options ++ line) (value_warnings solution)) ++ lines_text (if b then lost_lines last_lines solution else [])))) asked
 
     -- what is warned of as the streams are read stands in the notes, and so does what is lost
     of_streams : (part : List ℕ) → StandsIn part (warnings tree prefix empty lines) → StandsIn part outcome.warned
     of_streams part stands =
         subst (StandsIn part) (sym notes_are)
-        (stands_after (lines_text tree.warnings) part _ (tree.warnings, refl) (stands_before (lines_text (value_warnings solution) ++ lines_text (lost_lines last_lines solution)) part _ stands))
+        (stands_after (lines_text tree.warnings) part _ (tree.warnings, refl) (stands_before (lines_text (map (λ line. lead options ++ line) (value_warnings solution)) ++ lines_text (lost_lines last_lines solution)) part _ stands))
 
     of_lost : (part : List ℕ) → StandsIn part (lines_text (lost_lines last_lines solution)) → StandsIn part outcome.warned
     of_lost part stands =
         subst (StandsIn part) (sym notes_are)
         (stands_after (lines_text tree.warnings) part _ (tree.warnings, refl)
         (stands_after (warnings tree prefix empty lines) part _ (subst AreLines warned_are (AreLines-reading tree prefix lines empty))
-        (stands_after (lines_text (value_warnings solution)) part _ (value_warnings solution, refl) stands)))
+        (stands_after (lines_text (map (λ line. lead options ++ line) (value_warnings solution))) part _ (map (λ line. lead options ++ line) (value_warnings solution), refl) stands)))
 
     -- the warning of a line stands in the notes
     line_told : (before later : List Line) (l : Line) (e : Effect) → lines ≡ before ++ l ∷ later → effect tree prefix l ≡ e →
@@ -328,7 +330,7 @@ module _ (files : Files) (options : Options) (all : List (List ℕ)) (tree : Tre
         of_streams (effect_text tree (input_after tree prefix empty before) (stream_location l) e)
         (subst (λ ls. StandsIn (effect_text tree (input_after tree prefix empty before) (stream_location l) e) (warnings tree prefix empty ls)) (sym split)
         (subst (λ x. StandsIn (effect_text tree (input_after tree prefix empty before) (stream_location l) x) (warnings tree prefix empty (before ++ l ∷ later))) is_effect
-        (warned_at tree prefix empty before later l)))
+        (warned_at tree prefix turn empty before later l)))
 
     module _ (before later : List Line) (l : Line) (split : lines ≡ before ++ l ∷ later) (s : SymId) (given : GivenValue) (assigns : effect tree prefix l ≡ Assigns s given)
         (f : SymbolFacts) (defined : facts tree s ≡ Some f) (prompted : has_prompt f.prompts ≡ true) where
@@ -336,7 +338,7 @@ module _ (files : Files) (options : Options) (all : List (List ℕ)) (tree : Tre
       here = input_after tree prefix empty (before ++ l ∷ [])
 
       counts : ArePlacesOf tree (input_after tree prefix empty before).places
-      counts = ArePlacesOf-given tree empty.places (assignments tree prefix before) (record { symbols = length-replicate (length tree.symbols) None; choices = length-replicate (length tree.choices) None })
+      counts = turn.counts.places empty before (record { symbols = length-replicate (length tree.symbols) None; choices = length-replicate (length tree.choices) None })
 
       within : s.0 < length tree.symbols
       within = slice_get_within tree.symbols s.0 f defined
@@ -346,19 +348,19 @@ module _ (files : Files) (options : Options) (all : List (List ℕ)) (tree : Tre
 
       line_counts : length (input_after tree prefix empty before).lines ≡ length tree.symbols
       line_counts =
-          lines_after-length tree prefix empty.lines before
+          turn.counts.lines empty before
           ∙ ap (λ b. length (if b then replicate (length tree.symbols) no_line else [])) asked
           ∙ length-replicate (length tree.symbols) no_line
 
       line_below : s.0 < length (input_after tree prefix empty before).lines
       line_below = subst (λ n. s.0 < n) (sym line_counts) within
 
-      has : Has tree prefix here s.0 given (stream_location l)
+      has : Has here s.0 given (stream_location l)
       has =
-          subst (λ (q : UserInput). Has tree prefix q s.0 given (stream_location l)) (sym (input_after-append tree prefix empty before (l ∷ [])))
-          (assigned tree prefix (input_after tree prefix empty before) l s given assigns below line_below)
+          subst (λ (q : UserInput). Has q s.0 given (stream_location l)) (sym (turn.add_up.leave empty before (l ∷ [])))
+          (assigned tree prefix turn (input_after tree prefix empty before) l s given assigns below line_below)
 
-      kept : Has tree prefix (input_after tree prefix here later) s.0 given (stream_location l) → IsKeptOrWarned tree solution outcome.warned l s f given
+      kept : Has (input_after tree prefix here later) s.0 given (stream_location l) → IsKeptOrWarned tree solution outcome.warned l s f given
       kept stays = elim (kept_or_told last_lines solution s f given (stream_location l) (subst (λ (t : TreeFacts). facts t s ≡ Some f) (sym is_whole.solution_is.tree_is) defined) prompted there by_line) [
         | inl same ↦ inl same
         | inr told ↦ inr (of_lost (lost_line (stream_location l) (name tree s) f.kind given (given_of (known solution s)) ++ codes "\n")
@@ -370,7 +372,7 @@ module _ (files : Files) (options : Options) (all : List (List ℕ)) (tree : Tre
           joined = split ∙ sym (append_assoc before (l ∷ []) later)
 
           at_end : input_after tree prefix empty lines ≡ input_after tree prefix here later
-          at_end = ap (input_after tree prefix empty) joined ∙ input_after-append tree prefix empty (before ++ l ∷ []) later
+          at_end = ap (input_after tree prefix empty) joined ∙ turn.add_up.leave empty (before ++ l ∷ []) later
 
           there : place_at solution.places (SymbolPlace s.0) ≡ Some given
           there = ap (λ (q : Places). place_at q (SymbolPlace s.0)) places_are ∙ ap (λ (q : UserInput). place_at q.places (SymbolPlace s.0)) at_end ∙ stays.0
@@ -379,7 +381,7 @@ module _ (files : Files) (options : Options) (all : List (List ℕ)) (tree : Tre
           by_line = ap (λ (q : UserInput). slice_index_or q.lines s.0 None) at_end ∙ stays.1
 
       module _ (front back : List Line) (m : Line) (other : GivenValue) (is_later : later ≡ front ++ m ∷ back) (sets : effect tree prefix m ≡ Assigns s other)
-          (had : Has tree prefix (input_after tree prefix here front) s.0 given (stream_location l)) where
+          (had : Has (input_after tree prefix here front) s.0 given (stream_location l)) where
         joined : lines ≡ (before ++ l ∷ front) ++ m ∷ back
         joined = split ∙ ap (λ ls. before ++ l ∷ ls) is_later ∙ sym (append_assoc before (l ∷ front) (m ∷ back))
 
@@ -387,10 +389,10 @@ module _ (files : Files) (options : Options) (all : List (List ℕ)) (tree : Tre
         mid = input_after tree prefix empty (before ++ l ∷ front)
 
         mid_is : input_after tree prefix here front ≡ mid
-        mid_is = sym (input_after-append tree prefix empty (before ++ l ∷ []) front) ∙ ap (input_after tree prefix empty) (append_assoc before (l ∷ []) front)
+        mid_is = sym (turn.add_up.leave empty (before ++ l ∷ []) front) ∙ ap (input_after tree prefix empty) (append_assoc before (l ∷ []) front)
 
-        had_then : Has tree prefix mid s.0 given (stream_location l)
-        had_then = subst (λ (q : UserInput). Has tree prefix q s.0 given (stream_location l)) mid_is had
+        had_then : Has mid s.0 given (stream_location l)
+        had_then = subst (λ (q : UserInput). Has q s.0 given (stream_location l)) mid_is had
 
         abbrev first : List ℕ
         first = warning_line m.stream m.number (SetAgain (name tree s))
@@ -426,7 +428,7 @@ module _ (files : Files) (options : Options) (all : List (List ℕ)) (tree : Tre
           (front, back, m, other, is_later, leaves, sets, set_again_told front back m other is_later sets had, changed front back m other is_later sets had)
 
       heard : IsSetAgain tree prefix outcome.warned l s f.kind given later ⊎ IsKeptOrWarned tree solution outcome.warned l s f given
-      heard = elim (stays_or_set tree prefix here later s given (stream_location l) has) [
+      heard = elim (stays_or_set tree prefix turn here later s given (stream_location l) has) [
         | inl stays ↦ inr (kept stays)
         | inr set ↦ inl (again set)
       ]
@@ -439,10 +441,10 @@ module _ (files : Files) (options : Options) (all : List (List ℕ)) (tree : Tre
           stands_within [] (warning_line l.stream l.number line_warning) [] outcome.warned AreLines-nothing (line_told before later l (Warns line_warning) split is_effect)
       by (Assigns s given) is_effect = heard before later l split s given is_effect
 
-pub nothing_lost : WrittenAreWhole → NothingIsLost
-nothing_lost written files options all outcome text is_outcome there asked =
+pub nothing_lost : WrittenAreWhole → LinesGiveInTurn → NothingIsLost
+nothing_lost written turns files options all outcome text is_outcome there asked =
     let (tree, solution, is_whole, (opened, are, is), passed) = written files options all outcome text is_outcome there in
     let text_is : text ≡ config_text tree options.prefix (solution_view solution) =
-    let same : Some text ≡ Some (config_text tree options.prefix (solution_view solution)) = sym there ∙ ap (λ (o : Outcome). o.config) is in cc
+    sym (text_if_is options.out _ text (sym (ap (λ (o : Outcome). o.config) is) ∙ there))
     in
-    (tree, solution, is_whole, text_is, each_accounted_for files options all tree solution is_whole asked outcome opened is)
+    (tree, solution, is_whole, text_is, each_accounted_for files options all tree solution is_whole (turns tree options.prefix) asked outcome opened is)

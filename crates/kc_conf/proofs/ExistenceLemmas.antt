@@ -1,10 +1,10 @@
 -- There is an outcome.
-use Rattle.std.proofs.Common.{◌≡◌, ◌⊎◌, ℕ, ◌<◌, List, [], length, map, Option, Some, None, Result, Ok, Err, refl, sym, ◌∙◌, arith, inl, inr}
+use Rattle.std.proofs.Common.{◌≡◌, ◌⊎◌, ℕ, ◌<◌, List, [], length, map, Option, Some, None, Result, Ok, Err, refl, sym, ◌∙◌, arith, inl, inr, ◌++◌}
 use Rattle.std.specs.List.{range_with_len}
 use Rattle.std.proofs.lemmas.List.FromFn.{get_or-map-range_with_len, length-map-range_with_len}
 use Rattle.kc_expr.specs.Value.{SymbolValue, TextValue}
 use Rattle.kc_expr.specs.declared.expression.Kind.TheVariants.{Undefined}
-use Rattle.kc_read.specs.OpenedFiles.{AreOpened, OpenedAreThere}
+use Rattle.kc_read.specs.OpenedFiles.{AreOpened, OpenedAreOneList}
 use Rattle.kc_read.specs.Existing.{HasOneExpansion}
 use Rattle.kc_read.specs.Expansion.{Refused}
 use Rattle.kc_read.specs.Files.{Files}
@@ -22,6 +22,7 @@ use Rattle.kc_solve.specs.Solved.{Solution, value_of}
 use Rattle.kc_dot.specs.Reading.{StreamLocation}
 use Rattle.kc_dot.specs.Streams.{StreamsLeavePlaces}
 use Rattle.kc_conf.specs.declared.options.Options.{Options}
+use Rattle.kc_conf.specs.Asked.{lead}
 use Rattle.kc_conf.specs.ErrorLines.{refusal_line, too_long_line, unreadable_line}
 use Rattle.kc_conf.specs.Existence.{AcceptedHaveAnOutcome, AnswerExists, OutcomeExists, SolutionExists}
 use Rattle.kc_conf.specs.Outcome.{IsAcceptedTree, IsLenientOutcome, IsOutcome, IsOutcomeOfReading, IsRefusedTree, Outcome, accepted_tree, lines_text, long_line, looped, names_of, no_tree, noted, outcome_of, read_of, refused, refused_name, refused_tree, root_file, streams, strictly, unreadable_name, whole, with_rule}
@@ -89,9 +90,9 @@ module _ (expands : HasOneExpansion) (either : order.AcceptedOrUnordered) (named
 ended : (files : Files) (options : Options) (opened all : List (List ℕ)) (lenient : Outcome) → AreOpened files (root_file options) opened →
     IsLenientOutcome files options opened all lenient → (outcome : Outcome) × IsOutcome files options all outcome
 ended files options opened all lenient are is =
-    (with_rule options opened (strictly options.strict_tree lenient), (lenient, opened, is, are, refl))
+    (with_rule options opened (strictly options lenient), (lenient, opened, is, are, refl))
 
-module _ (opens : OpenedAreThere) (formed : TreesAreWellFormed) (leaves : StreamsLeavePlaces) (solved : SolutionExists) where
+module _ (opens : OpenedAreOneList) (formed : TreesAreWellFormed) (leaves : StreamsLeavePlaces) (solved : SolutionExists) where
   of_stop : (files : Files) (options : Options) (all : List (List ℕ)) (tree : TreeFacts) → IsAcceptedTree files (root_file options) tree →
       (stopped : Option StreamLocation) → (read_of options tree all).stopped ≡ stopped → (rest : Outcome) × IsOutcomeOfReading options tree (read_of options tree all) rest
   of_stop files options all tree accepted (Some stop) is = (noted (read_of options tree all).warned (refused (too_long_line stop)), long_line stop is refl)
@@ -102,12 +103,12 @@ module _ (opens : OpenedAreThere) (formed : TreesAreWellFormed) (leaves : Stream
 
   pub accepted_outcome : AcceptedHaveAnOutcome
   accepted_outcome files options all tree accepted =
-      let (opened, are) = opens files (root_file options) in
+      let (opened, are, only) = opens files (root_file options) in
       by opened are (unreadable_name options opened) refl
     where
       by : (opened : List (List ℕ)) → AreOpened files (root_file options) opened → (found : Option (List ℕ)) → unreadable_name options opened ≡ found →
           (outcome : Outcome) × IsOutcome files options all outcome
-      by opened are (Some name) unread = ended files options opened all (refused (unreadable_line name)) are (refused_name tree name accepted unread refl)
+      by opened are (Some name) unread = ended files options opened all (refused (lead options ++ unreadable_line name)) are (refused_name tree name accepted unread refl)
       by opened are None read =
           let (rest, part) = of_stop files options all tree accepted (read_of options tree all).stopped refl in
           ended files options opened all (noted (lines_text tree.warnings) rest) are (accepted_tree tree accepted read (rest, part, refl))
@@ -116,6 +117,6 @@ module _ (opens : OpenedAreThere) (formed : TreesAreWellFormed) (leaves : Stream
   outcome_exists answer files options all = elim (answer files (root_file options)) [
     | inl a ↦ accepted_outcome files options all a.0 a.1
     | inr b ↦
-        let (opened, are) = opens files (root_file options) in
+        let (opened, are, only) = opens files (root_file options) in
         ended files options opened all (refused (refusal_line b.0)) are (refused_tree b.0 b.1 refl)
   ]

@@ -13,7 +13,7 @@ use Rattle.kc_user.specs.GivenValue.{SymbolPlace, GivenValue}
 use Rattle.kc_user.specs.Places.{Places, place_at}
 use Rattle.kc_values.specs.Differs.{given_of}
 use Rattle.kc_values.specs.Lookups.{facts, name}
-use Rattle.kc_values.proofs.Laid.{symbol_found}
+use Rattle.kc_values.specs.Laws.{RowsTellFacts}
 use Rattle.kc_solve.specs.Solved.{Solution, known}
 use Rattle.kc_conf.specs.Lost.{has_prompt, lost_at, lost_by, lost_of}
 
@@ -36,9 +36,9 @@ one_more_lost lines s i old new before one =
 
 -- ---- the line of a symbol
 
-module _ (lines : List (Option StreamLocation)) (s : Solution) (tree : TreeFacts) (same : tree ≡ s.tree) (l : Layout) (laid : IsLayoutOf tree l) (i : ℕ) where
+module _ (rows : RowsTellFacts) (lines : List (Option StreamLocation)) (s : Solution) (tree : TreeFacts) (same : tree ≡ s.tree) (l : Layout) (laid : IsLayoutOf tree l) (i : ℕ) where
   found : (o : Option Symbol) → o ≡ slice_get l.symbols.items i → facts s.tree (symbol i) ≡ option_map (facts_of l i) o
-  found o e = sym (ap (λ (t : TreeFacts). slice_get t.symbols i) same) ∙ sym (symbol_found tree l laid i o e)
+  found o e = sym (ap (λ (t : TreeFacts). slice_get t.symbols i) same) ∙ rows tree l (symbol i) laid ∙ sym (ap (option_map (facts_of l i)) e)
 
   line : (o : Option Symbol) → o ≡ slice_get l.symbols.items i →
       lost_at lines s i ≡ lost_of (name s.tree (symbol i)) (option_map (facts_of l i) o) (slice_index_or lines i None) (place_at s.places (SymbolPlace i)) (given_of (known s (symbol i)))

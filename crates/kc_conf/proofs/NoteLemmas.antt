@@ -1,5 +1,5 @@
 -- What an outcome adds to the notes is whole lines.
-use Rattle.std.proofs.Common.{◌≡◌, ℕ, ◌+◌, ◌<◌, length, take, drop, get_or, Bool, true, false, List, [], ◌∷◌, ◌++◌, codes, refl, sym, ap, subst, ◌∙◌, append_assoc, append-nil, Option, Some, None}
+use Rattle.std.proofs.Common.{◌≡◌, ℕ, ◌+◌, ◌<◌, length, map, take, drop, get_or, Bool, true, false, List, [], ◌∷◌, ◌++◌, codes, refl, sym, ap, subst, ◌∙◌, append_assoc, append-nil, Option, Some, None}
 use Rattle.std.specs.Prelude.{decimal, if◌then◌else◌, ◌&&◌, ◌==◌}
 use Rattle.std.proofs.lemmas.List.{drop_more, take_more}
 use Rattle.kc_text.specs.Bytes.{byte}
@@ -11,7 +11,8 @@ use Rattle.kc_tree.specs.TreeFacts.{TreeFacts}
 use Rattle.kc_solve.specs.Solved.{warnings}
 use Rattle.kc_dot.specs.Limits.{longest_dot_line}
 use Rattle.kc_dot.specs.Reading.{StreamLocation, lines_of}
-use Rattle.kc_conf.specs.ErrorLines.{error_if_at, first_line, message_before, message_behind, refusal_line, too_long_line}
+use Rattle.kc_conf.specs.Asked.{lead}
+use Rattle.kc_conf.specs.ErrorLines.{error_if_at, first_line, message_before, message_behind, refusal_line, strict_line, too_long_line, unreadable_line}
 use Rattle.kc_conf.specs.Outcome.{AreLines, IsLenientOutcome, IsOutcomeOfReading, NotesAreLines, Outcome, accepted_tree, depfile_text, has_text, is_done, lines_text, long_line, lost_warnings, names_of, noted, outcome_of, read_of, refused, refused_name, refused_tree, streams, strictly, whole, fresh_input, refused_if, warned_files}
 use Rattle.kc_conf.specs.Taken.{refuses_input}
 use Rattle.kc_conf.specs.declared.options.Options.{Options}
@@ -84,9 +85,9 @@ AddsLines outcome = AreLines outcome.warned × AreLines outcome.refusal
 AddsLines-noted : (text : List ℕ) (outcome : Outcome) → AreLines text → AddsLines outcome → AddsLines (noted text outcome)
 AddsLines-noted text outcome lines (warned, refusal) = (AreLines-append text outcome.warned lines warned, refusal)
 
-if_strict : (b : Bool) (outcome : Outcome) → AddsLines outcome → AddsLines (refused_if b outcome)
-if_strict true outcome adds = (adds.0, AreLines-line (codes "error E21: warnings are refused"))
-if_strict false outcome adds = adds
+if_strict : (options : Options) (b : Bool) (outcome : Outcome) → AddsLines outcome → AddsLines (refused_if options b outcome)
+if_strict options true outcome adds = (adds.0, AreLines-ended (lead options) strict_line (codes "error E21: warnings are refused", refl))
+if_strict options false outcome adds = adds
 
 of_reading : (options : Options) (tree : TreeFacts) (all : List (List ℕ)) (outcome : Outcome) → IsOutcomeOfReading options tree (read_of options tree all) outcome → AddsLines outcome
 of_reading options tree all outcome (long_line stop stopped is) =
@@ -97,13 +98,13 @@ of_reading options tree all outcome (whole solution none solves is) =
     let lost = lost_warnings options input solution in
     subst AddsLines (sym is) (AddsLines-noted (read_of options tree all).warned (outcome_of options tree input solution)
     (AreLines-reading tree options.prefix (lines_of (streams (names_of options) all)) (fresh_input options tree))
-    (if_strict (refuses_input options input solution) (warned_files options tree input solution)
-    (AreLines-append (lines_text (warnings solution)) (lines_text lost) (warnings solution, refl) (lost, refl), AreLines-nothing)))
+    (if_strict options (refuses_input options input solution) (warned_files options tree input solution)
+    (AreLines-append (lines_text (map (λ line. lead options ++ line) (warnings solution))) (lines_text lost) (map (λ line. lead options ++ line) (warnings solution), refl) (lost, refl), AreLines-nothing)))
 
 of_lenient : (files : Files) (options : Options) (opened all : List (List ℕ)) (outcome : Outcome) → IsLenientOutcome files options opened all outcome → AddsLines outcome
 of_lenient files options opened all outcome (refused_tree r is_refused is) = subst AddsLines (sym is) (AreLines-nothing, AreLines-refusal r)
 of_lenient files options opened all outcome (refused_name tree name accepted unread is) =
-    subst AddsLines (sym is) (AreLines-nothing, AreLines-line (codes "error E23: make cannot read the name " ++ first_line name))
+    subst AddsLines (sym is) (AreLines-nothing, AreLines-ended (lead options) (unreadable_line name) (codes "error E23: make cannot read the name " ++ first_line name, refl))
 of_lenient files options opened all outcome (accepted_tree tree accepted named (rest, read, is)) =
     subst AddsLines (sym is) (AddsLines-noted (lines_text tree.warnings) rest (tree.warnings, refl) (of_reading options tree all rest read))
 
@@ -114,8 +115,8 @@ if_ruled false options opened outcome adds = adds
 
 pub notes_are_lines : NotesAreLines
 notes_are_lines files options all outcome (lenient, opened, is_lenient, are, is) =
-    let strict = strictly options.strict_tree lenient in
+    let strict = strictly options lenient in
     let adds = subst AddsLines (sym is)
     (if_ruled (is_done strict.status) options opened strict
-    (if_strict (is_done lenient.status && (options.strict_tree && has_text lenient.warned)) lenient (of_lenient files options opened all lenient is_lenient))) in
+    (if_strict options (is_done lenient.status && (options.strict_tree && has_text lenient.warned)) lenient (of_lenient files options opened all lenient is_lenient))) in
     AreLines-append outcome.warned outcome.refusal adds.0 adds.1

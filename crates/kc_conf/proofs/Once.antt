@@ -1,6 +1,6 @@
 -- A run has one outcome.
 use Rattle.std.proofs.Common.{◌≡◌, ℕ, ◌<◌, List, [], ◌++◌, length, Option, Some, None, Result, Ok, Err, true, false, sym, ap, subst, ◌∙◌, slice_index}
-use Rattle.kc_read.specs.OpenedFiles.{AreOpened, OpenedAreOne}
+use Rattle.kc_read.specs.OpenedFiles.{AreOpened}
 use Rattle.kc_read.specs.Expansion.{Expands, Log, Refused}
 use Rattle.kc_read.specs.Files.{Files}
 use Rattle.kc_tree.specs.TreeFacts.{TreeFacts}
@@ -18,6 +18,7 @@ use Rattle.kc_solve.specs.Refused.{IsLoopText, loop_refused}
 use Rattle.kc_solve.specs.Solved.{Solution, value_of}
 use Rattle.kc_dot.specs.Reading.{ReadResult}
 use Rattle.kc_conf.specs.declared.options.Options.{Options}
+use Rattle.kc_conf.specs.Asked.{lead}
 use Rattle.kc_conf.specs.ErrorLines.{refusal_line, too_long_line, unreadable_line}
 use Rattle.kc_conf.specs.Outcome.{Outcome, IsLenientOutcome, OneAnswer, OneOutcome, strictly, noted, lines_text, refused, outcome_of, read_of, root_file, IsRefusedTree, no_tree, looped, IsAcceptedTree, IsSolutionFor, refused_tree, refused_name, accepted_tree, IsOutcomeOfReading, IsOutcomeOfTree, long_line, whole, with_rule}
 use Rattle.std.proofs.lemmas.List.{ext_get_or}
@@ -115,7 +116,7 @@ one_lenient : OneAnswer → (files : Files) (options : Options) (opened all : Li
 one_lenient law files options opened all a b (refused_tree r first is) second = is ∙ sym (lenient_refused law files options opened all b r first second)
 one_lenient law files options opened all a b (refused_name tree name first unread is) (refused_tree r second is') = absurd (law.not_both files (root_file options) r tree second first)
 one_lenient law files options opened all a b (refused_name tree name first unread is) (refused_name tree' name' second unread' is') =
-    is ∙ ap (λ n. refused (unreadable_line n)) (ap (some_or name) (sym unread ∙ unread')) ∙ sym is'
+    is ∙ ap (λ n. refused (lead options ++ unreadable_line n)) (ap (some_or name) (sym unread ∙ unread')) ∙ sym is'
 one_lenient law files options opened all a b (refused_name tree name first unread is) (accepted_tree other second read rest) = absurd (let e : Some name ≡ None = sym unread ∙ read in cc)
 one_lenient law files options opened all a b (accepted_tree tree first read rest) (refused_tree r second is) = absurd (law.not_both files (root_file options) r tree second first)
 one_lenient law files options opened all a b (accepted_tree tree first read rest) (refused_name other name second unread is) = absurd (let e : Some name ≡ None = sym unread ∙ read in cc)
@@ -139,24 +140,24 @@ expansion_of files root tree accepted = by accepted.built.0 accepted.built.1 acc
     by (Err r) expands is = absurd (let clash : Ok tree ≡ Err r = is in cc)
 
 -- so the files that it opens are one list
-pub one_opened : OpenedAreOne → (files : Files) (root : List ℕ) (tree : TreeFacts) (opened others : List (List ℕ)) → IsAcceptedTree files root tree →
+pub one_opened : (files : Files) (root : List ℕ) (tree : TreeFacts) (opened others : List (List ℕ)) → IsAcceptedTree files root tree →
     AreOpened files root opened → AreOpened files root others → opened ≡ others
-one_opened law files root tree opened others accepted are are' =
-    let (log, expands) = expansion_of files root tree accepted in law files root log opened others expands are are'
+one_opened files root tree opened others accepted are are' =
+    let (log, expands) = expansion_of files root tree accepted in are log expands ∙ sym (are' log expands)
 
-pub one_outcome_law : OneAnswer → OpenedAreOne → OneOutcome
-one_outcome_law law one files options all a b (lenient, opened, first, are, is) (other, others, second, are', is') = by first
+pub one_outcome_law : OneAnswer → OneOutcome
+one_outcome_law law files options all a b (lenient, opened, first, are, is) (other, others, second, are', is') = by first
   where
     accepts : (tree : TreeFacts) → IsAcceptedTree files (root_file options) tree → a ≡ b
     accepts tree accepted =
-        let same : opened ≡ others = one_opened one files (root_file options) tree opened others accepted are are' in
+        let same : opened ≡ others = one_opened files (root_file options) tree opened others accepted are are' in
         let second' : IsLenientOutcome files options opened all other = subst (λ l. IsLenientOutcome files options l all other) (sym same) second in
-        is ∙ ap (λ l. with_rule options l (strictly options.strict_tree lenient)) same
-        ∙ ap (λ o. with_rule options others (strictly options.strict_tree o)) (one_lenient law files options opened all lenient other first second') ∙ sym is'
+        is ∙ ap (λ l. with_rule options l (strictly options lenient)) same
+        ∙ ap (λ o. with_rule options others (strictly options o)) (one_lenient law files options opened all lenient other first second') ∙ sym is'
 
     by : IsLenientOutcome files options opened all lenient → a ≡ b
     by (refused_tree r why was) =
-        is ∙ ap (λ o. with_rule options opened (strictly options.strict_tree o)) was
-        ∙ ap (λ o. with_rule options others (strictly options.strict_tree o)) (sym (lenient_refused law files options others all other r why second)) ∙ sym is'
+        is ∙ ap (λ o. with_rule options opened (strictly options o)) was
+        ∙ ap (λ o. with_rule options others (strictly options o)) (sym (lenient_refused law files options others all other r why second)) ∙ sym is'
     by (refused_name tree name accepted unread was) = accepts tree accepted
     by (accepted_tree tree accepted read part) = accepts tree accepted

@@ -1,12 +1,15 @@
 -- What was read and told of a stream up to a place of it.
-use Rattle.std.proofs.Common.{◌≡◌, inl, inr, ℕ, zero, suc, ◌<◌, ◌≤◌, Bool, true, false, List, [], ◌∷◌, ◌++◌, length, codes, refl, sym, ap, subst, ◌∙◌, append_assoc, append-nil, length-append, arith, Option, Some, None}
-use Rattle.std.specs.Prelude.{◌==◌, filter, decimal, slice_index_or, if◌then◌else◌}
-use Rattle.std.specs.List.{All, slice_split}
-use Rattle.std.proofs.lemmas.Bool.{cases_Bool, lt-leb}
+use Rattle.std.proofs.Common.{◌≡◌, inl, inr, ℕ, zero, suc, ◌<◌, ◌≤◌, Bool, true, false, List, [], ◌∷◌, ◌++◌, length, codes, refl, sym, ap, subst, ◌∙◌, append_assoc, append-nil, length-append, arith, cond, Option, Some, None}
+use Rattle.std.specs.Prelude.{◌==◌, filter, find, not, decimal, slice_index_or, take, if◌then◌else◌}
+use Rattle.std.specs.List.{All, enumerate_from, flat_map, onto_first, slice_split}
+use Rattle.std.specs.Option.{option_map}
+use Rattle.std.proofs.lemmas.Bool.{cases_Bool, le-leb, lt-leb}
 use Rattle.std.proofs.lemmas.Grind.{flat_map-append}
 use Rattle.std.proofs.lemmas.List.Elements.{All-nil, All-cons, All-append}
+use Rattle.std.proofs.lemmas.List.Splits.{slice_split_at, slice_split_none, slice_split-cons_no, slice_split-cons_yes}
+use Rattle.std.proofs.lemmas.List.Sums.{take_while-cons}
 use Rattle.kc_text.specs.Limits.{one_more}
-use Rattle.kc_text.specs.Lines.{is_line_feed}
+use Rattle.kc_text.specs.Lines.{HoldsNoLineFeed, is_line_feed}
 use Rattle.kc_tree.specs.TreeFacts.{TreeFacts}
 use Rattle.kc_expr.specs.declared.expression.Kind.{Kind}
 use Rattle.kc_user.specs.GivenValue.{GivenValue, SymbolPlace, same_given}
@@ -16,10 +19,8 @@ use Rattle.kc_dot.specs.Effects.{Effect, Silent, Warns, Assigns, LineWarning, ki
 use Rattle.kc_dot.specs.Feeding.{StreamPosition, stream_start, ReadsPiece}
 use Rattle.kc_dot.specs.Laws.{HasShortLines}
 use Rattle.kc_dot.specs.Reading.{UserInput, Line, ReadResult, before_too_long, effect, effect_change, effect_text, effect_warning, is_within, last_line, line, lines_from, lines_in_stream, input_after, reading, stream_location, warning, warning_line_if, warnings, with_warnings}
-use Rattle.kc_dot.proofs.LineLemmas.{HasNoLf, is_within-line, lines_from-last, lines_from-lf}
-use Rattle.kc_dot.proofs.ReadingLemmas.{reading-nothing, reading_long, reading_within, warnings-cons, warnings-nothing}
 use Rattle.kc_conf.specs.Outcome.{AreLines, lines_text}
-use Rattle.kc_conf.specs.ReadFaults.{ended_lines}
+use Rattle.kc_conf.specs.Given.{ended_lines}
 
 -- ---- whole lines
 
@@ -29,6 +30,11 @@ AreLines-nothing = ([], refl)
 pub AreLines-append : (a b : List ℕ) → AreLines a → AreLines b → AreLines (a ++ b)
 AreLines-append a b (ls, is) (ms, is') =
     (ls ++ ms, ap (λ t. t ++ b) is ∙ ap (λ t. lines_text ls ++ t) is' ∙ sym (flat_map-append (λ line. line ++ codes "\n") ls ms))
+
+-- texts of which each is whole lines
+AreLines-each : {X : Type 0} (f : X → List ℕ) (xs : List X) → ((x : X) → AreLines (f x)) → AreLines (flat_map f xs)
+AreLines-each f [] each = AreLines-nothing
+AreLines-each f (x ∷ xs) each = AreLines-append (f x) (flat_map f xs) (each x) (AreLines-each f xs each)
 
 pub AreLines-warning_if : (stream : List ℕ) (number : ℕ) (told : Option LineWarning) → AreLines (warning_line_if stream number told)
 AreLines-warning_if stream number None = AreLines-nothing
@@ -61,6 +67,14 @@ AreLines-effect tree input at e =
     changed (Warns line_warning) = AreLines-nothing
     changed (Assigns s given) = AreLines-change at (name_of tree s) (kind_of tree s) (place_at input.places (SymbolPlace s.0)) (slice_index_or input.lines s.0 None) given
 
+-- a line that is too long, behind the others, does not count
+counted-long_end : (lines : List Line) (l : Line) → is_within l ≡ false → before_too_long (lines ++ l ∷ []) ≡ before_too_long lines
+counted-long_end [] l long = take_while-cons is_within l [] ∙ ap (λ b. cond b (l ∷ []) []) long
+counted-long_end (m ∷ lines) l long =
+    take_while-cons is_within m (lines ++ l ∷ [])
+    ∙ ap (λ ls. cond (is_within m) (m ∷ ls) []) (counted-long_end lines l long)
+    ∙ sym (take_while-cons is_within m lines)
+
 module _ (tree : TreeFacts) (prefix : List ℕ) where
   AreLines-warning : (input : UserInput) (l : Line) → AreLines (warning tree prefix input l)
   unfolding warning
@@ -68,36 +82,53 @@ module _ (tree : TreeFacts) (prefix : List ℕ) where
 
   -- what lines warn of is whole lines
   pub AreLines-warnings : (lines : List Line) (places : UserInput) → AreLines (warnings tree prefix places lines)
-  AreLines-warnings [] places = subst AreLines (sym (warnings-nothing tree prefix places)) AreLines-nothing
-  AreLines-warnings (l ∷ lines) places =
-      let after = input_after tree prefix places (l ∷ []) in
-      subst AreLines (sym (warnings-cons tree prefix places l lines))
-      (AreLines-append (warning tree prefix places l) (warnings tree prefix after lines) (AreLines-warning places l) (AreLines-warnings lines after))
+  unfolding warnings
+  AreLines-warnings lines places = AreLines-each _ (enumerate_from 0 lines) (λ x. AreLines-warning (input_after tree prefix places (take x.0 lines)) x.1)
 
   -- and so is what a reading warns of
   pub AreLines-reading : (lines : List Line) (places : UserInput) → AreLines (reading tree prefix places lines).warned
   unfolding reading
   AreLines-reading lines places = AreLines-warnings (before_too_long lines) places
 
+  -- no line warns of nothing
+  warned-none : (places : UserInput) → (reading tree prefix places []).warned ≡ []
+  unfolding reading warnings
+  warned-none places = refl
+
   -- a line that is too long, behind the others, warns of nothing
   warned-long_end : (lines : List Line) (places : UserInput) (l : Line) → is_within l ≡ false → (reading tree prefix places (lines ++ l ∷ [])).warned ≡ (reading tree prefix places lines).warned
-  warned-long_end [] places l long =
-      ap (λ (r : ReadResult). r.warned) (reading_long tree prefix places l [] long) ∙ sym (ap (λ (r : ReadResult). r.warned) (reading-nothing tree prefix places))
-  warned-long_end (m ∷ lines) places l long = elim (cases_Bool (is_within m)) [
-    | inl e ↦
-        let after = input_after tree prefix places (m ∷ []) in
-        ap (λ (r : ReadResult). r.warned) (reading_within tree prefix places m (lines ++ l ∷ []) e)
-        ∙ ap (λ w. warning tree prefix places m ++ w) (warned-long_end lines after l long)
-        ∙ sym (ap (λ (r : ReadResult). r.warned) (reading_within tree prefix places m lines e))
-    | inr e ↦
-        ap (λ (r : ReadResult). r.warned) (reading_long tree prefix places m (lines ++ l ∷ []) e)
-        ∙ sym (ap (λ (r : ReadResult). r.warned) (reading_long tree prefix places m lines e))
-  ]
+  unfolding reading
+  warned-long_end lines places l long = ap (warnings tree prefix places) (counted-long_end lines l long)
+
+-- ---- the lines of bytes
+
+-- there is a first part
+first_part : (bytes : List ℕ) → (part : List ℕ) × (parts : List (List ℕ)) × (slice_split is_line_feed bytes ≡ part ∷ parts)
+first_part [] = ([], [], refl)
+first_part (b ∷ bytes) = elim (cases_Bool (is_line_feed b)) [
+  | inl e ↦ ([], slice_split is_line_feed bytes, slice_split-cons_yes is_line_feed b bytes e)
+  | inr e ↦
+      let (part, parts, is) = first_part bytes in
+      (b ∷ part, parts, slice_split-cons_no is_line_feed b bytes e ∙ ap (onto_first b) is)
+]
+
+-- a line feed ends the line, and the next line follows
+lines_from-lf : (stream : List ℕ) (n : ℕ) (bytes : List ℕ) (b : ℕ) (rest : List ℕ) → HoldsNoLineFeed bytes → is_line_feed b ≡ true →
+    lines_from stream n (bytes ++ b ∷ rest) ≡ line stream n bytes true ∷ lines_from stream (one_more n) rest
+unfolding lines_from
+lines_from-lf stream n bytes b rest one ends =
+    let (part, parts, is) = first_part rest in
+    rw (slice_split_at is_line_feed bytes b rest one ends, is) refl
+
+-- without one the bytes are the last line
+lines_from-last : (stream : List ℕ) (n : ℕ) (bytes : List ℕ) → HoldsNoLineFeed bytes → lines_from stream n bytes ≡ last_line stream n bytes
+unfolding lines_from
+lines_from-last stream n bytes one = rw (slice_split_none is_line_feed bytes one) refl
 
 -- ---- the lines that have ended
 
 -- so many bytes that hold no line feed
-tail_of : (n : ℕ) → (tail : List ℕ) × HasNoLf tail × (length tail ≡ n)
+tail_of : (n : ℕ) → (tail : List ℕ) × HoldsNoLineFeed tail × (length tail ≡ n)
 tail_of zero = ([], All-nil (λ b. is_line_feed b ≡ false), refl)
 tail_of (suc n) =
     let (tail, one, long) = tail_of n in
@@ -116,9 +147,9 @@ last_some name n (b ∷ bytes) some =
     let e : (length (b ∷ bytes) == 0) ≡ false = grind arith in
     ap (λ t. if t then [] else line name n (b ∷ bytes) false ∷ []) e
 
-module _ (name tail : List ℕ) (one : HasNoLf tail) (some : 0 < length tail) where
+module _ (name tail : List ℕ) (one : HoldsNoLineFeed tail) (some : 0 < length tail) where
   -- behind bytes the lines that have ended are followed by one line, which ends with the tail
-  ended_before : (bytes front : List ℕ) (n : ℕ) → HasNoLf front →
+  ended_before : (bytes front : List ℕ) (n : ℕ) → HoldsNoLineFeed front →
       (l : Line) × (lines_from name n ((front ++ bytes) ++ tail) ≡ filter (λ (m : Line). m.ended) (lines_from name n (front ++ bytes)) ++ l ∷ []) × (length tail ≤ length l.bytes)
   ended_before [] front n waits =
       let whole : lines_from name n ((front ++ []) ++ tail) ≡ line name n (front ++ tail) false ∷ [] =
@@ -140,7 +171,7 @@ module _ (name tail : List ℕ) (one : HasNoLf tail) (some : 0 < length tail) wh
         ap (filter (λ (m : Line). m.ended)) (lines_from-lf name n front b bytes waits e) in
         (l, whole ∙ ap (λ ls. line name n front true ∷ ls) is ∙ ap (λ ls. ls ++ l ∷ []) (sym part), most)
     | inr e ↦
-        let more : HasNoLf (front ++ b ∷ []) =
+        let more : HoldsNoLineFeed (front ++ b ∷ []) =
         All-append (λ x. is_line_feed x ≡ false) front (b ∷ []) waits (All-cons (λ x. is_line_feed x ≡ false) b [] e (All-nil (λ x. is_line_feed x ≡ false))) in
         let (l, is, most) = ended_before bytes (front ++ b ∷ []) n more in
         let same : (front ++ b ∷ []) ++ bytes ≡ front ++ b ∷ bytes = append_assoc front (b ∷ []) bytes in (
@@ -152,7 +183,7 @@ module _ (name tail : List ℕ) (one : HasNoLf tail) (some : 0 < length tail) wh
 
 module _ (tree : TreeFacts) (prefix name : List ℕ) where
   -- what was told of these bytes is what their lines warn of that have ended
-  pub warned-ended : (bytes : List ℕ) (new : StreamPosition) (before after : UserInput) (warned : List ℕ) → HasNoLf new.pending →
+  pub warned-ended : (bytes : List ℕ) (new : StreamPosition) (before after : UserInput) (warned : List ℕ) → HoldsNoLineFeed new.pending →
       ReadsPiece tree prefix name bytes stream_start new before after warned → warned ≡ (reading tree prefix before (ended_lines name bytes)).warned
   warned-ended bytes new before after warned one goes =
       let (tail, none, long) = tail_of 65536 in
@@ -169,10 +200,10 @@ module _ (tree : TreeFacts) (prefix name : List ℕ) where
       ∙ last_some name new.number (new.pending ++ tail) (omega (arith, long, length-append new.pending tail)) in
       let right : warned ++ (reading tree prefix after (lines_from name new.number (new.pending ++ tail) ++ [])).warned ≡ warned =
       ap (λ ls. warned ++ (reading tree prefix after ls).warned) lines
-      ∙ ap (λ (r : ReadResult). warned ++ r.warned) (reading_long tree prefix after last [] last_long) ∙ append-nil warned in
+      ∙ ap (λ w. warned ++ w) (warned-long_end tree prefix [] after last last_long ∙ warned-none tree prefix after) ∙ append-nil warned in
       sym right ∙ sym (ap (λ (r : ReadResult). r.warned) (goes tail [])) ∙ left
 
-  pub AreLines-piece : (bytes : List ℕ) (new : StreamPosition) (before after : UserInput) (warned : List ℕ) → HasNoLf new.pending →
+  pub AreLines-piece : (bytes : List ℕ) (new : StreamPosition) (before after : UserInput) (warned : List ℕ) → HoldsNoLineFeed new.pending →
       ReadsPiece tree prefix name bytes stream_start new before after warned → AreLines warned
   AreLines-piece bytes new before after warned one goes =
       subst AreLines (sym (warned-ended bytes new before after warned one goes)) (AreLines-reading tree prefix (ended_lines name bytes) before)
@@ -204,18 +235,32 @@ short_lines : (a b : List ℕ) (n : ℕ) (bytes : List ℕ) → AreShort (lines_
 unfolding lines_from
 short_lines a b n bytes = short_parts a b n (slice_split is_line_feed bytes)
 
+-- where no line is found that is too long, none is
+short-none_found : (lines : List Line) → option_map stream_location (find (λ l. not (is_within l)) lines) ≡ None → AreShort lines
+short-none_found [] none = tt
+short-none_found (l ∷ lines) none = by (is_within l) refl (short-none_found lines)
+  where
+    by : (b : Bool) → is_within l ≡ b → (option_map stream_location (find (λ m. not (is_within m)) lines) ≡ None → AreShort lines) → AreShort (l ∷ lines)
+    by true e others = (e, others (rw e at none))
+    by false e others = absurd (let stops : Some (stream_location l) ≡ None = rw e at none in cc)
+
 module _ (tree : TreeFacts) (prefix : List ℕ) where
   -- a reading that does not stop met no line that is too long
   short-unstopped : (lines : List Line) (places : UserInput) → (reading tree prefix places lines).stopped ≡ None → AreShort lines
-  short-unstopped [] places none = tt
-  short-unstopped (l ∷ lines) places none = elim (cases_Bool (is_within l)) [
-    | inl e ↦
-        (e, short-unstopped lines (input_after tree prefix places (l ∷ [])) (sym (ap (λ (r : ReadResult). r.stopped) (reading_within tree prefix places l lines e)) ∙ none))
-    | inr e ↦ absurd (let stops = sym (ap (λ (r : ReadResult). r.stopped) (reading_long tree prefix places l lines e)) ∙ none in cc)
-  ]
+  unfolding reading
+  short-unstopped lines places = short-none_found lines
+
+  -- no line stops nothing, nor does one that is not too long
+  unstopped-none : (places : UserInput) → (reading tree prefix places []).stopped ≡ None
+  unfolding reading
+  unstopped-none places = refl
+
+  unstopped-one : (places : UserInput) (l : Line) → is_within l ≡ true → (reading tree prefix places (l ∷ [])).stopped ≡ None
+  unfolding reading
+  unstopped-one places l short = rw short refl
 
   -- a line that waits, and is not too long, stops nothing
-  unstopped-last : (name : List ℕ) (n : ℕ) (pending : List ℕ) (places : UserInput) → HasNoLf pending → length pending ≤ 65535 →
+  unstopped-last : (name : List ℕ) (n : ℕ) (pending : List ℕ) (places : UserInput) → HoldsNoLineFeed pending → length pending ≤ 65535 →
       (reading tree prefix places (lines_from name n (pending ++ []) ++ [])).stopped ≡ None
   unstopped-last name n pending places one few =
       ap (λ ls. (reading tree prefix places ls).stopped)
@@ -223,14 +268,11 @@ module _ (tree : TreeFacts) (prefix : List ℕ) where
       ∙ by (length pending == 0)
     where
       by : (e : Bool) → (reading tree prefix places (if e then [] else line name n pending false ∷ [])).stopped ≡ None
-      by true = ap (λ (r : ReadResult). r.stopped) (reading-nothing tree prefix places)
-      by false =
-          let l = line name n pending false in
-          ap (λ (r : ReadResult). r.stopped) (reading_within tree prefix places l [] (is_within-line name n pending false few))
-          ∙ ap (λ (r : ReadResult). r.stopped) (reading-nothing tree prefix (input_after tree prefix places (l ∷ [])))
+      by true = unstopped-none places
+      by false = unstopped-one places (line name n pending false) (le-leb (length pending) 65535 few)
 
   -- no line is too long of bytes that were taken and wait
-  pub short-piece : (name bytes : List ℕ) (new : StreamPosition) (before after : UserInput) (warned : List ℕ) → HasNoLf new.pending → length new.pending ≤ 65535 →
+  pub short-piece : (name bytes : List ℕ) (new : StreamPosition) (before after : UserInput) (warned : List ℕ) → HoldsNoLineFeed new.pending → length new.pending ≤ 65535 →
       ReadsPiece tree prefix name bytes stream_start new before after warned → HasShortLines bytes
   short-piece name bytes new before after warned one few goes other =
       let lines : lines_from name 1 (bytes ++ []) ++ [] ≡ lines_from name 1 bytes =
@@ -246,7 +288,7 @@ module _ (tree : TreeFacts) (prefix : List ℕ) where
   short-stream name bytes before after warned reads other =
       let none : (reading tree prefix before (lines_from name 1 bytes)).stopped ≡ None =
       ap (λ ls. (reading tree prefix before ls).stopped) (sym (append-nil (lines_from name 1 bytes))) ∙ ap (λ (r : ReadResult). r.stopped) (reads [])
-      ∙ ap (λ (r : ReadResult). r.stopped) (reading-nothing tree prefix after) in
+      ∙ unstopped-none after in
       AreShort-all (lines_from other 1 bytes) (short_lines name other 1 bytes (short-unstopped (lines_from name 1 bytes) before none))
 
   -- the warnings of lines that were read to their end are whole lines
@@ -254,5 +296,5 @@ module _ (tree : TreeFacts) (prefix : List ℕ) where
       ((more : List Line) → reading tree prefix before (lines ++ more) ≡ with_warnings warned (reading tree prefix after more)) → AreLines warned
   AreLines-reads lines before after warned reads =
       let is : (reading tree prefix before (lines ++ [])).warned ≡ warned =
-      ap (λ (r : ReadResult). r.warned) (reads []) ∙ ap (λ (r : ReadResult). warned ++ r.warned) (reading-nothing tree prefix after) ∙ append-nil warned in
+      ap (λ (r : ReadResult). r.warned) (reads []) ∙ ap (λ w. warned ++ w) (warned-none tree prefix after) ∙ append-nil warned in
       subst AreLines is (AreLines-reading tree prefix (lines ++ []) before)

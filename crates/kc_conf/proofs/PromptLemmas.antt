@@ -1,49 +1,68 @@
 -- Whether a symbol has a prompt, by its definitions.
-use Rattle.std.proofs.Common.{◌≡◌, ◌||◌, ℕ, ◌+◌, ◌≤◌, Bool, false, List, length, Option, Some, None, refl, sym, ◌∙◌, ap}
+use Rattle.std.proofs.Common.{◌≡◌, ◌⊎◌, inl, inr, ◌||◌, ℕ, ◌+◌, ◌<◌, ◌≤◌, Bool, false, List, [], ◌∷◌, drop, get_or, length, Option, Some, None, refl, sym, ◌∙◌, ap, arith}
 use Rattle.std.specs.Prelude.{slice_get, is_some}
-use Rattle.std.specs.Option.{option_map, option_and_then}
+use Rattle.std.specs.Option.{option_and_then}
 use Rattle.std.specs.List.{filter_map, cons_option}
+use Rattle.std.proofs.lemmas.List.{drop_more, drop_all}
+use Rattle.std.proofs.lemmas.Option.{slice_get_cases}
 use Rattle.kc_tree.specs.declared.layout.Layout.{Layout}
-use Rattle.kc_tree.specs.declared.rows.Definition.{Definition}
 use Rattle.kc_tree.specs.declared.rows.DefinitionId.{DefinitionId}
 use Rattle.kc_tree.specs.declared.rows.Symbol.{Symbol}
-use Rattle.kc_tree.specs.Layouts.{DefinitionFacts, definition_at, definition_facts}
+use Rattle.kc_tree.specs.Layouts.{DefinitionFacts, definition_at}
 use Rattle.kc_tree.specs.Spans.{definition_ids}
 use Rattle.kc_tree.specs.TreeFacts.{Condition}
-use Rattle.kc_values.proofs.DefinitionLemmas.{definitions_from, definitions-some, definitions-none, definitions-end}
 use Rattle.kc_conf.specs.Lost.{has_prompt}
 use Rattle.kc_conf.specs.LostView.{is_prompted}
 
 module _ (l : Layout) (s : Symbol) where
-  -- whether one of the definitions from one on has a prompt
+  -- the definitions from one on
+  abbrev definitions_from : ℕ → List DefinitionFacts
+  definitions_from i = filter_map (definition_at l.tables) (drop i (definition_ids s))
+
+  abbrev any_prompt : List DefinitionFacts → Bool
+  any_prompt ds = has_prompt (filter_map (λ (d : DefinitionFacts). d.prompt) ds)
+
+  -- whether one of them has a prompt
   abbrev pub has_from : ℕ → Bool
-  has_from i = has_prompt (filter_map (λ (d : DefinitionFacts). d.prompt) (definitions_from l s i))
+  has_from i = any_prompt (definitions_from i)
 
-  one_more : (p : Option Condition) (r : List Condition) → has_prompt (cons_option p r) ≡ (is_some p || has_prompt r)
-  one_more None r = refl
-  one_more (Some c) r = refl
+  first_prompt : (p : Option Condition) (r : List Condition) → has_prompt (cons_option p r) ≡ (is_some p || has_prompt r)
+  first_prompt None r = refl
+  first_prompt (Some c) r = refl
 
-  abbrev row_at : DefinitionId → Option Definition
-  row_at id = slice_get l.tables.definitions.items id.0
+  one_more : (d : Option DefinitionFacts) (ds : List DefinitionFacts) → any_prompt (cons_option d ds) ≡ (is_prompted d || any_prompt ds)
+  one_more None ds = refl
+  one_more (Some d) ds = first_prompt d.prompt (filter_map (λ (d : DefinitionFacts). d.prompt) ds)
 
-  by_rows : (g : Option DefinitionId) → is_prompted (option_and_then (definition_at l.tables) g) ≡ is_prompted (option_map (definition_facts l.tables) (option_and_then row_at g))
-  by_rows None = refl
-  by_rows (Some id) = refl
+  abbrev Found : ℕ → Type 0
+  Found i =
+      ((id : DefinitionId) × (i < length (definition_ids s)) × (slice_get (definition_ids s) i ≡ Some id) × (get_or (definition_ids s) i id ≡ id))
+      ⊎ ((length (definition_ids s) ≤ i) × (slice_get (definition_ids s) i ≡ None))
 
-  by_row : (i : ℕ) (x : Bool) (o : Option Definition) → o ≡ option_and_then row_at (slice_get (definition_ids s) i) → x ≡ is_prompted (option_map (definition_facts l.tables) o) →
-      has_from i ≡ (x || has_from (i + 1))
-  by_row i x None e h =
-      ap (λ ds. has_prompt (filter_map (λ (d : DefinitionFacts). d.prompt) ds)) (definitions-none l s i e) ∙ ap (λ b. b || has_from (i + 1)) (sym h)
-  by_row i x (Some d) e h =
-      ap (λ ds. has_prompt (filter_map (λ (d : DefinitionFacts). d.prompt) ds)) (definitions-some l s i d e)
-      ∙ one_more (definition_facts l.tables d).prompt (filter_map (λ (d : DefinitionFacts). d.prompt) (definitions_from l s (i + 1)))
-      ∙ ap (λ b. b || has_from (i + 1)) (sym h)
+  past : (i : ℕ) → length (definition_ids s) ≤ i → definitions_from i ≡ []
+  past i h = ap (filter_map (definition_at l.tables)) (drop_all i (definition_ids s) h)
 
   -- one definition, and those behind it
+  next_one : (i : ℕ) → has_from i ≡ (is_prompted (option_and_then (definition_at l.tables) (slice_get (definition_ids s) i)) || has_from (i + 1))
+  next_one i = by (slice_get_cases (definition_ids s) i).1
+    where
+      by : Found i → has_from i ≡ (is_prompted (option_and_then (definition_at l.tables) (slice_get (definition_ids s) i)) || has_from (i + 1))
+      by (inl (id, h, at, g)) =
+          let split : drop i (definition_ids s) ≡ id ∷ drop (i + 1) (definition_ids s) =
+          drop_more (definition_ids s) i id h ∙ ap (λ x. x ∷ drop (i + 1) (definition_ids s)) g in
+          ap (λ ids. any_prompt (filter_map (definition_at l.tables) ids)) split
+          ∙ one_more (definition_at l.tables id) (definitions_from (i + 1))
+          ∙ ap (λ o. is_prompted (option_and_then (definition_at l.tables) o) || has_from (i + 1)) (sym at)
+      by (inr (h, at)) =
+          ap any_prompt (past i h)
+          ∙ sym (ap any_prompt (past (i + 1) (omega (arith, h))))
+          ∙ ap (λ o. is_prompted (option_and_then (definition_at l.tables) o) || has_from (i + 1)) (sym at)
+
   pub prompt_next : (i : ℕ) (id : Option DefinitionId) (x : Bool) → id ≡ slice_get (definition_ids s) i → x ≡ is_prompted (option_and_then (definition_at l.tables) id) →
       has_from i ≡ (x || has_from (i + 1))
   prompt_next i id x e h =
-      by_row i x (option_and_then row_at (slice_get (definition_ids s) i)) refl (h ∙ ap (λ g. is_prompted (option_and_then (definition_at l.tables) g)) e ∙ by_rows (slice_get (definition_ids s) i))
+      next_one i
+      ∙ ap (λ b. b || has_from (i + 1)) (sym (h ∙ ap (λ o. is_prompted (option_and_then (definition_at l.tables) o)) e))
 
   pub prompt_end : (i : ℕ) → length (definition_ids s) ≤ i → has_from i ≡ false
-  prompt_end i h = ap (λ ds. has_prompt (filter_map (λ (d : DefinitionFacts). d.prompt) ds)) (definitions-end l s i h)
+  prompt_end i h = ap any_prompt (past i h)

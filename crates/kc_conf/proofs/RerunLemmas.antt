@@ -1,5 +1,5 @@
 -- What a run's texts give when they are read again.
-use Rattle.std.proofs.Common.{◌≡◌, ℕ, ◌<◌, true, false, List, [], ◌∷◌, length, Option, Some, None, refl, ap, sym, ◌∙◌, subst, map}
+use Rattle.std.proofs.Common.{◌≡◌, ℕ, ◌<◌, true, false, List, [], ◌∷◌, ◌++◌, length, Option, Some, None, refl, ap, sym, ◌∙◌, subst, map}
 use Rattle.std.specs.Prelude.{◌&&◌, not, string_bytes, slice_index_or}
 use Rattle.kc_expr.specs.Value.{SymbolValue, TextValue}
 use Rattle.kc_expr.specs.declared.expression.Kind.TheVariants.{Undefined}
@@ -13,20 +13,18 @@ use Rattle.kc_order.specs.Solution.{Solves}
 use Rattle.kc_values.specs.Solution.{equations, symbol_count}
 use Rattle.kc_solve.specs.Solved.{Solution, value_of}
 use Rattle.kc_dot.specs.Laws.{HasShortLines}
-use Rattle.kc_dot.specs.WrittenLaws.{ConfigIsIdempotent, IsSolutionOf, MinimalHasNothingToSpare, MinimalRestores, WrittenTextsAreShort}
+use Rattle.kc_dot.specs.WrittenLaws.{ConfigIsIdempotent, ConfigIsOfValues, IsSolutionOf, MinimalHasNothingToSpare, MinimalRestores, WrittenTextsAreShort}
 use Rattle.kc_dot.specs.Reading.{ReadResult, reading, reading_of}
 use Rattle.kc_dot.specs.Reread.{IsOneSolution, read_alone, valuation_view}
 use Rattle.kc_dot.specs.SolvedView.{solution_view}
 use Rattle.kc_dot.specs.Streams.{StreamsLeavePlaces}
 use Rattle.kc_dot.specs.Texts.{config_text, minimal_text}
 use Rattle.kc_dot.specs.Prefixes.{is_prefix}
-use Rattle.kc_dot.proofs.EntryLemmas.{config_text-same}
-use Rattle.kc_dot.proofs.SolutionLemmas.{solution_of}
 use Rattle.kc_conf.specs.declared.options.Options.{Options}
+use Rattle.kc_conf.specs.Asked.{lead}
 use Rattle.kc_conf.specs.Outcome.{IsAcceptedTree, IsLenientOutcome, IsOutcomeOfReading, IsRefusedTree, IsSolutionFor, OneAnswer, Outcome, accepted_tree, lines_text, long_line, names_of, noted, read_of, refused_name, refused_tree, root_file, streams, strictly, text_if, unreadable_name, whole, with_rule, fresh_input, refused_if, warned_files}
-use Rattle.kc_conf.proofs.OutcomeLemmas.{strictly-config, strictly-minimal, strictly-off, config_kept, minimal_kept}
+use Rattle.kc_conf.proofs.OutcomeLemmas.{strictly-config, strictly-minimal, strictly-off, config_kept, minimal_kept, rule-config, rule-minimal, text_if-same, text_if_is}
 use Rattle.kc_conf.specs.Taken.{is_taken, refuses_input}
-use Rattle.kc_conf.proofs.RuleLemmas.{rule-config, rule-minimal}
 use Rattle.kc_conf.specs.Reruns.{AreAlone, ConfigIsReadAgain, OutcomesAreReadAgain, RefusesNothing, MinimalIsReadAgain, MinimalIsRunAgain, TextsHaveShortLines, WrittenAreWhole}
 
 -- ---- what is written is of a whole run
@@ -45,11 +43,11 @@ rest_whole files options all tree rest outcome text accepted (whole solution non
     let read = read_of options tree all in
     let files_too = warned_files options tree read.input solution in
     let whole_is = from ∙ ap (noted (lines_text tree.warnings)) is in
-    let kept = config_kept (refuses_input options read.input solution) files_too text (sym (ap (λ (o : Outcome). o.config) whole_is) ∙ there) in (
+    let kept = config_kept options (refuses_input options read.input solution) files_too text (sym (ap (λ (o : Outcome). o.config) whole_is) ∙ there) in (
       tree,
       solution,
       record { accepted = accepted; read_whole = none; solution_is = solves },
-      whole_is ∙ ap (λ b. noted (lines_text tree.warnings) (noted read.warned (refused_if b files_too))) kept,
+      whole_is ∙ ap (λ b. noted (lines_text tree.warnings) (noted read.warned (refused_if options b files_too))) kept,
       kept,
     )
 
@@ -64,20 +62,13 @@ lenient_whole files options opened all outcome text (accepted_tree tree accepted
 
 pub written_whole : WrittenAreWhole
 written_whole files options all outcome text (lenient, opened, is_lenient, are, is) there =
-    let part : Outcome = strictly options.strict_tree lenient in
+    let part : Outcome = strictly options lenient in
     let has : part.config ≡ Some text = sym (rule-config options opened part) ∙ sym (ap (λ (o : Outcome). o.config) is) ∙ there in
-    let same : part ≡ lenient = strictly-config options.strict_tree lenient part text refl has in
+    let same : part ≡ lenient = strictly-config options lenient part text refl has in
     let (tree, solution, is_whole, values, kept) = lenient_whole files options opened all lenient text is_lenient (sym (ap (λ (o : Outcome). o.config) same) ∙ has) in
     (tree, solution, is_whole, (opened, are, is ∙ ap (with_rule options opened) (same ∙ values)), kept)
 
 -- ---- the texts read again
-
-some_is : (text found : List ℕ) → Some text ≡ Some found → text ≡ found
-some_is text found e = cc
-
-text_if_is : {T : Type 0} → (o : Option T) (text found : List ℕ) → text_if o text ≡ Some found → text ≡ found
-text_if_is None text found e = cc
-text_if_is (Some x) text found e = cc
 
 module _ (formed : TreesAreWellFormed) (leaves : StreamsLeavePlaces) (files : Files) (options : Options) (all : List (List ℕ)) (tree : TreeFacts)
     (solution : Solution) (is : RefusesNothing files options all tree solution) where
@@ -88,8 +79,12 @@ module _ (formed : TreesAreWellFormed) (leaves : StreamsLeavePlaces) (files : Fi
   whole_solution =
       let well = formed files (root_file options) tree is.accepted.built in
       let held : ArePlaces tree read_places = leaves tree options.prefix options.warn_lost (streams (names_of options) all) well in
-      solution_of solution tree is.solution_is.tree_is well (rw is.solution_is.tree_is is.accepted.accepted) is.solution_is.solves
-      (subst (ArePlaces tree) (sym is.solution_is.places_are) held)
+      record {
+        formed = well;
+        accepted = is.accepted.accepted;
+        held = subst (ArePlaces tree) (sym is.solution_is.places_are) held;
+        solves = subst (λ (t : TreeFacts). Solves (symbol_count t) (equations t (place_at solution.places)) (value_of solution)) is.solution_is.tree_is is.solution_is.solves.solves;
+      }
 
 pub minimal_read_again : TreesAreWellFormed → StreamsLeavePlaces → MinimalRestores → MinimalHasNothingToSpare → MinimalIsReadAgain
 minimal_read_again formed leaves restores spare files options all tree solution is_pre is =
@@ -115,7 +110,7 @@ outcomes_read_again written minimals configs shorts files options all outcome co
     ap (λ (f : TreeFacts). valuation_view f (place_at solution.places) (value_of solution)) (sym is.solution_is.tree_is) in
     let short = shorts files options all tree solution is_pre is in
     let config_is : config ≡ config_text tree options.prefix (valuation_view tree (place_at solution.places) (value_of solution)) =
-    sym (some_is _ config (sym (ap (λ (o : Outcome). o.config) from ∙ rule-config options opened part) ∙ there)) ∙ ap (config_text tree options.prefix) (sym view) in (
+    sym (text_if_is options.out _ config (sym (ap (λ (o : Outcome). o.config) from ∙ rule-config options opened part) ∙ there)) ∙ ap (config_text tree options.prefix) (sym view) in (
       tree,
       solution,
       is,
@@ -134,20 +129,13 @@ outcomes_read_again written minimals configs shorts files options all outcome co
 
 -- ---- a run on the minimal file alone
 
--- the .config asks nothing of the places
-text_same : (tree : TreeFacts) (prefix : List ℕ) (user other : UserPlace → Option GivenValue) (V : ℕ → SymbolValue) →
-    config_text tree prefix (valuation_view tree user V) ≡ config_text tree prefix (valuation_view tree other V)
-text_same tree prefix user other V =
-    let view = valuation_view tree user V in
-    config_text-same tree prefix view.value view.written view.differs (valuation_view tree other V).differs view.truth
-
 abbrev valued : List SymbolValue → ℕ → SymbolValue
 valued values i = slice_index_or values i (TextValue Undefined [])
 
 -- solutions with the same values have the same .config
-config_same : (tree : TreeFacts) (prefix : List ℕ) (s t : Solution) → s.tree ≡ tree → t.tree ≡ tree → s.values ≡ t.values →
+config_same : ConfigIsOfValues → (tree : TreeFacts) (prefix : List ℕ) (s t : Solution) → s.tree ≡ tree → t.tree ≡ tree → s.values ≡ t.values →
     config_text tree prefix (solution_view s) ≡ config_text tree prefix (solution_view t)
-config_same tree prefix s t a b values =
+config_same text_same tree prefix s t a b values =
     ap (λ (f : TreeFacts). config_text tree prefix (valuation_view f (place_at s.places) (value_of s))) a
     ∙ text_same tree prefix (place_at s.places) (place_at t.places) (value_of s)
     ∙ ap (λ vs. config_text tree prefix (valuation_view tree (place_at t.places) (valued vs))) values
@@ -168,11 +156,11 @@ minimal_whole files options opened all outcome text (accepted_tree tree accepted
         let read = read_of options tree all in
         let files_too = warned_files options tree read.input solution in
         let whole_is = from ∙ ap (noted (lines_text tree.warnings)) is in
-        let kept = minimal_kept (refuses_input options read.input solution) files_too text (sym (ap (λ (o : Outcome). o.minimal) whole_is) ∙ there) in (
+        let kept = minimal_kept options (refuses_input options read.input solution) files_too text (sym (ap (λ (o : Outcome). o.minimal) whole_is) ∙ there) in (
           tree,
           solution,
           record { accepted = accepted; read_whole = none; solution_is = solves },
-          whole_is ∙ ap (λ b. noted (lines_text tree.warnings) (noted read.warned (refused_if b files_too))) kept,
+          whole_is ∙ ap (λ b. noted (lines_text tree.warnings) (noted read.warned (refused_if options b files_too))) kept,
           kept,
         )
 
@@ -191,7 +179,7 @@ values_same tree places s t same count one is =
     subst (λ (p : Places). Solves (symbol_count tree) (equations tree (place_at p)) (value_of t)) is.places_are first in
     ext_get_or (TextValue Undefined []) t.values s.values counts (λ i lt. one.only (value_of t) solves i (subst (λ n. i < n) (is.solves.count ∙ ap symbol_count is.tree_is) lt))
 
-module _ (answer : OneAnswer) (again : MinimalIsReadAgain) (files : Files) (options alone : Options) (all : List (List ℕ)) (text : List ℕ)
+module _ (text_same : ConfigIsOfValues) (answer : OneAnswer) (again : MinimalIsReadAgain) (files : Files) (options alone : Options) (all : List (List ℕ)) (text : List ℕ)
     (is_pre : is_prefix options.prefix ≡ true) (same : AreAlone options alone) (lets_pass : alone.strict ≡ false) where
   module _ (tree : TreeFacts) (solution : Solution) (is : RefusesNothing files options all tree solution) (text_is : minimal_text tree options.prefix (solution_view solution) ≡ text) where
     abbrev name : List ℕ
@@ -209,7 +197,7 @@ module _ (answer : OneAnswer) (again : MinimalIsReadAgain) (files : Files) (opti
 
     alone_streams : streams (names_of alone) (text ∷ []) ≡ record { name = name; bytes = text } ∷ []
     alone_streams =
-        ap (λ ss. record { name = name; bytes = text } ∷ ss) (no_more_streams (map string_bytes alone.fragments.items) (ap (map string_bytes) same.no_fragments))
+        ap (λ ss. record { name = name; bytes = text } ∷ ss) (no_more_streams (map (λ name. lead alone ++ string_bytes name) alone.fragments.items) (ap (map (λ name. lead alone ++ string_bytes name)) same.no_fragments))
 
     reads_text : (read_of alone tree (text ∷ [])).stopped ≡ read.stopped
     unfolding reading
@@ -223,7 +211,7 @@ module _ (answer : OneAnswer) (again : MinimalIsReadAgain) (files : Files) (opti
         ap (λ p. (reading_of tree p (fresh_input alone tree) (streams (names_of alone) (text ∷ []))).input.places) same.prefix
         ∙ ap (λ ss. (reading_of tree options.prefix (fresh_input alone tree) ss).input.places) alone_streams
 
-    of_reading : (rest : Outcome) → IsOutcomeOfReading alone tree (read_of alone tree (text ∷ [])) rest → rest.config ≡ Some (config_text tree options.prefix (solution_view solution))
+    of_reading : (rest : Outcome) → IsOutcomeOfReading alone tree (read_of alone tree (text ∷ [])) rest → rest.config ≡ text_if alone.out (config_text tree options.prefix (solution_view solution))
     of_reading rest (long_line stop stopped was) =
         absurd (let e : Some stop ≡ None = sym stopped ∙ reads_text ∙ restored.0 in cc)
     of_reading rest (whole other none solves was) =
@@ -232,12 +220,12 @@ module _ (answer : OneAnswer) (again : MinimalIsReadAgain) (files : Files) (opti
         let input = (read_of alone tree (text ∷ [])).input in
         let passes : refuses_input alone input other ≡ false = ap (λ b. b && not (is_taken alone input other)) lets_pass in
         ap (λ (o : Outcome). o.config) was
-        ∙ ap (λ b. (refused_if b (warned_files alone tree input other)).config) passes
-        ∙ ap (λ p. Some (config_text tree p (solution_view other))) same.prefix
-        ∙ ap Some (config_same tree options.prefix other solution for.tree_is is.solution_is.tree_is values)
+        ∙ ap (λ b. (refused_if alone b (warned_files alone tree input other)).config) passes
+        ∙ ap (λ p. text_if alone.out (config_text tree p (solution_view other))) same.prefix
+        ∙ ap (text_if alone.out) (config_same text_same tree options.prefix other solution for.tree_is is.solution_is.tree_is values)
 
     of_outcome : (opened : List (List ℕ)) (later : Outcome) → unreadable_name alone opened ≡ None → IsLenientOutcome files alone opened (text ∷ []) later →
-        later.config ≡ Some (config_text tree options.prefix (solution_view solution))
+        later.config ≡ text_if alone.out (config_text tree options.prefix (solution_view solution))
     of_outcome opened later read_all (refused_tree r why was) =
         absurd (answer.not_both files (root_file options) r tree (subst (λ root. IsRefusedTree files root r) same.root why) is.accepted)
     of_outcome opened later read_all (refused_name other name accepted unread was) = absurd (let e : Some name ≡ None = sym unread ∙ read_all in cc)
@@ -246,14 +234,15 @@ module _ (answer : OneAnswer) (again : MinimalIsReadAgain) (files : Files) (opti
         let part' : IsOutcomeOfReading alone tree (read_of alone tree (text ∷ [])) rest = subst (λ t. IsOutcomeOfReading alone t (read_of alone t (text ∷ [])) rest) trees part in
         ap (λ (o : Outcome). o.config) was ∙ of_reading rest part'
 
-pub minimal_run_again : OneAnswer → MinimalIsReadAgain → MinimalIsRunAgain
-minimal_run_again answer again files options alone all outcome later text is_pre same lets_pass tree_passes read_all (lenient, opened, is_lenient, are, is_outcome) there (later_lenient, others, second, are_too, was) =
-    let part : Outcome = strictly options.strict_tree lenient in
+pub minimal_run_again : ConfigIsOfValues → OneAnswer → MinimalIsReadAgain → MinimalIsRunAgain
+minimal_run_again text_same answer again files options alone all outcome later text is_pre same lets_pass tree_passes read_all (lenient, opened, is_lenient, are, is_outcome) there (later_lenient, others, second, are_too, was) =
+    let part : Outcome = strictly options lenient in
     let has : part.minimal ≡ Some text = sym (rule-minimal options opened part) ∙ sym (ap (λ (o : Outcome). o.minimal) is_outcome) ∙ there in
-    let unchanged : part ≡ lenient = strictly-minimal options.strict_tree lenient part text refl has in
+    let unchanged : part ≡ lenient = strictly-minimal options lenient part text refl has in
     let has_too : lenient.minimal ≡ Some text = sym (ap (λ (o : Outcome). o.minimal) unchanged) ∙ has in
     let (tree, solution, is, from, kept) = minimal_whole files options opened all lenient text is_lenient has_too in
     let text_is : minimal_text tree options.prefix (solution_view solution) ≡ text = text_if_is options.minimal _ text (sym (ap (λ (o : Outcome). o.minimal) from) ∙ has_too) in
-    ap (λ (o : Outcome). o.config) was ∙ rule-config alone others (strictly alone.strict_tree later_lenient) ∙ ap (λ (o : Outcome). o.config) (strictly-off alone.strict_tree later_lenient tree_passes)
-    ∙ of_outcome answer again files options alone all text is_pre same lets_pass tree solution is text_is others later_lenient (read_all others are_too) second
+    ap (λ (o : Outcome). o.config) was ∙ rule-config alone others (strictly alone later_lenient) ∙ ap (λ (o : Outcome). o.config) (strictly-off alone later_lenient tree_passes)
+    ∙ of_outcome text_same answer again files options alone all text is_pre same lets_pass tree solution is text_is others later_lenient (read_all others are_too) second
+    ∙ text_if-same alone.out options.out (config_text tree options.prefix (solution_view solution)) same.out
     ∙ sym (ap (λ (o : Outcome). o.config) is_outcome ∙ rule-config options opened part ∙ ap (λ (o : Outcome). o.config) (unchanged ∙ from))

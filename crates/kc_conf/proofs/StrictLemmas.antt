@@ -16,19 +16,19 @@ use Rattle.kc_values.specs.Lookups.{facts}
 use Rattle.kc_solve.specs.Solved.{Solution, known, warnings}
 use Rattle.kc_dot.specs.Changes.{StreamLocation, is_change}
 use Rattle.kc_dot.specs.Effects.{Effect, Silent, Warns, Assigns}
-use Rattle.kc_dot.specs.Reading.{Line, UserInput, assignments, effect, input_after, lines_of, places_after, stream_location, untaken, untaken_line}
+use Rattle.kc_dot.specs.Reading.{Line, UserInput, effect, input_after, lines_of, places_after, stream_location, untaken, untaken_line}
 use Rattle.kc_dot.specs.Reading.{is_taken as is_taken_by}
+use Rattle.kc_dot.specs.ReadingLaws.{LinesGiveInTurn, LinesInTurn}
 use Rattle.kc_dot.specs.SolvedView.{solution_view}
 use Rattle.kc_dot.specs.Texts.{config_text}
-use Rattle.kc_dot.proofs.PlaceLemmas.{ArePlacesOf-given, places_given-one}
-use Rattle.kc_dot.proofs.ReadingLemmas.{input_after-append, input_after-nothing, lines_after-length, untaken-append, untaken-cons}
 use Rattle.kc_conf.specs.declared.options.Options.{Options}
 use Rattle.kc_conf.specs.Lost.{has_prompt, lost_lines}
+use Rattle.kc_conf.proofs.OutcomeLemmas.{text_if_is}
 use Rattle.kc_conf.specs.Outcome.{Outcome, fresh_input, names_of, read_of, streams}
 use Rattle.kc_conf.specs.Reruns.{RefusesNothing, WrittenAreWhole}
 use Rattle.kc_conf.specs.Strict.{IsTakenAsWritten, StrictTakesAll}
 use Rattle.kc_conf.specs.Taken.{is_outside, is_taken, lost_warnings, refuses_input}
-use Rattle.kc_conf.proofs.AccountedLemmas.{given_is, input_is, lost_if, no_line, number_of, places_are, same_symbol, step}
+use Rattle.kc_conf.proofs.AccountedLemmas.{given_is, input_is, lost_if, line_in, no_line, number_of, places_are, same_symbol, value_in}
 
 -- ---- lists and truths
 
@@ -62,28 +62,17 @@ not_is_true false e = refl
 
 -- ---- lines
 
-module _ (tree : TreeFacts) (prefix : List ℕ) (asked : Bool) where
+module _ (tree : TreeFacts) (prefix : List ℕ) where
   -- each line was taken, given what was given before it
   abbrev pub AllTaken : UserInput → List Line → Type 0
   AllTaken p lines = untaken tree prefix p.places lines ≡ []
 
-  taken_here : (p : UserInput) (l : Line) (later : List Line) (e : Effect) → effect tree prefix l ≡ e → AllTaken p (l ∷ later) → is_taken_by p.places e ≡ true
-  unfolding untaken_line
-  taken_here p l later e is none = by (is_taken_by p.places e) refl
-    where
-      line_is : untaken_line tree prefix p.places l ≡ []
-      line_is = first_nothing (untaken_line tree prefix p.places l) (untaken tree prefix (places_after tree prefix p.places (l ∷ [])) later) (sym (untaken-cons tree prefix p.places l later) ∙ none)
+  module _ (s : SymId) (given : GivenValue) where
+    -- each of these lines that gives the symbol a value gives it this one
+    abbrev GiveThis : List Line → Type 0
+    GiveThis lines = (m : Line) (other : GivenValue) → Contains lines m → effect tree prefix m ≡ Assigns s other → other ≡ given
 
-      by : (b : Bool) → is_taken_by p.places e ≡ b → is_taken_by p.places e ≡ true
-      by true t = t
-      by false t =
-          let listed : untaken_line tree prefix p.places l ≡ l ∷ [] = ap (λ x. if is_taken_by p.places x then [] else l ∷ []) is ∙ ap (λ b. if b then [] else l ∷ []) t in
-          absurd (let clash : l ∷ [] ≡ [] = sym listed ∙ line_is in cc)
-
-  taken_later : (p : UserInput) (l : Line) (later : List Line) → AllTaken p (l ∷ later) → AllTaken (input_after tree prefix p (l ∷ [])) later
-  taken_later p l later none =
-      second_nothing (untaken_line tree prefix p.places l) (untaken tree prefix (places_after tree prefix p.places (l ∷ [])) later) (sym (untaken-cons tree prefix p.places l later) ∙ none)
-
+module _ (asked : Bool) where
   -- the symbol has this value, which some line gave where the lines are kept
   abbrev Keeps : UserInput → SymId → GivenValue → Type 0
   Keeps p s given = (place_at p.places (SymbolPlace s.0) ≡ Some given) × (asked ≡ true → (at : StreamLocation) × (slice_index_or p.lines s.0 None ≡ Some at))
@@ -92,45 +81,61 @@ module _ (tree : TreeFacts) (prefix : List ℕ) (asked : Bool) where
   abbrev Fits : UserInput → SymId → Type 0
   Fits p s = (s.0 < length p.places.symbols) × (asked ≡ true → s.0 < length p.lines)
 
-  assigned_keeps : (p : UserInput) (l : Line) (s : SymId) (given : GivenValue) → effect tree prefix l ≡ Assigns s given → Fits p s → Keeps (input_after tree prefix p (l ∷ [])) s given
-  assigned_keeps p l s given is fits =
-      let here = step tree prefix p l (Assigns s given) is in (
-        ap (λ (q : UserInput). place_at q.places (SymbolPlace s.0)) here ∙ ap (λ (q : Places). place_at q (SymbolPlace s.0)) (places_given-one tree p.places s given)
-            ∙ get_or-set_same p.places.symbols s.0 (Some given) None fits.0,
-        λ on. (stream_location l, ap (λ (q : UserInput). slice_index_or q.lines s.0 None) here ∙ get_or-set_same p.lines s.0 (Some (stream_location l)) None (fits.1 on)),
-      )
+module _ (tree : TreeFacts) (prefix : List ℕ) (turn : LinesInTurn tree prefix) (asked : Bool) where
+  untaken-cons : (p : UserInput) (l : Line) (later : List Line) →
+      untaken tree prefix p.places (l ∷ later) ≡ untaken_line tree prefix p.places l ++ untaken tree prefix (places_after tree prefix p.places (l ∷ [])) later
+  untaken-cons p l later =
+      turn.add_up.are_untaken p.places (l ∷ []) later
+      ∙ ap (λ (ls : List Line). ls ++ untaken tree prefix (places_after tree prefix p.places (l ∷ [])) later) (turn.add_up.one_untaken p.places l)
+
+  taken_here : (p : UserInput) (l : Line) (later : List Line) (e : Effect) → effect tree prefix l ≡ e → AllTaken tree prefix p (l ∷ later) → is_taken_by p.places e ≡ true
+  unfolding untaken_line
+  taken_here p l later e is none = by (is_taken_by p.places e) refl
+    where
+      line_is : untaken_line tree prefix p.places l ≡ []
+      line_is = first_nothing (untaken_line tree prefix p.places l) (untaken tree prefix (places_after tree prefix p.places (l ∷ [])) later) (sym (untaken-cons p l later) ∙ none)
+
+      by : (b : Bool) → is_taken_by p.places e ≡ b → is_taken_by p.places e ≡ true
+      by true t = t
+      by false t =
+          let listed : untaken_line tree prefix p.places l ≡ l ∷ [] = ap (λ x. if is_taken_by p.places x then [] else l ∷ []) is ∙ ap (λ b. if b then [] else l ∷ []) t in
+          absurd (let clash : l ∷ [] ≡ [] = sym listed ∙ line_is in cc)
+
+  taken_later : (p : UserInput) (l : Line) (later : List Line) → AllTaken tree prefix p (l ∷ later) → AllTaken tree prefix (input_after tree prefix p (l ∷ [])) later
+  taken_later p l later none =
+      second_nothing (untaken_line tree prefix p.places l) (untaken tree prefix (places_after tree prefix p.places (l ∷ [])) later) (sym (untaken-cons p l later) ∙ none)
+
+  assigned_keeps : (p : UserInput) (l : Line) (s : SymId) (given : GivenValue) → effect tree prefix l ≡ Assigns s given → Fits asked p s → Keeps asked (input_after tree prefix p (l ∷ [])) s given
+  assigned_keeps p l s given is fits = (
+    ap (value_in s.0) (turn.says.value p l s given is) ∙ get_or-set_same p.places.symbols s.0 (Some given) None fits.0,
+    λ on. (stream_location l, ap (line_in s.0) (turn.says.by_line p l s given is) ∙ get_or-set_same p.lines s.0 (Some (stream_location l)) None (fits.1 on)),
+  )
 
   other_keeps : (p : UserInput) (l : Line) (t : SymId) (other : GivenValue) (s : SymId) (given : GivenValue) → effect tree prefix l ≡ Assigns t other → (s.0 ≡ t.0 → ⊥) →
-      Keeps p s given → Keeps (input_after tree prefix p (l ∷ [])) s given
-  other_keeps p l t other s given is differs keeps =
-      let here = step tree prefix p l (Assigns t other) is in (
-        ap (λ (q : UserInput). place_at q.places (SymbolPlace s.0)) here ∙ ap (λ (q : Places). place_at q (SymbolPlace s.0)) (places_given-one tree p.places t other)
-            ∙ get_or-set_other p.places.symbols t.0 s.0 (Some other) None differs ∙ keeps.0,
-        λ on. let (at, by_line) = keeps.1 on in
-            (at, ap (λ (q : UserInput). slice_index_or q.lines s.0 None) here ∙ get_or-set_other p.lines t.0 s.0 (Some (stream_location l)) None differs ∙ by_line),
-      )
+      Keeps asked p s given → Keeps asked (input_after tree prefix p (l ∷ [])) s given
+  other_keeps p l t other s given is differs keeps = (
+    ap (value_in s.0) (turn.says.value p l t other is) ∙ get_or-set_other p.places.symbols t.0 s.0 (Some other) None differs ∙ keeps.0,
+    λ on. let (at, by_line) = keeps.1 on in
+        (at, ap (line_in s.0) (turn.says.by_line p l t other is) ∙ get_or-set_other p.lines t.0 s.0 (Some (stream_location l)) None differs ∙ by_line),
+  )
 
-  quiet_keeps : (p : UserInput) (l : Line) (s : SymId) (given : GivenValue) → effect tree prefix l ≡ Silent → Keeps p s given → Keeps (input_after tree prefix p (l ∷ [])) s given
+  quiet_keeps : (p : UserInput) (l : Line) (s : SymId) (given : GivenValue) → effect tree prefix l ≡ Silent → Keeps asked p s given → Keeps asked (input_after tree prefix p (l ∷ [])) s given
   quiet_keeps p l s given is keeps =
-      let here = step tree prefix p l Silent is in (
-        ap (λ (q : UserInput). place_at q.places (SymbolPlace s.0)) here ∙ keeps.0,
-        λ on. let (at, by_line) = keeps.1 on in (at, ap (λ (q : UserInput). slice_index_or q.lines s.0 None) here ∙ by_line),
+      let here = turn.says.silent p l is in (
+        ap (λ (q : UserInput). value_in s.0 q.places.symbols) here ∙ keeps.0,
+        λ on. let (at, by_line) = keeps.1 on in (at, ap (λ (q : UserInput). line_in s.0 q.lines) here ∙ by_line),
       )
 
   module _ (s : SymId) (given : GivenValue) where
-    -- each of these lines that gives the symbol a value gives it this one
-    abbrev GiveThis : List Line → Type 0
-    GiveThis lines = (m : Line) (other : GivenValue) → Contains lines m → effect tree prefix m ≡ Assigns s other → other ≡ given
-
-    gives_first : (l : Line) (lines : List Line) → ((other : GivenValue) → effect tree prefix l ≡ Assigns s other → other ≡ given) → GiveThis lines → GiveThis (l ∷ lines)
+    gives_first : (l : Line) (lines : List Line) → ((other : GivenValue) → effect tree prefix l ≡ Assigns s other → other ≡ given) → GiveThis tree prefix s given lines → GiveThis tree prefix s given (l ∷ lines)
     gives_first l lines first rest m other (zero, within, at) sets = first other (ap (effect tree prefix) at ∙ sets)
     gives_first l lines first rest m other (suc n, within, at) sets = rest m other (n, omega (arith, within), at) sets
 
-    fits_later : (p : UserInput) (l : Line) → ArePlacesOf tree p.places → Fits p s → Fits (input_after tree prefix p (l ∷ [])) s
+    fits_later : (p : UserInput) (l : Line) → ArePlacesOf tree p.places → Fits asked p s → Fits asked (input_after tree prefix p (l ∷ [])) s
     fits_later p l there fits =
-        let next = ArePlacesOf-given tree p.places (assignments tree prefix (l ∷ [])) there in (
+        let next = turn.counts.places p (l ∷ []) there in (
           subst (λ n. s.0 < n) (there.symbols ∙ sym next.symbols) fits.0,
-          λ on. subst (λ n. s.0 < n) (sym (lines_after-length tree prefix p.lines (l ∷ []))) (fits.1 on),
+          λ on. subst (λ n. s.0 < n) (sym (turn.counts.lines p (l ∷ []))) (fits.1 on),
         )
 
     abbrev given_in : GivenValue → Effect → GivenValue
@@ -142,46 +147,46 @@ module _ (tree : TreeFacts) (prefix : List ℕ) (asked : Bool) where
     same_value g h e = ap (given_in g) e
 
     -- one line that is taken keeps the value, if the later ones do
-    one_keeps : (p : UserInput) (l : Line) (lines : List Line) → AllTaken p (l ∷ lines) → Fits p s → Keeps p s given →
-        (Keeps (input_after tree prefix p (l ∷ [])) s given → GiveThis lines × Keeps (input_after tree prefix (input_after tree prefix p (l ∷ [])) lines) s given) →
-        GiveThis (l ∷ lines) × Keeps (input_after tree prefix p (l ∷ lines)) s given
+    one_keeps : (p : UserInput) (l : Line) (lines : List Line) → AllTaken tree prefix p (l ∷ lines) → Fits asked p s → Keeps asked p s given →
+        (Keeps asked (input_after tree prefix p (l ∷ [])) s given → GiveThis tree prefix s given lines × Keeps asked (input_after tree prefix (input_after tree prefix p (l ∷ [])) lines) s given) →
+        GiveThis tree prefix s given (l ∷ lines) × Keeps asked (input_after tree prefix p (l ∷ lines)) s given
     one_keeps p l lines none fits keeps later = by (effect tree prefix l) refl
       where
-        on : ((other : GivenValue) → effect tree prefix l ≡ Assigns s other → other ≡ given) → Keeps (input_after tree prefix p (l ∷ [])) s given →
-            GiveThis (l ∷ lines) × Keeps (input_after tree prefix p (l ∷ lines)) s given
+        on : ((other : GivenValue) → effect tree prefix l ≡ Assigns s other → other ≡ given) → Keeps asked (input_after tree prefix p (l ∷ [])) s given →
+            GiveThis tree prefix s given (l ∷ lines) × Keeps asked (input_after tree prefix p (l ∷ lines)) s given
         on first kept =
             let (rest, whole) = later kept in
-            (gives_first l lines first rest, subst (λ (q : UserInput). Keeps q s given) (sym (input_after-append tree prefix p (l ∷ []) lines)) whole)
+            (gives_first l lines first rest, subst (λ (q : UserInput). Keeps asked q s given) (sym (turn.add_up.leave p (l ∷ []) lines)) whole)
 
         same_or : (t : SymId) (other : GivenValue) → effect tree prefix l ≡ Assigns t other → (b : Bool) → eqb t.0 s.0 ≡ b →
-            GiveThis (l ∷ lines) × Keeps (input_after tree prefix p (l ∷ lines)) s given
+            GiveThis tree prefix s given (l ∷ lines) × Keeps asked (input_after tree prefix p (l ∷ lines)) s given
         same_or t other is true e =
             let is_s : effect tree prefix l ≡ Assigns s other = is ∙ ap (λ x. Assigns x other) (same_symbol t s (eqb-true t.0 s.0 e)) in
             let taken = taken_here p l lines (Assigns s other) is_s none in
             let equal : same_given given other ≡ true = not_false (same_given given other)
             (not_is_true (not (same_given given other)) (sym (ap (λ o. not (is_change o other)) keeps.0) ∙ taken)) in
             let same : given ≡ other = given_is given other equal in
-            on (λ g sets. same_value g other (sym sets ∙ is_s) ∙ sym same) (subst (λ g. Keeps (input_after tree prefix p (l ∷ [])) s g) (sym same) (assigned_keeps p l s other is_s fits))
+            on (λ g sets. same_value g other (sym sets ∙ is_s) ∙ sym same) (subst (λ g. Keeps asked (input_after tree prefix p (l ∷ [])) s g) (sym same) (assigned_keeps p l s other is_s fits))
         same_or t other is false e =
             on (λ g sets. absurd (eqb-false t.0 s.0 e (ap number_of (sym is ∙ sets)))) (other_keeps p l t other s given is (λ same. eqb-false t.0 s.0 e (sym same)) keeps)
 
-        by : (e : Effect) → effect tree prefix l ≡ e → GiveThis (l ∷ lines) × Keeps (input_after tree prefix p (l ∷ lines)) s given
+        by : (e : Effect) → effect tree prefix l ≡ e → GiveThis tree prefix s given (l ∷ lines) × Keeps asked (input_after tree prefix p (l ∷ lines)) s given
         by Silent is = on (λ g sets. absurd (let clash : Silent ≡ Assigns s g = sym is ∙ sets in cc)) (quiet_keeps p l s given is keeps)
         by (Warns line_warning) is = absurd (true≢false (sym (taken_here p l lines (Warns line_warning) is none)))
         by (Assigns t other) is = same_or t other is (eqb t.0 s.0) refl
 
     -- lines that are all taken keep the value
-    all_keep : (p : UserInput) (lines : List Line) → ArePlacesOf tree p.places → Fits p s → AllTaken p lines → Keeps p s given → GiveThis lines × Keeps (input_after tree prefix p lines) s given
+    all_keep : (p : UserInput) (lines : List Line) → ArePlacesOf tree p.places → Fits asked p s → AllTaken tree prefix p lines → Keeps asked p s given → GiveThis tree prefix s given lines × Keeps asked (input_after tree prefix p lines) s given
     all_keep p [] there fits none keeps =
-        (λ m other (n, within, at) sets. absurd (let never : n < 0 = within in omega arith), subst (λ (q : UserInput). Keeps q s given) (sym (input_after-nothing tree prefix p)) keeps)
+        (λ m other (n, within, at) sets. absurd (let never : n < 0 = within in omega arith), subst (λ (q : UserInput). Keeps asked q s given) (sym (turn.add_up.none_leave p)) keeps)
     all_keep p (l ∷ lines) there fits none keeps =
         one_keeps p l lines none fits keeps
-        (all_keep (input_after tree prefix p (l ∷ [])) lines (ArePlacesOf-given tree p.places (assignments tree prefix (l ∷ [])) there) (fits_later p l there fits) (taken_later p l lines none))
+        (all_keep (input_after tree prefix p (l ∷ [])) lines (turn.counts.places p (l ∷ []) there) (fits_later p l there fits) (taken_later p l lines none))
 
 -- ---- a whole run
 
 module _ (files : Files) (options : Options) (all : List (List ℕ)) (tree : TreeFacts) (solution : Solution)
-    (is_whole : RefusesNothing files options all tree solution) (strict : options.strict ≡ true) (passed : refuses_input options (read_of options tree all).input solution ≡ false) where
+    (is_whole : RefusesNothing files options all tree solution) (turn : LinesInTurn tree options.prefix) (strict : options.strict ≡ true) (passed : refuses_input options (read_of options tree all).input solution ≡ false) where
   abbrev lines : List Line
   lines = lines_of (streams (names_of options) all)
 
@@ -221,35 +226,35 @@ module _ (files : Files) (options : Options) (all : List (List ℕ)) (tree : Tre
     abbrev here : UserInput
     here = input_after tree prefix empty before
 
-    from_here : AllTaken tree prefix options.warn_lost here (l ∷ later)
+    from_here : AllTaken tree prefix here (l ∷ later)
     from_here =
         second_nothing (untaken tree prefix empty.places before) (untaken tree prefix (places_after tree prefix empty.places before) (l ∷ later))
-        (sym (untaken-append tree prefix empty.places before (l ∷ later)) ∙ ap (untaken tree prefix empty.places) (sym split) ∙ none_untaken)
+        (sym (turn.add_up.are_untaken empty.places before (l ∷ later)) ∙ ap (untaken tree prefix empty.places) (sym split) ∙ none_untaken)
 
     counts : ArePlacesOf tree here.places
-    counts = ArePlacesOf-given tree empty.places (assignments tree prefix before) (record { symbols = length-replicate (length tree.symbols) None; choices = length-replicate (length tree.choices) None })
+    counts = turn.counts.places empty before (record { symbols = length-replicate (length tree.symbols) None; choices = length-replicate (length tree.choices) None })
 
     module _ (s : SymId) (given : GivenValue) (assigns : effect tree prefix l ≡ Assigns s given) (f : SymbolFacts) (defined : facts tree s ≡ Some f) where
       within : s.0 < length tree.symbols
       within = slice_get_within tree.symbols s.0 f defined
 
-      fits : Fits tree prefix options.warn_lost here s
+      fits : Fits options.warn_lost here s
       fits = (
         subst (λ n. s.0 < n) (sym counts.symbols) within,
         λ asked. subst (λ n. s.0 < n)
-            (sym (lines_after-length tree prefix empty.lines before ∙ ap (λ b. length (if b then replicate (length tree.symbols) no_line else [])) asked ∙ length-replicate (length tree.symbols) no_line)) within,
+            (sym (turn.counts.lines empty before ∙ ap (λ b. length (if b then replicate (length tree.symbols) no_line else [])) asked ∙ length-replicate (length tree.symbols) no_line)) within,
       )
 
-      after : GiveThis tree prefix options.warn_lost s given later × Keeps tree prefix options.warn_lost (input_after tree prefix (input_after tree prefix here (l ∷ [])) later) s given
+      after : GiveThis tree prefix s given later × Keeps options.warn_lost (input_after tree prefix (input_after tree prefix here (l ∷ [])) later) s given
       after =
-          all_keep tree prefix options.warn_lost s given (input_after tree prefix here (l ∷ [])) later
-          (ArePlacesOf-given tree here.places (assignments tree prefix (l ∷ [])) counts) (fits_later tree prefix options.warn_lost s given here l counts fits)
-          (taken_later tree prefix options.warn_lost here l later from_here)
-          (assigned_keeps tree prefix options.warn_lost here l s given assigns fits)
+          all_keep tree prefix turn options.warn_lost s given (input_after tree prefix here (l ∷ [])) later
+          (turn.counts.places here (l ∷ []) counts) (fits_later tree prefix turn options.warn_lost s given here l counts fits)
+          (taken_later tree prefix turn options.warn_lost here l later from_here)
+          (assigned_keeps tree prefix turn options.warn_lost here l s given assigns fits)
 
       at_end : last ≡ input_after tree prefix (input_after tree prefix here (l ∷ [])) later
       at_end =
-          ap (input_after tree prefix empty) split ∙ input_after-append tree prefix empty before (l ∷ later) ∙ input_after-append tree prefix here (l ∷ []) later
+          ap (input_after tree prefix empty) split ∙ turn.add_up.leave empty before (l ∷ later) ∙ turn.add_up.leave here (l ∷ []) later
 
       value_is : options.warn_lost ≡ true → has_prompt f.prompts ≡ true → given ≡ given_of (known solution s)
       value_is asked prompted =
@@ -263,19 +268,19 @@ module _ (files : Files) (options : Options) (all : List (List ℕ)) (tree : Tre
       where
         by : (e : Effect) → effect tree prefix l ≡ e → IsTakenAsWritten tree prefix options.warn_lost solution later e
         by Silent is = tt
-        by (Warns line_warning) is = true≢false (sym (taken_here tree prefix options.warn_lost here l later (Warns line_warning) is from_here))
+        by (Warns line_warning) is = true≢false (sym (taken_here tree prefix turn options.warn_lost here l later (Warns line_warning) is from_here))
         by (Assigns s given) is = λ f defined. ((after s given is f defined).0, value_is s given is f defined)
 
-pub strict_takes_all : WrittenAreWhole → StrictTakesAll
-strict_takes_all written files options all outcome text is_outcome there strict =
+pub strict_takes_all : WrittenAreWhole → LinesGiveInTurn → StrictTakesAll
+strict_takes_all written turns files options all outcome text is_outcome there strict =
     let (tree, solution, is_whole, (opened, are, is), passed) = written files options all outcome text is_outcome there in
     let text_is : text ≡ config_text tree options.prefix (solution_view solution) =
-    let same : Some text ≡ Some (config_text tree options.prefix (solution_view solution)) = sym there ∙ ap (λ (o : Outcome). o.config) is in cc
+    sym (text_if_is options.out _ text (sym (ap (λ (o : Outcome). o.config) is) ∙ there))
     in (
       tree,
       solution,
       is_whole,
       text_is,
-      none_outside files options all tree solution is_whole strict passed,
-      is_taken_as_written files options all tree solution is_whole strict passed,
+      none_outside files options all tree solution is_whole (turns tree options.prefix) strict passed,
+      is_taken_as_written files options all tree solution is_whole (turns tree options.prefix) strict passed,
     )

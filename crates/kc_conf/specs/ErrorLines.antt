@@ -90,3 +90,7 @@ unreadable_line name = codes "error E23: make cannot read the name " ++ first_li
 -- the error line where no memory is to be had
 abbrev pub out_of_memory_line : List ℕ
 out_of_memory_line = codes "error " ++ message_before code.Memory ++ codes "\n"
+
+-- the error line of a file that does not hold its text
+abbrev pub stale_line : List ℕ → List ℕ
+stale_line name = codes "error E22: " ++ name ++ codes " is not up to date\n"

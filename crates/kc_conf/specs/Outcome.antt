@@ -12,6 +12,7 @@ use Rattle.kc_solve.specs.Solved.{Solution, IsSolution, warnings}
 use Rattle.kc_dot.specs.Reading.{ReadResult, StreamLocation, Stream, UserInput, no_input, reading_of}
 use Rattle.kc_dot.specs.SolvedView.{solution_view}
 use Rattle.kc_dot.specs.Texts.{config_text, header_text, minimal_text}
+pub use Rattle.kc_conf.specs.Asked.{lead, names_of, root_file, target}
 use Rattle.kc_conf.specs.declared.options.Options.{Options}
 use Rattle.kc_read.specs.OpenedFiles.{AreOpened}
 use Rattle.kc_load.specs.Prerequisites.{inputs_of, prerequisites_of}
@@ -55,10 +56,6 @@ refused line = record { config = None; header = None; minimal = None; depfile = 
 
 -- ---- the tree
 
--- the root file's name in the map
-abbrev pub root_file : Options → List ℕ
-root_file options = string_bytes options.kconfig
-
 -- Why no tree is accepted: it is refused, or its symbols need one another in a loop.
 pub data IsRefusedTree (files : Files) (root : List ℕ) (r : Refused) : Type 0 where
   no_tree : IsTreeOf files root (Err r) → IsRefusedTree files root r
@@ -70,10 +67,6 @@ pub record IsAcceptedTree (files : Files) (root : List ℕ) (tree : TreeFacts) :
   pub accepted : IsAccepted tree
 
 -- ---- the streams
-
--- the names of the streams: the `.config`'s, and then those of the fragments
-abbrev pub names_of : Options → List (List ℕ)
-names_of options = string_bytes options.config ∷ map string_bytes options.fragments.items
 
 -- each name with its bytes
 abbrev pub streams : List (List ℕ) → List (List ℕ) → List Stream
@@ -105,7 +98,7 @@ text_if (Some name) text = Some text
 -- the files of a solution
 abbrev pub files_of : Options → TreeFacts → Solution → Outcome
 files_of options tree solution = record {
-  config = Some (config_text tree options.prefix (solution_view solution));
+  config = text_if options.out (config_text tree options.prefix (solution_view solution));
   header = text_if options.header (header_text tree options.prefix (solution_view solution));
   minimal = text_if options.minimal (minimal_text tree options.prefix (solution_view solution));
   depfile = None;
@@ -115,23 +108,23 @@ files_of options tree solution = record {
 }
 
 -- where it is refused, one line refuses it behind its warnings, and it begins nothing
-abbrev pub refused_if : Bool → Outcome → Outcome
-refused_if refuses outcome = if refuses then record (refused strict_line) { warned = outcome.warned } else outcome
+abbrev pub refused_if : Options → Bool → Outcome → Outcome
+refused_if options refuses outcome = if refuses then record (refused (lead options ++ strict_line)) { warned = outcome.warned } else outcome
 
 -- The files of a solution for the user's input: the values' warnings are noted before, and then the values that are lost.
 abbrev pub warned_files : Options → TreeFacts → UserInput → Solution → Outcome
 warned_files options tree input solution =
-    record (files_of options tree solution) { warned = lines_text (warnings solution) ++ lines_text (lost_warnings options input solution) }
+    record (files_of options tree solution) { warned = lines_text (map (λ line. lead options ++ line) (warnings solution)) ++ lines_text (lost_warnings options input solution) }
 
 -- Under --strict they are refused where a line was not taken as written.
 abbrev pub outcome_of : Options → TreeFacts → UserInput → Solution → Outcome
-outcome_of options tree input solution = refused_if (refuses_input options input solution) (warned_files options tree input solution)
+outcome_of options tree input solution = refused_if options (refuses_input options input solution) (warned_files options tree input solution)
 
 -- ---- the rule for make
 
 -- the input files that the file of --out is made of: the file of --config, if that is another one, and the fragments
 abbrev pub inputs_listed : Options → List (List ℕ)
-inputs_listed options = inputs_of (string_bytes options.out) (string_bytes options.config) (map string_bytes options.fragments.items)
+inputs_listed options = inputs_of (target options) (string_bytes options.config) (map string_bytes options.fragments.items)
 
 -- The names in the rule for make, where it is wanted: the files that the tree opens, by their paths, and the input files.
 abbrev pub names_listed : Options → List (List ℕ) → Option (List (List ℕ))
@@ -144,11 +137,11 @@ AreOpenedIf options files (Some opened) = AreOpened files (root_file options) op
 
 -- the rule: what the file of --out is made of, where the tree opens these files
 abbrev pub depfile_text : Options → List (List ℕ) → Option (List ℕ)
-depfile_text options opened = option_map (rule_text (string_bytes options.out)) (names_listed options opened)
+depfile_text options opened = option_map (rule_text (target options)) (names_listed options opened)
 
 -- the first name in it that make cannot read
 abbrev pub unreadable_name : Options → List (List ℕ) → Option (List ℕ)
-unreadable_name options opened = option_map_or (unreadable_of (string_bytes options.out)) (names_listed options opened) None
+unreadable_name options opened = option_map_or (unreadable_of (target options)) (names_listed options opened) None
 
 -- make can read each name
 abbrev pub NamesAreRead : Files → Options → Type 0
@@ -181,15 +174,13 @@ IsOutcomeOfTree options tree all outcome =
 pub data IsLenientOutcome (files : Files) (options : Options) (opened all : List (List ℕ)) (outcome : Outcome) : Type 0 where
   refused_tree : (r : Refused) → IsRefusedTree files (root_file options) r → outcome ≡ refused (refusal_line r) → IsLenientOutcome files options opened all outcome
   refused_name : (tree : TreeFacts) (name : List ℕ) → IsAcceptedTree files (root_file options) tree → unreadable_name options opened ≡ Some name →
-      outcome ≡ refused (unreadable_line name) → IsLenientOutcome files options opened all outcome
+      outcome ≡ refused (lead options ++ unreadable_line name) → IsLenientOutcome files options opened all outcome
   accepted_tree : (tree : TreeFacts) → IsAcceptedTree files (root_file options) tree → unreadable_name options opened ≡ None →
       IsOutcomeOfTree options tree all outcome → IsLenientOutcome files options opened all outcome
 
 abbrev pub is_done : Status → Bool
 is_done Done = true
-is_done IsRefused = false
-is_done Usage = false
-is_done Faulted = false
+is_done _ = false
 
 -- the text is not empty
 abbrev pub has_text : List ℕ → Bool
@@ -197,8 +188,8 @@ has_text [] = false
 has_text (b ∷ text) = true
 
 -- Under --strict-tree, what would write files and warns of anything is refused.
-abbrev pub strictly : Bool → Outcome → Outcome
-strictly strict outcome = refused_if (is_done outcome.status && (strict && has_text outcome.warned)) outcome
+abbrev pub strictly : Options → Outcome → Outcome
+strictly options outcome = refused_if options (is_done outcome.status && (options.strict_tree && has_text outcome.warned)) outcome
 
 -- what writes files writes the rule too, where it is wanted
 abbrev pub with_rule : Options → List (List ℕ) → Outcome → Outcome
@@ -209,7 +200,7 @@ with_rule options opened outcome =
 abbrev pub IsOutcome : Files → Options → List (List ℕ) → Outcome → Type 0
 IsOutcome files options all outcome =
     (lenient : Outcome) × (opened : List (List ℕ)) × IsLenientOutcome files options opened all lenient × AreOpened files (root_file options) opened
-    × (outcome ≡ with_rule options opened (strictly options.strict_tree lenient))
+    × (outcome ≡ with_rule options opened (strictly options lenient))
 
 -- what it adds to the notes is whole lines
 abbrev pub NotesAreLines : Type 0

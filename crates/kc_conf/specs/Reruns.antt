@@ -1,5 +1,5 @@
 -- Trusted: What the texts that a run writes give when they are read again.
-use Rattle.std.specs.Prelude.{◌≡◌, ℕ, List, [], ◌∷◌, Some, None, true, false}
+use Rattle.std.specs.Prelude.{◌≡◌, ℕ, List, [], ◌∷◌, Some, None, true, false, is_some}
 use Rattle.kc_read.specs.OpenedFiles.{AreOpened}
 use Rattle.kc_read.specs.Files.{Files}
 use Rattle.kc_tree.specs.TreeFacts.{TreeFacts}
@@ -64,10 +64,11 @@ OutcomesAreReadAgain =
     (minimal ≡ minimal_text tree options.prefix (valuation_view tree (place_at solution.places) (value_of solution))) × HasShortLines minimal
     × MinimalGivesBack tree options.prefix solution.places (value_of solution) × MinimalNeedsEach tree options.prefix solution.places (value_of solution))
 
--- options with the same root file and prefix, and without fragments
+-- options with the same root file and prefix, which ask for the full `.config` where these do, and without fragments
 pub record AreAlone (options alone : Options) : Type 0 where
   pub root : root_file alone ≡ root_file options
   pub prefix : alone.prefix ≡ options.prefix
+  pub out : is_some alone.out ≡ is_some options.out
   pub no_fragments : alone.fragments.items ≡ []
 
 -- A run on the minimal file alone, which lets warnings pass and whose names make can read, writes the .config that was written with it. (One that

@@ -1,12 +1,61 @@
--- For proofs: A run that stops for want of memory before its tree is accepted.
-use Rattle.std.specs.Prelude.{◌≡◌}
-use Rattle.kc_read.specs.declared.refusal.Code.TheVariants as code
-use Rattle.kc_read.specs.declared.refusal.Refusal.{Refusal}
-use Rattle.kc_conf.specs.OutputStates.{OutputStates}
-use Rattle.kc_conf.specs.declared.run_fault.RunFault.{RunFault}
-use Rattle.kc_conf.specs.declared.run_fault.RunFault.TheVariants as fault
+-- Trusted: Why a run is broken off, and what it says of it.
+use Rattle.std.specs.Prelude.{◌≡◌, ℕ, List, [], ◌++◌, Result, Ok, ⊤}
+use Rattle.kc_io.specs.Log.{Event, Log, Leads, did, failed, noted, said}
+use Rattle.kc_io.specs.declared.device.Action.{Action}
+use Rattle.kc_io.specs.declared.device.Action.TheVariants.{Open, Read, Create, Write, Close, Move, Clear, Note}
+use Rattle.kc_io.specs.declared.device.Fault.{Fault}
+use Rattle.kc_io.specs.declared.device.Fault.TheVariants as fault
+use Rattle.kc_conf.specs.Asked.{lead}
+use Rattle.kc_conf.specs.ErrorLines.{cannot_read_line, cannot_write_line, out_of_memory_line}
+use Rattle.kc_conf.specs.declared.options.Delivery.{Delivery}
+use Rattle.kc_conf.specs.declared.options.Delivery.TheVariants as delivered
+use Rattle.kc_conf.specs.declared.options.Options.{Options}
+use Rattle.kc_conf.specs.declared.stop.Stop.{Stop}
+use Rattle.kc_conf.specs.declared.stop.Stop.TheVariants.{OutOfMemory, Failed}
 
-pub record IsOutOfMemory (r : Refusal) (c : RunFault) (old new : OutputStates) : Type 0 where
-  pub code_is : r.code ≡ code.Memory
-  pub fault_is : c ≡ fault.Memory
-  pub nothing : new ≡ old
+-- the event of what failed
+abbrev pub event_of : Stop → List Event
+event_of OutOfMemory = []
+event_of (Failed f) = failed f.action f.name.now f.fault
+
+-- what stands beside places is removed where a replacement failed
+abbrev pub cleared_by : Delivery → Action → List Event
+cleared_by delivered.Replace (Create _) = did Clear []
+cleared_by delivered.Replace (Write _) = did Clear []
+cleared_by delivered.Replace (Close _) = did Clear []
+cleared_by delivered.Replace Move = did Clear []
+cleared_by _ _ = []
+
+abbrev pub clearing : Options → Stop → List Event
+clearing options OutOfMemory = []
+clearing options (Failed f) = cleared_by options.delivery f.action
+
+-- the error line of a device that refused; there is none for the diagnostics
+abbrev pub refusal_by : Action → List ℕ → List ℕ
+refusal_by Open name = cannot_read_line name
+refusal_by Read name = cannot_read_line name
+refusal_by Note name = []
+refusal_by _ name = cannot_write_line name
+
+-- the error line of a run that was broken off
+abbrev pub stop_line : Options → Stop → List ℕ
+stop_line options OutOfMemory = lead options ++ out_of_memory_line
+stop_line options (Failed f) = by f.action f.fault
+  where
+    by : Action → Fault → List ℕ
+    by Note _ = []
+    by action fault.Memory = lead options ++ out_of_memory_line
+    by action fault.Refused = lead options ++ refusal_by action f.name.now
+
+-- Nothing is asked of diagnostics that failed.
+abbrev pub IsReport : Stop → Result (Unit {0}) Fault → Type 0
+IsReport OutOfMemory report = ⊤
+IsReport (Failed f) report = by f.action
+  where
+    by : Action → Type 0
+    by Note = report ≡ Ok tt
+    by _ = ⊤
+
+-- the run says why it was broken off, or the diagnostics do not take it
+abbrev pub Reports : Options → Stop → Log → Log → Type 0
+Reports options stop old new = (report : Result (Unit {0}) Fault) × IsReport stop report × Leads (noted report) (said report (stop_line options stop)) old new

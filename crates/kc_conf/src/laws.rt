@@ -2,19 +2,32 @@
 ghost use Rattle.kc_conf.specs.Existence.{AcceptedHaveAnOutcome, AnswerExists, ExactlyOneAnswer, ExactlyOneOutcome, OutcomeExists, SolutionExists};
 ghost use Rattle.kc_conf.specs.Accounted.{NothingIsLost};
 ghost use Rattle.kc_conf.specs.Strict.{StrictTakesAll};
-ghost use Rattle.kc_conf.specs.Outcome.{NotesAreLines};
+ghost use Rattle.kc_conf.specs.Outcome.{NotesAreLines, OneAnswer, OneOutcome};
 ghost use Rattle.kc_conf.specs.Reruns.{ConfigIsReadAgain, MinimalIsReadAgain, MinimalIsRunAgain, OutcomesAreReadAgain, TextsHaveShortLines, WrittenAreWhole};
 
-use crate::runs::{one_answer, one_outcome};
-use kc_build::laws::trees_are_well_formed;
+use kc_build::laws::{one_tree, trees_are_well_formed};
 use kc_dot::laws::{
-    config_is_idempotent, minimal_gives_back, reading_leaves_allowed_places,
-    written_texts_are_short,
+    config_is_idempotent, config_is_of_values, lines_give_in_turn, minimal_gives_back,
+    reading_leaves_allowed_places, written_texts_are_short,
 };
-use kc_read::laws::opened_are_one_list;
-use kc_order::unordered_have_a_loop;
-use kc_read::laws::has_one_expansion;
+use kc_order::{one_named_loop, unordered_have_a_loop};
+use kc_read::laws::{has_one_expansion, opened_are_one_list};
 use kc_values::laws::{accepted_have_one_solution, equations_read_needs, needs_are_defined};
+
+/// The law of the tree: a root file has at most one accepted tree, at most one refusal, and not both. It does nothing.
+pub fn one_answer()
+    ensures { OneAnswer }
+{
+    one_tree();
+    one_named_loop();
+}
+
+/// The law of the outcome: for files, options and the bytes of the streams there is at most one. It does nothing.
+pub fn one_outcome()
+    ensures { OneOutcome }
+{
+    one_answer();
+}
 
 /// An outcome with a `.config` is that of a run that refuses nothing: its tree is accepted, no line of its streams is too
 /// long, and the texts are those of the one solution. (Our own.)
@@ -37,6 +50,7 @@ pub fn nothing_is_lost()
     ensures { NothingIsLost }
 {
     written_are_whole();
+    lines_give_in_turn();
 }
 
 /// States what `--strict` promises. If files are written with it, each line of the input files was taken as written: no
@@ -48,6 +62,7 @@ pub fn strict_takes_all()
     ensures { StrictTakesAll }
 {
     written_are_whole();
+    lines_give_in_turn();
 }
 
 /// For every file map, options and streams whose run refuses nothing, the minimal file and the `.config` read again, each
@@ -85,6 +100,7 @@ pub fn minimal_is_run_again()
 {
     one_answer();
     texts_are_read_again();
+    config_is_of_values();
 }
 
 /// There is an outcome, whatever the files, the options and the streams: a root file has an accepted tree or a refusal, of

@@ -24,6 +24,7 @@ use kc_tree::layout::Layout;
 use kc_tree::rows::{DefinitionId, Symbol};
 use kc_user::user::User;
 use kc_user::value::UserValue;
+use kc_values::laws::rows_tell_facts;
 use kc_values::table::name;
 use std::alloc::{AllocError, Global};
 
@@ -140,6 +141,7 @@ fn lost_into(
     ensures { OnOk result (map (λ l. l.items) lines.new.items ≡ map (λ l. l.items) lines.old.items ++ spec.lost_at input.now.lines solved.now id.0) }
 {
     solved.is_solution();
+    rows_tell_facts();
     let tree = solved.tree();
     let layout = tree.layout();
     let Some(symbol) = layout.symbol(id) else {

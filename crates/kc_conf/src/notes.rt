@@ -1,38 +1,53 @@
-//! What a run writes to the notes.
-ghost use Rattle.std.specs.Prelude.{◌≡◌, ◌++◌, codes, OnOk, OnErr, flat_map, map as map_list};
+//! What a run says on the diagnostics, besides warnings.
+
+ghost use Rattle.std.specs.Prelude.{◌≡◌, ◌++◌, codes};
+ghost use Rattle.std.specs.List.{flat_map};
+ghost use Rattle.kc_io.specs.WholeLines.{is_whole_lines};
 ghost use Rattle.kc_read.specs.RefusalView.{refusal_view};
-ghost use Rattle.kc_conf.specs.ErrorLines.{error_at, first_line, refusal_line, strict_line, too_long_line, unreadable_line, message_before, message_behind};
-ghost use Rattle.kc_conf.specs.Faults.{NotesLine, Reports};
-ghost use Rattle.kc_conf.specs.Outcome.{lines_text};
-ghost use Rattle.kc_conf.specs.OutputStates.{with_text, BreaksOutput};
-ghost use Rattle.kc_conf.specs.Reads.{stop_of};
+ghost use Rattle.kc_conf.specs.Asked.{lead};
+ghost use Rattle.kc_conf.specs.ErrorLines.{error_at, first_line, message_before, message_behind, refusal_line, stale_line, strict_line, too_long_line, unreadable_line};
+ghost use Rattle.kc_conf.specs.Stops.{Reports};
+ghost use Rattle.kc_conf.specs.Reads.{Says, stop_of};
 
-use crate::error_lines::{cannot_read, cannot_write, out_of_memory};
-use crate::options::{Options, name_of, stream_name};
-use crate::outputs::{Output, Outputs, put_to};
+use crate::compute::add_lines;
+use crate::options::Options;
 use crate::reading::LongLine;
-use crate::run_fault::RunFault;
+use crate::stop::Stop;
 use itoa::Buffer;
-use kc_dot::Fault;
+use kc_io::{Action, Device, Failure, Fault};
 use kc_read::refusal::{Code, Refusal};
+use std::alloc::Global;
 
-// Writes the parts to the notes, one after another.
-fn note_parts<O: Outputs>(outputs: &mut O, parts: &[&[u8]]) -> Result<(), Fault>
-    ensures ok { OnOk result (O.states outputs.new ≡ with_text Output.Notes (flat_map (λ part. part.now) parts.now) (O.states outputs.old)) }
-    ensures err { OnErr result (BreaksOutput Output.Notes (flat_map (λ part. part.now) parts.now) (O.states outputs.old) (O.states outputs.new)) }
+// Says whole lines, all parts in one piece.
+pub(crate) fn say_parts<D: Device>(device: &mut D, parts: &[&[u8]]) -> Result<(), Stop<'static>>
+    requires { is_whole_lines (flat_map (λ part. part.now) parts.now) ≡ true }
+    ensures { Says (flat_map (λ part. part.now) parts.now) result (D.log device.old) (D.log device.new) }
 {
-    put_to(outputs, Output::Notes, parts)
+    match device.note(parts) {
+        Ok(()) => Ok(()),
+        Err(fault) => Err(Stop::Failed(Failure {
+            action: Action::Note,
+            name: "",
+            fault,
+        })),
+    }
 }
 
-// Writes each line, with its LF, to the notes.
-pub(crate) fn note_lines<O: Outputs>(outputs: &mut O, lines: &[Vec<u8>]) -> Result<(), Fault>
-    ensures ok { OnOk result (O.states outputs.new ≡ with_text Output.Notes (lines_text (map_list (λ line. line.items) lines.now)) (O.states outputs.old)) }
-    ensures err { OnErr result (BreaksOutput Output.Notes (lines_text (map_list (λ line. line.items) lines.now)) (O.states outputs.old) (O.states outputs.new)) }
+/// Says lines, all in one piece.
+pub(crate) fn say_lines<D: Device>(
+    alloc: Global,
+    device: &mut D,
+    lines: &[Vec<u8>],
+) -> Result<(), Stop<'static>>
+    ensures ok { OnOk result (Leads [] (lines_text (map (λ line. line.items) lines.now)) (D.log device.old) (D.log device.new)) }
+    ensures err { IfErr result (λ stop. IsNoteOrMemory stop × Leads (event_of stop) [] (D.log device.old) (D.log device.new)) }
 {
-    for line in lines {
-        note_parts(outputs, &[line, b"\n"])?;
+    if lines.is_empty() {
+        return Ok(());
     }
-    Ok(())
+    let mut text = Vec::new(alloc);
+    add_lines(&[], lines, &mut text)?;
+    say_parts(device, &[&text])
 }
 
 // What an error line says of a refusal, before the word or the name that it is about.
@@ -85,88 +100,48 @@ fn message_behind(code: Code) -> &'static [u8]
     }
 }
 
-// Writes an error line at a location.
-fn note_at<'a, O: Outputs>(
-    outputs: &mut O,
-    file: &'a [u8],
+// Says an error line at a location.
+fn say_at<D: Device>(
+    device: &mut D,
+    file: &[u8],
     line: u64,
-    before: &'a [u8],
-    detail: &'a [u8],
-    behind: &'a [u8],
-) -> Result<(), Fault>
-    ensures ok { OnOk result (O.states outputs.new ≡ with_text Output.Notes (error_at file.now line (before.now ++ detail.now ++ behind.now)) (O.states outputs.old)) }
-    ensures err { OnErr result (BreaksOutput Output.Notes (error_at file.now line (before.now ++ detail.now ++ behind.now)) (O.states outputs.old) (O.states outputs.new)) }
+    before: &[u8],
+    detail: &[u8],
+    behind: &[u8],
+) -> Result<(), Stop<'static>>
+    requires { is_whole_lines behind.now ≡ true }
+    ensures { Says (error_at file.now line (before.now ++ detail.now ++ behind.now)) result (D.log device.old) (D.log device.new) }
 {
     let mut buffer = Buffer::new();
     let number = buffer.format(line).as_bytes();
-    note_parts(
-        outputs,
-        &[file, b":", number, b": error ", before, detail, behind],
-    )
+    say_parts(device, &[file, b":", number, b": error ", before, detail, behind])
 }
 
-// Writes an error line without a location.
-fn note_without_location<'a, O: Outputs>(
-    outputs: &mut O,
-    before: &'a [u8],
-    detail: &'a [u8],
-    behind: &'a [u8],
-) -> Result<(), Fault>
-    ensures ok { OnOk result (O.states outputs.new ≡ with_text Output.Notes (codes "error " ++ before.now ++ detail.now ++ behind.now) (O.states outputs.old)) }
-    ensures err { OnErr result (BreaksOutput Output.Notes (codes "error " ++ before.now ++ detail.now ++ behind.now) (O.states outputs.old) (O.states outputs.new)) }
-{
-    note_parts(outputs, &[b"error ", before, detail, behind])
-}
-
-// Writes the error line of a refused tree.
-pub(crate) fn note_refusal<O: Outputs>(outputs: &mut O, refusal: &Refusal) -> Result<(), Fault>
-    ensures ok { OnOk result (O.states outputs.new ≡ with_text Output.Notes (refusal_line (refusal_view refusal.now)) (O.states outputs.old)) }
-    ensures err { OnErr result (BreaksOutput Output.Notes (refusal_line (refusal_view refusal.now)) (O.states outputs.old) (O.states outputs.new)) }
+/// Says why a tree is refused.
+pub(crate) fn say_refusal<D: Device>(device: &mut D, refusal: &Refusal) -> Result<(), Stop<'static>>
+    ensures { Says (refusal_line (refusal_view refusal.now)) result (D.log device.old) (D.log device.new) }
 {
     let before = message_before(refusal.code);
     let behind = message_behind(refusal.code);
     match &refusal.location {
-        Some((file, line)) => note_at(
-            outputs,
-            file,
-            u64::from(*line),
-            before,
-            &refusal.detail,
-            behind,
-        ),
-        None => note_without_location(outputs, before, &refusal.detail, behind),
+        Some((file, line)) => say_at(device, file, u64::from(*line), before, &refusal.detail, behind),
+        None => say_parts(device, &[b"error ", before, &refusal.detail, behind]),
     }
 }
 
-// Writes the error line of a line of a stream that is too long.
-pub(crate) fn note_too_long<O: Outputs>(outputs: &mut O, long: &LongLine<'_>) -> Result<(), Fault>
-    ensures ok { OnOk result (O.states outputs.new ≡ with_text Output.Notes (too_long_line (stop_of long.now)) (O.states outputs.old)) }
-    ensures err { OnErr result (BreaksOutput Output.Notes (too_long_line (stop_of long.now)) (O.states outputs.old) (O.states outputs.new)) }
+/// Says that a line of an input file is too long. Its stream's name has the lead already.
+pub(crate) fn say_long_line<D: Device>(device: &mut D, long: &LongLine<'_>) -> Result<(), Stop<'static>>
+    ensures { Says (too_long_line (stop_of long.now)) result (D.log device.old) (D.log device.new) }
 {
-    note_at(
-        outputs,
-        long.stream,
-        long.number,
-        b"E17: line longer than 65535 bytes",
-        b"",
-        b"\n",
-    )
+    say_at(device, long.stream, long.number, b"E17: line longer than 65535 bytes", b"", b"\n")
 }
 
-// Writes the text to the notes.
-pub(crate) fn note_text<O: Outputs>(outputs: &mut O, text: &[u8]) -> Result<(), Fault>
-    ensures ok { OnOk result (O.states outputs.new ≡ with_text Output.Notes text.now (O.states outputs.old)) }
-    ensures err { OnErr result (BreaksOutput Output.Notes text.now (O.states outputs.old) (O.states outputs.new)) }
+/// Says that warnings are refused.
+pub(crate) fn say_strict<D: Device>(device: &mut D, options: &Options) -> Result<(), Stop<'static>>
+    ensures { Says (lead options.now ++ strict_line) result (D.log device.old) (D.log device.new) }
 {
-    note_parts(outputs, &[text])
-}
-
-// Writes the error line behind the warnings that are refused.
-pub(crate) fn note_strict<O: Outputs>(outputs: &mut O) -> Result<(), Fault>
-    ensures ok { OnOk result (O.states outputs.new ≡ with_text Output.Notes strict_line (O.states outputs.old)) }
-    ensures err { OnErr result (BreaksOutput Output.Notes strict_line (O.states outputs.old) (O.states outputs.new)) }
-{
-    note_text(outputs, b"error E21: warnings are refused\n")
+    let [config, colon] = options.lead();
+    say_parts(device, &[config, colon, b"error E21: warnings are refused\n"])
 }
 
 // The bytes before the first line feed.
@@ -181,39 +156,45 @@ fn first_line(name: &[u8]) -> &[u8]
     name
 }
 
-// Writes the error line of a name that make cannot read.
-pub(crate) fn note_unreadable<O: Outputs>(outputs: &mut O, name: &[u8]) -> Result<(), Fault>
-    ensures ok { OnOk result (O.states outputs.new ≡ with_text Output.Notes (unreadable_line name.now) (O.states outputs.old)) }
-    ensures err { OnErr result (BreaksOutput Output.Notes (unreadable_line name.now) (O.states outputs.old) (O.states outputs.new)) }
+/// Says that make cannot read a name.
+pub(crate) fn say_unreadable<D: Device>(device: &mut D, options: &Options, name: &[u8]) -> Result<(), Stop<'static>>
+    ensures { Says (lead options.now ++ unreadable_line name.now) result (D.log device.old) (D.log device.new) }
 {
-    note_parts(
-        outputs,
-        &[
-            b"error E23: make cannot read the name ",
-            first_line(name),
-            b"\n",
-        ],
-    )
+    let [config, colon] = options.lead();
+    say_parts(device, &[config, colon, b"error E23: make cannot read the name ", first_line(name), b"\n"])
 }
 
-// Writes an error line, or as much of it as the notes take: whether that is all of it.
-fn note_line<O: Outputs>(outputs: &mut O, parts: &[&[u8]]) -> bool
-    ensures { NotesLine (flat_map (λ part. part.now) parts.now) (O.states outputs.old) (O.states outputs.new) }
+/// Says that a file is not up to date.
+pub(crate) fn say_stale<D: Device>(device: &mut D, options: &Options, name: &str) -> Result<(), Stop<'static>>
+    ensures { Says (lead options.now ++ stale_line name.now) result (D.log device.old) (D.log device.new) }
 {
-    match note_parts(outputs, parts) {
-        Ok(()) => true,
-        Err(Fault) => false,
+    let [config, colon] = options.lead();
+    say_parts(device, &[config, colon, b"error E22: ", name.as_bytes(), b" is not up to date\n"])
+}
+
+// What the error line of a device that failed says, before the name and the name; there is none for the diagnostics.
+fn failure_message<'n>(failure: Failure<'n>) -> Option<(&'static [u8], &'n str)> {
+    match (failure.action, failure.fault) {
+        (Action::Note, _) => None,
+        (_, Fault::Memory) => Some((b"error E20: out of memory", "")),
+        (Action::Open | Action::Read, Fault::Refused) => Some((
+            b"error E18: cannot read ",
+            failure.name,
+        )),
+        (_, Fault::Refused) => Some((b"error E19: cannot write ", failure.name)),
     }
 }
 
-// Writes the one error line of a fault, unless the notes are what failed: whether the notes took it.
-pub(crate) fn report<O: Outputs>(options: &Options, fault: RunFault, outputs: &mut O) -> bool
-    ensures { Reports options.now fault (O.states outputs.old) (O.states outputs.new) }
+/// Says why a run was broken off, unless the diagnostics are what failed. A fault in it changes nothing else.
+pub(crate) fn report<D: Device>(device: &mut D, options: &Options, stop: Stop<'_>)
+    ensures { Reports options.now stop.entry (D.log device.old) (D.log device.new) }
 {
-    match fault {
-        RunFault::Read(input) => note_line(outputs, &cannot_read(stream_name(options, input))),
-        RunFault::Write(Output::Notes) => false,
-        RunFault::Write(output) => note_line(outputs, &cannot_write(name_of(options, output))),
-        RunFault::Memory => note_line(outputs, &[out_of_memory().as_bytes()]),
+    let message = match stop {
+        Stop::OutOfMemory => Some((b"error E20: out of memory", "")),
+        Stop::Failed(failure) => failure_message(failure),
+    };
+    if let Some((before, name)) = message {
+        let [config, colon] = options.lead();
+        let _ = device.note(&[config, colon, before, name.as_bytes(), b"\n"]);
     }
 }

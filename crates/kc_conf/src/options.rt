@@ -1,11 +1,21 @@
-//! What is asked of a run, how it ends, and the names that its error lines tell.
+//! What is asked of a run, and how it ends.
 
-ghost use Rattle.std.specs.Prelude.{◌≡◌, ◌<◌, Some};
-ghost use Rattle.kc_conf.specs.Faults.{name_of, stream_name};
-ghost use Rattle.kc_conf.specs.ReadFaults.{holds_warnings};
+ghost use Rattle.std.specs.Prelude.{◌≡◌, [], slice_index_or};
+ghost use Rattle.std.specs.List.{flat_map};
+ghost use Rattle.kc_conf.specs.Asked.{holds_warnings, input_files, lead, target};
 
-use crate::outputs::Output;
 use kc_dot::prefix::Prefix;
+
+/// What is done with the texts of a run.
+#[derive(Clone, Copy, Debug, PartialEq, Eq)]
+pub enum Delivery {
+    /// Each is written to its file.
+    Write,
+    /// Those that differ from their files take their places at the end, each in one step.
+    Replace,
+    /// Each is compared with its file, and none is written.
+    Check,
+}
 
 /// What is asked of a run. The names of files are as they were given.
 #[derive(Drop)]
@@ -14,15 +24,15 @@ pub struct Options {
     pub root: String,
     /// The `.config` to read.
     pub config: String,
-    /// The full `.config` to write.
-    pub out: String,
+    /// The full `.config` to write. A dependency file needs one: its rule makes this file.
+    pub out: Option<String>,
     /// The Kconfig file to begin with.
     pub kconfig: String,
     /// The header to write.
     pub header: Option<String>,
     /// The minimal `.config` to write.
     pub minimal: Option<String>,
-    /// The rule for make to write.
+    /// The dependency file to write.
     pub depfile: Option<String>,
     /// The files to read after the `.config`, in this order.
     pub fragments: Vec<String>,
@@ -37,20 +47,22 @@ pub struct Options {
     pub strict_tree: bool,
     /// Whether a value that was given and is not the symbol's is warned of (K14), and a line that changes a value (K15).
     pub warn_lost: bool,
-    /// Whether each file is replaced in one step at the end, and only where its text changes.
-    pub replace: bool,
+    /// What is done with the texts.
+    pub delivery: Delivery,
+    /// Whether each diagnostic that is not about a line of the `.config` begins with the name of the `.config`, as where many are run.
+    pub names_config: bool,
 }
 
 /// How a run ends (our own).
 #[derive(Clone, Copy, Debug, PartialEq, Eq)]
 pub enum Status {
-    /// The files are written.
+    /// The files are written, or up to date.
     Done,
-    /// The tree, a name for make, a line of a stream or a warning is refused, and nothing was begun.
+    /// The tree, a name for make, a line of a stream or a warning is refused, and nothing was begun; or a file is not up to date.
     Refused,
     /// The command line is bad. `run` never answers it.
     Usage,
-    /// A device failed, or no memory was to be had.
+    /// A device failed, or there was no memory.
     Faulted,
 }
 
@@ -63,37 +75,45 @@ impl Options {
     }
 }
 
-// The name of an output, in an error line.
-pub(crate) fn name_of(options: &Options, output: Output) -> &[u8]
-    ensures { result.now ≡ name_of options.now output }
-{
-    match output {
-        Output::Config => options.out.as_bytes(),
-        Output::Header => match &options.header {
-            Some(name) => name.as_bytes(),
-            None => b"",
-        },
-        Output::Minimal => match &options.minimal {
-            Some(name) => name.as_bytes(),
-            None => b"",
-        },
-        Output::Depfile => match &options.depfile {
-            Some(name) => name.as_bytes(),
-            None => b"",
-        },
-        Output::Notes => b"",
+impl Options {
+    // What each diagnostic begins with that is not about a line of the `.config`, in two parts.
+    pub(crate) fn lead(&self) -> [&[u8]; 2]
+        ensures { flat_map (λ part. part.now) result ≡ lead self.now }
+    {
+        if self.names_config {
+            [self.config.as_bytes(), b": "]
+        } else {
+            [b"", b""]
+        }
     }
-}
 
-// The name of a stream: 0 is the `.config`, n the n-th fragment.
-pub(crate) fn stream_name(options: &Options, input: usize) -> &[u8]
-    ensures { result.now ≡ stream_name options.now input }
-{
-    match input {
-        0 => options.config.as_bytes(),
-        n => match options.fragments.get(n - 1) {
-            Some(name) => name.as_bytes(),
-            None => b"",
-        },
+    // The name of an input file: 0 is the `.config`, n the n-th fragment.
+    pub(crate) fn input_file(&self, i: usize) -> &str
+        ensures { result.now ≡ slice_index_or (input_files self.now) i [] }
+    {
+        match i {
+            0 => self.config.as_str(),
+            n => match self.fragments.get(n - 1) {
+                Some(name) => name.as_str(),
+                None => "",
+            },
+        }
+    }
+
+    // Whether the warnings of the input files are said only once all are read.
+    pub(crate) fn holds_warnings(&self) -> bool
+        ensures { result ≡ holds_warnings self.now }
+    {
+        self.strict || self.strict_tree
+    }
+
+    // The file that a dependency file's rule makes.
+    pub(crate) fn target(&self) -> &str
+        ensures { result.now ≡ target self.now }
+    {
+        match &self.out {
+            Some(name) => name.as_str(),
+            None => "",
+        }
     }
 }

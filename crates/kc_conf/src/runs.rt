@@ -1,612 +1,396 @@
-//! The run over devices.
-ghost use Rattle.std.specs.Prelude.{◌≡◌, ◌≢◌, ◌+◌, ◌||◌, ◌⊎◌, List, ℕ, length, map, Some, Ok, Err, OnOk, IfErr, IfOk, ◌&&◌};
-ghost use Rattle.std.specs.List.{list_any};
-ghost use Rattle.kc_read.specs.Expansion.{Refused};
+//! One run: it accepts the tree, reads the input files, computes the texts and delivers them.
+ghost use Rattle.std.specs.Prelude.{◌≡◌, ◌≢◌, ◌++◌, ℕ, List, [], map, option_map, Err};
 ghost use Rattle.kc_read.specs.Files.{Files, bytes_in};
 ghost use Rattle.kc_read.specs.RefusalView.{refusal_view};
 ghost use Rattle.kc_read.specs.declared.refusal.Code.TheVariants.{Memory};
-ghost use Rattle.kc_user.specs.Places.{ArePlacesOf};
-ghost use Rattle.kc_tree.specs.TreeFacts.{TreeFacts};
-ghost use Rattle.kc_build.specs.Trees.{IsTreeOf};
-ghost use Rattle.kc_solve.specs.Graphs.{IsGraphOf};
-ghost use Rattle.kc_solve.specs.Solved.{Solution};
-ghost use Rattle.kc_tree.specs.Layouts.{IsLayoutOf};
+ghost use Rattle.kc_io.specs.TextViews.{text_view};
+ghost use Rattle.kc_conf.specs.Accepted.{IsAcceptedOf, IsReadOf, IsReady};
+ghost use Rattle.kc_conf.specs.Asked.{lead};
+ghost use Rattle.kc_conf.specs.Ends.{Runs};
+ghost use Rattle.kc_conf.specs.Endings.{Answers, Ends, HandsBy, SaysAll, line_if, status_if, texts_or};
 ghost use Rattle.kc_conf.specs.ErrorLines.{refusal_line, strict_line, too_long_line, unreadable_line};
-ghost use Rattle.kc_conf.specs.FaultParts.{IsNoInputFault, IsNotesFault};
-ghost use Rattle.kc_conf.specs.Faults.{Completes, BreaksRun, CountsInputs, Faults};
-ghost use Rattle.kc_conf.specs.InputBytes.{AreAllToCome};
-ghost use Rattle.kc_conf.specs.AcceptedTree.{HoldsTree};
-ghost use Rattle.kc_conf.specs.Outcome.{AreOpenedIf, Outcome, has_text, lines_text, outcome_of, refused, strictly, root_file, read_of, IsAcceptedTree, IsRefusedName, IsRefusedTree, IsSolutionFor, IsOutcome, IsOutcomeOfReading, IsOutcomeOfTree, NamesAreRead, OneAnswer, OneOutcome, files_of, refused_if};
-ghost use Rattle.kc_conf.specs.Taken.{is_outside, lost_warnings, refuses_input};
-ghost use Rattle.kc_conf.specs.OutputStates.{ChangesOnly};
-ghost use Rattle.kc_conf.specs.Presence.{MayStrike, StreamsAreThere};
-ghost use Rattle.kc_conf.specs.Rules.{AreListed, BreaksInRule, EndsWithRule, rule_of, unreadable_among};
-ghost use Rattle.kc_conf.specs.Stops.{IsOutOfMemory};
-ghost use Rattle.kc_conf.specs.Leaves.{Keeps, Leaves};
-ghost use Rattle.kc_conf.specs.TreeFiles.{files_in};
-ghost use Rattle.kc_conf.specs.ReadFaults.{StopsReading, StopsStreams};
-ghost use Rattle.kc_conf.specs.Reads.{AreRead, StopsTree, behind_warnings, stop_of, strictly_after};
-ghost use Rattle.kc_conf.specs.declared.run_fault.RunFault.{RunFault};
+ghost use Rattle.kc_conf.specs.Outcome.{AreLines, root_file, has_text, lines_text, names_listed, unreadable_name};
+ghost use Rattle.kc_conf.specs.PartRuns.{LeavesPart, LeavesRun, SaysLines};
+ghost use Rattle.kc_conf.specs.Reads.{stop_of};
 
-use crate::input::Input;
-use crate::laws::exactly_one_outcome;
-use crate::lost::lost_warnings;
-use crate::notes::{note_lines, note_refusal, note_strict, note_too_long, note_unreadable, report};
-use crate::options::{Options, Status};
-use crate::outputs::{Output, Outputs};
-use crate::reading::LongLine;
-use crate::run_fault::RunFault;
-use crate::stream_warnings::tell_streams;
-use crate::tree_files::{TreeFiles, names_listed, opened_if, unreadable_among};
-use crate::writing::{make_depfile, make_files};
-use kc_build::laws::one_tree;
-use kc_build::{read_listing, tree_of};
-use kc_dot::Fault;
+use crate::accepted::{AcceptedTree, OrderedTree, TreeReading, read_tree};
+use crate::compute::{compute, names_listed};
+use crate::laws::{exactly_one_outcome, one_answer, outcome_exists};
+use crate::notes::{
+    report, say_lines, say_long_line, say_parts, say_refusal, say_stale, say_strict,
+    say_unreadable,
+};
+use crate::options::{Delivery, Options, Status};
+use crate::reading::{LongLine, Waiting, read_inputs, stream_names};
+use crate::stop::Stop;
 use kc_dot::user_input::UserInput;
 use kc_expr::names::Names;
-use kc_read::laws::opened_are_one_list;
-use kc_order::one_named_loop;
+use kc_io::{Device, Manner, Text, deliver};
+use kc_load::unreadable_name;
 use kc_read::file_map::FileMap;
+use kc_read::laws::opened_are_one_list;
 use kc_read::refusal::{Code, Refusal};
 use kc_solve::order::EvaluationOrder;
-use kc_solve::solve::solve;
-use kc_solve::solved::Solved;
-use kc_tree::layout::Layout;
 use kc_tree::tree::Tree;
 use std::alloc::Global;
 
-/// The tree that a run accepted, with the order that the run used, which is let go where the tree is.
-#[derive(Drop)]
-pub struct AcceptedTree {
-    /// The tree.
-    pub tree: Tree,
-    order: EvaluationOrder,
+// ---- the texts
+
+// Says which files do not hold their texts.
+fn check<D: Device>(
+    options: &Options,
+    texts: &[Text<'_>],
+    device: &mut D,
+) -> Result<Status, Stop<'static>>
+    requires { options.now.delivery ≡ Delivery.Check }
+    ensures { Ends options.now [] [] (map text_view texts.now) Status.Done result (D.log device.old) (D.log device.new) }
+{
+    let mut status = Status::Done;
+    for text in texts {
+        if !device.holds(text.name, &text.bytes) {
+            if let Err(stop) = say_stale(device, options, text.name) {
+                return Err(stop);
+            }
+            status = Status::Refused;
+        }
+    }
+    Ok(status)
 }
 
-// Writes the refusal of a tree.
-fn refuse_tree<O: Outputs>(outputs: &mut O, refusal: &Refusal) -> Result<Status, RunFault>
-    ensures ok { IfOk result (λ status. Completes (refused (refusal_line (refusal_view refusal.now))) status (O.states outputs.old) (O.states outputs.new)) }
-    ensures err { IfErr result (λ fault. BreaksRun (refused (refusal_line (refusal_view refusal.now))) fault (O.states outputs.old) (O.states outputs.new)) }
-    ensures fault { IfErr result IsNotesFault }
-    ensures only { ChangesOnly Output.Notes (O.states outputs.old) (O.states outputs.new) }
+// Delivers the texts in this manner.
+fn hand_out<'o, D: Device>(
+    manner: Manner,
+    texts: Vec<Text<'o>>,
+    device: &mut D,
+) -> Result<Status, Stop<'o>>
+    ensures { HandsBy manner (map text_view texts.entry.items) (D.log device.old) (D.log device.new) result }
 {
-    match note_refusal(outputs, refusal) {
-        Ok(()) => Ok(Status::Refused),
-        Err(Fault) => Err(RunFault::Write(Output::Notes)),
+    match deliver(manner, texts, device) {
+        Ok(()) => Ok(Status::Done),
+        Err(failure) => Err(Stop::Failed(failure)),
     }
 }
 
-// Writes the refusal of a line that is too long.
-fn refuse_line<O: Outputs>(outputs: &mut O, long: &LongLine<'_>) -> Result<Status, RunFault>
-    ensures ok { IfOk result (λ status. Completes (refused (too_long_line (stop_of long.now))) status (O.states outputs.old) (O.states outputs.new)) }
-    ensures err { IfErr result (λ fault. BreaksRun (refused (too_long_line (stop_of long.now))) fault (O.states outputs.old) (O.states outputs.new)) }
-    ensures fault { IfErr result IsNoInputFault }
+// Delivers the texts, or compares them with their files.
+fn hand_out_by<'o, D: Device>(
+    options: &Options,
+    texts: Vec<Text<'o>>,
+    device: &mut D,
+) -> Result<Status, Stop<'o>>
+    ensures { Ends options.now [] [] (map text_view texts.entry.items) Status.Done result (D.log device.old) (D.log device.new) }
 {
-    match note_too_long(outputs, long) {
-        Ok(()) => Ok(Status::Refused),
-        Err(Fault) => Err(RunFault::Write(Output::Notes)),
+    match options.delivery {
+        Delivery::Write => hand_out(Manner::Plain, texts, device),
+        Delivery::Replace => hand_out(Manner::Replacing, texts, device),
+        Delivery::Check => check(options, &texts, device),
     }
 }
 
-// Refuses the warnings.
-fn refuse_warnings<O: Outputs>(outputs: &mut O) -> Result<Status, RunFault>
-    ensures ok { IfOk result (λ status. Completes (refused strict_line) status (O.states outputs.old) (O.states outputs.new)) }
-    ensures err { IfErr result (λ fault. BreaksRun (refused strict_line) fault (O.states outputs.old) (O.states outputs.new)) }
-    ensures fault { IfErr result IsNoInputFault }
+// ---- how a run ends
+
+// Refuses warnings.
+fn refuse_warnings<D: Device>(
+    options: &Options,
+    device: &mut D,
+) -> Result<Status, Stop<'static>>
+    ensures { Ends options.now [] (lead options.now ++ strict_line) [] Status.Refused result (D.log device.old) (D.log device.new) }
 {
-    match note_strict(outputs) {
+    match say_strict(device, options) {
         Ok(()) => Ok(Status::Refused),
-        Err(Fault) => Err(RunFault::Write(Output::Notes)),
+        Err(stop) => Err(stop),
+    }
+}
+
+// Refuses a line that is too long.
+fn refuse_line<D: Device>(long: LongLine<'_>, device: &mut D) -> Result<Status, Stop<'static>>
+    ensures { (options : Options) → Ends options [] (too_long_line (stop_of long.entry)) [] Status.Refused result (D.log device.old) (D.log device.new) }
+{
+    match say_long_line(device, &long) {
+        Ok(()) => Ok(Status::Refused),
+        Err(stop) => Err(stop),
     }
 }
 
 // Refuses a name that make cannot read.
-pub(crate) fn refuse_name<O: Outputs>(outputs: &mut O, name: &[u8]) -> Result<Status, RunFault>
-    ensures ok { IfOk result (λ status. Completes (refused (unreadable_line name.now)) status (O.states outputs.old) (O.states outputs.new)) }
-    ensures err { IfErr result (λ fault. BreaksRun (refused (unreadable_line name.now)) fault (O.states outputs.old) (O.states outputs.new)) }
-    ensures fault { IfErr result IsNotesFault }
+fn refuse_name<D: Device>(
+    options: &Options,
+    name: &[u8],
+    device: &mut D,
+) -> Result<Status, Stop<'static>>
+    ensures { Ends options.now [] (lead options.now ++ unreadable_line name.now) [] Status.Refused result (D.log device.old) (D.log device.new) }
 {
-    match note_unreadable(outputs, name) {
+    match say_unreadable(device, options, name) {
         Ok(()) => Ok(Status::Refused),
-        Err(Fault) => Err(RunFault::Write(Output::Notes)),
+        Err(stop) => Err(stop),
     }
 }
 
-// Writes the files, or refuses them.
-fn make_or_refuse<O: Outputs>(
+// Says why no tree is accepted.
+fn refuse<D: Device>(refusal: &Refusal, device: &mut D) -> Result<Status, Stop<'static>>
+    ensures memory { refusal.now.code ≡ Memory → (result ≡ Err Stop.OutOfMemory) × (D.log device.new ≡ D.log device.old) }
+    ensures said { refusal.now.code ≢ Memory → (options : Options) → Ends options [] (refusal_line (refusal_view refusal.now)) [] Status.Refused result (D.log device.old) (D.log device.new) }
+{
+    if let Code::Memory = refusal.code {
+        return Err(Stop::OutOfMemory);
+    }
+    match say_refusal(device, refusal) {
+        Ok(()) => Ok(Status::Refused),
+        Err(stop) => Err(stop),
+    }
+}
+
+// Says what waits, if anything does.
+fn say_waiting<D: Device>(waiting: &[u8], device: &mut D) -> Result<(), Stop<'static>>
+    requires { AreLines waiting.now }
+    ensures { SaysAll waiting.now result (D.log device.old) (D.log device.new) }
+{
+    if waiting.is_empty() {
+        return Ok(());
+    }
+    say_parts(device, &[waiting])
+}
+
+// Delivers the texts, or refuses them.
+fn hand_or_refuse<'o, D: Device>(
+    options: &Options,
+    texts: Option<Vec<Text<'o>>>,
+    device: &mut D,
+) -> Result<Status, Stop<'o>>
+    ensures { let given = option_map (λ texts. map text_view texts.items) texts.entry in
+        Ends options.now [] (line_if options.now given) (texts_or given) (status_if given) result (D.log device.old) (D.log device.new) }
+{
+    match texts {
+        Some(texts) => hand_out_by(options, texts, device),
+        None => refuse_warnings(options, device),
+    }
+}
+
+// Says what waits, and then delivers the texts, or refuses them.
+fn finish<'o, D: Device>(
+    options: &Options,
+    waiting: &[u8],
+    texts: Option<Vec<Text<'o>>>,
+    device: &mut D,
+) -> Result<Status, Stop<'o>>
+    requires { AreLines waiting.now }
+    ensures { let given = option_map (λ texts. map text_view texts.items) texts.entry in
+        Ends options.now waiting.now (line_if options.now given) (texts_or given) (status_if given) result (D.log device.old) (D.log device.new) }
+{
+    match say_waiting(waiting, device) {
+        Ok(()) => hand_or_refuse(options, texts, device),
+        Err(stop) => Err(stop),
+    }
+}
+
+// Says what waits, and then refuses a line that is too long.
+fn finish_long<D: Device>(
+    waiting: &[u8],
+    long: LongLine<'_>,
+    device: &mut D,
+) -> Result<Status, Stop<'static>>
+    requires { AreLines waiting.now }
+    ensures { (options : Options) → Ends options waiting.now (too_long_line (stop_of long.entry)) [] Status.Refused result (D.log device.old) (D.log device.new) }
+{
+    match say_waiting(waiting, device) {
+        Ok(()) => refuse_line(long, device),
+        Err(stop) => Err(stop),
+    }
+}
+
+// ---- the run
+
+// Runs for one configuration of an accepted tree, behind what was said of the tree: `is_warned` tells whether it has warnings.
+fn run_inputs<'o, D: Device>(
     alloc: Global,
-    options: &Options,
-    tree: &Tree,
-    solved: &Solved<'_>,
-    is_refused: bool,
-    outputs: &mut O,
-) -> Result<Status, RunFault>
-    requires { solved.now.tree ≡ tree.now }
-    ensures ok { IfOk result (λ status. Completes (refused_if is_refused (files_of options.now tree.now solved.now)) status (O.states outputs.old) (O.states outputs.new)) }
-    ensures err { IfErr result (λ fault. BreaksRun (refused_if is_refused (files_of options.now tree.now solved.now)) fault (O.states outputs.old) (O.states outputs.new)) }
-    ensures fault { IfErr result IsNoInputFault }
-{
-    if is_refused {
-        return refuse_warnings(outputs);
-    }
-    make_files(alloc, options, tree, solved, outputs)?;
-    Ok(Status::Done)
-}
-
-// Whether anything was warned of before, or is by these lines.
-#[tactic(auto, using(crate::proofs::TellingLemmas::told_by_lines))]
-pub(crate) fn is_warned_by(before: bool, lines: &[Vec<u8>]) -> bool
-    ensures { result ≡ (before || has_text (lines_text (map (λ line. line.items) lines.now))) }
-{
-    before || !lines.is_empty()
-}
-
-// Whether anything was warned of before, or later.
-fn is_either(before: bool, later: bool) -> bool
-    ensures { result ≡ (before || later) }
-{
-    before || later
-}
-
-// Whether the line warns of a user value outside its range.
-fn is_outside(line: &[u8]) -> bool
-    ensures { result ≡ is_outside line.now }
-{
-    line.starts_with(b"warning K12: ")
-}
-
-// Whether one of the lines does.
-fn is_any_outside(lines: &[Vec<u8>]) -> bool
-    ensures { result ≡ list_any is_outside (map (λ line. line.items) lines.now) }
-{
-    for line in lines {
-        if is_outside(line) {
-            return true;
-        }
-    }
-    false
-}
-
-// Whether --strict refuses the user's input, given the values' warnings and the lines of the values that are lost.
-fn refuses_input(
-    options: &Options,
-    input: &UserInput<'_>,
-    solved: &Solved<'_>,
-    lost: &[Vec<u8>],
-) -> bool
-    requires { map (λ line. line.items) lost.now ≡ lost_warnings options.now input.now solved.now }
-    ensures { result ≡ refuses_input options.now input.now solved.now }
-{
-    options.strict
-        && !(input.all_taken() && !is_any_outside(solved.value_warnings()) && lost.is_empty())
-}
-
-// Whether the files are refused: a line was not taken as written, or there is a warning and none may pass.
-fn is_refused(is_left_out: bool, lets_none_pass: bool, is_warned: bool) -> bool
-    ensures { result ≡ (is_left_out || (lets_none_pass && is_warned)) }
-{
-    is_left_out || lets_none_pass && is_warned
-}
-
-// Writes the lines of the values that are lost, where they are asked for, and the files.
-fn run_lost<O: Outputs>(
-    alloc: Global,
-    options: &Options,
-    tree: &Tree,
-    input: &UserInput<'_>,
-    solved: &Solved<'_>,
+    options: &'o Options,
+    accepted: &OrderedTree<'_>,
+    names: &Option<Names>,
     is_warned: bool,
-    outputs: &mut O,
-) -> Result<Status, RunFault>
-    requires { solved.now.tree ≡ tree.now }
-    ensures ok { IfOk result (λ status. Completes (strictly_after options.now.strict_tree is_warned (behind_warnings options.now tree.now input.now solved.now)) status (O.states outputs.old) (O.states outputs.new)) }
-    ensures err { IfErr result (λ fault. BreaksRun (strictly_after options.now.strict_tree is_warned (behind_warnings options.now tree.now input.now solved.now)) fault (O.states outputs.old) (O.states outputs.new)) }
-    ensures fault { IfErr result IsNoInputFault }
+    device: &mut D,
+) -> Result<Status, Stop<'o>>
+    requires ready { IsReady accepted.now }
+    requires names { names.now ≡ names_listed options.now accepted.now.opened.now }
+    requires read { unreadable_name options.now accepted.now.opened.now ≡ None }
+    requires warned { is_warned ≡ has_text (lines_text accepted.now.tree.now.warnings) }
+    ensures { (files : Files) → IsAcceptedOf files options.now accepted.now → LeavesPart files options.now accepted.now.tree.now result (D.log device.old) (D.log device.new) }
 {
-    let lost = lost_warnings(alloc, options, input, solved)?;
-    let lines = lost.as_slice();
-    if let Err(Fault) = note_lines(outputs, lines) {
-        return Err(RunFault::Write(Output::Notes));
-    }
-    let is_warned = is_warned_by(is_warned, lines);
-    let is_left_out = refuses_input(options, input, solved, lines);
-    let is_refused = is_refused(is_left_out, options.strict_tree, is_warned);
-    make_or_refuse(alloc, options, tree, solved, is_refused, outputs)
-}
-
-// Solves the tree for the user's values, and writes the values' warnings and what follows them.
-fn run_solved<O: Outputs>(
-    alloc: Global,
-    options: &Options,
-    tree: &Tree,
-    layout: &Layout,
-    order: &EvaluationOrder,
-    user: &UserInput<'_>,
-    is_warned: bool,
-    outputs: &mut O,
-) -> Result<Status, RunFault>
-    requires laid { IsLayoutOf tree.now layout.now }
-    requires order { IsGraphOf tree.now layout.now order.now }
-    requires user { ArePlacesOf tree.now user.now.places }
-    ensures ok { IfOk result (λ status. (solution : Solution) × IsSolutionFor tree.now user.now.places solution
-        × Completes (strictly_after options.now.strict_tree is_warned (outcome_of options.now tree.now user.now solution)) status (O.states outputs.old) (O.states outputs.new)) }
-    ensures err { IfErr result (λ fault. (solution : Solution) → IsSolutionFor tree.now user.now.places solution
-        → BreaksRun (strictly_after options.now.strict_tree is_warned (outcome_of options.now tree.now user.now solution)) fault (O.states outputs.old) (O.states outputs.new)) }
-    ensures fault { IfErr result IsNoInputFault }
-{
-    let solved = solve(alloc, tree, layout, order, user.user())?;
-    solved.is_solution();
-    if let Err(Fault) = note_lines(outputs, solved.value_warnings()) {
-        return Err(RunFault::Write(Output::Notes));
-    }
-    let is_warned = is_warned_by(is_warned, solved.value_warnings());
-    run_lost(alloc, options, tree, user, &solved, is_warned, outputs)
-}
-
-// Reads the streams, and writes what follows from them.
-pub(crate) fn run_read<I: Input, O: Outputs>(
-    alloc: Global,
-    options: &Options,
-    tree: &Tree,
-    layout: &Layout,
-    order: &EvaluationOrder,
-    is_warned: bool,
-    inputs: &mut [I],
-    outputs: &mut O,
-) -> Result<Status, RunFault>
-    requires laid { IsLayoutOf tree.now layout.now }
-    requires order { IsGraphOf tree.now layout.now order.now }
-    requires inputs { length inputs.old ≡ length options.now.fragments.items + 1 }
-    ensures ok { IfOk result (λ status. (all : List (List ℕ)) × AreRead (map I.remaining inputs.old) (map I.is_there inputs.old) all
-        × ((part : Outcome) × IsOutcomeOfReading options.now tree.now (read_of options.now tree.now all) part
-        × Completes (strictly_after options.now.strict_tree is_warned part) status (O.states outputs.old) (O.states outputs.new))) }
-    ensures err { IfErr result (λ fault. (all : List (List ℕ)) × AreAllToCome (map I.remaining inputs.old) all
-        × ((part : Outcome) → IsOutcomeOfReading options.now tree.now (read_of options.now tree.now all) part
-        → BreaksRun (strictly_after options.now.strict_tree is_warned part) fault (O.states outputs.old) (O.states outputs.new))
-        × StopsStreams options.now tree.now (map I.remaining inputs.old) (map I.remaining inputs.new) (map I.is_there inputs.old) all fault (O.states outputs.old) (O.states outputs.new)) }
-    ensures may { IfErr result (MayStrike (map I.may_fail inputs.old)) }
-    ensures quiet_inputs { OnOk result (map I.failures inputs.new ≡ map I.failures inputs.old) }
-    ensures counted_inputs { IfErr result (λ fault. CountsInputs fault (map I.failures inputs.old) (map I.failures inputs.new)) }
-{
+    outcome_exists();
+    exactly_one_outcome();
+    let tree = accepted.tree;
+    let streams = stream_names(alloc, options)?;
     let mut user = UserInput::new(alloc, tree, options.warn_lost)?;
-    let streamed = match tell_streams(alloc, options, tree, inputs, &mut user, outputs) {
-        Ok(streamed) => streamed,
-        Err(fault) => return Err(fault),
+    let mut waiting = Waiting {
+        holds: options.holds_warnings(),
+        text: Vec::new(alloc),
     };
-    match streamed.long {
-        None => {
-            let is_warned = is_either(is_warned, streamed.is_warned);
-            run_solved(
-                alloc, options, tree, layout, order, &user, is_warned, outputs,
-            )
-        }
-        Some(long) => refuse_line(outputs, &long),
-    }
-}
-
-// Writes the tree's warnings, and then what follows from the streams.
-fn run_tree<I: Input, O: Outputs>(
-    alloc: Global,
-    options: &Options,
-    tree: &Tree,
-    layout: &Layout,
-    order: &EvaluationOrder,
-    inputs: &mut [I],
-    outputs: &mut O,
-) -> Result<Status, RunFault>
-    requires laid { IsLayoutOf tree.now layout.now }
-    requires order { IsGraphOf tree.now layout.now order.now }
-    requires inputs { length inputs.old ≡ length options.now.fragments.items + 1 }
-    ensures ok { IfOk result (λ status. (all : List (List ℕ)) × AreRead (map I.remaining inputs.old) (map I.is_there inputs.old) all
-        × ((part : Outcome) × IsOutcomeOfTree options.now tree.now all part
-        × Completes (strictly options.now.strict_tree part) status (O.states outputs.old) (O.states outputs.new))) }
-    ensures err { IfErr result (λ fault. (all : List (List ℕ)) × AreAllToCome (map I.remaining inputs.old) all
-        × ((part : Outcome) → IsOutcomeOfTree options.now tree.now all part
-        → BreaksRun (strictly options.now.strict_tree part) fault (O.states outputs.old) (O.states outputs.new))
-        × StopsTree options.now tree.now (map I.remaining inputs.old) (map I.remaining inputs.new) (map I.is_there inputs.old) all fault (O.states outputs.old) (O.states outputs.new)) }
-    ensures may { IfErr result (MayStrike (map I.may_fail inputs.old)) }
-    ensures quiet_inputs { OnOk result (map I.failures inputs.new ≡ map I.failures inputs.old) }
-    ensures counted_inputs { IfErr result (λ fault. CountsInputs fault (map I.failures inputs.old) (map I.failures inputs.new)) }
-{
-    if let Err(Fault) = note_lines(outputs, tree.parse_warnings()) {
-        return Err(RunFault::Write(Output::Notes));
-    }
-    let is_warned = is_warned_by(false, tree.parse_warnings());
-    run_read(
-        alloc, options, tree, layout, order, is_warned, inputs, outputs,
-    )
-}
-
-// Writes the rule for make behind the files, where the run wrote them and the rule is wanted.
-pub(crate) fn end_run<O: Outputs>(
-    alloc: Global,
-    options: &Options,
-    names: &Option<Names>,
-    status: Status,
-    outputs: &mut O,
-) -> Result<Status, RunFault>
-    ensures ok { IfOk result (λ ended. EndsWithRule (rule_of options.now names.now) status ended (O.states outputs.old) (O.states outputs.new)) }
-    ensures err { IfErr result (λ fault. BreaksInRule (rule_of options.now names.now) status fault (O.states outputs.old) (O.states outputs.new)) }
-    ensures fault { IfErr result IsNoInputFault }
-{
-    if status != Status::Done {
-        return Ok(status);
-    }
-    let names = match names {
-        Some(names) => names,
-        None => return Ok(status),
+    let long = match read_inputs(
+        alloc,
+        options,
+        &options.prefix,
+        &streams,
+        tree,
+        device,
+        &mut user,
+        &mut waiting,
+    ) {
+        Ok(long) => long,
+        Err(stop) => return Err(stop),
     };
-    match make_depfile(alloc, options, names, outputs) {
-        Ok(()) => Ok(status),
-        Err(fault) => Err(fault),
+    if let Some(long) = long {
+        return finish_long(&waiting.text, long, device);
+    }
+    let texts = compute(
+        alloc,
+        options,
+        accepted,
+        names,
+        &user,
+        is_warned,
+        &mut waiting.text,
+    )?;
+    finish(options, &waiting.text, texts, device)
+}
+
+// The first name in the dependency file that make cannot read.
+fn unreadable_among<'n>(options: &'n Options, names: &'n Option<Names>) -> Option<&'n [u8]>
+    ensures { (opened : List (List ℕ)) → names.now ≡ names_listed options.now opened → option_map (λ name. name.now) result ≡ unreadable_name options.now opened }
+{
+    match names {
+        Some(names) => unreadable_name(options.target().as_bytes(), names),
+        None => None,
     }
 }
 
-// Runs over an accepted tree: refuses a name that make cannot read, or writes the tree's warnings, what follows from the
-// streams, and the rule for make.
-fn run_accepted<I: Input, O: Outputs>(
+// Says the tree's warnings, if there are any.
+fn say_tree<D: Device>(
     alloc: Global,
-    options: &Options,
-    names: &Option<Names>,
-    tree: &Tree,
-    layout: &Layout,
-    order: &EvaluationOrder,
-    inputs: &mut [I],
-    outputs: &mut O,
-) -> Result<Status, RunFault>
-    requires laid { IsLayoutOf tree.now layout.now }
-    requires order { IsGraphOf tree.now layout.now order.now }
-    requires inputs { length inputs.old ≡ length options.now.fragments.items + 1 }
-    ensures ok { IfOk result (λ status. (files : Files) → IsAcceptedTree files (root_file options.now) tree.now → AreListed options.now files names.now
-        → (all : List (List ℕ)) × AreAllToCome (map I.remaining inputs.old) all × (NamesAreRead files options.now → StreamsAreThere all (map I.is_there inputs.old))
-        × ((outcome : Outcome) × IsOutcome files options.now all outcome
-        × Completes outcome status (O.states outputs.old) (O.states outputs.new))) }
-    ensures err { IfErr result (λ fault. (files : Files) → IsAcceptedTree files (root_file options.now) tree.now → AreListed options.now files names.now
-        → (all : List (List ℕ)) × AreAllToCome (map I.remaining inputs.old) all
-        × ((outcome : Outcome) → IsOutcome files options.now all outcome
-        → BreaksRun outcome fault (O.states outputs.old) (O.states outputs.new))
-        × StopsReading files options.now (map I.remaining inputs.old) (map I.remaining inputs.new) (map I.is_there inputs.old) all fault (O.states outputs.old) (O.states outputs.new)) }
-    ensures may { IfErr result (MayStrike (map I.may_fail inputs.old)) }
-    ensures quiet_inputs { OnOk result (map I.failures inputs.new ≡ map I.failures inputs.old) }
-    ensures counted_inputs { IfErr result (λ fault. CountsInputs fault (map I.failures inputs.old) (map I.failures inputs.new)) }
-    ensures unread_inputs { (name : List ℕ) → unreadable_among options.now names.now ≡ Some name → inputs.new ≡ inputs.old }
+    warnings: &[Vec<u8>],
+    device: &mut D,
+) -> Result<(), Stop<'static>>
+    ensures { SaysLines (lines_text (map (λ line. line.items) warnings.now)) result (D.log device.old) (D.log device.new) }
+{
+    if warnings.is_empty() {
+        return Ok(());
+    }
+    say_lines(alloc, device, warnings)
+}
+
+// Runs over an accepted tree: refuses a name that make cannot read, or says the tree's warnings and goes on to the input files.
+fn run_accepted<'o, D: Device>(
+    alloc: Global,
+    options: &'o Options,
+    accepted: &OrderedTree<'_>,
+    device: &mut D,
+) -> Result<Status, Stop<'o>>
+    requires { IsReady accepted.now }
+    ensures { (files : Files) → IsAcceptedOf files options.now accepted.now → LeavesRun files options.now result (D.log device.old) (D.log device.new) }
 {
     one_answer();
-    opened_are_one_list();
-    if let Some(name) = unreadable_among(options, names) {
-        return refuse_name(outputs, name);
+    exactly_one_outcome();
+    let names = names_listed(alloc, options, accepted.opened)?;
+    if let Some(name) = unreadable_among(options, &names) {
+        return refuse_name(options, name, device);
     }
-    match run_tree(alloc, options, tree, layout, order, inputs, outputs) {
-        Ok(status) => end_run(alloc, options, names, status, outputs),
-        Err(fault) => Err(fault),
+    let warnings = accepted.tree.parse_warnings();
+    match say_tree(alloc, warnings, device) {
+        Ok(()) => run_inputs(
+            alloc,
+            options,
+            accepted,
+            &names,
+            !warnings.is_empty(),
+            device,
+        ),
+        Err(stop) => Err(stop),
     }
 }
 
-// The tree, and the files that it opens, where a rule for make is wanted. Files of the run's own are let go before the tree is built.
-pub(crate) fn read_opened(
+// Runs over a tree that was read, and keeps it if it is accepted.
+fn run_tree<'o, D: Device>(
     alloc: Global,
-    files: TreeFiles<'_>,
-    options: &Options,
-) -> Result<(Tree, Option<Names>), Refusal>
-    ensures built { IfOk result (λ r. IsTreeOf (files_in files.entry) (root_file options.now) (Ok r.0)) }
-    ensures opened { IfOk result (λ r. AreOpenedIf options.now (files_in files.entry) r.1) }
-    ensures refused { IfErr result (λ r. r.code ≢ Memory → IsTreeOf (files_in files.entry) (root_file options.now) (Err (refusal_view r))) }
-{
-    let listing = match read_listing(alloc, files.map(), options.kconfig.as_bytes()) {
-        Ok(listing) => listing,
-        Err(refusal) => return Err(refusal),
-    };
-    let opened = match opened_if(alloc, options, files.map()) {
-        Ok(opened) => opened,
-        Err(_) => return Err(Refusal::out_of_memory(alloc)),
-    };
-    drop(files);
-    match tree_of(alloc, listing) {
-        Ok(tree) => Ok((tree, opened)),
-        Err(refusal) => Err(refusal),
-    }
-}
-
-// The tree, and the names in the rule for make, where it is wanted.
-fn read_tree(
-    alloc: Global,
-    files: TreeFiles<'_>,
-    options: &Options,
-) -> Result<(Tree, Option<Names>), Refusal>
-    ensures built { IfOk result (λ r. IsTreeOf (files_in files.entry) (root_file options.now) (Ok r.0)) }
-    ensures listed { IfOk result (λ r. AreListed options.now (files_in files.entry) r.1) }
-    ensures refused { IfErr result (λ r. r.code ≢ Memory → IsTreeOf (files_in files.entry) (root_file options.now) (Err (refusal_view r))) }
-{
-    let (tree, opened) = match read_opened(alloc, files, options) {
-        Ok(read) => read,
-        Err(refusal) => return Err(refusal),
-    };
-    match names_listed(alloc, options, &opened) {
-        Ok(names) => Ok((tree, names)),
-        Err(_) => Err(Refusal::out_of_memory(alloc)),
-    }
-}
-
-// Writes why no tree is accepted, unless that is a want of memory.
-fn refuse<O: Outputs>(outputs: &mut O, refusal: &Refusal) -> Result<Status, RunFault>
-    ensures ok { IfOk result (λ status. (refusal.now.code ≢ Memory) × Completes (refused (refusal_line (refusal_view refusal.now))) status (O.states outputs.old) (O.states outputs.new)) }
-    ensures err { IfErr result (λ fault. IsOutOfMemory refusal.now fault (O.states outputs.old) (O.states outputs.new)
-        ⊎ ((refusal.now.code ≢ Memory) × BreaksRun (refused (refusal_line (refusal_view refusal.now))) fault (O.states outputs.old) (O.states outputs.new))) }
-    ensures fault { IfErr result IsNotesFault }
-    ensures only { ChangesOnly Output.Notes (O.states outputs.old) (O.states outputs.new) }
-{
-    match refusal.code {
-        Code::Memory => Err(RunFault::Memory),
-        _ => refuse_tree(outputs, refusal),
-    }
-}
-
-// From the tree to the files.
-fn run_through<I: Input, O: Outputs>(
-    alloc: Global,
-    files: TreeFiles<'_>,
-    options: &Options,
-    inputs: &mut [I],
-    outputs: &mut O,
+    options: &'o Options,
+    read: TreeReading,
+    device: &mut D,
     kept: &mut Option<AcceptedTree>,
-) -> Result<Status, RunFault>
-    requires { length inputs.old ≡ length options.now.fragments.items + 1 }
-    ensures ok { IfOk result (λ status. (all : List (List ℕ)) × AreAllToCome (map I.remaining inputs.old) all
-        × ((tree : TreeFacts) → IsAcceptedTree (files_in files.entry) (root_file options.now) tree → NamesAreRead (files_in files.entry) options.now → StreamsAreThere all (map I.is_there inputs.old))
-        × ((outcome : Outcome) × IsOutcome (files_in files.entry) options.now all outcome
-        × Completes outcome status (O.states outputs.old) (O.states outputs.new))) }
-    ensures err { IfErr result (λ fault. (all : List (List ℕ)) × AreAllToCome (map I.remaining inputs.old) all
-        × ((outcome : Outcome) → IsOutcome (files_in files.entry) options.now all outcome
-        → BreaksRun outcome fault (O.states outputs.old) (O.states outputs.new))
-        × StopsReading (files_in files.entry) options.now (map I.remaining inputs.old) (map I.remaining inputs.new) (map I.is_there inputs.old) all fault
-        (O.states outputs.old) (O.states outputs.new)) }
-    ensures may { IfErr result (MayStrike (map I.may_fail inputs.old)) }
-    ensures quiet_inputs { OnOk result (map I.failures inputs.new ≡ map I.failures inputs.old) }
-    ensures counted_inputs { IfErr result (λ fault. CountsInputs fault (map I.failures inputs.old) (map I.failures inputs.new)) }
-    ensures refused_inputs { (r : Refused) → IsRefusedTree (files_in files.entry) (root_file options.now) r → inputs.new ≡ inputs.old }
-    ensures unread_inputs { (name : List ℕ) → IsRefusedName (files_in files.entry) options.now name → inputs.new ≡ inputs.old }
-    ensures refused_outputs { (r : Refused) → IsRefusedTree (files_in files.entry) (root_file options.now) r → ChangesOnly Output.Notes (O.states outputs.old) (O.states outputs.new) }
-    ensures kept { OnOk result ((tree : TreeFacts) → IsAcceptedTree (files_in files.entry) (root_file options.now) tree → HoldsTree tree kept.new) }
-    ensures refused_kept { (r : Refused) → IsRefusedTree (files_in files.entry) (root_file options.now) r → kept.new ≡ kept.old }
-    ensures either_kept { (tree : TreeFacts) → IsAcceptedTree (files_in files.entry) (root_file options.now) tree → (kept.new ≡ kept.old) ⊎ HoldsTree tree kept.new }
+) -> Result<Status, Stop<'o>>
+    ensures { (files : Files) → IsReadOf files (root_file options.now) read → LeavesRun files options.now result (D.log device.old) (D.log device.new) }
 {
     one_answer();
+    exactly_one_outcome();
     opened_are_one_list();
-    let (tree, names) = match read_tree(alloc, files, options) {
-        Ok(read) => read,
-        Err(refusal) => return refuse(outputs, &refusal),
-    };
+    let TreeReading { tree, opened } = read;
     let layout = tree.layout();
-    match EvaluationOrder::of(alloc, &tree, layout) {
-        Ok(order) => {
-            let ended = run_accepted(
-                alloc, options, &names, &tree, layout, &order, inputs, outputs,
-            );
-            *kept = Some(AcceptedTree { tree, order });
-            ended
-        }
-        Err(refusal) => refuse(outputs, &refusal),
-    }
+    let order = match EvaluationOrder::of(alloc, &tree, layout) {
+        Ok(order) => order,
+        Err(refusal) => return refuse(&refusal, device),
+    };
+    let accepted = OrderedTree {
+        tree: &tree,
+        layout,
+        order: &order,
+        opened: &opened,
+    };
+    let ended = run_accepted(alloc, options, &accepted, device);
+    *kept = Some(AcceptedTree { tree, order });
+    ended
 }
 
-// The run over files that are lent to it or its own. A fault is reported after the run broke off.
-fn run_over<I: Input, O: Outputs>(
+// From the files to what is said of a run that was broken off.
+fn run_over<'o, D: Device>(
     alloc: Global,
-    files: TreeFiles<'_>,
-    options: &Options,
-    inputs: &mut [I],
-    outputs: &mut O,
+    files: FileMap,
+    options: &'o Options,
+    device: &mut D,
     kept: &mut Option<AcceptedTree>,
-) -> Status
-    requires { length inputs.old ≡ length options.now.fragments.items + 1 }
-    ensures leaves { Leaves (files_in files.entry) options.now (map I.remaining inputs.old) (map I.remaining inputs.new) (map I.is_there inputs.old) (map I.may_fail inputs.old)
-        (map I.failures inputs.old) (map I.failures inputs.new) result (O.states outputs.old) (O.states outputs.new) }
-    ensures refused_inputs { (r : Refused) → IsRefusedTree (files_in files.entry) (root_file options.now) r → inputs.new ≡ inputs.old }
-    ensures unread_inputs { (name : List ℕ) → IsRefusedName (files_in files.entry) options.now name → inputs.new ≡ inputs.old }
-    ensures keeps { Keeps (files_in files.entry) options.now result kept.old kept.new }
+) -> Result<Status, Stop<'o>>
+    ensures { LeavesRun (bytes_in files) options.now result (D.log device.old) (D.log device.new) }
 {
     exactly_one_outcome();
-    match run_through(alloc, files, options, inputs, outputs, kept) {
+    opened_are_one_list();
+    match read_tree(alloc, files, options.kconfig.as_bytes()) {
+        Ok(read) => run_tree(alloc, options, read, device, kept),
+        Err(refusal) => refuse(&refusal, device),
+    }
+}
+
+// What a run answers: its status, or `Faulted` where it was broken off, which it says.
+fn answer<D: Device>(
+    options: &Options,
+    ended: Result<Status, Stop<'_>>,
+    device: &mut D,
+) -> Status
+    ensures { Answers options.now ended.entry result (D.log device.old) (D.log device.new) }
+{
+    match ended {
         Ok(status) => status,
-        Err(fault) => {
-            report(options, fault, outputs);
+        Err(stop) => {
+            report(device, options, stop);
             Status::Faulted
         }
     }
 }
 
-/// Reads the tree and the streams, and writes the files and the notes (our own; the values are those of the kernel's
-/// kconfig-language document and of kconfiglib's documentation).
+/// Runs over a map of files and a device: it reads the input files, says warnings, and writes, replaces or compares the files that
+/// the options name (our own).
 ///
-/// The caller owes one input for the `.config` and one for each fragment, in order. `Done` and `Refused` are answered
-/// only where every output is exactly what the definition of the outcome says and no device failed; the values are then
-/// the one solution of the tree's equations. A refused tree (E1 to E16) reads no byte and begins nothing. Nor does a run whose
-/// dependency file would have a name that make cannot read (E23), nor does a line
-/// of more than 65,535 bytes (E17) begin anything; nor, with `options.strict`, does a line that was not taken as written, and
-/// with `options.strict_tree` any warning (E21): with either the warnings of the streams are told once all streams are read. `Faulted` means that an input failed (E18), an output failed (E19) or
-/// no memory was to be had (E20). Where that was before the files, the notes hold whole lines of the warnings, or where they
-/// failed themselves a beginning of all that the run was to add to them, never the whole; behind an input that failed they are
-/// exactly the tree's warnings and those of the lines that were read. Where it was in a file, the notes and the files before
-/// it are whole, and it is as it was handed in or holds a beginning of its text. Unless the notes failed, one error line
-/// follows on them, or a beginning of it where they fail then. `Usage` is never answered.
-pub fn run<I: Input, O: Outputs>(
-    alloc: Global,
-    files: &FileMap,
-    options: &Options,
-    inputs: &mut [I],
-    outputs: &mut O,
-) -> Status
-    requires { length inputs.old ≡ length options.now.fragments.items + 1 }
-    // Without a fault the outputs and the status are the outcome's, and no count rose; and each stream whose turn came is there.
-    ensures exactly { result ≢ Status.Faulted → (all : List (List ℕ)) × AreAllToCome (map I.remaining inputs.old) all
-        × ((tree : TreeFacts) → IsAcceptedTree (bytes_in files.now) (root_file options.now) tree → NamesAreRead (bytes_in files.now) options.now → StreamsAreThere all (map I.is_there inputs.old))
-        × ((outcome : Outcome) × IsOutcome (bytes_in files.now) options.now all outcome
-        × Completes outcome result (O.states outputs.old) (O.states outputs.new)) }
-    ensures quiet_inputs { result ≢ Status.Faulted → map I.failures inputs.new ≡ map I.failures inputs.old }
-    // After a fault the count of what failed rose by one, and of the outcome all before it is whole. No other count
-    // rose but the notes', where they fail while the error line is written. An input that failed is one that may, its turn
-    // had come, and what was read until then is told.
-    ensures fault { result ≡ Status.Faulted → (fault : RunFault) × (all : List (List ℕ)) × AreAllToCome (map I.remaining inputs.old) all
-        × CountsInputs fault (map I.failures inputs.old) (map I.failures inputs.new)
-        × MayStrike (map I.may_fail inputs.old) fault
-        × ((outcome : Outcome) × IsOutcome (bytes_in files.now) options.now all outcome
-        × Faults (bytes_in files.now) options.now (map I.remaining inputs.old) (map I.remaining inputs.new) (map I.is_there inputs.old) all outcome fault
-        (O.states outputs.old) (O.states outputs.new)) }
-    // A refused tree leaves the inputs untouched, and begins nothing; so does a refused name.
-    ensures refused_inputs { (r : Refused) → IsRefusedTree (bytes_in files.now) (root_file options.now) r → inputs.new ≡ inputs.old }
-    ensures unread_inputs { (name : List ℕ) → IsRefusedName (bytes_in files.now) options.now name → inputs.new ≡ inputs.old }
-    ensures refused_outputs { (r : Refused) → IsRefusedTree (bytes_in files.now) (root_file options.now) r → ChangesOnly Output.Notes (O.states outputs.old) (O.states outputs.new) }
-{
-    let mut kept = None;
-    run_over(
-        alloc,
-        TreeFiles::Lent(files),
-        options,
-        inputs,
-        outputs,
-        &mut kept,
-    )
-}
-
-/// [`run`] over files of its own: what it leaves is what [`run`] leaves of the same files, and the same holds of it. It lets
-/// the files go when they are read, so it takes less memory at once.
+/// For these files, the options and the bytes that the device gives there is exactly one outcome: the tree's refusal (E1 to E16), a
+/// line's (E17), that of warnings (E21), that of a name (E23), or the texts and diagnostics of the tree's one solution. `Done` and
+/// `Refused` are answered only if the run was whole: what was said and done is the outcome's, and nothing else. With `Delivery::Check`
+/// a file that does not hold its text is reported (E22), and the status is `Refused`. `Faulted` is answered if the run was broken off: by
+/// a file that could not be read (E18) or written (E19), by want of memory (E20) or by the diagnostics. What comes before that is
+/// whole: the diagnostics said whole lines, and no text was begun before all was said.
 ///
-/// The tree that it made is put into `kept`, in place of what that held, where it accepted one. A refused tree leaves `kept`
-/// as it was; after a fault it holds what it held, or the tree. To give back the memory of a large tree takes a while: a
-/// program that ends anyway may forget `kept`.
-pub fn run_keeping<I: Input, O: Outputs>(
+/// The files are let go when they are read. The tree goes to `kept`, in place of what that held, if it is accepted: to give back its
+/// memory takes a while, and a program that ends anyway may forget it.
+pub fn run<D: Device>(
     alloc: Global,
     files: FileMap,
     options: &Options,
-    inputs: &mut [I],
-    outputs: &mut O,
+    device: &mut D,
     kept: &mut Option<AcceptedTree>,
 ) -> Status
-    requires { length inputs.old ≡ length options.now.fragments.items + 1 }
-    // The outcome whole, or a part of it and a fault.
-    ensures leaves { Leaves (bytes_in files) options.now (map I.remaining inputs.old) (map I.remaining inputs.new) (map I.is_there inputs.old) (map I.may_fail inputs.old)
-        (map I.failures inputs.old) (map I.failures inputs.new) result (O.states outputs.old) (O.states outputs.new) }
-    // A refused tree leaves the inputs untouched, and so does a refused name.
-    ensures refused_inputs { (r : Refused) → IsRefusedTree (bytes_in files) (root_file options.now) r → inputs.new ≡ inputs.old }
-    ensures unread_inputs { (name : List ℕ) → IsRefusedName (bytes_in files) options.now name → inputs.new ≡ inputs.old }
-    // Without a fault an accepted tree is kept; a refused one leaves what was there.
-    ensures keeps { Keeps (bytes_in files) options.now result kept.old kept.new }
+    ensures { Runs (bytes_in files) options.now (D.log device.old) (D.log device.new) result }
 {
-    run_over(alloc, TreeFiles::Own(files), options, inputs, outputs, kept)
-}
-
-/// The law of the tree: a root file has at most one accepted tree, at most one refusal, and not both. It does nothing.
-pub fn one_answer()
-    ensures { OneAnswer }
-{
-    one_tree();
-    one_named_loop();
-}
-
-/// The law of the outcome: for files, options and the bytes of the streams there is at most one. It does nothing.
-pub fn one_outcome()
-    ensures { OneOutcome }
-{
-    one_answer();
-    opened_are_one_list();
+    let ended = run_over(alloc, files, options, device, kept);
+    answer(options, ended, device)
 }

@@ -12,11 +12,11 @@ returns-clause-answer c =
 pub returns-clause-accepted : goal.returns-clause-accepted
 returns-clause-accepted c =
     let solved : SolutionExists = solution_exists c.accepted_have_one_solution.ensures.exists c.equations_read_needs.ensures c.needs_are_defined.ensures in
-    accepted_outcome c.opened_are_one_list.ensures.there c.trees_are_well_formed.ensures c.reading_leaves_allowed_places.ensures.streams solved
+    accepted_outcome c.opened_are_one_list.ensures c.trees_are_well_formed.ensures c.reading_leaves_allowed_places.ensures.streams solved
 
 pub returns-clause-outcome : goal.returns-clause-outcome
 returns-clause-outcome c =
     let solved : SolutionExists = solution_exists c.accepted_have_one_solution.ensures.exists c.equations_read_needs.ensures c.needs_are_defined.ensures in
     let answer : AnswerExists =
     answer_exists c.has_one_expansion.ensures c.unordered_have_a_loop.ensures.either c.unordered_have_a_loop.ensures.named c.needs_are_defined.ensures in
-    outcome_exists c.opened_are_one_list.ensures.there c.trees_are_well_formed.ensures c.reading_leaves_allowed_places.ensures.streams solved answer
+    outcome_exists c.opened_are_one_list.ensures c.trees_are_well_formed.ensures c.reading_leaves_allowed_places.ensures.streams solved answer

@@ -1,8 +1,9 @@
--- What a run over files that are lent to it leaves.
+-- A run that was broken off says why.
+use Rattle.kc_read.specs.Files.{bytes_in}
+use Rattle.kc_conf.proofs.RunParts.{Runs-answered}
 use Rattle.kc_conf.proofs.runs.run.Goals as goal
 
-pub returns-clause-exactly : goal.returns-clause-exactly
-returns-clause-exactly g c = λ ended.
-    let left = c.run_over.ensures.leaves in
-    let (completes, quiet, there) = left.finished ended in
-    (left.all, left.to_come, there, (left.outcome, left.is_outcome, completes))
+pub returns : goal.returns
+returns g c =
+    Runs-answered (bytes_in c.args.files) c.args.options.now c.run_over-ended.result c.answer.result (g.D.Device.log c.args.device.now) (g.D.Device.log c.run_over-ended.new.device) (g.D.Device.log c.answer.new.device)
+    c.run_over-ended.ensures c.answer.ensures

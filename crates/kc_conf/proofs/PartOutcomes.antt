@@ -1,0 +1,138 @@
+-- What a run leaves behind the tree's warnings.
+use Rattle.std.proofs.Common.{◌≡◌, ℕ, Bool, true, false, List, [], ◌∷◌, ◌++◌, map, refl, sym, ap, subst, ◌∙◌, Option, None, Some, String, Global}
+use Rattle.std.specs.Prelude.{◌&&◌, ◌||◌, if◌then◌else◌}
+use Rattle.kc_read.specs.Files.{Files}
+use Rattle.kc_read.specs.OpenedFiles.{AreOpened}
+use Rattle.kc_tree.specs.TreeFacts.{TreeFacts}
+use Rattle.kc_solve.specs.Solved.{Solution}
+use Rattle.kc_dot.specs.Reading.{ReadResult, StreamLocation, UserInput}
+use Rattle.kc_dot.specs.Sink.{BeginsWith}
+use Rattle.kc_io.specs.Log.{Log}
+use Rattle.kc_io.specs.Scripts.{NamedText}
+use Rattle.kc_conf.specs.Computed.{Computes, refuses, ruled_files, value_lines}
+use Rattle.kc_conf.specs.Endings.{Ends, line_if, status_if, texts_or}
+use Rattle.kc_conf.specs.Ends.{text_at, texts_of}
+use Rattle.kc_conf.specs.ErrorLines.{too_long_line}
+use Rattle.kc_conf.specs.Existence.{ExactlyOneOutcome}
+use Rattle.kc_conf.specs.Outcome.{IsAcceptedTree, IsLenientOutcome, IsOutcome, IsOutcomeOfReading, IsSolutionFor, NamesAreRead, OneAnswer, Outcome, accepted_tree, has_text, is_done, lines_text, long_line, names_listed, noted, outcome_of, read_of, refused, refused_if, refused_name, refused_tree, root_file, unreadable_name, warned_files, whole, with_rule}
+use Rattle.kc_conf.specs.PartRuns.{strictly_after}
+use Rattle.kc_conf.specs.Reads.{ended_with}
+use Rattle.kc_conf.specs.Taken.{refuses_input}
+use Rattle.kc_conf.specs.declared.options.Options.{Options}
+use Rattle.kc_conf.specs.declared.options.Status.{Status}
+use Rattle.kc_conf.specs.declared.stop.Stop.{Stop}
+use Rattle.std.specs.Prelude.{Result}
+use Rattle.kc_conf.proofs.Once.{one_opened}
+use Rattle.kc_conf.proofs.OutcomeLemmas.{rule-warned, strictly-noted, strictly_after-warned, warned_if, with_rule-noted}
+
+-- ---- what is refused has no text
+
+text_at-none : (name : Option (String Global)) → text_at name None ≡ []
+text_at-none None = refl
+text_at-none (Some name) = refl
+
+pub texts-none : (options : Options) → text_at options.out None ++ text_at options.header None ++ text_at options.minimal None ++ text_at options.depfile None ≡ []
+texts-none options = rw (text_at-none options.out, text_at-none options.header, text_at-none options.minimal, text_at-none options.depfile) refl
+
+-- ---- the part of a run
+
+-- what a run leaves behind the tree's warnings, where these files are opened and this follows from the streams
+abbrev pub part_of : Options → List (List ℕ) → Bool → Outcome → Outcome
+part_of options opened before rest = with_rule options opened (strictly_after options before rest)
+
+pub part-warned : (options : Options) (opened : List (List ℕ)) (before : Bool) (rest : Outcome) → (part_of options opened before rest).warned ≡ rest.warned
+part-warned options opened before rest = rule-warned options opened (strictly_after options before rest) ∙ strictly_after-warned options before rest
+
+module _ (files : Files) (options : Options) (tree : TreeFacts) (accepted : IsAcceptedTree files (root_file options) tree)
+    (opened : List (List ℕ)) (are : AreOpened files (root_file options) opened) (readable : unreadable_name options opened ≡ None) where
+  pub names-read : NamesAreRead files options
+  names-read others others_are = ap (unreadable_name options) (one_opened files (root_file options) tree others opened accepted others_are are) ∙ readable
+
+  -- with the tree's warnings before it, it is the outcome
+  pub is_part : (all : List (List ℕ)) (rest : Outcome) → IsOutcomeOfReading options tree (read_of options tree all) rest →
+      IsOutcome files options all (noted (lines_text tree.warnings) (part_of options opened (has_text (lines_text tree.warnings)) rest))
+  is_part all rest of_reading =
+      let told = lines_text tree.warnings in (
+        noted told rest,
+        opened,
+        accepted_tree tree accepted readable (rest, of_reading, refl),
+        are,
+        with_rule-noted options opened told (strictly_after options (has_text told) rest) ∙ ap (with_rule options opened) (strictly-noted options told rest),
+      )
+
+  -- something follows from the streams
+  pub rest-exists : OneAnswer → ExactlyOneOutcome → (all : List (List ℕ)) → (rest : Outcome) × IsOutcomeOfReading options tree (read_of options tree all) rest
+  rest-exists law outcomes all =
+      let (outcome, (lenient, others, is_lenient, others_are, is), only) = outcomes files options all in
+      go lenient others others_are is_lenient
+    where
+      go : (lenient : Outcome) (others : List (List ℕ)) → AreOpened files (root_file options) others → IsLenientOutcome files options others all lenient →
+          (rest : Outcome) × IsOutcomeOfReading options tree (read_of options tree all) rest
+      go lenient others others_are (refused_tree r refuses e) = absurd (law.not_both files (root_file options) r tree refuses accepted)
+      go lenient others others_are (refused_name other name second unread e) = absurd (let clash : Some name ≡ None = sym unread ∙ names-read others others_are in cc)
+      go lenient others others_are (accepted_tree other second named (rest, of_reading, e)) =
+          let same : other ≡ tree = law.one_accepted files (root_file options) other tree second accepted in
+          (rest, subst (λ t. IsOutcomeOfReading options t (read_of options t all) rest) same of_reading)
+
+-- its warnings begin with those of the streams
+pub rest-begins : (options : Options) (tree : TreeFacts) (read : ReadResult) (rest : Outcome) → IsOutcomeOfReading options tree read rest → BeginsWith rest.warned read.warned
+rest-begins options tree read rest (long_line stop stopped is) = ([], ap (λ (o : Outcome). o.warned) is)
+rest-begins options tree read rest (whole solution none solves is) = ((outcome_of options tree read.input solution).warned, ap (λ (o : Outcome). o.warned) is)
+
+-- ---- a line is too long
+
+pub rest-long : (options : Options) (tree : TreeFacts) (read : ReadResult) (input : UserInput) (warned : List ℕ) (stop : StreamLocation) → read ≡ ended_with input warned (Some stop) →
+    IsOutcomeOfReading options tree read (noted warned (refused (too_long_line stop)))
+rest-long options tree read input warned stop e =
+    subst (λ (r : ReadResult). IsOutcomeOfReading options tree r (noted warned (refused (too_long_line stop)))) (sym e) (long_line stop refl refl)
+
+-- ---- all lines were read
+
+pub rest-whole : (options : Options) (tree : TreeFacts) (read : ReadResult) (input : UserInput) (warned : List ℕ) (solution : Solution) → read ≡ ended_with input warned None →
+    IsSolutionFor tree input.places solution → IsOutcomeOfReading options tree read (noted warned (outcome_of options tree input solution))
+rest-whole options tree read input warned solution e is =
+    subst (λ (r : ReadResult). IsOutcomeOfReading options tree r (noted warned (outcome_of options tree input solution))) (sym e) (whole solution refl is refl)
+
+-- only under --strict-tree it matters what was said
+strict-same : (strict before : Bool) (x y : List ℕ) → (strict ≡ true → x ≡ y) → (strict && (before || has_text x)) ≡ (strict && (before || has_text y))
+strict-same true before x y same = ap (λ t. before || has_text t) (same refl)
+strict-same false before x y same = refl
+
+module _ (options : Options) (tree : TreeFacts) (opened : List (List ℕ)) (input : UserInput) (warned : List ℕ) (solution : Solution) where
+  abbrev made : Bool → Outcome
+  made refused_too = noted warned (refused_if options refused_too (warned_files options tree input solution))
+
+  abbrev given_by : Bool → Option (List NamedText)
+  given_by b = if b then None else Some (texts_of options (ruled_files options tree solution (names_listed options opened)))
+
+  -- the part has this line, these texts and this status
+  abbrev Has : Outcome → Option (List NamedText) → Type 0
+  Has part given = (part.refusal ≡ line_if options given) × (texts_of options part ≡ texts_or given) × (part.status ≡ status_if given)
+
+  has-by : (r q : Bool) → Has (with_rule options opened (refused_if options (is_done (made r).status && q) (made r))) (given_by (r || q))
+  has-by true q = (refl, texts-none options, refl)
+  has-by false true = (refl, texts-none options, refl)
+  has-by false false = (refl, refl, refl)
+
+  pub part-has : (before : Bool) (text : List ℕ) → (options.strict_tree ≡ true → text ≡ warned ++ value_lines options input solution) →
+      Has (part_of options opened before (noted warned (outcome_of options tree input solution))) (given_by (refuses options input solution before text))
+  part-has before text same =
+      let r = refuses_input options input solution in
+      let told : (made r).warned ≡ warned ++ value_lines options input solution = ap (λ t. warned ++ t) (warned_if options (warned_files options tree input solution) r) in
+      subst (λ q. Has (part_of options opened before (made r)) (given_by (r || q)))
+      (strict-same options.strict_tree before (made r).warned text (λ on. told ∙ sym (same on)))
+      (has-by r (options.strict_tree && (before || has_text (made r).warned)))
+
+  pub part-says : (before : Bool) → (part_of options opened before (noted warned (outcome_of options tree input solution))).warned ≡ warned ++ value_lines options input solution
+  part-says before =
+      part-warned options opened before (made (refuses_input options input solution))
+      ∙ ap (λ t. warned ++ t) (warned_if options (warned_files options tree input solution) (refuses_input options input solution))
+
+-- the end of a run, in the terms of its part
+pub Ends-part : (options : Options) (part : Outcome) (given : Option (List NamedText)) (waits : List ℕ) (result : Result Status Stop) (old new : Log) →
+    (part.refusal ≡ line_if options given) × (texts_of options part ≡ texts_or given) × (part.status ≡ status_if given) →
+    Ends options waits (line_if options given) (texts_or given) (status_if given) result old new → Ends options waits part.refusal (texts_of options part) part.status result old new
+Ends-part options part given waits result old new (line, texts, status) ends =
+    subst (λ l. Ends options waits l (texts_of options part) part.status result old new) (sym line)
+    (subst (λ t. Ends options waits (line_if options given) t part.status result old new) (sym texts)
+    (subst (λ s. Ends options waits (line_if options given) (texts_or given) s result old new) (sym status) ends))

@@ -1,6 +1,0 @@
--- No tree is both accepted and refused.
-use Rattle.kc_conf.proofs.Once.{one_answer_law}
-use Rattle.kc_conf.proofs.runs.one_answer.Goals as goal
-
-pub returns : goal.returns
-returns c = one_answer_law c.one_tree.ensures c.one_named_loop.ensures

@@ -1,0 +1,35 @@
+-- Trusted: A tree that was read, and one that was accepted.
+use Rattle.std.specs.Prelude.{◌≢◌, ℕ, List, Result, Ok, Err, IfOk, IfErr}
+use Rattle.kc_build.specs.Trees.{IsTreeOf}
+use Rattle.kc_read.specs.Files.{Files}
+use Rattle.kc_read.specs.OpenedFiles.{AreOpened}
+use Rattle.kc_read.specs.RefusalView.{refusal_view}
+use Rattle.kc_read.specs.declared.refusal.Code.TheVariants.{Memory}
+use Rattle.kc_read.specs.declared.refusal.Refusal.{Refusal}
+use Rattle.kc_solve.specs.Graphs.{IsGraphOf}
+use Rattle.kc_tree.specs.Layouts.{IsLayoutOf}
+use Rattle.kc_conf.specs.Asked.{root_file}
+use Rattle.kc_conf.specs.Outcome.{IsAcceptedTree}
+use Rattle.kc_conf.specs.declared.accepted.OrderedTree.{OrderedTree}
+use Rattle.kc_conf.specs.declared.accepted.TreeReading.{TreeReading}
+use Rattle.kc_conf.specs.declared.options.Options.{Options}
+
+-- what was read of these files: the tree of the root file, and the files that it opens
+pub record IsReadOf (files : Files) (root : List ℕ) (read : TreeReading) : Type 0 where
+  pub built : IsTreeOf files root (Ok read.tree)
+  pub opened : AreOpened files root read.opened
+
+-- or why there is none, unless there was no memory
+pub record IsReadingOf (files : Files) (root : List ℕ) (reading : Result TreeReading Refusal) : Type 0 where
+  pub read : IfOk reading (IsReadOf files root)
+  pub refused : IfErr reading (λ r. r.code ≢ Memory → IsTreeOf files root (Err (refusal_view r)))
+
+-- its symbols are in order
+pub record IsReady (accepted : OrderedTree) : Type 0 where
+  pub laid : IsLayoutOf accepted.tree.now accepted.layout.now
+  pub order : IsGraphOf accepted.tree.now accepted.layout.now accepted.order.now
+
+-- it is the tree of these files, with the files that it opens
+pub record IsAcceptedOf (files : Files) (options : Options) (accepted : OrderedTree) : Type 0 where
+  pub tree : IsAcceptedTree files (root_file options) accepted.tree.now
+  pub opened : AreOpened files (root_file options) accepted.opened.now

@@ -1,0 +1,86 @@
+-- For proofs: How a run ends behind its reading.
+use Rattle.std.specs.Prelude.{◌≡◌, ◌≢◌, ◌⊎◌, ℕ, List, [], ◌∷◌, ◌++◌, Option, None, Some, Result, Ok, Err}
+use Rattle.kc_dot.specs.Sink.{GoesBeyond}
+use Rattle.kc_io.specs.Delivered.{Delivered, StopsBefore}
+use Rattle.kc_io.specs.Log.{Event, Journal, Log, Leads, Tells}
+use Rattle.kc_io.specs.Scripts.{NamedText, stale}
+use Rattle.kc_io.specs.declared.delivery.Manner.{Manner}
+use Rattle.kc_io.specs.declared.device.Action.TheVariants.{Note}
+use Rattle.kc_io.specs.declared.steps.Failure.{Failure}
+use Rattle.kc_conf.specs.Asked.{lead}
+use Rattle.kc_conf.specs.Ends.{delivers, stale_lines, stale_texts, status_with}
+use Rattle.kc_conf.specs.ErrorLines.{strict_line}
+use Rattle.kc_conf.specs.Given.{still_told}
+use Rattle.kc_conf.specs.Outcome.{AreLines}
+use Rattle.kc_conf.specs.Reads.{IsNoteStop}
+use Rattle.kc_conf.specs.Stops.{Reports, clearing, event_of}
+use Rattle.kc_conf.specs.declared.options.Delivery.TheVariants.{Check}
+use Rattle.kc_conf.specs.declared.options.Options.{Options}
+use Rattle.kc_conf.specs.declared.options.Status.{Status}
+use Rattle.kc_conf.specs.declared.options.Status.TheVariants.{Done, Refused, Faulted}
+use Rattle.kc_conf.specs.declared.stop.Stop.{Stop}
+use Rattle.kc_conf.specs.declared.stop.Stop.TheVariants.{OutOfMemory, Failed}
+
+-- the text was said; or there is some, and the diagnostics failed
+abbrev pub SaysAll : List ℕ → Result (Unit {0}) Stop → Log → Log → Type 0
+SaysAll text (Ok _) old new = Leads [] text old new
+SaysAll text (Err stop) old new = IsNoteStop stop × (text ≢ []) × Leads (event_of stop) [] old new
+
+-- the texts were delivered, or what failed is answered
+abbrev pub HandsBy : Manner → List NamedText → Log → Log → Result Status Stop → Type 0
+HandsBy manner texts old new (Ok status) = (status ≡ Done) × Delivered manner texts old new (Ok tt)
+HandsBy manner texts old new (Err OutOfMemory) = ⊥
+HandsBy manner texts old new (Err (Failed f)) = Delivered manner texts old new (Err f)
+
+-- texts, or none where they are refused
+abbrev pub texts_or : Option (List NamedText) → List NamedText
+texts_or None = []
+texts_or (Some texts) = texts
+
+abbrev pub status_if : Option (List NamedText) → Status
+status_if None = Refused
+status_if (Some texts) = Done
+
+abbrev pub line_if : Options → Option (List NamedText) → List ℕ
+line_if options None = lead options ++ strict_line
+line_if options (Some texts) = []
+
+-- What is left of a run was done: what waits was said and the line of what is refused, the texts were delivered, and the status is the one for them.
+pub record IsEnded (options : Options) (waits line : List ℕ) (texts : List NamedText) (ended : Status) (old new : Log) (status : Status) : Type 0 where
+  pub made : List Event
+  pub stale : List NamedText
+  pub of_old : Tells (still_told old new) (λ journal. (made ≡ delivers options texts journal) × (stale ≡ stale_texts options texts journal))
+  pub log : Leads made ((waits ++ line) ++ stale_lines options stale) old new
+  pub status_is : status ≡ status_with stale ended
+  pub only_checked : (stale ≡ []) ⊎ ((options.delivery ≡ Check) × (ended ≡ Done))
+
+-- why it was broken off, what was done and what was said
+pub data EndStops (options : Options) (waits line : List ℕ) (texts : List NamedText) (told : Log) : Stop → List Event → List ℕ → Type 0 where
+  in_notes : (f : Failure) (front : List ℕ) → f.action ≡ Note → f.name.now ≡ [] → AreLines front →
+      Tells told (λ journal. GoesBeyond ((waits ++ line) ++ stale_lines options (stale_texts options texts journal)) front) → EndStops options waits line texts told (Failed f) [] front
+  in_delivery : (f : Failure) (done : List Event) →
+      Tells told (λ journal. (left : List Event) × (done ++ left ≡ delivers options texts journal) × StopsBefore left (Err f)) →
+      EndStops options waits line texts told (Failed f) done (waits ++ line)
+
+pub record BreaksEnd (options : Options) (waits line : List ℕ) (texts : List NamedText) (stop : Stop) (old new : Log) : Type 0 where
+  pub done : List Event
+  pub front : List ℕ
+  pub stops : EndStops options waits line texts (still_told old new) stop done front
+  pub log : Leads (done ++ event_of stop ++ clearing options stop) front old new
+
+-- either of the two
+abbrev pub Ends : Options → List ℕ → List ℕ → List NamedText → Status → Result Status Stop → Log → Log → Type 0
+Ends options waits line texts ended (Ok status) old new = IsEnded options waits line texts ended old new status
+Ends options waits line texts ended (Err stop) old new = BreaksEnd options waits line texts stop old new
+
+-- these texts were compared with their files, and those that are stale were told
+pub record IsChecked (options : Options) (texts : List NamedText) (old new : Log) (status : Status) : Type 0 where
+  pub found : List NamedText
+  pub of_old : Tells (still_told old new) (λ journal. found ≡ stale texts journal)
+  pub log : Leads [] (stale_lines options found) old new
+  pub status_is : status ≡ status_with found Done
+
+-- a run that was not broken off answers its status; else it says why it was, and answers `Faulted`
+abbrev pub Answers : Options → Result Status Stop → Status → Log → Log → Type 0
+Answers options (Ok ended) status old new = (status ≡ ended) × (new ≡ old)
+Answers options (Err stop) status old new = (status ≡ Faulted) × Reports options stop old new

@@ -1,0 +1,61 @@
+-- For proofs: What a run leaves until it is said why it was broken off, whole or behind the tree's warnings.
+use Rattle.std.specs.Prelude.{◌≡◌, ◌≢◌, ◌⊎◌, ℕ, Bool, ◌&&◌, ◌||◌, List, [], ◌++◌, Result, Ok, Err}
+use Rattle.kc_read.specs.Files.{Files}
+use Rattle.kc_tree.specs.TreeFacts.{TreeFacts}
+use Rattle.kc_io.specs.Log.{Event, Log, Leads}
+use Rattle.kc_conf.specs.Ends.{Breaks, Completes, said_of_tree}
+use Rattle.kc_conf.specs.Given.{AreInputs, InputFile, bytes_of, still_told}
+use Rattle.kc_conf.specs.Outcome.{IsOutcome, Outcome, has_text, is_done, lines_text, noted, refused_if}
+use Rattle.kc_conf.specs.Reads.{IsNoteStop}
+use Rattle.kc_conf.specs.Stops.{clearing, event_of}
+use Rattle.kc_conf.specs.declared.options.Options.{Options}
+use Rattle.kc_conf.specs.declared.options.Status.{Status}
+use Rattle.kc_conf.specs.declared.stop.Stop.{Stop}
+use Rattle.kc_conf.specs.declared.stop.Stop.TheVariants.{OutOfMemory, Failed}
+
+-- there was no memory, or the diagnostics failed
+abbrev pub StopsLines : List ℕ → Stop → Log → Log → Type 0
+StopsLines text OutOfMemory old new = Leads [] [] old new
+StopsLines text (Failed f) old new = IsNoteStop (Failed f) × (text ≢ []) × Leads (event_of (Failed f)) [] old new
+
+-- the text was said, or saying it was broken off
+abbrev pub SaysLines : List ℕ → Result (Unit {0}) Stop → Log → Log → Type 0
+SaysLines text (Ok _) old new = Leads [] text old new
+SaysLines text (Err stop) old new = StopsLines text stop old new
+
+-- `strictly`, where a part of the run is left to come, and whether anything was told before it
+abbrev pub strictly_after : Options → Bool → Outcome → Outcome
+strictly_after options before part = refused_if options (is_done part.status && (options.strict_tree && (before || has_text part.warned))) part
+
+-- nothing was said of the tree
+abbrev pub nothing_said : TreeFacts → List ℕ
+nothing_said tree = []
+
+module _ (files : Files) (options : Options) where
+  -- A run with this outcome was broken off: it was not yet said why.
+  pub record IsBrokenOff (before : TreeFacts → List ℕ) (inputs : List InputFile) (outcome : Outcome) (stop : Stop) (old new : Log) : Type 0 where
+    pub done : List Event
+    pub front : List ℕ
+    pub breaks : Breaks files options before inputs outcome (still_told old new) stop done front
+    pub log : Leads (done ++ event_of stop ++ clearing options stop) front old new
+
+  -- it ended whole, or was broken off
+  abbrev pub EndsSo : (TreeFacts → List ℕ) → List InputFile → Outcome → Result Status Stop → Log → Log → Type 0
+  EndsSo before inputs outcome (Ok status) old new = Completes files options inputs outcome old new status
+  EndsSo before inputs outcome (Err stop) old new = IsBrokenOff before inputs outcome stop old new
+
+  -- a run over these files
+  pub record LeavesRun (result : Result Status Stop) (old new : Log) : Type 0 where
+    pub inputs : List InputFile
+    pub are_inputs : AreInputs (still_told old new) options inputs
+    pub outcome : Outcome
+    pub is_outcome : IsOutcome files options (bytes_of inputs) outcome
+    pub ends : EndsSo said_of_tree inputs outcome result old new
+
+  -- The same behind the tree's warnings: with them before its part, that is the outcome of the run.
+  pub record LeavesPart (tree : TreeFacts) (result : Result Status Stop) (old new : Log) : Type 0 where
+    pub inputs : List InputFile
+    pub are_inputs : AreInputs (still_told old new) options inputs
+    pub part : Outcome
+    pub is_part : IsOutcome files options (bytes_of inputs) (noted (lines_text tree.warnings) part)
+    pub ends : EndsSo nothing_said inputs part result old new

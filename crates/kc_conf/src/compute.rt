@@ -1,0 +1,292 @@
+//! What a run is to leave: its warnings and texts, whole in memory.
+ghost use Rattle.std.specs.Prelude.{◌≡◌, ◌++◌, ◌||◌, ◌&&◌, [], ◌∷◌, map, IfOk, OnOk, option_map};
+ghost use Rattle.std.specs.List.{flat_map, list_any};
+ghost use Rattle.kc_user.specs.Places.{ArePlacesOf};
+ghost use Rattle.kc_solve.specs.Solved.{warnings};
+ghost use Rattle.kc_dot.specs.SolvedView.{solution_view};
+ghost use Rattle.kc_dot.specs.Texts as whole;
+ghost use Rattle.kc_io.specs.TextViews.{text_view};
+ghost use Rattle.kc_load.specs.Rules as rules;
+ghost use Rattle.kc_conf.specs.Accepted.{IsReady};
+ghost use Rattle.kc_conf.specs.Asked.{lead, target};
+ghost use Rattle.kc_conf.specs.Computed.{Computes, ruled_files};
+ghost use Rattle.kc_conf.specs.Ends.{text_at, texts_of};
+ghost use Rattle.kc_conf.specs.Outcome.{lines_text, names_listed, text_if};
+ghost use Rattle.kc_conf.specs.Taken.{is_outside, lost_warnings, refuses_input};
+
+use crate::accepted::OrderedTree;
+use crate::lost::lost_warnings;
+use crate::options::Options;
+use kc_dot::config::config_text;
+use kc_dot::header::{header_text, minimal_text};
+use kc_dot::user_input::UserInput;
+use kc_expr::names::Names;
+use kc_io::Text;
+use kc_load::{prerequisites_of, rule_text};
+use kc_solve::solve::solve;
+use kc_solve::solved::Solved;
+use kc_tree::tree::Tree;
+use std::alloc::{AllocError, Global};
+
+// ---- warnings
+
+// Adds these parts.
+fn add_parts(parts: &[&[u8]], text: &mut Vec<u8>) -> Result<(), AllocError>
+    ensures { OnOk result (text.new.items ≡ text.old.items ++ flat_map (λ part. part.now) parts.now) }
+{
+    for part in parts {
+        text.extend_from_slice(part)?;
+    }
+    Ok(())
+}
+
+// Adds a line behind these parts.
+fn add_line(lead: &[&[u8]], line: &[u8], text: &mut Vec<u8>) -> Result<(), AllocError>
+    ensures { OnOk result (text.new.items ≡ text.old.items ++ lines_text ((flat_map (λ part. part.now) lead.now ++ line.now) ∷ [])) }
+{
+    add_parts(lead, text)?;
+    text.extend_from_slice(line)?;
+    text.push(b'\n')?;
+    Ok(())
+}
+
+/// Adds these lines, each behind these parts.
+pub(crate) fn add_lines(
+    lead: &[&[u8]],
+    lines: &[Vec<u8>],
+    text: &mut Vec<u8>,
+) -> Result<(), AllocError>
+    ensures { OnOk result (text.new.items ≡ text.old.items ++ lines_text (map (λ line. flat_map (λ part. part.now) lead.now ++ line.items) lines.now)) }
+{
+    for line in lines {
+        add_line(lead, line, text)?;
+    }
+    Ok(())
+}
+
+// Adds the warnings of the values, and the lines of the values that are lost.
+fn add_value_lines(
+    options: &Options,
+    solved: &Solved<'_>,
+    lost: &[Vec<u8>],
+    text: &mut Vec<u8>,
+) -> Result<(), AllocError>
+    ensures { OnOk result (text.new.items ≡ text.old.items
+        ++ (lines_text (map (λ line. lead options.now ++ line) (warnings solved.now)) ++ lines_text (map (λ line. line.items) lost.now))) }
+{
+    add_lines(&options.lead(), solved.value_warnings(), text)?;
+    add_lines(&[], lost, text)
+}
+
+// ---- whether the texts are refused
+
+// Whether the line warns of a user value outside its range.
+fn is_outside(line: &[u8]) -> bool
+    ensures { result ≡ is_outside line.now }
+{
+    line.starts_with(b"warning K12: ")
+}
+
+// Whether one of the lines does.
+fn is_any_outside(lines: &[Vec<u8>]) -> bool
+    ensures { result ≡ list_any is_outside (map (λ line. line.items) lines.now) }
+{
+    for line in lines {
+        if is_outside(line) {
+            return true;
+        }
+    }
+    false
+}
+
+// Whether --strict refuses the user's input, given the lines of the values that are lost.
+fn refuses_input(
+    options: &Options,
+    input: &UserInput<'_>,
+    solved: &Solved<'_>,
+    lost: &[Vec<u8>],
+) -> bool
+    requires { map (λ line. line.items) lost.now ≡ lost_warnings options.now input.now solved.now }
+    ensures { result ≡ refuses_input options.now input.now solved.now }
+{
+    options.strict
+        && !(input.all_taken() && !is_any_outside(solved.value_warnings()) && lost.is_empty())
+}
+
+// Whether the texts are refused: for that, or for any warning under --strict-tree.
+fn is_refused(
+    options: &Options,
+    input: &UserInput<'_>,
+    solved: &Solved<'_>,
+    lost: &[Vec<u8>],
+    is_warned: bool,
+) -> bool
+    requires { map (λ line. line.items) lost.now ≡ lost_warnings options.now input.now solved.now }
+    ensures { result ≡ (refuses_input options.now input.now solved.now || (options.now.strict_tree && is_warned)) }
+{
+    refuses_input(options, input, solved, lost) || options.strict_tree && is_warned
+}
+
+// ---- the texts
+
+/// The names in the dependency file, where it is wanted.
+pub(crate) fn names_listed(
+    alloc: Global,
+    options: &Options,
+    opened: &Names,
+) -> Result<Option<Names>, AllocError>
+    ensures { IfOk result (λ names. names ≡ names_listed options.now opened.now) }
+{
+    if options.depfile.is_none() {
+        return Ok(None);
+    }
+    let names = prerequisites_of(
+        alloc,
+        opened,
+        options.root.as_str(),
+        options.target().as_bytes(),
+        options.config.as_bytes(),
+        options.fragments.as_slice(),
+    )?;
+    Ok(Some(names))
+}
+
+// Adds the text of the `.config`, where it is wanted.
+fn add_config<'o>(
+    alloc: Global,
+    options: &'o Options,
+    tree: &Tree,
+    solved: &Solved<'_>,
+    texts: &mut Vec<Text<'o>>,
+) -> Result<(), AllocError>
+    requires { solved.now.tree ≡ tree.now }
+    ensures { OnOk result (map text_view texts.new.items ≡ map text_view texts.old.items
+        ++ text_at options.now.out (text_if options.now.out (whole.config_text tree.now options.now.prefix (solution_view solved.now)))) }
+{
+    let Some(name) = &options.out else {
+        return Ok(());
+    };
+    let bytes = config_text(alloc, tree, solved, &options.prefix)?;
+    texts.push(Text {
+        name: name.as_str(),
+        bytes,
+    })?;
+    Ok(())
+}
+
+// Adds that of the header, where it is wanted.
+fn add_header<'o>(
+    alloc: Global,
+    options: &'o Options,
+    tree: &Tree,
+    solved: &Solved<'_>,
+    texts: &mut Vec<Text<'o>>,
+) -> Result<(), AllocError>
+    requires { solved.now.tree ≡ tree.now }
+    ensures { OnOk result (map text_view texts.new.items ≡ map text_view texts.old.items
+        ++ text_at options.now.header (text_if options.now.header (whole.header_text tree.now options.now.prefix (solution_view solved.now)))) }
+{
+    let Some(name) = &options.header else {
+        return Ok(());
+    };
+    let bytes = header_text(alloc, tree, solved, &options.prefix)?;
+    texts.push(Text {
+        name: name.as_str(),
+        bytes,
+    })?;
+    Ok(())
+}
+
+// Adds that of the minimal file, where it is wanted.
+fn add_minimal<'o>(
+    alloc: Global,
+    options: &'o Options,
+    tree: &Tree,
+    solved: &Solved<'_>,
+    texts: &mut Vec<Text<'o>>,
+) -> Result<(), AllocError>
+    requires { solved.now.tree ≡ tree.now }
+    ensures { OnOk result (map text_view texts.new.items ≡ map text_view texts.old.items
+        ++ text_at options.now.minimal (text_if options.now.minimal (whole.minimal_text tree.now options.now.prefix (solution_view solved.now)))) }
+{
+    let Some(name) = &options.minimal else {
+        return Ok(());
+    };
+    let bytes = minimal_text(alloc, tree, solved, &options.prefix)?;
+    texts.push(Text {
+        name: name.as_str(),
+        bytes,
+    })?;
+    Ok(())
+}
+
+// Adds that of the dependency file that lists these names, where it is wanted.
+fn add_rule<'o>(
+    alloc: Global,
+    options: &'o Options,
+    names: &Option<Names>,
+    texts: &mut Vec<Text<'o>>,
+) -> Result<(), AllocError>
+    ensures { OnOk result (map text_view texts.new.items ≡ map text_view texts.old.items
+        ++ text_at options.now.depfile (option_map (rules.rule_text (target options.now)) names.now)) }
+{
+    let Some(name) = &options.depfile else {
+        return Ok(());
+    };
+    let Some(names) = names else {
+        return Ok(());
+    };
+    let bytes = rule_text(alloc, options.target().as_bytes(), names)?;
+    texts.push(Text {
+        name: name.as_str(),
+        bytes,
+    })?;
+    Ok(())
+}
+
+// The texts of a solution, in the order in which they are delivered.
+fn texts_of<'o>(
+    alloc: Global,
+    options: &'o Options,
+    tree: &Tree,
+    solved: &Solved<'_>,
+    names: &Option<Names>,
+) -> Result<Vec<Text<'o>>, AllocError>
+    requires { solved.now.tree ≡ tree.now }
+    ensures { IfOk result (λ texts. map text_view texts.items ≡ texts_of options.now (ruled_files options.now tree.now solved.now names.now)) }
+{
+    let mut texts = Vec::new(alloc);
+    add_config(alloc, options, tree, solved, &mut texts)?;
+    add_header(alloc, options, tree, solved, &mut texts)?;
+    add_minimal(alloc, options, tree, solved, &mut texts)?;
+    add_rule(alloc, options, names, &mut texts)?;
+    Ok(texts)
+}
+
+/// Computes what follows from the user's input: adds the warnings of the values to what waits, and returns the texts, or
+/// nothing if they are refused. The caller owes an order that was made for the tree, and places of the tree.
+pub(crate) fn compute<'o>(
+    alloc: Global,
+    options: &'o Options,
+    accepted: &OrderedTree<'_>,
+    names: &Option<Names>,
+    input: &UserInput<'_>,
+    is_warned: bool,
+    waiting: &mut Vec<u8>,
+) -> Result<Option<Vec<Text<'o>>>, AllocError>
+    requires ready { IsReady accepted.now }
+    requires places { ArePlacesOf accepted.now.tree.now input.now.places }
+    ensures { IfOk result (λ texts. Computes options.now accepted.now.tree.now names.now input.now is_warned waiting.old.items waiting.new.items
+        (option_map (λ texts. map text_view texts.items) texts)) }
+{
+    let tree = accepted.tree;
+    let solved = solve(alloc, tree, accepted.layout, accepted.order, input.user())?;
+    solved.is_solution();
+    let lost = lost_warnings(alloc, options, input, &solved)?;
+    add_value_lines(options, &solved, &lost, waiting)?;
+    if is_refused(options, input, &solved, &lost, is_warned || !waiting.is_empty()) {
+        return Ok(None);
+    }
+    let texts = texts_of(alloc, options, tree, &solved, names)?;
+    Ok(Some(texts))
+}
