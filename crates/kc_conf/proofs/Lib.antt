@@ -11,6 +11,10 @@ pub mod ReadsLemmas
 pub mod RerunLemmas
 pub mod StreamLemmas
 pub mod TellingLemmas
+pub mod FileLemmas
+pub mod InputLemmas
+pub mod SayLemmas
+pub mod StepLemmas
 pub mod StrictLemmas
 pub mod GivenLemmas
 pub mod EndingLemmas

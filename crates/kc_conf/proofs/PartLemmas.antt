@@ -121,7 +121,7 @@ lines_from-lf stream n bytes b rest one ends =
     rw (slice_split_at is_line_feed bytes b rest one ends, is) refl
 
 -- without one the bytes are the last line
-lines_from-last : (stream : List ℕ) (n : ℕ) (bytes : List ℕ) → HoldsNoLineFeed bytes → lines_from stream n bytes ≡ last_line stream n bytes
+pub lines_from-last : (stream : List ℕ) (n : ℕ) (bytes : List ℕ) → HoldsNoLineFeed bytes → lines_from stream n bytes ≡ last_line stream n bytes
 unfolding lines_from
 lines_from-last stream n bytes one = rw (slice_split_none is_line_feed bytes one) refl
 

@@ -1,5 +1,5 @@
 -- Trusted: What options ask for.
-use Rattle.std.specs.Prelude.{ℕ, Bool, ◌||◌, if◌then◌else◌, List, [], ◌∷◌, ◌++◌, map, codes, string_bytes, Option}
+use Rattle.std.specs.Prelude.{ℕ, zero, suc, Bool, false, ◌||◌, if◌then◌else◌, List, [], ◌∷◌, ◌++◌, map, codes, string_bytes, Option}
 use Rattle.std.specs.Option.{option_map_or}
 use Rattle.kc_conf.specs.declared.options.Options.{Options}
 
@@ -14,6 +14,11 @@ lead options = if options.names_config then string_bytes options.config ++ codes
 -- the names of the files that are read for the user's values: the `.config`, and then the fragments
 abbrev pub input_files : Options → List (List ℕ)
 input_files options = string_bytes options.config ∷ map string_bytes options.fragments.items
+
+-- only the first of them may be missing
+abbrev pub may_at : Bool → ℕ → Bool
+may_at may zero = may
+may_at may (suc i) = false
 
 -- the names of these streams in diagnostics
 abbrev pub names_of : Options → List (List ℕ)

@@ -12,6 +12,7 @@ pub mod LostView
 pub mod Reruns
 pub mod Strict
 pub mod Reads
+pub mod ReadSteps
 pub mod Accepted
 pub mod Computed
 pub mod Endings

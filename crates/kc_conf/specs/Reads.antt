@@ -1,12 +1,16 @@
 -- For proofs: What reading the input files does.
-use Rattle.std.specs.Prelude.{◌≡◌, ◌⊎◌, ◌×◌, ℕ, Bool, true, if◌then◌else◌, List, [], ◌++◌, Option, Some, None, Result, Ok, Err}
+use Rattle.std.specs.Prelude.{◌≡◌, ◌⊎◌, ℕ, if◌then◌else◌, List, [], ◌∷◌, ◌++◌, Option, Some, None, Result, Ok, Err, codes, ⊤}
+use Rattle.std.specs.Borrow.{Bor}
 use Rattle.kc_tree.specs.TreeFacts.{TreeFacts}
-use Rattle.kc_io.specs.Log.{Event, Log, Leads, failed}
+use Rattle.kc_io.specs.Log.{Event, Log, Leads, noted, said}
 use Rattle.kc_io.specs.declared.device.Action.TheVariants.{Open, Read, Note}
+use Rattle.kc_io.specs.declared.device.Fault.{Fault}
+use Rattle.kc_io.specs.declared.device.Fault.TheVariants as fault
 use Rattle.kc_io.specs.declared.steps.Failure.{Failure}
 use Rattle.kc_dot.specs.Reading.{ReadResult, StreamLocation, UserInput, lines_of, reading}
 use Rattle.kc_dot.specs.Sink.{BeginsWith, GoesBeyond}
 use Rattle.kc_conf.specs.Asked.{names_of}
+use Rattle.kc_conf.specs.ErrorLines.{out_of_memory_line}
 use Rattle.kc_conf.specs.Stops.{event_of}
 use Rattle.kc_conf.specs.Given.{AreInputs, InputFile, ReadsTo, ReadsUpTo, bytes_of, reads, still_told}
 use Rattle.kc_conf.specs.Outcome.{AreLines, streams}
@@ -60,3 +64,27 @@ IsNoteStop (Failed f) = (f.action ≡ Note) × (f.name.now ≡ [])
 abbrev pub Says : List ℕ → Result (Unit {0}) Stop → Log → Log → Type 0
 Says text (Ok _) old new = Leads [] text old new
 Says text (Err stop) old new = IsNoteStop stop × Leads (event_of stop) [] old new
+
+-- these bytes end a line
+abbrev pub IsWholeEnd : List ℕ → Type 0
+IsWholeEnd bytes = (front : List ℕ) × (bytes ≡ front ++ codes "\n")
+
+-- the last of these parts ends a line, where there are any
+abbrev pub LastEndsLine : List (Bor (List ℕ)) → Type 0
+LastEndsLine [] = ⊤
+LastEndsLine (part ∷ []) = IsWholeEnd part.now
+LastEndsLine (part ∷ next ∷ parts) = LastEndsLine (next ∷ parts)
+
+-- the diagnostics failed, or there was no memory
+abbrev pub IsNoteOrMemory : Stop → Type 0
+IsNoteOrMemory OutOfMemory = ⊤
+IsNoteOrMemory (Failed f) = IsNoteStop (Failed f)
+
+-- the text was said, unless the diagnostics failed
+abbrev pub TriesToSay : List ℕ → Log → Log → Type 0
+TriesToSay text old new = (report : Result (Unit {0}) Fault) × Leads (noted report) (said report text) old new
+
+-- the line of a device that failed: this one, or that there was no memory
+abbrev pub failure_line : Fault → List ℕ → List ℕ
+failure_line fault.Memory line = out_of_memory_line
+failure_line fault.Refused line = line

@@ -1,13 +1,14 @@
 //! What a run says on the diagnostics, besides warnings.
 
-ghost use Rattle.std.specs.Prelude.{◌≡◌, ◌++◌, codes};
+ghost use Rattle.std.specs.Prelude.{◌≡◌, ◌++◌, [], codes, map, IfErr, OnOk};
 ghost use Rattle.std.specs.List.{flat_map};
-ghost use Rattle.kc_io.specs.WholeLines.{is_whole_lines};
 ghost use Rattle.kc_read.specs.RefusalView.{refusal_view};
 ghost use Rattle.kc_conf.specs.Asked.{lead};
-ghost use Rattle.kc_conf.specs.ErrorLines.{error_at, first_line, message_before, message_behind, refusal_line, stale_line, strict_line, too_long_line, unreadable_line};
-ghost use Rattle.kc_conf.specs.Stops.{Reports};
-ghost use Rattle.kc_conf.specs.Reads.{Says, stop_of};
+ghost use Rattle.kc_io.specs.Log.{Leads};
+ghost use Rattle.kc_conf.specs.ErrorLines.{error_at, first_line, message_before, message_behind, out_of_memory_line, refusal_line, stale_line, strict_line, too_long_line, unreadable_line};
+ghost use Rattle.kc_conf.specs.Outcome.{lines_text};
+ghost use Rattle.kc_conf.specs.Reads.{IsNoteOrMemory, IsWholeEnd, LastEndsLine, Says, TriesToSay, failure_line, stop_of};
+ghost use Rattle.kc_conf.specs.Stops.{Reports, event_of};
 
 use crate::compute::add_lines;
 use crate::options::Options;
@@ -20,7 +21,7 @@ use std::alloc::Global;
 
 // Says whole lines, all parts in one piece.
 pub(crate) fn say_parts<D: Device>(device: &mut D, parts: &[&[u8]]) -> Result<(), Stop<'static>>
-    requires { is_whole_lines (flat_map (λ part. part.now) parts.now) ≡ true }
+    requires { LastEndsLine parts.now }
     ensures { Says (flat_map (λ part. part.now) parts.now) result (D.log device.old) (D.log device.new) }
 {
     match device.note(parts) {
@@ -101,20 +102,36 @@ fn message_behind(code: Code) -> &'static [u8]
 }
 
 // Says an error line at a location.
-fn say_at<D: Device>(
+fn say_at<'a, D: Device>(
     device: &mut D,
-    file: &[u8],
+    file: &'a [u8],
     line: u64,
-    before: &[u8],
-    detail: &[u8],
-    behind: &[u8],
+    before: &'a [u8],
+    detail: &'a [u8],
+    behind: &'a [u8],
 ) -> Result<(), Stop<'static>>
-    requires { is_whole_lines behind.now ≡ true }
+    requires { IsWholeEnd behind.now }
     ensures { Says (error_at file.now line (before.now ++ detail.now ++ behind.now)) result (D.log device.old) (D.log device.new) }
 {
     let mut buffer = Buffer::new();
     let number = buffer.format(line).as_bytes();
-    say_parts(device, &[file, b":", number, b": error ", before, detail, behind])
+    say_parts(
+        device,
+        &[file, b":", number, b": error ", before, detail, behind],
+    )
+}
+
+// Says an error line without a location.
+fn say_without_location<'a, D: Device>(
+    device: &mut D,
+    before: &'a [u8],
+    detail: &'a [u8],
+    behind: &'a [u8],
+) -> Result<(), Stop<'static>>
+    requires { IsWholeEnd behind.now }
+    ensures { Says (codes "error " ++ before.now ++ detail.now ++ behind.now) result (D.log device.old) (D.log device.new) }
+{
+    say_parts(device, &[b"error ", before, detail, behind])
 }
 
 /// Says why a tree is refused.
@@ -124,16 +141,33 @@ pub(crate) fn say_refusal<D: Device>(device: &mut D, refusal: &Refusal) -> Resul
     let before = message_before(refusal.code);
     let behind = message_behind(refusal.code);
     match &refusal.location {
-        Some((file, line)) => say_at(device, file, u64::from(*line), before, &refusal.detail, behind),
-        None => say_parts(device, &[b"error ", before, &refusal.detail, behind]),
+        Some((file, line)) => say_at(
+            device,
+            file,
+            u64::from(*line),
+            before,
+            &refusal.detail,
+            behind,
+        ),
+        None => say_without_location(device, before, &refusal.detail, behind),
     }
 }
 
 /// Says that a line of an input file is too long. Its stream's name has the lead already.
-pub(crate) fn say_long_line<D: Device>(device: &mut D, long: &LongLine<'_>) -> Result<(), Stop<'static>>
+pub(crate) fn say_long_line<D: Device>(
+    device: &mut D,
+    long: &LongLine<'_>,
+) -> Result<(), Stop<'static>>
     ensures { Says (too_long_line (stop_of long.now)) result (D.log device.old) (D.log device.new) }
 {
-    say_at(device, long.stream, long.number, b"E17: line longer than 65535 bytes", b"", b"\n")
+    say_at(
+        device,
+        long.stream,
+        long.number,
+        b"E17: line longer than 65535 bytes",
+        b"",
+        b"\n",
+    )
 }
 
 /// Says that warnings are refused.
@@ -141,7 +175,10 @@ pub(crate) fn say_strict<D: Device>(device: &mut D, options: &Options) -> Result
     ensures { Says (lead options.now ++ strict_line) result (D.log device.old) (D.log device.new) }
 {
     let [config, colon] = options.lead();
-    say_parts(device, &[config, colon, b"error E21: warnings are refused\n"])
+    say_parts(
+        device,
+        &[config, colon, b"error E21: warnings are refused\n"],
+    )
 }
 
 // The bytes before the first line feed.
@@ -157,31 +194,79 @@ fn first_line(name: &[u8]) -> &[u8]
 }
 
 /// Says that make cannot read a name.
-pub(crate) fn say_unreadable<D: Device>(device: &mut D, options: &Options, name: &[u8]) -> Result<(), Stop<'static>>
+pub(crate) fn say_unreadable<D: Device>(
+    device: &mut D,
+    options: &Options,
+    name: &[u8],
+) -> Result<(), Stop<'static>>
     ensures { Says (lead options.now ++ unreadable_line name.now) result (D.log device.old) (D.log device.new) }
 {
     let [config, colon] = options.lead();
-    say_parts(device, &[config, colon, b"error E23: make cannot read the name ", first_line(name), b"\n"])
+    say_parts(
+        device,
+        &[
+            config,
+            colon,
+            b"error E23: make cannot read the name ",
+            first_line(name),
+            b"\n",
+        ],
+    )
 }
 
 /// Says that a file is not up to date.
-pub(crate) fn say_stale<D: Device>(device: &mut D, options: &Options, name: &str) -> Result<(), Stop<'static>>
+pub(crate) fn say_stale<D: Device>(
+    device: &mut D,
+    options: &Options,
+    name: &str,
+) -> Result<(), Stop<'static>>
     ensures { Says (lead options.now ++ stale_line name.now) result (D.log device.old) (D.log device.new) }
 {
     let [config, colon] = options.lead();
-    say_parts(device, &[config, colon, b"error E22: ", name.as_bytes(), b" is not up to date\n"])
+    say_parts(
+        device,
+        &[
+            config,
+            colon,
+            b"error E22: ",
+            name.as_bytes(),
+            b" is not up to date\n",
+        ],
+    )
 }
 
-// What the error line of a device that failed says, before the name and the name; there is none for the diagnostics.
-fn failure_message<'n>(failure: Failure<'n>) -> Option<(&'static [u8], &'n str)> {
-    match (failure.action, failure.fault) {
-        (Action::Note, _) => None,
-        (_, Fault::Memory) => Some((b"error E20: out of memory", "")),
-        (Action::Open | Action::Read, Fault::Refused) => Some((
-            b"error E18: cannot read ",
-            failure.name,
-        )),
-        (_, Fault::Refused) => Some((b"error E19: cannot write ", failure.name)),
+// Says whole lines, all parts in one piece, unless the diagnostics fail.
+fn try_to_say<D: Device>(device: &mut D, parts: &[&[u8]])
+    requires { LastEndsLine parts.now }
+    ensures { TriesToSay (flat_map (λ part. part.now) parts.now) (D.log device.old) (D.log device.new) }
+{
+    let _ = device.note(parts);
+}
+
+// Says that there was no memory.
+fn try_to_say_memory<D: Device>(device: &mut D, options: &Options)
+    ensures { TriesToSay (lead options.now ++ out_of_memory_line) (D.log device.old) (D.log device.new) }
+{
+    let [config, colon] = options.lead();
+    try_to_say(device, &[config, colon, b"error E20: out of memory\n"]);
+}
+
+// Says that a file could not be read or written, or that there was no memory for it.
+fn try_to_say_failure<D: Device>(
+    device: &mut D,
+    options: &Options,
+    before: &[u8],
+    name: &str,
+    fault: Fault,
+)
+    ensures { TriesToSay (lead options.now ++ failure_line fault (before.now ++ name.now ++ codes "\n")) (D.log device.old) (D.log device.new) }
+{
+    match fault {
+        Fault::Memory => try_to_say_memory(device, options),
+        Fault::Refused => {
+            let [config, colon] = options.lead();
+            try_to_say(device, &[config, colon, before, name.as_bytes(), b"\n"]);
+        }
     }
 }
 
@@ -189,12 +274,30 @@ fn failure_message<'n>(failure: Failure<'n>) -> Option<(&'static [u8], &'n str)>
 pub(crate) fn report<D: Device>(device: &mut D, options: &Options, stop: Stop<'_>)
     ensures { Reports options.now stop.entry (D.log device.old) (D.log device.new) }
 {
-    let message = match stop {
-        Stop::OutOfMemory => Some((b"error E20: out of memory", "")),
-        Stop::Failed(failure) => failure_message(failure),
+    let failure = match stop {
+        Stop::OutOfMemory => return try_to_say_memory(device, options),
+        Stop::Failed(failure) => failure,
     };
-    if let Some((before, name)) = message {
-        let [config, colon] = options.lead();
-        let _ = device.note(&[config, colon, before, name.as_bytes(), b"\n"]);
+    match failure.action {
+        Action::Note => {}
+        Action::Open | Action::Read => try_to_say_failure(
+            device,
+            options,
+            b"error E18: cannot read ",
+            failure.name,
+            failure.fault,
+        ),
+        Action::Miss
+        | Action::Create(_)
+        | Action::Write(_)
+        | Action::Close(_)
+        | Action::Move
+        | Action::Clear => try_to_say_failure(
+            device,
+            options,
+            b"error E19: cannot write ",
+            failure.name,
+            failure.fault,
+        ),
     }
 }

@@ -1,8 +1,8 @@
 //! What is asked of a run, and how it ends.
 
-ghost use Rattle.std.specs.Prelude.{◌≡◌, [], slice_index_or};
+ghost use Rattle.std.specs.Prelude.{◌≡◌, [], not, slice_index_or};
 ghost use Rattle.std.specs.List.{flat_map};
-ghost use Rattle.kc_conf.specs.Asked.{holds_warnings, input_files, lead, target};
+ghost use Rattle.kc_conf.specs.Asked.{holds_warnings, input_files, lead, may_at, target};
 
 use kc_dot::prefix::Prefix;
 
@@ -67,15 +67,6 @@ pub enum Status {
 }
 
 impl Options {
-    // Whether the warnings of the streams are told only once all streams are read.
-    pub(crate) fn holds_warnings(&self) -> bool
-        ensures { result ≡ holds_warnings self.now }
-    {
-        self.strict || self.strict_tree
-    }
-}
-
-impl Options {
     // What each diagnostic begins with that is not about a line of the `.config`, in two parts.
     pub(crate) fn lead(&self) -> [&[u8]; 2]
         ensures { flat_map (λ part. part.now) result ≡ lead self.now }
@@ -98,6 +89,13 @@ impl Options {
                 None => "",
             },
         }
+    }
+
+    // Whether an input file may be missing: the `.config`, unless it must exist.
+    pub(crate) fn may_be_missing(&self, i: usize) -> bool
+        ensures { result ≡ may_at (not self.now.must_exist) i }
+    {
+        i == 0 && !self.must_exist
     }
 
     // Whether the warnings of the input files are said only once all are read.

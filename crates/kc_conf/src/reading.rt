@@ -1,15 +1,21 @@
 //! Reads the input files, in whatever pieces they come.
 
-ghost use Rattle.std.specs.Prelude.{◌≡◌, ◌×◌, [], map, IfErr, IfOk};
+ghost use Rattle.std.specs.Prelude.{◌≡◌, ◌≤◌, ◌++◌, [], false, true, length, map, None, IfErr, IfOk, OnOk};
 ghost use Rattle.std.specs.Option.{option_map};
+ghost use Rattle.kc_io.specs.Log.{Leads};
+ghost use Rattle.kc_io.specs.Reading.{ReadsOn, reading};
+ghost use Rattle.kc_io.specs.WholeLines.{is_whole_lines};
 ghost use Rattle.kc_user.specs.Places.{ArePlacesOf};
-ghost use Rattle.kc_conf.specs.Asked.{holds_warnings, names_of};
+ghost use Rattle.kc_dot.specs.Feeding.{stream_start};
+ghost use Rattle.kc_conf.specs.Asked.{holds_warnings, lead, names_of};
 ghost use Rattle.kc_conf.specs.Outcome.{fresh_input};
 ghost use Rattle.kc_conf.specs.Reads.{BreaksInputs, ReadsInputs, stop_of};
+ghost use Rattle.kc_conf.specs.ReadSteps.{BreaksEnd, BreaksFile, BreaksOpened, BreaksPiece, EndsFile, FailsAt, IsStillFresh, OnlyHeldWaits, Opens, ReadsFile, ReadsOpened, SaysWaiting, TakesPiece, stand};
 
 use crate::options::Options;
 use crate::stop::Stop;
 use kc_dot::fault::DotFault;
+use kc_dot::laws::{lines_are_cut, reading_goes_line_by_line};
 use kc_dot::prefix::Prefix;
 use kc_dot::reader::DotReader;
 use kc_dot::user_input::UserInput;
@@ -39,7 +45,10 @@ fn open<'n, D: Device>(
     device: &mut D,
     name: &'n str,
     may_be_missing: bool,
-) -> Result<bool, Stop<'n>> {
+) -> Result<bool, Stop<'n>>
+    ensures ok { IfOk result (λ there. Opens name.now may_be_missing there (D.log device.old) (D.log device.new) (D.file device.new)) }
+    ensures err { IfErr result (λ stop. FailsAt Action.Open name.now stop (D.log device.old) (D.log device.new)) }
+{
     match device.open(name, may_be_missing) {
         Ok(there) => Ok(there),
         Err(fault) => Err(Stop::Failed(Failure {
@@ -51,11 +60,12 @@ fn open<'n, D: Device>(
 }
 
 // Reads the next bytes of the open file.
-fn next<'n, D: Device>(
-    device: &mut D,
-    name: &'n str,
-    buffer: &mut [u8],
-) -> Result<usize, Stop<'n>> {
+fn next<'n, D: Device>(device: &mut D, name: &'n str, buffer: &mut [u8]) -> Result<usize, Stop<'n>>
+    ensures within { IfOk result (λ count. count ≤ length buffer.old) }
+    ensures log { IfOk result (λ count. Leads (reading (Ok count) name.now buffer.new) [] (D.log device.old) (D.log device.new)) }
+    ensures given { IfOk result (λ count. ReadsOn count buffer.new (D.file device.old) (D.file device.new)) }
+    ensures err { IfErr result (λ stop. FailsAt Action.Read name.now stop (D.log device.old) (D.log device.new)) }
+{
     match device.read(name, buffer) {
         Ok(count) => Ok(count),
         Err(fault) => Err(Stop::Failed(Failure {
@@ -66,11 +76,12 @@ fn next<'n, D: Device>(
     }
 }
 
-/// Says what waits, unless it is held back.
-pub(crate) fn say<D: Device>(
-    device: &mut D,
-    waiting: &mut Waiting,
-) -> Result<(), Stop<'static>> {
+// Says what waits, unless it is held back.
+fn say<D: Device>(device: &mut D, waiting: &mut Waiting) -> Result<(), Stop<'static>>
+    requires { waiting.old.holds ≡ false → is_whole_lines waiting.old.text.items ≡ true }
+    ensures says { SaysWaiting result waiting.old waiting.new (D.log device.old) (D.log device.new) }
+    ensures file { D.file device.new ≡ D.file device.old }
+{
     if waiting.holds || waiting.text.is_empty() {
         return Ok(());
     }
@@ -87,46 +98,99 @@ pub(crate) fn say<D: Device>(
     }
 }
 
-// Reads the open file to its end, or to a line that is too long and whose number is answered.
-fn read_pieces<'o, 'a, D: Device>(
+// Takes the next bytes of a stream, and says what they warn of. The number of a line that is too long is answered.
+fn take_piece<'a, D: Device>(
     reader: &mut DotReader<'a>,
-    name: &'o str,
+    piece: &[u8],
     device: &mut D,
     user: &mut UserInput<'a>,
     waiting: &mut Waiting,
-) -> Result<Option<u64>, Stop<'o>> {
-    let mut buffer = [0u8; PIECE];
-    loop {
-        let count = match next(device, name, &mut buffer) {
-            Ok(count) => count,
-            Err(stop) => return Err(stop),
-        };
-        if count == 0 {
-            return Ok(None);
-        }
-        let fed = reader.feed(&buffer[..count], user, &mut waiting.text);
-        if let Err(stop) = say(device, waiting) {
-            return Err(stop);
-        }
-        match fed {
-            Ok(()) => {}
-            Err(DotFault::DotLineTooLong(number)) => return Ok(Some(number)),
-            Err(DotFault::Memory) => return Err(Stop::OutOfMemory),
-        }
+) -> Result<Option<u64>, Stop<'static>>
+    requires fresh { reader.old.refusal ≡ None }
+    requires user { ArePlacesOf reader.old.tree user.old.places }
+    requires waiting { OnlyHeldWaits waiting.old }
+    ensures ok { IfOk result (λ long. TakesPiece reader.old piece.now long reader.new.position
+        (stand user.old waiting.old (D.file device.old) (D.log device.old)) (stand user.new waiting.new (D.file device.new) (D.log device.new))) }
+    ensures stands { IfOk result (λ long. long ≡ None → IsStillFresh reader.old reader.new) }
+    ensures err { IfErr result (λ stop. BreaksPiece reader.old piece.now stop
+        (stand user.old waiting.old (D.file device.old) (D.log device.old)) (stand user.new waiting.new (D.file device.new) (D.log device.new))) }
+    ensures file { D.file device.new ≡ D.file device.old }
+    ensures user { ArePlacesOf reader.old.tree user.new.places }
+    ensures holds { waiting.new.holds ≡ waiting.old.holds }
+{
+    lines_are_cut();
+    let fed = reader.feed(piece, user, &mut waiting.text);
+    if let Err(stop) = say(device, waiting) {
+        return Err(stop);
+    }
+    match fed {
+        Ok(()) => Ok(None),
+        Err(DotFault::DotLineTooLong(number)) => Ok(Some(number)),
+        Err(DotFault::Memory) => Err(Stop::OutOfMemory),
     }
 }
 
-// Ends the last line of a file that was read to its end.
+// Ends the last line of a file that was read to its end, and says what it warns of.
 fn finish<'a, D: Device>(
     reader: &mut DotReader<'a>,
     device: &mut D,
     user: &mut UserInput<'a>,
     waiting: &mut Waiting,
-) -> Result<(), Stop<'static>> {
-    if let Err(_) = reader.finish(user, &mut waiting.text) {
-        return Err(Stop::OutOfMemory);
+) -> Result<(), Stop<'static>>
+    requires fresh { reader.old.refusal ≡ None }
+    requires user { ArePlacesOf reader.old.tree user.old.places }
+    requires waiting { OnlyHeldWaits waiting.old }
+    ensures ok { OnOk result (EndsFile reader.old
+        (stand user.old waiting.old (D.file device.old) (D.log device.old)) (stand user.new waiting.new (D.file device.new) (D.log device.new))) }
+    ensures err { IfErr result (λ stop. BreaksEnd reader.old stop
+        (stand user.old waiting.old (D.file device.old) (D.log device.old)) (stand user.new waiting.new (D.file device.new) (D.log device.new))) }
+    ensures user { ArePlacesOf reader.old.tree user.new.places }
+    ensures holds { waiting.new.holds ≡ waiting.old.holds }
+{
+    match reader.finish(user, &mut waiting.text) {
+        Ok(()) => say(device, waiting),
+        Err(_) => Err(Stop::OutOfMemory),
     }
-    say(device, waiting)
+}
+
+// Reads the open file to its end, or to a line that is too long and whose number is answered.
+fn read_opened<'o, 'a, D: Device>(
+    reader: &mut DotReader<'a>,
+    name: &'o str,
+    device: &mut D,
+    user: &mut UserInput<'a>,
+    waiting: &mut Waiting,
+) -> Result<Option<u64>, Stop<'o>>
+    requires fresh { reader.old.refusal ≡ None }
+    requires begins { reader.old.position ≡ stream_start }
+    requires user { ArePlacesOf reader.old.tree user.old.places }
+    requires waiting { OnlyHeldWaits waiting.old }
+    ensures ok { IfOk result (λ long. ReadsOpened reader.old name.now long
+        (stand user.old waiting.old (D.file device.old) (D.log device.old)) (stand user.new waiting.new (D.file device.new) (D.log device.new))) }
+    ensures err { IfErr result (λ stop. BreaksOpened reader.old name.now stop
+        (stand user.old waiting.old (D.file device.old) (D.log device.old)) (stand user.new waiting.new (D.file device.new) (D.log device.new))) }
+    ensures user { ArePlacesOf reader.old.tree user.new.places }
+    ensures holds { waiting.new.holds ≡ waiting.old.holds }
+{
+    let mut buffer = [0u8; PIECE];
+    'pieces: loop {
+        let _waiting = reader.pending();
+        let count = match next(device, name, &mut buffer) {
+            Ok(count) => count,
+            Err(stop) => return Err(stop),
+        };
+        if count == 0 {
+            return match finish(reader, device, user, waiting) {
+                Ok(()) => Ok(None),
+                Err(stop) => Err(stop),
+            };
+        }
+        match take_piece(reader, &buffer[..count], device, user, waiting) {
+            Ok(None) => {}
+            Ok(Some(number)) => return Ok(Some(number)),
+            Err(stop) => return Err(stop),
+        }
+    }
 }
 
 // Reads an input file to the end of its last line, or to a line that is too long and whose number is answered.
@@ -137,21 +201,34 @@ fn read_file<'o, 'a, D: Device>(
     device: &mut D,
     user: &mut UserInput<'a>,
     waiting: &mut Waiting,
-) -> Result<Option<u64>, Stop<'o>> {
+) -> Result<Option<u64>, Stop<'o>>
+    requires fresh { reader.old.refusal ≡ None }
+    requires begins { reader.old.position ≡ stream_start }
+    requires user { ArePlacesOf reader.old.tree user.old.places }
+    requires waiting { OnlyHeldWaits waiting.old }
+    ensures ok { IfOk result (λ long. ReadsFile reader.old name.now may_be_missing long
+        (stand user.old waiting.old (D.file device.old) (D.log device.old)) (stand user.new waiting.new (D.file device.new) (D.log device.new))) }
+    ensures err { IfErr result (λ stop. BreaksFile reader.old name.now may_be_missing stop
+        (stand user.old waiting.old (D.file device.old) (D.log device.old)) (stand user.new waiting.new (D.file device.new) (D.log device.new))) }
+    ensures user { ArePlacesOf reader.old.tree user.new.places }
+    ensures holds { waiting.new.holds ≡ waiting.old.holds }
+{
     match open(device, name, may_be_missing) {
-        Ok(true) => {}
-        Ok(false) => return Ok(None),
-        Err(stop) => return Err(stop),
-    }
-    match read_pieces(reader, name, device, user, waiting) {
-        Ok(None) => {}
-        Ok(Some(number)) => return Ok(Some(number)),
-        Err(stop) => return Err(stop),
-    }
-    match finish(reader, device, user, waiting) {
-        Ok(()) => Ok(None),
+        Ok(true) => read_opened(reader, name, device, user, waiting),
+        Ok(false) => Ok(None),
         Err(stop) => Err(stop),
     }
+}
+
+// The name of a fragment in diagnostics.
+fn fragment_name(alloc: Global, options: &Options, fragment: &str) -> Result<Vec<u8>, AllocError>
+    ensures { IfOk result (λ name. name.items ≡ lead options.now ++ fragment.now) }
+{
+    let [config, colon] = options.lead();
+    let mut name = Vec::from_slice(alloc, config)?;
+    name.extend_from_slice(colon)?;
+    name.extend_from_slice(fragment.as_bytes())?;
+    Ok(name)
 }
 
 /// The names of the input files in diagnostics.
@@ -161,12 +238,7 @@ pub(crate) fn stream_names(alloc: Global, options: &Options) -> Result<Vec<Vec<u
     let mut names = Vec::new(alloc);
     names.push(Vec::from_slice(alloc, options.config.as_bytes())?)?;
     for fragment in &options.fragments {
-        let mut name = Vec::new(alloc);
-        for part in options.lead() {
-            name.extend_from_slice(part)?;
-        }
-        name.extend_from_slice(fragment.as_bytes())?;
-        names.push(name)?;
+        names.push(fragment_name(alloc, options, fragment)?)?;
     }
     Ok(names)
 }
@@ -192,13 +264,14 @@ pub(crate) fn read_inputs<'o, 'a, D: Device>(
     ensures holds { waiting.new.holds ≡ waiting.old.holds }
     ensures places { ArePlacesOf tree.now user.new.places }
 {
+    reading_goes_line_by_line();
     for i in 0..names.len() {
         let stream = names[i].as_slice();
         let mut reader = DotReader::new(alloc, tree, prefix, stream);
         match read_file(
             &mut reader,
             options.input_file(i),
-            i == 0 && !options.must_exist,
+            options.may_be_missing(i),
             device,
             user,
             waiting,

@@ -1,6 +1,6 @@
 -- The bytes before the first line feed, one byte on.
 use Rattle.std.proofs.Common.{◌∙◌, rules}
-use Rattle.kc_conf.proofs.NoteLemmas.{line_more}
+use Rattle.kc_conf.proofs.SayLemmas.{line_more}
 use Rattle.kc_conf.proofs.notes.first_line.Goals as goal
 
 pub loop-i-preserved : goal.loop-i-preserved

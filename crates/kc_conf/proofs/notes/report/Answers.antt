@@ -1,5 +1,13 @@
--- The line of a failed read names the stream.
+-- What failed is told, unless it is the diagnostics.
+use Rattle.std.proofs.Common.{Ok, refl}
+use Rattle.kc_io.proofs.LogLemmas.{leads_nothing}
+use Rattle.kc_conf.proofs.SayLemmas.{reports-input}
 use Rattle.kc_conf.proofs.notes.report.Goals as goal
 
-pub returns-in-Read : goal.returns-in-Read
-returns-in-Read g c = rw c.in-Read.is (rw (c.cannot_read.ensures, c.stream_name.ensures) at c.note_line.ensures)
+pub returns-in-Note : goal.returns-in-Note
+returns-in-Note g c = rw (c.in-Failed.is, c.in-Note.is) (Ok tt, refl, leads_nothing (g.D.Device.log c.args.device.now))
+
+pub returns-in-Open : goal.returns-in-Open
+returns-in-Open g c =
+    rw c.in-Failed.is
+    (reports-input c.args.options.now c.in-Failed.failure (g.D.Device.log c.args.device.now) (g.D.Device.log c.try_to_say_failure.new.device) c.in-Open.is c.try_to_say_failure.ensures)

@@ -1,0 +1,49 @@
+-- A piece is taken, and what it warns of is said.
+use Rattle.std.proofs.Common.{◌≡◌, ◌∙◌, Err, Result, ap, subst}
+use Rattle.kc_dot.specs.ReaderCalls.{AnswersFeed}
+use Rattle.kc_dot.specs.declared.fault.DotFault.{DotFault}
+use Rattle.kc_dot.specs.declared.fault.DotFault.TheVariants.{DotLineTooLong, Memory}
+use Rattle.kc_conf.specs.ReadSteps.{stand}
+use Rattle.kc_conf.proofs.StepLemmas.{breaks-memory, breaks-unsaid, takes-long, takes-piece, whole-fed}
+use Rattle.kc_conf.proofs.reading.take_piece.Goals as goal
+
+pub say-requires : goal.say-requires
+say-requires g c = whole-fed c.args.waiting.now c.feed-fed.new.told c.requires.waiting c.feed-fed.ensures.lines
+
+pub returns-in-Err-clause-err : goal.returns-in-Err-clause-err
+returns-in-Err-clause-err g c =
+    breaks-unsaid c.args.reader.now c.args.piece.now c.feed-fed.new.self c.feed-fed.new.told
+    (stand c.args.user.now c.args.waiting.now (g.D.Device.file c.args.device.now) (g.D.Device.log c.args.device.now))
+    (stand c.feed-fed.new.user c.say.new.waiting (g.D.Device.file c.say.new.device) (g.D.Device.log c.say.new.device))
+    c.requires.waiting c.requires.fresh c.feed-fed.result c.in-Err.stop c.feed-fed.ensures c.in-Err.ensures.says
+
+pub returns-in-Ok-clause-ok : goal.returns-in-Ok-clause-ok
+returns-in-Ok-clause-ok g c =
+    takes-piece c.args.reader.now c.args.piece.now c.feed-fed.new.self c.feed-fed.new.told
+    (stand c.args.user.now c.args.waiting.now (g.D.Device.file c.args.device.now) (g.D.Device.log c.args.device.now))
+    (stand c.feed-fed.new.user c.say.new.waiting (g.D.Device.file c.say.new.device) (g.D.Device.log c.say.new.device))
+    c.requires.waiting (rw c.in-Ok.is at c.feed-fed.ensures) c.in_default.ensures.says
+
+pub returns-in-Err-DotLineTooLong-clause-ok : goal.returns-in-Err-DotLineTooLong-clause-ok
+returns-in-Err-DotLineTooLong-clause-ok g c =
+    let fault : c.in-Err-DotLineTooLong.field-0 ≡ DotLineTooLong c.in-Err-DotLineTooLong.number = rw c.in-Err-DotLineTooLong.is at c.in-Err-DotLineTooLong.field-0-is in
+    let answers : AnswersFeed c.args.piece.now (Err (DotLineTooLong c.in-Err-DotLineTooLong.number)) c.args.reader.now c.feed-fed.new.self c.args.user.now c.feed-fed.new.user
+    c.args.waiting.now.text.items c.feed-fed.new.told.items =
+    subst (λ (r : Result (Unit {0}) DotFault). AnswersFeed c.args.piece.now r c.args.reader.now c.feed-fed.new.self c.args.user.now c.feed-fed.new.user c.args.waiting.now.text.items c.feed-fed.new.told.items)
+    (c.in-Err-DotLineTooLong.is ∙ ap Err fault) c.feed-fed.ensures in
+    takes-long c.args.reader.now c.args.piece.now c.feed-fed.new.self c.feed-fed.new.told
+    (stand c.args.user.now c.args.waiting.now (g.D.Device.file c.args.device.now) (g.D.Device.log c.args.device.now))
+    (stand c.feed-fed.new.user c.say.new.waiting (g.D.Device.file c.say.new.device) (g.D.Device.log c.say.new.device))
+    c.requires.waiting c.requires.fresh c.in-Err-DotLineTooLong.number answers c.in_default.ensures.says
+
+pub returns-in-Err-Memory-clause-err : goal.returns-in-Err-Memory-clause-err
+returns-in-Err-Memory-clause-err g c =
+    let fault : c.in-Err-Memory.field-0 ≡ Memory = rw c.in-Err-Memory.is at c.in-Err-Memory.field-0-is in
+    let answers : AnswersFeed c.args.piece.now (Err Memory) c.args.reader.now c.feed-fed.new.self c.args.user.now c.feed-fed.new.user
+    c.args.waiting.now.text.items c.feed-fed.new.told.items =
+    subst (λ (r : Result (Unit {0}) DotFault). AnswersFeed c.args.piece.now r c.args.reader.now c.feed-fed.new.self c.args.user.now c.feed-fed.new.user c.args.waiting.now.text.items c.feed-fed.new.told.items)
+    (c.in-Err-Memory.is ∙ ap Err fault) c.feed-fed.ensures in
+    breaks-memory c.args.reader.now c.args.piece.now c.feed-fed.new.self c.feed-fed.new.told
+    (stand c.args.user.now c.args.waiting.now (g.D.Device.file c.args.device.now) (g.D.Device.log c.args.device.now))
+    (stand c.feed-fed.new.user c.say.new.waiting (g.D.Device.file c.say.new.device) (g.D.Device.log c.say.new.device))
+    c.requires.waiting c.requires.fresh answers c.in_default.ensures.says
