@@ -1,10 +1,9 @@
 -- What records tell.
-use Rattle.std.proofs.Common.{◌≡◌, ℕ, Bool, true, false, List, [], ◌∷◌, ◌++◌, fold, Vec, refl, sym, ◌∙◌, ap, Option, None, Some, bytes_eq, is_some, string_bytes, Result, IfOk, Ok, Err}
-use Rattle.std.specs.List.{flat_map}
+use Rattle.std.proofs.Common.{◌≡◌, ℕ, true, false, List, [], ◌∷◌, ◌++◌, fold, Vec, refl, sym, ◌∙◌, ap, Option, None, Some, bytes_eq, is_some, string_bytes, Result, IfOk, Ok, Err}
 use Rattle.std.specs.declared.alloc.Global.{Global}
 use Rattle.std.proofs.lemmas.List.{append-nil}
-use Rattle.std.proofs.lemmas.Grind.{flat_map-append, fold-append}
-use Rattle.kc_io.specs.Log.{Event, Journal, Leads, Spot, acted, after, each_byte, with_events}
+use Rattle.std.proofs.lemmas.Grind.{flat_map-append}
+use Rattle.kc_io.specs.Log.{Event, Journal, Leads, Spot, acted, after, each_byte}
 use Rattle.kc_io.specs.declared.device.Action.{Action}
 use Rattle.kc_io.specs.declared.device.Action.TheVariants.{Open, Miss, Read, Create, Write, Close, Move, Clear, Note}
 use Rattle.kc_io.specs.declared.device.Fault.{Fault}

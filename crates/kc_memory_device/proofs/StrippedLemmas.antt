@@ -1,8 +1,8 @@
 -- What is to come of bytes, as calls go by.
-use Rattle.std.proofs.Common.{◌≡◌, ◌≢◌, ℕ, Bool, true, false, not, ◌&&◌, ◌⊎◌, List, [], ◌∷◌, ◌++◌, fold, length, take, suc, ◌≤◌, arith, ◌==◌, refl, sym, ◌∙◌, ap, Option, None, Some, Bor, MatchOption, nat_eq, bytes_eq, option_map, if◌then◌else◌, inl, inr}
+use Rattle.std.proofs.Common.{◌≡◌, ◌≢◌, ℕ, Bool, true, false, not, ◌&&◌, List, [], ◌∷◌, ◌++◌, fold, length, take, suc, ◌≤◌, arith, ◌==◌, refl, sym, ◌∙◌, ap, Option, None, Some, Bor, MatchOption, nat_eq, bytes_eq, option_map, if◌then◌else◌, inl, inr}
 use Rattle.std.specs.Option.{option_map_or}
 use Rattle.std.proofs.lemmas.Bool.Decides.{eqb_tells, nat_tests}
-use Rattle.kc_io.specs.Log.{Event, Spot, acted, after}
+use Rattle.kc_io.specs.Log.{Spot, acted, after}
 use Rattle.kc_io.specs.declared.device.Action.{Action}
 use Rattle.kc_io.specs.declared.device.Action.TheVariants.{Open, Miss, Read, Create, Write, Close, Move, Clear, Note}
 use Rattle.kc_io.specs.declared.device.Site.TheVariants.{Place, Beside}

@@ -1,5 +1,5 @@
 -- What a device tells of its files.
-use Rattle.std.proofs.Common.{◌≡◌, ℕ, Bool, List, [], Vec, Global, refl, sym, ◌∙◌, ap, Option, None, Some, Bor, Result, IfOk, Ok, Err, option_map, is_some, unwrap_or, if◌then◌else◌}
+use Rattle.std.proofs.Common.{◌≡◌, ℕ, Bool, List, [], Vec, Global, refl, ◌∙◌, ap, Option, None, Some, Bor, Result, IfOk, Ok, Err, option_map, is_some, unwrap_or, if◌then◌else◌}
 use Rattle.kc_io.specs.Log.{Journal, Log, Tells, held, is_held}
 use Rattle.kc_io.specs.Reading.{contents}
 use Rattle.kc_memory_device.specs.Recorded.{events_of, first_held, held_after, is_held_after, told}
@@ -7,9 +7,7 @@ use Rattle.kc_memory_device.specs.declared.record.Record.{Record}
 
 pub told_is : (files : List ℕ → Option (List ℕ)) (records : Option (Vec Record Global)) (r : Vec Record Global) (said : List ℕ) (journal : Journal) → records ≡ Some r → told files records said ≡ Some journal → record { files = files; events = events_of r.items; said = said } ≡ journal
 told_is files None r said journal was known = cc
-told_is files (Some x) r said journal was known =
-    let same : x ≡ r = cc in
-    ap (λ (y : Vec Record Global). record { files = files; events = events_of y.items; said = said }) (sym same) ∙ cc
+told_is files (Some x) r said journal was known = cc
 
 pub held_told : (first : List (Bor (List ℕ) × Bor (List ℕ))) (records : Option (Vec Record Global)) (r : Vec Record Global) (said name : List ℕ) → records ≡ Some r → Tells (told (first_held first) records said) (λ journal. held_after first r.items name ≡ held journal name)
 held_told first records r said name was = λ journal known. ap (λ (j : Journal). held j name) (told_is (first_held first) records r said journal was known)

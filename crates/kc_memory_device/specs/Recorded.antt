@@ -1,10 +1,10 @@
 -- Trusted: What a device in memory tells.
-use Rattle.std.specs.Prelude.{◌≡◌, ℕ, Bool, true, false, List, [], ◌∷◌, fold, Vec, Option, None, Some, option_map, Result, Ok, Err, bytes_eq, string_bytes, if◌then◌else◌}
+use Rattle.std.specs.Prelude.{ℕ, Bool, false, List, [], ◌∷◌, fold, Vec, Option, None, Some, option_map, Result, Ok, Err, bytes_eq, string_bytes, if◌then◌else◌}
 use Rattle.std.specs.Borrow.{Bor}
 use Rattle.std.specs.List.{flat_map}
 use Rattle.std.specs.Option.{option_map_or}
 use Rattle.std.specs.declared.alloc.Global.{Global}
-use Rattle.kc_io.specs.Log.{Event, Log, Spot, after, did, each_byte, failed}
+use Rattle.kc_io.specs.Log.{Event, Log, after, did, each_byte, failed}
 use Rattle.kc_io.specs.declared.device.Action.{Action}
 use Rattle.kc_io.specs.declared.device.Action.TheVariants.{Read, Write}
 use Rattle.kc_io.specs.declared.device.Fault.{Fault}

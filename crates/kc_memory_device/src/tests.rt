@@ -77,9 +77,9 @@ fn each_call_fails_in_turn(rt: HostRuntime) {
         Action::Write(Site::Place),
         Action::Close(Site::Place),
     ];
-    let mut number = 0;
+    let mut number: u64 = 0;
     for action in plain {
-        number += 1;
+        number = number.saturating_add(1);
         assert!(rt; failing(&rt, Manner::Plain, number) == Ok(Some((action, Fault::Refused))));
     }
     assert!(rt; failing(&rt, Manner::Plain, 8) == Ok(None));

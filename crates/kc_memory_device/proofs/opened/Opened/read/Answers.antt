@@ -1,4 +1,4 @@
-use Rattle.std.proofs.Common.{◌≡◌, ◌-◌, ◌≤◌, arith, length, length-drop, max, take, drop}
+use Rattle.std.proofs.Common.{◌≡◌, ◌-◌, ◌≤◌, arith, length, length-drop, take, drop}
 use Rattle.std.proofs.lemmas.List.{take_all}
 use Rattle.kc_memory_device.proofs.ReadLemmas.{reads_on}
 use Rattle.kc_memory_device.proofs.opened.Opened.read.Goals as goal
