@@ -5,3 +5,4 @@ pub mod Scripts
 pub mod Delivered
 pub mod Held
 pub mod TextViews
+pub mod Laws

@@ -1,4 +1,4 @@
--- Trusted: What a device in memory tells, and what is given of the file that is open.
+-- Trusted: The log of a device in memory.
 use Rattle.kc_io.specs.Log.{Log}
 use Rattle.kc_memory_device.specs.Recorded.{first_held, told}
 use Rattle.kc_memory_device.specs.declared.device.MemoryDevice.{MemoryDevice}
