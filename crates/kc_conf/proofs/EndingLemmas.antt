@@ -24,7 +24,7 @@ use Rattle.kc_conf.specs.Endings.{BreaksEnd, EndStops, Ends, HandsBy, IsChecked,
 use Rattle.kc_conf.specs.Ends.{delivered_by, delivers, stale_by, stale_lines, stale_texts, status_with}
 use Rattle.kc_conf.specs.ErrorLines.{error_at, error_if_at, first_line, message_behind, message_before, refusal_line, stale_line, strict_line, too_long_line, unreadable_line}
 use Rattle.kc_conf.specs.Given.{still_told}
-use Rattle.kc_conf.specs.Outcome.{AreLines}
+use Rattle.kc_conf.specs.Outcome.{AreLines, lines_text}
 use Rattle.kc_conf.specs.Reads.{IsNoteStop, Says}
 use Rattle.kc_conf.specs.Stops.{cleared_by, clearing, event_of}
 use Rattle.kc_conf.specs.declared.options.Delivery.{Delivery}
@@ -404,3 +404,20 @@ IsEnded-checked options texts old new status checks c = record {
   status_is = c.status_is;
   only_checked = inr (checks, refl);
 }
+
+-- ---- whole lines
+
+-- text of lines ends with a line feed, where there is any
+pub lines-end : (lines : List (List ℕ)) → lines_text lines ≢ [] → (front : List ℕ) × (lines_text lines ≡ front ++ codes "\n")
+lines-end [] some = absurd (some refl)
+lines-end (line ∷ []) some = (line, append-nil (line ++ codes "\n"))
+lines-end (line ∷ next ∷ lines) some =
+    let (front, is) = lines-end (next ∷ lines) (λ e. some-behind-line next (lines_text lines) e) in
+    ((line ++ codes "\n") ++ front, ap (λ l. (line ++ codes "\n") ++ l) is ∙ sym (append_assoc (line ++ codes "\n") front (codes "\n")))
+  where
+    some-behind-line : (l rest : List ℕ) → (l ++ codes "\n") ++ rest ≢ []
+    some-behind-line l rest e = some-before (l ++ codes "\n") rest (some-behind l 10 []) e
+
+pub are_lines-end : (text : List ℕ) → AreLines text → text ≢ [] → (front : List ℕ) × (text ≡ front ++ codes "\n")
+are_lines-end text (lines, is) some =
+    let (front, ends) = lines-end lines (λ e. some (is ∙ e)) in (front, is ∙ ends)

@@ -115,14 +115,14 @@ module _ (reader : ReaderState) (name : List ℕ) where
         ∙ ap (λ i. with_warnings so_far.warned (reading reader.tree reader.prefix i (to_come reader.name position (piece ++ rest) more))) (sym same_input)
 
     -- the piece was taken
-    pub takes-more : (after : StreamPosition) (new : Stand) → new.file ≡ mid.file → TakesPiece at piece None after mid new → TakesSoFar reader name after old new
-    takes-more after new same_file takes = record {
+    pub takes-more : (after : ReaderState) (new : Stand) → TakesPiece at piece None after mid new → TakesSoFar reader name after.position old new
+    takes-more after new takes = record {
       bytes = bytes;
-      given = given-piece ∙ ap (λ (f : OpenFile). option_map (λ rest. bytes ++ rest) f.to_come) (sym same_file);
+      given = given-piece ∙ ap (λ (f : OpenFile). option_map (λ rest. bytes ++ rest) f.to_come) (sym takes.same_file);
       warned = so_far.warned ++ takes.warned;
       takes = λ rest more.
           goes-piece rest more ∙ ap (with_warnings so_far.warned) (takes.takes rest more)
-          ∙ with_warnings-both so_far.warned takes.warned (reading reader.tree reader.prefix new.input (to_come reader.name after rest more));
+          ∙ with_warnings-both so_far.warned takes.warned (reading reader.tree reader.prefix new.input (to_come reader.name after.position rest more));
       warns = warns-as (so_far.warned ++ takes.warned) (so_far.warned ++ takes.warned) (each_byte Read name bytes ++ []) (each_byte Read name bytes) old new refl (append-nil (each_byte Read name bytes))
           (warns-then so_far.warned takes.warned (each_byte Read name bytes) [] old mid new warns-piece takes.warns);
     }
@@ -139,7 +139,7 @@ module _ (reader : ReaderState) (name : List ℕ) where
         ∙ ap (λ es. did Open name ++ es) (sym (bytes_both Read name bytes (left_of mid.file.to_come))))
 
     -- a line of it is too long
-    pub reads-long : (number : ℕ) (after : StreamPosition) (new : Stand) → TakesPiece at piece (Some number) after mid new → ReadsOpened reader name (Some number) old new
+    pub reads-long : (number : ℕ) (after : ReaderState) (new : Stand) → TakesPiece at piece (Some number) after mid new → ReadsOpened reader name (Some number) old new
     reads-long number after new takes = record {
       bytes = all;
       gives = gives-all old.file.to_come mid.file.to_come bytes given-piece;

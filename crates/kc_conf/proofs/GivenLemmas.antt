@@ -1,9 +1,9 @@
 -- The input files, and what reading them does.
 use Rattle.std.proofs.Common.{◌≡◌, inl, inr, ℕ, zero, suc, Bool, true, false, not, List, [], ◌∷◌, ◌++◌, map, take, refl, sym, ap, subst, ◌∙◌, append_assoc, append-nil, Option, None, Some, is_none, unwrap_or, string_bytes}
-use Rattle.std.specs.Prelude.{◌&&◌, All, slice_get, if◌then◌else◌}
+use Rattle.std.specs.Prelude.{◌&&◌, ◌||◌, is_some, All, slice_get, if◌then◌else◌}
 use Rattle.std.specs.List.{flat_map}
 use Rattle.std.proofs.lemmas.List.Elements.{All-weaker, All-nil, All-cons}
-use Rattle.kc_io.specs.Held.{keeps_files}
+use Rattle.kc_io.specs.Held.{keeps_files, only_looks}
 use Rattle.kc_io.specs.Log.{Event, Journal, Log, Leads, Tells, did, each_byte, held}
 use Rattle.kc_io.specs.declared.device.Action.TheVariants.{Open, Miss, Read}
 use Rattle.kc_io.proofs.LogLemmas.{keeps_both, keeps_bytes}
@@ -111,7 +111,16 @@ keeps-reads (file ∷ files) = keeps_both (reads_one file) (reads files) (keeps-
 
 keeps-front : (a b : List Event) → keeps_files (a ++ b) ≡ true → keeps_files a ≡ true
 keeps-front [] b keeps = refl
-keeps-front (event ∷ a) b keeps = grind (keeps-front a b)
+keeps-front (event ∷ a) b keeps =
+    let both = and-both (is_some event.fault || only_looks event.action) (keeps_files (a ++ b)) keeps in and-of (is_some event.fault || only_looks event.action) (keeps_files a) both.0 (keeps-front a b both.1)
+  where
+    and-both : (x y : Bool) → (x && y) ≡ true → (x ≡ true) × (y ≡ true)
+    and-both true y e = (refl, e)
+    and-both false y e = absurd (let clash : false ≡ true = e in cc)
+
+    and-of : (x y : Bool) → x ≡ true → y ≡ true → (x && y) ≡ true
+    and-of true y e f = f
+    and-of false y e f = e
 
 -- the reads of one of the files, among all
 reads-split : (files : List InputFile) (i : ℕ) (file : InputFile) → slice_get files i ≡ Some file → (rest : List Event) × (reads files ≡ reads (take i files) ++ (reads_one file ++ rest))

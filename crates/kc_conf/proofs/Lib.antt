@@ -7,9 +7,7 @@ pub mod PartLemmas
 pub mod OutcomeLemmas
 pub mod NoteLemmas
 pub mod Once
-pub mod ReadsLemmas
 pub mod RerunLemmas
-pub mod StreamLemmas
 pub mod TellingLemmas
 pub mod FileLemmas
 pub mod InputLemmas
@@ -20,3 +18,5 @@ pub mod GivenLemmas
 pub mod EndingLemmas
 pub mod PartOutcomes
 pub mod RunParts
+pub mod InputParts
+pub mod FolderLemmas

@@ -1,6 +1,8 @@
 -- Piece by piece: what warnings are said, and what waits.
 use Rattle.std.proofs.Common.{◌≡◌, ℕ, Bool, true, false, List, [], ◌∷◌, ◌++◌, refl, sym, ap, subst, ◌∙◌, append_assoc, append-nil, Option, Some, None, Result, Ok, Err, OnOk, IfErr, Vec, Global, length, arith}
 use Rattle.std.specs.Prelude.{◌==◌}
+use Rattle.std.specs.List.{after_last}
+use Rattle.kc_text.specs.Lines.{HoldsNoLineFeed, is_line_feed}
 use Rattle.kc_tree.specs.TreeFacts.{TreeFacts}
 use Rattle.kc_io.specs.Log.{Event, Log, Leads}
 use Rattle.kc_io.specs.WholeLines.{is_whole_lines}
@@ -179,16 +181,27 @@ module _ (reader : ReaderState) where
   module _ (piece : List ℕ) (next : ReaderState) (told : Vec ℕ Global) (old new : Stand) (only : OnlyHeldWaits old.waiting) where
     -- it was taken
     pub takes-piece : AnswersFeed piece (Ok tt) reader next old.input new.input old.waiting.text.items told.items →
-        SaysWaiting (Ok tt) (record { holds = old.waiting.holds; text = told }) new.waiting old.log new.log → TakesPiece reader piece None next.position old new
-    takes-piece answers says =
+        SaysWaiting (Ok tt) (record { holds = old.waiting.holds; text = told }) new.waiting old.log new.log → new.file ≡ old.file → ((bytes : List ℕ) → HoldsNoLineFeed (after_last is_line_feed bytes)) → TakesPiece reader piece None next old new
+    takes-piece answers says same_file waiting =
         let (warned, is, goes) = answers.ok in
-        record { warned = warned; takes = goes; warns = said-warns warned told old new only is answers.lines says }
+        let (none, stands) = answers.stands in
+        record {
+          warned = warned;
+          takes = goes;
+          warns = said-warns warned told old new only is answers.lines says;
+          still = λ _. record {
+            same = stands ∙ ap (λ (p : StreamPosition). let r : ReaderState = record reader { position = p } in r) (sym (ap (λ (r : ReaderState). r.position) stands));
+            fresh = ap (λ (r : ReaderState). r.refusal) stands ∙ none;
+            waits = subst (λ (r : ReaderState). HoldsNoLineFeed r.position.pending) (sym stands) (waiting (reader.position.pending ++ piece));
+          };
+          same_file = same_file;
+        }
 
     module _ (none : reader.refusal ≡ None) where
       -- a line of it is too long
       pub takes-long : (number : ℕ) → AnswersFeed piece (Err (DotLineTooLong number)) reader next old.input new.input old.waiting.text.items told.items →
-          SaysWaiting (Ok tt) (record { holds = old.waiting.holds; text = told }) new.waiting old.log new.log → TakesPiece reader piece (Some number) next.position old new
-      takes-long number answers says =
+          SaysWaiting (Ok tt) (record { holds = old.waiting.holds; text = told }) new.waiting old.log new.log → new.file ≡ old.file → TakesPiece reader piece (Some number) next old new
+      takes-long number answers says same_file =
           let refuses = answers.refused none in
           let (is_number, full, more_comes, stops) = refuses.because in
           record {
@@ -201,6 +214,8 @@ module _ (reader : ReaderState) where
                 ∙ ap (λ w. ended_with new.input w (Some (record { stream = reader.name; number = next.position.number }))) (append-nil refuses.warned)
                 ∙ ap (λ n. ended_with new.input refuses.warned (Some (record { stream = reader.name; number = n }))) (sym is_number);
             warns = said-warns refuses.warned told old new only refuses.tells answers.lines says;
+            still = λ none. absurd cc;
+            same_file = same_file;
           }
 
       -- there was no memory

@@ -3,6 +3,7 @@ use Rattle.std.specs.Prelude.{◌≡◌, ◌⊎◌, ℕ, Bool, true, false, not,
 use Rattle.std.specs.Option.{option_map}
 use Rattle.kc_text.specs.Lines.{HoldsNoLineFeed}
 use Rattle.kc_tree.specs.TreeFacts.{TreeFacts}
+use Rattle.kc_user.specs.Places.{ArePlacesOf}
 use Rattle.kc_io.specs.Log.{Event, Log, Leads, did, each_byte}
 use Rattle.kc_io.specs.Reading.{IsFound, IsOpened, OpenFile}
 use Rattle.kc_io.specs.declared.device.Action.{Action}
@@ -32,8 +33,8 @@ pub record Stand : Type 0 where
   pub file : OpenFile
   pub log : Log
 
-abbrev pub stand : UserInput → Waiting → OpenFile → Log → Stand
-stand input waiting file log = record { input = input; waiting = waiting; file = file; log = log }
+abbrev pub stand : {D : Type 0} → (D → OpenFile) → (D → Log) → UserInput → Waiting → D → Stand
+stand file log input waiting device = record { input = input; waiting = waiting; file = file device; log = log device }
 
 -- what is said of warnings at once
 abbrev pub said_now : Bool → List ℕ → List ℕ
@@ -91,6 +92,12 @@ there_file name bytes = record { name = name; is_missing = false; bytes = bytes 
 
 -- ---- pieces of a stream
 
+-- a reader that refused nothing, places for its tree, and nothing that waits but what is held back
+pub record IsReadyToRead (reader : ReaderState) (input : UserInput) (waiting : Waiting) : Type 0 where
+  pub fresh : reader.refusal ≡ None
+  pub places : ArePlacesOf reader.tree input.places
+  pub only : OnlyHeldWaits waiting
+
 module _ (reader : ReaderState) where
   -- Whatever follows: these lines are read, with these warnings; or one of them is too long, behind these warnings.
   abbrev pub ReadsLines : Option ℕ → List Line → UserInput → UserInput → List ℕ → Type 0
@@ -106,17 +113,19 @@ module _ (reader : ReaderState) where
       (rest : List ℕ) (more : List Line) → reading reader.tree reader.prefix before (to_come reader.name old (piece ++ rest) more)
       ≡ ended_with after warned (Some (record { stream = reader.name; number = number }))
 
-  -- a piece was taken, up to a line that is too long, if there is one
-  pub record TakesPiece (piece : List ℕ) (long : Option ℕ) (position : StreamPosition) (old new : Stand) : Type 0 where
-    pub warned : List ℕ
-    pub takes : TakesBytes long piece reader.position position old.input new.input warned
-    pub warns : Warns warned [] old new
-
   -- a reader that refused nothing, of the same stream, of which no line that ended waits
   pub record IsStillFresh (after : ReaderState) : Type 0 where
     pub same : after ≡ record reader { position = after.position }
     pub fresh : after.refusal ≡ None
     pub waits : HoldsNoLineFeed after.position.pending
+
+  -- a piece was taken, up to a line that is too long, if there is one
+  pub record TakesPiece (piece : List ℕ) (long : Option ℕ) (after : ReaderState) (old new : Stand) : Type 0 where
+    pub warned : List ℕ
+    pub takes : TakesBytes long piece reader.position after.position old.input new.input warned
+    pub warns : Warns warned [] old new
+    pub still : long ≡ None → IsStillFresh after
+    pub same_file : new.file ≡ old.file
 
   -- taking it was broken off
   pub record BreaksPiece (piece : List ℕ) (stop : Stop) (old new : Stand) : Type 0 where

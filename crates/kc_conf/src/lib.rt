@@ -3,6 +3,7 @@
 
 mod accepted;
 mod compute;
+mod folder_run;
 pub mod error_lines;
 pub mod laws;
 mod lost;
@@ -13,6 +14,7 @@ mod runs;
 mod stop;
 
 pub use accepted::AcceptedTree;
+pub use folder_run::run_in_folder;
 pub use kc_read::{Code, FileMap, Refusal};
 pub use options::{Delivery, Options, Status};
 pub use runs::run;

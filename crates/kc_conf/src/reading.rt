@@ -10,7 +10,7 @@ ghost use Rattle.kc_dot.specs.Feeding.{stream_start};
 ghost use Rattle.kc_conf.specs.Asked.{holds_warnings, lead, names_of};
 ghost use Rattle.kc_conf.specs.Outcome.{fresh_input};
 ghost use Rattle.kc_conf.specs.Reads.{BreaksInputs, ReadsInputs, stop_of};
-ghost use Rattle.kc_conf.specs.ReadSteps.{BreaksEnd, BreaksFile, BreaksOpened, BreaksPiece, EndsFile, FailsAt, IsStillFresh, OnlyHeldWaits, Opens, ReadsFile, ReadsOpened, SaysWaiting, TakesPiece, stand};
+ghost use Rattle.kc_conf.specs.ReadSteps.{BreaksEnd, BreaksFile, BreaksOpened, BreaksPiece, EndsFile, FailsAt, IsReadyToRead, Opens, ReadsFile, ReadsOpened, SaysWaiting, TakesPiece, stand};
 
 use crate::options::Options;
 use crate::stop::Stop;
@@ -106,15 +106,11 @@ fn take_piece<'a, D: Device>(
     user: &mut UserInput<'a>,
     waiting: &mut Waiting,
 ) -> Result<Option<u64>, Stop<'static>>
-    requires fresh { reader.old.refusal ≡ None }
-    requires user { ArePlacesOf reader.old.tree user.old.places }
-    requires waiting { OnlyHeldWaits waiting.old }
-    ensures ok { IfOk result (λ long. TakesPiece reader.old piece.now long reader.new.position
-        (stand user.old waiting.old (D.file device.old) (D.log device.old)) (stand user.new waiting.new (D.file device.new) (D.log device.new))) }
-    ensures stands { IfOk result (λ long. long ≡ None → IsStillFresh reader.old reader.new) }
+    requires { IsReadyToRead reader.old user.old waiting.old }
+    ensures ok { IfOk result (λ long. TakesPiece reader.old piece.now long reader.new
+        (stand D.file D.log user.old waiting.old device.old) (stand D.file D.log user.new waiting.new device.new)) }
     ensures err { IfErr result (λ stop. BreaksPiece reader.old piece.now stop
-        (stand user.old waiting.old (D.file device.old) (D.log device.old)) (stand user.new waiting.new (D.file device.new) (D.log device.new))) }
-    ensures file { D.file device.new ≡ D.file device.old }
+        (stand D.file D.log user.old waiting.old device.old) (stand D.file D.log user.new waiting.new device.new)) }
     ensures user { ArePlacesOf reader.old.tree user.new.places }
     ensures holds { waiting.new.holds ≡ waiting.old.holds }
 {
@@ -137,13 +133,11 @@ fn finish<'a, D: Device>(
     user: &mut UserInput<'a>,
     waiting: &mut Waiting,
 ) -> Result<(), Stop<'static>>
-    requires fresh { reader.old.refusal ≡ None }
-    requires user { ArePlacesOf reader.old.tree user.old.places }
-    requires waiting { OnlyHeldWaits waiting.old }
+    requires { IsReadyToRead reader.old user.old waiting.old }
     ensures ok { OnOk result (EndsFile reader.old
-        (stand user.old waiting.old (D.file device.old) (D.log device.old)) (stand user.new waiting.new (D.file device.new) (D.log device.new))) }
+        (stand D.file D.log user.old waiting.old device.old) (stand D.file D.log user.new waiting.new device.new)) }
     ensures err { IfErr result (λ stop. BreaksEnd reader.old stop
-        (stand user.old waiting.old (D.file device.old) (D.log device.old)) (stand user.new waiting.new (D.file device.new) (D.log device.new))) }
+        (stand D.file D.log user.old waiting.old device.old) (stand D.file D.log user.new waiting.new device.new)) }
     ensures user { ArePlacesOf reader.old.tree user.new.places }
     ensures holds { waiting.new.holds ≡ waiting.old.holds }
 {
@@ -161,14 +155,12 @@ fn read_opened<'o, 'a, D: Device>(
     user: &mut UserInput<'a>,
     waiting: &mut Waiting,
 ) -> Result<Option<u64>, Stop<'o>>
-    requires fresh { reader.old.refusal ≡ None }
+    requires ready { IsReadyToRead reader.old user.old waiting.old }
     requires begins { reader.old.position ≡ stream_start }
-    requires user { ArePlacesOf reader.old.tree user.old.places }
-    requires waiting { OnlyHeldWaits waiting.old }
     ensures ok { IfOk result (λ long. ReadsOpened reader.old name.now long
-        (stand user.old waiting.old (D.file device.old) (D.log device.old)) (stand user.new waiting.new (D.file device.new) (D.log device.new))) }
+        (stand D.file D.log user.old waiting.old device.old) (stand D.file D.log user.new waiting.new device.new)) }
     ensures err { IfErr result (λ stop. BreaksOpened reader.old name.now stop
-        (stand user.old waiting.old (D.file device.old) (D.log device.old)) (stand user.new waiting.new (D.file device.new) (D.log device.new))) }
+        (stand D.file D.log user.old waiting.old device.old) (stand D.file D.log user.new waiting.new device.new)) }
     ensures user { ArePlacesOf reader.old.tree user.new.places }
     ensures holds { waiting.new.holds ≡ waiting.old.holds }
 {
@@ -202,14 +194,12 @@ fn read_file<'o, 'a, D: Device>(
     user: &mut UserInput<'a>,
     waiting: &mut Waiting,
 ) -> Result<Option<u64>, Stop<'o>>
-    requires fresh { reader.old.refusal ≡ None }
+    requires ready { IsReadyToRead reader.old user.old waiting.old }
     requires begins { reader.old.position ≡ stream_start }
-    requires user { ArePlacesOf reader.old.tree user.old.places }
-    requires waiting { OnlyHeldWaits waiting.old }
     ensures ok { IfOk result (λ long. ReadsFile reader.old name.now may_be_missing long
-        (stand user.old waiting.old (D.file device.old) (D.log device.old)) (stand user.new waiting.new (D.file device.new) (D.log device.new))) }
+        (stand D.file D.log user.old waiting.old device.old) (stand D.file D.log user.new waiting.new device.new)) }
     ensures err { IfErr result (λ stop. BreaksFile reader.old name.now may_be_missing stop
-        (stand user.old waiting.old (D.file device.old) (D.log device.old)) (stand user.new waiting.new (D.file device.new) (D.log device.new))) }
+        (stand D.file D.log user.old waiting.old device.old) (stand D.file D.log user.new waiting.new device.new)) }
     ensures user { ArePlacesOf reader.old.tree user.new.places }
     ensures holds { waiting.new.holds ≡ waiting.old.holds }
 {

@@ -15,7 +15,7 @@ ghost use Rattle.kc_conf.specs.Reads.{stop_of};
 
 use crate::accepted::{AcceptedTree, OrderedTree, TreeReading, read_tree};
 use crate::compute::{compute, names_listed};
-use crate::laws::{exactly_one_outcome, one_answer, outcome_exists};
+use crate::laws::{exactly_one_outcome, one_answer};
 use crate::notes::{
     report, say_lines, say_long_line, say_parts, say_refusal, say_stale, say_strict,
     say_unreadable,
@@ -214,7 +214,7 @@ fn run_inputs<'o, D: Device>(
     requires warned { is_warned ≡ has_text (lines_text accepted.now.tree.now.warnings) }
     ensures { (files : Files) → IsAcceptedOf files options.now accepted.now → LeavesPart files options.now accepted.now.tree.now result (D.log device.old) (D.log device.new) }
 {
-    outcome_exists();
+    one_answer();
     exactly_one_outcome();
     let tree = accepted.tree;
     let streams = stream_names(alloc, options)?;

@@ -8,18 +8,18 @@ use Rattle.kc_conf.proofs.reading.read_inputs.Goals as goal
 
 pub loop-i-init : goal.loop-i-init
 loop-i-init g c = record {
-  read = so_far-nothing c.args.options.now c.args.tree.now (stand c.args.user.now c.args.waiting.now (g.D.Device.file c.args.device.now) (g.D.Device.log c.args.device.now));
+  read = so_far-nothing c.args.options.now c.args.tree.now (stand g.D.Device.file g.D.Device.log c.args.user.now c.args.waiting.now c.args.device.now);
   user = places-fresh c.args.options.now c.args.tree.now c.args.user.now c.requires.user;
 }
 
 pub loop-i-preserved : goal.loop-i-preserved
 loop-i-preserved g c = record {
   read = so_far-file c.args.options.now c.args.tree.now c.loop-i.i c.as_slice-stream.result.now c.input_file.result.now
-      (stand c.args.user.now c.args.waiting.now (g.D.Device.file c.args.device.now) (g.D.Device.log c.args.device.now))
-      (stand c.loop-i.user c.loop-i.waiting (g.D.Device.file c.loop-i.device) (g.D.Device.log c.loop-i.device))
+      (stand g.D.Device.file g.D.Device.log c.args.user.now c.args.waiting.now c.args.device.now)
+      (stand g.D.Device.file g.D.Device.log c.loop-i.user c.loop-i.waiting c.loop-i.device)
       c.loop-i.invariant.read (within-inputs c.args.options.now c.args.names.now c.loop-i.i c.requires.names c.loop-i-test.true)
       (stream-at c.args.options.now c.args.names.now c.loop-i.i c.index-names-i.result c.as_slice-stream.result.now c.requires.names c.loop-i-test.true c.index-names-i.is c.as_slice-stream.ensures.value)
-      (sym c.input_file.ensures) (stand c.read_file.new.user c.read_file.new.waiting (g.D.Device.file c.read_file.new.device) (g.D.Device.log c.read_file.new.device))
+      (sym c.input_file.ensures) (stand g.D.Device.file g.D.Device.log c.read_file.new.user c.read_file.new.waiting c.read_file.new.device)
       (rw (c.in-Ok-None.field-0-is, c.new-reader.ensures, c.requires.prefix, c.may_be_missing.ensures) at c.in-Ok-None.ensures.ok);
   user = rw c.new-reader.ensures at c.in-Ok-None.ensures.user;
 }
@@ -27,23 +27,23 @@ loop-i-preserved g c = record {
 pub returns-in-Ok-Some-clause-ok : goal.returns-in-Ok-Some-clause-ok
 returns-in-Ok-Some-clause-ok g c =
     reads-to-long c.args.options.now c.args.tree.now c.loop-i.i c.as_slice-stream.result.now c.input_file.result.now
-    (stand c.args.user.now c.args.waiting.now (g.D.Device.file c.args.device.now) (g.D.Device.log c.args.device.now))
-    (stand c.loop-i.user c.loop-i.waiting (g.D.Device.file c.loop-i.device) (g.D.Device.log c.loop-i.device))
+    (stand g.D.Device.file g.D.Device.log c.args.user.now c.args.waiting.now c.args.device.now)
+    (stand g.D.Device.file g.D.Device.log c.loop-i.user c.loop-i.waiting c.loop-i.device)
     c.loop-i.invariant.read (within-inputs c.args.options.now c.args.names.now c.loop-i.i c.requires.names c.loop-i-test.true)
     (stream-at c.args.options.now c.args.names.now c.loop-i.i c.index-names-i.result c.as_slice-stream.result.now c.requires.names c.loop-i-test.true c.index-names-i.is c.as_slice-stream.ensures.value)
     (sym c.input_file.ensures) c.in-Ok-Some.number
-    (stand c.read_file.new.user c.read_file.new.waiting (g.D.Device.file c.read_file.new.device) (g.D.Device.log c.read_file.new.device)) c.requires.waiting.0
+    (stand g.D.Device.file g.D.Device.log c.read_file.new.user c.read_file.new.waiting c.read_file.new.device) c.requires.waiting.0
     (rw (c.in-Ok-Some.field-0-is, c.new-reader.ensures, c.requires.prefix, c.may_be_missing.ensures) at c.in-Ok-Some.ensures.ok)
 
 pub returns-in-Err-clause-err : goal.returns-in-Err-clause-err
 returns-in-Err-clause-err g c =
     breaks-inputs c.args.options.now c.args.tree.now c.loop-i.i c.as_slice-stream.result.now c.input_file.result.now
-    (stand c.args.user.now c.args.waiting.now (g.D.Device.file c.args.device.now) (g.D.Device.log c.args.device.now))
-    (stand c.loop-i.user c.loop-i.waiting (g.D.Device.file c.loop-i.device) (g.D.Device.log c.loop-i.device))
+    (stand g.D.Device.file g.D.Device.log c.args.user.now c.args.waiting.now c.args.device.now)
+    (stand g.D.Device.file g.D.Device.log c.loop-i.user c.loop-i.waiting c.loop-i.device)
     c.loop-i.invariant.read (within-inputs c.args.options.now c.args.names.now c.loop-i.i c.requires.names c.loop-i-test.true)
     (stream-at c.args.options.now c.args.names.now c.loop-i.i c.index-names-i.result c.as_slice-stream.result.now c.requires.names c.loop-i-test.true c.index-names-i.is c.as_slice-stream.ensures.value)
     (sym c.input_file.ensures) c.in-Err.stop
-    (stand c.read_file.new.user c.read_file.new.waiting (g.D.Device.file c.read_file.new.device) (g.D.Device.log c.read_file.new.device)) c.requires.user c.requires.waiting.1
+    (stand g.D.Device.file g.D.Device.log c.read_file.new.user c.read_file.new.waiting c.read_file.new.device) c.requires.user c.requires.waiting.1
     (rw (c.new-reader.ensures, c.requires.prefix, c.may_be_missing.ensures) at c.in-Err.ensures.err)
 
 pub returns-in-Err-clause-holds : goal.returns-in-Err-clause-holds
@@ -55,6 +55,6 @@ returns-clause-ok g c =
     let names = ap length c.requires.names in let count = names-count c.args.options.now in let same = length-map c.args.names.now (λ (name : Vec ℕ Global). name.items) in
     let test = c.loop-i-test.false in omega (arith, names, count, same, test) in
     reads-all c.args.options.now c.args.tree.now c.loop-i.i
-    (stand c.args.user.now c.args.waiting.now (g.D.Device.file c.args.device.now) (g.D.Device.log c.args.device.now))
-    (stand c.loop-i.user c.loop-i.waiting (g.D.Device.file c.loop-i.device) (g.D.Device.log c.loop-i.device))
+    (stand g.D.Device.file g.D.Device.log c.args.user.now c.args.waiting.now c.args.device.now)
+    (stand g.D.Device.file g.D.Device.log c.loop-i.user c.loop-i.waiting c.loop-i.device)
     end c.requires.waiting.0 (c.reading_goes_line_by_line.ensures c.args.tree.now c.args.options.now.prefix).nothing c.loop-i.invariant.read

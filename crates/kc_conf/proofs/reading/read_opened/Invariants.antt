@@ -8,7 +8,7 @@ invariant-pieces g l =
     let file = g.D.Device.file in
     let log = g.D.Device.log in
     record {
-      taken : TakesSoFar l.fn.reader l.fn.name l.reader.position (stand l.fn.user l.fn.waiting (file l.fn.device) (log l.fn.device)) (stand l.user l.waiting (file l.device) (log l.device));
+      taken : TakesSoFar l.fn.reader l.fn.name l.reader.position (stand file log l.fn.user l.fn.waiting l.fn.device) (stand file log l.user l.waiting l.device);
       still : IsStillFresh l.fn.reader l.reader;
       user : ArePlacesOf l.fn.reader.tree l.user.places;
     }

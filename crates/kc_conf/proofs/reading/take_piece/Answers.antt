@@ -8,21 +8,21 @@ use Rattle.kc_conf.proofs.StepLemmas.{breaks-memory, breaks-unsaid, takes-long, 
 use Rattle.kc_conf.proofs.reading.take_piece.Goals as goal
 
 pub say-requires : goal.say-requires
-say-requires g c = whole-fed c.args.waiting.now c.feed-fed.new.told c.requires.waiting c.feed-fed.ensures.lines
+say-requires g c = whole-fed c.args.waiting.now c.feed-fed.new.told c.requires.only c.feed-fed.ensures.lines
 
 pub returns-in-Err-clause-err : goal.returns-in-Err-clause-err
 returns-in-Err-clause-err g c =
     breaks-unsaid c.args.reader.now c.args.piece.now c.feed-fed.new.self c.feed-fed.new.told
-    (stand c.args.user.now c.args.waiting.now (g.D.Device.file c.args.device.now) (g.D.Device.log c.args.device.now))
-    (stand c.feed-fed.new.user c.say.new.waiting (g.D.Device.file c.say.new.device) (g.D.Device.log c.say.new.device))
-    c.requires.waiting c.requires.fresh c.feed-fed.result c.in-Err.stop c.feed-fed.ensures c.in-Err.ensures.says
+    (stand g.D.Device.file g.D.Device.log c.args.user.now c.args.waiting.now c.args.device.now)
+    (stand g.D.Device.file g.D.Device.log c.feed-fed.new.user c.say.new.waiting c.say.new.device)
+    c.requires.only c.requires.fresh c.feed-fed.result c.in-Err.stop c.feed-fed.ensures c.in-Err.ensures.says
 
 pub returns-in-Ok-clause-ok : goal.returns-in-Ok-clause-ok
 returns-in-Ok-clause-ok g c =
     takes-piece c.args.reader.now c.args.piece.now c.feed-fed.new.self c.feed-fed.new.told
-    (stand c.args.user.now c.args.waiting.now (g.D.Device.file c.args.device.now) (g.D.Device.log c.args.device.now))
-    (stand c.feed-fed.new.user c.say.new.waiting (g.D.Device.file c.say.new.device) (g.D.Device.log c.say.new.device))
-    c.requires.waiting (rw c.in-Ok.is at c.feed-fed.ensures) c.in_default.ensures.says
+    (stand g.D.Device.file g.D.Device.log c.args.user.now c.args.waiting.now c.args.device.now)
+    (stand g.D.Device.file g.D.Device.log c.feed-fed.new.user c.say.new.waiting c.say.new.device)
+    c.requires.only (rw c.in-Ok.is at c.feed-fed.ensures) c.in_default.ensures.says c.in_default.ensures.file c.lines_are_cut.ensures.waiting
 
 pub returns-in-Err-DotLineTooLong-clause-ok : goal.returns-in-Err-DotLineTooLong-clause-ok
 returns-in-Err-DotLineTooLong-clause-ok g c =
@@ -32,9 +32,9 @@ returns-in-Err-DotLineTooLong-clause-ok g c =
     subst (λ (r : Result (Unit {0}) DotFault). AnswersFeed c.args.piece.now r c.args.reader.now c.feed-fed.new.self c.args.user.now c.feed-fed.new.user c.args.waiting.now.text.items c.feed-fed.new.told.items)
     (c.in-Err-DotLineTooLong.is ∙ ap Err fault) c.feed-fed.ensures in
     takes-long c.args.reader.now c.args.piece.now c.feed-fed.new.self c.feed-fed.new.told
-    (stand c.args.user.now c.args.waiting.now (g.D.Device.file c.args.device.now) (g.D.Device.log c.args.device.now))
-    (stand c.feed-fed.new.user c.say.new.waiting (g.D.Device.file c.say.new.device) (g.D.Device.log c.say.new.device))
-    c.requires.waiting c.requires.fresh c.in-Err-DotLineTooLong.number answers c.in_default.ensures.says
+    (stand g.D.Device.file g.D.Device.log c.args.user.now c.args.waiting.now c.args.device.now)
+    (stand g.D.Device.file g.D.Device.log c.feed-fed.new.user c.say.new.waiting c.say.new.device)
+    c.requires.only c.requires.fresh c.in-Err-DotLineTooLong.number answers c.in_default.ensures.says c.in_default.ensures.file
 
 pub returns-in-Err-Memory-clause-err : goal.returns-in-Err-Memory-clause-err
 returns-in-Err-Memory-clause-err g c =
@@ -44,6 +44,6 @@ returns-in-Err-Memory-clause-err g c =
     subst (λ (r : Result (Unit {0}) DotFault). AnswersFeed c.args.piece.now r c.args.reader.now c.feed-fed.new.self c.args.user.now c.feed-fed.new.user c.args.waiting.now.text.items c.feed-fed.new.told.items)
     (c.in-Err-Memory.is ∙ ap Err fault) c.feed-fed.ensures in
     breaks-memory c.args.reader.now c.args.piece.now c.feed-fed.new.self c.feed-fed.new.told
-    (stand c.args.user.now c.args.waiting.now (g.D.Device.file c.args.device.now) (g.D.Device.log c.args.device.now))
-    (stand c.feed-fed.new.user c.say.new.waiting (g.D.Device.file c.say.new.device) (g.D.Device.log c.say.new.device))
-    c.requires.waiting c.requires.fresh answers c.in_default.ensures.says
+    (stand g.D.Device.file g.D.Device.log c.args.user.now c.args.waiting.now c.args.device.now)
+    (stand g.D.Device.file g.D.Device.log c.feed-fed.new.user c.say.new.waiting c.say.new.device)
+    c.requires.only c.requires.fresh answers c.in_default.ensures.says

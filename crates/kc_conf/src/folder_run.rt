@@ -1,0 +1,47 @@
+//! A run over a folder: it loads the files of the tree and runs over them.
+ghost use Rattle.kc_conf.specs.FolderRuns.{FolderRuns, TriesToSay, load_line};
+
+use crate::accepted::AcceptedTree;
+use crate::options::{Options, Status};
+use crate::runs::run;
+use kc_io::Device;
+use kc_load::{Folder, LoadFault, load};
+use std::alloc::Global;
+
+// Says why the files could not be loaded. A fault in it changes nothing else.
+fn say_load_fault<D: Device>(fault: &LoadFault, device: &mut D)
+    ensures { TriesToSay (load_line fault.now) (D.log device.old) (D.log device.new) }
+{
+    let _ = match fault {
+        LoadFault::CannotRead(name) => device.note(&[b"error E18: cannot read ", name, b"\n"]),
+        LoadFault::Memory => device.note(&[b"error E20: out of memory\n"]),
+    };
+}
+
+/// Loads the files of a folder, and runs over them as [`run`](crate::run) does (our own).
+///
+/// The file of a name is the one at the path `root/NAME`, or at the name itself if that begins with `/`; a name that is not UTF-8 has
+/// none. What was read of the folder is let go when the tree's lines are known. If a file of the tree cannot be read (E18), or there is no
+/// memory for it (E20), that is said, the status is `Faulted`, and nothing else was done; `kept` is as it was then.
+pub fn run_in_folder<F: Folder, D: Device>(
+    alloc: Global,
+    folder: &mut F,
+    options: &Options,
+    device: &mut D,
+    kept: &mut Option<AcceptedTree>,
+) -> Status
+    ensures { FolderRuns options.now (F.state folder.old) (F.state folder.new) (D.log device.old) (D.log device.new) result }
+{
+    match load(
+        alloc,
+        folder,
+        options.root.as_str(),
+        options.kconfig.as_str(),
+    ) {
+        Ok(files) => run(alloc, files, options, device, kept),
+        Err(fault) => {
+            say_load_fault(&fault, device);
+            Status::Faulted
+        }
+    }
+}
