@@ -421,3 +421,9 @@ lines-end (line ∷ next ∷ lines) some =
 pub are_lines-end : (text : List ℕ) → AreLines text → text ≢ [] → (front : List ℕ) × (text ≡ front ++ codes "\n")
 are_lines-end text (lines, is) some =
     let (front, ends) = lines-end lines (λ e. some (is ∙ e)) in (front, is ∙ ends)
+
+-- what the end of a run did and said
+pub Ends-log : (options : Options) (waits line : List ℕ) (texts : List NamedText) (ended : Status) (result : Result Status Stop) (old new : Log) → Ends options waits line texts ended result old new →
+    (events : List Event) × (text : List ℕ) × Leads events text old new
+Ends-log options waits line texts ended (Ok status) old new e = (e.made, (waits ++ line) ++ stale_lines options e.stale, e.log)
+Ends-log options waits line texts ended (Err stop) old new b = (b.done ++ event_of stop ++ clearing options stop, b.front, b.log)

@@ -26,7 +26,8 @@ use Rattle.kc_conf.specs.declared.options.Status.TheVariants.{Refused}
 use Rattle.kc_conf.specs.declared.reading.Waiting.{Waiting}
 use Rattle.kc_conf.specs.declared.stop.Stop.{Stop}
 use Rattle.kc_conf.specs.declared.stop.Stop.TheVariants.{OutOfMemory}
-use Rattle.kc_conf.proofs.GivenLemmas.{inputs-exist, reads-front}
+use Rattle.kc_conf.proofs.EndingLemmas.{Ends-log}
+use Rattle.kc_conf.proofs.GivenLemmas.{AreInputs-later, inputs-exist, reads-front}
 use Rattle.kc_conf.proofs.PartLemmas.{AreLines-append, AreLines-nothing, AreLines-reading}
 use Rattle.kc_conf.proofs.PartOutcomes.{Ends-part, is_part, names-read, part-has, part-says, part-warned, part_of, rest-begins, rest-exists, rest-long, rest-whole, texts-none}
 use Rattle.kc_conf.proofs.RunParts.{EndsSo-behind, IsBrokenOff-memory, IsBrokenOff-reading}
@@ -153,9 +154,11 @@ module _ (law : OneAnswer) (outcomes : ExactlyOneOutcome) (files : Files) (optio
 
   -- a line is too long
   pub LeavesPart-long : (stop : StreamLocation) (before after : UserInput) (waiting : Waiting) (result : Result Status Stop) (old mid new : Log) → before ≡ fresh_input options tree →
-      (r : ReadsInputs options tree (Some stop) before after waiting old mid) → AreInputs (still_told old new) options r.inputs →
+      ReadsInputs options tree (Some stop) before after waiting old mid →
       Ends options waiting.text.items (too_long_line stop) [] Refused result mid new → LeavesPart files options tree result old new
-  LeavesPart-long stop before after waiting result old mid new fresh r are_inputs ends =
+  LeavesPart-long stop before after waiting result old mid new fresh r ends =
+      let (b, t, w) = Ends-log options waiting.text.items (too_long_line stop) [] Refused result mid new ends in
+      let are_inputs = AreInputs-later b t old mid new w options r.inputs r.are_inputs in
       let e = read-is options tree r.inputs before after r.warned (Some stop) fresh r.reading_is in
       let rest : Outcome = noted r.warned (refused (too_long_line stop)) in
       ended-part r.inputs (Some stop) after r.warned waiting.holds waiting.text.items r.events rest result old mid new are_inputs e r.reads_to
@@ -165,10 +168,12 @@ module _ (law : OneAnswer) (outcomes : ExactlyOneOutcome) (files : Files) (optio
 
   -- all lines were read
   pub LeavesPart-whole : (before after : UserInput) (waiting : Waiting) (names : Option (List (List ℕ))) (is_warned : Bool) (text : List ℕ) (given : Option (List NamedText)) (result : Result Status Stop) (old mid new : Log) →
-      before ≡ fresh_input options tree → (r : ReadsInputs options tree None before after waiting old mid) → AreInputs (still_told old new) options r.inputs → waiting.holds ≡ holds_warnings options →
+      before ≡ fresh_input options tree → ReadsInputs options tree None before after waiting old mid → waiting.holds ≡ holds_warnings options →
       names ≡ names_listed options opened → is_warned ≡ before_it → Computes options tree names after is_warned waiting.text.items text given →
       Ends options text (line_if options given) (texts_or given) (status_if given) result mid new → LeavesPart files options tree result old new
-  LeavesPart-whole before after waiting names is_warned text given result old mid new fresh r are_inputs holds listed told c ends =
+  LeavesPart-whole before after waiting names is_warned text given result old mid new fresh r holds listed told c ends =
+      let (b, t, w) = Ends-log options text (line_if options given) (texts_or given) (status_if given) result mid new ends in
+      let are_inputs = AreInputs-later b t old mid new w options r.inputs r.are_inputs in
       let e = read-is options tree r.inputs before after r.warned None fresh r.reading_is in
       let values = value_lines options after c.solution in
       let rest : Outcome = noted r.warned (outcome_of options tree after c.solution) in

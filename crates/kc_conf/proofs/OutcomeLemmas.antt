@@ -1,6 +1,6 @@
 -- What is refused of an outcome, and what its parts have to do with the whole.
-use Rattle.std.proofs.Common.{◌≡◌, ℕ, Bool, true, false, List, [], ◌∷◌, ◌++◌, refl, sym, ap, ◌∙◌, append_assoc, Option, Some, None, is_some}
-use Rattle.std.specs.Prelude.{◌&&◌, ◌||◌, if◌then◌else◌}
+use Rattle.std.proofs.Common.{◌≡◌, ℕ, Bool, true, false, List, [], ◌∷◌, ◌++◌, refl, sym, ap, ◌∙◌, append_assoc, length, map, not, Option, Some, None, is_some, Vec, Global, arith}
+use Rattle.std.specs.Prelude.{◌&&◌, ◌||◌, ◌==◌, if◌then◌else◌}
 use Rattle.kc_conf.specs.declared.options.Options.{Options}
 use Rattle.kc_conf.specs.Outcome.{Outcome, depfile_text, has_text, is_done, lines_text, noted, notes_of, refused_if, strictly, text_if, with_rule}
 use Rattle.kc_conf.specs.PartRuns.{strictly_after}
@@ -33,6 +33,16 @@ strictly-noted options text part =
 pub told_lines : (line : List ℕ) (lines : List (List ℕ)) → has_text (lines_text (line ∷ lines)) ≡ true
 told_lines [] lines = refl
 told_lines (b ∷ line) lines = refl
+
+-- text that is not empty is some
+pub text_some : (text : List ℕ) → not (length text == 0) ≡ has_text text
+text_some [] = refl
+text_some (b ∷ text) = let e : (length (b ∷ text) == 0) ≡ false = grind arith in ap not e
+
+pub lines_some : (lines : List (Vec ℕ Global)) → not (length lines == 0) ≡ has_text (lines_text (map (λ line. line.items) lines))
+lines_some [] = refl
+lines_some (line ∷ lines) =
+    let e : (length (line ∷ lines) == 0) ≡ false = grind arith in ap not e ∙ sym (told_lines line.items (map (λ l. l.items) lines))
 
 -- ---- the rule for make
 

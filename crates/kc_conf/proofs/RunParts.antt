@@ -12,13 +12,22 @@ use Rattle.kc_io.specs.declared.steps.Failure.{Failure}
 use Rattle.kc_io.proofs.LogLemmas.{leads_as, leads_both, leads_nothing, leads_said}
 use Rattle.kc_dot.specs.Reading.{lines_of, reading}
 use Rattle.kc_dot.specs.Sink.{BeginsWith, GoesBeyond}
-use Rattle.kc_conf.specs.Asked.{names_of}
+use Rattle.kc_conf.specs.Asked.{lead, names_of}
 use Rattle.kc_conf.specs.Endings.{Answers, BreaksEnd, EndStops, Ends, IsEnded}
 use Rattle.kc_conf.specs.Endings as tail
-use Rattle.kc_conf.specs.Ends.{AreReads, Breaks, Broken, Completes, Runs, delivers, in_delivery, in_input, in_notes, no_memory, said_of_tree, stale_lines, stale_texts, texts_of}
+use Rattle.kc_read.specs.Expansion.{Refused as RefusedTree}
+use Rattle.kc_read.specs.OpenedFiles.{AreOpened, OpenedAreOneList}
+use Rattle.kc_read.specs.RefusalView.{refusal_view}
+use Rattle.kc_read.specs.declared.refusal.Code.{Code}
+use Rattle.kc_read.specs.declared.refusal.Code.TheVariants as code
+use Rattle.kc_read.specs.declared.refusal.Code.TheVariants.{Memory as NoMemory}
+use Rattle.kc_read.specs.declared.refusal.Refusal.{Refusal}
+use Rattle.kc_conf.specs.ErrorLines.{refusal_line, unreadable_line}
+use Rattle.kc_conf.specs.declared.options.Status.TheVariants.{Refused}
+use Rattle.kc_conf.specs.Ends.{AreReads, Breaks, Broken, Completes, Runs, delivers, in_delivery, in_input, in_notes, no_memory, refused_name as name_refused, refused_tree as tree_refused, said_of_tree, stale_lines, stale_texts, texts_of}
 use Rattle.kc_conf.specs.Given.{AreInputs, InputFile, bytes_of, reads, still_told}
 use Rattle.kc_conf.specs.Existence.{ExactlyOneOutcome}
-use Rattle.kc_conf.specs.Outcome.{AreLines, IsAcceptedTree, IsLenientOutcome, IsOutcome, NamesAreRead, OneAnswer, Outcome, accepted_tree, has_text, is_done, lines_text, noted, notes_of, refused_name, refused_tree, root_file, strictly}
+use Rattle.kc_conf.specs.Outcome.{AreLines, IsAcceptedTree, IsLenientOutcome, IsOutcome, IsRefusedTree, NamesAreRead, refused, unreadable_name, OneAnswer, Outcome, accepted_tree, has_text, is_done, lines_text, noted, notes_of, refused_name, refused_tree, root_file, strictly}
 use Rattle.kc_conf.specs.PartRuns.{EndsSo, IsBrokenOff, LeavesPart, LeavesRun, StopsLines, nothing_said}
 use Rattle.kc_conf.specs.Reads.{IsNoteStop, StopsInputs}
 use Rattle.kc_conf.specs.Reads as reading_stops
@@ -33,6 +42,7 @@ use Rattle.kc_conf.proofs.EndingLemmas.{beyond-nothing, cleared-note, delivers-s
 use Rattle.kc_conf.proofs.GivenLemmas.{AreInputs-before, AreInputs-later, inputs-exist, keeps-are_reads, reads-front}
 use Rattle.kc_conf.proofs.OutcomeLemmas.{notes-noted, rule-warned, warned_if}
 use Rattle.kc_conf.proofs.PartLemmas.{AreLines-append, AreLines-nothing}
+use Rattle.kc_conf.proofs.PartOutcomes.{texts-none}
 use Rattle.kc_conf.proofs.TellingLemmas.{Tells-first, Tells-later, Tells-weaker}
 
 -- ---- a run that was read, and then ended
@@ -364,3 +374,54 @@ Runs-answered files options (Err stop) status old mid new run (faulted, (report,
         in_delivery f events done are
         (Tells-later (λ journal. (left : List Event) × (done ++ left ≡ delivers options (texts_of options run.outcome) journal) × StopsBefore left (Err f)) old mid new (io_noted report)
         (said report (stop_line options stop)) log tells)
+
+-- ---- what is refused
+
+-- a name
+pub LeavesRun-name : (files : Files) (options : Options) (tree : TreeFacts) (opened : List (List ℕ)) (name : List ℕ) (result : Result Status Stop) (old new : Log) →
+    IsAcceptedTree files (root_file options) tree → AreOpened files (root_file options) opened → unreadable_name options opened ≡ Some name →
+    Ends options [] (lead options ++ unreadable_line name) [] Refused result old new → LeavesRun files options result old new
+LeavesRun-name files options tree opened name result old new accepted are unread ends =
+    let line = lead options ++ unreadable_line name in
+    LeavesRun-refused files options (refused line) result old new
+    (λ inputs. name_refused name (record { tree = tree; accepted = accepted; opened = opened; are_opened = are; unreadable = unread }))
+    (λ all. (refused line, opened, refused_name tree name accepted unread refl, are, refl)) refl (texts-none options) ends
+
+-- a tree
+LeavesRun-tree : OpenedAreOneList → (files : Files) (options : Options) (r : RefusedTree) (result : Result Status Stop) (old new : Log) → IsRefusedTree files (root_file options) r →
+    Ends options [] (refusal_line r) [] Refused result old new → LeavesRun files options result old new
+LeavesRun-tree opens files options r result old new why ends =
+    let (opened, are, only) = opens files (root_file options) in
+    LeavesRun-refused files options (refused (refusal_line r)) result old new (λ inputs. tree_refused r why)
+    (λ all. (refused (refusal_line r), opened, refused_tree r why refl, are, refl)) refl (texts-none options) ends
+
+is_memory : (code : Code) → (code ≡ NoMemory) ⊎ (code ≢ NoMemory)
+is_memory code.NoFile = inr (λ e. cc)
+is_memory code.InclusionLoop = inr (λ e. cc)
+is_memory code.TooManyLines = inr (λ e. cc)
+is_memory code.LineTooLong = inr (λ e. cc)
+is_memory code.BadToken = inr (λ e. cc)
+is_memory code.Macro = inr (λ e. cc)
+is_memory code.LeftOut = inr (λ e. cc)
+is_memory code.Syntax = inr (λ e. cc)
+is_memory code.Block = inr (λ e. cc)
+is_memory code.Misplaced = inr (λ e. cc)
+is_memory code.BadName = inr (λ e. cc)
+is_memory code.TooDeep = inr (λ e. cc)
+is_memory code.ChoiceMember = inr (λ e. cc)
+is_memory code.BadDefault = inr (λ e. cc)
+is_memory code.Loop = inr (λ e. cc)
+is_memory code.TooManySymbols = inr (λ e. cc)
+is_memory code.Memory = inl refl
+
+-- or there was no memory for it
+pub LeavesRun-refusal : OpenedAreOneList → ExactlyOneOutcome → (files : Files) (options : Options) (r : Refusal) (result : Result Status Stop) (old new : Log) →
+    (r.code ≢ NoMemory → IsRefusedTree files (root_file options) (refusal_view r)) → (r.code ≡ NoMemory → (result ≡ Err OutOfMemory) × (new ≡ old)) →
+    (r.code ≢ NoMemory → (any : Options) → Ends any [] (refusal_line (refusal_view r)) [] Refused result old new) → LeavesRun files options result old new
+LeavesRun-refusal opens outcomes files options r result old new why memory said = elim (is_memory r.code) [
+  | inl none ↦
+      let (is, same) = memory none in
+      subst (λ (x : Result Status Stop). LeavesRun files options x old new) (sym is)
+      (subst (λ (l : Log). LeavesRun files options (Err OutOfMemory) old l) (sym same) (LeavesRun-memory outcomes files options old old (leads_nothing old)))
+  | inr known ↦ LeavesRun-tree opens files options (refusal_view r) result old new (why known) (said known options)
+]

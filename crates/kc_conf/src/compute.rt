@@ -11,7 +11,7 @@ ghost use Rattle.kc_conf.specs.Accepted.{IsReady};
 ghost use Rattle.kc_conf.specs.Asked.{lead, target};
 ghost use Rattle.kc_conf.specs.Computed.{Computes, ruled_files};
 ghost use Rattle.kc_conf.specs.Ends.{text_at, texts_of};
-ghost use Rattle.kc_conf.specs.Outcome.{lines_text, names_listed, text_if};
+ghost use Rattle.kc_conf.specs.Outcome.{has_text, lines_text, names_listed, text_if};
 ghost use Rattle.kc_conf.specs.Taken.{is_outside, lost_warnings, refuses_input};
 
 use crate::accepted::OrderedTree;
@@ -75,7 +75,8 @@ fn add_value_lines(
         ++ (lines_text (map (λ line. lead options.now ++ line) (warnings solved.now)) ++ lines_text (map (λ line. line.items) lost.now))) }
 {
     add_lines(&options.lead(), solved.value_warnings(), text)?;
-    add_lines(&[], lost, text)
+    add_lines(&[], lost, text)?;
+    Ok(())
 }
 
 // ---- whether the texts are refused
@@ -111,6 +112,14 @@ fn refuses_input(
 {
     options.strict
         && !(input.all_taken() && !is_any_outside(solved.value_warnings()) && lost.is_empty())
+}
+
+// Whether anything was warned of before, or is by this text.
+#[tactic(auto, using(crate::proofs::OutcomeLemmas::text_some))]
+fn is_warned_by(before: bool, text: &[u8]) -> bool
+    ensures { result ≡ (before || has_text text.now) }
+{
+    before || !text.is_empty()
 }
 
 // Whether the texts are refused: for that, or for any warning under --strict-tree.
@@ -284,7 +293,8 @@ pub(crate) fn compute<'o>(
     solved.is_solution();
     let lost = lost_warnings(alloc, options, input, &solved)?;
     add_value_lines(options, &solved, &lost, waiting)?;
-    if is_refused(options, input, &solved, &lost, is_warned || !waiting.is_empty()) {
+    let is_warned = is_warned_by(is_warned, waiting);
+    if is_refused(options, input, &solved, &lost, is_warned) {
         return Ok(None);
     }
     let texts = texts_of(alloc, options, tree, &solved, names)?;

@@ -1,0 +1,38 @@
+-- A name is refused; or the tree's warnings are said, and a part follows.
+use Rattle.std.proofs.Common.{◌∙◌, ap, sym, option_map, not}
+use Rattle.std.proofs.lemmas.Result.{err_from_is_err_and}
+use Rattle.kc_io.proofs.LogLemmas.{leads_nothing}
+use Rattle.kc_conf.specs.Outcome.{has_text, lines_text}
+use Rattle.kc_conf.proofs.OutcomeLemmas.{lines_some}
+use Rattle.kc_conf.proofs.PartOutcomes.{names-read}
+use Rattle.kc_conf.proofs.RunParts.{LeavesRun-memory, LeavesRun-name, LeavesRun-part, LeavesRun-unsaid}
+use Rattle.kc_conf.proofs.runs.run_accepted.Goals as goal
+
+pub returns-in_err-names : goal.returns-in_err-names
+returns-in_err-names g c =
+    let p = err_from_is_err_and c.from_residual.result c.from_residual.ensures.1 in
+    let log = g.D.Device.log c.args.device.now in
+    rw (p.1, p.2) (λ files of. LeavesRun-memory c.exactly_one_outcome.ensures files c.args.options.now log log (leads_nothing log))
+
+pub returns-in-Some : goal.returns-in-Some
+returns-in-Some g c = λ files of.
+    let opened = c.args.accepted.now.opened.now in
+    LeavesRun-name files c.args.options.now c.args.accepted.now.tree.now opened c.in-Some.name.now c.refuse_name.result (g.D.Device.log c.args.device.now) (g.D.Device.log c.refuse_name.new.device)
+    of.tree of.opened (sym (c.unreadable_among.ensures opened c.in_ok-names.ensures) ∙ ap (option_map (λ n. n.now)) c.in-Some.is) c.refuse_name.ensures
+
+pub run_inputs-requires-clause-warned : goal.run_inputs-requires-clause-warned
+run_inputs-requires-clause-warned g c =
+    ap not c.is_empty.ensures ∙ lines_some c.parse_warnings-warnings.result.now ∙ ap (λ l. has_text (lines_text l)) c.parse_warnings-warnings.ensures
+
+pub returns-in-Ok : goal.returns-in-Ok
+returns-in-Ok g c = λ files of.
+    LeavesRun-part c.one_answer.ensures files c.args.options.now c.args.accepted.now.tree.now c.run_inputs.result (g.D.Device.log c.args.device.now) (g.D.Device.log c.say_tree.new.device)
+    (g.D.Device.log c.run_inputs.new.device) of.tree (rw c.parse_warnings-warnings.ensures at c.in-Ok.ensures) (c.run_inputs.ensures files of)
+
+pub returns : goal.returns
+returns g c = λ files of.
+    let opened = c.args.accepted.now.opened.now in
+    let readable = sym (c.unreadable_among.ensures opened c.in_ok-names.ensures) ∙ ap (option_map (λ n. n.now)) c.in_default.is in
+    LeavesRun-unsaid c.one_answer.ensures c.exactly_one_outcome.ensures files c.args.options.now c.args.accepted.now.tree.now of.tree
+    (names-read files c.args.options.now c.args.accepted.now.tree.now of.tree opened of.opened readable) c.in-Err.stop (g.D.Device.log c.args.device.now) (g.D.Device.log c.say_tree.new.device)
+    (rw c.parse_warnings-warnings.ensures at c.in-Err.ensures)
