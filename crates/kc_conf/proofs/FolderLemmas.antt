@@ -35,50 +35,68 @@ module _ (root : List ℕ) (files others : Files) (alike : ExpandsAlike root fil
   opened_back opened are log expands = are log ((alike _).0 expands)
 
 module _ (options : Options) (files others : Files) (alike : ExpandsAlike (root_file options) files others) where
-  abbrev root : List ℕ
-  root = root_file options
+  abbrev top : List ℕ
+  top = root_file options
 
   lenient_over : (opened all : List (List ℕ)) (outcome : Outcome) → IsLenientOutcome files options opened all outcome → IsLenientOutcome others options opened all outcome
-  lenient_over opened all outcome (refused_tree r x e) = refused_tree r (refused_over root files others alike r x) e
-  lenient_over opened all outcome (refused_name tree name x unread e) = refused_name tree name (accepted_over root files others alike tree x) unread e
-  lenient_over opened all outcome (accepted_tree tree x read y) = accepted_tree tree (accepted_over root files others alike tree x) read y
+  lenient_over opened all outcome (refused_tree r x e) = refused_tree r (refused_over top files others alike r x) e
+  lenient_over opened all outcome (refused_name tree name x unread e) = refused_name tree name (accepted_over top files others alike tree x) unread e
+  lenient_over opened all outcome (accepted_tree tree x read y) = accepted_tree tree (accepted_over top files others alike tree x) read y
 
   outcome_over : (all : List (List ℕ)) (outcome : Outcome) → IsOutcome files options all outcome → IsOutcome others options all outcome
-  outcome_over all outcome (lenient, opened, is, are, same) = (lenient, opened, lenient_over opened all lenient is, opened_over root files others alike opened are, same)
+  outcome_over all outcome (lenient, opened, is, are, same) = (lenient, opened, lenient_over opened all lenient is, opened_over top files others alike opened are, same)
 
   -- where make can read the names over these files, it can over the others
   read_over : NamesAreRead files options → NamesAreRead others options
-  read_over read opened are = read opened (opened_back root files others alike opened are)
+  read_over read opened are = read opened (opened_back top files others alike opened are)
 
   -- a name that is refused over these files is refused over the others
   name_over : (name : List ℕ) → IsRefusedName files options name → IsRefusedName others options name
   name_over name r = record {
     tree = r.tree;
-    accepted = accepted_over root files others alike r.tree r.accepted;
+    accepted = accepted_over top files others alike r.tree r.accepted;
     opened = r.opened;
-    are_opened = opened_over root files others alike r.opened r.are_opened;
+    are_opened = opened_over top files others alike r.opened r.are_opened;
     unreadable = r.unreadable;
   }
 
   reads_over : (inputs : List InputFile) (events : List Event) → AreReads files options inputs events → AreReads others options inputs events
-  reads_over inputs events (reads_no_tree r x) = reads_no_tree r (refused_over root files others alike r x)
+  reads_over inputs events (reads_no_tree r x) = reads_no_tree r (refused_over top files others alike r x)
   reads_over inputs events (reads_no_name name x) = reads_no_name name (name_over name x)
-  reads_over inputs events (of_tree tree events' x read to) = of_tree tree events (accepted_over root files others alike tree x) (read_over read) to
+  reads_over inputs events (of_tree tree events' x read to) = of_tree tree events (accepted_over top files others alike tree x) (read_over read) to
 
   breaks_over : (before : TreeFacts → List ℕ) (inputs : List InputFile) (outcome : Outcome) (told : Log) (stop : Stop) (done : List Event) (front : List ℕ) →
       Breaks files options before inputs outcome told stop done front → Breaks others options before inputs outcome told stop done front
   breaks_over before inputs outcome told stop done front (no_memory d left f all lines begins) = no_memory d left f all lines begins
   breaks_over before inputs outcome told stop done front (in_notes f d left fr action name all lines more) = in_notes f d left fr action name all lines more
   breaks_over before inputs outcome told stop done front (in_input f tree file d saying x read action name up_to) =
-      in_input f tree file d saying (accepted_over root files others alike tree x) (read_over read) action name up_to
+      in_input f tree file d saying (accepted_over top files others alike tree x) (read_over read) action name up_to
   breaks_over before inputs outcome told stop done front (in_delivery f events d are left) = in_delivery f events d (reads_over inputs events are) left
 
   completes_over : (inputs : List InputFile) (outcome : Outcome) (old new : Log) (status : Status) → Completes files options inputs outcome old new status → Completes others options inputs outcome old new status
-  completes_over inputs outcome old new status c = record c { are_reads = reads_over inputs c.events c.are_reads }
+  completes_over inputs outcome old new status c = record {
+    events = c.events;
+    are_reads = reads_over inputs c.events c.are_reads;
+    made = c.made;
+    stale = c.stale;
+    of_old = c.of_old;
+    log = c.log;
+    status_is = c.status_is;
+    only_checked = c.only_checked;
+  }
 
   broken_over : (before : TreeFacts → List ℕ) (inputs : List InputFile) (outcome : Outcome) (old new : Log) (status : Status) →
       Broken files options before inputs outcome old new status → Broken others options before inputs outcome old new status
-  broken_over before inputs outcome old new status b = record b { breaks = breaks_over before inputs outcome _ b.stop b.done b.front b.breaks }
+  broken_over before inputs outcome old new status b = record {
+    stop = b.stop;
+    done = b.done;
+    front = b.front;
+    report = b.report;
+    breaks = breaks_over before inputs outcome _ b.stop b.done b.front b.breaks;
+    is_report = b.is_report;
+    log = b.log;
+    status_is = b.status_is;
+  }
 
   ends_over : (before : TreeFacts → List ℕ) (inputs : List InputFile) (outcome : Outcome) (old new : Log) (status : Status) →
       Completes files options inputs outcome old new status ⊎ Broken files options before inputs outcome old new status →

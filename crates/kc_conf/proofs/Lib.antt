@@ -9,11 +9,11 @@ pub mod NoteLemmas
 pub mod Once
 pub mod RerunLemmas
 pub mod TellingLemmas
-pub mod FileLemmas
-pub mod InputLemmas
+pub mod StrictLemmas
 pub mod SayLemmas
 pub mod StepLemmas
-pub mod StrictLemmas
+pub mod FileLemmas
+pub mod InputLemmas
 pub mod GivenLemmas
 pub mod EndingLemmas
 pub mod PartOutcomes

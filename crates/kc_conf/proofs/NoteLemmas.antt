@@ -58,24 +58,6 @@ AreLines-refusal r = AreLines-at r.location (message_before r.code ++ r.detail) 
 AreLines-too_long : (stop : StreamLocation) → AreLines (too_long_line stop)
 AreLines-too_long stop = AreLines-at (Some (stop.stream, stop.number)) (codes "E17: line longer than " ++ decimal longest_dot_line) (codes " bytes\n") (codes " bytes", refl)
 
--- ---- the bytes before the first line feed
-
-module _ (name : List ℕ) (i : ℕ) (within : i < length name) where
-  line_at : take i name ++ first_line (drop i name) ≡ take i name ++ (if get_or name i 0 == byte "\n" then [] else get_or name i 0 ∷ first_line (drop (i + 1) name))
-  line_at = ap (λ l. take i name ++ first_line l) (drop_more name i 0 within)
-
-  -- a line feed ends them
-  pub line_here : (get_or name i 0 == byte "\n") ≡ true → take i name ++ first_line (drop i name) ≡ take i name
-  line_here is =
-      line_at ∙ ap (λ b. take i name ++ (if b then [] else get_or name i 0 ∷ first_line (drop (i + 1) name))) is ∙ append-nil (take i name)
-
-  -- another byte is one of them
-  pub line_more : (get_or name i 0 == byte "\n") ≡ false → take i name ++ first_line (drop i name) ≡ take (i + 1) name ++ first_line (drop (i + 1) name)
-  line_more is =
-      line_at ∙ ap (λ b. take i name ++ (if b then [] else get_or name i 0 ∷ first_line (drop (i + 1) name))) is
-      ∙ sym (append_assoc (take i name) (get_or name i 0 ∷ []) (first_line (drop (i + 1) name)))
-      ∙ ap (λ l. l ++ first_line (drop (i + 1) name)) (sym (take_more name i 0 within))
-
 -- ---- an outcome
 
 -- its warnings are whole lines, and so is its refusal

@@ -1,7 +1,6 @@
 -- Trusted: How a run over a folder ends.
 use Rattle.std.specs.Prelude.{◌≡◌, ℕ, List, [], Option, Result, Ok, Err, string_bytes}
-use Rattle.kc_io.specs.Log.{Log, Leads, noted, said}
-use Rattle.kc_io.specs.declared.device.Fault.{Fault}
+use Rattle.kc_io.specs.Log.{Log}
 use Rattle.kc_load.specs.Expanding.{AreFilesOf}
 use Rattle.kc_load.specs.Faults.{IsLoadFault, failed_load}
 use Rattle.kc_load.specs.Folders.{FolderState, Leads as FolderLeads, files_told}
@@ -11,18 +10,15 @@ use Rattle.kc_read.specs.Files.{Files}
 use Rattle.kc_conf.specs.Asked.{root_file}
 use Rattle.kc_conf.specs.Ends.{Runs}
 use Rattle.kc_conf.specs.ErrorLines.{cannot_read_line, out_of_memory_line}
+use Rattle.kc_conf.specs.Stops.{TriesToSay}
 use Rattle.kc_conf.specs.declared.options.Options.{Options}
 use Rattle.kc_conf.specs.declared.options.Status.{Status}
-use Rattle.kc_conf.specs.declared.options.Status.TheVariants as status
+use Rattle.kc_conf.specs.declared.options.Status.TheVariants as answered
 
 -- the error line of a tree that could not be loaded
 abbrev pub load_line : LoadFault → List ℕ
 load_line (CannotRead name) = cannot_read_line name.items
 load_line Memory = out_of_memory_line
-
--- this error line was said, or the diagnostics failed
-abbrev pub TriesToSay : List ℕ → Log → Log → Type 0
-TriesToSay line old new = (report : Result (Unit {0}) Fault) × Leads (noted report) (said report line) old new
 
 -- A run over the files of a folder; or these could not be loaded, which is said, and nothing else is done. The file that could not be read
 -- is one whose turn it was, and the folder failed at its path and nowhere else.
@@ -30,5 +26,5 @@ pub data FolderRuns (options : Options) (folder folder_after : Option FolderStat
   loaded : (files : Files) → AreFilesOf (files_told folder_after) (string_bytes options.root) files → FolderLeads [] folder folder_after →
       Runs files options old new status → FolderRuns options folder folder_after old new status
   unloaded : (fault : LoadFault) → IsLoadFault (files_told folder_after) (string_bytes options.root) (root_file options) fault →
-      FolderLeads (failed_load {A = Unit {0}} (string_bytes options.root) (Err fault)) folder folder_after → TriesToSay (load_line fault) old new → status ≡ status.Faulted →
+      FolderLeads (failed_load {A = Unit {0}} (string_bytes options.root) (Err fault)) folder folder_after → TriesToSay (load_line fault) old new → status ≡ answered.Faulted →
       FolderRuns options folder folder_after old new status

@@ -14,7 +14,7 @@ pub mod Strict
 pub mod Reads
 pub mod ReadSteps
 pub mod Accepted
-pub mod FolderRuns
 pub mod Computed
 pub mod Endings
 pub mod PartRuns
+pub mod FolderRuns

@@ -80,10 +80,6 @@ abbrev pub IsNoteOrMemory : Stop → Type 0
 IsNoteOrMemory OutOfMemory = ⊤
 IsNoteOrMemory (Failed f) = IsNoteStop (Failed f)
 
--- the text was said, unless the diagnostics failed
-abbrev pub TriesToSay : List ℕ → Log → Log → Type 0
-TriesToSay text old new = (report : Result (Unit {0}) Fault) × Leads (noted report) (said report text) old new
-
 -- the line of a device that failed: this one, or that there was no memory
 abbrev pub failure_line : Fault → List ℕ → List ℕ
 failure_line fault.Memory line = out_of_memory_line

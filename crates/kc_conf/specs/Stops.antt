@@ -59,3 +59,7 @@ IsReport (Failed f) report = by f.action
 -- the run says why it was broken off, or the diagnostics do not take it
 abbrev pub Reports : Options → Stop → Log → Log → Type 0
 Reports options stop old new = (report : Result (Unit {0}) Fault) × IsReport stop report × Leads (noted report) (said report (stop_line options stop)) old new
+
+-- the text was said, unless the diagnostics failed
+abbrev pub TriesToSay : List ℕ → Log → Log → Type 0
+TriesToSay text old new = (report : Result (Unit {0}) Fault) × Leads (noted report) (said report text) old new

@@ -1,21 +1,23 @@
 //! A run over a folder: it loads the files of the tree and runs over them.
-ghost use Rattle.kc_conf.specs.FolderRuns.{FolderRuns, TriesToSay, load_line};
+ghost use Rattle.kc_conf.specs.FolderRuns.{FolderRuns, load_line};
+ghost use Rattle.kc_conf.specs.Stops.{TriesToSay};
 
 use crate::accepted::AcceptedTree;
+use crate::notes::try_to_say;
 use crate::options::{Options, Status};
 use crate::runs::run;
 use kc_io::Device;
 use kc_load::{Folder, LoadFault, load};
 use std::alloc::Global;
 
-// Says why the files could not be loaded. A fault in it changes nothing else.
-fn say_load_fault<D: Device>(fault: &LoadFault, device: &mut D)
+/// Says why the files of a tree could not be loaded. A fault in it changes nothing else.
+pub fn say_load_fault<D: Device>(fault: &LoadFault, device: &mut D)
     ensures { TriesToSay (load_line fault.now) (D.log device.old) (D.log device.new) }
 {
-    let _ = match fault {
-        LoadFault::CannotRead(name) => device.note(&[b"error E18: cannot read ", name, b"\n"]),
-        LoadFault::Memory => device.note(&[b"error E20: out of memory\n"]),
-    };
+    match fault {
+        LoadFault::CannotRead(name) => try_to_say(device, &[b"error E18: cannot read ", name, b"\n"]),
+        LoadFault::Memory => try_to_say(device, &[b"error E20: out of memory\n"]),
+    }
 }
 
 /// Loads the files of a folder, and runs over them as [`run`](crate::run) does (our own).

@@ -14,7 +14,7 @@ mod runs;
 mod stop;
 
 pub use accepted::AcceptedTree;
-pub use folder_run::run_in_folder;
+pub use folder_run::{run_in_folder, say_load_fault};
 pub use kc_read::{Code, FileMap, Refusal};
 pub use options::{Delivery, Options, Status};
 pub use runs::run;

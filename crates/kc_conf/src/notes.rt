@@ -7,8 +7,8 @@ ghost use Rattle.kc_conf.specs.Asked.{lead};
 ghost use Rattle.kc_io.specs.Log.{Leads};
 ghost use Rattle.kc_conf.specs.ErrorLines.{error_at, first_line, message_before, message_behind, out_of_memory_line, refusal_line, stale_line, strict_line, too_long_line, unreadable_line};
 ghost use Rattle.kc_conf.specs.Outcome.{lines_text};
-ghost use Rattle.kc_conf.specs.Reads.{IsNoteOrMemory, IsWholeEnd, LastEndsLine, Says, TriesToSay, failure_line, stop_of};
-ghost use Rattle.kc_conf.specs.Stops.{Reports, event_of};
+ghost use Rattle.kc_conf.specs.Reads.{IsNoteOrMemory, IsWholeEnd, LastEndsLine, Says, failure_line, stop_of};
+ghost use Rattle.kc_conf.specs.Stops.{Reports, event_of, TriesToSay};
 
 use crate::compute::add_lines;
 use crate::options::Options;
@@ -236,7 +236,7 @@ pub(crate) fn say_stale<D: Device>(
 }
 
 // Says whole lines, all parts in one piece, unless the diagnostics fail.
-fn try_to_say<D: Device>(device: &mut D, parts: &[&[u8]])
+pub(crate) fn try_to_say<D: Device>(device: &mut D, parts: &[&[u8]])
     requires { LastEndsLine parts.now }
     ensures { TriesToSay (flat_map (λ part. part.now) parts.now) (D.log device.old) (D.log device.new) }
 {
