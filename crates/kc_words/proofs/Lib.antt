@@ -1,2 +1,4 @@
+pub mod ApartLemmas
+pub mod PartLemmas
 pub mod RowLemmas
 pub mod RefusalLemmas

@@ -1,5 +1,5 @@
 -- How clap's faults and a prefix that is none are told.
-use Rattle.std.proofs.Common.{◌≡◌, ◌⊎◌, inl, inr, ◌++◌, List, [], None, Some, refl, ap, sym, subst, ◌∙◌, true, false, codes, string_bytes}
+use Rattle.std.proofs.Common.{if◌then◌else◌, ◌==◌, ◌<◌, ◌∷◌, Bool, Option, length, arith, ◌≡◌, ◌⊎◌, inl, inr, ◌++◌, List, [], None, Some, refl, ap, sym, subst, ◌∙◌, true, false, codes, string_bytes}
 use Rattle.std.specs.Fmt.{decimal, digits}
 use Rattle.clap.specs.Words.{App, IsAmong, Kinds, Row, Text, fault_of}
 use Rattle.clap.specs.Kinds.{HasKind}
@@ -9,8 +9,10 @@ use Rattle.clap.specs.declared.error.kind.ErrorKind.{ErrorKind}
 use Rattle.clap.specs.declared.error.kind.ErrorKind.TheVariants as kind
 use Rattle.kc_dot.specs.Limits.{longest_prefix}
 use Rattle.kc_words.specs.Kconf.{kconf_app}
-use Rattle.kc_words.specs.Fields.{are_exclusive, prefix_option}
-use Rattle.kc_words.specs.Refusals.{IsExclusion, IsKindOf, IsNoPrefix, IsNoRequest, IsRefused, no_prefix_text, refusal_of}
+use Rattle.kc_dot.specs.Prefixes.{is_prefix}
+use Rattle.kc_words.specs.Exclusions.{are_exclusive, exclusion_of, exclusion_text, is_one_of_many, lacks_target, one_of_many_text, target_text}
+use Rattle.kc_words.specs.Fields.{prefix_option}
+use Rattle.kc_words.specs.Refusals.{IsBadFor, IsKindOf, IsNoPrefix, IsNoRequest, IsRefused, IsTold, first_report, no_prefix_text, prefix_refusal, refusal_of}
 use Rattle.kc_words.specs.declared.usage.UsageError.{UsageError}
 use Rattle.kc_words.specs.declared.usage.UsageError.TheVariants as usage
 use Rattle.kc_words.proofs.RowLemmas.{kconf_app-free}
@@ -24,35 +26,35 @@ has_kind app words e is h = subst (λ (a : App). HasKind (fault_of a words) e) i
 
 -- ---- arguments that are refused for what they hold
 
-pub no_prefix-no_request : (rows : List Row) (u : UsageError) → are_exclusive rows ≡ false → IsNoPrefix (prefix_option rows) u → IsNoRequest rows u
+pub no_prefix-no_request : (rows : List Row) (u : UsageError) → exclusion_of rows ≡ None → IsNoPrefix (prefix_option rows) u → IsNoRequest rows u
 no_prefix-no_request rows (usage.Help t) apart h = absurd h
-no_prefix-no_request rows (usage.Version t) apart h = absurd h
+no_prefix-no_request rows usage.Version apart h = absurd h
 no_prefix-no_request rows (usage.Bad t) apart h = rw (apart, h.0) (ap Some (sym h.1))
 no_prefix-no_request rows usage.Memory apart h = tt
 
-pub exclusion-no_request : (rows : List Row) (u : UsageError) → are_exclusive rows ≡ true → IsExclusion u → IsNoRequest rows u
-exclusion-no_request rows (usage.Help t) both h = absurd h
-exclusion-no_request rows (usage.Version t) both h = absurd h
-exclusion-no_request rows (usage.Bad t) both h = rw both (ap Some (sym h))
-exclusion-no_request rows usage.Memory both h = tt
+pub excluded-no_request : (rows : List Row) (text : Text) (u : UsageError) → exclusion_of rows ≡ Some text → IsBadFor text u → IsNoRequest rows u
+excluded-no_request rows text (usage.Help t) is h = absurd h
+excluded-no_request rows text usage.Version is h = absurd h
+excluded-no_request rows text (usage.Bad t) is h = rw is (ap Some (sym h))
+excluded-no_request rows text usage.Memory is h = tt
 
 pub refused_request : (kinds : Kinds) (p q : List Row) → kinds ≡ [] → p ≡ q → (u : UsageError) → IsNoRequest p u → IsRefused kinds q u
 refused_request kinds p q none same (usage.Help t) h = absurd h
-refused_request kinds p q none same (usage.Version t) h = absurd h
+refused_request kinds p q none same usage.Version h = absurd h
 refused_request kinds p q none same (usage.Bad t) h = inr (none, subst (λ (x : List Row). IsNoRequest x (usage.Bad t)) same h)
 refused_request kinds p q none same usage.Memory h = tt
 
 pub only_memory : (p q : List Row) → p ≡ q → refusal_of q ≡ None → (u : UsageError) → IsNoRequest p u → u ≡ usage.Memory
 only_memory p q same good (usage.Help t) h = absurd h
-only_memory p q same good (usage.Version t) h = absurd h
+only_memory p q same good usage.Version h = absurd h
 only_memory p q same good (usage.Bad t) h = absurd (let e : None ≡ Some (string_bytes t) = sym good ∙ ap refusal_of (sym same) ∙ h in cc)
 only_memory p q same good usage.Memory h = λ i. usage.Memory
 
 pub refused_words : (kinds : Kinds) (rows : List Row) (k : ErrorKind) (u : UsageError) → (k ≡ kind.OutOfMemory) ⊎ IsAmong k kinds → IsKindOf k u → IsRefused kinds rows u
 refused_words kinds rows k (usage.Help t) (inl m) is = absurd (let e : kind.OutOfMemory ≡ kind.DisplayHelp = sym m ∙ is in cc)
 refused_words kinds rows k (usage.Help t) (inr among) is = subst (λ (x : ErrorKind). IsAmong x kinds) is among
-refused_words kinds rows k (usage.Version t) (inl m) is = absurd (let e : kind.OutOfMemory ≡ kind.DisplayVersion = sym m ∙ is in cc)
-refused_words kinds rows k (usage.Version t) (inr among) is = subst (λ (x : ErrorKind). IsAmong x kinds) is among
+refused_words kinds rows k usage.Version (inl m) is = absurd (let e : kind.OutOfMemory ≡ kind.DisplayVersion = sym m ∙ is in cc)
+refused_words kinds rows k usage.Version (inr among) is = subst (λ (x : ErrorKind). IsAmong x kinds) is among
 refused_words kinds rows k (usage.Bad t) (inl m) is = absurd (is.2 m)
 refused_words kinds rows k (usage.Bad t) (inr among) is = inl (k, is.0, is.1, among)
 refused_words kinds rows k usage.Memory among is = tt
@@ -66,3 +68,36 @@ longest-written = refl
 pub written-text : (text : Text) → codes "error: invalid value '" ++ text
     ++ codes "' for '--prefix <TEXT>': at most 64 letters, digits and _, of which the first is no digit\n\nFor more information, try '--help'.\n" ≡ no_prefix_text text
 written-text text = rw longest-written refl
+
+-- ---- what is told is not empty
+
+positive : (e : Text) → (length e == 0) ≡ false → 0 < length e
+positive [] h = absurd (let x : true ≡ false = h in cc)
+positive (x ∷ xs) h = omega arith
+
+front : (x y : Text) → 0 < length x → 0 < length (x ++ y)
+front [] y h = absurd (omega arith)
+front (x ∷ xs) y h = omega arith
+
+long : (e t : Text) → Some e ≡ Some t → 0 < length e → 0 < length t
+long e t is h = let same : e ≡ t = cc in subst (λ (x : Text). 0 < length x) same h
+
+told_exclusion : (a b d : Bool) (t : Text) → (if a then Some exclusion_text else if b then Some one_of_many_text else if d then Some target_text else None) ≡ Some t → 0 < length t
+told_exclusion true b d t h = long exclusion_text t h (positive exclusion_text refl)
+told_exclusion false true d t h = long one_of_many_text t h (positive one_of_many_text refl)
+told_exclusion false false true t h = long target_text t h (positive target_text refl)
+told_exclusion false false false t h = absurd (cc)
+
+told_prefix : (p : Text) (b : Bool) (t : Text) → (if b then None else Some (no_prefix_text p)) ≡ Some t → 0 < length t
+told_prefix p true t h = absurd (cc)
+told_prefix p false t h = long (no_prefix_text p) t h (front (codes "error: invalid value '") _ (positive (codes "error: invalid value '") refl))
+
+told_first : (rows : List Row) (o : Option Text) (t : Text) → exclusion_of rows ≡ o → first_report o (prefix_refusal (prefix_option rows)) ≡ Some t → 0 < length t
+told_first rows (Some e) t is h = told_exclusion (are_exclusive rows) (is_one_of_many rows) (lacks_target rows) t (is ∙ h)
+told_first rows None t is h = told_prefix (prefix_option rows) (is_prefix (prefix_option rows)) t h
+
+pub told-request : (rows : List Row) (u : UsageError) → IsNoRequest rows u → IsTold u
+told-request rows (usage.Help t) h = tt
+told-request rows usage.Version h = tt
+told-request rows (usage.Bad t) h = told_first rows (exclusion_of rows) (string_bytes t) refl h
+told-request rows usage.Memory h = tt

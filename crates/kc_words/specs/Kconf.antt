@@ -30,10 +30,10 @@ abbrev pub empty_app : App
 empty_app = on_top (λ s. record s { no_binary_name = true; has_version = true }) (new_app (codes "kconf"))
 
 -- [--root DIR] [--config FILE] [--out FILE] [--header FILE] [--savedefconfig FILE] [--depfile FILE] [--prefix TEXT]
--- [--must-exist] [--strict] [--strict-tree] [--warn-lost] [--replace]
+-- [--must-exist] [--strict] [--strict-tree] [--warn-lost] [--replace] [--check] [--each] [--each-from FILE] [--fragment FILE ..]
 unfoldable pub with_options : App → App
 with_options app =
-    with_rule (with_rule (with_rule (with_rule (with_rule (with_rule (with_rule (with_rule (with_rule (with_rule (with_rule (with_rule (with_rule (with_rule app
+    with_rule (with_rule (with_rule (with_rule (with_rule (with_rule (with_rule (with_rule (with_rule (with_rule (with_rule (with_rule (with_rule (with_rule (with_rule (with_rule app
     (option_rule (codes "root")))
     (option_rule (codes "config")))
     (option_rule (codes "out")))
@@ -47,6 +47,8 @@ with_options app =
     (flag_rule (codes "warn-lost")))
     (flag_rule (codes "replace")))
     (flag_rule (codes "check")))
+    (flag_rule (codes "each")))
+    (option_rule (codes "each-from")))
     (repeated_rule (codes "fragment"))
 
 -- the options, and then KCONFIG [FRAGMENT ..]

@@ -1,3 +1,9 @@
 pub mod Kconf
+pub mod Exclusions
 pub mod Fields
+pub mod Inputs
 pub mod Refusals
+pub mod Patterns
+pub mod Apart
+pub mod Clashes
+pub mod Lists

@@ -7,13 +7,17 @@ ghost use Rattle.kc_words.specs.Kconf.{empty_app, flag_rule, fragment_rule, kcon
 use clap::{Arg, ArgAction, Command};
 use std::alloc::{AllocError, Global};
 
-// The version of the program. It stands here alone.
-const VERSION: &str = "0.9.0";
+// The name and the version of the program, as `--version` tells them. They stand here alone. (clap is given them so that it
+// knows the option; its own text of them is not told.)
+pub(crate) const VERSION: &str = "kconf 0.9.0\n";
 
 // The text below the options.
 const AFTER_HELP: &str = "\
 Example: update .config from a fragment, and write the minimal .config too:
   kconf --savedefconfig defconfig Kconfig site.config
+
+With --each, {} in the FILEs of --out, --header, --savedefconfig and --depfile stands for the
+configuration as given, and {/} for its file name without the folder.
 
 Exit status:
   0  success: every output file is complete
@@ -83,6 +87,13 @@ const CHECK: &str = "Write no file, and fail for each that is not up to date (E2
 const MORE_FRAGMENTS: OptionTexts = OptionTexts {
     value: "FILE",
     help: "Read FILE after the FRAGMENTs; may be repeated",
+};
+
+const EACH: &str = "Run each argument after KCONFIG as a configuration of its own";
+
+const EACH_FROM: OptionTexts = OptionTexts {
+    value: "FILE",
+    help: "Run the configurations that FILE names too, one per line; implies --each",
 };
 
 // Adds `--NAME VALUE`.
@@ -188,6 +199,8 @@ fn with_options<'a>(alloc: Global, command: Command<'a>) -> Result<Command<'a>, 
     let command = with_flag(alloc, command, "warn-lost", WARN_LOST)?;
     let command = with_flag(alloc, command, "replace", REPLACE)?;
     let command = with_flag(alloc, command, "check", CHECK)?;
+    let command = with_flag(alloc, command, "each", EACH)?;
+    let command = with_option(alloc, command, "each-from", EACH_FROM)?;
     with_repeated(alloc, command, "fragment", MORE_FRAGMENTS)
 }
 

@@ -1,27 +1,49 @@
 //! What the arguments of the command line ask for.
 
-ghost use Rattle.std.specs.Prelude.{◌≡◌, ◌++◌, [], IfOk, IfErr, None, map, option_map, string_bytes, unwrap_or, true};
+ghost use Rattle.std.specs.Prelude.{◌≡◌, ◌++◌, ◌<◌, [], IfOk, IfErr, None, false, length, map, option_map, string_bytes, unwrap_or, true};
 ghost use Rattle.clap.specs.Words.{takes, rows_of, found_of, kind_of, first_of, fault_of};
-ghost use Rattle.kc_words.specs.Fields.{AreOptionsOf, IsRequestOf, are_exclusive, is_given, prefix_option, values_of};
+ghost use Rattle.kc_words.specs.Exclusions.{exclusion_of, has_value, is_each, is_given, values_of};
+ghost use Rattle.kc_words.specs.Fields.{AreOptionsOf, AreSharedOptions, AsksFor, IsEachOf, IsRequestOf, delivery_of, prefix_option};
+ghost use Rattle.kc_words.specs.Inputs.{HasInputs};
 ghost use Rattle.kc_words.specs.Kconf.{kconf_app, arguments_of, rows_for};
-ghost use Rattle.kc_words.specs.Refusals.{IsExclusion, IsKindOf, IsNoPrefix, IsNoRequest, IsRefused, refusal_of};
+ghost use Rattle.kc_words.specs.Refusals.{IsKindOf, IsNoPrefix, IsNoRequest, IsRefused, IsBadWords, IsTold, refusal_of};
 
 use crate::command::command;
-use crate::usage::UsageError;
+use crate::each::Each;
+use crate::usage::{UsageError, bad};
 use clap::error::ErrorKind;
 use clap::{ArgMatches, Error};
-use kc_conf::Options;
+use kc_conf::{Delivery, Options};
 use kc_dot::prefix::Prefix;
 use std::alloc::{AllocError, Global};
 
 /// What the arguments ask for.
 #[derive(Drop)]
-pub struct Request {
-    /// The options of the run.
-    pub options: Options,
-    /// Whether the run compares the files with their texts, and writes none.
-    pub check: bool,
+pub enum Request {
+    /// A run of one configuration.
+    One(Options),
+    /// Runs of many configurations of one tree.
+    Each(Each),
 }
+
+// What differs between one configuration and many.
+#[derive(Drop)]
+struct Inputs {
+    config: String,
+    out: Option<String>,
+    fragments: Vec<String>,
+    must_exist: bool,
+    names_config: bool,
+}
+
+const CHECK_AND_REPLACE: &str =
+    "error: the argument '--check' cannot be used with '--replace'\n\nFor more information, try '--help'.\n";
+
+const CONFIG_AND_EACH: &str =
+    "error: the argument '--config <FILE>' cannot be used with '--each'\n\nFor more information, try '--help'.\n";
+
+const DEPFILE_WITHOUT_OUT: &str =
+    "error: the argument '--depfile <FILE>' needs '--out <FILE>' with '--each'\n\nFor more information, try '--help'.\n";
 
 // The value of the argument, or what stands for an absent one.
 #[tactic(auto, using(crate::proofs::RowLemmas::found_rows))]
@@ -105,89 +127,185 @@ fn prefix_of(alloc: Global, text: &str) -> Result<Prefix, UsageError>
     }
 }
 
-// Reads each field from the matches.
-fn read_options(alloc: Global, matches: &ArgMatches<'_>) -> Result<Options, UsageError>
-    ensures ok { IfOk result (AreOptionsOf (rows_of (found_of matches.now))) }
+// Whether the argument has a value.
+#[tactic(auto, using(crate::proofs::RowLemmas::found_rows))]
+fn has_value(matches: &ArgMatches<'_>, id: &str) -> bool
+    ensures { result ≡ has_value id.now (rows_of (found_of matches.now)) }
+{
+    matches.get_str(id).is_some()
+}
+
+// Whether many configurations are asked for.
+fn is_each(matches: &ArgMatches<'_>) -> bool
+    ensures { result ≡ is_each (rows_of (found_of matches.now)) }
+{
+    flag_of(matches, "each") || has_value(matches, "each-from")
+}
+
+// What is reported of arguments that do not go together.
+fn exclusion_of(matches: &ArgMatches<'_>) -> Option<&'static str>
+    ensures { option_map (λ text. text.now) result ≡ exclusion_of (rows_of (found_of matches.now)) }
+{
+    if flag_of(matches, "check") && flag_of(matches, "replace") {
+        return Some(CHECK_AND_REPLACE);
+    }
+    if is_each(matches) && has_value(matches, "config") {
+        return Some(CONFIG_AND_EACH);
+    }
+    if is_each(matches) && has_value(matches, "depfile") && !has_value(matches, "out") {
+        return Some(DEPFILE_WITHOUT_OUT);
+    }
+    None
+}
+
+// What is done with the texts.
+fn delivery_of(matches: &ArgMatches<'_>) -> Delivery
+    ensures { result ≡ delivery_of (rows_of (found_of matches.now)) }
+{
+    if flag_of(matches, "check") {
+        Delivery::Check
+    } else if flag_of(matches, "replace") {
+        Delivery::Replace
+    } else {
+        Delivery::Write
+    }
+}
+
+// Reads each field from the matches but for the inputs.
+fn read_options(
+    alloc: Global,
+    matches: &ArgMatches<'_>,
+    inputs: Inputs,
+) -> Result<Options, UsageError>
+    ensures ok { IfOk result (AreSharedOptions (rows_of (found_of matches.now))) }
+    ensures inputs { IfOk result (HasInputs inputs) }
     ensures err { IfErr result (IsNoPrefix (prefix_option (rows_of (found_of matches.now)))) }
 {
     let root = text_or(alloc, matches, "root", ".")?;
-    let config = text_or(alloc, matches, "config", ".config")?;
-    let out = text_or(alloc, matches, "out", config.as_str())?;
     let kconfig = text_or(alloc, matches, "KCONFIG", "")?;
     let header = text_of(alloc, matches, "header")?;
     let minimal = text_of(alloc, matches, "savedefconfig")?;
     let depfile = text_of(alloc, matches, "depfile")?;
-    let fragments = texts_of_both(alloc, matches, "FRAGMENT", "fragment")?;
     let prefix = text_or(alloc, matches, "prefix", "CONFIG_")?;
     let prefix = prefix_of(alloc, prefix.as_str())?;
-    let must_exist = flag_of(matches, "must-exist");
-    let strict = flag_of(matches, "strict");
-    let strict_tree = flag_of(matches, "strict-tree");
-    let warn_lost = flag_of(matches, "warn-lost");
-    let replace = flag_of(matches, "replace");
     Ok(Options {
         root,
-        config,
-        out,
+        config: inputs.config,
+        out: inputs.out,
         kconfig,
         header,
         minimal,
         depfile,
-        fragments,
+        fragments: inputs.fragments,
         prefix,
-        must_exist,
-        strict,
-        strict_tree,
-        warn_lost,
-        replace,
+        must_exist: inputs.must_exist,
+        strict: flag_of(matches, "strict"),
+        strict_tree: flag_of(matches, "strict-tree"),
+        warn_lost: flag_of(matches, "warn-lost"),
+        delivery: delivery_of(matches),
+        names_config: inputs.names_config,
     })
 }
 
-// What is reported of --check beside --replace.
-fn exclusion(alloc: Global) -> UsageError
-    ensures { IsExclusion result }
+// Reads the options of one configuration.
+fn read_one(alloc: Global, matches: &ArgMatches<'_>) -> Result<Options, UsageError>
+    ensures ok { IfOk result (AreOptionsOf (rows_of (found_of matches.now))) }
+    ensures err { IfErr result (IsNoPrefix (prefix_option (rows_of (found_of matches.now)))) }
 {
-    let text =
-        "error: the argument '--check' cannot be used with '--replace'\n\nFor more information, try '--help'.\n";
-    match String::from_str(alloc, text) {
-        Ok(text) => UsageError::Bad(text),
-        Err(_) => UsageError::Memory,
+    let config = text_or(alloc, matches, "config", ".config")?;
+    let out = text_or(alloc, matches, "out", config.as_str())?;
+    let fragments = texts_of_both(alloc, matches, "FRAGMENT", "fragment")?;
+    let inputs = Inputs {
+        config,
+        out: Some(out),
+        fragments,
+        must_exist: flag_of(matches, "must-exist"),
+        names_config: false,
+    };
+    read_options(alloc, matches, inputs)
+}
+
+// Reads what is asked for each of many configurations.
+fn read_each(alloc: Global, matches: &ArgMatches<'_>) -> Result<Each, UsageError>
+    ensures ok { IfOk result (IsEachOf (rows_of (found_of matches.now))) }
+    ensures err { IfErr result (IsNoPrefix (prefix_option (rows_of (found_of matches.now)))) }
+{
+    let inputs = Inputs {
+        config: String::new(alloc),
+        out: text_of(alloc, matches, "out")?,
+        fragments: texts_of(alloc, matches, "fragment")?,
+        must_exist: true,
+        names_config: true,
+    };
+    let configurations = texts_of(alloc, matches, "FRAGMENT")?;
+    let list = text_of(alloc, matches, "each-from")?;
+    match read_options(alloc, matches, inputs) {
+        Ok(options) => Ok(Each {
+            options,
+            configurations,
+            list,
+        }),
+        Err(usage) => Err(usage),
     }
 }
 
-// Whether --check stands beside --replace.
-fn are_exclusive(matches: &ArgMatches<'_>) -> bool
-    ensures { result ≡ are_exclusive (rows_of (found_of matches.now)) }
+// Reads what the matches ask for.
+fn read_taken(alloc: Global, matches: &ArgMatches<'_>) -> Result<Request, UsageError>
+    ensures ok { IfOk result (AsksFor (rows_of (found_of matches.now))) }
+    ensures err { IfErr result (IsNoPrefix (prefix_option (rows_of (found_of matches.now)))) }
 {
-    flag_of(matches, "check") && flag_of(matches, "replace")
+    if is_each(matches) {
+        return match read_each(alloc, matches) {
+            Ok(each) => Ok(Request::Each(each)),
+            Err(usage) => Err(usage),
+        };
+    }
+    match read_one(alloc, matches) {
+        Ok(options) => Ok(Request::One(options)),
+        Err(usage) => Err(usage),
+    }
 }
 
-// Reads what the matches ask for.
+// Reads what the matches ask for, whose arguments go together.
 fn read_request(alloc: Global, matches: &ArgMatches<'_>) -> Result<Request, UsageError>
     ensures ok { IfOk result (IsRequestOf (rows_of (found_of matches.now))) }
     ensures err { IfErr result (IsNoRequest (rows_of (found_of matches.now))) }
 {
-    if are_exclusive(matches) {
-        return Err(exclusion(alloc));
+    match exclusion_of(matches) {
+        Some(text) => Err(bad(alloc, text)),
+        None => match read_taken(alloc, matches) {
+            Ok(request) => Ok(request),
+            Err(usage) => Err(usage),
+        },
     }
-    let check = flag_of(matches, "check");
-    match read_options(alloc, matches) {
-        Ok(options) => Ok(Request { options, check }),
-        Err(usage) => Err(usage),
+}
+
+// What is reported of words that clap does not take: its text, or where that is empty one of our own.
+fn bad_words(alloc: Global, text: String) -> UsageError
+    ensures told { IsTold result }
+    ensures bad { IsBadWords result }
+{
+    if text.is_empty() {
+        bad(alloc, "error: the arguments are not understood\n")
+    } else {
+        UsageError::Bad(text)
     }
 }
 
 // What an error of the parse is.
 fn usage_of(alloc: Global, error: &Error) -> UsageError
-    ensures { IsKindOf (kind_of error.now) result }
+    ensures kind { IsKindOf (kind_of error.now) result }
+    ensures told { IsTold result }
 {
     if error.kind() == ErrorKind::OutOfMemory {
         return UsageError::Memory;
     }
+    if error.kind() == ErrorKind::DisplayVersion {
+        return UsageError::Version;
+    }
     match error.to_string(alloc) {
         Ok(text) if error.kind() == ErrorKind::DisplayHelp => UsageError::Help(text),
-        Ok(text) if error.kind() == ErrorKind::DisplayVersion => UsageError::Version(text),
-        Ok(text) => UsageError::Bad(text),
+        Ok(text) => bad_words(alloc, text),
         Err(_) => UsageError::Memory,
     }
 }
@@ -195,16 +313,20 @@ fn usage_of(alloc: Global, error: &Error) -> UsageError
 /// Reads the arguments after the program's name, as the command line
 /// `[--root DIR] [--config FILE] [--out FILE] [--header FILE] [--savedefconfig FILE] [--depfile FILE] [--prefix TEXT]
 /// [--must-exist] [--strict] [--strict-tree] [--warn-lost] [--replace] [--check] [--fragment FILE ..] KCONFIG [FRAGMENT ..]`,
-/// `--help`, `-h`, `--version` or `-V`
+/// `.. [--each] [--each-from FILE] .. KCONFIG [CONFIGURATION ..]`, `--help`, `-h`, `--version` or `-V`
 /// (our own; the arguments are read as Rust's `clap` reads them, whose documentation has the rules).
 ///
 /// Each field is what the arguments hold, or for an absent option: root `.`, config `.config`, out the file of `--config`, prefix
-/// `CONFIG_`, header, minimal and depfile none, `--must-exist`, `--strict`, `--strict-tree`, `--warn-lost`, `--replace` and
-/// `--check` false. The files of `--fragment` follow the others.
+/// `CONFIG_`, header, minimal and depfile none, `--must-exist`, `--strict`, `--strict-tree` and `--warn-lost` false; the texts are
+/// written, or with `--replace` replaced, or with `--check` compared. The files of `--fragment` follow the others.
+///
+/// With `--each` or `--each-from` each argument after KCONFIG is a configuration of its own, and the fragments are those of
+/// `--fragment` alone. A configuration has to exist. Without `--out` no full `.config` is written.
 ///
 /// # Errors
 ///
-/// Those of [`UsageError`]. They leave nothing behind. `--check` and `--replace` exclude each other.
+/// Those of [`UsageError`]. They leave nothing behind. `--check` and `--replace` exclude each other, as do `--config` and `--each`
+/// or `--each-from`, and `--depfile` needs `--out` beside these. The first of these faults is told, and the prefix last.
 pub fn request_of(alloc: Global, words: &[String]) -> Result<Request, UsageError>
     // Each field is what the arguments hold, or what an absent option means.
     ensures ok { IfOk result (IsRequestOf (rows_for words.now)) }
@@ -213,6 +335,8 @@ pub fn request_of(alloc: Global, words: &[String]) -> Result<Request, UsageError
     // Help and the version only where clap finds that they are asked for, Bad only for another of its faults or for what the
     // arguments hold.
     ensures refused { IfErr result (IsRefused (fault_of kconf_app (arguments_of words.now)) (rows_for words.now)) }
+    // What is wrong with the arguments is told.
+    ensures told { IfErr result IsTold }
     // Arguments that the command takes, and that are not refused for what they hold, fail only when out of memory.
     ensures taken { takes kconf_app (arguments_of words.now) ≡ true → refusal_of (rows_for words.now) ≡ None → IfErr result (λ usage. usage ≡ UsageError.Memory) }
 {

@@ -1,23 +1,25 @@
 //! Why words give no options.
 
 ghost use Rattle.std.specs.Prelude.{◌≡◌};
-ghost use Rattle.kc_words.specs.Refusals.{text_of};
+ghost use Rattle.kc_words.specs.Refusals.{IsBadFor, text_of};
 ghost use Rattle.kc_words.specs.declared.usage.UsageError.TheVariants.{Memory};
 
+use crate::command::VERSION;
 use kc_conf::error_lines::out_of_memory;
-use std::alloc::AllocError;
+use std::alloc::{AllocError, Global};
 
-/// Why words give no options.
+/// Why words give no options, or configurations are no runs.
 ///
-/// The help, the version and what is wrong with words that the command does not take are texts of `clap`'s, of which no clause
-/// speaks: they are tested. What is told of a prefix that is none is our own, and a clause says it.
+/// The help and what is wrong with words that the command does not take are texts of `clap`'s, of which no clause speaks but
+/// that the second is not empty: they are tested. The other texts are our own, and clauses say them.
 #[derive(Debug, Drop)]
 pub enum UsageError {
     /// The words ask for help, by `--help` or `-h`: the help, for standard output.
     Help(String),
     /// The words ask for the version, by `--version` or `-V`: the program's name and version, for standard output.
-    Version(String),
-    /// The command does not take the words, or the prefix is none: what is wrong, for standard error.
+    Version,
+    /// The command does not take the words, they do not go together, the prefix is none, or the files of two configurations
+    /// are not apart: what is wrong, for standard error. It is never empty.
     Bad(String),
     /// E20: a growth was refused.
     Memory,
@@ -37,9 +39,19 @@ impl UsageError {
         ensures { result.now ≡ text_of self.now }
     {
         match self {
-            UsageError::Help(text) | UsageError::Version(text) | UsageError::Bad(text) =>
-                text.as_str(),
+            UsageError::Help(text) | UsageError::Bad(text) => text.as_str(),
+            UsageError::Version => VERSION,
             UsageError::Memory => out_of_memory(),
         }
+    }
+}
+
+// The words are bad for this reason.
+pub(crate) fn bad(alloc: Global, text: &str) -> UsageError
+    ensures { IsBadFor text.now result }
+{
+    match String::from_str(alloc, text) {
+        Ok(text) => UsageError::Bad(text),
+        Err(_) => UsageError::Memory,
     }
 }

@@ -24,4 +24,6 @@ returns c =
     let eleven = c.in_ok-command-11.ensures ∙ ap (λ a. with_rule a (flag_rule (codes "warn-lost"))) ten in
     let twelve = c.in_ok-command-12.ensures ∙ ap (λ a. with_rule a (flag_rule (codes "replace"))) eleven in
     let thirteen = c.in_ok-command-13.ensures ∙ ap (λ a. with_rule a (flag_rule (codes "check"))) twelve in
-    last_rule c.with_repeated.result _ _ (repeated_rule (codes "fragment")) thirteen c.with_repeated.ensures
+    let fourteen = c.in_ok-command-14.ensures ∙ ap (λ a. with_rule a (flag_rule (codes "each"))) thirteen in
+    let fifteen = c.in_ok-command-15.ensures ∙ ap (λ a. with_rule a (option_rule (codes "each-from"))) fourteen in
+    last_rule c.with_repeated.result _ _ (repeated_rule (codes "fragment")) fifteen c.with_repeated.ensures

@@ -1,10 +1,10 @@
 use Rattle.std.proofs.Common.{subst, List}
 use Rattle.std.proofs.lemmas.Result.{IfOk-weaker, IfErr-weaker}
-use Rattle.clap.specs.Words.{Row}
+use Rattle.clap.specs.Words.{Row, found_of, rows_of}
 use Rattle.kc_words.specs.Fields.{IsRequestOf}
 use Rattle.kc_words.specs.Kconf.{rows_for}
 use Rattle.kc_words.proofs.RowLemmas.{rows-matches}
-use Rattle.kc_words.proofs.RefusalLemmas.{no_fault, has_kind, refused_request, only_memory, refused_words}
+use Rattle.kc_words.proofs.RefusalLemmas.{no_fault, has_kind, refused_request, only_memory, refused_words, told-request}
 use Rattle.kc_words.proofs.options.request_of.Goals as goal
 
 pub returns-in-Ok-clause-ok : goal.returns-in-Ok-clause-ok
@@ -26,4 +26,7 @@ returns-in-Ok-clause-taken c = λ taken good.
 
 pub returns-in-Err-clause-refused : goal.returns-in-Err-clause-refused
 returns-in-Err-clause-refused c =
-    refused_words _ (rows_for c.args.words.now) _ c.usage_of.result (has_kind _ _ c.in-Err.error c.in_ok-command.ensures c.in-Err.ensures.kinds) c.usage_of.ensures
+    refused_words _ (rows_for c.args.words.now) _ c.usage_of.result (has_kind _ _ c.in-Err.error c.in_ok-command.ensures c.in-Err.ensures.kinds) c.usage_of.ensures.kind
+
+pub returns-in-Ok-clause-told : goal.returns-in-Ok-clause-told
+returns-in-Ok-clause-told c = IfErr-weaker _ _ _ (told-request (rows_of (found_of c.in-Ok.matches))) c.read_request.ensures.err

@@ -1,0 +1,95 @@
+//! Many configurations of one tree.
+
+ghost use Rattle.std.specs.Prelude.{◌≡◌, IfOk, IfErr, OnOk, map, string_bytes};
+ghost use Rattle.kc_words.specs.Apart.{AreApart, IsClash, writes};
+ghost use Rattle.kc_words.specs.Patterns.{AreOptionsFor};
+
+use crate::apart;
+use crate::patterns::{filled_if, push_filled};
+use crate::usage::UsageError;
+use kc_conf::Options;
+use kc_dot::prefix::Prefix;
+use std::alloc::{AllocError, Global};
+
+/// What is asked for each of many configurations of one tree (our own).
+#[derive(Drop)]
+pub struct Each {
+    /// The options of each. Its `out`, `header`, `minimal` and `depfile` are patterns of names, in which `{}` stands for the
+    /// configuration as given and `{/}` for its file name without the folder. Its `config` is empty.
+    pub options: Options,
+    /// The configurations that the words name.
+    pub configurations: Vec<String>,
+    /// The file whose lines name more of them.
+    pub list: Option<String>,
+}
+
+// A copy of the prefix.
+fn copy_of_prefix(alloc: Global, prefix: &Prefix) -> Result<Prefix, AllocError>
+    ensures { IfOk result (λ copy. copy ≡ prefix.now) }
+{
+    Ok(Prefix::new(alloc, prefix.as_bytes())?.unwrap())
+}
+
+// Copies of the names.
+fn copies_of(alloc: Global, names: &[String]) -> Result<Vec<String>, AllocError>
+    ensures { IfOk result (λ copies. map string_bytes copies.items ≡ map string_bytes names.now) }
+{
+    let mut copies = Vec::new(alloc);
+    for name in names {
+        copies.push(String::from_str(alloc, name.as_str())?)?;
+    }
+    Ok(copies)
+}
+
+impl Each {
+    /// The options of the configuration of this name. The patterns are filled: `{}` with the name as it is, `{/}` with what follows
+    /// its last `/` (as GNU parallel does). What the name itself holds is not filled again. Its only error is to be out of memory.
+    pub fn options_for(&self, alloc: Global, config: &str) -> Result<Options, AllocError>
+        ensures { IfOk result (AreOptionsFor self.now config.now) }
+    {
+        let asked = &self.options;
+        Ok(Options {
+            root: String::from_str(alloc, asked.root.as_str())?,
+            config: String::from_str(alloc, config)?,
+            out: filled_if(alloc, config, &asked.out)?,
+            kconfig: String::from_str(alloc, asked.kconfig.as_str())?,
+            header: filled_if(alloc, config, &asked.header)?,
+            minimal: filled_if(alloc, config, &asked.minimal)?,
+            depfile: filled_if(alloc, config, &asked.depfile)?,
+            fragments: copies_of(alloc, &asked.fragments)?,
+            prefix: copy_of_prefix(alloc, &asked.prefix)?,
+            must_exist: asked.must_exist,
+            strict: asked.strict,
+            strict_tree: asked.strict_tree,
+            warn_lost: asked.warn_lost,
+            delivery: asked.delivery,
+            names_config: asked.names_config,
+        })
+    }
+
+    // The names of the files that a configuration writes.
+    pub(crate) fn written_by(&self, alloc: Global, config: &str) -> Result<Vec<String>, AllocError>
+        ensures { IfOk result (λ names. map string_bytes names.items ≡ writes self.now config.now) }
+    {
+        let mut names = Vec::new(alloc);
+        push_filled(alloc, config, &self.options.out, &mut names)?;
+        push_filled(alloc, config, &self.options.header, &mut names)?;
+        push_filled(alloc, config, &self.options.minimal, &mut names)?;
+        push_filled(alloc, config, &self.options.depfile, &mut names)?;
+        Ok(names)
+    }
+
+    /// Whether the configurations of these names may be run one after another: no file that one of them writes is written or read
+    /// by another one. Names are compared as texts, so `./a` and `a` are two. Two texts of one configuration may have the same
+    /// name, as in a single run. It takes time in proportion to the names.
+    ///
+    /// # Errors
+    ///
+    /// [`UsageError::Bad`] where they may not be, with such a file's name, and [`UsageError::Memory`]. They leave nothing behind.
+    pub fn check_names(&self, alloc: Global, configurations: &[String]) -> Result<(), UsageError>
+        ensures ok { OnOk result (AreApart self.now (map string_bytes configurations.now)) }
+        ensures err { IfErr result (IsClash self.now (map string_bytes configurations.now)) }
+    {
+        apart::check(alloc, self, configurations)
+    }
+}

@@ -1,0 +1,31 @@
+//! Lists of configurations.
+
+ghost use Rattle.std.specs.Prelude.{◌≡◌, IfOk, map, string_bytes};
+ghost use Rattle.kc_words.specs.Lists.{IsListOf, listed};
+
+use std::alloc::{AllocError, Global};
+use std::str::from_utf8;
+
+// The lines of a text that are not empty.
+fn names_of(alloc: Global, text: &str) -> Result<Vec<String>, AllocError>
+    ensures { IfOk result (λ names. map string_bytes names.items ≡ listed text.now) }
+{
+    let mut names = Vec::new(alloc);
+    for line in text.lines() {
+        if !line.is_empty() {
+            names.push(String::from_str(alloc, line)?)?;
+        }
+    }
+    Ok(names)
+}
+
+/// The names in a list of configurations (our own): its lines, each without its line feed and one carriage return before that.
+/// Empty lines are left out. None where the bytes are no UTF-8. Its only error is to be out of memory.
+pub fn list_of(alloc: Global, bytes: &[u8]) -> Result<Option<Vec<String>>, AllocError>
+    ensures { IfOk result (IsListOf bytes.now) }
+{
+    match from_utf8(bytes) {
+        Ok(text) => Ok(Some(names_of(alloc, text)?)),
+        Err(_) => Ok(None),
+    }
+}
