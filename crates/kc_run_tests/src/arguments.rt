@@ -1,5 +1,6 @@
 //! Arguments of the command line, and what they ask for (kc_words).
-use kc_words::{Request, UsageError, request_of};
+use kc_conf::{Delivery, Options};
+use kc_words::{Each, Request, UsageError, request_of};
 use std::alloc::{AllocError, Global};
 
 // Adds the arguments between the `|` of a line.
@@ -17,7 +18,7 @@ fn words_into(alloc: Global, line: &str, words: &mut Vec<String>) -> Result<(), 
 struct Want {
     root: &'static str,
     config: &'static str,
-    out: &'static str,
+    out: Option<&'static str>,
     kconfig: &'static str,
     header: Option<&'static str>,
     minimal: Option<&'static str>,
@@ -31,7 +32,7 @@ struct Want {
 const PLAIN: Want = Want {
     root: ".",
     config: ".config",
-    out: ".config",
+    out: Some(".config"),
     kconfig: "Kconfig",
     header: None,
     minimal: None,
@@ -59,15 +60,15 @@ fn are_fragments(names: &[String], want: &[&str]) -> bool {
 }
 
 // Adds the flags that are given.
-fn flags_into(request: &Request, text: &mut String) -> Result<(), AllocError> {
-    let options = &request.options;
+fn flags_into(options: &Options, text: &mut String) -> Result<(), AllocError> {
     let flags = [
         (options.must_exist, "must-exist "),
         (options.strict, "strict "),
         (options.strict_tree, "strict-tree "),
         (options.warn_lost, "warn-lost "),
-        (options.replace, "replace "),
-        (request.check, "check "),
+        (options.delivery == Delivery::Replace, "replace "),
+        (options.delivery == Delivery::Check, "check "),
+        (options.names_config, "names-config "),
     ];
     for (is_given, word) in flags {
         if is_given {
@@ -77,28 +78,28 @@ fn flags_into(request: &Request, text: &mut String) -> Result<(), AllocError> {
     Ok(())
 }
 
-fn are_flags(alloc: Global, request: &Request, want: &str) -> bool {
+fn are_flags(alloc: Global, options: &Options, want: &str) -> bool {
     let mut text = String::new(alloc);
-    flags_into(request, &mut text).is_ok() && text.as_str() == want
+    flags_into(options, &mut text).is_ok() && text.as_str() == want
 }
 
-fn is_request(alloc: Global, request: &Request, want: &Want) -> bool {
-    let options = &request.options;
+fn are_options(alloc: Global, options: &Options, want: &Want) -> bool {
     options.root.as_str() == want.root
         && options.config.as_str() == want.config
-        && options.out.as_str() == want.out
+        && is_name(&options.out, want.out)
         && options.kconfig.as_str() == want.kconfig
         && is_name(&options.header, want.header)
         && is_name(&options.minimal, want.minimal)
         && is_name(&options.depfile, want.depfile)
         && options.prefix.as_bytes() == want.prefix
         && are_fragments(&options.fragments, want.fragments)
-        && are_flags(alloc, request, want.flags)
+        && are_flags(alloc, options, want.flags)
 }
 
 fn words_give(alloc: Global, words: &[String], want: &Want) -> bool {
     match request_of(alloc, words) {
-        Ok(request) => is_request(alloc, &request, want),
+        Ok(Request::One(options)) => are_options(alloc, &options, want),
+        Ok(Request::Each(_each)) => false,
         Err(_usage) => false,
     }
 }
@@ -117,14 +118,14 @@ const OPTIONS: &[(&str, Want)] = &[
         Want {
             root: "d",
             config: "a",
-            out: "a",
+            out: Some("a"),
             ..PLAIN
         },
     ),
     (
         "Kconfig|--out=b|--header=h|--savedefconfig|m|--depfile=d",
         Want {
-            out: "b",
+            out: Some("b"),
             header: Some("h"),
             minimal: Some("m"),
             depfile: Some("d"),
@@ -135,7 +136,7 @@ const OPTIONS: &[(&str, Want)] = &[
         "--config=|--prefix=|Kconfig",
         Want {
             config: "",
-            out: "",
+            out: Some(""),
             prefix: b"",
             ..PLAIN
         },
@@ -182,10 +183,89 @@ fn each_option_has_its_value_or_its_default(rt: HostRuntime) {
     }
 }
 
+// The configurations that are wanted, the list of more of them, and what is wanted for each.
+struct WantEach {
+    configurations: &'static [&'static str],
+    list: Option<&'static str>,
+    options: Want,
+}
+
+// What is wanted for each configuration of a command line that is one name, `Kconfig`, beside `--each`.
+const EACH: Want = Want {
+    config: "",
+    out: None,
+    flags: "must-exist names-config ",
+    ..PLAIN
+};
+
+fn is_each(alloc: Global, each: &Each, want: &WantEach) -> bool {
+    are_fragments(&each.configurations, want.configurations)
+        && is_name(&each.list, want.list)
+        && are_options(alloc, &each.options, &want.options)
+}
+
+fn words_give_each(alloc: Global, words: &[String], want: &WantEach) -> bool {
+    match request_of(alloc, words) {
+        Ok(Request::Each(each)) => is_each(alloc, &each, want),
+        Ok(Request::One(_options)) => false,
+        Err(_usage) => false,
+    }
+}
+
+// Whether the arguments between the `|` ask for these configurations.
+fn gives_each(alloc: Global, line: &str, want: &WantEach) -> bool {
+    let mut words = Vec::new(alloc);
+    words_into(alloc, line, &mut words).is_ok() && words_give_each(alloc, &words, want)
+}
+
+// Arguments, and the configurations that they ask for.
+const CONFIGURATIONS: &[(&str, WantEach)] = &[
+    (
+        "--each|Kconfig",
+        WantEach {
+            configurations: &[],
+            list: None,
+            options: EACH,
+        },
+    ),
+    (
+        "Kconfig|a|--each|b|--fragment|c|--savedefconfig|m/{/}",
+        WantEach {
+            configurations: &["a", "b"],
+            list: None,
+            options: Want {
+                minimal: Some("m/{/}"),
+                fragments: &["c"],
+                ..EACH
+            },
+        },
+    ),
+    (
+        "--each-from=l|Kconfig|a|--out|{}.full|--depfile={}.d|--replace",
+        WantEach {
+            configurations: &["a"],
+            list: Some("l"),
+            options: Want {
+                out: Some("{}.full"),
+                depfile: Some("{}.d"),
+                flags: "must-exist replace names-config ",
+                ..EACH
+            },
+        },
+    ),
+];
+
+#[test]
+fn each_argument_is_a_configuration_with_each(rt: HostRuntime) {
+    for (line, want) in CONFIGURATIONS {
+        assert!(rt; gives_each(rt.alloc(), line, want), "{line}");
+    }
+}
+
 fn is_usage(usage: &UsageError, want: &str) -> bool {
     match usage {
         UsageError::Help(_help) => want == "help",
-        UsageError::Version(text) => text.as_str() == want,
+        UsageError::Version => usage.text() == want,
         UsageError::Bad(_text) => want == "bad",
         UsageError::Memory => false,
     }
@@ -241,6 +321,13 @@ const OTHERS: &[(&str, &str)] = &[
     ("--replace|K|--check|--prefix|9X", "bad"),
     ("--fragment|K", "bad"),
     ("K|--fragment", "bad"),
+    ("--each=1|K", "bad"),
+    ("--each|--each|K", "bad"),
+    ("--each-from|K", "bad"),
+    ("--each|--config|a|K", "bad"),
+    ("--each-from|l|--config|a|K", "bad"),
+    ("--each|--depfile|d|K", "bad"),
+    ("--each", "bad"),
 ];
 
 #[test]
@@ -271,6 +358,14 @@ const USAGES: &[(&str, &str)] = &[
     (
         "--check|--replace|K",
         "error: the argument '--check' cannot be used with '--replace'\n",
+    ),
+    (
+        "--each|--config|a|K|--depfile|d",
+        "error: the argument '--config <FILE>' cannot be used with '--each'\n",
+    ),
+    (
+        "--each-from|l|K|--depfile|d|--prefix|9X",
+        "error: the argument '--depfile <FILE>' needs '--out <FILE>' with '--each'\n",
     ),
 ];
 
