@@ -93,7 +93,7 @@ const EACH: &str = "Run each argument after KCONFIG as a configuration of its ow
 
 const EACH_FROM: OptionTexts = OptionTexts {
     value: "FILE",
-    help: "Run the configurations that FILE names too, one per line; implies --each",
+    help: "Run the configurations that FILE names, one per line; implies --each",
 };
 
 // Adds `--NAME VALUE`.
