@@ -13,12 +13,12 @@ use Rattle.kc_dot.specs.Sink.{BeginsWith}
 use Rattle.kc_conf.specs.Asked.{holds_warnings, lead, names_of}
 use Rattle.kc_conf.specs.Computed.{Computes, refuses, ruled_files, value_lines}
 use Rattle.kc_conf.specs.Endings.{Ends, line_if, status_if, texts_or}
-use Rattle.kc_conf.specs.Ends.{AreReads, of_tree, texts_of}
+use Rattle.kc_conf.specs.Ends.{AreReads, of_tree, texts_of, nothing_said}
 use Rattle.kc_conf.specs.ErrorLines.{too_long_line}
 use Rattle.kc_conf.specs.Existence.{ExactlyOneOutcome}
 use Rattle.kc_conf.specs.Given.{AreInputs, InputFile, ReadsTo, bytes_of, reads, still_told}
 use Rattle.kc_conf.specs.Outcome.{AreLines, IsAcceptedTree, IsOutcomeOfReading, OneAnswer, Outcome, fresh_input, has_text, lines_text, lost_warnings, names_listed, noted, outcome_of, read_of, refused, root_file, streams, unreadable_name}
-use Rattle.kc_conf.specs.PartRuns.{LeavesPart, nothing_said}
+use Rattle.kc_conf.specs.PartRuns.{LeavesPart}
 use Rattle.kc_conf.specs.Reads.{BreaksInputs, ReadsInputs, ended_with}
 use Rattle.kc_conf.specs.declared.options.Options.{Options}
 use Rattle.kc_conf.specs.declared.options.Status.{Status}

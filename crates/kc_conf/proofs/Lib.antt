@@ -19,4 +19,5 @@ pub mod EndingLemmas
 pub mod PartOutcomes
 pub mod RunParts
 pub mod InputParts
+pub mod ManyLemmas
 pub mod FolderLemmas

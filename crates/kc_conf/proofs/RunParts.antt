@@ -24,11 +24,11 @@ use Rattle.kc_read.specs.declared.refusal.Code.TheVariants.{Memory as NoMemory}
 use Rattle.kc_read.specs.declared.refusal.Refusal.{Refusal}
 use Rattle.kc_conf.specs.ErrorLines.{refusal_line, unreadable_line}
 use Rattle.kc_conf.specs.declared.options.Status.TheVariants.{Refused}
-use Rattle.kc_conf.specs.Ends.{AreReads, Breaks, Broken, Completes, Runs, delivers, in_delivery, in_input, in_notes, no_memory, refused_name as name_refused, refused_tree as tree_refused, said_of_tree, stale_lines, stale_texts, texts_of}
+use Rattle.kc_conf.specs.Ends.{AreReads, Breaks, Broken, Completes, Runs, delivers, in_delivery, in_input, in_notes, no_memory, nothing_said, refused_name as name_refused, refused_tree as tree_refused, said_of_tree, stale_lines, stale_texts, texts_of}
 use Rattle.kc_conf.specs.Given.{AreInputs, InputFile, bytes_of, reads, still_told}
 use Rattle.kc_conf.specs.Existence.{ExactlyOneOutcome}
 use Rattle.kc_conf.specs.Outcome.{AreLines, IsAcceptedTree, IsLenientOutcome, IsOutcome, IsRefusedTree, NamesAreRead, refused, unreadable_name, OneAnswer, Outcome, accepted_tree, has_text, is_done, lines_text, noted, notes_of, refused_name, refused_tree, root_file, strictly}
-use Rattle.kc_conf.specs.PartRuns.{EndsSo, IsBrokenOff, LeavesPart, LeavesRun, StopsLines, nothing_said}
+use Rattle.kc_conf.specs.PartRuns.{EndsSo, IsBrokenOff, LeavesPart, LeavesRun, StopsLines}
 use Rattle.kc_conf.specs.Reads.{IsNoteStop, StopsInputs}
 use Rattle.kc_conf.specs.Reads as reading_stops
 use Rattle.kc_conf.specs.Stops.{Reports, cleared_by, clearing, event_of, stop_line}
@@ -334,6 +334,18 @@ module _ (law : OneAnswer) (outcomes : ExactlyOneOutcome) (files : Files) (optio
 
 -- ---- what a run answers
 
+-- why it was broken off does not change when it is said
+pub breaks-later : (files : Files) (options : Options) (before : TreeFacts → List ℕ) (inputs : List InputFile) (outcome : Outcome) (more : List Event) (text : List ℕ) (old mid new : Log) → Leads more text mid new →
+    {stop : Stop} {done : List Event} {front : List ℕ} → Breaks files options before inputs outcome (still_told old mid) stop done front → Breaks files options before inputs outcome (still_told old new) stop done front
+breaks-later files options before inputs outcome more text old mid new log (no_memory done left front split lines begins) = no_memory done left front split lines begins
+breaks-later files options before inputs outcome more text old mid new log (in_notes f done left front note name split lines beyond) =
+    in_notes f done left front note name split lines
+    (Tells-later (λ journal. GoesBeyond (notes_of outcome ++ stale_lines options (stale_texts options (texts_of options outcome) journal)) front) old mid new more text log beyond)
+breaks-later files options before inputs outcome more text old mid new log (in_input f tree file done front accepted named which name up_to) = in_input f tree file done front accepted named which name up_to
+breaks-later files options before inputs outcome more text old mid new log (in_delivery f events done are tells) =
+    in_delivery f events done are
+    (Tells-later (λ journal. (left : List Event) × (done ++ left ≡ delivers options (texts_of options outcome) journal) × StopsBefore left (Err f)) old mid new more text log tells)
+
 pub Runs-answered : (files : Files) (options : Options) (result : Result Status Stop) (status : Status) (old mid new : Log) → LeavesRun files options result old mid → Answers options result status mid new →
     Runs files options old new status
 Runs-answered files options (Ok ended) status old mid new run (is, same) =
@@ -345,7 +357,7 @@ Runs-answered files options (Ok ended) status old mid new run (is, same) =
       is_outcome = run.is_outcome;
       ends = inl run.ends;
     }))
-Runs-answered files options (Err stop) status old mid new run (faulted, (report, is_report, log)) = record {
+Runs-answered files options (Err stop) status old mid new run (faulted, is_told, (report, is_report, told_is, log)) = record {
   inputs = run.inputs;
   are_inputs = AreInputs-later (io_noted report) (said report (stop_line options stop)) old mid new log options run.inputs run.are_inputs;
   outcome = run.outcome;
@@ -355,25 +367,12 @@ Runs-answered files options (Err stop) status old mid new run (faulted, (report,
     done = run.ends.done;
     front = run.ends.front;
     report = report;
-    breaks = breaks-later run.ends.breaks;
+    breaks = breaks-later files options said_of_tree run.inputs run.outcome (io_noted report) (said report (stop_line options stop)) old mid new log run.ends.breaks;
     is_report = is_report;
     log = leads_both (run.ends.done ++ event_of stop ++ clearing options stop) (io_noted report) run.ends.front (said report (stop_line options stop)) old mid new run.ends.log log;
     status_is = faulted;
   });
 }
-  where
-    breaks-later : {stop : Stop} {done : List Event} {front : List ℕ} → Breaks files options said_of_tree run.inputs run.outcome (still_told old mid) stop done front →
-        Breaks files options said_of_tree run.inputs run.outcome (still_told old new) stop done front
-    breaks-later (no_memory done left front split lines begins) = no_memory done left front split lines begins
-    breaks-later (in_notes f done left front note name split lines beyond) =
-        in_notes f done left front note name split lines
-        (Tells-later (λ journal. GoesBeyond (notes_of run.outcome ++ stale_lines options (stale_texts options (texts_of options run.outcome) journal)) front) old mid new (io_noted report)
-        (said report (stop_line options stop)) log beyond)
-    breaks-later (in_input f tree file done front accepted named which name up_to) = in_input f tree file done front accepted named which name up_to
-    breaks-later (in_delivery f events done are tells) =
-        in_delivery f events done are
-        (Tells-later (λ journal. (left : List Event) × (done ++ left ≡ delivers options (texts_of options run.outcome) journal) × StopsBefore left (Err f)) old mid new (io_noted report)
-        (said report (stop_line options stop)) log tells)
 
 -- ---- what is refused
 

@@ -17,8 +17,7 @@ use Rattle.kc_read.specs.declared.refusal.Code.TheVariants as code
 use Rattle.kc_conf.specs.ErrorLines.{first_line, message_behind}
 use Rattle.kc_conf.specs.Outcome.{AreLines, lines_text}
 use Rattle.kc_conf.specs.Asked.{lead}
-use Rattle.kc_conf.specs.Reads.{IsWholeEnd, LastEndsLine, failure_line}
-use Rattle.kc_conf.specs.Stops.{TriesToSay}
+use Rattle.kc_conf.specs.Reads.{IsWholeEnd, LastEndsLine, SaysIf, failure_line}
 use Rattle.kc_conf.specs.Stops.{Reports}
 use Rattle.kc_conf.specs.declared.options.Options.{Options}
 use Rattle.kc_conf.specs.declared.stop.Stop.TheVariants.{Failed}
@@ -127,19 +126,19 @@ whole-parts (part ∷ parts) ends = whole-ends (flat_map (λ (p : Bor (List ℕ)
 -- ---- what failed
 
 -- a file that could not be opened or read on is told
-reports-open : (options : Options) (name : Bor (List ℕ)) (fault : Fault) (old new : Log) → TriesToSay (lead options ++ failure_line fault (codes "error E18: cannot read " ++ name.now ++ codes "\n")) old new →
-    Reports options (Failed (record { action = Open; name = name; fault = fault })) old new
-reports-open options name Refused old new (report, log) = (report, tt, log)
-reports-open options name Memory old new (report, log) = (report, tt, log)
+reports-open : (options : Options) (name : Bor (List ℕ)) (fault : Fault) (is_told : Bool) (old new : Log) → SaysIf (lead options ++ failure_line fault (codes "error E18: cannot read " ++ name.now ++ codes "\n")) is_told old new →
+    Reports options (Failed (record { action = Open; name = name; fault = fault })) is_told old new
+reports-open options name Refused is_told old new (report, told, log) = (report, tt, told, log)
+reports-open options name Memory is_told old new (report, told, log) = (report, tt, told, log)
 
-reports-read : (options : Options) (name : Bor (List ℕ)) (fault : Fault) (old new : Log) → TriesToSay (lead options ++ failure_line fault (codes "error E18: cannot read " ++ name.now ++ codes "\n")) old new →
-    Reports options (Failed (record { action = Read; name = name; fault = fault })) old new
-reports-read options name Refused old new (report, log) = (report, tt, log)
-reports-read options name Memory old new (report, log) = (report, tt, log)
+reports-read : (options : Options) (name : Bor (List ℕ)) (fault : Fault) (is_told : Bool) (old new : Log) → SaysIf (lead options ++ failure_line fault (codes "error E18: cannot read " ++ name.now ++ codes "\n")) is_told old new →
+    Reports options (Failed (record { action = Read; name = name; fault = fault })) is_told old new
+reports-read options name Refused is_told old new (report, told, log) = (report, tt, told, log)
+reports-read options name Memory is_told old new (report, told, log) = (report, tt, told, log)
 
-pub reports-input : (options : Options) (f : Failure) (old new : Log) → (f.action ≡ Open) ⊎ (f.action ≡ Read) →
-    TriesToSay (lead options ++ failure_line f.fault (codes "error E18: cannot read " ++ f.name.now ++ codes "\n")) old new → Reports options (Failed f) old new
-reports-input options f old new (inl is) tries =
-    subst (λ (a : Action). Reports options (Failed (record { action = a; name = f.name; fault = f.fault })) old new) (sym is) (reports-open options f.name f.fault old new tries)
-reports-input options f old new (inr is) tries =
-    subst (λ (a : Action). Reports options (Failed (record { action = a; name = f.name; fault = f.fault })) old new) (sym is) (reports-read options f.name f.fault old new tries)
+pub reports-input : (options : Options) (f : Failure) (is_told : Bool) (old new : Log) → (f.action ≡ Open) ⊎ (f.action ≡ Read) →
+    SaysIf (lead options ++ failure_line f.fault (codes "error E18: cannot read " ++ f.name.now ++ codes "\n")) is_told old new → Reports options (Failed f) is_told old new
+reports-input options f is_told old new (inl is) tries =
+    subst (λ (a : Action). Reports options (Failed (record { action = a; name = f.name; fault = f.fault })) is_told old new) (sym is) (reports-open options f.name f.fault is_told old new tries)
+reports-input options f is_told old new (inr is) tries =
+    subst (λ (a : Action). Reports options (Failed (record { action = a; name = f.name; fault = f.fault })) is_told old new) (sym is) (reports-read options f.name f.fault is_told old new tries)

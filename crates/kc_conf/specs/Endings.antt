@@ -1,5 +1,5 @@
 -- For proofs: How a run ends behind its reading.
-use Rattle.std.specs.Prelude.{◌≡◌, ◌≢◌, ◌⊎◌, ℕ, List, [], ◌∷◌, ◌++◌, Option, None, Some, Result, Ok, Err}
+use Rattle.std.specs.Prelude.{◌≡◌, ◌≢◌, ◌⊎◌, ℕ, Bool, List, [], ◌∷◌, ◌++◌, Option, None, Some, Result, Ok, Err}
 use Rattle.kc_dot.specs.Sink.{GoesBeyond}
 use Rattle.kc_io.specs.Delivered.{Delivered, StopsBefore}
 use Rattle.kc_io.specs.Log.{Event, Journal, Log, Leads, Tells}
@@ -83,4 +83,4 @@ pub record IsChecked (options : Options) (texts : List NamedText) (old new : Log
 -- a run that was not broken off answers its status; else it says why it was, and answers `Faulted`
 abbrev pub Answers : Options → Result Status Stop → Status → Log → Log → Type 0
 Answers options (Ok ended) status old new = (status ≡ ended) × (new ≡ old)
-Answers options (Err stop) status old new = (status ≡ Faulted) × Reports options stop old new
+Answers options (Err stop) status old new = (status ≡ Faulted) × (is_told : Bool) × Reports options stop is_told old new

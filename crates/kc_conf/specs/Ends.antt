@@ -123,6 +123,10 @@ pub record Broken (files : Files) (options : Options) (before : TreeFacts → Li
 abbrev pub said_of_tree : TreeFacts → List ℕ
 said_of_tree tree = lines_text tree.warnings
 
+-- or nothing, where others said them before
+abbrev pub nothing_said : TreeFacts → List ℕ
+nothing_said tree = []
+
 -- A run over these files and over what the device gives: there is an outcome of them, and the run leaves it whole or was broken off.
 pub record Runs (files : Files) (options : Options) (old new : Log) (status : Status) : Type 0 where
   pub inputs : List InputFile

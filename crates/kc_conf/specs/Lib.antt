@@ -16,5 +16,6 @@ pub mod ReadSteps
 pub mod Accepted
 pub mod Computed
 pub mod Endings
+pub mod Many
 pub mod PartRuns
 pub mod FolderRuns

@@ -3,8 +3,9 @@ use Rattle.std.specs.Prelude.{◌≡◌, ◌≢◌, ◌⊎◌, ℕ, Bool, ◌&&�
 use Rattle.kc_read.specs.Files.{Files}
 use Rattle.kc_tree.specs.TreeFacts.{TreeFacts}
 use Rattle.kc_io.specs.Log.{Event, Log, Leads}
-use Rattle.kc_conf.specs.Ends.{Breaks, Completes, said_of_tree}
+use Rattle.kc_conf.specs.Ends.{Breaks, Completes, nothing_said, said_of_tree}
 use Rattle.kc_conf.specs.Given.{AreInputs, InputFile, bytes_of, still_told}
+use Rattle.kc_conf.specs.Many.{IsPart}
 use Rattle.kc_conf.specs.Outcome.{IsOutcome, Outcome, has_text, is_done, lines_text, noted, refused_if}
 use Rattle.kc_conf.specs.Reads.{IsNoteStop}
 use Rattle.kc_conf.specs.Stops.{clearing, event_of}
@@ -26,10 +27,6 @@ SaysLines text (Err stop) old new = StopsLines text stop old new
 -- `strictly`, where a part of the run is left to come, and whether anything was told before it
 abbrev pub strictly_after : Options → Bool → Outcome → Outcome
 strictly_after options before part = refused_if options (is_done part.status && (options.strict_tree && (before || has_text part.warned))) part
-
--- nothing was said of the tree
-abbrev pub nothing_said : TreeFacts → List ℕ
-nothing_said tree = []
 
 module _ (files : Files) (options : Options) where
   -- A run with this outcome was broken off: it was not yet said why.
@@ -58,4 +55,12 @@ module _ (files : Files) (options : Options) where
     pub are_inputs : AreInputs (still_told old new) options inputs
     pub part : Outcome
     pub is_part : IsOutcome files options (bytes_of inputs) (noted (lines_text tree.warnings) part)
+    pub ends : EndsSo nothing_said inputs part result old new
+
+  -- The same of one of many configurations, which refuses a name for itself.
+  pub record LeavesTurn (tree : TreeFacts) (result : Result Status Stop) (old new : Log) : Type 0 where
+    pub inputs : List InputFile
+    pub are_inputs : AreInputs (still_told old new) options inputs
+    pub part : Outcome
+    pub is_part : IsPart files tree options (bytes_of inputs) part
     pub ends : EndsSo nothing_said inputs part result old new

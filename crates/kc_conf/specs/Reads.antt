@@ -1,6 +1,7 @@
 -- For proofs: What reading the input files does.
-use Rattle.std.specs.Prelude.{◌≡◌, ◌⊎◌, ℕ, if◌then◌else◌, List, [], ◌∷◌, ◌++◌, Option, Some, None, Result, Ok, Err, codes, ⊤}
+use Rattle.std.specs.Prelude.{◌≡◌, ◌⊎◌, ℕ, Bool, if◌then◌else◌, List, [], ◌∷◌, ◌++◌, Option, Some, None, Result, Ok, Err, codes, ⊤}
 use Rattle.std.specs.Borrow.{Bor}
+use Rattle.std.specs.Result.{is_ok}
 use Rattle.kc_tree.specs.TreeFacts.{TreeFacts}
 use Rattle.kc_io.specs.Log.{Event, Log, Leads, noted, said}
 use Rattle.kc_io.specs.declared.device.Action.TheVariants.{Open, Read, Note}
@@ -79,6 +80,10 @@ LastEndsLine (part ∷ next ∷ parts) = LastEndsLine (next ∷ parts)
 abbrev pub IsNoteOrMemory : Stop → Type 0
 IsNoteOrMemory OutOfMemory = ⊤
 IsNoteOrMemory (Failed f) = IsNoteStop (Failed f)
+
+-- the text was said, if this is so; else the diagnostics failed
+abbrev pub SaysIf : List ℕ → Bool → Log → Log → Type 0
+SaysIf text is_said old new = (report : Result (Unit {0}) Fault) × (is_said ≡ is_ok report) × Leads (noted report) (said report text) old new
 
 -- the line of a device that failed: this one, or that there was no memory
 abbrev pub failure_line : Fault → List ℕ → List ℕ

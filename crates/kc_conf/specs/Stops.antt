@@ -1,5 +1,6 @@
 -- Trusted: Why a run is broken off, and what it says of it.
-use Rattle.std.specs.Prelude.{◌≡◌, ℕ, List, [], ◌++◌, Result, Ok, ⊤}
+use Rattle.std.specs.Prelude.{◌≡◌, ℕ, Bool, List, [], ◌++◌, Result, Ok, ⊤}
+use Rattle.std.specs.Result.{is_ok}
 use Rattle.kc_io.specs.Log.{Event, Log, Leads, did, failed, noted, said}
 use Rattle.kc_io.specs.declared.device.Action.{Action}
 use Rattle.kc_io.specs.declared.device.Action.TheVariants.{Open, Read, Create, Write, Close, Move, Clear, Note}
@@ -57,8 +58,9 @@ IsReport (Failed f) report = by f.action
     by _ = ⊤
 
 -- the run says why it was broken off, or the diagnostics do not take it
-abbrev pub Reports : Options → Stop → Log → Log → Type 0
-Reports options stop old new = (report : Result (Unit {0}) Fault) × IsReport stop report × Leads (noted report) (said report (stop_line options stop)) old new
+abbrev pub Reports : Options → Stop → Bool → Log → Log → Type 0
+Reports options stop is_told old new =
+    (report : Result (Unit {0}) Fault) × IsReport stop report × (is_told ≡ is_ok report) × Leads (noted report) (said report (stop_line options stop)) old new
 
 -- the text was said, unless the diagnostics failed
 abbrev pub TriesToSay : List ℕ → Log → Log → Type 0

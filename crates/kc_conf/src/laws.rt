@@ -1,6 +1,7 @@
 //! What holds of the outcomes of runs, stated as the contracts of functions that do nothing.
 ghost use Rattle.kc_conf.specs.Existence.{AcceptedHaveAnOutcome, AnswerExists, ExactlyOneAnswer, ExactlyOneOutcome, OutcomeExists, SolutionExists};
 ghost use Rattle.kc_conf.specs.Accounted.{NothingIsLost};
+ghost use Rattle.kc_conf.specs.Many.{ExactlyOnePart, PartsAreOfRuns};
 ghost use Rattle.kc_conf.specs.Strict.{StrictTakesAll};
 ghost use Rattle.kc_conf.specs.Outcome.{NotesAreLines, OneAnswer, OneOutcome};
 ghost use Rattle.kc_conf.specs.Reruns.{ConfigIsReadAgain, MinimalIsReadAgain, MinimalIsRunAgain, OutcomesAreReadAgain, TextsHaveShortLines, WrittenAreWhole};
@@ -136,4 +137,15 @@ pub fn exactly_one_outcome()
 {
     outcome_exists();
     one_outcome();
+}
+
+/// The law of many configurations of one tree: the run for one leaves exactly one part behind the tree's warnings, by its own
+/// options and input files; and that is what its own run leaves behind them. (Our own.)
+pub fn exactly_one_part()
+    ensures one { ExactlyOnePart }
+    ensures alone { PartsAreOfRuns }
+{
+    one_answer();
+    one_outcome();
+    exactly_one_outcome();
 }

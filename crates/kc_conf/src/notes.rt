@@ -7,7 +7,7 @@ ghost use Rattle.kc_conf.specs.Asked.{lead};
 ghost use Rattle.kc_io.specs.Log.{Leads};
 ghost use Rattle.kc_conf.specs.ErrorLines.{error_at, first_line, message_before, message_behind, out_of_memory_line, refusal_line, stale_line, strict_line, too_long_line, unreadable_line};
 ghost use Rattle.kc_conf.specs.Outcome.{lines_text};
-ghost use Rattle.kc_conf.specs.Reads.{IsNoteOrMemory, IsWholeEnd, LastEndsLine, Says, failure_line, stop_of};
+ghost use Rattle.kc_conf.specs.Reads.{IsNoteOrMemory, IsWholeEnd, LastEndsLine, Says, SaysIf, failure_line, stop_of};
 ghost use Rattle.kc_conf.specs.Stops.{Reports, event_of, TriesToSay};
 
 use crate::compute::add_lines;
@@ -235,7 +235,18 @@ pub(crate) fn say_stale<D: Device>(
     )
 }
 
-// Says whole lines, all parts in one piece, unless the diagnostics fail.
+// Says whole lines, all parts in one piece, and answers whether the diagnostics took them.
+fn tell<D: Device>(device: &mut D, parts: &[&[u8]]) -> bool
+    requires { LastEndsLine parts.now }
+    ensures { SaysIf (flat_map (λ part. part.now) parts.now) result (D.log device.old) (D.log device.new) }
+{
+    match device.note(parts) {
+        Ok(()) => true,
+        Err(_) => false,
+    }
+}
+
+/// Says whole lines, all parts in one piece, unless the diagnostics fail.
 pub(crate) fn try_to_say<D: Device>(device: &mut D, parts: &[&[u8]])
     requires { LastEndsLine parts.now }
     ensures { TriesToSay (flat_map (λ part. part.now) parts.now) (D.log device.old) (D.log device.new) }
@@ -243,44 +254,51 @@ pub(crate) fn try_to_say<D: Device>(device: &mut D, parts: &[&[u8]])
     let _ = device.note(parts);
 }
 
+/// Says that there was no memory for what configurations share.
+pub(crate) fn say_no_memory<D: Device>(device: &mut D)
+    ensures { TriesToSay out_of_memory_line (D.log device.old) (D.log device.new) }
+{
+    try_to_say(device, &[b"error E20: out of memory\n"]);
+}
+
 // Says that there was no memory.
-fn try_to_say_memory<D: Device>(device: &mut D, options: &Options)
-    ensures { TriesToSay (lead options.now ++ out_of_memory_line) (D.log device.old) (D.log device.new) }
+fn tell_memory<D: Device>(device: &mut D, options: &Options) -> bool
+    ensures { SaysIf (lead options.now ++ out_of_memory_line) result (D.log device.old) (D.log device.new) }
 {
     let [config, colon] = options.lead();
-    try_to_say(device, &[config, colon, b"error E20: out of memory\n"]);
+    tell(device, &[config, colon, b"error E20: out of memory\n"])
 }
 
 // Says that a file could not be read or written, or that there was no memory for it.
-fn try_to_say_failure<D: Device>(
+fn tell_failure<D: Device>(
     device: &mut D,
     options: &Options,
     before: &[u8],
     name: &str,
     fault: Fault,
-)
-    ensures { TriesToSay (lead options.now ++ failure_line fault (before.now ++ name.now ++ codes "\n")) (D.log device.old) (D.log device.new) }
+) -> bool
+    ensures { SaysIf (lead options.now ++ failure_line fault (before.now ++ name.now ++ codes "\n")) result (D.log device.old) (D.log device.new) }
 {
     match fault {
-        Fault::Memory => try_to_say_memory(device, options),
+        Fault::Memory => tell_memory(device, options),
         Fault::Refused => {
             let [config, colon] = options.lead();
-            try_to_say(device, &[config, colon, before, name.as_bytes(), b"\n"]);
+            tell(device, &[config, colon, before, name.as_bytes(), b"\n"])
         }
     }
 }
 
-/// Says why a run was broken off, unless the diagnostics are what failed. A fault in it changes nothing else.
-pub(crate) fn report<D: Device>(device: &mut D, options: &Options, stop: Stop<'_>)
-    ensures { Reports options.now stop.entry (D.log device.old) (D.log device.new) }
+/// Says why a run was broken off, unless the diagnostics are what failed. It answers false if the diagnostics do not take the line.
+pub(crate) fn report<D: Device>(device: &mut D, options: &Options, stop: Stop<'_>) -> bool
+    ensures { Reports options.now stop.entry result (D.log device.old) (D.log device.new) }
 {
     let failure = match stop {
-        Stop::OutOfMemory => return try_to_say_memory(device, options),
+        Stop::OutOfMemory => return tell_memory(device, options),
         Stop::Failed(failure) => failure,
     };
     match failure.action {
-        Action::Note => {}
-        Action::Open | Action::Read => try_to_say_failure(
+        Action::Note => true,
+        Action::Open | Action::Read => tell_failure(
             device,
             options,
             b"error E18: cannot read ",
@@ -292,7 +310,7 @@ pub(crate) fn report<D: Device>(device: &mut D, options: &Options, stop: Stop<'_
         | Action::Write(_)
         | Action::Close(_)
         | Action::Move
-        | Action::Clear => try_to_say_failure(
+        | Action::Clear => tell_failure(
             device,
             options,
             b"error E19: cannot write ",

@@ -111,8 +111,8 @@ fn refuse_line<D: Device>(long: LongLine<'_>, device: &mut D) -> Result<Status, 
     }
 }
 
-// Refuses a name that make cannot read.
-fn refuse_name<D: Device>(
+/// Refuses a name that make cannot read.
+pub(crate) fn refuse_name<D: Device>(
     options: &Options,
     name: &[u8],
     device: &mut D,
@@ -199,8 +199,8 @@ fn finish_long<D: Device>(
 
 // ---- the run
 
-// Runs for one configuration of an accepted tree, behind what was said of the tree: `is_warned` tells whether it has warnings.
-fn run_inputs<'o, D: Device>(
+/// Runs for one configuration of an accepted tree, behind what was said of the tree: `is_warned` tells whether it has warnings.
+pub(crate) fn run_inputs<'o, D: Device>(
     alloc: Global,
     options: &'o Options,
     accepted: &OrderedTree<'_>,
@@ -251,8 +251,8 @@ fn run_inputs<'o, D: Device>(
     finish(options, &waiting.text, texts, device)
 }
 
-// The first name in the dependency file that make cannot read.
-fn unreadable_among<'n>(options: &'n Options, names: &'n Option<Names>) -> Option<&'n [u8]>
+/// The first name in the dependency file that make cannot read.
+pub(crate) fn unreadable_among<'n>(options: &'n Options, names: &'n Option<Names>) -> Option<&'n [u8]>
     ensures { (opened : List (List ℕ)) → names.now ≡ names_listed options.now opened → option_map (λ name. name.now) result ≡ unreadable_name options.now opened }
 {
     match names {
@@ -261,8 +261,8 @@ fn unreadable_among<'n>(options: &'n Options, names: &'n Option<Names>) -> Optio
     }
 }
 
-// Says the tree's warnings, if there are any.
-fn say_tree<D: Device>(
+/// Says the tree's warnings, if there are any.
+pub(crate) fn say_tree<D: Device>(
     alloc: Global,
     warnings: &[Vec<u8>],
     device: &mut D,

@@ -5,9 +5,9 @@ use Rattle.kc_conf.proofs.SayLemmas.{reports-input}
 use Rattle.kc_conf.proofs.notes.report.Goals as goal
 
 pub returns-in-Note : goal.returns-in-Note
-returns-in-Note g c = rw (c.in-Failed.is, c.in-Note.is) (Ok tt, refl, leads_nothing (g.D.Device.log c.args.device.now))
+returns-in-Note g c = rw (c.in-Failed.is, c.in-Note.is) (Ok tt, refl, refl, leads_nothing (g.D.Device.log c.args.device.now))
 
 pub returns-in-Open : goal.returns-in-Open
 returns-in-Open g c =
     rw c.in-Failed.is
-    (reports-input c.args.options.now c.in-Failed.failure (g.D.Device.log c.args.device.now) (g.D.Device.log c.try_to_say_failure.new.device) c.in-Open.is c.try_to_say_failure.ensures)
+    (reports-input c.args.options.now c.in-Failed.failure c.tell_failure.result (g.D.Device.log c.args.device.now) (g.D.Device.log c.tell_failure.new.device) c.in-Open.is c.tell_failure.ensures)

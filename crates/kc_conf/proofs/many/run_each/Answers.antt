@@ -1,0 +1,9 @@
+-- The tree is refused, or its configurations take their turns.
+use Rattle.kc_read.specs.Files.{bytes_in}
+use Rattle.kc_conf.specs.Many.{stops}
+use Rattle.kc_conf.specs.Outcome.{no_tree}
+use Rattle.kc_conf.proofs.many.run_each.Goals as goal
+
+pub returns-in-Err : goal.returns-in-Err
+returns-in-Err g c =
+    stops (c.refuse_all.ensures (bytes_in c.args.files) c.args.root.now (λ known. no_tree (rw c.as_bytes.ensures.value at c.in-Err.ensures.refused known)))

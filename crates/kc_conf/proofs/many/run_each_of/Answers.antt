@@ -1,0 +1,20 @@
+-- The tree's warnings are said, or all ends there.
+use Rattle.std.proofs.Common.{◌∙◌, ap, not}
+use Rattle.kc_conf.specs.Many.{stops, turns}
+use Rattle.kc_conf.specs.Outcome.{has_text, lines_text}
+use Rattle.kc_conf.proofs.ManyLemmas.{IsAcceptedOf-rooted}
+use Rattle.kc_conf.proofs.OutcomeLemmas.{lines_some}
+use Rattle.kc_conf.proofs.many.run_each_of.Goals as goal
+
+pub take_turns-requires-clause-warned : goal.take_turns-requires-clause-warned
+take_turns-requires-clause-warned g c =
+    ap not c.is_empty.ensures ∙ lines_some c.parse_warnings-warnings.result.now ∙ ap (λ l. has_text (lines_text l)) c.parse_warnings-warnings.ensures
+
+pub returns-in-Ok : goal.returns-in-Ok
+returns-in-Ok g c = λ files root accepted opened rooted.
+    turns c.args.accepted.now.tree.now (g.D.Device.log c.say_tree.new.device) accepted (rw c.parse_warnings-warnings.ensures at c.in-Ok.ensures)
+    (c.take_turns.ensures files (IsAcceptedOf-rooted files root (g.C.Configurations.options c.args.configurations.now) c.args.accepted.now accepted opened rooted))
+
+pub returns-in-Err : goal.returns-in-Err
+returns-in-Err g c = λ files root accepted opened rooted.
+    stops (c.end_unsaid.ensures files root c.args.accepted.now.tree.now (g.D.Device.log c.args.device.now) accepted (rw c.parse_warnings-warnings.ensures at c.in-Err.ensures))

@@ -1,0 +1,8 @@
+-- The tree's symbols need one another in a loop, or it is accepted.
+use Rattle.kc_conf.specs.Many.{stops}
+use Rattle.kc_conf.specs.Outcome.{looped}
+use Rattle.kc_conf.proofs.many.run_each_over.Goals as goal
+
+pub returns-in-Err : goal.returns-in-Err
+returns-in-Err g c = λ files root of rooted.
+    stops (c.refuse_all.ensures files root (λ known. let (text, named, is) = c.in-Err.ensures.refused known in looped c.args.read.tree text of.built named is))

@@ -1,0 +1,299 @@
+//! A run for many configurations of one tree: the tree is read once, and the configurations take their turns.
+ghost use Rattle.std.specs.Prelude.{◌≡◌, ◌≢◌, ◌<◌, ℕ, List, IfOk, not, ◌||◌};
+ghost use Rattle.kc_read.specs.Files.{Files, bytes_in};
+ghost use Rattle.kc_read.specs.OpenedFiles.{AreOpened};
+ghost use Rattle.kc_read.specs.RefusalView.{refusal_view};
+ghost use Rattle.kc_read.specs.declared.refusal.Code.TheVariants.{Memory};
+ghost use Rattle.kc_io.specs.Log.{Log};
+ghost use Rattle.kc_conf.specs.Accepted.{IsAcceptedOf, IsReadOf, IsReady};
+ghost use Rattle.kc_conf.specs.Many.{AreRootedAt, RunsEach, RunsTurn, StopsAtTree, TakeTurns, TakesTurn, ends_all, greater};
+ghost use Rattle.kc_tree.specs.TreeFacts.{TreeFacts};
+ghost use Rattle.kc_conf.specs.declared.options.Options.{Options};
+ghost use Rattle.kc_conf.specs.Outcome.{IsAcceptedTree, IsRefusedTree, has_text, lines_text};
+ghost use Rattle.kc_conf.specs.PartRuns.{LeavesTurn, StopsLines};
+
+use crate::accepted::{AcceptedTree, OrderedTree, TreeReading, read_tree};
+use crate::compute::names_listed;
+use crate::laws::{exactly_one_outcome, one_answer};
+use crate::notes::{report, say_no_memory, say_refusal};
+use crate::options::{Options, Status};
+use crate::runs::{refuse_name, run_inputs, say_tree, unreadable_among};
+use crate::stop::Stop;
+use kc_io::{Action, Device, Fault};
+use kc_read::file_map::FileMap;
+use kc_read::refusal::{Code, Refusal};
+use kc_solve::order::EvaluationOrder;
+use std::alloc::{AllocError, Global};
+
+/// What gives the options of each of many configurations of one tree (our own).
+pub trait Configurations {
+    /// How many configurations there are.
+    ghost number: { Self → ℕ };
+
+    /// Which options the configuration of this number may have, counted from 0.
+    ghost options: { Self → ℕ → Options → Type 0 };
+
+    /// How many configurations there are.
+    fn count(&self) -> usize
+        ensures { result ≡ number self.now };
+
+    /// The options of one configuration, counted from 0.
+    ///
+    /// # Errors
+    ///
+    /// That there is no memory for them.
+    fn options_of(&self, alloc: Global, i: usize) -> Result<Options, AllocError>
+        requires { i < number self.now }
+        ensures { IfOk result (options self.now i) };
+}
+
+// How the turn of one configuration ended, and whether that ends all.
+#[derive(Clone, Copy)]
+struct Turn {
+    status: Status,
+    is_over: bool,
+}
+
+// ---- one turn
+
+// Runs for one configuration behind the tree's warnings: refuses a name that make cannot read, or goes on to the input files.
+fn run_part<'o, D: Device>(
+    alloc: Global,
+    options: &'o Options,
+    accepted: &OrderedTree<'_>,
+    is_warned: bool,
+    device: &mut D,
+) -> Result<Status, Stop<'o>>
+    requires ready { IsReady accepted.now }
+    requires warned { is_warned ≡ has_text (lines_text accepted.now.tree.now.warnings) }
+    ensures { (files : Files) → IsAcceptedOf files options.now accepted.now → LeavesTurn files options.now accepted.now.tree.now result (D.log device.old) (D.log device.new) }
+{
+    one_answer();
+    exactly_one_outcome();
+    let names = names_listed(alloc, options, accepted.opened)?;
+    if let Some(name) = unreadable_among(options, &names) {
+        return refuse_name(options, name, device);
+    }
+    run_inputs(alloc, options, accepted, &names, is_warned, device)
+}
+
+// Whether a run that was broken off for this ends the runs for all configurations.
+fn ends_all(stop: &Stop<'_>) -> bool
+    ensures { result ≡ ends_all stop.now }
+{
+    let failure = match stop {
+        Stop::OutOfMemory => return true,
+        Stop::Failed(failure) => failure,
+    };
+    match failure.action {
+        Action::Note => true,
+        Action::Open
+        | Action::Miss
+        | Action::Read
+        | Action::Create(_)
+        | Action::Write(_)
+        | Action::Close(_)
+        | Action::Move
+        | Action::Clear => match failure.fault {
+            Fault::Memory => true,
+            Fault::Refused => false,
+        },
+    }
+}
+
+// Runs for one configuration, and says why if it was broken off.
+fn run_turn<D: Device>(
+    alloc: Global,
+    options: &Options,
+    accepted: &OrderedTree<'_>,
+    is_warned: bool,
+    device: &mut D,
+) -> Turn
+    requires ready { IsReady accepted.now }
+    requires warned { is_warned ≡ has_text (lines_text accepted.now.tree.now.warnings) }
+    ensures { (files : Files) → IsAcceptedOf files options.now accepted.now →
+        RunsTurn files accepted.now.tree.now options.now (D.log device.old) (D.log device.new) result.status result.is_over }
+{
+    match run_part(alloc, options, accepted, is_warned, device) {
+        Ok(status) => Turn {
+            status,
+            is_over: false,
+        },
+        Err(stop) => {
+            let is_fatal = ends_all(&stop);
+            let is_told = report(device, options, stop);
+            Turn {
+                status: Status::Faulted,
+                is_over: is_fatal || !is_told,
+            }
+        }
+    }
+}
+
+// The turn of the configuration of this number.
+fn take_turn<C: Configurations, D: Device>(
+    alloc: Global,
+    configurations: &C,
+    i: usize,
+    accepted: &OrderedTree<'_>,
+    is_warned: bool,
+    device: &mut D,
+) -> Turn
+    requires within { i < C.number configurations.now }
+    requires ready { IsReady accepted.now }
+    requires warned { is_warned ≡ has_text (lines_text accepted.now.tree.now.warnings) }
+    ensures { (files : Files) → ((options : Options) → C.options configurations.now i options → IsAcceptedOf files options accepted.now) →
+        TakesTurn files accepted.now.tree.now (C.options configurations.now i) (D.log device.old) (D.log device.new) result.status result.is_over }
+{
+    match configurations.options_of(alloc, i) {
+        Ok(options) => run_turn(alloc, &options, accepted, is_warned, device),
+        Err(_) => {
+            say_no_memory(device);
+            Turn {
+                status: Status::Faulted,
+                is_over: true,
+            }
+        }
+    }
+}
+
+// ---- all turns
+
+// The greater of two statuses.
+fn greater(a: Status, b: Status) -> Status
+    ensures { result ≡ greater a b }
+{
+    match (a, b) {
+        (Status::Faulted, _) | (_, Status::Faulted) => Status::Faulted,
+        (Status::Usage, _) | (_, Status::Usage) => Status::Usage,
+        (Status::Refused, _) | (_, Status::Refused) => Status::Refused,
+        (Status::Done, Status::Done) => Status::Done,
+    }
+}
+
+// Each configuration takes its turn, up to one that ends all.
+fn take_turns<C: Configurations, D: Device>(
+    alloc: Global,
+    configurations: &C,
+    accepted: &OrderedTree<'_>,
+    is_warned: bool,
+    device: &mut D,
+) -> Status
+    requires ready { IsReady accepted.now }
+    requires warned { is_warned ≡ has_text (lines_text accepted.now.tree.now.warnings) }
+    ensures { (files : Files) → ((i : ℕ) (options : Options) → C.options configurations.now i options → IsAcceptedOf files options accepted.now) →
+        TakeTurns files accepted.now.tree.now (C.options configurations.now) 0 (C.number configurations.now) (D.log device.old) (D.log device.new) result }
+{
+    let mut status = Status::Done;
+    for i in 0..configurations.count() {
+        let turn = take_turn(alloc, configurations, i, accepted, is_warned, device);
+        status = greater(status, turn.status);
+        if turn.is_over {
+            return status;
+        }
+    }
+    status
+}
+
+// ---- the tree
+
+// Says why no tree is accepted.
+fn refuse_all<D: Device>(refusal: &Refusal, device: &mut D) -> Status
+    ensures { (files : Files) (root : List ℕ) → (refusal.now.code ≢ Memory → IsRefusedTree files root (refusal_view refusal.now)) →
+        StopsAtTree files root (D.log device.old) (D.log device.new) result }
+{
+    if let Code::Memory = refusal.code {
+        say_no_memory(device);
+        return Status::Faulted;
+    }
+    match say_refusal(device, refusal) {
+        Ok(()) => Status::Refused,
+        Err(_) => Status::Faulted,
+    }
+}
+
+// Ends all where the tree's warnings were not said: for want of memory, which is said, or since the diagnostics failed.
+fn end_unsaid<D: Device>(stop: Stop<'_>, device: &mut D) -> Status
+    ensures { (files : Files) (root : List ℕ) (tree : TreeFacts) (before : Log) →
+        IsAcceptedTree files root tree → StopsLines (lines_text tree.warnings) stop.entry before (D.log device.old) →
+        StopsAtTree files root before (D.log device.new) result }
+{
+    if let Stop::OutOfMemory = stop {
+        say_no_memory(device);
+    }
+    Status::Faulted
+}
+
+// Runs over an accepted tree: says its warnings, and then the configurations take their turns.
+fn run_each_of<C: Configurations, D: Device>(
+    alloc: Global,
+    configurations: &C,
+    accepted: &OrderedTree<'_>,
+    device: &mut D,
+) -> Status
+    requires { IsReady accepted.now }
+    ensures { (files : Files) (root : List ℕ) → IsAcceptedTree files root accepted.now.tree.now → AreOpened files root accepted.now.opened.now →
+        AreRootedAt root (C.options configurations.now) →
+        RunsEach files root (C.options configurations.now) (C.number configurations.now) (D.log device.old) (D.log device.new) result }
+{
+    let warnings = accepted.tree.parse_warnings();
+    match say_tree(alloc, warnings, device) {
+        Ok(()) => take_turns(alloc, configurations, accepted, !warnings.is_empty(), device),
+        Err(stop) => end_unsaid(stop, device),
+    }
+}
+
+// Runs over a tree that was read, and keeps it if it is accepted.
+fn run_each_over<C: Configurations, D: Device>(
+    alloc: Global,
+    configurations: &C,
+    read: TreeReading,
+    device: &mut D,
+    kept: &mut Option<AcceptedTree>,
+) -> Status
+    ensures { (files : Files) (root : List ℕ) → IsReadOf files root read → AreRootedAt root (C.options configurations.now) →
+        RunsEach files root (C.options configurations.now) (C.number configurations.now) (D.log device.old) (D.log device.new) result }
+{
+    let TreeReading { tree, opened } = read;
+    let layout = tree.layout();
+    let order = match EvaluationOrder::of(alloc, &tree, layout) {
+        Ok(order) => order,
+        Err(refusal) => return refuse_all(&refusal, device),
+    };
+    let accepted = OrderedTree {
+        tree: &tree,
+        layout,
+        order: &order,
+        opened: &opened,
+    };
+    let status = run_each_of(alloc, configurations, &accepted, device);
+    *kept = Some(AcceptedTree { tree, order });
+    status
+}
+
+/// Runs for each configuration of one tree, over a map of files and a device (our own).
+///
+/// The tree is read once, from this Kconfig file, with which all options have to begin. A refused tree is told once, and refuses all;
+/// else its warnings are told once. Behind them each configuration takes its turn, and leaves what [`run`](crate::run) leaves for its
+/// options behind the tree's warnings, whatever the others do. A refused one (E17, E21, E22, E23) and one whose files cannot be read or
+/// written (E18, E19) leave the others their turns. Want of memory (E20) and diagnostics that fail end all. What is answered is the
+/// greatest status.
+///
+/// The files are let go when they are read. The tree goes to `kept`, in place of what that held, if it is accepted: to give back its
+/// memory takes a while, and a program that ends anyway may forget it.
+pub fn run_each<C: Configurations, D: Device>(
+    alloc: Global,
+    files: FileMap,
+    root: &str,
+    configurations: &C,
+    device: &mut D,
+    kept: &mut Option<AcceptedTree>,
+) -> Status
+    requires { AreRootedAt root.now (C.options configurations.now) }
+    ensures { RunsEach (bytes_in files) root.now (C.options configurations.now) (C.number configurations.now) (D.log device.old) (D.log device.new) result }
+{
+    match read_tree(alloc, files, root.as_bytes()) {
+        Ok(read) => run_each_over(alloc, configurations, read, device, kept),
+        Err(refusal) => refuse_all(&refusal, device),
+    }
+}
