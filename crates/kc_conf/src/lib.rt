@@ -3,8 +3,8 @@
 
 mod accepted;
 mod compute;
-mod folder_run;
 pub mod error_lines;
+mod folder_run;
 pub mod laws;
 mod lost;
 mod many;

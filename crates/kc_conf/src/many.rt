@@ -238,7 +238,13 @@ fn run_each_of<C: Configurations, D: Device>(
 {
     let warnings = accepted.tree.parse_warnings();
     match say_tree(alloc, warnings, device) {
-        Ok(()) => take_turns(alloc, configurations, accepted, !warnings.is_empty(), device),
+        Ok(()) => take_turns(
+            alloc,
+            configurations,
+            accepted,
+            !warnings.is_empty(),
+            device,
+        ),
         Err(stop) => end_unsaid(stop, device),
     }
 }

@@ -7,3 +7,7 @@ use Rattle.kc_conf.proofs.many.run_each.Goals as goal
 pub returns-in-Err : goal.returns-in-Err
 returns-in-Err g c =
     stops (c.refuse_all.ensures (bytes_in c.args.files) c.args.root.now (λ known. no_tree (rw c.as_bytes.ensures.value at c.in-Err.ensures.refused known)))
+
+pub returns-in-Ok : goal.returns-in-Ok
+returns-in-Ok g c =
+    let of = rw c.as_bytes.ensures.value at c.in-Ok.ensures.read in c.run_each_over.ensures (bytes_in c.args.files) c.args.root.now of c.requires

@@ -6,3 +6,6 @@ use Rattle.kc_conf.proofs.many.run_each_over.Goals as goal
 pub returns-in-Err : goal.returns-in-Err
 returns-in-Err g c = λ files root of rooted.
     stops (c.refuse_all.ensures files root (λ known. let (text, named, is) = c.in-Err.ensures.refused known in looped c.args.read.tree text of.built named is))
+
+pub returns : goal.returns
+returns g c = λ files root of rooted. c.run_each_of-status.ensures files root (record { built = of.built; accepted = c.in-Ok.ensures.accepted }) of.opened rooted
