@@ -308,13 +308,14 @@ stale-old text texts journal e = ap (λ b. if not b then text ∷ stale texts jo
 AreLines-stale : (options : Options) (texts : List NamedText) → AreLines (stale_lines options texts)
 AreLines-stale options [] = AreLines-nothing
 AreLines-stale options (text ∷ texts) =
-    AreLines-append (lead options ++ stale_line text.name) (stale_lines options texts)
-    ((lead options ++ (codes "error E22: " ++ text.name ++ codes " is not up to date")) ∷ [],
-      simp append_assoc refl)
+    AreLines-append (lead options ++ stale_line text.name) (stale_lines options texts) (
+      (lead options ++ (codes "error E22: " ++ text.name ++ codes " is not up to date")) ∷ [],
+      simp append_assoc refl,
+    )
     (AreLines-stale options texts)
 
 pub IsChecked-nothing : (options : Options) (log : Log) → IsChecked options [] log log Done
-IsChecked-nothing options log = record { found = []; of_old = λ journal e. refl; log = leads_nothing log; status_is = refl; }
+IsChecked-nothing options log = record { found = []; of_old = λ journal e. refl; log = leads_nothing log; status_is = refl }
 
 -- what a device tells now, of what it told at first
 Tells-now : (P : Journal → Type 0) (old mid : Log) (text : List ℕ) → ((j k : Journal) → ((name : List ℕ) → held j name ≡ held k name) → P j → P k) → Leads [] text old mid → Tells mid P →
@@ -354,8 +355,8 @@ module _ (options : Options) (old mid : Log) (front : List NamedText) (status : 
       of_old =
           Tells-later (λ journal. so_far.found ++ text ∷ [] ≡ stale (front ++ text ∷ []) journal) old mid new [] (lead options ++ stale_line text.name) said
           (λ journal e.
-              ap (λ l. l ++ text ∷ []) (so_far.of_old journal e) ∙ ap (λ l. stale front journal ++ l) (sym (stale-old text [] journal (old-now journal e)))
-              ∙ sym (stale-append front (text ∷ []) journal));
+          ap (λ l. l ++ text ∷ []) (so_far.of_old journal e) ∙ ap (λ l. stale front journal ++ l) (sym (stale-old text [] journal (old-now journal e)))
+          ∙ sym (stale-append front (text ∷ []) journal));
       log = leads_said [] (stale_lines options so_far.found ++ (lead options ++ stale_line text.name)) (stale_lines options (so_far.found ++ text ∷ [])) old new
           (ap (λ l. stale_lines options so_far.found ++ l) (sym (append-nil (lead options ++ stale_line text.name)))
           ∙ sym (flat_map-append (λ (t : NamedText). lead options ++ stale_line t.name) so_far.found (text ∷ [])))
@@ -385,9 +386,9 @@ module _ (options : Options) (old mid : Log) (front : List NamedText) (status : 
               b,
               rest,
               ap (λ (by : Delivery). stale_lines options (stale_by by (front ++ text ∷ behind) journal)) checks
-              ∙ ap (stale_lines options) (stale-append front (text ∷ behind) journal ∙ ap (λ l. stale front journal ++ l) (stale-old text behind journal old_here) ∙ ap (λ l. l ++ text ∷ stale behind journal) (sym found))
-              ∙ flat_map-append (λ (t : NamedText). lead options ++ stale_line t.name) so_far.found (text ∷ stale behind journal)
-              ∙ ap (λ l. stale_lines options so_far.found ++ l) is,
+                  ∙ ap (stale_lines options) (stale-append front (text ∷ behind) journal ∙ ap (λ l. stale front journal ++ l) (stale-old text behind journal old_here) ∙ ap (λ l. l ++ text ∷ stale behind journal) (sym found))
+                  ∙ flat_map-append (λ (t : NamedText). lead options ++ stale_line t.name) so_far.found (text ∷ stale behind journal)
+                  ∙ ap (λ l. stale_lines options so_far.found ++ l) is,
             )
 
 -- all were compared

@@ -45,11 +45,11 @@ AreInputs-later b t old mid new w options (config ∷ fragments) are =
 
 -- what a device tells of the file of a name
 told_of : Option (List ℕ) → Bool → List ℕ → InputFile
-told_of found may name = record { name = name; is_missing = may && is_none found; bytes = unwrap_or found []; }
+told_of found may name = record { name = name; is_missing = may && is_none found; bytes = unwrap_or found [] }
 
 told_file : Log → Bool → List ℕ → InputFile
 unfolding told_of
-told_file None may name = record { name = name; is_missing = false; bytes = []; }
+told_file None may name = record { name = name; is_missing = false; bytes = [] }
 told_file (Some journal) may name = told_of (held journal name) may name
 
 is-told : (log : Log) (may : Bool) (name : List ℕ) → IsAsTold log may (told_file log may name)
@@ -90,7 +90,7 @@ inputs-exist log options =
       config ∷ map (told_file log false) names,
       (
         ap (λ n. n ∷ map (λ (f : InputFile). f.name) (map (told_file log false) names)) (told-name log (not options.must_exist) (string_bytes options.config))
-        ∙ ap (λ ns. string_bytes options.config ∷ ns) (told-names log names),
+            ∙ ap (λ ns. string_bytes options.config ∷ ns) (told-names log names),
         is-told log (not options.must_exist) (string_bytes options.config),
         are-told log names,
       ),

@@ -151,7 +151,7 @@ module _ (files : Files) (options : Options) (tree : TreeFacts) (accepted : IsAc
               b,
               rest ++ (more ++ behind),
               append_assoc part.warned part.refusal (stale_lines options (stale_texts options (texts_of options part) journal))
-              ∙ ap (λ l. l ++ behind) (is ∙ ap (λ l. l ++ more) is') ∙ simp append_assoc refl,
+                  ∙ ap (λ l. l ++ behind) (is ∙ ap (λ l. l ++ more) is') ∙ simp append_assoc refl,
             )),
         cleared-note options.delivery f.action note,
       )
@@ -223,7 +223,7 @@ module _ (law : OneAnswer) (files : Files) (options : Options) (tree : TreeFacts
         p.0,
         p.1,
         ap (λ l. l ++ stale_lines options (stale_texts options made journal)) (sym (notes-noted told part))
-        ∙ append_assoc told (notes_of part) (stale_lines options (stale_texts options made journal)) ∙ ap (λ l. told ++ l) p.2 ∙ sym (append_assoc told front (p.0 ∷ p.1)),
+            ∙ append_assoc told (notes_of part) (stale_lines options (stale_texts options made journal)) ∙ ap (λ l. told ++ l) p.2 ∙ sym (append_assoc told front (p.0 ∷ p.1)),
       )) beyond))
   breaks-told b t w (in_input f other file done said other_accepted named which name up_to) =
       let same : tree ≡ other = law.one_accepted files (root_file options) tree other accepted other_accepted in

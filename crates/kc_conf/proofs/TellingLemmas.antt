@@ -16,7 +16,7 @@ still-known old (Some last) journal e = (e, (last, refl))
 
 -- from a silent device nothing follows
 pub Leads-silent : (events : List Event) (text : List ℕ) (old : Log) → Leads events text old None
-Leads-silent events text old = record { told = λ after e. absurd (let clash : None ≡ Some after = e in cc); }
+Leads-silent events text old = record { told = λ after e. absurd (let clash : None ≡ Some after = e in cc) }
 
 pub Tells-silent : (P : Journal → Type 0) → Tells None P
 Tells-silent P = λ journal e. absurd (let clash : None ≡ Some journal = e in cc)

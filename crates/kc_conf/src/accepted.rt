@@ -41,11 +41,7 @@ pub struct AcceptedTree {
 /// # Errors
 ///
 /// The refusal of the tree, or that there is no memory (E20).
-pub(crate) fn read_tree(
-    alloc: Global,
-    files: FileMap,
-    root: &[u8],
-) -> Result<TreeReading, Refusal>
+pub(crate) fn read_tree(alloc: Global, files: FileMap, root: &[u8]) -> Result<TreeReading, Refusal>
     ensures { IsReadingOf (bytes_in files) root.now result }
 {
     let RootReading { listing, opened } = match read_listing(alloc, &files, root) {

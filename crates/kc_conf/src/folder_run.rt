@@ -15,7 +15,10 @@ pub fn say_load_fault<D: Device>(fault: &LoadFault, device: &mut D)
     ensures { TriesToSay (load_line fault.now) (D.log device.old) (D.log device.new) }
 {
     match fault {
-        LoadFault::CannotRead(name) => try_to_say(device, &[b"error E18: cannot read ", name, b"\n"]),
+        LoadFault::CannotRead(name) => try_to_say(
+            device,
+            &[b"error E18: cannot read ", name, b"\n"],
+        ),
         LoadFault::Memory => try_to_say(device, &[b"error E20: out of memory\n"]),
     }
 }

@@ -17,8 +17,7 @@ use crate::accepted::{AcceptedTree, OrderedTree, TreeReading, read_tree};
 use crate::compute::{compute, names_listed};
 use crate::laws::{exactly_one_outcome, one_answer};
 use crate::notes::{
-    report, say_lines, say_long_line, say_parts, say_refusal, say_stale, say_strict,
-    say_unreadable,
+    report, say_lines, say_long_line, say_parts, say_refusal, say_stale, say_strict, say_unreadable,
 };
 use crate::options::{Delivery, Options, Status};
 use crate::reading::{LongLine, Waiting, read_inputs, stream_names};
@@ -89,10 +88,7 @@ fn hand_out_by<'o, D: Device>(
 // ---- how a run ends
 
 // Refuses warnings.
-fn refuse_warnings<D: Device>(
-    options: &Options,
-    device: &mut D,
-) -> Result<Status, Stop<'static>>
+fn refuse_warnings<D: Device>(options: &Options, device: &mut D) -> Result<Status, Stop<'static>>
     ensures { Ends options.now [] (lead options.now ++ strict_line) [] Status.Refused result (D.log device.old) (D.log device.new) }
 {
     match say_strict(device, options) {
@@ -252,7 +248,10 @@ pub(crate) fn run_inputs<'o, D: Device>(
 }
 
 /// The first name in the dependency file that make cannot read.
-pub(crate) fn unreadable_among<'n>(options: &'n Options, names: &'n Option<Names>) -> Option<&'n [u8]>
+pub(crate) fn unreadable_among<'n>(
+    options: &'n Options,
+    names: &'n Option<Names>,
+) -> Option<&'n [u8]>
     ensures { (opened : List (List ℕ)) → names.now ≡ names_listed options.now opened → option_map (λ name. name.now) result ≡ unreadable_name options.now opened }
 {
     match names {
@@ -354,11 +353,7 @@ fn run_over<'o, D: Device>(
 }
 
 // What a run answers: its status, or `Faulted` where it was broken off, which it says.
-fn answer<D: Device>(
-    options: &Options,
-    ended: Result<Status, Stop<'_>>,
-    device: &mut D,
-) -> Status
+fn answer<D: Device>(options: &Options, ended: Result<Status, Stop<'_>>, device: &mut D) -> Status
     ensures { Answers options.now ended.entry result (D.log device.old) (D.log device.new) }
 {
     match ended {

@@ -28,15 +28,15 @@ loop-text-preserved g c =
     let mid = g.D.Device.log c.loop-text.device in
     let more = texts-more texts i text c.loop-text-test.true c.text-item.is in
     elim c.if-not-holds.branch [
-    | then-not-holds+in_default w ↦
-        rw (w.device-is, w.status-is, more)
-        (IsChecked-old c.args.options.now old mid front c.loop-text.status c.loop-text.invariant (text_view text)
-        (λ journal e. sym w.if-not-holds.true ∙ c.holds.ensures journal e ∙ ap (is_held journal text.name.now) c.deref.ensures.value)
-        (g.D.Device.log w.say_stale.new.device) w.in_default.ensures)
-    | else-not-holds w ↦
-        rw (w.device-is, w.status-is, more)
-        (IsChecked-fresh c.args.options.now old mid front c.loop-text.status c.loop-text.invariant (text_view text)
-        (λ journal e. sym w.if-not-holds.false ∙ c.holds.ensures journal e ∙ ap (is_held journal text.name.now) c.deref.ensures.value))
+      | then-not-holds+in_default w ↦
+          rw (w.device-is, w.status-is, more)
+          (IsChecked-old c.args.options.now old mid front c.loop-text.status c.loop-text.invariant (text_view text)
+          (λ journal e. sym w.if-not-holds.true ∙ c.holds.ensures journal e ∙ ap (is_held journal text.name.now) c.deref.ensures.value)
+          (g.D.Device.log w.say_stale.new.device) w.in_default.ensures)
+      | else-not-holds w ↦
+          rw (w.device-is, w.status-is, more)
+          (IsChecked-fresh c.args.options.now old mid front c.loop-text.status c.loop-text.invariant (text_view text)
+          (λ journal e. sym w.if-not-holds.false ∙ c.holds.ensures journal e ∙ ap (is_held journal text.name.now) c.deref.ensures.value))
     ]
 
 pub returns-in-Err : goal.returns-in-Err
