@@ -12,7 +12,7 @@ use Rattle.kc_io.proofs.LogLemmas.{bytes_both, leads_as, leads_both, leads_nothi
 use Rattle.kc_dot.specs.Feeding.{ReadsPiece, StreamPosition, stream_start, to_come}
 use Rattle.kc_dot.specs.ReaderState.{ReaderState}
 use Rattle.kc_dot.specs.Reading.{Line, lines_from, reading, with_warnings}
-use Rattle.kc_conf.specs.Given.{InputFile, IsAsTold, ended_lines, reads_one, still_told}
+use Rattle.kc_conf.specs.Given.{InputFile, IsAsTold, IsThere, ended_lines, reads_one, still_told}
 use Rattle.kc_conf.specs.ReadSteps.{BreaksEnd, BreaksFile, BreaksOpened, BreaksPiece, EndsFile, FailsAt, Gives, IsStillFresh, Opens, ReadsFile, ReadsLines, ReadsOpened, Stand, StopsFile, TakesPiece, TakesSoFar, Warns, in_file, in_lines, said_now, there_file}
 use Rattle.kc_conf.specs.Stops.{event_of}
 use Rattle.kc_conf.specs.declared.reading.Waiting.{Waiting}
@@ -303,6 +303,10 @@ told-there old new name bytes may given found is gives = record {
     some true (Some bytes) is = refl
     some false found is = refl
 
+-- and is there
+there-found : (old new : Log) (name given : List ℕ) (may : Bool) → IsFound old name may true → IsThere (still_told old new) (there_file name given)
+there-found old new name given may found = λ not_missing journal still. found.told journal (told-first old new journal still)
+
 -- and one that is not there is told to be so
 told-none : (old new : Log) (name : List ℕ) (may : Bool) → IsFound old name may false → IsAsTold (still_told old new) may (record { name = name; is_missing = true; bytes = [] })
 told-none old new name may found = record {
@@ -325,6 +329,7 @@ module _ (reader : ReaderState) (name : List ℕ) (may : Bool) (old mid : Stand)
         file = there_file name reads.bytes;
         named = refl;
         told = told-there old.log new.log name reads.bytes may mid.file.to_come opens.found (opens.opened refl) reads.gives;
+        there = there-found old.log new.log name reads.bytes may opens.found;
         events = did Open name ++ reads.events;
         reads_to = reads.reads_to;
         warned = reads.warned;
@@ -358,6 +363,7 @@ module _ (reader : ReaderState) (name : List ℕ) (may : Bool) (old mid : Stand)
         file = record { name = name; is_missing = true; bytes = [] };
         named = refl;
         told = told-none old.log mid.log name may opens.found;
+        there = λ not_missing. absurd (let clash : true ≡ false = not_missing in cc);
         events = did Miss name;
         reads_to = refl;
         warned = [];

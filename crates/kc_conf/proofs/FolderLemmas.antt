@@ -60,10 +60,10 @@ module _ (options : Options) (files others : Files) (alike : ExpandsAlike (root_
     unreadable = r.unreadable;
   }
 
-  reads_over : (inputs : List InputFile) (events : List Event) → AreReads files options inputs events → AreReads others options inputs events
-  reads_over inputs events (reads_no_tree r x) = reads_no_tree r (refused_over top files others alike r x)
-  reads_over inputs events (reads_no_name name x) = reads_no_name name (name_over name x)
-  reads_over inputs events (of_tree tree events' x read to) = of_tree tree events (accepted_over top files others alike tree x) (read_over read) to
+  reads_over : (inputs : List InputFile) (told : Log) (events : List Event) → AreReads files options inputs told events → AreReads others options inputs told events
+  reads_over inputs told events (reads_no_tree r x) = reads_no_tree r (refused_over top files others alike r x)
+  reads_over inputs told events (reads_no_name name x) = reads_no_name name (name_over name x)
+  reads_over inputs told events (of_tree tree events' x read there to) = of_tree tree events (accepted_over top files others alike tree x) (read_over read) there to
 
   breaks_over : (before : TreeFacts → List ℕ) (inputs : List InputFile) (outcome : Outcome) (told : Log) (stop : Stop) (done : List Event) (front : List ℕ) →
       Breaks files options before inputs outcome told stop done front → Breaks others options before inputs outcome told stop done front
@@ -71,12 +71,12 @@ module _ (options : Options) (files others : Files) (alike : ExpandsAlike (root_
   breaks_over before inputs outcome told stop done front (in_notes f d left fr action name all lines more) = in_notes f d left fr action name all lines more
   breaks_over before inputs outcome told stop done front (in_input f tree file d saying x read action name up_to) =
       in_input f tree file d saying (accepted_over top files others alike tree x) (read_over read) action name up_to
-  breaks_over before inputs outcome told stop done front (in_delivery f events d are left) = in_delivery f events d (reads_over inputs events are) left
+  breaks_over before inputs outcome told stop done front (in_delivery f events d are left) = in_delivery f events d (reads_over inputs told events are) left
 
   completes_over : (inputs : List InputFile) (outcome : Outcome) (old new : Log) (status : Status) → Completes files options inputs outcome old new status → Completes others options inputs outcome old new status
   completes_over inputs outcome old new status c = record {
     events = c.events;
-    are_reads = reads_over inputs c.events c.are_reads;
+    are_reads = reads_over inputs _ c.events c.are_reads;
     made = c.made;
     stale = c.stale;
     of_old = c.of_old;

@@ -9,9 +9,9 @@ use Rattle.kc_io.specs.declared.device.Action.TheVariants.{Open, Miss, Read}
 use Rattle.kc_io.proofs.LogLemmas.{keeps_both, keeps_bytes}
 use Rattle.kc_dot.specs.Reading.{StreamLocation}
 use Rattle.kc_read.specs.Files.{Files}
-use Rattle.kc_conf.specs.Asked.{input_files}
+use Rattle.kc_tree.specs.TreeFacts.{TreeFacts}
 use Rattle.kc_conf.specs.Ends.{AreReads, refused_tree, refused_name, of_tree}
-use Rattle.kc_conf.specs.Given.{AreInputs, InputFile, IsAsTold, ReadsInto, ReadsTo, all, line, reads, reads_one, still_told}
+use Rattle.kc_conf.specs.Given.{AreInputs, AreThere, InputFile, IsAsTold, IsThere, ReadsTo, ReadsUpTo, all, line, reads, reads_one, still_told}
 use Rattle.kc_conf.specs.declared.options.Options.{Options}
 use Rattle.kc_conf.proofs.TellingLemmas.{Tells-first, Tells-later}
 
@@ -42,6 +42,72 @@ AreInputs-later b t old mid new w options (config ∷ fragments) are =
       missing = is.missing;
       told = Tells-later (λ journal. (file.bytes ≡ unwrap_or (held journal file.name) []) × (file.is_missing ≡ (may && is_none (held journal file.name)))) old mid new b t w is.told;
     }
+
+-- ---- which are there
+
+-- a file that is there behind something else was there before it
+pub IsThere-before : (old mid new : Log) (a b : List Event) (s t : List ℕ) (file : InputFile) → keeps_files a ≡ true → Leads a s old mid → Leads b t mid new →
+    IsThere (still_told mid new) file → IsThere (still_told old new) file
+IsThere-before old mid new a b s t file keeps h w there = λ not_missing.
+    Tells-first (λ journal. is_some (held journal file.name) ≡ true) old mid new a b s t keeps (λ j k same p. ap is_some (sym (same file.name)) ∙ p) h w (there not_missing)
+
+-- and one that was found in between is found later
+pub IsThere-later : (old mid new : Log) (b : List Event) (t : List ℕ) (file : InputFile) → Leads b t mid new → IsThere (still_told old mid) file → IsThere (still_told old new) file
+IsThere-later old mid new b t file w there = λ not_missing. Tells-later (λ journal. is_some (held journal file.name) ≡ true) old mid new b t w (there not_missing)
+
+module _ (old mid new : Log) (a b : List Event) (s t : List ℕ) (keeps : keeps_files a ≡ true) (h : Leads a s old mid) (w : Leads b t mid new) where
+  AreThere-before : (inputs : List InputFile) → AreThere (still_told mid new) inputs → AreThere (still_told old new) inputs
+  AreThere-before inputs are = λ i file is turn. IsThere-before old mid new a b s t file keeps h w (are i file is turn)
+
+  pub AreReads-before : {files : Files} {options : Options} {inputs : List InputFile} {events : List Event} → AreReads files options inputs (still_told mid new) events →
+      AreReads files options inputs (still_told old new) events
+  AreReads-before (refused_tree r is) = refused_tree r is
+  AreReads-before (refused_name name is) = refused_name name is
+  AreReads-before {inputs = inputs} (of_tree tree events accepted named there to) = of_tree tree events accepted named (AreThere-before inputs there) to
+
+  pub ReadsUpTo-before : (options : Options) (tree : TreeFacts) (inputs : List InputFile) (file : InputFile) (done : List Event) (said : List ℕ) →
+      ReadsUpTo (still_told mid new) options tree inputs file done said → ReadsUpTo (still_told old new) options tree inputs file done said
+  ReadsUpTo-before options tree inputs file done said up_to = record {
+    i = up_to.i;
+    is_file = up_to.is_file;
+    turn = up_to.turn;
+    there = AreThere-before (take up_to.i inputs) up_to.there;
+    bytes = up_to.bytes;
+    begins = up_to.begins;
+    short = up_to.short;
+    opened = up_to.opened;
+    nothing_before = up_to.nothing_before;
+    done_is = up_to.done_is;
+    said_is = up_to.said_is;
+  }
+
+module _ (old mid new : Log) (b : List Event) (t : List ℕ) (w : Leads b t mid new) where
+  pub AreThere-later : (inputs : List InputFile) → AreThere (still_told old mid) inputs → AreThere (still_told old new) inputs
+  AreThere-later inputs are = λ i file is turn. IsThere-later old mid new b t file w (are i file is turn)
+
+  pub AreReads-later : {files : Files} {options : Options} {inputs : List InputFile} {events : List Event} → AreReads files options inputs (still_told old mid) events →
+      AreReads files options inputs (still_told old new) events
+  AreReads-later (refused_tree r is) = refused_tree r is
+  AreReads-later (refused_name name is) = refused_name name is
+  AreReads-later {inputs = inputs} (of_tree tree events accepted named there to) = of_tree tree events accepted named (AreThere-later inputs there) to
+
+  pub ReadsUpTo-later : (options : Options) (tree : TreeFacts) (inputs : List InputFile) (file : InputFile) (done : List Event) (said : List ℕ) →
+      ReadsUpTo (still_told old mid) options tree inputs file done said → ReadsUpTo (still_told old new) options tree inputs file done said
+  ReadsUpTo-later options tree inputs file done said up_to = record {
+    i = up_to.i;
+    is_file = up_to.is_file;
+    turn = up_to.turn;
+    there = AreThere-later (take up_to.i inputs) up_to.there;
+    bytes = up_to.bytes;
+    begins = up_to.begins;
+    short = up_to.short;
+    opened = up_to.opened;
+    nothing_before = up_to.nothing_before;
+    done_is = up_to.done_is;
+    said_is = up_to.said_is;
+  }
+
+-- ---- that there are some
 
 -- what a device tells of the file of a name
 told_of : Option (List ℕ) → Bool → List ℕ → InputFile
@@ -141,12 +207,12 @@ reads_to-front {files = files} (line stop i file events is into) =
     )
 
 -- what is read is a beginning of all reads
-pub reads-front : {files : Files} {options : Options} {inputs : List InputFile} {events : List Event} → AreReads files options inputs events → (left : List Event) × (events ++ left ≡ reads inputs)
+pub reads-front : {files : Files} {options : Options} {inputs : List InputFile} {told : Log} {events : List Event} → AreReads files options inputs told events → (left : List Event) × (events ++ left ≡ reads inputs)
 reads-front {inputs = inputs} (refused_tree r is) = (reads inputs, refl)
 reads-front {inputs = inputs} (refused_name name is) = (reads inputs, refl)
-reads-front (of_tree tree events accepted named to) = reads_to-front to
+reads-front (of_tree tree events accepted named there to) = reads_to-front to
 
 -- and changes no file
-pub keeps-are_reads : (files : Files) (options : Options) (inputs : List InputFile) (events : List Event) → AreReads files options inputs events → keeps_files events ≡ true
-keeps-are_reads files options inputs events are =
+pub keeps-are_reads : (files : Files) (options : Options) (inputs : List InputFile) (told : Log) (events : List Event) → AreReads files options inputs told events → keeps_files events ≡ true
+keeps-are_reads files options inputs told events are =
     let (left, is) = reads-front are in keeps-front events left (ap keeps_files is ∙ keeps-reads inputs)

@@ -17,7 +17,7 @@ use Rattle.kc_dot.specs.Laws.{HasShortLines}
 use Rattle.kc_dot.specs.ReaderState.{ReaderState}
 use Rattle.kc_dot.specs.Reading.{Line, ReadResult, Stream, StreamLocation, UserInput, lines_from, lines_of, reading, with_warnings}
 use Rattle.kc_conf.specs.Asked.{holds_warnings, input_files, lead, may_at, names_of}
-use Rattle.kc_conf.specs.Given.{AreInputs, InputFile, IsAsTold, ReadsTo, all, bytes_of, ended_lines, line, reads, reads_one, still_told, warned_by}
+use Rattle.kc_conf.specs.Given.{AreInputs, AreThere, HasTurn, InputFile, IsAsTold, IsThere, ReadsTo, all, bytes_of, ended_lines, line, reads, reads_one, still_told, warned_by}
 use Rattle.kc_conf.specs.Outcome.{AreLines, fresh_input, streams}
 use Rattle.kc_conf.specs.Reads.{BreaksInputs, ReadsInputs, StopsInputs, ended_with, in_input, in_notes, no_memory}
 use Rattle.kc_conf.specs.ReadSteps.{AreAsTold, BreaksFile, ReadsFile, ReadsSoFar, Stand, StopsFile, StopsWarnings, Warns, held_back, in_file, in_lines, said_now}
@@ -25,8 +25,9 @@ use Rattle.kc_conf.specs.Stops.{event_of}
 use Rattle.kc_conf.specs.declared.options.Options.{Options}
 use Rattle.kc_conf.specs.declared.stop.Stop.{Stop}
 use Rattle.kc_conf.specs.declared.stop.Stop.TheVariants.{OutOfMemory, Failed}
+use Rattle.kc_conf.proofs.GivenLemmas.{IsThere-before, IsThere-later}
 use Rattle.kc_conf.proofs.FileLemmas.{as_told, is-as_told, named-as_told}
-use Rattle.kc_conf.proofs.PartLemmas.{AreLines-append, AreLines-nothing, short-stream}
+use Rattle.kc_conf.proofs.PartLemmas.{AreLines-nothing, long-stream, short-stream}
 use Rattle.kc_conf.proofs.StepLemmas.{said-both, stops-behind-warns, warns-as, warns-done, warns-then, with_warnings-both}
 
 -- ---- what is told of them
@@ -109,6 +110,26 @@ AreInputs-later events text old mid new options (config ∷ fragments) leads (na
   λ i d within. told-later events text old mid new false (get_or fragments i d) leads (others i d within),
 )
 
+-- ---- which are there
+
+-- where all are there, each is
+there-each : (told : Log) (files : List InputFile) (i : ℕ) (file : InputFile) → All (IsThere told) files → slice_get files i ≡ Some file → IsThere told file
+there-each told [] i file each is = absurd (let clash : None ≡ Some file = is in cc)
+there-each told (first ∷ files) zero file each is =
+    let same : first ≡ file = (let both : Some first ≡ Some file = is in cc) in subst (λ (f : InputFile). IsThere told f) same (each 0 first (omega arith))
+there-each told (first ∷ files) (suc i) file each is = there-each told files i file (λ j d within. each (suc j) d (omega (arith, within))) is
+
+-- Behind a file in which a line is too long, the turn of none comes.
+there-to : (told : Log) (done later : List InputFile) (file : InputFile) → All (IsThere told) done → IsThere told file → (HasShortLines file.bytes → ⊥) →
+    (i : ℕ) (other : InputFile) → slice_get (done ++ file ∷ later) i ≡ Some other → HasTurn (done ++ file ∷ later) i → IsThere told other
+there-to told [] later file each there long zero other is turn =
+    let same : file ≡ other = (let both : Some file ≡ Some other = is in cc) in subst (λ (f : InputFile). IsThere told f) same there
+there-to told [] later file each there long (suc i) other is turn = absurd (long (turn 0 (omega arith)))
+there-to told (first ∷ done) later file each there long zero other is turn =
+    let same : first ≡ other = (let both : Some first ≡ Some other = is in cc) in subst (λ (f : InputFile). IsThere told f) same (each 0 first (omega arith))
+there-to told (first ∷ done) later file each there long (suc i) other is turn =
+    there-to told done later file (λ j d within. each (suc j) d (omega (arith, within))) there long i other is (λ j below. turn (suc j) (omega (arith, below)))
+
 -- ---- what reading does
 
 -- it changes no file
@@ -146,13 +167,13 @@ names-count options =
     ap suc (length-map options.fragments.items (λ name. lead options ++ string_bytes name) ∙ sym (length-map options.fragments.items string_bytes))
 
 -- warnings that broke off: there was no memory, or the diagnostics failed
-stops-inputs : (options : Options) (tree : TreeFacts) (inputs : List InputFile) (holds : Bool) (stop : Stop) (warned : List ℕ) (done left : List Event) (front : List ℕ) → done ++ left ≡ reads inputs →
-    StopsWarnings holds stop warned front → StopsInputs options tree inputs warned stop done front
-stops-inputs options tree inputs true OutOfMemory warned done left front split none =
+stops-inputs : (told : Log) (options : Options) (tree : TreeFacts) (inputs : List InputFile) (holds : Bool) (stop : Stop) (warned : List ℕ) (done left : List Event) (front : List ℕ) → done ++ left ≡ reads inputs →
+    StopsWarnings holds stop warned front → StopsInputs told options tree inputs warned stop done front
+stops-inputs told options tree inputs true OutOfMemory warned done left front split none =
     no_memory done left front split (subst AreLines (sym none) AreLines-nothing) (warned, ap (λ f. f ++ warned) (sym none))
-stops-inputs options tree inputs true (Failed f) warned done left front split never = absurd never
-stops-inputs options tree inputs false OutOfMemory warned done left front split (lines, begins) = no_memory done left front split lines begins
-stops-inputs options tree inputs false (Failed f) warned done left front split (note, lines, goes) = in_notes f done left front note.0 note.1 split lines goes
+stops-inputs told options tree inputs true (Failed f) warned done left front split never = absurd never
+stops-inputs told options tree inputs false OutOfMemory warned done left front split (lines, begins) = no_memory done left front split lines begins
+stops-inputs told options tree inputs false (Failed f) warned done left front split (note, lines, goes) = in_notes f done left front note.0 note.1 split lines goes
 
 slice_get-seam : (done : List InputFile) (file : InputFile) (left : List InputFile) → slice_get (done ++ file ∷ left) (length done) ≡ Some file
 slice_get-seam [] file left = refl
@@ -166,6 +187,7 @@ module _ (options : Options) (tree : TreeFacts) where
     counted = refl;
     named = refl;
     told = tt;
+    there = All-nil (IsThere (still_told stand.log stand.log));
     short = All-nil HasShortLines;
     warned = [];
     goes = λ more. ap (λ ls. reading tree options.prefix stand.input (lines_of ls ++ more)) (streams-none (names_of options));
@@ -185,6 +207,7 @@ module _ (options : Options) (tree : TreeFacts) where
     are_inputs = are-inputs (still_told old.log new.log) options so_far.files (so_far.named ∙ take_all count (input_files options) end) so_far.told;
     events = reads so_far.files;
     reads_to = all;
+    there = λ i file is turn. there-each (still_told old.log new.log) so_far.files i file so_far.there is;
     warned = so_far.warned;
     reading_is =
         let lines = lines_of (streams (names_of options) (bytes_of so_far.files)) in
@@ -236,6 +259,12 @@ module _ (options : Options) (tree : TreeFacts) where
       told-before : AreAsTold (still_told old.log new.log) (not options.must_exist) so_far.files
       told-before = are-told-later events text old.log mid.log new.log (not options.must_exist) so_far.files leads so_far.told
 
+      there-before : All (IsThere (still_told old.log new.log)) so_far.files
+      there-before = λ i d below. IsThere-later old.log mid.log new.log events text (get_or so_far.files i d) leads (so_far.there i d below)
+
+      there-this : IsThere (still_told mid.log new.log) file → IsThere (still_told old.log new.log) file
+      there-this = IsThere-before old.log mid.log new.log (reads so_far.files) events (said_now old.waiting.holds so_far.warned) text file (reads-keep so_far.files) so_far.warns.log leads
+
       told-with : (more : List InputFile) → AreAsTold (still_told old.log new.log) false more → AreAsTold (still_told old.log new.log) (not options.must_exist) (so_far.files ++ file ∷ more)
       told-with more are =
           are-told-append (still_told old.log new.log) (not options.must_exist) so_far.files (file ∷ more) told-before
@@ -268,10 +297,10 @@ module _ (options : Options) (tree : TreeFacts) where
       -- what was done of this file and said of it, behind the files before it
       stops-as : old.input ≡ fresh_input options tree → old.waiting.holds ≡ holds_warnings options → (stop : Stop) (done : List Event) (front : List ℕ) →
           StopsFile reader file mid.waiting.holds mid.input stop done front →
-          StopsInputs options tree inputs (reading tree options.prefix old.input (lines_of (streams (names_of options) (bytes_of inputs)))).warned stop (reads so_far.files ++ done)
+          StopsInputs (still_told old.log new.log) options tree inputs (reading tree options.prefix old.input (lines_of (streams (names_of options) (bytes_of inputs)))).warned stop (reads so_far.files ++ done)
           (said_now old.waiting.holds so_far.warned ++ front)
       stops-as fresh holds _ _ _ (in_lines stop done left front split stops) =
-          stops-inputs options tree inputs old.waiting.holds stop (reading tree options.prefix old.input (lines_of (streams (names_of options) (bytes_of inputs)))).warned (reads so_far.files ++ done)
+          stops-inputs (still_told old.log new.log) options tree inputs old.waiting.holds stop (reading tree options.prefix old.input (lines_of (streams (names_of options) (bytes_of inputs)))).warned (reads so_far.files ++ done)
           (left ++ reads later) (said_now old.waiting.holds so_far.warned ++ front)
           (append_assoc (reads so_far.files) done (left ++ reads later)
           ∙ ap (λ es. reads so_far.files ++ es) (sym (append_assoc done left (reads later)) ∙ ap (λ es. es ++ reads later) split)
@@ -286,6 +315,8 @@ module _ (options : Options) (tree : TreeFacts) where
             turn = λ j below.
                 let before : j < length (bytes_of so_far.files) = let c = so_far.counted in let l = length-map so_far.files (λ (f : InputFile). f.bytes) in omega (arith, below, c, l) in
                 subst HasShortLines (sym (ap (λ bs. get_or bs j []) bytes-inputs ∙ get_or_append_left (bytes_of so_far.files) (file.bytes ∷ bytes_of later) [] j before)) (so_far.short j [] before);
+            there = subst (AreThere (still_told old.log new.log)) (sym take-inputs)
+                (λ i other is turn. there-each (still_told old.log new.log) so_far.files i other there-before is);
             bytes = part.bytes;
             begins = part.begins;
             short = part.short;
@@ -309,7 +340,8 @@ module _ (options : Options) (tree : TreeFacts) where
     -- this file was read to its end
     pub so_far-file : (new : Stand) → ReadsFile reader name may None mid new → ReadsSoFar options tree (count + 1) old new
     so_far-file new file =
-        let stand_at = told-with file.file new file.named file.told file.events (said_now mid.waiting.holds file.warned) file.warns.log in
+        let text = said_now mid.waiting.holds file.warned in
+        let stand_at = told-with file.file new file.named file.told file.events text file.warns.log in
         record {
           files = so_far.files ++ file.file ∷ [];
           counted = length-append so_far.files (file.file ∷ []) ∙ ap (λ n. n + 1) so_far.counted;
@@ -318,6 +350,8 @@ module _ (options : Options) (tree : TreeFacts) where
               ∙ ap (λ n. take count (input_files options) ++ n ∷ []) (file.named ∙ sym name_is)
               ∙ sym (take_more (input_files options) count [] within);
           told = stand_at [] tt;
+          there = All-push (IsThere (still_told old.log new.log)) so_far.files file.file (there-before file.file new file.named file.told file.events text file.warns.log)
+              (there-this file.file new file.named file.told file.events text file.warns.log file.there);
           short = subst (All HasShortLines) (sym (map-append (λ (f : InputFile). f.bytes) so_far.files (file.file ∷ [])))
               (All-push HasShortLines (bytes_of so_far.files) file.file.bytes so_far.short
               (short-stream tree options.prefix stream file.file.bytes mid.input new.input file.warned file.goes));
@@ -352,6 +386,9 @@ module _ (options : Options) (tree : TreeFacts) where
           reads_to = subst (λ (fs : List InputFile). ReadsTo given (Some (record { stream = stream; number = number })) (reads fs ++ file.events))
               (take-inputs file.file new file.named file.told file.events text file.warns.log)
               (line (record { stream = stream; number = number }) count file.file file.events (get-input file.file new file.named file.told file.events text file.warns.log) file.reads_to);
+          there = there-to (still_told old.log new.log) so_far.files (later file.file new file.named file.told file.events text file.warns.log) file.file
+              (there-before file.file new file.named file.told file.events text file.warns.log) (there-this file.file new file.named file.told file.events text file.warns.log file.there)
+              (long-stream tree options.prefix stream file.file.bytes mid.input (record { stream = stream; number = number }) (λ more. ap (λ (r : ReadResult). r.stopped) (file.goes more)));
           warned = so_far.warned ++ file.warned;
           reading_is = goes-inputs file.file new file.named file.told file.events text file.warns.log
               ∙ ap (with_warnings so_far.warned) (file.goes (lines_of (streams later_streams (bytes_of (later file.file new file.named file.told file.events text file.warns.log)))));

@@ -16,7 +16,7 @@ use Rattle.kc_conf.specs.Endings.{Ends, line_if, status_if, texts_or}
 use Rattle.kc_conf.specs.Ends.{AreReads, of_tree, texts_of, nothing_said}
 use Rattle.kc_conf.specs.ErrorLines.{too_long_line}
 use Rattle.kc_conf.specs.Existence.{ExactlyOneOutcome}
-use Rattle.kc_conf.specs.Given.{AreInputs, InputFile, ReadsTo, bytes_of, reads, still_told}
+use Rattle.kc_conf.specs.Given.{AreInputs, AreThere, InputFile, ReadsTo, bytes_of, reads, still_told}
 use Rattle.kc_conf.specs.Outcome.{AreLines, IsAcceptedTree, IsOutcomeOfReading, OneAnswer, Outcome, fresh_input, has_text, lines_text, lost_warnings, names_listed, noted, outcome_of, read_of, refused, root_file, streams, unreadable_name}
 use Rattle.kc_conf.specs.PartRuns.{LeavesPart}
 use Rattle.kc_conf.specs.Reads.{BreaksInputs, ReadsInputs, ended_with}
@@ -27,7 +27,7 @@ use Rattle.kc_conf.specs.declared.reading.Waiting.{Waiting}
 use Rattle.kc_conf.specs.declared.stop.Stop.{Stop}
 use Rattle.kc_conf.specs.declared.stop.Stop.TheVariants.{OutOfMemory}
 use Rattle.kc_conf.proofs.EndingLemmas.{Ends-log}
-use Rattle.kc_conf.proofs.GivenLemmas.{AreInputs-later, inputs-exist, reads-front}
+use Rattle.kc_conf.proofs.GivenLemmas.{AreInputs-later, AreThere-later, inputs-exist, reads-front}
 use Rattle.kc_conf.proofs.PartLemmas.{AreLines-append, AreLines-nothing, AreLines-reading}
 use Rattle.kc_conf.proofs.PartOutcomes.{Ends-part, is_part, names-read, part-has, part-says, part-warned, part_of, rest-begins, rest-exists, rest-long, rest-whole, texts-none}
 use Rattle.kc_conf.proofs.RunParts.{EndsSo-behind, IsBrokenOff-memory, IsBrokenOff-reading}
@@ -138,17 +138,17 @@ module _ (law : OneAnswer) (outcomes : ExactlyOneOutcome) (files : Files) (optio
 
   -- the files were read, and the run ended
   ended-part : (inputs : List InputFile) (stopped : Option StreamLocation) (after : UserInput) (warned : List ℕ) (holds : Bool) (waits : List ℕ) (events : List Event) (rest : Outcome) (result : Result Status Stop) (old mid new : Log) →
-      AreInputs (still_told old new) options inputs → read_of options tree (bytes_of inputs) ≡ ended_with after warned stopped → ReadsTo inputs stopped events →
+      AreInputs (still_told old new) options inputs → AreThere (still_told old new) inputs → read_of options tree (bytes_of inputs) ≡ ended_with after warned stopped → ReadsTo inputs stopped events →
       IsOutcomeOfReading options tree (read_of options tree (bytes_of inputs)) rest → (if holds then [] else warned) ++ waits ≡ (part_by rest).warned →
       Leads events (if holds then [] else warned) old mid → Ends options waits (part_by rest).refusal (texts_of options (part_by rest)) (part_by rest).status result mid new →
       LeavesPart files options tree result old new
-  ended-part inputs stopped after warned holds waits events rest result old mid new are_inputs e to of notes log ends = record {
+  ended-part inputs stopped after warned holds waits events rest result old mid new are_inputs there e to of notes log ends = record {
     inputs = inputs;
     are_inputs = are_inputs;
     part = part_by rest;
     is_part = is_part files options tree accepted opened are readable (bytes_of inputs) rest of;
     ends = EndsSo-behind nothing_said files options inputs (part_by rest) events (if holds then [] else warned) waits old mid new
-        (of_tree tree events accepted (names-read files options tree accepted opened are readable) (subst (λ s. ReadsTo inputs s events) (sym (ap (λ (r : ReadResult). r.stopped) e)) to))
+        (of_tree tree events accepted (names-read files options tree accepted opened are readable) there (subst (λ s. ReadsTo inputs s events) (sym (ap (λ (r : ReadResult). r.stopped) e)) to))
         (AreLines-said holds warned (lines-of options tree inputs after warned stopped e)) notes log result ends;
   }
 
@@ -159,9 +159,10 @@ module _ (law : OneAnswer) (outcomes : ExactlyOneOutcome) (files : Files) (optio
   LeavesPart-long stop before after waiting result old mid new fresh r ends =
       let (b, t, w) = Ends-log options waiting.text.items (too_long_line stop) [] Refused result mid new ends in
       let are_inputs = AreInputs-later b t old mid new w options r.inputs r.are_inputs in
+      let there = AreThere-later old mid new b t w r.inputs r.there in
       let e = read-is options tree r.inputs before after r.warned (Some stop) fresh r.reading_is in
       let rest : Outcome = noted r.warned (refused (too_long_line stop)) in
-      ended-part r.inputs (Some stop) after r.warned waiting.holds waiting.text.items r.events rest result old mid new are_inputs e r.reads_to
+      ended-part r.inputs (Some stop) after r.warned waiting.holds waiting.text.items r.events rest result old mid new are_inputs there e r.reads_to
       (rest-long options tree (read_of options tree (bytes_of r.inputs)) after r.warned stop e)
       (ap (λ l. (if waiting.holds then [] else r.warned) ++ l) (r.waits ∙ sym (append-nil (if waiting.holds then r.warned else []))) ∙ split-said waiting.holds r.warned [])
       r.log (subst (λ (t : List NamedText). Ends options waiting.text.items (too_long_line stop) t Refused result mid new) (sym (texts-none options)) ends)
@@ -174,6 +175,7 @@ module _ (law : OneAnswer) (outcomes : ExactlyOneOutcome) (files : Files) (optio
   LeavesPart-whole before after waiting names is_warned text given result old mid new fresh r holds listed told c ends =
       let (b, t, w) = Ends-log options text (line_if options given) (texts_or given) (status_if given) result mid new ends in
       let are_inputs = AreInputs-later b t old mid new w options r.inputs r.are_inputs in
+      let there = AreThere-later old mid new b t w r.inputs r.there in
       let e = read-is options tree r.inputs before after r.warned None fresh r.reading_is in
       let values = value_lines options after c.solution in
       let rest : Outcome = noted r.warned (outcome_of options tree after c.solution) in
@@ -182,7 +184,7 @@ module _ (law : OneAnswer) (outcomes : ExactlyOneOutcome) (files : Files) (optio
       c.texts_are ∙ ap (λ b. if refuses options after c.solution b text then None else Some (texts_of options (ruled_files options tree c.solution names))) told
       ∙ ap (λ (n : Option (List (List ℕ))). if refuses options after c.solution before_it text then None else Some (texts_of options (ruled_files options tree c.solution n))) listed in
       let has = part-has options tree opened after r.warned c.solution before_it text (λ on. text-is ∙ ap (λ l. l ++ values) (waits-held waiting.holds r.warned (holds ∙ strict-holds options on))) in
-      ended-part r.inputs None after r.warned waiting.holds text r.events rest result old mid new are_inputs e r.reads_to
+      ended-part r.inputs None after r.warned waiting.holds text r.events rest result old mid new are_inputs there e r.reads_to
       (rest-whole options tree (read_of options tree (bytes_of r.inputs)) after r.warned c.solution e c.solution_is)
       (ap (λ l. (if waiting.holds then [] else r.warned) ++ l) text-is ∙ split-said waiting.holds r.warned values ∙ sym (part-says options tree opened after r.warned c.solution before_it))
       r.log
@@ -195,8 +197,8 @@ module _ (law : OneAnswer) (outcomes : ExactlyOneOutcome) (files : Files) (optio
   LeavesPart-uncomputed before after waiting old new fresh r =
       let e = read-is options tree r.inputs before after r.warned None fresh r.reading_is in
       let named = names-read files options tree accepted opened are readable in
-      let of_files : AreReads files options r.inputs r.events =
-      of_tree tree r.events accepted named (subst (λ s. ReadsTo r.inputs s r.events) (sym (ap (λ (x : ReadResult). x.stopped) e)) r.reads_to) in
+      let of_files : AreReads files options r.inputs (still_told old new) r.events =
+      of_tree tree r.events accepted named r.there (subst (λ s. ReadsTo r.inputs s r.events) (sym (ap (λ (x : ReadResult). x.stopped) e)) r.reads_to) in
       let (left, split) = reads-front of_files in
       LeavesPart-memory r.inputs old new r.events left (if waiting.holds then [] else r.warned) r.are_inputs split
       (AreLines-said waiting.holds r.warned (lines-of options tree r.inputs after r.warned None e))

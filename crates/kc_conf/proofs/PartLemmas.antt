@@ -244,7 +244,19 @@ short-none_found (l ∷ lines) none = by (is_within l) refl (short-none_found li
     by true e others = (e, others (rw e at none))
     by false e others = absurd (let stops : Some (stream_location l) ≡ None = rw e at none in cc)
 
+-- where none is too long, none is found
+short-not_found : (lines : List Line) → All (λ l. is_within l ≡ true) lines → option_map stream_location (find (λ l. not (is_within l)) lines) ≡ None
+short-not_found [] short = refl
+short-not_found (l ∷ lines) short =
+    let first : is_within l ≡ true = short 0 l (omega arith) in
+    rw first (short-not_found lines (λ i d within. short (suc i) d (omega (arith, within))))
+
 module _ (tree : TreeFacts) (prefix : List ℕ) where
+  -- lines of which none is too long stop no reading
+  unstopped-short : (lines : List Line) (places : UserInput) → All (λ l. is_within l ≡ true) lines → (reading tree prefix places lines).stopped ≡ None
+  unfolding reading
+  unstopped-short lines places = short-not_found lines
+
   -- a reading that does not stop met no line that is too long
   short-unstopped : (lines : List Line) (places : UserInput) → (reading tree prefix places lines).stopped ≡ None → AreShort lines
   unfolding reading
@@ -290,6 +302,15 @@ module _ (tree : TreeFacts) (prefix : List ℕ) where
       ap (λ ls. (reading tree prefix before ls).stopped) (sym (append-nil (lines_from name 1 bytes))) ∙ ap (λ (r : ReadResult). r.stopped) (reads [])
       ∙ unstopped-none after in
       AreShort-all (lines_from other 1 bytes) (short_lines name other 1 bytes (short-unstopped (lines_from name 1 bytes) before none))
+
+  -- but some line of a stream at which the reading stops is too long
+  pub long-stream : (name bytes : List ℕ) (before : UserInput) (stop : StreamLocation) →
+      ((more : List Line) → (reading tree prefix before (lines_from name 1 bytes ++ more)).stopped ≡ Some stop) → HasShortLines bytes → ⊥
+  long-stream name bytes before stop stops short =
+      let lines = lines_from name 1 bytes in
+      let clash : Some stop ≡ None =
+      sym (stops []) ∙ ap (λ ls. (reading tree prefix before ls).stopped) (append-nil lines) ∙ unstopped-short lines before (short name) in
+      cc
 
   -- the warnings of lines that were read to their end are whole lines
   pub AreLines-reads : (lines : List Line) (before after : UserInput) (warned : List ℕ) →

@@ -39,7 +39,7 @@ use Rattle.kc_conf.specs.declared.options.Status.{Status}
 use Rattle.kc_conf.specs.declared.stop.Stop.{Stop}
 use Rattle.kc_conf.specs.declared.stop.Stop.TheVariants.{OutOfMemory, Failed}
 use Rattle.kc_conf.proofs.EndingLemmas.{beyond-nothing, cleared-note, delivers-same, stale-same}
-use Rattle.kc_conf.proofs.GivenLemmas.{AreInputs-before, AreInputs-later, inputs-exist, keeps-are_reads, reads-front}
+use Rattle.kc_conf.proofs.GivenLemmas.{AreInputs-before, AreInputs-later, AreReads-before, AreReads-later, ReadsUpTo-before, ReadsUpTo-later, inputs-exist, keeps-are_reads, reads-front}
 use Rattle.kc_conf.proofs.OutcomeLemmas.{notes-noted, rule-warned, warned_if}
 use Rattle.kc_conf.proofs.PartLemmas.{AreLines-append, AreLines-nothing}
 use Rattle.kc_conf.proofs.PartOutcomes.{texts-none}
@@ -48,12 +48,12 @@ use Rattle.kc_conf.proofs.TellingLemmas.{Tells-first, Tells-later, Tells-weaker}
 -- ---- a run that was read, and then ended
 
 module _ (before : TreeFacts → List ℕ) (files : Files) (options : Options) (inputs : List InputFile) (part : Outcome) (events : List Event) (said0 waits : List ℕ) (old mid new : Log)
-    (are : AreReads files options inputs events) (lines : AreLines said0) (notes : said0 ++ waits ≡ part.warned) (h : Leads events said0 old mid) where
+    (are : AreReads files options inputs (still_told old new) events) (lines : AreLines said0) (notes : said0 ++ waits ≡ part.warned) (h : Leads events said0 old mid) where
   abbrev texts : List NamedText
   texts = texts_of options part
 
   keeps : keeps_files events ≡ true
-  keeps = keeps-are_reads files options inputs events are
+  keeps = keeps-are_reads files options inputs (still_told old new) events are
 
   -- what is said in all
   whole-notes : (more : List ℕ) → said0 ++ ((waits ++ part.refusal) ++ more) ≡ notes_of part ++ more
@@ -136,7 +136,7 @@ cleared-read by f (inr e) = ap (cleared_by by) e ∙ at by
 
 module _ (files : Files) (options : Options) (tree : TreeFacts) (accepted : IsAcceptedTree files (root_file options) tree) (named : NamesAreRead files options)
     (inputs : List InputFile) (part : Outcome) (warned : List ℕ) (begins : BeginsWith part.warned warned) (old new : Log) where
-  stops-in : {stop : Stop} {done : List Event} {front : List ℕ} → StopsInputs options tree inputs warned stop done front →
+  stops-in : {stop : Stop} {done : List Event} {front : List ℕ} → StopsInputs (still_told old new) options tree inputs warned stop done front →
       Breaks files options nothing_said inputs part (still_told old new) stop done front × (clearing options stop ≡ [])
   stops-in (reading_stops.no_memory done left front split lines front_begins) =
       let (more, is) = begins in
@@ -157,7 +157,7 @@ module _ (files : Files) (options : Options) (tree : TreeFacts) (accepted : IsAc
       )
   stops-in (reading_stops.in_input f file done front which name up_to) = (in_input f tree file done front accepted named which name up_to, cleared-read options.delivery f which)
 
-  pub IsBrokenOff-reading : (stop : Stop) (done : List Event) (front : List ℕ) → StopsInputs options tree inputs warned stop done front → Leads (done ++ event_of stop) front old new →
+  pub IsBrokenOff-reading : (stop : Stop) (done : List Event) (front : List ℕ) → StopsInputs (still_told old new) options tree inputs warned stop done front → Leads (done ++ event_of stop) front old new →
       IsBrokenOff files options nothing_said inputs part stop old new
   IsBrokenOff-reading stop done front stops log =
       let (breaks, clears) = stops-in stops in record {
@@ -196,7 +196,7 @@ module _ (law : OneAnswer) (files : Files) (options : Options) (tree : TreeFacts
   Completes-told status c =
       let said = notes_of part ++ stale_lines options c.stale in record {
         events = c.events;
-        are_reads = c.are_reads;
+        are_reads = AreReads-before old mid new [] (c.events ++ c.made) told said refl h c.log c.are_reads;
         made = c.made;
         stale = c.stale;
         of_old = Tells-first (λ journal. (c.made ≡ delivers options made journal) × (c.stale ≡ stale_texts options made journal)) old mid new [] (c.events ++ c.made) told said refl
@@ -228,10 +228,10 @@ module _ (law : OneAnswer) (files : Files) (options : Options) (tree : TreeFacts
   breaks-told b t w (in_input f other file done said other_accepted named which name up_to) =
       let same : tree ≡ other = law.one_accepted files (root_file options) tree other accepted other_accepted in
       subst (λ l. Breaks files options said_of_tree inputs (noted told part) (still_told old new) (Failed f) done (l ++ said)) (ap (λ (s : TreeFacts). lines_text s.warnings) (sym same))
-      (in_input f other file done said other_accepted named which name up_to)
+      (in_input f other file done said other_accepted named which name (ReadsUpTo-before old mid new [] b told t refl h w options other inputs file done said up_to))
   breaks-told b t w (in_delivery f events done are tells) =
       subst (λ l. Breaks files options said_of_tree inputs (noted told part) (still_told old new) (Failed f) (events ++ done) l) (sym (notes-noted told part))
-      (in_delivery f events done are
+      (in_delivery f events done (AreReads-before old mid new [] b told t refl h w are)
       (Tells-first (λ journal. (left : List Event) × (done ++ left ≡ delivers options made journal) × StopsBefore left (Err f)) old mid new [] b told t refl
       (λ j k same p. (p.0, p.1 ∙ delivers-same options.delivery made j k same, p.2)) h w tells))
 
@@ -265,7 +265,7 @@ LeavesRun-part law files options tree result old mid new accepted h p =
 
 -- a tree or a name is refused
 pub LeavesRun-refused : (files : Files) (options : Options) (outcome : Outcome) (result : Result Status Stop) (old new : Log) →
-    ((inputs : List InputFile) → AreReads files options inputs []) → ((all : List (List ℕ)) → IsOutcome files options all outcome) → outcome.warned ≡ [] → texts_of options outcome ≡ [] →
+    ((inputs : List InputFile) (log : Log) → AreReads files options inputs log []) → ((all : List (List ℕ)) → IsOutcome files options all outcome) → outcome.warned ≡ [] → texts_of options outcome ≡ [] →
     Ends options [] outcome.refusal [] outcome.status result old new → LeavesRun files options result old new
 LeavesRun-refused files options outcome result old new reads_nothing is_outcome says makes ends =
     let (inputs, are) = inputs-exist (still_told old new) options in
@@ -274,7 +274,7 @@ LeavesRun-refused files options outcome result old new reads_nothing is_outcome 
       are_inputs = are;
       outcome = outcome;
       is_outcome = is_outcome (bytes_of inputs);
-      ends = EndsSo-behind said_of_tree files options inputs outcome [] [] [] old old new (reads_nothing inputs) AreLines-nothing (sym says) (leads_nothing old) result
+      ends = EndsSo-behind said_of_tree files options inputs outcome [] [] [] old old new (reads_nothing inputs (still_told old new)) AreLines-nothing (sym says) (leads_nothing old) result
           (subst (λ (t : List NamedText). Ends options [] outcome.refusal t outcome.status result old new) (sym makes) ends);
     }
 
@@ -341,9 +341,10 @@ breaks-later files options before inputs outcome more text old mid new log (no_m
 breaks-later files options before inputs outcome more text old mid new log (in_notes f done left front note name split lines beyond) =
     in_notes f done left front note name split lines
     (Tells-later (λ journal. GoesBeyond (notes_of outcome ++ stale_lines options (stale_texts options (texts_of options outcome) journal)) front) old mid new more text log beyond)
-breaks-later files options before inputs outcome more text old mid new log (in_input f tree file done front accepted named which name up_to) = in_input f tree file done front accepted named which name up_to
+breaks-later files options before inputs outcome more text old mid new log (in_input f tree file done front accepted named which name up_to) =
+    in_input f tree file done front accepted named which name (ReadsUpTo-later old mid new more text log options tree inputs file done front up_to)
 breaks-later files options before inputs outcome more text old mid new log (in_delivery f events done are tells) =
-    in_delivery f events done are
+    in_delivery f events done (AreReads-later old mid new more text log are)
     (Tells-later (λ journal. (left : List Event) × (done ++ left ≡ delivers options (texts_of options outcome) journal) × StopsBefore left (Err f)) old mid new more text log tells)
 
 pub Runs-answered : (files : Files) (options : Options) (result : Result Status Stop) (status : Status) (old mid new : Log) → LeavesRun files options result old mid → Answers options result status mid new →
@@ -383,7 +384,7 @@ pub LeavesRun-name : (files : Files) (options : Options) (tree : TreeFacts) (ope
 LeavesRun-name files options tree opened name result old new accepted are unread ends =
     let line = lead options ++ unreadable_line name in
     LeavesRun-refused files options (refused line) result old new
-    (λ inputs. name_refused name (record { tree = tree; accepted = accepted; opened = opened; are_opened = are; unreadable = unread }))
+    (λ inputs log. name_refused name (record { tree = tree; accepted = accepted; opened = opened; are_opened = are; unreadable = unread }))
     (λ all. (refused line, opened, refused_name tree name accepted unread refl, are, refl)) refl (texts-none options) ends
 
 -- a tree
@@ -391,7 +392,7 @@ LeavesRun-tree : OpenedAreOneList → (files : Files) (options : Options) (r : R
     Ends options [] (refusal_line r) [] Refused result old new → LeavesRun files options result old new
 LeavesRun-tree opens files options r result old new why ends =
     let (opened, are, only) = opens files (root_file options) in
-    LeavesRun-refused files options (refused (refusal_line r)) result old new (λ inputs. tree_refused r why)
+    LeavesRun-refused files options (refused (refusal_line r)) result old new (λ inputs log. tree_refused r why)
     (λ all. (refused (refusal_line r), opened, refused_tree r why refl, are, refl)) refl (texts-none options) ends
 
 is_memory : (code : Code) → (code ≡ NoMemory) ⊎ (code ≢ NoMemory)

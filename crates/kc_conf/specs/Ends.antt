@@ -15,7 +15,7 @@ use Rattle.kc_io.specs.declared.steps.Failure.{Failure}
 use Rattle.kc_dot.specs.Sink.{BeginsWith, GoesBeyond}
 use Rattle.kc_conf.specs.Asked.{lead, root_file}
 use Rattle.kc_conf.specs.ErrorLines.{stale_line}
-use Rattle.kc_conf.specs.Given.{AreInputs, InputFile, ReadsTo, ReadsUpTo, bytes_of, reads, still_told}
+use Rattle.kc_conf.specs.Given.{AreInputs, AreThere, InputFile, ReadsTo, ReadsUpTo, bytes_of, reads, still_told}
 use Rattle.kc_conf.specs.Outcome.{AreLines, IsAcceptedTree, IsOutcome, IsRefusedName, IsRefusedTree, NamesAreRead, Outcome, lines_text, notes_of, read_of}
 use Rattle.kc_conf.specs.Stops.{IsReport, clearing, event_of, stop_line}
 use Rattle.kc_conf.specs.declared.options.Delivery.{Delivery}
@@ -66,17 +66,18 @@ status_with (text ∷ texts) status = answered.Refused
 
 -- ---- a run that is not broken off
 
--- What it reads: nothing for a tree or a name that is refused; else its input files, up to a line that is too long.
-pub data AreReads (files : Files) (options : Options) (inputs : List InputFile) : List Event → Type 0 where
-  refused_tree : (r : Refused) → IsRefusedTree files (root_file options) r → AreReads files options inputs []
-  refused_name : (name : List ℕ) → IsRefusedName files options name → AreReads files options inputs []
-  of_tree : (tree : TreeFacts) (events : List Event) → IsAcceptedTree files (root_file options) tree → NamesAreRead files options →
-      ReadsTo inputs (read_of options tree (bytes_of inputs)).stopped events → AreReads files options inputs events
+-- What it reads: nothing for a tree or a name that is refused; else its input files, each of them there unless it is found to be missing, up to a line that is too long.
+-- (`told` is what the device told at first.)
+pub data AreReads (files : Files) (options : Options) (inputs : List InputFile) (told : Log) : List Event → Type 0 where
+  refused_tree : (r : Refused) → IsRefusedTree files (root_file options) r → AreReads files options inputs told []
+  refused_name : (name : List ℕ) → IsRefusedName files options name → AreReads files options inputs told []
+  of_tree : (tree : TreeFacts) (events : List Event) → IsAcceptedTree files (root_file options) tree → NamesAreRead files options → AreThere told inputs →
+      ReadsTo inputs (read_of options tree (bytes_of inputs)).stopped events → AreReads files options inputs told events
 
 -- It reads, says what the outcome adds to the diagnostics and which files are not up to date, and delivers the outcome's texts.
 pub record Completes (files : Files) (options : Options) (inputs : List InputFile) (outcome : Outcome) (old new : Log) (status : Status) : Type 0 where
   pub events : List Event
-  pub are_reads : AreReads files options inputs events
+  pub are_reads : AreReads files options inputs (still_told old new) events
   pub made : List Event
   pub stale : List NamedText
   pub of_old : Tells (still_told old new) (λ journal. (made ≡ delivers options (texts_of options outcome) journal) × (stale ≡ stale_texts options (texts_of options outcome) journal))
@@ -98,10 +99,10 @@ pub data Breaks (files : Files) (options : Options) (before : TreeFacts → List
       Breaks files options before inputs outcome told (Failed f) done front
   -- An input file could not be opened or read on.
   in_input : (f : Failure) (tree : TreeFacts) (file : InputFile) (done : List Event) (said_of_inputs : List ℕ) → IsAcceptedTree files (root_file options) tree → NamesAreRead files options →
-      (f.action ≡ Open) ⊎ (f.action ≡ Read) → f.name.now ≡ file.name → ReadsUpTo options tree inputs file done said_of_inputs →
+      (f.action ≡ Open) ⊎ (f.action ≡ Read) → f.name.now ≡ file.name → ReadsUpTo told options tree inputs file done said_of_inputs →
       Breaks files options before inputs outcome told (Failed f) done (before tree ++ said_of_inputs)
   -- A text could not be delivered: all was said, and what was to be done before was done.
-  in_delivery : (f : Failure) (events done : List Event) → AreReads files options inputs events →
+  in_delivery : (f : Failure) (events done : List Event) → AreReads files options inputs told events →
       Tells told (λ journal. (left : List Event) × (done ++ left ≡ delivers options (texts_of options outcome) journal) × StopsBefore left (Err f)) →
       Breaks files options before inputs outcome told (Failed f) (events ++ done) (notes_of outcome)
 

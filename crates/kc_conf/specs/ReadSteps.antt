@@ -15,7 +15,7 @@ use Rattle.kc_dot.specs.ReaderState.{ReaderState}
 use Rattle.kc_dot.specs.Reading.{Line, UserInput, lines_from, lines_of, reading, with_warnings}
 use Rattle.kc_dot.specs.Sink.{BeginsWith, GoesBeyond}
 use Rattle.kc_conf.specs.Asked.{input_files, names_of}
-use Rattle.kc_conf.specs.Given.{InputFile, IsAsTold, ReadsInto, bytes_of, ended_lines, reads, reads_one, still_told}
+use Rattle.kc_conf.specs.Given.{InputFile, IsAsTold, IsThere, ReadsInto, bytes_of, ended_lines, reads, reads_one, still_told}
 use Rattle.kc_conf.specs.Outcome.{AreLines, streams}
 use Rattle.kc_conf.specs.Reads.{IsNoteStop, ended_with}
 use Rattle.kc_conf.specs.Stops.{event_of}
@@ -203,6 +203,7 @@ module _ (reader : ReaderState) where
     pub file : InputFile
     pub named : file.name ≡ name
     pub told : IsAsTold (still_told old.log new.log) may_be_missing file
+    pub there : IsThere (still_told old.log new.log) file
     pub events : List Event
     pub reads_to : ReadsFileTo long file events
     pub warned : List ℕ
@@ -231,6 +232,7 @@ pub record ReadsSoFar (options : Options) (tree : TreeFacts) (count : ℕ) (old 
   pub counted : length files ≡ count
   pub named : map (λ file. file.name) files ≡ take count (input_files options)
   pub told : AreAsTold (still_told old.log new.log) (not options.must_exist) files
+  pub there : All (IsThere (still_told old.log new.log)) files
   pub short : All HasShortLines (bytes_of files)
   pub warned : List ℕ
   pub goes : (more : List Line) → reading tree options.prefix old.input (lines_of (streams (names_of options) (bytes_of files)) ++ more)

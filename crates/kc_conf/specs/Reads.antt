@@ -13,7 +13,7 @@ use Rattle.kc_dot.specs.Sink.{BeginsWith, GoesBeyond}
 use Rattle.kc_conf.specs.Asked.{names_of}
 use Rattle.kc_conf.specs.ErrorLines.{out_of_memory_line}
 use Rattle.kc_conf.specs.Stops.{event_of}
-use Rattle.kc_conf.specs.Given.{AreInputs, InputFile, ReadsTo, ReadsUpTo, bytes_of, reads, still_told}
+use Rattle.kc_conf.specs.Given.{AreInputs, AreThere, InputFile, ReadsTo, ReadsUpTo, bytes_of, reads, still_told}
 use Rattle.kc_conf.specs.Outcome.{AreLines, streams}
 use Rattle.kc_conf.specs.declared.options.Options.{Options}
 use Rattle.kc_conf.specs.declared.reading.LongLine.{LongLine}
@@ -35,25 +35,26 @@ pub record ReadsInputs (options : Options) (tree : TreeFacts) (stopped : Option 
   pub are_inputs : AreInputs (still_told old new) options inputs
   pub events : List Event
   pub reads_to : ReadsTo inputs stopped events
+  pub there : AreThere (still_told old new) inputs
   pub warned : List ℕ
   pub reading_is : reading tree options.prefix before (lines_of (streams (names_of options) (bytes_of inputs))) ≡ ended_with after warned stopped
   pub log : Leads events (if waiting.holds then [] else warned) old new
   pub waits : waiting.text.items ≡ (if waiting.holds then warned else [])
 
--- why reading them was broken off, what was done and what was said
-pub data StopsInputs (options : Options) (tree : TreeFacts) (inputs : List InputFile) (warned : List ℕ) : Stop → List Event → List ℕ → Type 0 where
-  no_memory : (done left : List Event) (front : List ℕ) → done ++ left ≡ reads inputs → AreLines front → BeginsWith warned front → StopsInputs options tree inputs warned OutOfMemory done front
+-- why reading them was broken off, what was done and what was said (`told` is what the device told at first)
+pub data StopsInputs (told : Log) (options : Options) (tree : TreeFacts) (inputs : List InputFile) (warned : List ℕ) : Stop → List Event → List ℕ → Type 0 where
+  no_memory : (done left : List Event) (front : List ℕ) → done ++ left ≡ reads inputs → AreLines front → BeginsWith warned front → StopsInputs told options tree inputs warned OutOfMemory done front
   in_notes : (f : Failure) (done left : List Event) (front : List ℕ) → f.action ≡ Note → f.name.now ≡ [] → done ++ left ≡ reads inputs → AreLines front → GoesBeyond warned front →
-      StopsInputs options tree inputs warned (Failed f) done front
-  in_input : (f : Failure) (file : InputFile) (done : List Event) (front : List ℕ) → (f.action ≡ Open) ⊎ (f.action ≡ Read) → f.name.now ≡ file.name → ReadsUpTo options tree inputs file done front →
-      StopsInputs options tree inputs warned (Failed f) done front
+      StopsInputs told options tree inputs warned (Failed f) done front
+  in_input : (f : Failure) (file : InputFile) (done : List Event) (front : List ℕ) → (f.action ≡ Open) ⊎ (f.action ≡ Read) → f.name.now ≡ file.name → ReadsUpTo told options tree inputs file done front →
+      StopsInputs told options tree inputs warned (Failed f) done front
 
 pub record BreaksInputs (options : Options) (tree : TreeFacts) (stop : Stop) (before : UserInput) (old new : Log) : Type 0 where
   pub inputs : List InputFile
   pub are_inputs : AreInputs (still_told old new) options inputs
   pub done : List Event
   pub front : List ℕ
-  pub stops : StopsInputs options tree inputs (reading tree options.prefix before (lines_of (streams (names_of options) (bytes_of inputs)))).warned stop done front
+  pub stops : StopsInputs (still_told old new) options tree inputs (reading tree options.prefix before (lines_of (streams (names_of options) (bytes_of inputs)))).warned stop done front
   pub log : Leads (done ++ event_of stop) front old new
 
 -- the diagnostics are what failed
