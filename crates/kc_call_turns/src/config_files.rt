@@ -5,11 +5,10 @@ ghost use Rattle.kc_solve.specs.Graphs.{IsGraphOf};
 ghost use Rattle.kc_tree.specs.Layouts.{IsLayoutOf};
 
 use crate::end::{CallEnd, done, refused};
-use crate::sink::MemorySink;
 use crate::trees::TreeCall;
-use kc_dot::config::write_config;
-use kc_dot::fault::{DotFault, WriteFault};
-use kc_dot::header::{write_header, write_minimal};
+use kc_dot::config::config_text;
+use kc_dot::fault::DotFault;
+use kc_dot::header::{header_text, minimal_text};
 use kc_dot::prefix::Prefix;
 use kc_dot::reader::DotReader;
 use kc_dot::user_input::UserInput;
@@ -181,17 +180,6 @@ fn has_values(solved: &Solved<'_>) -> bool {
     solved.tri(A) == Tri::N && solved.text(B) == TEXT && solved.text(N) == b"7".as_slice()
 }
 
-// How a writer ended: with its whole text, or with a beginning of it. The sink did not fail.
-fn end_of(answer: Result<(), WriteFault>, sink: &MemorySink, text: &[u8]) -> CallEnd {
-    match answer {
-        Ok(()) => done(!sink.has_failed() && sink.text() == text),
-        Err(fault) => {
-            let is_front = text.starts_with(sink.text());
-            refused(fault == WriteFault::Memory && !sink.has_failed() && is_front)
-        }
-    }
-}
-
 const CONFIG: &[u8] = b"#\n\
     # Automatically generated file; DO NOT EDIT.\n\
     # Main menu\n\
@@ -227,26 +215,25 @@ pub(crate) enum Output {
     Minimal,
 }
 
-// Writes one of the files, with values that are solved.
-fn write(
+// How a text is made, with values that are solved.
+fn end_of_text(
     alloc: Global,
     tree: &Tree,
     solved: &Solved<'_>,
     prefix: &Prefix,
     output: Output,
-) -> Result<CallEnd, AllocError>
+) -> CallEnd
     requires { solved.now.tree ≡ tree.now }
 {
-    let mut sink = MemorySink::new(alloc)?;
-    let (answer, text) = match output {
-        Output::Config => (write_config(alloc, tree, solved, prefix, &mut sink), CONFIG),
-        Output::Header => (write_header(alloc, tree, solved, prefix, &mut sink), HEADER),
-        Output::Minimal => (
-            write_minimal(alloc, tree, solved, prefix, &mut sink),
-            MINIMAL,
-        ),
+    let (made, text) = match output {
+        Output::Config => (config_text(alloc, tree, solved, prefix), CONFIG),
+        Output::Header => (header_text(alloc, tree, solved, prefix), HEADER),
+        Output::Minimal => (minimal_text(alloc, tree, solved, prefix), MINIMAL),
     };
-    Ok(end_of(answer, &sink, text))
+    match made {
+        Ok(made) => done(made.as_slice() == text),
+        Err(AllocError) => CallEnd::Refused,
+    }
 }
 
 /// A call that works on values.
@@ -254,8 +241,8 @@ fn write(
 pub(crate) enum Work {
     /// `solve` itself.
     Solve,
-    /// The writer of one of the files.
-    Write(Output),
+    /// The text of one of the files.
+    Text(Output),
 }
 
 // How the work ends under this order.
@@ -274,9 +261,9 @@ fn end_in_order(
 {
     match (solve(alloc, tree, layout, order, user), work) {
         (Ok(solved), Work::Solve) => Ok(done(has_values(&solved))),
-        (Ok(solved), Work::Write(output)) => write(alloc, tree, &solved, prefix, output),
+        (Ok(solved), Work::Text(output)) => Ok(end_of_text(alloc, tree, &solved, prefix, output)),
         (Err(_), Work::Solve) => Ok(CallEnd::Refused),
-        (Err(_), Work::Write(_)) => Err(AllocError),
+        (Err(_), Work::Text(_)) => Err(AllocError),
     }
 }
 

@@ -7,7 +7,6 @@ mod config_files;
 mod end;
 mod expressions;
 mod lines;
-mod sink;
 mod trees;
 
 use crate::config_files::{Feed, Output, Work};
@@ -32,7 +31,7 @@ enum Call {
     OrderOfLoop,
     Solve,
     Feed,
-    Write(Output),
+    Text(Output),
 }
 
 const CALLS: &[(&str, Call)] = &[
@@ -48,9 +47,9 @@ const CALLS: &[(&str, Call)] = &[
     ("EvaluationOrder::of a loop", Call::OrderOfLoop),
     ("solve", Call::Solve),
     ("feed", Call::Feed),
-    ("write_config", Call::Write(Output::Config)),
-    ("write_header", Call::Write(Output::Header)),
-    ("write_minimal", Call::Write(Output::Minimal)),
+    ("config_text", Call::Text(Output::Config)),
+    ("header_text", Call::Text(Output::Header)),
+    ("minimal_text", Call::Text(Output::Minimal)),
 ];
 
 // Makes the call.
@@ -68,7 +67,7 @@ fn end_of(alloc: Global, call: Call) -> Result<CallEnd, AllocError> {
         Call::OrderOfLoop => on_tree(alloc, LOOP, &Ordering::Loop),
         Call::Solve => on_tree(alloc, KCONFIG, &Work::Solve),
         Call::Feed => on_tree(alloc, KCONFIG, &Feed),
-        Call::Write(output) => on_tree(alloc, KCONFIG, &Work::Write(output)),
+        Call::Text(output) => on_tree(alloc, KCONFIG, &Work::Text(output)),
     }
 }
 
