@@ -1,8 +1,8 @@
 //! A run over texts that may be made by code, and what it leaves.
-use crate::runs::{BARE, Setup, Want, leaves};
-use crate::texts::{EMPTY, Text, text_into};
-use kc_conf::{FileMap, Status};
-use kc_memory::{MemoryFile, MemoryInput, MemoryOutputs};
+use crate::texts::{EMPTY, Text, text_of};
+use crate::trial::{is_left, is_made, options_of, run_over};
+use kc_conf::{FileMap, Options, Status};
+use kc_memory_device::{MemoryDevice, Plan, SMOOTH};
 use std::alloc::{AllocError, Global};
 use std::test::Fail;
 
@@ -11,71 +11,71 @@ use std::test::Fail;
 pub(crate) struct Case {
     /// What the case shows.
     pub name: &'static str,
+    /// The arguments, between blanks.
+    pub arguments: &'static str,
     /// The root file.
     pub kconfig: Text,
     /// The other files, by their names.
     pub others: &'static [(&'static str, Text)],
     /// The `.config`.
     pub settings: Text,
-    /// The least length, less one, of the first chunk of the `.config`; each from here up to `to` is tried.
+    /// The least length of its first piece; each from here up to `to` is tried.
     pub from: usize,
     /// One more than the greatest one.
     pub to: usize,
-    /// The most bytes of each later chunk; 0 counts as 1.
-    pub later: usize,
-    /// The read that fails, counted from 1; 0 for none.
-    pub failed_read: u64,
-    /// What is asked of the run.
-    pub setup: Setup,
+    /// How the device behaves besides.
+    pub plan: Plan,
     /// How it ends.
     pub status: Status,
-    /// How many reads it makes, where that is looked at.
-    pub reads: Option<u64>,
+    /// How many calls there are of those that the plan counts, where that is looked at.
+    pub calls: Option<u64>,
     /// The `.config` that is written, where one is created.
     pub config: Option<Text>,
     /// The minimal file, where one is created.
     pub minimal: Option<Text>,
     /// The diagnostics.
     pub diagnostics: Text,
-    /// How many calls the diagnostics get, where that is looked at.
-    pub diagnostic_calls: Option<u64>,
+    /// In how many calls they are written, where that is looked at.
+    pub notes: Option<u64>,
     /// Whether the `.config` that is written is written again by a run on it.
     pub is_stable: bool,
 }
 
-/// A run with its `.config` in one chunk, without header, minimal file and dependency file; it is done, and writes nothing.
+/// A run with its `.config` in one piece, without header, minimal file and dependency file; it is done, and writes nothing.
 pub(crate) const PLAIN_CASE: Case = Case {
     name: "",
+    arguments: "Kconfig",
     kconfig: EMPTY,
     others: &[],
     settings: EMPTY,
-    from: 999_999,
-    to: 1_000_000,
-    later: 1_000_000,
-    failed_read: 0,
-    setup: BARE,
+    from: 1_000_000,
+    to: 1_000_001,
+    plan: SMOOTH,
     status: Status::Done,
-    reads: None,
+    calls: None,
     config: None,
     minimal: None,
     diagnostics: EMPTY,
-    diagnostic_calls: None,
+    notes: None,
     is_stable: false,
 };
 
-/// The files and the texts of a case.
+// The texts of a case.
 #[derive(Drop)]
-pub(crate) struct Made {
-    /// The files of the tree.
-    pub files: FileMap,
-    /// The `.config` that is read.
-    pub settings: String,
-    /// The `.config` that is written.
-    pub config: String,
-    /// The minimal file.
-    pub minimal: String,
-    /// The diagnostics.
-    pub diagnostics: String,
+struct Texts {
+    settings: String,
+    config: String,
+    minimal: String,
+    diagnostics: String,
+}
+
+fn texts_of(alloc: Global, case: &Case) -> Result<Texts, AllocError> {
+    Ok(Texts {
+        settings: text_of(alloc, &case.settings)?,
+        config: text_of(alloc, &case.config.unwrap_or(EMPTY))?,
+        minimal: text_of(alloc, &case.minimal.unwrap_or(EMPTY))?,
+        diagnostics: text_of(alloc, &case.diagnostics)?,
+    })
 }
 
 fn file_into(
@@ -84,105 +84,78 @@ fn file_into(
     text: &Text,
     files: &mut FileMap,
 ) -> Result<(), AllocError> {
-    let mut bytes = String::new(alloc);
-    text_into(text, &mut bytes)?;
-    files.insert(Vec::from_slice(alloc, name.as_bytes())?, bytes.into_bytes())
+    let bytes = text_of(alloc, text)?.into_bytes();
+    files.insert(Vec::from_slice(alloc, name.as_bytes())?, bytes)
 }
 
-// Adds the text, where there is one.
-fn some_into(text: &Option<Text>, all: &mut String) -> Result<(), AllocError> {
-    match text {
-        Some(text) => text_into(text, all),
-        None => Ok(()),
-    }
-}
-
-fn fill(alloc: Global, case: &Case, made: &mut Made) -> Result<(), AllocError> {
-    file_into(
-        alloc,
-        case.setup.request.root,
-        &case.kconfig,
-        &mut made.files,
-    )?;
+fn files_of(alloc: Global, case: &Case) -> Result<FileMap, AllocError> {
+    let mut files = FileMap::new(alloc);
+    file_into(alloc, "Kconfig", &case.kconfig, &mut files)?;
     for (name, text) in case.others {
-        file_into(alloc, name, text, &mut made.files)?;
+        file_into(alloc, name, text, &mut files)?;
     }
-    text_into(&case.settings, &mut made.settings)?;
-    some_into(&case.config, &mut made.config)?;
-    some_into(&case.minimal, &mut made.minimal)?;
-    text_into(&case.diagnostics, &mut made.diagnostics)
+    Ok(files)
 }
 
-// Whether the output was created, or not, and has this text.
-fn has_text(file: &MemoryFile, is_begun: bool, text: &str) -> bool {
-    file.is_begun() == is_begun && file.bytes.as_slice() == text.as_bytes()
+// Whether the file was made and holds this text, or was not made.
+fn has_text(device: &MemoryDevice<'_>, name: &str, wanted: &Option<Text>, text: &str) -> bool {
+    match wanted {
+        Some(_) => is_left(device, name, text.as_bytes()),
+        None => !is_made(device, name),
+    }
 }
 
-/// Whether the outputs hold what the case says, and no header was created.
-pub(crate) fn has_left(
-    outputs: &MemoryOutputs,
-    ended: (Status, u64),
+// Whether the device was left as the case says, and no header was made.
+fn has_left(device: &MemoryDevice<'_>, case: &Case, texts: &Texts) -> bool {
+    device.records().is_some()
+        && has_text(device, ".config", &case.config, &texts.config)
+        && has_text(device, "min.config", &case.minimal, &texts.minimal)
+        && !is_made(device, "out.h")
+        && device.diagnostics() == texts.diagnostics.as_bytes()
+        && (case.calls.is_none() || case.calls == Some(device.calls()))
+        && (case.notes.is_none() || case.notes == Some(device.notes()))
+}
+
+// Whether the run leaves what the case says, where the first piece of the `.config` has so many bytes.
+fn leaves(
+    alloc: Global,
     case: &Case,
-    made: &Made,
-) -> bool {
-    let (status, reads) = ended;
-    status == case.status
-        && (case.reads.is_none() || case.reads == Some(reads))
-        && has_text(&outputs.config, case.config.is_some(), &made.config)
-        && has_text(&outputs.minimal, case.minimal.is_some(), &made.minimal)
-        && !outputs.header.is_begun()
-        && outputs.notes.bytes.as_slice() == made.diagnostics.as_bytes()
-        && (case.diagnostic_calls.is_none() || case.diagnostic_calls == Some(outputs.notes.calls))
+    texts: &Texts,
+    options: &Options,
+    first_read: usize,
+) -> Result<bool, Fail> {
+    let files = [(".config", texts.settings.as_bytes())];
+    let plan = Plan {
+        first_read,
+        ..case.plan
+    };
+    let mut device = MemoryDevice::new(alloc, &files, plan);
+    let status = run_over(alloc, files_of(alloc, case)?, options, &mut device);
+    Ok(status == case.status && has_left(&device, case, texts))
 }
 
 // Whether a run on the `.config` that is written writes it again.
-fn is_written_again(alloc: Global, case: &Case, made: &Made) -> Result<bool, Fail> {
-    let config = made.config.as_bytes();
-    let input = MemoryInput::new(config, 1_000_000, 1_000_000);
-    leaves(
-        alloc,
-        &made.files,
-        input,
-        &case.setup,
-        &Want::Config(config),
-    )
-}
-
-// Whether each run of the case leaves what the case says.
-fn each_leaves(alloc: Global, case: &Case, made: &Made) -> Result<bool, Fail> {
-    for before in case.from..case.to {
-        let first = before.saturating_add(1);
-        let mut input = MemoryInput::new(made.settings.as_bytes(), first, case.later.max(1));
-        input.fail_at = case.failed_read;
-        if !leaves(
-            alloc,
-            &made.files,
-            input,
-            &case.setup,
-            &Want::Case(case, made),
-        )? {
-            return Ok(false);
-        }
-    }
-    if case.is_stable {
-        is_written_again(alloc, case, made)
-    } else {
-        Ok(true)
-    }
+fn is_written_again(
+    alloc: Global,
+    case: &Case,
+    texts: &Texts,
+    options: &Options,
+) -> Result<bool, Fail> {
+    let config = texts.config.as_bytes();
+    let files = [(".config", config)];
+    let mut device = MemoryDevice::new(alloc, &files, SMOOTH);
+    let status = run_over(alloc, files_of(alloc, case)?, options, &mut device);
+    Ok(status == Status::Done && is_left(&device, ".config", config))
 }
 
 /// Whether the case holds.
 pub(crate) fn holds(alloc: Global, case: &Case) -> Result<bool, Fail> {
-    let mut made = Made {
-        files: FileMap::new(alloc),
-        settings: String::new(alloc),
-        config: String::new(alloc),
-        minimal: String::new(alloc),
-        diagnostics: String::new(alloc),
-    };
-    if case.from < case.to && fill(alloc, case, &mut made).is_ok() {
-        each_leaves(alloc, case, &made)
-    } else {
-        Ok(false)
+    let texts = texts_of(alloc, case)?;
+    let options = options_of(alloc, case.arguments)?;
+    for first_read in case.from..case.to {
+        if !leaves(alloc, case, &texts, &options, first_read)? {
+            return Ok(false);
+        }
     }
+    Ok(case.from < case.to && (!case.is_stable || is_written_again(alloc, case, &texts, &options)?))
 }

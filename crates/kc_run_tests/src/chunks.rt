@@ -1,59 +1,53 @@
-//! Input files in chunks, and writes that take little: neither changes what a run leaves.
-use crate::runs::{Setup, WHOLE, Want, tree_leaves};
+//! Input files in pieces, and writes that take little: neither changes what a run leaves.
 use crate::trees::{TURNS, Turn};
-use kc_memory::MemoryInput;
+use crate::trial::{ALL, options_of};
+use crate::turns::{are_texts, run_turn};
+use kc_conf::Status;
+use kc_memory_device::{MemoryDevice, Plan, SMOOTH};
 use std::alloc::Global;
 use std::test::Fail;
 
-/// More bytes than a `.config` of a turn has.
-pub(crate) const ALL_BYTES: usize = 4096;
-
-// Whether the run leaves the texts of the turn where its first read gives at most so many bytes, each later read so many, and
-// each write takes so many, or all for 0.
-fn leaves_texts(
-    alloc: Global,
-    turn: &Turn,
-    first: usize,
-    later: usize,
-    taken: usize,
-) -> Result<bool, Fail> {
-    let input = MemoryInput::new(turn.settings, first.max(1), later.max(1));
-    let setup = Setup { taken, ..*WHOLE };
-    let kconfig = turn.kconfig.as_bytes();
-    tree_leaves(alloc, kconfig, input, &setup, &Want::Texts(turn))
-}
-
-// Whether it does so wherever its `.config` is cut in two.
-fn leaves_texts_at_each_cut(alloc: Global, turn: &Turn) -> Result<bool, Fail> {
-    for before in 0..turn.settings.len() {
-        if !leaves_texts(alloc, turn, before.saturating_add(1), ALL_BYTES, 0)? {
-            return Ok(false);
-        }
-    }
-    Ok(true)
+// Whether the run over the turn by this plan leaves its texts.
+fn leaves_texts(alloc: Global, turn: &Turn, plan: Plan) -> Result<bool, Fail> {
+    let files = [(".config", turn.settings)];
+    let mut device = MemoryDevice::new(alloc, &files, plan);
+    let status = run_turn(alloc, turn, &options_of(alloc, ALL)?, &mut device)?;
+    Ok(status == Status::Done && are_texts(&device, turn))
 }
 
 #[test]
 fn an_input_file_may_be_cut_at_each_place(rt: HostRuntime) -> Result<(), Fail> {
     for turn in TURNS {
-        assert!(rt;
-            leaves_texts_at_each_cut(rt.alloc(), turn)?,
-            "{}",
-            turn.name
-        );
+        for before in 0..turn.settings.len() {
+            let plan = Plan {
+                first_read: before.saturating_add(1),
+                ..SMOOTH
+            };
+            assert!(rt;
+                leaves_texts(rt.alloc(), turn, plan)?,
+                "{}: {before}",
+                turn.name
+            );
+        }
     }
     Ok(())
 }
 
-// How many bytes a read gives and a write takes.
-const COUNTS: &[usize] = &[1, 7, ALL_BYTES];
-
 #[test]
 fn reads_and_writes_may_take_few_bytes(rt: HostRuntime) -> Result<(), Fail> {
     for turn in TURNS {
-        for count in COUNTS {
-            let leaves = leaves_texts(rt.alloc(), turn, *count, *count, *count)?;
-            assert!(rt; leaves, "{}: {count}", turn.name);
+        for count in [1, 7, 4096] {
+            let plan = Plan {
+                first_read: count,
+                later_reads: count,
+                piece: count,
+                ..SMOOTH
+            };
+            assert!(rt;
+                leaves_texts(rt.alloc(), turn, plan)?,
+                "{}: {count}",
+                turn.name
+            );
         }
     }
     Ok(())

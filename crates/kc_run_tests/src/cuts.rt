@@ -1,68 +1,58 @@
 //! A tree that is cut after each byte.
-use crate::runs::{WHOLE, Want, tree_leaves};
 use crate::trees::MENUS;
-use kc_conf::Status;
-use kc_memory::{MemoryInput, MemoryOutputs};
+use crate::trial::{ALL, is_made, one_file, options_of, run_over};
+use kc_conf::{Options, Status};
+use kc_memory_device::{MemoryDevice, SMOOTH};
 use std::alloc::Global;
 use std::test::Fail;
 
 fn line_ends(text: &[u8]) -> usize {
-    let mut ends = 0_usize;
-    for byte in text {
-        if *byte == b'\n' {
-            ends = ends.saturating_add(1);
-        }
-    }
-    ends
+    text.iter().filter(|byte| **byte == b'\n').count()
 }
 
-/// Whether the run is done and created all outputs but the dependency file, which is not looked at.
-pub(crate) fn is_accepted(outputs: &MemoryOutputs, ended: (Status, u64)) -> bool {
-    ended.0 == Status::Done
-        && outputs.config.is_begun()
-        && outputs.header.is_begun()
-        && outputs.minimal.is_begun()
+// Whether all outputs are made; the dependency file is not looked at.
+fn has_all(device: &MemoryDevice<'_>) -> bool {
+    ["out.h", "min.config", ".config"]
+        .iter()
+        .all(|name| is_made(device, name))
 }
 
-/// Whether the run is refused with nothing read, one line says why, and no output was created.
-pub(crate) fn is_refused_in_one_line(outputs: &MemoryOutputs, ended: (Status, u64)) -> bool {
-    let notes = outputs.notes.bytes.as_slice();
-    ended.0 == Status::Refused
-        && ended.1 == 0
-        && notes.starts_with(b"Kconfig:")
-        && notes.ends_with(b"\n")
-        && line_ends(notes) == 1
-        && !outputs.config.is_begun()
-        && !outputs.header.is_begun()
-        && !outputs.minimal.is_begun()
+// Whether one line says why the tree is refused, and nothing was read or made.
+fn is_refused_in_one_line(device: &MemoryDevice<'_>) -> bool {
+    let said = device.diagnostics();
+    said.starts_with(b"Kconfig:")
+        && said.ends_with(b"\n")
+        && line_ends(said) == 1
+        && matches!(device.records(), Some([]))
 }
 
-// Whether the run over this tree leaves what is wanted.
-fn cut_leaves(alloc: Global, tree: &[u8], want: &Want<'_>) -> Result<bool, Fail> {
-    tree_leaves(alloc, tree, MemoryInput::new(b"", 6, 6), WHOLE, want)
-}
-
-// How many cuts of the tree are accepted, where each other one is refused in one line, and the whole tree is accepted.
-fn accepted_cuts(alloc: Global, tree: &[u8]) -> Result<Option<usize>, Fail> {
-    let mut accepted = 0_usize;
-    for end in 0..tree.len() {
-        if cut_leaves(alloc, &tree[..end], &Want::Accepted)? {
-            accepted = accepted.saturating_add(1);
-        } else if !cut_leaves(alloc, &tree[..end], &Want::Refused)? {
-            return Ok(None);
-        }
-    }
-    if cut_leaves(alloc, tree, &Want::Accepted)? {
-        Ok(Some(accepted))
-    } else {
-        Ok(None)
-    }
+// Whether the run over this tree is done, where it is; none where it is neither that nor refused in one line.
+fn is_accepted(alloc: Global, tree: &[u8], options: &Options) -> Result<Option<bool>, Fail> {
+    let files = [(".config", b"".as_slice())];
+    let mut device = MemoryDevice::new(alloc, &files, SMOOTH);
+    Ok(
+        match run_over(alloc, one_file(alloc, tree)?, options, &mut device) {
+            Status::Done if has_all(&device) => Some(true),
+            Status::Refused if is_refused_in_one_line(&device) => Some(false),
+            _ => None,
+        },
+    )
 }
 
 #[test]
 fn a_tree_cut_anywhere_is_done_or_refused_in_one_line(rt: HostRuntime) -> Result<(), Fail> {
-    let done = accepted_cuts(rt.alloc(), MENUS.as_bytes())?.unwrap_or(0);
-    let refused = MENUS.len().saturating_sub(done);
+    let options = options_of(rt.alloc(), ALL)?;
+    let tree = MENUS.as_bytes();
+    let mut done = 0_usize;
+    for end in 0..tree.len() {
+        match is_accepted(rt.alloc(), &tree[..end], &options)? {
+            Some(true) => done = done.saturating_add(1),
+            Some(false) => {}
+            None => assert!(rt; false, "{end}"),
+        }
+    }
+    let refused = tree.len().saturating_sub(done);
     assert!(rt; done > 10 && refused > 50, "{done} {refused}");
+    assert!(rt; is_accepted(rt.alloc(), tree, &options)? == Some(true));
     Ok(())
 }

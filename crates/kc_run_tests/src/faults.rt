@@ -1,37 +1,36 @@
 //! Single faults, and the texts that are left.
 use crate::case::{Case, PLAIN_CASE, holds};
 use crate::limits::TWO_CONFIG;
-use crate::runs::{ALL, BARE, Setup};
 use crate::texts::{EMPTY, Text};
 use crate::trees::TWO;
-use kc_conf::{Output, Status};
-use kc_memory::{PLAIN, RunRequest};
+use kc_conf::Status;
+use kc_io::{Action, Site};
+use kc_memory_device::{Plan, SMOOTH};
 use std::test::Fail;
 
-// A tree of two symbols, whose `.config` comes in small chunks, and a fault.
+// A tree of two symbols, whose `.config` comes in small pieces, and a fault.
 const STRUCK: Case = Case {
     kconfig: Text {
         before: TWO,
         ..EMPTY
     },
-    from: 5,
-    to: 6,
-    later: 6,
+    from: 6,
+    to: 7,
+    plan: SMALL,
     status: Status::Faulted,
     ..PLAIN_CASE
 };
 
-// With a `.config` that has room for ten bytes.
+const SMALL: Plan = Plan {
+    later_reads: 6,
+    ..SMOOTH
+};
+
+// Room for ten bytes of a `.config`.
 const NO_ROOM: Case = Case {
     name: "an output without room holds a prefix of its text",
-    setup: Setup {
-        request: RunRequest {
-            header: Some("out.h"),
-            ..PLAIN
-        },
-        config_room: 10,
-        ..BARE
-    },
+    arguments: "--header out.h Kconfig",
+    plan: Plan { room: 10, ..SMALL },
     config: Some(Text {
         before: "#\n# Automa",
         ..EMPTY
@@ -47,11 +46,8 @@ const CASES: &[Case] = &[
     NO_ROOM,
     Case {
         name: "an output without room holds a prefix of its text, in an empty tree without a header",
+        arguments: "Kconfig",
         kconfig: EMPTY,
-        setup: Setup {
-            config_room: 10,
-            ..BARE
-        },
         ..NO_ROOM
     },
     Case {
@@ -60,11 +56,14 @@ const CASES: &[Case] = &[
             before: "CONFIG_Q=y\n",
             ..EMPTY
         },
-        from: 99,
-        to: 100,
-        later: 100,
-        failed_read: 2,
-        reads: Some(2),
+        from: 100,
+        to: 101,
+        plan: Plan {
+            counted: Some(Action::Read),
+            fail_at: 2,
+            ..SMOOTH
+        },
+        calls: Some(2),
         diagnostics: Text {
             before: ".config:1: warning K7: unknown symbol Q\nerror E18: cannot read .config\n",
             ..EMPTY
@@ -73,14 +72,11 @@ const CASES: &[Case] = &[
     },
     Case {
         name: "a header that cannot be created leaves the .config whole",
-        setup: Setup {
-            request: RunRequest {
-                header: Some("inc.h"),
-                ..PLAIN
-            },
-            output: Output::Header,
-            fail_at: 1,
-            ..BARE
+        arguments: "--header inc.h Kconfig",
+        plan: Plan {
+            counted: Some(Action::Create(Site::Place)),
+            fail_at: 2,
+            ..SMALL
         },
         config: Some(TWO_CONFIG),
         diagnostics: Text {
@@ -91,13 +87,13 @@ const CASES: &[Case] = &[
     },
     Case {
         name: "nothing is reported if the diagnostics fail too",
-        failed_read: 1,
-        setup: Setup {
-            output: Output::Notes,
+        arguments: "--config none --must-exist Kconfig",
+        plan: Plan {
+            counted: Some(Action::Note),
             fail_at: 1,
-            ..ALL
+            ..SMALL
         },
-        diagnostic_calls: Some(1),
+        notes: Some(1),
         ..STRUCK
     },
 ];

@@ -1,4 +1,4 @@
-//! Tests of runs over memory, of what cases of files cannot show: input files in chunks, writes that take little, each call of a
+//! Tests of runs over memory, of what cases of files cannot show: input files in pieces, writes that take little, each call of a
 //! device that fails, limits whose inputs are made by code, a tree cut after each byte, and that each line of the minimal file
 //! is needed. Beside them the arguments of the command line.
 #![tactic(auto)]
@@ -18,10 +18,10 @@ mod limits;
 #[cfg(test)]
 mod minimal;
 #[cfg(test)]
-mod runs;
-#[cfg(test)]
 mod texts;
 #[cfg(test)]
 mod trees;
+#[cfg(test)]
+mod trial;
 #[cfg(test)]
 mod turns;

@@ -1,10 +1,10 @@
 //! The limits, at the limit and one past it.
 use crate::case::{Case, PLAIN_CASE, holds};
-use crate::runs::{BARE, Setup};
 use crate::texts::{EMPTY, Part, Text};
 use crate::trees::TWO;
 use kc_conf::Status;
-use kc_memory::{PLAIN, RunRequest};
+use kc_io::Action;
+use kc_memory_device::{Plan, SMOOTH};
 use std::test::Fail;
 
 // A `.config` without a symbol: its heading.
@@ -49,7 +49,6 @@ const READ: Case = Case {
         count: 65_535,
         ..LINE
     },
-    setup: Setup { room: 400, ..BARE },
     config: Some(TWO_CONFIG),
     diagnostics: Text {
         before: ".config:1: warning K9: malformed line\n",
@@ -75,11 +74,17 @@ const TOO_LONG: Case = Case {
     ..READ
 };
 
+// Each read gives one byte, and reads are counted.
+const BYTE_BY_BYTE: Plan = Plan {
+    later_reads: 1,
+    counted: Some(Action::Read),
+    ..SMOOTH
+};
+
 const READ_AND_CUT: Case = Case {
     name: "a line that is not too long may be cut",
-    from: 0,
-    to: 65_535,
-    later: 65_536,
+    from: 1,
+    to: 65_536,
     is_stable: false,
     ..READ
 };
@@ -108,10 +113,6 @@ const RESTORED: Case = Case {
         ..EMPTY
     },
     settings: STRING,
-    setup: Setup {
-        room: 70_000,
-        ..BARE
-    },
     config: Some(STRING_CONFIG),
     ..PLAIN_CASE
 };
@@ -145,7 +146,6 @@ const MILLION: Case = Case {
             ..NEWLINES
         },
     )],
-    setup: Setup { room: 400, ..BARE },
     config: Some(HEADING),
     is_stable: true,
     ..PLAIN_CASE
@@ -162,10 +162,6 @@ const SYMBOLS: Case = Case {
     kconfig: Text {
         count: 65_535,
         ..UNTYPED
-    },
-    setup: Setup {
-        room: 4_000_000,
-        ..BARE
     },
     config: Some(HEADING),
     diagnostics: Text {
@@ -198,14 +194,7 @@ const CHAIN: Case = Case {
         after: "config X19999\n\tdef_bool y\n",
         ..EMPTY
     },
-    setup: Setup {
-        request: RunRequest {
-            minimal: Some("min.config"),
-            ..PLAIN
-        },
-        room: 500_000,
-        ..BARE
-    },
+    arguments: "--savedefconfig min.config Kconfig",
     config: Some(Text {
         count: 20_000,
         line: &[Part::Plain("CONFIG_X"), Part::Number, Part::Plain("=y\n")],
@@ -233,18 +222,18 @@ const LINES: &[Case] = &[
             count: 65_600,
             ..LINE
         },
-        from: 0,
-        to: 1,
-        later: 1,
-        reads: Some(65_536),
+        from: 1,
+        to: 2,
+        plan: BYTE_BY_BYTE,
+        calls: Some(65_536),
         ..TOO_LONG
     },
     Case {
         name: "a line that is not too long may come byte by byte",
-        from: 0,
-        to: 1,
-        later: 1,
-        reads: Some(65_536),
+        from: 1,
+        to: 2,
+        plan: BYTE_BY_BYTE,
+        calls: Some(65_536),
         is_stable: false,
         ..READ
     },
@@ -276,14 +265,7 @@ fn a_line_has_65535_bytes_at_most(rt: HostRuntime) -> Result<(), Fail> {
 const VALUES: &[Case] = &[
     Case {
         name: "a value has at most 65000 bytes",
-        setup: Setup {
-            request: RunRequest {
-                minimal: Some("min.config"),
-                ..PLAIN
-            },
-            room: 70_000,
-            ..BARE
-        },
+        arguments: "--savedefconfig min.config Kconfig",
         minimal: Some(STRING),
         is_stable: true,
         ..RESTORED
@@ -340,7 +322,6 @@ const TREES: &[Case] = &[
             count: 65_536,
             ..UNTYPED
         },
-        setup: Setup { room: 400, ..BARE },
         status: Status::Refused,
         config: None,
         diagnostics: Text {
@@ -364,9 +345,8 @@ fn a_tree_may_be_large(rt: HostRuntime) -> Result<(), Fail> {
 // This takes longer than the others, so it stands alone.
 const TOO_LONG_AND_CUT: &[Case] = &[Case {
     name: "a line that is too long may be cut",
-    from: 0,
-    to: 65_536,
-    later: 65_536,
+    from: 1,
+    to: 65_537,
     ..TOO_LONG
 }];
 

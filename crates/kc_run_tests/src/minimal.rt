@@ -1,28 +1,35 @@
 //! Runs on what a run wrote: the minimal file restores it and each of its lines is needed, and reports of lost values change
 //! no file.
-use crate::chunks::ALL_BYTES;
-use crate::runs::{BARE, Setup, WHOLE, Want, tree_leaves};
 use crate::trees::{TURNS, Turn};
-use kc_memory::{MemoryInput, PLAIN, RunRequest};
+use crate::trial::{ALL, is_left, options_of};
+use crate::turns::{are_files, run_turn};
+use kc_conf::Status;
+use kc_memory_device::{MemoryDevice, SMOOTH};
 use std::alloc::{AllocError, Global};
 use std::test::Fail;
 
-// Whether the run over the turn's tree on these lines leaves what is wanted.
+// Whether the run over the turn's tree on these lines leaves this `.config`, and all files of the turn where that is asked.
 fn leaves_on(
     alloc: Global,
     turn: &Turn,
     lines: &[u8],
-    setup: &Setup,
-    want: &Want<'_>,
+    arguments: &str,
+    all_files: bool,
 ) -> Result<bool, Fail> {
-    let input = MemoryInput::new(lines, ALL_BYTES, ALL_BYTES);
-    tree_leaves(alloc, turn.kconfig.as_bytes(), input, setup, want)
+    let files = [(".config", lines)];
+    let mut device = MemoryDevice::new(alloc, &files, SMOOTH);
+    let status = run_turn(alloc, turn, &options_of(alloc, arguments)?, &mut device)?;
+    Ok(
+        status == Status::Done
+            && is_left(&device, ".config", turn.config)
+            && (!all_files || are_files(&device, turn)),
+    )
 }
 
 #[test]
 fn the_minimal_file_restores_all_files(rt: HostRuntime) -> Result<(), Fail> {
     for turn in TURNS {
-        let restores = leaves_on(rt.alloc(), turn, turn.minimal, WHOLE, &Want::Files(turn))?;
+        let restores = leaves_on(rt.alloc(), turn, turn.minimal, ALL, true)?;
         assert!(rt; restores, "{}", turn.name);
     }
     Ok(())
@@ -46,30 +53,25 @@ fn without_line_into(text: &[u8], line: usize, left: &mut Vec<u8>) -> Result<(),
 fn needs_line(alloc: Global, turn: &Turn, line: usize) -> Result<bool, Fail> {
     let mut left = Vec::new(alloc);
     without_line_into(turn.minimal, line, &mut left)?;
-    leaves_on(alloc, turn, &left, WHOLE, &Want::OtherConfig(turn.config))
-}
-
-// How many lines the minimal file has, if each of them is needed.
-fn needed_lines(alloc: Global, turn: &Turn) -> Result<Option<usize>, Fail> {
-    let mut line = 0usize;
-    for byte in turn.minimal {
-        if *byte == b'\n' {
-            if !needs_line(alloc, turn, line)? {
-                return Ok(None);
-            }
-            line = line.saturating_add(1);
-        }
-    }
-    Ok(Some(line))
+    let files = [(".config", left.as_slice())];
+    let mut device = MemoryDevice::new(alloc, &files, SMOOTH);
+    let status = run_turn(alloc, turn, &options_of(alloc, ALL)?, &mut device)?;
+    Ok(status == Status::Done && !is_left(&device, ".config", turn.config))
 }
 
 #[test]
 fn each_line_of_the_minimal_file_is_needed(rt: HostRuntime) -> Result<(), Fail> {
     let mut lines = 0usize;
     for turn in TURNS {
-        let needed = needed_lines(rt.alloc(), turn)?;
-        assert!(rt; needed.is_some(), "{}", turn.name);
-        lines = lines.saturating_add(needed.unwrap_or(0));
+        let count = turn.minimal.iter().filter(|byte| **byte == b'\n').count();
+        for line in 0..count {
+            assert!(rt;
+                needs_line(rt.alloc(), turn, line)?,
+                "{}: {line}",
+                turn.name
+            );
+        }
+        lines = lines.saturating_add(count);
     }
     assert!(rt; lines == 4, "{lines}");
     Ok(())
@@ -78,39 +80,19 @@ fn each_line_of_the_minimal_file_is_needed(rt: HostRuntime) -> Result<(), Fail> 
 #[test]
 fn a_run_on_its_own_config_writes_it_again(rt: HostRuntime) -> Result<(), Fail> {
     for turn in TURNS {
-        let again = leaves_on(
-            rt.alloc(),
-            turn,
-            turn.config,
-            WHOLE,
-            &Want::Config(turn.config),
-        )?;
+        let again = leaves_on(rt.alloc(), turn, turn.config, ALL, false)?;
         assert!(rt; again, "{}", turn.name);
     }
     Ok(())
 }
 
-const REPORTING: &Setup = &Setup {
-    request: RunRequest {
-        header: Some("out.h"),
-        minimal: Some("min.config"),
-        depfile: Some("out.d"),
-        warn_lost: true,
-        ..PLAIN
-    },
-    ..BARE
-};
+const REPORTING: &str =
+    "--warn-lost --header out.h --savedefconfig min.config --depfile out.d Kconfig";
 
 #[test]
 fn reports_of_lost_values_change_no_file(rt: HostRuntime) -> Result<(), Fail> {
     for turn in TURNS {
-        let same = leaves_on(
-            rt.alloc(),
-            turn,
-            turn.settings,
-            REPORTING,
-            &Want::Files(turn),
-        )?;
+        let same = leaves_on(rt.alloc(), turn, turn.settings, REPORTING, true)?;
         assert!(rt; same, "{}", turn.name);
     }
     Ok(())

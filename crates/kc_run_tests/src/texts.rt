@@ -1,5 +1,5 @@
 //! Texts that may be long.
-use std::alloc::AllocError;
+use std::alloc::{AllocError, Global};
 use std::fmt::Write;
 
 /// A text: what comes first, lines that are numbered from 0, and what comes last.
@@ -45,11 +45,12 @@ fn line_into(line: &[Part], number: u32, all: &mut String) -> Result<(), AllocEr
     Ok(())
 }
 
-/// Adds the text.
-pub(crate) fn text_into(text: &Text, all: &mut String) -> Result<(), AllocError> {
-    all.push_str(text.before)?;
+/// The text.
+pub(crate) fn text_of(alloc: Global, text: &Text) -> Result<String, AllocError> {
+    let mut all = String::from_str(alloc, text.before)?;
     for number in 0..text.count {
-        line_into(text.line, number, all)?;
+        line_into(text.line, number, &mut all)?;
     }
-    all.push_str(text.after)
+    all.push_str(text.after)?;
+    Ok(all)
 }

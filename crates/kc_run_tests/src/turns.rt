@@ -1,213 +1,207 @@
-//! Each read, each creation and each write fails in turn.
-use crate::runs::{WHOLE, Want, tree_leaves};
+//! Each call of a device fails in turn: each that opens, reads, makes, writes, closes or moves a file, or writes diagnostics.
 use crate::trees::{TURNS, Turn};
-use kc_conf::{Output, Status};
-use kc_memory::{MemoryFile, MemoryInput, MemoryOutputs};
-use std::alloc::Global;
+use crate::trial::{ALL, is_left, one_file, options_of, run_over};
+use kc_conf::{Options, Status};
+use kc_io::{Action, Fault};
+use kc_memory_device::{MemoryDevice, Plan, Record, SMOOTH};
+use std::alloc::{AllocError, Global};
 use std::test::Fail;
 
-/// A call that fails in the run over a turn.
-#[derive(Clone, Copy)]
-pub(crate) struct Strike<'a> {
-    /// The turn.
-    pub turn: &'a Turn,
-    /// The output whose call it is; none for the input.
-    pub output: Option<Output>,
-    /// The call, counted from 1.
-    pub fail_at: u64,
+/// The run over the turn's tree with these options.
+pub(crate) fn run_turn(
+    alloc: Global,
+    turn: &Turn,
+    options: &Options,
+    device: &mut MemoryDevice<'_>,
+) -> Result<Status, AllocError> {
+    let tree = one_file(alloc, turn.kconfig.as_bytes())?;
+    Ok(run_over(alloc, tree, options, device))
 }
 
 // The dependency file of each turn: its tree is one file.
 const DEPFILE: &[u8] = b".config: \\\n ./Kconfig\n\n./Kconfig:\n";
 
-// The text of an output in a run without a fault.
-fn text_of(turn: &Turn, output: Output) -> &'static [u8] {
-    match output {
-        Output::Config => turn.config,
-        Output::Header => turn.header,
-        Output::Minimal => turn.minimal,
-        Output::Depfile => DEPFILE,
-        Output::Notes => turn.diagnostics,
-    }
-}
-
-// Whether the output has its text.
-fn has_text(outputs: &MemoryOutputs, turn: &Turn, output: Output) -> bool {
-    outputs.file(output).bytes.as_slice() == text_of(turn, output)
-}
-
-/// Whether the files hold the texts of the turn.
-pub(crate) fn are_files(outputs: &MemoryOutputs, turn: &Turn) -> bool {
-    has_text(outputs, turn, Output::Config)
-        && has_text(outputs, turn, Output::Header)
-        && has_text(outputs, turn, Output::Minimal)
-        && has_text(outputs, turn, Output::Depfile)
+/// Whether the files were made and hold the texts of the turn.
+pub(crate) fn are_files(device: &MemoryDevice<'_>, turn: &Turn) -> bool {
+    is_left(device, ".config", turn.config)
+        && is_left(device, "out.h", turn.header)
+        && is_left(device, "min.config", turn.minimal)
+        && is_left(device, "out.d", DEPFILE)
 }
 
 /// Whether the files and the diagnostics hold the texts of the turn.
-pub(crate) fn are_texts(outputs: &MemoryOutputs, turn: &Turn) -> bool {
-    are_files(outputs, turn) && has_text(outputs, turn, Output::Notes)
+pub(crate) fn are_texts(device: &MemoryDevice<'_>, turn: &Turn) -> bool {
+    are_files(device, turn) && device.diagnostics() == turn.diagnostics
 }
 
-/// Whether the outputs hold the texts of the turn, and the run made one call less than the one that was to fail.
-pub(crate) fn is_whole(outputs: &MemoryOutputs, ended: (Status, u64), strike: &Strike<'_>) -> bool {
-    let calls = match strike.output {
-        Some(output) => outputs.file(output).calls,
-        None => ended.1,
-    };
-    ended.0 == Status::Done
-        && are_texts(outputs, strike.turn)
-        && calls == strike.fail_at.saturating_sub(1)
+fn is_same(record: &Record, other: &Record) -> bool {
+    record.action == other.action
+        && record.name.as_str() == other.name.as_str()
+        && record.bytes.as_slice() == other.bytes.as_slice()
+        && record.fault == other.fault
 }
 
-// Whether the output was never called.
-fn is_untouched(file: &MemoryFile) -> bool {
-    !file.is_begun() && file.bytes.is_empty() && file.calls == 0
+// How the error line of a call that failed begins; the name of its file stands behind it where the flag says so.
+fn line_of(action: Action, fault: Fault) -> (&'static [u8], bool) {
+    match (action, fault) {
+        (Action::Note, _) => (b"", false),
+        (_, Fault::Memory) => (b"error E20: out of memory\n", false),
+        (Action::Open | Action::Read, _) => (b"error E18: cannot read ", true),
+        _ => (b"error E19: cannot write ", true),
+    }
 }
 
-// Whether the diagnostics end with the line of a read that failed, after a prefix of the diagnostics without a fault, and no other
-// output was called.
-fn is_without_read(outputs: &MemoryOutputs, notes: &[u8]) -> bool {
-    let begins = match outputs
-        .notes
-        .bytes
-        .strip_suffix(b"error E18: cannot read .config\n")
-    {
-        Some(before) => notes.starts_with(before),
+// What stands before the error line of this call; none where the diagnostics do not end with it.
+fn said_before<'d>(said: &'d [u8], failed: &Record, fault: Fault) -> Option<&'d [u8]> {
+    match line_of(failed.action, fault) {
+        (line, false) => said.strip_suffix(line),
+        (line, true) => said
+            .strip_suffix(b"\n")?
+            .strip_suffix(failed.name.as_bytes())?
+            .strip_suffix(line),
+    }
+}
+
+// Whether all was said before this call.
+fn comes_last(action: Action) -> bool {
+    matches!(
+        action,
+        Action::Create(_) | Action::Write(_) | Action::Close(_) | Action::Move
+    )
+}
+
+// Whether this call is the next one of the whole run; diagnostics are no record there.
+fn is_next(failed: &Record, whole: &[Record]) -> bool {
+    match whole.first() {
+        Some(next) => failed.action == next.action && failed.name.as_str() == next.name.as_str(),
         None => false,
-    };
-    begins
-        && is_untouched(&outputs.config)
-        && is_untouched(&outputs.header)
-        && is_untouched(&outputs.minimal)
-        && is_untouched(&outputs.depfile)
-}
-
-// How late an output is written: the diagnostics come first.
-fn rank(output: Output) -> u8 {
-    match output {
-        Output::Notes => 0,
-        Output::Config => 1,
-        Output::Header => 2,
-        Output::Minimal => 3,
-        Output::Depfile => 4,
     }
 }
 
-// The error line of an output that failed.
-fn line_of(output: Output) -> &'static [u8] {
-    match output {
-        Output::Notes => b"",
-        Output::Config => b"error E19: cannot write .config\n",
-        Output::Header => b"error E19: cannot write out.h\n",
-        Output::Minimal => b"error E19: cannot write min.config\n",
-        Output::Depfile => b"error E19: cannot write out.d\n",
+// Whether nothing comes behind the call that failed, or what stands beside places is removed.
+fn is_end(failed: &Record, behind: &[Record], replaces: bool) -> bool {
+    match behind {
+        [] => !(replaces && comes_last(failed.action)),
+        [last] => replaces && comes_last(failed.action) && last.action == Action::Clear,
+        _ => false,
     }
 }
 
-// Whether one file is as a failure of this output leaves it: whole before it, a prefix at it, untouched after it.
-fn is_left_after(outputs: &MemoryOutputs, turn: &Turn, file: Output, failed: Output) -> bool {
-    let left = outputs.file(file);
-    if rank(file) < rank(failed) {
-        has_text(outputs, turn, file) && left.is_begun()
-    } else if rank(file) == rank(failed) {
-        text_of(turn, file).starts_with(&left.bytes) && left.is_begun() == (left.calls > 1)
-    } else {
-        is_untouched(left)
-    }
-}
-
-// Whether the diagnostics are as a failure of this output leaves them: a prefix where they failed, else whole and with the
-// error line.
-fn are_notes_left(notes: &[u8], turn: &Turn, failed: Output) -> bool {
-    if failed == Output::Notes {
-        turn.diagnostics.starts_with(notes)
-    } else {
-        notes.strip_suffix(line_of(failed)) == Some(turn.diagnostics)
-    }
-}
-
-// Whether the outputs are as the failure of this call of this output leaves them.
-fn is_without_call(outputs: &MemoryOutputs, turn: &Turn, failed: Output, fail_at: u64) -> bool {
-    outputs.file(failed).calls == fail_at
-        && outputs.file(failed).failures == 1
-        && is_left_after(outputs, turn, Output::Config, failed)
-        && is_left_after(outputs, turn, Output::Header, failed)
-        && is_left_after(outputs, turn, Output::Minimal, failed)
-        && is_left_after(outputs, turn, Output::Depfile, failed)
-        && are_notes_left(&outputs.notes.bytes, turn, failed)
-}
-
-/// Whether the outputs are as the failure of the call leaves them, and a read that fails is the last one.
-pub(crate) fn is_struck(
-    outputs: &MemoryOutputs,
-    ended: (Status, u64),
-    strike: &Strike<'_>,
+// Whether the run was the whole one up to a call that failed for this cause, the error line is that of the call, and nothing was
+// done behind it.
+fn is_struck(
+    whole: &MemoryDevice<'_>,
+    struck: &MemoryDevice<'_>,
+    fault: Fault,
+    replaces: bool,
 ) -> bool {
-    ended.0 == Status::Faulted
-        && match strike.output {
-            Some(output) => is_without_call(outputs, strike.turn, output, strike.fail_at),
-            None => {
-                ended.1 == strike.fail_at && is_without_read(outputs, strike.turn.diagnostics)
-            }
-        }
+    let (Some(all), Some(made)) = (whole.records(), struck.records()) else {
+        return false;
+    };
+    let count = all
+        .iter()
+        .zip(made)
+        .take_while(|(record, other)| is_same(record, other))
+        .count();
+    let [failed, behind @ ..] = &made[count.min(made.len())..] else {
+        return false;
+    };
+    let Some(said) = said_before(struck.diagnostics(), failed, fault) else {
+        return false;
+    };
+    failed.fault == Some(fault)
+        && (failed.action == Action::Note || is_next(failed, &all[count.min(all.len())..]))
+        && whole.diagnostics().starts_with(said)
+        && (!comes_last(failed.action) || said == whole.diagnostics())
+        && is_end(failed, behind, replaces)
 }
 
-// Whether the run in which this call is to fail leaves what is wanted.
-fn strike_leaves(alloc: Global, strike: &Strike<'_>, want: &Want<'_>) -> Result<bool, Fail> {
-    let mut input = MemoryInput::new(strike.turn.settings, 6, 6);
-    let mut setup = *WHOLE;
-    match strike.output {
-        Some(output) => {
-            setup.taken = 7;
-            setup.output = output;
-            setup.fail_at = strike.fail_at;
-        }
-        None => input.fail_at = strike.fail_at,
+// A way to deliver the texts.
+struct Way {
+    arguments: &'static str,
+    replaces: bool,
+    status: Status,
+    // A number that there are more calls of in the runs over all turns.
+    least: u64,
+}
+
+const WAYS: &[Way] = &[
+    Way {
+        arguments: ALL,
+        replaces: false,
+        status: Status::Done,
+        least: 100,
+    },
+    Way {
+        arguments: "--replace --header out.h --savedefconfig min.config --depfile out.d Kconfig",
+        replaces: true,
+        status: Status::Done,
+        least: 100,
+    },
+    Way {
+        arguments: "--check --header out.h --savedefconfig min.config --depfile out.d Kconfig",
+        replaces: false,
+        status: Status::Refused,
+        least: 40,
+    },
+];
+
+// Small pieces, in which a call fails.
+fn plan_of(fail_at: u64, fault: Fault) -> Plan {
+    Plan {
+        first_read: 6,
+        later_reads: 6,
+        piece: 7,
+        fail_at,
+        fault,
+        ..SMOOTH
     }
-    let kconfig = strike.turn.kconfig.as_bytes();
-    tree_leaves(alloc, kconfig, input, &setup, want)
 }
 
-// How many calls of the output, or reads, the run over the turn makes, where each in turn leaves what it is to leave when it
-// fails, and the run without a fault leaves the turn's texts.
-fn calls_fail(alloc: Global, turn: &Turn, output: Option<Output>) -> Result<Option<u64>, Fail> {
-    for before in 0..1000_u64 {
-        let strike = Strike {
-            turn,
-            output,
-            fail_at: before.saturating_add(1),
-        };
-        if strike_leaves(alloc, &strike, &Want::Whole(&strike))? {
-            return Ok(Some(before));
-        }
-        if !strike_leaves(alloc, &strike, &Want::Struck(&strike))? {
+// How many calls the run makes, where each leaves what it is to leave when it fails for this cause.
+fn calls_fail(
+    alloc: Global,
+    turn: &Turn,
+    way: &Way,
+    options: &Options,
+    fault: Fault,
+) -> Result<Option<u64>, AllocError> {
+    let files = [(".config", turn.settings)];
+    let mut whole = MemoryDevice::new(alloc, &files, plan_of(0, fault));
+    if run_turn(alloc, turn, options, &mut whole)? != way.status {
+        return Ok(None);
+    }
+    for before in 0..whole.calls() {
+        let plan = plan_of(before.saturating_add(1), fault);
+        let mut struck = MemoryDevice::new(alloc, &files, plan);
+        let status = run_turn(alloc, turn, options, &mut struck)?;
+        if status != Status::Faulted || !is_struck(&whole, &struck, fault, way.replaces) {
             return Ok(None);
         }
     }
-    Ok(None)
+    Ok(Some(whole.calls()))
 }
 
-// Calls that fail, and a number that there are more of in all turns.
-const FAILING: &[(&str, Option<Output>, u64)] = &[
-    ("reads", None, 12),
-    ("the .config", Some(Output::Config), 16),
-    ("the header", Some(Output::Header), 8),
-    ("the minimal file", Some(Output::Minimal), 4),
-    ("the dependency file", Some(Output::Depfile), 4),
-    ("the diagnostics", Some(Output::Notes), 5),
-];
+// How many calls the runs over all turns make; none where one leaves something else than it is to leave.
+fn calls_of_all(alloc: Global, way: &Way, fault: Fault) -> Result<Option<u64>, Fail> {
+    let options = options_of(alloc, way.arguments)?;
+    let mut calls = 0_u64;
+    for turn in TURNS {
+        match calls_fail(alloc, turn, way, &options, fault)? {
+            Some(made) => calls = calls.saturating_add(made),
+            None => return Ok(None),
+        }
+    }
+    Ok(Some(calls))
+}
 
 #[test]
 fn each_call_fails_in_turn(rt: HostRuntime) -> Result<(), Fail> {
-    for (name, output, least) in FAILING {
-        let mut calls = 0_u64;
-        for turn in TURNS {
-            let made = calls_fail(rt.alloc(), turn, *output)?;
-            assert!(rt; made.is_some(), "{name}: {}", turn.name);
-            calls = calls.saturating_add(made.unwrap_or(0));
+    for way in WAYS {
+        for fault in [Fault::Refused, Fault::Memory] {
+            let calls = calls_of_all(rt.alloc(), way, fault)?;
+            assert!(rt; calls > Some(way.least), "{}: {calls:?}", way.arguments);
         }
-        assert!(rt; calls > *least, "{name}: {calls}");
     }
     Ok(())
 }
