@@ -1,6 +1,5 @@
-//! Tests of whole runs over devices in memory, of what cases of files cannot show: devices that fail, each call of the maker
-//! and of the mover in turn, the order in which files are made, and that each line of the diagnostics is one write. The maker
-//! and the mover are part of the library because definitions speak of them.
+//! Tests of whole runs of the program over a folder and a device in memory, of what cases of files cannot show: devices that
+//! fail, what takes its place and when, a bad command line that reads nothing, and many fragments.
 #![tactic(auto)]
 
 #[cfg(test)]
@@ -8,14 +7,8 @@ mod case;
 #[cfg(test)]
 mod faults;
 #[cfg(test)]
-mod files;
-#[cfg(test)]
-mod loads;
-mod maker;
-mod mover;
-#[cfg(test)]
 mod replaced;
 #[cfg(test)]
 mod runs;
 #[cfg(test)]
-mod turns;
+mod usage;

@@ -1,152 +1,161 @@
 //! The run of a case.
-ghost use Rattle.kc_disk.specs.Movers.{IsClear};
-ghost use Rattle.kc_disk_tests.specs.Memory.{places_by};
+ghost use Rattle.std.specs.Prelude.{None};
 
 use crate::case::Case;
-use crate::files::{MemoryFolder, MemoryOpener, files_into};
-use crate::maker::MemoryMaker;
-use crate::mover::MemoryMover;
-use kc_conf::{FileMap, Status};
+use kc_conf::Status;
 use kc_disk::kconf_over;
+use kc_io::{Action, Site};
+use kc_load::{Folder, FolderFault};
+use kc_memory_device::{MemoryDevice, Record};
 use std::alloc::{AllocError, Global};
 
-// Adds the arguments between the blanks.
-fn arguments_into(
+// The files of a tree by path, of which one may fail. It tells nothing.
+#[derive(Drop)]
+struct MemoryFolder<'a> {
+    files: &'a [(&'a str, &'a [u8])],
+    failing: &'a str,
+    // How many files were asked for.
+    asked: u64,
     alloc: Global,
-    line: &str,
-    arguments: &mut Vec<String>,
-) -> Result<(), AllocError> {
-    for word in line.split(' ') {
-        arguments.push(String::from_str(alloc, word)?)?;
-    }
-    Ok(())
 }
 
-// The run of the case over these files, and places for those of a case with `--replace`.
-fn run_over_files(
+impl<'a> Folder for MemoryFolder<'a> {
+    ghost state = { λ _. None };
+
+    fn read(&mut self, path: &str) -> Result<Option<Vec<u8>>, FolderFault> {
+        self.asked = self.asked.saturating_add(1);
+        if path == self.failing {
+            return Err(FolderFault::Device);
+        }
+        for (name, bytes) in self.files {
+            if path == *name {
+                return Ok(Some(Vec::from_slice(self.alloc, bytes)?));
+            }
+        }
+        Ok(None)
+    }
+}
+
+/// How a run ended.
+#[derive(Clone, Copy)]
+pub(crate) struct Ended {
+    /// The status.
+    pub status: Status,
+    /// How many files of the tree were asked for.
+    pub asked: u64,
+    /// Whether a tree was kept.
+    pub is_kept: bool,
+}
+
+/// The words between the blanks.
+pub(crate) fn words_of(alloc: Global, line: &str) -> Result<Vec<String>, AllocError> {
+    let mut words = Vec::new(alloc);
+    for word in line.split(' ') {
+        words.push(String::from_str(alloc, word)?)?;
+    }
+    Ok(words)
+}
+
+/// Runs with these arguments over the case's tree and this device.
+pub(crate) fn run_words(
     rt: &HostRuntime,
     case: &Case,
-    arguments: &[String],
-    tree: &FileMap,
-    inputs: &FileMap,
-    mover: &mut MemoryMover,
-    fail_at: u64,
-) -> (Status, MemoryMaker)
-    requires { IsClear (places_by mover.old) }
-{
-    let alloc = rt.alloc();
+    words: &[String],
+    device: &mut MemoryDevice<'_>,
+) -> Ended {
     let mut folder = MemoryFolder {
-        files: tree,
+        files: case.tree,
         failing: case.failing,
-        failures: 0,
-        alloc,
-    };
-    let opener = MemoryOpener {
-        files: inputs,
-        shut: case.shut,
-        broken: case.broken,
-        piece: 7,
+        asked: 0,
+        alloc: rt.alloc(),
     };
     let mut kept = None;
-    let maker = MemoryMaker::new(alloc, fail_at);
-    kconf_over(rt, arguments, &mut folder, &opener, maker, mover, &mut kept)
-}
-
-// The run of the case over this tree and these input files. The maker's call of this number fails, counted from 1; 0 for none.
-// Nothing where there is no memory for the files.
-fn run_inputs(
-    rt: &HostRuntime,
-    case: &Case,
-    tree: &[(&str, &[u8])],
-    inputs: &[(&str, &[u8])],
-    mover: &mut MemoryMover,
-    fail_at: u64,
-) -> Option<(Status, MemoryMaker)>
-    requires { IsClear (places_by mover.old) }
-{
-    let mut arguments = Vec::new(rt.alloc());
-    let mut files = FileMap::new(rt.alloc());
-    let mut input_files = FileMap::new(rt.alloc());
-    let is_filled = arguments_into(rt.alloc(), case.arguments, &mut arguments).is_ok()
-        && files_into(rt.alloc(), tree, &mut files).is_ok()
-        && files_into(rt.alloc(), inputs, &mut input_files).is_ok();
-    if is_filled {
-        Some(run_over_files(rt, case, &arguments, &files, &input_files, mover, fail_at))
-    } else {
-        None
+    let status = kconf_over(rt, words, &mut folder, device, &mut kept);
+    Ended {
+        status,
+        asked: folder.asked,
+        is_kept: kept.is_some(),
     }
 }
 
-/// Runs the case. The maker's call of this number fails, counted from 1; 0 for none.
+/// Runs the case over this device.
 pub(crate) fn run_case(
     rt: &HostRuntime,
     case: &Case,
-    fail_at: u64,
-) -> Option<(Status, MemoryMaker)> {
-    match MemoryMover::new(rt.alloc(), &[], 0) {
-        Ok(mut mover) => run_inputs(rt, case, case.tree, case.inputs, &mut mover, fail_at),
-        Err(_) => None,
+    device: &mut MemoryDevice<'_>,
+) -> Result<Ended, AllocError> {
+    let words = words_of(rt.alloc(), case.arguments)?;
+    Ok(run_words(rt, case, &words, device))
+}
+
+// Adds the line of a call that worked, where it has one.
+fn line_into(record: &Record, log: &mut String) -> Result<(), AllocError> {
+    let word = match record.action {
+        _ if record.fault.is_some() => return Ok(()),
+        Action::Create(Site::Place) => "make ",
+        Action::Close(Site::Place) => "close ",
+        Action::Move => "move ",
+        Action::Clear => "clear",
+        _ => return Ok(()),
+    };
+    log.push_str(word)?;
+    log.push_str(record.name.as_str())?;
+    log.push_str("\n")
+}
+
+// What was made, closed, moved and removed, a line each; none where the device tells nothing.
+fn log_of(alloc: Global, device: &MemoryDevice<'_>) -> Result<Option<String>, AllocError> {
+    let Some(records) = device.records() else {
+        return Ok(None);
+    };
+    let mut log = String::new(alloc);
+    for record in records {
+        line_into(record, &mut log)?;
+    }
+    Ok(Some(log))
+}
+
+// Whether the file of this name holds this.
+fn is_left(device: &MemoryDevice<'_>, name: &str, bytes: Option<&[u8]>) -> bool {
+    match (device.held(name), bytes) {
+        (Ok(Some(held)), Some(bytes)) => held.as_slice() == bytes,
+        (Ok(None), None) => true,
+        _ => false,
     }
 }
 
-/// Runs the case over this tree; its files take their places in the mover.
-pub(crate) fn run_into(
-    rt: &HostRuntime,
+/// Whether the device was left as the case says.
+pub(crate) fn holds(
+    alloc: Global,
     case: &Case,
-    tree: &[(&str, &[u8])],
-    mover: &mut MemoryMover,
-) -> Option<(Status, MemoryMaker)>
-    requires { IsClear (places_by mover.old) }
-{
-    run_inputs(rt, case, tree, case.inputs, mover, 0)
-}
-
-// How many lines a text has.
-fn lines(text: &[u8]) -> u64 {
-    let mut count: u64 = 0;
-    for byte in text {
-        if *byte == b'\n' {
-            count = count.saturating_add(1);
-        }
-    }
-    count
-}
-
-// The maker holds what the case says, and each line of the notes came in one write.
-fn holds(case: &Case, maker: &MemoryMaker) -> bool {
-    maker.log.as_str() == case.log
-        && maker.note_writes == lines(case.notes)
-        && maker.notes.bytes.as_slice() == case.notes
-        && maker.config.bytes.as_slice() == case.config
-        && maker.header.bytes.as_slice() == case.header
-        && maker.minimal.bytes.as_slice() == case.minimal
-        && maker.depfile.bytes.as_slice() == case.depfile
-}
-
-// Whether the case's run over these input files and this mover gives what the case says, and places nothing.
-fn gives_by(
-    rt: &HostRuntime,
-    case: &Case,
-    inputs: &[(&str, &[u8])],
-    mover: &mut MemoryMover,
-) -> bool
-    requires { IsClear (places_by mover.old) }
-{
-    match run_inputs(rt, case, case.tree, inputs, mover, 0) {
-        Some((status, maker)) => holds(case, &maker) && status == case.status,
+    device: &MemoryDevice<'_>,
+) -> Result<bool, AllocError> {
+    let is_logged = match log_of(alloc, device)? {
+        Some(log) => log.as_str() == case.log,
         None => false,
-    }
+    };
+    Ok(
+        is_logged
+            && device.diagnostics() == case.notes
+            && case
+                .left
+                .iter()
+                .all(|(name, bytes)| is_left(device, name, *bytes)),
+    )
 }
 
-/// Whether the case's run over these input files gives what the case says.
-pub(crate) fn gives_over(rt: &HostRuntime, case: &Case, inputs: &[(&str, &[u8])]) -> bool {
-    match MemoryMover::new(rt.alloc(), &[], 0) {
-        Ok(mut mover) => gives_by(rt, case, inputs, &mut mover) && mover.placed.is_empty(),
-        Err(_) => false,
-    }
+/// Whether the case's run over a device with these files gives what the case says.
+pub(crate) fn gives_over(
+    rt: &HostRuntime,
+    case: &Case,
+    files: &[(&str, &[u8])],
+) -> Result<bool, AllocError> {
+    let mut device = MemoryDevice::new(rt.alloc(), files, case.plan);
+    let ended = run_case(rt, case, &mut device)?;
+    Ok(ended.status == case.status && holds(rt.alloc(), case, &device)?)
 }
 
 /// Whether the case's run gives what the case says.
-pub(crate) fn gives(rt: &HostRuntime, case: &Case) -> bool {
-    gives_over(rt, case, case.inputs)
+pub(crate) fn gives(rt: &HostRuntime, case: &Case) -> Result<bool, AllocError> {
+    gives_over(rt, case, case.files)
 }
