@@ -4,7 +4,7 @@ use crate::arguments::{arguments_of, rerun_arguments};
 use crate::compare::is_same;
 use crate::folders::{Entry, entries_here, has_file};
 use crate::outcome::{Answer, bytes_of, is_as_written};
-use kc_disk::{SystemFolder, SystemMaker, SystemMover, SystemOpener, exit_status, kconf_over};
+use kc_disk::{SystemDevice, SystemFolder, exit_status, kconf_over};
 use std::{env, fs, io};
 
 // What a second run writes.
@@ -13,21 +13,12 @@ const AGAIN: &str = "again.config";
 // Runs with these arguments in the current folder.
 fn run(rt: &HostRuntime, arguments: &[String]) -> io::Result<Answer> {
     let mut folder = SystemFolder::new(rt)?;
-    let opener = SystemOpener::new(rt);
-    let mut mover = SystemMover::new(rt);
+    let mut device = SystemDevice::keeping(rt);
     let mut kept = None;
-    let (status, maker) = kconf_over(
-        rt,
-        arguments,
-        &mut folder,
-        &opener,
-        SystemMaker::keeping(rt),
-        &mut mover,
-        &mut kept,
-    );
+    let status = kconf_over(rt, arguments, &mut folder, &mut device, &mut kept);
     Ok(Answer {
         status: exit_status(status),
-        diagnostics: maker.into_diagnostics(),
+        diagnostics: device.into_diagnostics(),
     })
 }
 

@@ -135,6 +135,18 @@ fn first_runs(rt: &HostRuntime) -> io::Result<()> {
     show(rt, "rule.d")
 }
 
+// Runs with more fragments than a process may have open files, each of which is an empty line.
+fn many_fragments(rt: &HostRuntime) -> io::Result<()> {
+    fs::write(rt, "empty.config", b"\n")?;
+    let mut arguments = arguments_of(rt.alloc(), "--config defconfig --out many.config Kconfig")?;
+    for _ in 0..1_100 {
+        arguments.push(String::from_str(rt.alloc(), "empty.config")?)?;
+    }
+    let status = exit_status(kconf_of(rt, &arguments));
+    let is_same = fs::read(rt, "full.config")? == fs::read(rt, "many.config")?;
+    println!(rt; "status {status}: 1100 fragments; many.config is full.config: {is_same}")
+}
+
 // Runs over the small trees in the folder rows.
 fn small_runs(rt: &HostRuntime) -> io::Result<()> {
     run(
@@ -161,6 +173,7 @@ fn small_runs(rt: &HostRuntime) -> io::Result<()> {
 
 fn main(rt: HostRuntime) -> io::Result<()> {
     first_runs(&rt)?;
+    many_fragments(&rt)?;
     small_runs(&rt)?;
     replace(&rt)?;
     replace_other_texts(&rt)?;
