@@ -25,7 +25,7 @@ ROWS = [
     ("`kc_expr` without the table of names", r"kc_expr::"),
     ("`kc_read`", r"kc_read::"),
     ("`kc_dot`", r"kc_dot::"),
-    ("`kc_conf`, `kc_configure`, `kc_disk`, `kc_load`, `kc_words`", r"kc_(conf|configure|disk|load|words)::"),
+    ("`kc_io`, `kc_load`, `kc_conf`, `kc_words`, `kc_disk`", r"kc_(io|load|conf|words|disk)::"),
     ("`kc_values`, `kc_user`, `kc_order`, `kc_solve`", r"kc_(values|user|order|solve)::"),
     ("copying and filling memory", r"mem(move|cpy|set)"),
     ("the rest", r""),
