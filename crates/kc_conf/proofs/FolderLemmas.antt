@@ -1,5 +1,5 @@
 -- Over files that expand alike, trees, refusals, outcomes and runs are the same.
-use Rattle.std.proofs.Common.{◌⊎◌, inl, inr, ℕ, List, Option, Result}
+use Rattle.std.proofs.Common.{◌≡◌, ◌⊎◌, inl, inr, ℕ, suc, Bool, List, Option, Result, subst, sym}
 use Rattle.kc_read.specs.Expansion.{Refused}
 use Rattle.kc_read.specs.Files.{Files}
 use Rattle.kc_read.specs.OpenedFiles.{AreOpened}
@@ -12,6 +12,8 @@ use Rattle.kc_conf.specs.declared.options.Status.{Status}
 use Rattle.kc_conf.specs.declared.stop.Stop.{Stop}
 use Rattle.kc_conf.specs.Ends.{AreReads, Breaks, Broken, Completes, Runs, in_delivery, in_input, in_notes, no_memory, of_tree, refused_name as reads_no_name, refused_tree as reads_no_tree}
 use Rattle.kc_conf.specs.Given.{InputFile}
+use Rattle.kc_conf.specs.Many.{AreRootedAt, EndsTurn, IsPart, RunsEach, RunsTurn, StopsAtTree, TakeTurns, TakesTurn}
+use Rattle.kc_conf.specs.Many as many
 use Rattle.kc_conf.specs.Outcome.{IsAcceptedTree, IsLenientOutcome, IsOutcome, IsRefusedName, IsRefusedTree, NamesAreRead, Outcome, accepted_tree, looped, no_tree, refused_name, refused_tree, root_file}
 
 -- from these files to others
@@ -117,3 +119,57 @@ module _ (options : Options) (files others : Files) (alike : ExpandsAlike (root_
 -- in the other direction
 pub flipped : (root : List ℕ) (files others : Files) → ExpandsAlike root files others → ExpandsAlike root others files
 flipped root files others alike r = ((alike r).1, (alike r).0)
+
+-- ---- many configurations
+
+module _ (root : List ℕ) (files others : Files) (alike : ExpandsAlike root files others) where
+  -- these options begin at the same file
+  alike_for : (options : Options) → root_file options ≡ root → ExpandsAlike (root_file options) files others
+  alike_for options rooted = subst (λ (first : List ℕ). ExpandsAlike first files others) (sym rooted) alike
+
+  part_over : (tree : TreeFacts) (options : Options) (all : List (List ℕ)) (part : Outcome) → root_file options ≡ root → IsPart files tree options all part → IsPart others tree options all part
+  part_over tree options all part rooted (opened, are, is) =
+      let same = alike_for options rooted in
+      (opened, opened_over (root_file options) files others same opened are, outcome_over options files others same all _ is)
+
+  end_over : (options : Options) (inputs : List InputFile) (part : Outcome) (old new : Log) (status : Status) (is_over : Bool) → root_file options ≡ root →
+      EndsTurn files options inputs part old new status is_over → EndsTurn others options inputs part old new status is_over
+  unfolding broken_over
+  end_over options inputs part old new status is_over rooted (many.whole c goes_on) =
+      many.whole (completes_over options files others (alike_for options rooted) inputs part old new status c) goes_on
+  end_over options inputs part old new status is_over rooted (many.broken b ends) =
+      many.broken (broken_over options files others (alike_for options rooted) _ inputs part old new status b) ends
+
+  turn_over : (tree : TreeFacts) (options : Options) (old new : Log) (status : Status) (is_over : Bool) → root_file options ≡ root →
+      RunsTurn files tree options old new status is_over → RunsTurn others tree options old new status is_over
+  turn_over tree options old new status is_over rooted r = record {
+    inputs = r.inputs;
+    are_inputs = r.are_inputs;
+    part = r.part;
+    is_part = part_over tree options _ r.part rooted r.is_part;
+    ends = end_over options r.inputs r.part old new status is_over rooted r.ends;
+  }
+
+  module _ (tree : TreeFacts) (options : ℕ → Options → Type 0) (rooted : AreRootedAt root options) where
+    takes_over : (i : ℕ) (old new : Log) (status : Status) (is_over : Bool) → TakesTurn files tree (options i) old new status is_over → TakesTurn others tree (options i) old new status is_over
+    takes_over i old new status is_over (many.runs o are r) = many.runs o are (turn_over tree o old new status is_over (rooted i o are) r)
+    takes_over i old new status is_over (many.no_options says is over) = many.no_options says is over
+
+    turns_over : (i left : ℕ) (old new : Log) (status : Status) → TakeTurns files tree options i left old new status → TakeTurns others tree options i left old new status
+    turns_over _ _ _ _ _ (many.none i log) = many.none i log
+    turns_over _ _ _ _ _ (many.next i left old mid new status rest t ts) =
+        many.next i left old mid new status rest (takes_over i old mid status _ t) (turns_over (suc i) left mid new rest ts)
+    turns_over _ _ _ _ _ (many.last i left old new status t) = many.last i left old new status (takes_over i old new status _ t)
+
+  stops_over : (old new : Log) (status : Status) → StopsAtTree files root old new status → StopsAtTree others root old new status
+  stops_over old new status (many.refused_tree r x says is) = many.refused_tree r (refused_over root files others alike r x) says is
+  stops_over old new status (many.unsaid_refusal r x unsaid is) = many.unsaid_refusal r (refused_over root files others alike r x) unsaid is
+  stops_over old new status (many.unsaid_warnings tree x some unsaid is) = many.unsaid_warnings tree (accepted_over root files others alike tree x) some unsaid is
+  stops_over old new status (many.no_memory says is) = many.no_memory says is
+
+  -- a run for many configurations over these files is one over the others
+  pub runs_each_over : (options : ℕ → Options → Type 0) (count : ℕ) (old new : Log) (status : Status) → AreRootedAt root options →
+      RunsEach files root options count old new status → RunsEach others root options count old new status
+  runs_each_over options count old new status rooted (many.stops s) = many.stops (stops_over old new status s)
+  runs_each_over options count old new status rooted (many.turns tree mid x said ts) =
+      many.turns tree mid (accepted_over root files others alike tree x) said (turns_over tree options rooted 0 count mid new status ts)

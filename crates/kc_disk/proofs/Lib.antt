@@ -1,15 +1,2 @@
-pub mod AnsweringLemmas
-pub mod CheckLemmas
-pub mod DraftLemmas
-pub mod KeptLemmas
-pub mod LineLemmas
-pub mod OutputLemmas
-pub mod PlaceLemmas
-pub mod RanLemmas
-pub mod SameLemmas
-pub mod ReachedLemmas
-pub mod ReportLemmas
-pub mod MoverLemmas
-pub mod StreamLemmas
-pub mod StateLemmas
-pub mod ToldLemmas
+mod UsageLemmas
+mod EachLemmas

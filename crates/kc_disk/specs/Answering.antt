@@ -7,50 +7,54 @@ use Rattle.std.specs.declared.vec.IntoIter.{IntoIter}
 use Rattle.std.specs.IoError.{error_kind}
 use Rattle.std.specs.Vec.Iter.{into_iter_items}
 use Rattle.clap.specs.Words.{fault_of, takes}
+use Rattle.kc_io.specs.Log.{Log}
+use Rattle.kc_load.specs.Folders.{FolderState}
 use Rattle.kc_words.specs.Fields.{IsRequestOf}
 use Rattle.kc_words.specs.Kconf.{kconf_app, rows_for, arguments_of}
 use Rattle.kc_words.specs.Refusals.{IsRefused, refusal_of}
 use Rattle.kc_words.specs.declared.options.Request.{Request}
-use Rattle.kc_conf.specs.declared.runs.AcceptedTree.{AcceptedTree}
-use Rattle.kc_words.specs.declared.usage.UsageError.{UsageError as NoOptions}
+use Rattle.kc_words.specs.declared.options.Request.TheVariants as request
+use Rattle.kc_words.specs.declared.usage.UsageError.{UsageError}
 use Rattle.kc_words.specs.declared.usage.UsageError.TheVariants.{Help, Version, Bad, Memory}
+use Rattle.kc_conf.specs.FolderRuns.{FolderRuns}
 use Rattle.kc_conf.specs.declared.options.Status.{Status}
-use Rattle.kc_disk.specs.Openers.{FolderCall, IsQuiet, ReadDevice, folder_call, unknown_device}
-use Rattle.kc_disk.specs.Makers.{MakerCall, maker_call}
-use Rattle.kc_disk.specs.Movers.{IsStill, MoverCall, fails_anywhere, mover_call}
-use Rattle.kc_disk.specs.Program.{IsAsItWas, KeptCall, ReportsUsage, kept_call, EndsUsage}
-use Rattle.kc_disk.specs.Checking.{EndsAsked}
+use Rattle.kc_disk.specs.EachRuns.{FolderRunsEach}
+use Rattle.kc_disk.specs.Usage.{EndsUsage, SaysUsage}
 
--- the arguments ask for this: clap finds no fault in them, and each field is what they hold
-abbrev pub GiveRequest : List (String Global) → Request → Type 0
-GiveRequest arguments request = (fault_of kconf_app (arguments_of arguments) ≡ []) × IsRequestOf (rows_for arguments) request
+-- the arguments ask for this: clap finds no fault in them, each field is what they hold, they go together, and the prefix is one
+pub record GiveRequest (arguments : List (String Global)) (request : Request) : Type 0 where
+  pub faultless : fault_of kconf_app (arguments_of arguments) ≡ []
+  pub fields : IsRequestOf (rows_for arguments) request
 
 -- the arguments ask for nothing, for this cause: clap finds it, or they are refused for what they hold; and for want of memory,
 -- which is the only cause where the command takes the arguments and nothing that they hold is refused
-abbrev pub GiveNone : List (String Global) → NoOptions → Type 0
+abbrev pub GiveNone : List (String Global) → UsageError → Type 0
 GiveNone arguments usage = IsRefused (fault_of kconf_app (arguments_of arguments)) (rows_for arguments) usage
     × (takes kconf_app (arguments_of arguments) ≡ true → refusal_of (rows_for arguments) ≡ None → usage ≡ Memory)
 
--- The program's arguments: they ask for a run, and it ends so; or they ask for none, for this cause, and nothing
--- is made, moved or kept.
-pub data KconfEnds (folder : FolderCall) (opened : ReadDevice) (arguments : List (String Global)) (status : Status) (maker : MakerCall) (mover : MoverCall) (kept : KeptCall) : Type 0 where
-  request : (r : Request) → GiveRequest arguments r → EndsAsked r.check folder opened r.options status maker mover kept → KconfEnds folder opened arguments status maker mover kept
-  none : (usage : NoOptions) → GiveNone arguments usage → EndsUsage usage status → ReportsUsage usage maker → IsStill mover → IsAsItWas kept → IsQuiet folder →
-      KconfEnds folder opened arguments status maker mover kept
+-- a run for one configuration, or for many
+abbrev pub EndsAsked : Request → Option FolderState → Option FolderState → Log → Log → Status → Type 0
+EndsAsked (request.One options) folder folder_after old new status = FolderRuns options folder folder_after old new status
+EndsAsked (request.Each each) folder folder_after old new status = FolderRunsEach each folder folder_after old new status
 
--- the same over the disk, which tells nothing and may fail anywhere, where nothing was kept before
+-- The program's arguments: they ask for a run, and it ends so; or they ask for none, for this cause, which is said, and nothing else is
+-- done.
+pub data KconfEnds (arguments : List (String Global)) (folder folder_after : Option FolderState) (old new : Log) (status : Status) : Type 0 where
+  runs : (r : Request) → GiveRequest arguments r → EndsAsked r folder folder_after old new status → KconfEnds arguments folder folder_after old new status
+  none : (usage : UsageError) → GiveNone arguments usage → EndsUsage usage status → SaysUsage usage old new → folder_after ≡ folder → KconfEnds arguments folder folder_after old new status
+
+-- the same over the disk, which tells nothing
 abbrev pub KconfEndsOnDisk : List (String Global) → Status → Type 0
-KconfEndsOnDisk arguments status = (tree : Option AcceptedTree) × (failures : ℕ)
-    × KconfEnds (folder_call unknown_device 0 failures) unknown_device arguments status (maker_call None None true) (mover_call None None fails_anywhere) (kept_call None tree)
+KconfEndsOnDisk arguments status = KconfEnds arguments None None None None status
 
 -- what is told of words of which one is no text
 abbrev pub no_text : List ℕ
 no_text = codes "error: invalid UTF-8 was detected in one or more arguments\n\nFor more information, try '--help'.\n"
 
 -- the words of a process cannot be read, for this error: one is no text, or there is no memory for them
-abbrev pub AreUnread : Error → NoOptions → Type 0
+abbrev pub AreUnread : Error → UsageError → Type 0
 AreUnread error (Help text) = ⊥
-AreUnread error (Version text) = ⊥
+AreUnread error Version = ⊥
 AreUnread error (Bad text) = (error_kind error ≢ OutOfMemory) × (string_bytes text ≡ no_text)
 AreUnread error Memory = ⊤
 
@@ -58,4 +62,4 @@ AreUnread error Memory = ⊤
 -- be read.
 abbrev pub ProcessEnds : Result (IntoIter (String Global) Global) Error → Status → Type 0
 ProcessEnds (Ok words) status = KconfEndsOnDisk (drop 1 (into_iter_items words)) status
-ProcessEnds (Err error) status = (usage : NoOptions) × AreUnread error usage × EndsUsage usage status
+ProcessEnds (Err error) status = (usage : UsageError) × AreUnread error usage × EndsUsage usage status

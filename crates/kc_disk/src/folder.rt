@@ -1,5 +1,5 @@
 //! The files of a tree on a disk.
-ghost use Rattle.std.specs.Prelude.{◌≡◌, true, None, IfOk};
+ghost use Rattle.std.specs.Prelude.{None};
 
 use kc_load::{Folder, FolderFault};
 use std::alloc::AllocError;
@@ -10,13 +10,11 @@ use std::os::unix::fs::FileTypeExt;
 /// Reads the files of a tree from a disk by their paths (our own).
 ///
 /// A path where nothing is has no file. A folder, a device as `/dev/zero`, a path that runs through a file and a file that may
-/// not be read are failures of the device. So is a pipe that gives more than 67,108,864 bytes.
 #[derive(Drop)]
 pub struct SystemFolder<'a> {
     rt: &'a HostRuntime,
     // What is read of a file goes through it. It is made once, so that no room is made zero for each file.
     buffer: Vec<u8>,
-    failures: u64,
 }
 
 impl<'a> SystemFolder<'a> {
@@ -25,16 +23,10 @@ impl<'a> SystemFolder<'a> {
     /// # Errors
     ///
     /// Fails if there is no memory for the buffer.
-    pub fn new(rt: &'a HostRuntime) -> Result<SystemFolder<'a>, AllocError>
-        ensures { IfOk result (λ disk. disk.failures ≡ 0) }
-    {
+    pub fn new(rt: &'a HostRuntime) -> Result<SystemFolder<'a>, AllocError> {
         let alloc = rt.alloc();
         let buffer = vec![in alloc; 0; BUFFER_SIZE]?;
-        Ok(SystemFolder {
-            rt,
-            buffer,
-            failures: 0,
-        })
+        Ok(SystemFolder { rt, buffer })
     }
 }
 
@@ -89,21 +81,14 @@ fn read_whole(rt: &HostRuntime, path: &str, buffer: &mut [u8]) -> io::Result<Vec
 }
 
 impl<'a> Folder for SystemFolder<'a> {
-    ghost files = { λ _. None };
-
-    ghost failing = { λ _ _. true };
-
-    ghost failures = { λ s. s.failures };
+    ghost state = { λ _. None };
 
     fn read(&mut self, path: &str) -> Result<Option<Vec<u8>>, FolderFault> {
         match read_whole(self.rt, path, &mut self.buffer) {
             Ok(bytes) => Ok(Some(bytes)),
             Err(error) if error.kind() == ErrorKind::NotFound => Ok(None),
             Err(error) if error.kind() == ErrorKind::OutOfMemory => Err(FolderFault::Memory),
-            Err(_) => {
-                self.failures = self.failures.saturating_add(1);
-                Err(FolderFault::Device)
-            }
+            Err(_) => Err(FolderFault::Device),
         }
     }
 }

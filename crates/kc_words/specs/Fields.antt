@@ -4,6 +4,7 @@ use Rattle.clap.specs.Words.{Row, Text, first_of}
 use Rattle.kc_conf.specs.declared.options.Options.{Options}
 use Rattle.kc_conf.specs.declared.options.Delivery.{Delivery}
 use Rattle.kc_conf.specs.declared.options.Delivery.TheVariants as delivery
+use Rattle.kc_dot.specs.Prefixes.{is_prefix}
 use Rattle.kc_words.specs.Exclusions.{exclusion_of, is_each, is_given, values_of}
 use Rattle.kc_words.specs.declared.each.Each.{Each}
 use Rattle.kc_words.specs.declared.options.Request.{Request}
@@ -29,6 +30,7 @@ pub record AreSharedOptions (rows : List Row) (options : Options) : Type 0 where
   pub minimal : option_map string_bytes options.minimal ≡ first_of (codes "savedefconfig") rows
   pub depfile : option_map string_bytes options.depfile ≡ first_of (codes "depfile") rows
   pub prefix : options.prefix ≡ prefix_option rows
+  pub prefix_is_one : is_prefix (prefix_option rows) ≡ true
   pub strict : options.strict ≡ is_given (codes "strict") rows
   pub strict_tree : options.strict_tree ≡ is_given (codes "strict-tree") rows
   pub warn_lost : options.warn_lost ≡ is_given (codes "warn-lost") rows

@@ -1,6 +1,7 @@
 //! What the arguments of the command line ask for.
 
 ghost use Rattle.std.specs.Prelude.{◌≡◌, ◌++◌, ◌<◌, [], IfOk, IfErr, None, false, length, map, option_map, string_bytes, unwrap_or, true};
+ghost use Rattle.kc_dot.specs.Prefixes.{is_prefix};
 ghost use Rattle.clap.specs.Words.{takes, rows_of, found_of, kind_of, first_of, fault_of};
 ghost use Rattle.kc_words.specs.Exclusions.{exclusion_of, has_value, is_each, is_given, values_of};
 ghost use Rattle.kc_words.specs.Fields.{AreOptionsOf, AreSharedOptions, AsksFor, IsEachOf, IsRequestOf, delivery_of, prefix_option};
@@ -117,6 +118,7 @@ fn texts_of_both(
 // The text as a prefix.
 fn prefix_of(alloc: Global, text: &str) -> Result<Prefix, UsageError>
     ensures ok { IfOk result (λ prefix. prefix ≡ text.now) }
+    ensures valid { IfOk result (λ _. is_prefix text.now ≡ true) }
     ensures err { IfErr result (IsNoPrefix text.now) }
 {
     match Prefix::new(alloc, text.as_bytes())? {

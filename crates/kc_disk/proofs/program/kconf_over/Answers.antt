@@ -1,11 +1,16 @@
--- The arguments ask for a run, or for none.
+-- The arguments ask for a run, which ends so, or for none.
 use Rattle.std.proofs.Common.{refl}
-use Rattle.kc_disk.specs.Answering.{none, request}
+use Rattle.kc_disk.specs.Answering.{runs, none}
+use Rattle.kc_words.specs.declared.options.Request.TheVariants as request
 use Rattle.kc_disk.proofs.program.kconf_over.Goals as goal
 
-pub returns-in-Ok-clause-ends : goal.returns-in-Ok-clause-ends
-returns-in-Ok-clause-ends g c = request c.in-Ok.request (c.in-Ok.ensures.faultless, c.in-Ok.ensures.ok) c.run_request.ensures.ends
+pub returns-in-Ok-One : goal.returns-in-Ok-One
+returns-in-Ok-One g c =
+    runs (request.One c.in-Ok-One.options) (record { faultless = c.in-Ok-One.ensures.faultless; fields = c.in-Ok-One.ensures.ok; }) c.run_in_folder.ensures
 
-pub returns-in-Err-clause-ends : goal.returns-in-Err-clause-ends
-returns-in-Err-clause-ends g c =
-    none c.in-Err.usage (c.in-Err.ensures.refused, c.in-Err.ensures.taken) c.print_usage-status.ensures.status c.print_usage-status.ensures.tells refl refl refl
+pub returns-in-Ok-Each : goal.returns-in-Ok-Each
+returns-in-Ok-Each g c =
+    runs (request.Each c.in-Ok-Each.each) (record { faultless = c.in-Ok-Each.ensures.faultless; fields = c.in-Ok-Each.ensures.ok; }) c.run_each_in_folder.ensures
+
+pub returns-in-Err : goal.returns-in-Err
+returns-in-Err g c = none c.in-Err.usage (c.in-Err.ensures.refused, c.in-Err.ensures.taken) c.print_usage.ensures.status c.print_usage.ensures.says refl

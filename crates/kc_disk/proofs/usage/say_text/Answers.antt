@@ -1,0 +1,12 @@
+-- It is whole lines, with what ends the last one.
+use Rattle.std.proofs.Common.{ℕ, List, ◌++◌, ◌≡◌, true, append-nil, subst, sym}
+use Rattle.kc_io.specs.WholeLines.{is_whole_lines}
+use Rattle.kc_disk.specs.Usage.{SaysText, ended_text}
+use Rattle.kc_disk.proofs.UsageLemmas.{ended-whole}
+use Rattle.kc_disk.proofs.usage.say_text.Goals as goal
+
+pub note-requires : goal.note-requires
+note-requires g c = rw (append-nil, c.end_of.ensures, c.as_bytes.ensures.value, c.as_bytes-2.ensures.value) (ended-whole c.args.text.now)
+
+pub returns : goal.returns
+returns g c = (c.note.result, rw (append-nil, c.end_of.ensures, c.as_bytes.ensures.value, c.as_bytes-2.ensures.value) at c.note.ensures.log)

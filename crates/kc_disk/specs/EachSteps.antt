@@ -1,0 +1,51 @@
+-- For proofs: The steps of a run for many configurations.
+use Rattle.std.specs.Prelude.{◌≡◌, ℕ, List, [], Option, Some, None, Result, Ok, Err, String, Vec, length, map, string_bytes}
+use Rattle.std.specs.Str.{IsUtf8}
+use Rattle.std.specs.declared.alloc.Global.{Global}
+use Rattle.kc_io.specs.Log.{Log}
+use Rattle.kc_load.specs.Expanding.{AreFilesOf}
+use Rattle.kc_load.specs.Folders.{AnswersAs, FolderState, Leads as FolderLeads, files_told}
+use Rattle.kc_load.specs.declared.fault.LoadFault.{LoadFault}
+use Rattle.kc_load.specs.declared.fault.LoadFault.TheVariants.{CannotRead, Memory}
+use Rattle.kc_read.specs.Files.{Files}
+use Rattle.kc_words.specs.Lists.{listed}
+use Rattle.kc_words.specs.declared.each.Each.{Each}
+use Rattle.kc_conf.specs.FolderRuns.{load_line}
+use Rattle.kc_conf.specs.Many.{RunsEach}
+use Rattle.kc_conf.specs.Stops.{TriesToSay}
+use Rattle.kc_conf.specs.declared.options.Status.{Status}
+use Rattle.kc_conf.specs.declared.options.Status.TheVariants as answered
+use Rattle.kc_disk.specs.EachRuns.{AreListed, AreNames, GivesOptions, IsUnloaded}
+
+-- the folder told of this list, or it cannot be read
+abbrev pub ReadsList : List ℕ → Result (Vec (String Global) Global) LoadFault → Option FolderState → Option FolderState → Type 0
+ReadsList list (Ok names) old new =
+    FolderLeads [] old new × ((bytes : List ℕ) × AnswersAs (files_told new) list (Some bytes) × IsUtf8 bytes × (map string_bytes names.items ≡ listed bytes))
+ReadsList list (Err (CannotRead name)) old new = ((failed : List (List ℕ)) × FolderLeads failed old new) × (name.items ≡ list)
+ReadsList list (Err Memory) old new = (failed : List (List ℕ)) × FolderLeads failed old new
+
+-- the list of this name cannot be read, or there is no memory to say so
+abbrev pub IsUnreadable : List ℕ → LoadFault → Type 0
+IsUnreadable list (CannotRead name) = name.items ≡ list
+IsUnreadable list Memory = Unit {0}
+
+-- the same of the list, where there is one
+abbrev pub ReadsListIf : Each → Result (Vec (String Global) Global) LoadFault → Option FolderState → Option FolderState → Type 0
+ReadsListIf each (Ok names) old new = FolderLeads [] old new × AreListed new each.list (map string_bytes names.items)
+ReadsListIf each (Err (CannotRead name)) old new =
+    ((failed : List (List ℕ)) × FolderLeads failed old new) × ((file : String Global) × (each.list ≡ Some file) × (name.items ≡ string_bytes file))
+ReadsListIf each (Err Memory) old new = (failed : List (List ℕ)) × FolderLeads failed old new
+
+-- these are the names, or the list cannot be read
+abbrev pub FindsNames : Each → Result (Vec (String Global) Global) LoadFault → Option FolderState → Option FolderState → Type 0
+FindsNames each (Ok names) old new = FolderLeads [] old new × AreNames each new (map string_bytes names.items)
+FindsNames each (Err (CannotRead name)) old new =
+    ((failed : List (List ℕ)) × FolderLeads failed old new) × ((file : String Global) × (each.list ≡ Some file) × (name.items ≡ string_bytes file))
+FindsNames each (Err Memory) old new = (failed : List (List ℕ)) × FolderLeads failed old new
+
+-- the configurations of these names were run over the files of the folder, or these could not be loaded
+pub data RunsNamed (each : Each) (names : List (List ℕ)) (folder folder_after : Option FolderState) (old new : Log) (status : Status) : Type 0 where
+  not_loaded : (fault : LoadFault) → IsUnloaded each fault folder folder_after → TriesToSay (load_line fault) old new → status ≡ answered.Faulted →
+      RunsNamed each names folder folder_after old new status
+  ran : (files : Files) → AreFilesOf (files_told folder_after) (string_bytes each.options.root) files → FolderLeads [] folder folder_after →
+      RunsEach files (string_bytes each.options.kconfig) (GivesOptions each names) (length names) old new status → RunsNamed each names folder folder_after old new status

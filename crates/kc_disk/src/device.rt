@@ -1,0 +1,215 @@
+//! The calls of the system that read files, make them and write diagnostics.
+ghost use Rattle.std.specs.Prelude.{◌≤◌, ◌-◌, None, length, IfOk};
+ghost use Rattle.kc_disk.specs.Status.{most_reads};
+
+use crate::destination::{Destination, destination_of};
+use crate::diagnostics::Diagnostics;
+use crate::same_text::holds_text;
+use crate::temporary::{TemporaryFile, complete, move_to_place, remove, start};
+use kc_io::{Device, Fault, Site};
+use std::fs::File;
+use std::io::{self, ErrorKind, Read, Write};
+
+/// How many reads that give bytes there may be: a file that gives more has no end.
+const MOST_READS: u64 = 1 << 63;
+
+/// The files of a disk and the diagnostics of the process (our own). It tells nothing.
+///
+/// The destination of a text that replaces another is the end of the links of its name, if the system follows them. A temporary file
+/// stands in the same folder, as `.kconf-N` with the next N from 0 on that is free. Only its owner may open it until it has the
+/// permissions of the file that it replaces. What is no regular file, or lies below `/proc` as a descriptor does, takes its text at
+/// once and is not moved.
+#[derive(Drop)]
+pub struct SystemDevice<'a> {
+    rt: &'a HostRuntime,
+    diagnostics: Diagnostics<'a>,
+    // The file that is read.
+    reading: Option<File>,
+    // How many reads gave bytes.
+    reads: u64,
+    // The file that is written, and where it stands, if it is a temporary one.
+    writing: Option<(File, Option<TemporaryFile>)>,
+    // Those that are whole, in the order in which they take their places.
+    whole: Vec<Option<TemporaryFile>>,
+    // How many names of temporary files were tried.
+    tried: usize,
+}
+
+impl<'a> SystemDevice<'a> {
+    fn with(rt: &'a HostRuntime, diagnostics: Diagnostics<'a>) -> SystemDevice<'a> {
+        SystemDevice {
+            rt,
+            diagnostics,
+            reading: None,
+            reads: 0,
+            writing: None,
+            whole: Vec::new(rt.alloc()),
+            tried: 0,
+        }
+    }
+
+    /// Makes one that writes diagnostics to standard error. Make it before you open any file: if standard error was closed
+    /// then, each diagnostic fails.
+    pub fn new(rt: &'a HostRuntime) -> SystemDevice<'a> {
+        SystemDevice::with(rt, Diagnostics::of_process(rt))
+    }
+
+    /// Makes one that keeps the diagnostics in memory, for `into_diagnostics`.
+    pub fn keeping(rt: &'a HostRuntime) -> SystemDevice<'a> {
+        SystemDevice::with(rt, Diagnostics::keeping(rt))
+    }
+
+    /// Returns the diagnostics that were kept: none, if they went to standard error.
+    pub fn into_diagnostics(self) -> Vec<u8> {
+        let SystemDevice { diagnostics, .. } = self;
+        diagnostics.into_kept()
+    }
+
+    // Makes an empty file: at its place, or beside it.
+    fn make(&mut self, site: Site, name: &str) -> io::Result<()> {
+        let made = match site {
+            Site::Place => (File::create(self.rt, name)?, None),
+            Site::Beside => start(self.rt, name, &mut self.tried)?,
+        };
+        self.writing = Some(made);
+        Ok(())
+    }
+
+    // Closes the file that is written. One that is to be moved has its permissions then, and is on the disk.
+    fn finish(&mut self, site: Site) -> io::Result<()> {
+        if let Site::Place = site {
+            self.writing = None;
+            return Ok(());
+        }
+        if let Some((file, Some(temporary))) = &self.writing {
+            complete(file, temporary)?;
+        }
+        self.whole.reserve(1)?;
+        if let Some((_, temporary)) = self.writing.take() {
+            self.whole.push(temporary)?;
+        }
+        Ok(())
+    }
+
+    // Moves the first of the whole files to its place.
+    fn move_first(&mut self) -> io::Result<()> {
+        if let Some(Some(temporary)) = self.whole.first() {
+            move_to_place(self.rt, temporary)?;
+        }
+        if !self.whole.is_empty() {
+            let _ = self.whole.remove(0);
+        }
+        Ok(())
+    }
+}
+
+// Reads on in the open file, which is closed at its end.
+fn read_on(reading: &mut Option<File>, buffer: &mut [u8]) -> io::Result<usize>
+    ensures { IfOk result (λ count. count ≤ length buffer.old) }
+{
+    let Some(file) = reading else {
+        return Ok(0);
+    };
+    let count = file.read(buffer)?;
+    if count == 0 {
+        *reading = None;
+    }
+    Ok(count)
+}
+
+// The fault of an error.
+fn fault_of(error: &io::Error) -> Fault {
+    if error.kind() == ErrorKind::OutOfMemory {
+        Fault::Memory
+    } else {
+        Fault::Refused
+    }
+}
+
+// The answer of a device to what the system answered.
+fn answer(done: io::Result<()>) -> Result<(), Fault> {
+    match done {
+        Ok(()) => Ok(()),
+        Err(error) => Err(fault_of(&error)),
+    }
+}
+
+impl<'a> Device for SystemDevice<'a> {
+    ghost log = { λ _. None };
+
+    ghost file = { λ s. record { to_come = None; reads_left = most_reads - s.reads } };
+
+    fn open(&mut self, name: &str, may_be_missing: bool) -> Result<bool, Fault> {
+        self.reading = None;
+        match File::open(self.rt, name) {
+            Ok(file) => {
+                self.reading = Some(file);
+                Ok(true)
+            }
+            Err(error) if may_be_missing && error.kind() == ErrorKind::NotFound => Ok(false),
+            Err(error) => Err(fault_of(&error)),
+        }
+    }
+
+    fn read(&mut self, _name: &str, buffer: &mut [u8]) -> Result<usize, Fault> {
+        if self.reads >= MOST_READS {
+            return Err(Fault::Refused);
+        }
+        match read_on(&mut self.reading, buffer) {
+            Ok(count) => {
+                if count > 0 {
+                    self.reads += 1;
+                }
+                Ok(count)
+            }
+            Err(error) => Err(fault_of(&error)),
+        }
+    }
+
+    fn note(&mut self, parts: &[&[u8]]) -> Result<(), Fault> {
+        answer(self.diagnostics.write_parts(parts))
+    }
+
+    fn holds(&self, name: &str, bytes: &[u8]) -> bool {
+        let Ok(Destination::Taken(path, _)) = destination_of(self.rt, name) else {
+            return false;
+        };
+        matches!(
+            holds_text(self.rt, path.as_path().as_str(), bytes),
+            Ok(true)
+        )
+    }
+
+    fn create(&mut self, site: Site, name: &str) -> Result<(), Fault> {
+        answer(self.make(site, name))
+    }
+
+    fn write(&mut self, _site: Site, _name: &str, bytes: &[u8]) -> Result<usize, Fault> {
+        let Some((file, _)) = &mut self.writing else {
+            return Err(Fault::Refused);
+        };
+        match file.write(bytes) {
+            Ok(count) if count > 0 => Ok(count),
+            Ok(_) => Err(Fault::Refused),
+            Err(error) => Err(fault_of(&error)),
+        }
+    }
+
+    fn close(&mut self, site: Site, _name: &str) -> Result<(), Fault> {
+        answer(self.finish(site))
+    }
+
+    fn move_there(&mut self, _name: &str) -> Result<(), Fault> {
+        answer(self.move_first())
+    }
+
+    fn clear(&mut self) {
+        if let Some((_, temporary)) = self.writing.take() {
+            remove(self.rt, &temporary);
+        }
+        for temporary in &self.whole {
+            remove(self.rt, temporary);
+        }
+        self.whole.clear();
+    }
+}

@@ -1,0 +1,108 @@
+//! Where the diagnostics go.
+use std::io::{self, Write};
+use std::os::fd::AsFd;
+
+// What the system answers if a descriptor is not open.
+const NOT_OPEN: i32 = 9;
+
+// How many bytes of lines that come in parts are written at once.
+const ROOM: usize = 65_536;
+
+// Where the diagnostics go.
+#[derive(Drop)]
+enum Destination {
+    StandardError,
+    // Standard error was closed from the start: its descriptor may be that of a file that was opened since.
+    Closed,
+    Kept(Vec<u8>),
+}
+
+/// The diagnostics: they go to standard error, or are kept in memory (our own).
+#[derive(Drop)]
+pub(crate) struct Diagnostics<'a> {
+    rt: &'a HostRuntime,
+    destination: Destination,
+    // The parts of the lines that are written next, one behind another.
+    joined: Vec<u8>,
+}
+
+impl<'a> Diagnostics<'a> {
+    // Without memory for it there is no room to join parts.
+    fn new(rt: &'a HostRuntime, destination: Destination) -> Diagnostics<'a> {
+        let mut joined = Vec::new(rt.alloc());
+        let _ = joined.reserve(ROOM);
+        Diagnostics {
+            rt,
+            destination,
+            joined,
+        }
+    }
+
+    /// Makes diagnostics that go to standard error. Make it before you open any file.
+    pub(crate) fn of_process(rt: &'a HostRuntime) -> Diagnostics<'a> {
+        let destination = match rt.stderr().as_fd().try_clone_to_owned() {
+            Err(error) if error.raw_os_error() == Some(NOT_OPEN) => Destination::Closed,
+            _ => Destination::StandardError,
+        };
+        Diagnostics::new(rt, destination)
+    }
+
+    /// Makes diagnostics that are kept in memory.
+    pub(crate) fn keeping(rt: &'a HostRuntime) -> Diagnostics<'a> {
+        Diagnostics::new(rt, Destination::Kept(Vec::new(rt.alloc())))
+    }
+
+    /// Returns the diagnostics that were kept: none, if they went to standard error.
+    pub(crate) fn into_kept(self) -> Vec<u8> {
+        let Diagnostics {
+            rt,
+            destination,
+            joined: _,
+        } = self;
+        match destination {
+            Destination::Kept(bytes) => bytes,
+            Destination::StandardError | Destination::Closed => Vec::new(rt.alloc()),
+        }
+    }
+
+    // Writes what was joined.
+    fn flush(&mut self) -> io::Result<()> {
+        if self.joined.is_empty() {
+            return Ok(());
+        }
+        let written = write(self.rt, &mut self.destination, &self.joined);
+        self.joined.clear();
+        written
+    }
+
+    /// Writes the parts, one behind another: in one call of the system, if they have at most 65,536 bytes
+    /// and there was memory to join them.
+    ///
+    /// # Errors
+    ///
+    /// Fails if they cannot be written. A prefix of them may be out.
+    pub(crate) fn write_parts(&mut self, parts: &[&[u8]]) -> io::Result<()> {
+        self.joined.clear();
+        for part in parts {
+            if part.len() <= self.joined.capacity().saturating_sub(self.joined.len()) {
+                self.joined.extend_from_slice(part)?;
+            } else {
+                self.flush()?;
+                write(self.rt, &mut self.destination, part)?;
+            }
+        }
+        self.flush()
+    }
+}
+
+// Writes these bytes to where the diagnostics go.
+fn write(rt: &HostRuntime, destination: &mut Destination, bytes: &[u8]) -> io::Result<()> {
+    match destination {
+        Destination::StandardError => rt.stderr().write_all(bytes),
+        Destination::Closed => Err(io::Error::from_raw_os_error(NOT_OPEN)),
+        Destination::Kept(kept) => {
+            kept.extend_from_slice(bytes)?;
+            Ok(())
+        }
+    }
+}
