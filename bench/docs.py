@@ -189,7 +189,7 @@ def session(kconf):
 
 def versions(kconf):
     """Complaints about the version in the program, the man pages and the changelog."""
-    version = re.search(r'^const VERSION: &str = "(.*)";$', read("crates/kc_words/src/command.rt"), re.M).group(1)
+    version = re.search(r'^pub\(crate\) const VERSION: &str = "kconf (.*)\\n";$', read("crates/kc_words/src/command.rt"), re.M).group(1)
     said = subprocess.run([kconf, "--version"], capture_output=True, text=True).stdout.strip()
     heads = {"CHANGELOG.md": r"^## (\S+)"}
     heads.update((f"man/{name}", r'^\.TH \S+ 1 \S+ "\S+ (\S+)"') for name in sorted(os.listdir(os.path.join(TOP, "man"))))
