@@ -20,7 +20,8 @@ TOP = os.path.dirname(os.path.dirname(os.path.abspath(__file__)))
 # The calls that a user of the program rests on: the run, the laws over runs and deliveries, the program; and what the traits of the devices
 # ask of these. None is all of a room.
 RUN = {
-    ("kc_conf", "run"): {"run"},
+    ("kc_conf", "runs"): {"run"},
+    ("kc_conf", "many"): None,
     ("kc_conf", "folder_run"): {"run_in_folder"},
     ("kc_conf", "laws"): None,
     ("kc_io", "laws"): None,

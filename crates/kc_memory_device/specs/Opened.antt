@@ -1,4 +1,4 @@
--- For proofs: A file in memory that was opened.
+-- Trusted: A file in memory that was opened.
 use Rattle.std.specs.Prelude.{Some, None, drop, length, ◌-◌, if◌then◌else◌}
 use Rattle.kc_io.specs.Reading.{OpenFile}
 use Rattle.kc_memory_device.specs.declared.opened.Opened.{Opened}

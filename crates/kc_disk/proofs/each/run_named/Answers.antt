@@ -25,7 +25,8 @@ returns-in-Ok g c =
     subst₂ (λ (dir first : List ℕ). Suffices told dir first map) c.as_str.ensures.value c.as_str-2.ensures.value c.in-Ok.ensures.enough
     in
     let runs : RunsEach map root (GivesOptions each names) (length names) log log_after c.run_each.result =
-    rw (← c.as_str-in-Ok.ensures.value, length-map c.args.names.now string_bytes) c.run_each.ensures
+    subst₂ (λ (first : List ℕ) (n : ℕ). RunsEach map first (GivesOptions each names) n log log_after c.run_each.result)
+    c.as_str-in-Ok.ensures.value (sym (length-map c.args.names.now string_bytes)) c.run_each.ensures
     in
     ran e.0 e.1 c.in-Ok.ensures.leads
     (runs_each_over root map e.0 (flipped root e.0 map e.2) (GivesOptions each names) (length names) log log_after c.run_each.result (λ i o are. are.kconfig) runs)
