@@ -1,5 +1,5 @@
 # Each target is one or two commands.
-.PHONY: build install example test case cases mutants bench shapes real refused replaced trials make-names flatten-test docs clean
+.PHONY: build install example test case cases mutants bench shapes real refused replaced trials each make-names flatten-test docs clean
 
 PREFIX ?= /usr/local
 
@@ -77,6 +77,10 @@ replaced: build
 # Tries full disks, a closed standard error, folders without write permission, many warnings and the like.
 trials: build
 	bench/trials.py
+
+# Compares --each with the runs that it stands for, over generated trees with random configurations and faults.
+each: build
+	bench/each.py
 
 # Asks GNU make which names it reads in a dependency file, and looks that kconf writes those and refuses the others.
 make-names: build
