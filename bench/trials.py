@@ -2,7 +2,8 @@
 """Tries the built program as somebody new to it would: trials.py [KCONF]
 
 Runs at once into one log, full disks, a closed standard error, folders and files that may not be written or read, names that are
-folders, readers that go away, limits of a file's size, paths through a file, devices and pipes, many files, and 2,000,000 warnings.
+folders, readers that go away, limits of a file's size and of memory, paths through a file, devices and pipes, many files, 2,000,000
+warnings, and runs for three configurations (--each) of which one fails.
 Each run has to end with the status and the line of docs/formats.md, and to leave what is said there. If root starts this, some trials
 run as root, and then all run as nobody: root may write everywhere.
 
@@ -16,6 +17,7 @@ import pwd
 import resource
 import shutil
 import signal
+import socket
 import subprocess
 import sys
 import tempfile
@@ -29,10 +31,12 @@ FILES = {"--out": "config", "--header": "header", "--savedefconfig": "minimal", 
 OLD = "from the run before\n"
 RUNS = 8  # at once
 LINES = 300  # of warnings of each of them
+PIPED = 40  # of warnings of each of them into a pipe, which takes writes of at most 4,096 bytes whole
 HELD = 1_500  # of warnings that --strict holds, which are more than 64 KiB
 MOST = 2_000_000  # warnings of one run
 SECONDS = 2.0  # of processor time for them
 PIPE_BYTES = 67_108_864  # that a pipe of the tree may give
+THREE = ("c/one", "c/two", "c/three")  # configurations
 FRAGMENTS = 1_100  # more than there are descriptors
 
 
@@ -79,7 +83,7 @@ def want_lines(what, found, lines):
 
 
 def runs_at_once(place, words, status, lines):
-    """Runs at once into one log, as 2>>log and 2>log of a shell make it, and into a pipe."""
+    """Runs at once into one log, as 2>>log and 2>log of a shell make it."""
     start = [place.kconf, *words, "--config", "dot.config", "--out"]
     for mode in ("a", "w"):
         with open(place.path / "log", mode) as log:
@@ -87,6 +91,11 @@ def runs_at_once(place, words, status, lines):
                 want("status", run.wait(), status)
         want_lines("the log", place.get("log").splitlines(keepends=True), lines)
         os.unlink(place.path / "log")
+
+
+def runs_at_once_into_a_pipe(place, words, status, lines):
+    want("at most 4,096 bytes", sum(map(len, lines)) <= 4_096, True)
+    start = [place.kconf, *words, "--config", "dot.config", "--out"]
     reader, writer = os.pipe()
     runs = [subprocess.Popen([*start, f"o{n}", "Kconfig"], cwd=place.path, stderr=writer) for n in range(RUNS)]
     os.close(writer)
@@ -102,14 +111,53 @@ def warned(place, count):
     return dict.fromkeys(f"dot.config:{n}: warning K7: unknown symbol {name}\n" for n, name in enumerate(names, 1))
 
 
+REFUSED = {"error E21: warnings are refused\n": None}
+
+
 def runs_at_once_tear_no_line(place):
     runs_at_once(place, [], 0, warned(place, LINES))
+    runs_at_once_into_a_pipe(place, [], 0, warned(place, PIPED))
 
 
 def runs_at_once_tear_no_line_that_was_held(place):
     lines = warned(place, HELD)
     want("more than 64 KiB", sum(map(len, lines)) > 65_536, True)
-    runs_at_once(place, ["--strict"], 1, lines | {"error E21: warnings are refused\n": None})
+    runs_at_once(place, ["--strict"], 1, lines | REFUSED)
+    runs_at_once_into_a_pipe(place, ["--strict"], 1, warned(place, PIPED) | REFUSED)
+
+
+def writes(place, *words):
+    """A run whose standard error keeps its writes apart: its status, and the bytes of each write."""
+    reader, writer = socket.socketpair(socket.AF_UNIX, socket.SOCK_SEQPACKET)
+    run = subprocess.Popen([place.kconf, *words], cwd=place.path, stderr=writer)
+    writer.close()
+    got = []
+    while True:
+        text = reader.recv(1_000_000)
+        if not text:
+            break
+        got.append(text)
+    reader.close()
+    return run.wait(), got
+
+
+def each_write_holds_whole_lines(place):
+    for count in (1, LINES, HELD):
+        lines = warned(place, count)
+        place.put("two.config", "")
+        for words, more, last in (
+            (["--config", "dot.config", "--out", "o", "Kconfig"], {}, 0),
+            (["--strict", "--config", "dot.config", "--out", "o", "Kconfig"], REFUSED, 1),
+            (["--each", "--out", "{}.o", "Kconfig", "dot.config", "two.config"], {}, 0),
+        ):
+            status, got = writes(place, *words)
+            want(f"{words}: the status", status, last)
+            want(f"{words}: writes that end within a line", [text[-40:] for text in got if not text.endswith(b"\n")], [])
+            want(f"{words}: the lines", b"".join(got).decode() == "".join(lines | more), True)
+    place.put("Kconfig", "".join(f"config U_{n}\n" for n in range(LINES)))
+    lines = "".join(f"Kconfig:{n}: warning K3: U_{n - 1} has no type\n" for n in range(1, LINES + 1))
+    for words in (["--config", "none", "--out", "o", "Kconfig"], ["--each", "--out", "{}.o", "Kconfig", "two.config"]):
+        want("the warnings about the tree, in one write", writes(place, *words), (0, [lines.encode()]))
 
 
 def a_full_disk_is_told(place):
@@ -214,6 +262,159 @@ def a_limit_of_file_sizes_ends_the_run(place):
         want("the file", text == OLD if flags else text.startswith(CONFIG.split("\n# CONFIG_A")[0]) and len(text) <= 4096, True)
         for name in place.left():  # it was ended, so nobody takes this away
             os.unlink(name)
+
+
+def want_of_memory_is_told(place):
+    value = "x" * 3_000
+    place.put("Kconfig", "".join(f'config S_{n}\n\tstring "s"\n\tdefault "{value}"\n' for n in range(1000)))
+    place.put("dot.config", "CONFIG_Q=y\n")
+    warning = "dot.config:1: warning K7: unknown symbol Q\n"
+    words = ["--config", "dot.config", "--out", "config", "--header", "header", "Kconfig"]
+    want("with enough memory", place.run(*words), (0, warning))
+    wholes = [place.get("config"), place.get("header")]
+    for flags in ([], ["--replace"]):
+        found = set()
+        for mib in range(4, 44, 2):
+            place.put("config", OLD)
+            place.put("header", OLD)
+            limit = lambda: resource.setrlimit(resource.RLIMIT_AS, (mib << 20, mib << 20))
+            status, said = place.run(*flags, *words, preexec_fn=limit)
+            if status == 127:  # the program itself does not fit
+                continue
+            found.add(status)
+            said = (status, said.removeprefix(warning), [place.get("config"), place.get("header")])
+            want(f"{flags} {mib} MiB", said, (0, "", wholes) if status == 0 else (3, "error E20: out of memory\n", [OLD, OLD]))
+        want("runs with and without enough memory", found, {0, 3})
+
+
+def three(place):
+    """Lays out three configurations, and returns what a run of its own writes for each."""
+    (place.path / "c").mkdir()
+    texts = {}
+    for name in THREE:
+        place.put(name, f'CONFIG_S="{name}"\n')
+        want(name, place.run("--config", name, "--out", "alone", "--header", "alone.h", "Kconfig"), (0, ""))
+        texts[name] = [place.get("alone"), place.get("alone.h")]
+    return texts
+
+
+def want_three(what, place, texts):
+    """The files of each configuration have to hold these texts, None where it has none; they are taken away."""
+    found = {name: [place.get(f"{name}.out"), place.get(f"{name}.h")] for name in THREE}
+    want(what, found, texts)
+    for name in THREE:
+        for end in ("out", "h"):
+            path = place.path / f"{name}.{end}"
+            if not path.is_symlink():
+                path.unlink(missing_ok=True)
+
+
+NOTHING = [None, None]
+EACH = ("--each", "--out", "{}.out", "--header", "{}.h", "Kconfig", *THREE)
+
+
+def one_of_three_configurations_is_missing_or_refused(place):
+    texts = three(place)
+    long = f"{'#' * 65_536}\n"
+    for flags in ([], ["--replace"]):
+        want("all", place.run(*flags, *EACH), (0, ""))
+        want_three("the files of all", place, texts)
+        for at in THREE:
+            kept = place.get(at)
+            rest = texts | {at: NOTHING}
+            os.unlink(place.path / at)
+            want(f"{at} is missing", place.run(*flags, *EACH), (3, f"{at}: error E18: cannot read {at}\n"))
+            want_three("the files of the others", place, rest)
+            os.mkdir(place.path / at)
+            want(f"{at} is a folder", place.run(*flags, *EACH), (3, f"{at}: error E18: cannot read {at}\n"))
+            want_three("the files of the others", place, rest)
+            os.rmdir(place.path / at)
+            place.put(at, long)
+            want(f"{at} has a long line", place.run(*flags, *EACH), (1, f"{at}:1: error E17: line longer than 65535 bytes\n"))
+            want_three("the files of the others", place, rest)
+            place.put(at, "CONFIG_Q=y\n")
+            told = f"{at}:1: warning K7: unknown symbol Q\n{at}: error E21: warnings are refused\n"
+            want(f"{at} is refused", place.run(*flags, "--strict", *EACH), (1, told))
+            want_three("the files of the others", place, rest)
+            place.put(at, kept)
+        place.put("c/one", long)
+        os.unlink(place.path / "c/two")
+        told = "c/one:1: error E17: line longer than 65535 bytes\nc/two: error E18: cannot read c/two\n"
+        want("one is refused, one is missing", place.run(*flags, *EACH), (3, told))
+        want_three("the files of the third", place, texts | {"c/one": NOTHING, "c/two": NOTHING})
+        place.put("c/one", 'CONFIG_S="c/one"\n')
+        place.put("c/two", 'CONFIG_S="c/two"\n')
+
+
+def a_folder_of_one_of_three_configurations_is_shut(place):
+    texts = three(place)
+    words = ("--each", "--out", "{}.d/config", "--header", "{}.d/header", "Kconfig", *THREE)
+    for flags in ([], ["--replace"]):
+        for at in THREE:
+            for name in THREE:
+                (place.path / f"{name}.d").mkdir()
+            os.chmod(place.path / f"{at}.d", 0o555)
+            want(f"{at}", place.run(*flags, *words), (3, f"{at}: error E19: cannot write {at}.d/config\n"))
+            found = {name: [place.get(f"{name}.d/config"), place.get(f"{name}.d/header")] for name in THREE}
+            want(f"the files where {at} is shut", found, texts | {at: NOTHING})
+            os.chmod(place.path / f"{at}.d", 0o755)
+            for name in THREE:
+                shutil.rmtree(place.path / f"{name}.d")
+
+
+def a_full_disk_for_one_of_three_configurations(place):
+    texts = three(place)
+    for flags in ([], ["--replace"]):
+        for at in THREE:
+            # The link to the full disk is taken away before the files are looked at.
+            for end, left in (("out", NOTHING), ("h", NOTHING if flags else [texts[at][0], None])):
+                full = place.path / f"{at}.{end}"
+                os.symlink("/dev/full", full)
+                want(f"{full.name}", place.run(*flags, *EACH), (3, f"{at}: error E19: cannot write {at}.{end}\n"))
+                os.unlink(full)
+                want_three(f"the files where {full.name} is full", place, texts | {at: left})
+
+
+def a_standard_error_that_fails_ends_the_run_for_all(place):
+    texts = three(place)
+    shut = {"preexec_fn": lambda: os.close(2)}
+    with open("/dev/full", "w") as disk:
+        full = {"preexec_fn": lambda: os.dup2(disk.fileno(), 2), "pass_fds": [disk.fileno()]}
+        for flags in ([], ["--replace"], ["--strict"]):
+            for how in (shut, full):
+                want("nothing is to be said", place.run(*flags, *EACH, **how)[0], 0)
+                want_three("the files of all", place, texts)
+                for at, name in enumerate(THREE):
+                    kept = place.get(name)
+                    rest = {other: texts[other] if THREE.index(other) < at else NOTHING for other in THREE}
+                    place.put(name, "CONFIG_Q=y\n")
+                    want(f"a warning of {name}", place.run(*flags, *EACH, **how)[0], 3)
+                    want_three("the files of those before it", place, rest)
+                    os.unlink(place.path / name)
+                    want(f"{name} is missing", place.run(*flags, *EACH, **how)[0], 3)
+                    want_three("the files of those before it", place, rest)
+                    place.put(name, kept)
+        place.put("Kconfig", TREE + "config U\n")
+        for how in (shut, full):
+            want("a warning about the tree", place.run(*EACH, **how)[0], 3)
+            want_three("no files", place, dict.fromkeys(THREE, NOTHING))
+        place.put("Kconfig", TREE)
+        for how in (shut, full):
+            want("what is not up to date", place.run("--check", *EACH, **how)[0], 3)
+
+
+def a_list_that_cannot_be_read_is_told(place):
+    texts = three(place)
+    words = ("--out", "{}.out", "--header", "{}.h", "Kconfig")
+    place.put("list", "\n".join(THREE))
+    want("a list", place.run("--each-from", "list", *words), (0, ""))
+    want_three("the files of all", place, texts)
+    os.chmod(place.path / "list", 0)
+    (place.path / "bytes").write_bytes(b"c/one\nc/\xff\n")
+    for name in ("list", "none", "c", "Kconfig/x", "bytes", "/dev/null", "/dev/zero"):
+        for flags in ([], ["--replace"], ["--check"]):
+            want(f"{name}", place.run(*flags, "--each-from", name, *words, "c/one", timeout=20), (3, f"error E18: cannot read {name}\n"))
+            want_three("no files", place, dict.fromkeys(THREE, NOTHING))
 
 
 def many_warnings_cost_little(place):
@@ -421,6 +622,7 @@ AS_ROOT = (
 TRIALS = (
     runs_at_once_tear_no_line,
     runs_at_once_tear_no_line_that_was_held,
+    each_write_holds_whole_lines,
     a_full_disk_is_told,
     a_closed_standard_error_gets_into_no_file,
     what_may_not_be_written_or_read_is_named,
@@ -428,6 +630,12 @@ TRIALS = (
     a_missing_name_is_told,
     a_reader_that_goes_away_is_told,
     a_limit_of_file_sizes_ends_the_run,
+    want_of_memory_is_told,
+    one_of_three_configurations_is_missing_or_refused,
+    a_folder_of_one_of_three_configurations_is_shut,
+    a_full_disk_for_one_of_three_configurations,
+    a_standard_error_that_fails_ends_the_run_for_all,
+    a_list_that_cannot_be_read_is_told,
     *AS_ROOT,
     many_warnings_cost_little,
 )
