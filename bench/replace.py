@@ -1,9 +1,10 @@
 #!/usr/bin/python3
 """Checks what kconf --replace does to files: replace.py [KCONF [KILLS]]
 
-Each check has a folder of its own. The last two start runs on one place at once, and KILLS runs that
-are killed (SIGKILL) at random moments: each place has to hold the old text or the new one, whole.
-Where a run was killed a file may be left beside a place: how many were is reported. If root starts
+Each check has a folder of its own. Some are of runs for three configurations (--each). The last ones
+start runs on one place at once, and KILLS runs that are killed (SIGKILL) at random moments, and half
+as many for three configurations: each place has to hold the old text or the new one, whole. Where a
+run was killed a file may be left beside a place: how many were is reported. If root starts
 the script, each check runs as root and then again as nobody. A check that this machine does not
 allow is skipped, and the reason is printed. The script ends with status 1 if a check fails, and
 names it.
@@ -12,6 +13,7 @@ names it.
 import os
 import pwd
 import random
+import resource
 import shutil
 import signal
 import stat
@@ -27,6 +29,7 @@ KCONF = os.path.abspath(sys.argv[1]) if len(sys.argv) > 1 else TOP + "/crates/kc
 TREE = "config A\n\tbool \"a\"\n\nconfig N\n\tint \"n\"\n\tdefault 3\n\nconfig S\n\tstring \"s\"\n\tdefault \"x\"\n"
 KILLS = int(sys.argv[2]) if len(sys.argv) > 2 else 400
 FILES = ("--header", "h", "--savedefconfig", "min", "--depfile", "d")
+THREE = ("c/one", "c/two", "c/three")  # configurations
 RULE = ".config: \\\n ./Kconfig\n\n./Kconfig:\n"
 
 
@@ -398,6 +401,102 @@ def two_outputs_of_one_name_leave_the_later(folder):
         want("the text", folder.get("x"), folder.get("plain"))
 
 
+def want_of_memory_leaves_all(folder):
+    value = "x" * 3_000
+    folder.put("Kconfig", "".join(f'config S_{n}\n\tstring "s"\n\tdefault "{value}"\n' for n in range(1_000)))
+    folder.run("--config", "none", "--out", "plain", "Kconfig")
+    words = ("--replace", "--config", "none", "--out", "x", "--header", "h", "Kconfig")
+    found = set()
+    for mib in range(4, 44, 2):
+        folder.put("x", "old\n")
+        folder.put("h", "old\n")
+        before = folder.marks("x", "h")
+        limit = lambda: resource.setrlimit(resource.RLIMIT_AS, (mib << 20, mib << 20))
+        ran = subprocess.run([KCONF, *words], cwd=folder.path, capture_output=True, text=True, preexec_fn=limit)
+        if ran.returncode == 127:  # the program itself does not fit
+            continue
+        found.add(ran.returncode)
+        want(f"{mib} MiB", (ran.returncode, ran.stderr) in ((0, ""), (3, "error E20: out of memory\n")), True)
+        if ran.returncode:
+            want(f"times and inodes, {mib} MiB", folder.marks("x", "h"), before)
+        else:
+            want(f"the text, {mib} MiB", folder.get("x") == folder.get("plain"), True)
+        want(f"temporary files, {mib} MiB", folder.left(), [])
+    want("runs with and without enough memory", found, {0, 3})
+
+
+def three(folder):
+    """Lays out three configurations, each with a line of its own, of which the second is stale."""
+    os.mkdir(folder.at("c"))
+    for name in THREE:
+        folder.put(name, f'CONFIG_S="{name}"\n')
+    folder.put("c/two", '# old\nCONFIG_N=3\nCONFIG_S="c/two"\n')
+
+
+MINIMAL = ("--each", "--savedefconfig", "{}", "Kconfig", *THREE)
+
+
+def of_three_configurations_the_stale_one_is_replaced(folder):
+    three(folder)
+    before = folder.marks(*THREE)
+    ran = folder.run("--check", *MINIMAL, status=1)
+    want("the line", ran.stderr, "c/two: error E22: c/two is not up to date\n")
+    want("times and inodes", folder.marks(*THREE), before)
+    time.sleep(0.02)
+    want("what is said", folder.run("--replace", *MINIMAL).stderr, "")
+    want("changed", [a != b for a, b in zip(folder.marks(*THREE), before)], [False, True, False])
+    want("the texts", [folder.get(name) for name in THREE], [f'CONFIG_S="{name}"\n' for name in THREE])
+    after = folder.marks(*THREE)
+    want("what is said", folder.run("--check", *MINIMAL).stderr, "")
+    want("what is said", folder.run("--replace", *MINIMAL).stderr, "")
+    want("times and inodes", folder.marks(*THREE), after)
+    want("the files", sorted(os.listdir(folder.at("c"))), ["one", "three", "two"])
+
+
+def of_three_configurations_the_refused_one_is_left(folder):
+    three(folder)
+    for at in THREE:
+        for name in THREE:
+            folder.put(name, f'CONFIG_N=3\nCONFIG_S="{name}"\n' + ("CONFIG_Q=y\n" if name == at else ""))
+        text = folder.get(at)
+        before = folder.marks(*THREE)
+        ran = folder.run("--strict", "--replace", *MINIMAL, status=1)
+        want("the lines", ran.stderr, f"{at}:3: warning K7: unknown symbol Q\n{at}: error E21: warnings are refused\n")
+        want("changed", [a != b for a, b in zip(folder.marks(*THREE), before)], [name != at for name in THREE])
+        want("the texts", [folder.get(name) for name in THREE], [text if name == at else f'CONFIG_S="{name}"\n' for name in THREE])
+
+
+def of_three_configurations_one_with_a_fault_is_left(folder):
+    three(folder)
+    for at in THREE:
+        for name in THREE:
+            folder.put(name, f'CONFIG_N=3\nCONFIG_S="{name}"\n')
+            os.makedirs(folder.at(f"{name}.d"), exist_ok=True)
+        os.rmdir(folder.at(f"{at}.d"))
+        before = folder.marks(*THREE)
+        # The dependency file is the last of a turn.
+        words = ("--each", "--replace", "--out", "{}.out", "--savedefconfig", "{}", "--depfile", "{}.d/rule", "Kconfig", *THREE)
+        want("the line", folder.run(*words, status=3).stderr, f"{at}: error E19: cannot write {at}.d/rule\n")
+        want("changed", [a != b for a, b in zip(folder.marks(*THREE), before)], [name != at for name in THREE])
+        want("the files", [os.path.exists(folder.at(f"{name}.out")) for name in THREE], [name != at for name in THREE])
+        for name in THREE:
+            shutil.rmtree(folder.at(f"{name}.d"), ignore_errors=True)
+            if name != at:
+                os.remove(folder.at(f"{name}.out"))
+
+
+def three_configurations_with_links_and_modes(folder):
+    three(folder)
+    folder.put("real", "CONFIG_N=3\n")
+    os.chmod(folder.at("real"), 0o640)
+    os.remove(folder.at("c/one"))
+    os.symlink("../real", folder.at("c/one"))
+    os.chmod(folder.at("c/two"), 0o600)
+    want("what is said", folder.run("--replace", *MINIMAL).stderr, "")
+    want("the link", (os.readlink(folder.at("c/one")), folder.get("real")), ("../real", ""))
+    want("the modes", [oct(stat.S_IMODE(os.stat(folder.at(name)).st_mode)) for name in ("real", "c/two")], [oct(0o640), oct(0o600)])
+
+
 def runs_at_once_leave_one_of_the_texts(folder):
     texts = {}
     for n in ("5", "7"):
@@ -443,6 +542,36 @@ def killed_runs_leave_the_old_or_the_new(folder):
     print(f"  of {KILLS} killed runs {ended} were done before, {changes} changed .config, {left} files were left beside")
 
 
+def killed_runs_for_three_leave_whole_files(folder):
+    three(folder)
+    folder.put("Kconfig", TREE + "".join(f'config SYMBOL_{i}\n\tint "s"\n\tdefault 1\n' for i in range(2_000)))
+    names = [name + end for name in THREE for end in (".out", ".h", "")]  # in the order in which they are replaced
+    wholes = []
+    for n in ("5", "7"):
+        folder.put(f"frag{n}", "".join(f"CONFIG_SYMBOL_{i}={n}\n" for i in range(0, 2_000, 2)))
+        words = ["--each", "--replace", "--out", "{}.out", "--header", "{}.h", "--savedefconfig", "{}", "--fragment", f"frag{n}", "Kconfig", *THREE]
+        begun = time.time()
+        folder.run(*words)
+        took = time.time() - begun
+        wholes.append((words, [folder.get(name) for name in names]))
+    ended = left = between = 0
+    for turn in range(KILLS // 2):
+        words, new = wholes[turn % 2]
+        before = [folder.get(name) for name in names]
+        run = subprocess.Popen([KCONF, *words], cwd=folder.path, stderr=subprocess.DEVNULL)
+        time.sleep(random.uniform(0, 1.3 * took))
+        run.send_signal(signal.SIGKILL)
+        ended += run.wait() == 0
+        found = [folder.get(name) for name in names]
+        want(f"new files first, then old ones, after turn {turn}", found in [new[:at] + before[at:] for at in range(len(names) + 1)], True)
+        between += found not in (before, new)
+        for name in folder.left():
+            left += 1
+            os.remove(folder.at(name))
+    want("a run was killed before it was done", ended < KILLS // 2, True)
+    print(f"  of {KILLS // 2} killed runs {ended} were done before, {between} had replaced some files, {left} files were left beside")
+
+
 CHECKS = (
     plain_texts,
     equal_text_keeps_time_and_inode,
@@ -471,8 +600,14 @@ CHECKS = (
     taken_names_beside_stay,
     no_free_name_is_an_error,
     two_outputs_of_one_name_leave_the_later,
+    want_of_memory_leaves_all,
+    of_three_configurations_the_stale_one_is_replaced,
+    of_three_configurations_the_refused_one_is_left,
+    of_three_configurations_one_with_a_fault_is_left,
+    three_configurations_with_links_and_modes,
     runs_at_once_leave_one_of_the_texts,
     killed_runs_leave_the_old_or_the_new,
+    killed_runs_for_three_leave_whole_files,
 )
 
 
