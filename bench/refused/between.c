@@ -8,7 +8,7 @@
  * that is a link: it is refused as another user's link in a sticky folder is. BESIDES names a kind of which every call is refused,
  * whatever KIND says.
  * When the program ends, the file that REPORT names gets one line: how many calls of the kind there were, how many writes
- * standard error took, and what the refused call was for: '<' or '>' and the name of a file that was opened to read or to write,
+ * standard error took, how many writes to it were to end within a line, and what the refused call was for: '<' or '>' and the name of a file that was opened to read or to write,
  * '>' and the place of a file that was to be moved, or ">&2" for standard error.
  */
 #define _GNU_SOURCE
@@ -26,7 +26,7 @@
 #define FILES 64
 
 static const char *kind = "", *besides = "";
-static long refused, calls, told;
+static long refused, calls, told, torn;
 static int lasting;
 static char files[FILES][512] = {"<&0", ">&1", ">&2"};
 static char struck[512];
@@ -48,7 +48,7 @@ __attribute__((destructor)) static void end(void) {
     kind = besides = "";
     file = name ? fopen(name, "w") : NULL;
     if (file) {
-        fprintf(file, "%ld %ld %s\n", calls, told, struck);
+        fprintf(file, "%ld %ld %ld %s\n", calls, told, torn, struck);
         fclose(file);
     }
 }
@@ -133,6 +133,7 @@ ssize_t read(int file, void *bytes, size_t count) {
 
 ssize_t write(int file, const void *bytes, size_t count) {
     REAL("write", ssize_t, int, const void *, size_t);
+    torn += file == 2 && count && ((const char *)bytes)[count - 1] != '\n';
     if (is_refused("write", file_of(file))) return errno = ENOSPC, -1;
     if (is_refused("interrupted write", file_of(file))) return errno = EINTR, -1;
     if (is_refused("short write", file_of(file)) && count) count = 1;

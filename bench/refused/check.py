@@ -5,10 +5,10 @@ output holds another text before a run, so that one that was begun is told from 
 hold its text, or not be there.
 
 A run without a refused call has to end with its status, its notes and its outputs, to the byte. A run in which a call was
-refused ends with status 3. In each, standard error gets one write for each line, but where a write or a growth was refused. Its
-notes are then a beginning of the right ones, in whole lines, and the one error line: E20 for memory, E18 with the name of the
-file that could not be read, E19 with the name of the output that could not be written; where the notes themselves were refused,
-a beginning and nothing else. Of the outputs, each that was begun holds a beginning of its text, and nothing is begun before the
+refused ends with status 3. In each, a write to standard error holds one or more whole lines. So there are no more writes than lines,
+but for one more where a write moved one byte. Its notes are then a beginning of the right ones, in whole lines, and the one error
+line: E20 for memory, E18 with the name of the file that could not be read, E19 with the name of the output that could not be
+written; where the notes themselves were refused, a beginning and nothing else. Of the outputs, each that was begun holds a beginning of its text, and nothing is begun before the
 notes and the outputs before it are whole. Behind a file that could not be read nothing is begun, and before an output that
 could not be written all is whole. What a program may get along without, it may also get along without, to the same end as if
 nothing had been refused: a growth, the closing of a file. A read of a file of the tree that was interrupted has to be tried again.
@@ -16,13 +16,14 @@ Another call that was interrupted may be, and where it is not it counts as refus
 
 With --replace a run that does not end with status 0 leaves every output as it was, the same file of the same time, and nothing
 beside it (no file *.kconf-*); only where a move is refused the outputs before that one are the new ones. A file that stands
-beside stays where its removal is refused as well. A fault of what is made beside X is E19 with the name X, and so is want of
-memory for the text of X. Where an output held its text the file stays, but where the look at it was refused, or a growth: then
+beside stays where its removal is refused as well. A fault of what is made beside X is E19 with the name X, want of memory is E20.
+Where an output held its text the file stays, but where the look at it was refused, or a growth: then
 the run may replace it, and ends with status 0. No file gives more access than the one that it replaces, at any time: what is left
 beside shows that. Where the system refuses to follow a link once, the run may go on; where it always does, that is E19.
 
 With --check every output stays as it was. An output that could not be compared, since a read of it or a growth was refused,
-counts as one that does not hold its text: the run then ends with status 1 and E22 for it. The lines of E22 come in one write.
+counts as one that does not hold its text: the run then ends with status 1 and E22 for it. Where a growth was refused it may also
+end with E20.
 
 Where standard error is closed the notes can't be written, so a run that has any ends with status 3 and begins nothing, and no
 word of the notes or of an error line stands in an output, whatever is refused besides.
@@ -133,8 +134,8 @@ class Run:
         self.touched = [name for name, mark in self.marks().items() if mark != marks[name]]
         self.beside = self.standing()
         self.exposed = [name for name in [*self.beside, *self.outputs] if self.is_exposed(name)]
-        count, told, self.struck = (report.read_text() if report.exists() else "0 0 ").rstrip("\n").split(" ", 2)
-        self.calls, self.note_writes = int(count), int(told)
+        count, told, torn, self.struck = (report.read_text() if report.exists() else "0 0 0 ").rstrip("\n").split(" ", 3)
+        self.calls, self.note_writes, self.torn_writes = int(count), int(told), int(torn)
 
     def lay(self):
         """Lays out what is there before the run."""
@@ -229,17 +230,16 @@ def is_repeated(case, kind, struck):
     return kind.name == "interrupted read" and os.path.normpath(struck.lstrip("<")) in tree
 
 
-def error_lines(case, kind, struck):
-    """The error lines, of which one has to come, each with whether it tells of an output."""
+def error_line(case, kind, struck):
+    """The error line that has to come, and whether it tells of an output."""
     if kind.name == "growth":
-        kept = case.outputs if keeps_places(case) else {}
-        return [("error E20: out of memory\n", False)] + [(f"error E19: cannot write {name}\n", True) for name in kept]
+        return "error E20: out of memory\n", False
     output = output_of(case, struck)
     if output and not struck.startswith("<"):
-        return [(f"error E19: cannot write {output}\n", True)]
+        return f"error E19: cannot write {output}\n", True
     path = os.path.normpath(struck.lstrip("<>"))
     names = {os.path.normpath(f"{case.root}/{name}"): name for name in case.tree}
-    return [(f"error E18: cannot read {names.get(path, path)}\n", False)]
+    return f"error E18: cannot read {names.get(path, path)}\n", False
 
 
 def begun_in_order(case, outputs, are_notes_whole):
@@ -318,11 +318,11 @@ def judge_outputs(case, run, kind, are_notes_whole, is_output):
 
 def judge_writes(run, kind):
     """What is wrong with the writes of the notes; None where nothing is."""
-    lines = run.notes.splitlines()
-    stale = sum(line.startswith(b"error E22: ") for line in lines)
-    if kind.name == "growth" or kind.name.endswith("write") or run.note_writes == len(lines) - max(stale - 1, 0):
-        return None
-    return f"{run.note_writes} writes of {run.notes.count(bytes([10]))} lines of notes"
+    if run.torn_writes:
+        return f"{run.torn_writes} writes of notes were to end within a line"
+    lines = len(run.notes.splitlines())
+    most = lines + (kind.name == "short write" and run.struck == ">&2")
+    return None if min(lines, 1) <= run.note_writes <= most else f"{run.note_writes} writes of {lines} lines of notes"
 
 
 def judge(case, run, kind):
@@ -344,11 +344,9 @@ def judge_left(case, run, kind):
         return "it did not end with status 3, and nothing on standard output"
     if run.struck == ">&2":
         return judge_notes_refused(case, run, kind)
-    lines = error_lines(case, kind, run.struck)
-    found = [(line, is_output) for line, is_output in lines if run.notes.endswith(line.encode())]
-    if not found:
-        return f"its last note is not: {lines[0][0].strip()}"
-    [(line, is_output)] = found
+    line, is_output = error_line(case, kind, run.struck)
+    if not run.notes.endswith(line.encode()):
+        return f"its last note is not: {line.strip()}"
     told = run.notes[: len(run.notes) - len(line.encode())]
     warnings = warnings_of(case)
     if not warnings.startswith(told) or (told and not told.endswith(b"\n")):
@@ -369,21 +367,6 @@ def judge_closed(case, run, kind, is_refused):
     if keeps_places(case):
         return judge_places(case, run, kind) if run.status else judge_whole(case, run, kind)
     return begun_in_order(case, run.outputs, not case.notes)
-
-
-def judge_growths(case, kind, said):
-    """What is wrong with the outputs that the last notes name, where one growth after another was refused; None where nothing is.
-    With --replace first the texts grow, in the order of the outputs, and then those are made, in order, whose text is another; or
-    each, where all growths from one on are refused and it may not be seen that one holds its text."""
-    names = list(case.outputs)
-    lines = {f"error E19: cannot write {name}".encode(): at for at, name in enumerate(names)}
-    named = [lines[line] for line in (notes.splitlines()[-1] for notes in said if notes) if line in lines]
-    turns = [at for at in range(1, len(named)) if named[at] < named[at - 1]]
-    if len(turns) > 1:
-        return f"the outputs were named in the order {[names[at] for at in named]}"
-    made = {names[at] for at in named[turns[0] :]} if turns else set()
-    same = {name for name, text in cases.texts_of(case).items() if before(case)[name] == text}
-    return f"{sorted(made & same)} held their texts" if made & same and not kind.is_lasting else None
 
 
 def check_closed(work, between, program, case, kind):
@@ -409,17 +392,14 @@ def check_kind(work, between, program, case, kind):
         return 0, 0, [f"without a refused call: {wrong}"]
     if start.calls == 0 and kind.name in needed(case):
         return 0, 0, [f"no call of {kind.name}"]
-    went_on, wrong, stayed, said = 0, [], 0, []
+    went_on, wrong, stayed = 0, [], 0
     for number in range(1, start.calls + 1):
         run = Run(work, between, program, case, kind, number)
         why = judge(case, run, kind)
         went_on += run.left() == right(case)
         stayed += len(run.beside)
-        said.append(run.notes)
         if why:
             wrong.append(f"{kind} {number} {run.struck}: {why}: status {run.status}, notes {run.notes[-200:]!r}")
-    if kind.name == "growth" and judge_growths(case, kind, said):
-        wrong.append(f"{kind}: {judge_growths(case, kind, said)}")
     if kind.besides and {"move", kind.name} <= set(needed(case)) and not (stayed or wrong):
         wrong.append(f"{kind}: no file stayed beside, so nothing was to be removed")
     return start.calls, went_on, wrong
