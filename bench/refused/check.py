@@ -5,21 +5,23 @@ output holds another text before a run, so that one that was begun is told from 
 hold its text, or not be there.
 
 A run without a refused call has to end with its status, its notes and its outputs, to the byte. A run in which a call was
-refused ends with status 3. In each, a write to standard error holds one or more whole lines. So there are no more writes than lines,
-but for one more where a write moved one byte. Its notes are then a beginning of the right ones, in whole lines, and the one error
+refused ends with status 3. In each, a write to standard error holds one or more whole lines. So there are no more writes than
+lines; where a write moved one byte, one more. Only where the growth was refused that makes room to join lines, and that is one
+growth of a run, they may come in pieces. Its notes are then a beginning of the right ones, in whole lines, and the one error
 line: E20 for memory, E18 with the name of the file that could not be read, E19 with the name of the output that could not be
-written; where the notes themselves were refused, a beginning and nothing else. Of the outputs, each that was begun holds a beginning of its text, and nothing is begun before the
-notes and the outputs before it are whole. Behind a file that could not be read nothing is begun, and before an output that
+written; where the notes themselves were refused, a beginning and nothing else. Of the outputs, each that was begun holds a
+beginning of its text, and nothing is begun before the notes and the outputs before it are whole: so it is too where a growth was
+refused while an output was opened or written. Behind a file that could not be read nothing is begun, and before an output that
 could not be written all is whole. What a program may get along without, it may also get along without, to the same end as if
 nothing had been refused: a growth, the closing of a file. A read of a file of the tree that was interrupted has to be tried again.
 Another call that was interrupted may be, and where it is not it counts as refused. A call that moves one byte is no fault.
 
 With --replace a run that does not end with status 0 leaves every output as it was, the same file of the same time, and nothing
 beside it (no file *.kconf-*); only where a move is refused the outputs before that one are the new ones. A file that stands
-beside stays where its removal is refused as well. A fault of what is made beside X is E19 with the name X, want of memory is E20.
-Where an output held its text the file stays, but where the look at it was refused, or a growth: then
-the run may replace it, and ends with status 0. No file gives more access than the one that it replaces, at any time: what is left
-beside shows that. Where the system refuses to follow a link once, the run may go on; where it always does, that is E19.
+beside stays where its removal is refused as well. A fault of what is made beside X is E19 with the name X; want of memory is E20
+there too. Where an output held its text the file stays, but where the look at it was refused, or a growth: then the run may
+replace it, and ends with status 0. No file gives more access than the one that it replaces, at any time: what is left beside shows
+that. Where the system refuses to follow a link once, the run may go on; where it always does, that is E19.
 
 With --check every output stays as it was. An output that could not be compared, since a read of it or a growth was refused,
 counts as one that does not hold its text: the run then ends with status 1 and E22 for it. Where a growth was refused it may also
@@ -318,6 +320,8 @@ def judge_outputs(case, run, kind, are_notes_whole, is_output):
 
 def judge_writes(run, kind):
     """What is wrong with the writes of the notes; None where nothing is."""
+    if run.torn_writes and kind.name == "growth":
+        return None
     if run.torn_writes:
         return f"{run.torn_writes} writes of notes were to end within a line"
     lines = len(run.notes.splitlines())
@@ -392,14 +396,17 @@ def check_kind(work, between, program, case, kind):
         return 0, 0, [f"without a refused call: {wrong}"]
     if start.calls == 0 and kind.name in needed(case):
         return 0, 0, [f"no call of {kind.name}"]
-    went_on, wrong, stayed = 0, [], 0
+    went_on, wrong, stayed, torn = 0, [], 0, []
     for number in range(1, start.calls + 1):
         run = Run(work, between, program, case, kind, number)
         why = judge(case, run, kind)
         went_on += run.left() == right(case)
         stayed += len(run.beside)
+        torn += [number] * bool(run.torn_writes)
         if why:
             wrong.append(f"{kind} {number} {run.struck}: {why}: status {run.status}, notes {run.notes[-200:]!r}")
+    if len(torn) > 1 and not kind.is_lasting:
+        wrong.append(f"{kind} {torn}: writes of notes were to end within a line, where each of these was refused")
     if kind.besides and {"move", kind.name} <= set(needed(case)) and not (stayed or wrong):
         wrong.append(f"{kind}: no file stayed beside, so nothing was to be removed")
     return start.calls, went_on, wrong
