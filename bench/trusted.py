@@ -27,7 +27,9 @@ RUN = {
     ("kc_io", "laws"): None,
     ("kc_io", "device"): None,
     ("kc_load", "folder"): None,
-    ("kc_disk", "program"): {"kconf", "kconf_of", "kconf_over", "exit_status"},
+    ("kc_disk", "arguments"): {"of"},
+    ("kc_disk", "ended"): {"status", "kconf_over"},
+    ("kc_disk", "program"): {"kconf", "exit_status"},
 }
 HEADS = {"-- Trusted: ": True, "-- For proofs: ": False}
 WORD = re.compile(r"[A-Za-z_][\w'«»-]*(?:\.[A-Za-z_0-9][\w'-]*)*")

@@ -46,8 +46,7 @@ module _ (each : Each) (old : Option FolderState) where
   -- the list could not be read
   pub not-listed : (fault : LoadFault) (new : Option FolderState) (before after : Log) → FindsNames each (Err fault) old new → TriesToSay (load_line fault) before after →
       FolderRunsEach each old new before after answered.Faulted
-  not-listed (CannotRead name) new before after ((failed, leads), (file, is, named)) says =
-      unlisted _ (rw named (unreadable file failed is leads)) says refl
+  not-listed (CannotRead name) new before after (file, is, none, named) says = unlisted _ (rw named (unreadable file is none)) says refl
   not-listed Memory new before after (failed, leads) says = unlisted _ (no_memory failed leads) says refl
 
   -- the names are known

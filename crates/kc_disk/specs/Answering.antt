@@ -19,6 +19,8 @@ use Rattle.kc_words.specs.declared.usage.UsageError.TheVariants.{Help, Version, 
 use Rattle.kc_conf.specs.FolderRuns.{FolderRuns}
 use Rattle.kc_conf.specs.declared.options.Status.{Status}
 use Rattle.kc_disk.specs.EachRuns.{FolderRunsEach}
+use Rattle.kc_disk.specs.declared.arguments.Arguments.{Arguments}
+use Rattle.kc_disk.specs.declared.arguments.Arguments.TheVariants.{Given, Unread}
 use Rattle.kc_disk.specs.Usage.{EndsUsage, SaysUsage}
 
 -- the arguments ask for this: clap finds no fault in them, each field is what they hold, they go together, and the prefix is one
@@ -37,15 +39,12 @@ abbrev pub EndsAsked : Request → Option FolderState → Option FolderState →
 EndsAsked (request.One options) folder folder_after old new status = FolderRuns options folder folder_after old new status
 EndsAsked (request.Each each) folder folder_after old new status = FolderRunsEach each folder folder_after old new status
 
--- The program's arguments: they ask for a run, and it ends so; or they ask for none, for this cause, which is said, and nothing else is
--- done.
-pub data KconfEnds (arguments : List (String Global)) (folder folder_after : Option FolderState) (old new : Log) (status : Status) : Type 0 where
-  runs : (r : Request) → GiveRequest arguments r → EndsAsked r folder folder_after old new status → KconfEnds arguments folder folder_after old new status
-  none : (usage : UsageError) → GiveNone arguments usage → EndsUsage usage status → SaysUsage usage old new → folder_after ≡ folder → KconfEnds arguments folder folder_after old new status
-
--- the same over the disk, which tells nothing
-abbrev pub KconfEndsOnDisk : List (String Global) → Status → Type 0
-KconfEndsOnDisk arguments status = KconfEnds arguments None None None None status
+-- What is done with arguments that were read: they ask for a run, and it ends so; or they ask for none, for this cause, which is said, and
+-- nothing else is done.
+pub data AnswersArguments (arguments : List (String Global)) (folder folder_after : Option FolderState) (old new : Log) (status : Status) : Type 0 where
+  runs : (r : Request) → GiveRequest arguments r → EndsAsked r folder folder_after old new status → AnswersArguments arguments folder folder_after old new status
+  none : (usage : UsageError) → GiveNone arguments usage → EndsUsage usage status → SaysUsage usage old new → folder_after ≡ folder →
+      AnswersArguments arguments folder folder_after old new status
 
 -- what is told of words of which one is no text
 abbrev pub no_text : List ℕ
@@ -58,8 +57,18 @@ AreUnread error Version = ⊥
 AreUnread error (Bad text) = (error_kind error ≢ OutOfMemory) × (string_bytes text ≡ no_text)
 AreUnread error Memory = ⊤
 
--- A process with these words, the first of which is the program's name: it ends as the others have it. Or the words could not
--- be read.
-abbrev pub ProcessEnds : Result (IntoIter (String Global) Global) Error → Status → Type 0
-ProcessEnds (Ok words) status = KconfEndsOnDisk (drop 1 (into_iter_items words)) status
-ProcessEnds (Err error) status = (usage : UsageError) × AreUnread error usage × EndsUsage usage status
+-- the arguments of a process with these words, of which the first is the program's name; or there was no memory for them
+abbrev pub AreArgumentsOf : Result (IntoIter (String Global) Global) Error → Arguments → Type 0
+AreArgumentsOf (Ok words) (Given arguments) = arguments.items ≡ drop 1 (into_iter_items words)
+AreArgumentsOf (Ok words) (Unread usage) = usage ≡ Memory
+AreArgumentsOf (Err error) (Given arguments) = ⊥
+AreArgumentsOf (Err error) (Unread usage) = AreUnread error usage
+
+-- A run of the program: it does what the arguments ask for; or they could not be read, which is said, and nothing else is done.
+abbrev pub KconfEnds : Arguments → Option FolderState → Option FolderState → Log → Log → Status → Type 0
+KconfEnds (Given arguments) folder folder_after old new status = AnswersArguments arguments.items folder folder_after old new status
+KconfEnds (Unread usage) folder folder_after old new status = EndsUsage usage status × SaysUsage usage old new × (folder_after ≡ folder)
+
+-- the same over the disk, which tells nothing
+abbrev pub KconfEndsOnDisk : Arguments → Status → Type 0
+KconfEndsOnDisk arguments status = KconfEnds arguments None None None None status

@@ -43,9 +43,15 @@ pub record IsUnloaded (each : Each) (fault : LoadFault) (folder folder_after : O
   pub cause : IsLoadFault (files_told folder_after) (string_bytes each.options.root) (string_bytes each.options.kconfig) fault
   pub leads : FolderLeads (failed_load {A = Unit {0}} (string_bytes each.options.root) (Err fault)) folder folder_after
 
--- The list could not be read: it is not there, its bytes are no UTF-8, or the folder failed at it; or memory ran out.
+-- There is no list to be read: the folder failed at its path, or it has no such file, or that is no UTF-8.
+pub data HasNoList (list : List ℕ) (folder folder_after : Option FolderState) : Type 0 where
+  failing : FolderLeads (list ∷ []) folder folder_after → HasNoList list folder folder_after
+  absent : FolderLeads [] folder folder_after → AnswersAs (files_told folder_after) list None → HasNoList list folder folder_after
+  no_text : (bytes : List ℕ) → FolderLeads [] folder folder_after → AnswersAs (files_told folder_after) list (Some bytes) → (IsUtf8 bytes → ⊥) → HasNoList list folder folder_after
+
+-- The list could not be read; or memory ran out.
 pub data IsUnlisted (each : Each) (folder folder_after : Option FolderState) : List ℕ → Type 0 where
-  unreadable : (file : String Global) (failed : List (List ℕ)) → each.list ≡ Some file → FolderLeads failed folder folder_after →
+  unreadable : (file : String Global) → each.list ≡ Some file → HasNoList (string_bytes file) folder folder_after →
       IsUnlisted each folder folder_after (cannot_read_line (string_bytes file))
   no_memory : (failed : List (List ℕ)) → FolderLeads failed folder folder_after → IsUnlisted each folder folder_after out_of_memory_line
 

@@ -15,13 +15,13 @@ use Rattle.kc_conf.specs.Many.{RunsEach}
 use Rattle.kc_conf.specs.Stops.{TriesToSay}
 use Rattle.kc_conf.specs.declared.options.Status.{Status}
 use Rattle.kc_conf.specs.declared.options.Status.TheVariants as answered
-use Rattle.kc_disk.specs.EachRuns.{AreListed, AreNames, GivesOptions, IsUnloaded}
+use Rattle.kc_disk.specs.EachRuns.{AreListed, AreNames, GivesOptions, HasNoList, IsUnloaded}
 
 -- the folder told of this list, or it cannot be read
 abbrev pub ReadsList : List ℕ → Result (Vec (String Global) Global) LoadFault → Option FolderState → Option FolderState → Type 0
 ReadsList list (Ok names) old new =
     FolderLeads [] old new × ((bytes : List ℕ) × AnswersAs (files_told new) list (Some bytes) × IsUtf8 bytes × (map string_bytes names.items ≡ listed bytes))
-ReadsList list (Err (CannotRead name)) old new = ((failed : List (List ℕ)) × FolderLeads failed old new) × (name.items ≡ list)
+ReadsList list (Err (CannotRead name)) old new = HasNoList list old new × (name.items ≡ list)
 ReadsList list (Err Memory) old new = (failed : List (List ℕ)) × FolderLeads failed old new
 
 -- the list of this name cannot be read, or there is no memory to say so
@@ -32,15 +32,13 @@ IsUnreadable list Memory = Unit {0}
 -- the same of the list, where there is one
 abbrev pub ReadsListIf : Each → Result (Vec (String Global) Global) LoadFault → Option FolderState → Option FolderState → Type 0
 ReadsListIf each (Ok names) old new = FolderLeads [] old new × AreListed new each.list (map string_bytes names.items)
-ReadsListIf each (Err (CannotRead name)) old new =
-    ((failed : List (List ℕ)) × FolderLeads failed old new) × ((file : String Global) × (each.list ≡ Some file) × (name.items ≡ string_bytes file))
+ReadsListIf each (Err (CannotRead name)) old new = (file : String Global) × (each.list ≡ Some file) × HasNoList (string_bytes file) old new × (name.items ≡ string_bytes file)
 ReadsListIf each (Err Memory) old new = (failed : List (List ℕ)) × FolderLeads failed old new
 
 -- these are the names, or the list cannot be read
 abbrev pub FindsNames : Each → Result (Vec (String Global) Global) LoadFault → Option FolderState → Option FolderState → Type 0
 FindsNames each (Ok names) old new = FolderLeads [] old new × AreNames each new (map string_bytes names.items)
-FindsNames each (Err (CannotRead name)) old new =
-    ((failed : List (List ℕ)) × FolderLeads failed old new) × ((file : String Global) × (each.list ≡ Some file) × (name.items ≡ string_bytes file))
+FindsNames each (Err (CannotRead name)) old new = (file : String Global) × (each.list ≡ Some file) × HasNoList (string_bytes file) old new × (name.items ≡ string_bytes file)
 FindsNames each (Err Memory) old new = (failed : List (List ℕ)) × FolderLeads failed old new
 
 -- the configurations of these names were run over the files of the folder, or these could not be loaded

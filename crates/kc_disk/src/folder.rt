@@ -2,7 +2,6 @@
 ghost use Rattle.std.specs.Prelude.{None};
 
 use kc_load::{Folder, FolderFault};
-use std::alloc::AllocError;
 use std::fs::{self, File, Metadata};
 use std::io::{self, ErrorKind, Read};
 use std::os::unix::fs::FileTypeExt;
@@ -18,15 +17,18 @@ pub struct SystemFolder<'a> {
 }
 
 impl<'a> SystemFolder<'a> {
-    /// Makes one with its own buffer of 65,536 bytes.
-    ///
-    /// # Errors
-    ///
-    /// Fails if there is no memory for the buffer.
-    pub fn new(rt: &'a HostRuntime) -> Result<SystemFolder<'a>, AllocError> {
-        let alloc = rt.alloc();
-        let buffer = vec![in alloc; 0; BUFFER_SIZE]?;
-        Ok(SystemFolder { rt, buffer })
+    /// Makes one. Its buffer of 65,536 bytes is made when the first file is read.
+    pub fn new(rt: &'a HostRuntime) -> SystemFolder<'a> {
+        SystemFolder {
+            rt,
+            buffer: Vec::new(rt.alloc()),
+        }
+    }
+
+    // The bytes of a file.
+    fn bytes_of(&mut self, path: &str) -> io::Result<Vec<u8>> {
+        self.buffer.resize(BUFFER_SIZE, 0)?;
+        read_whole(self.rt, path, &mut self.buffer)
     }
 }
 
@@ -84,7 +86,7 @@ impl<'a> Folder for SystemFolder<'a> {
     ghost state = { λ _. None };
 
     fn read(&mut self, path: &str) -> Result<Option<Vec<u8>>, FolderFault> {
-        match read_whole(self.rt, path, &mut self.buffer) {
+        match self.bytes_of(path) {
             Ok(bytes) => Ok(Some(bytes)),
             Err(error) if error.kind() == ErrorKind::NotFound => Ok(None),
             Err(error) if error.kind() == ErrorKind::OutOfMemory => Err(FolderFault::Memory),

@@ -238,7 +238,7 @@ fn one_file_is_open_at_a_time(rt: HostRuntime) -> Result<(), Fail> {
     }
     let files = [(".config", b"\n".as_slice()), ("x.cfg", b"\n".as_slice())];
     let mut device = MemoryDevice::new(rt.alloc(), &files, SEVEN);
-    let ended = run_words(&rt, &DONE, &words, &mut device);
+    let ended = run_words(&rt, &DONE, words, &mut device);
     assert!(rt; ended.status == Status::Done);
     let opened = match device.records() {
         Some(records) => opened_in_turn(records),

@@ -3,7 +3,7 @@ ghost use Rattle.std.specs.Prelude.{None};
 
 use crate::case::Case;
 use kc_conf::Status;
-use kc_disk::kconf_over;
+use kc_disk::{Arguments, kconf_over};
 use kc_io::{Action, Site};
 use kc_load::{Folder, FolderFault};
 use kc_memory_device::{MemoryDevice, Record};
@@ -56,11 +56,11 @@ pub(crate) fn words_of(alloc: Global, line: &str) -> Result<Vec<String>, AllocEr
     Ok(words)
 }
 
-/// Runs with these arguments over the case's tree and this device.
+/// Runs with these words as arguments over the case's tree and this device.
 pub(crate) fn run_words(
     rt: &HostRuntime,
     case: &Case,
-    words: &[String],
+    words: Vec<String>,
     device: &mut MemoryDevice<'_>,
 ) -> Ended {
     let mut folder = MemoryFolder {
@@ -70,9 +70,10 @@ pub(crate) fn run_words(
         alloc: rt.alloc(),
     };
     let mut kept = None;
-    let status = kconf_over(rt, words, &mut folder, device, &mut kept);
+    let arguments = Arguments::Given(words);
+    let ended = kconf_over(rt, &arguments, &mut folder, device, &mut kept);
     Ended {
-        status,
+        status: ended.status(),
         asked: folder.asked,
         is_kept: kept.is_some(),
     }
@@ -85,7 +86,7 @@ pub(crate) fn run_case(
     device: &mut MemoryDevice<'_>,
 ) -> Result<Ended, AllocError> {
     let words = words_of(rt.alloc(), case.arguments)?;
-    Ok(run_words(rt, case, &words, device))
+    Ok(run_words(rt, case, words, device))
 }
 
 // Adds the line of a call that worked, where it has one.

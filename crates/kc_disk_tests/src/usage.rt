@@ -3,7 +3,7 @@
 use crate::case::{Case, REFUSED};
 use crate::runs::{holds, run_case};
 use kc_conf::Status;
-use kc_disk::kconf;
+use kc_disk::{Arguments, kconf};
 use kc_memory_device::MemoryDevice;
 use std::io::{self, ErrorKind};
 use std::test::Fail;
@@ -53,7 +53,9 @@ fn a_bad_command_line_reads_nothing(rt: HostRuntime) -> Result<(), Fail> {
 #[test]
 fn arguments_that_are_no_text_are_a_bad_command_line(rt: HostRuntime) {
     let words = Err(io::Error::from(ErrorKind::InvalidData));
-    assert!(rt; kconf(&rt, words) == Status::Usage);
+    let arguments = Arguments::of(rt.alloc(), words);
+    assert!(rt; kconf(&rt, &arguments).status() == Status::Usage);
     let words = Err(io::Error::from(ErrorKind::OutOfMemory));
-    assert!(rt; kconf(&rt, words) == Status::Faulted);
+    let arguments = Arguments::of(rt.alloc(), words);
+    assert!(rt; kconf(&rt, &arguments).status() == Status::Faulted);
 }

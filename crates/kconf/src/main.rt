@@ -2,10 +2,11 @@
 //! wanted a C header, a minimal `.config` and a rule for make.
 #![tactic(auto)]
 
-use kc_disk::{exit_status, kconf};
+use kc_disk::{Arguments, exit_status, kconf};
 use std::env;
 use std::process::ExitCode;
 
 fn main(rt: HostRuntime) -> ExitCode {
-    ExitCode::from(exit_status(kconf(&rt, env::args(&rt))))
+    let arguments = Arguments::of(rt.alloc(), env::args(&rt));
+    ExitCode::from(exit_status(kconf(&rt, &arguments).status()))
 }

@@ -4,28 +4,28 @@ use crate::arguments::{arguments_of, rerun_arguments};
 use crate::compare::is_same;
 use crate::folders::{Entry, entries_here, has_file};
 use crate::outcome::{Answer, bytes_of, is_as_written};
-use kc_disk::{SystemDevice, SystemFolder, exit_status, kconf_over};
+use kc_disk::{Arguments, SystemDevice, SystemFolder, exit_status, kconf_over};
 use std::{env, fs, io};
 
 // What a second run writes.
 const AGAIN: &str = "again.config";
 
 // Runs with these arguments in the current folder.
-fn run(rt: &HostRuntime, arguments: &[String]) -> io::Result<Answer> {
-    let mut folder = SystemFolder::new(rt)?;
+fn run(rt: &HostRuntime, arguments: &Arguments) -> Answer {
+    let mut folder = SystemFolder::new(rt);
     let mut device = SystemDevice::keeping(rt);
     let mut kept = None;
-    let status = kconf_over(rt, arguments, &mut folder, &mut device, &mut kept);
-    Ok(Answer {
-        status: exit_status(status),
+    let ended = kconf_over(rt, arguments, &mut folder, &mut device, &mut kept);
+    Answer {
+        status: exit_status(ended.status()),
         diagnostics: device.into_diagnostics(),
-    })
+    }
 }
 
 // Runs the case whose folder is the current one, whose arguments are these lines.
 fn holds_once(rt: &HostRuntime, case: &str, text: &str, before: &[Entry]) -> io::Result<bool> {
-    let arguments = arguments_of(rt.alloc(), text)?;
-    let answer = run(rt, &arguments)?;
+    let arguments = Arguments::Given(arguments_of(rt.alloc(), text)?);
+    let answer = run(rt, &arguments);
     is_as_written(rt, case, before, &answer)
 }
 
@@ -54,8 +54,8 @@ fn holds_again(
     config: &str,
     path: &str,
 ) -> io::Result<bool> {
-    let arguments = rerun_arguments(rt.alloc(), text, config, AGAIN)?;
-    let _ = run(rt, &arguments)?;
+    let arguments = Arguments::Given(rerun_arguments(rt.alloc(), text, config, AGAIN)?);
+    let _ = run(rt, &arguments);
     is_again(rt, case, config, path)
 }
 

@@ -1,7 +1,7 @@
 //! `kconf` on the firmware tree of `data/`: what each run answers, and the files that it leaves.
 #![tactic(auto)]
 
-use kc_disk::{exit_status, kconf_of};
+use kc_disk::{Arguments, exit_status, kconf};
 use std::alloc::{AllocError, Global};
 use std::os::unix::fs::MetadataExt;
 use std::time::SystemTime;
@@ -50,8 +50,8 @@ fn arguments_of(alloc: Global, line: &str) -> Result<Vec<String>, AllocError> {
 
 // Runs `kconf` with the arguments of the line, and prints the exit status.
 fn run(rt: &HostRuntime, line: &str) -> io::Result<()> {
-    let arguments = arguments_of(rt.alloc(), line)?;
-    let status = exit_status(kconf_of(rt, &arguments));
+    let arguments = Arguments::Given(arguments_of(rt.alloc(), line)?);
+    let status = exit_status(kconf(rt, &arguments).status());
     println!(rt; "status {status}: {line}")
 }
 
@@ -142,7 +142,8 @@ fn many_fragments(rt: &HostRuntime) -> io::Result<()> {
     for _ in 0..1_100 {
         arguments.push(String::from_str(rt.alloc(), "empty.config")?)?;
     }
-    let status = exit_status(kconf_of(rt, &arguments));
+    let arguments = Arguments::Given(arguments);
+    let status = exit_status(kconf(rt, &arguments).status());
     let is_same = fs::read(rt, "full.config")? == fs::read(rt, "many.config")?;
     println!(rt; "status {status}: 1100 fragments; many.config is full.config: {is_same}")
 }

@@ -10,7 +10,7 @@ use Rattle.kc_disk.proofs.each.listed.Goals as goal
 of_list : (each : Each) (file : String Global) (result : Result (Vec (String Global) Global) LoadFault) (old new : Option FolderState) → each.list ≡ Some file →
     ReadsList (string_bytes file) result old new → ReadsListIf each result old new
 of_list each file (Ok names) old new is (leads, are) = (leads, rw is are)
-of_list each file (Err (CannotRead name)) old new is (failed, named) = (failed, (file, is, named))
+of_list each file (Err (CannotRead name)) old new is (none, named) = (file, is, none, named)
 of_list each file (Err Memory) old new is failed = failed
 
 pub returns-in-Some : goal.returns-in-Some

@@ -5,7 +5,7 @@ use Rattle.kc_words.specs.Kconf.{rows_for}
 use Rattle.kc_words.specs.declared.options.Request.{Request}
 use Rattle.kc_disk.specs.Answering.{runs, none}
 use Rattle.kc_words.specs.declared.options.Request.TheVariants as request
-use Rattle.kc_disk.proofs.program.kconf_over.Goals as goal
+use Rattle.kc_disk.proofs.answer.answer.Goals as goal
 
 pub returns-in-Ok-One : goal.returns-in-Ok-One
 returns-in-Ok-One g c =

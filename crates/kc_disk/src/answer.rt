@@ -1,0 +1,50 @@
+//! What arguments ask for, done.
+ghost use Rattle.std.specs.Prelude.{◌≡◌};
+ghost use Rattle.kc_disk.specs.Answering.{AnswersArguments};
+ghost use Rattle.kc_disk.specs.Usage.{EndsUsage, SaysUsage};
+
+use crate::each::run_each_in_folder;
+use crate::usage::say_usage;
+use kc_conf::{AcceptedTree, Status, run_in_folder};
+use kc_io::Device;
+use kc_load::Folder;
+use kc_words::{Request, UsageError, request_of};
+
+/// Prints what the arguments ask for, to standard output, or says what is wrong with them. If standard output does not take all of
+/// it, that is a fault.
+pub(crate) fn print_usage<D: Device>(
+    rt: &HostRuntime,
+    device: &mut D,
+    usage: &UsageError,
+) -> Status
+    ensures status { EndsUsage usage.now result }
+    ensures says { SaysUsage usage.now (D.log device.old) (D.log device.new) }
+{
+    match usage {
+        UsageError::Help(_) | UsageError::Version => {
+            if rt.stdout().write_all(usage.text().as_bytes()).is_ok() {
+                Status::Done
+            } else {
+                Status::Faulted
+            }
+        }
+        UsageError::Bad(_) | UsageError::Memory => say_usage(device, usage),
+    }
+}
+
+/// Does what these arguments ask for.
+pub(crate) fn answer<F: Folder, D: Device>(
+    rt: &HostRuntime,
+    arguments: &[String],
+    folder: &mut F,
+    device: &mut D,
+    kept: &mut Option<AcceptedTree>,
+) -> Status
+    ensures { AnswersArguments arguments.now (F.state folder.old) (F.state folder.new) (D.log device.old) (D.log device.new) result }
+{
+    match request_of(rt.alloc(), arguments) {
+        Ok(Request::One(options)) => run_in_folder(rt.alloc(), folder, &options, device, kept),
+        Ok(Request::Each(each)) => run_each_in_folder(rt.alloc(), folder, &each, device, kept),
+        Err(usage) => print_usage(rt, device, &usage),
+    }
+}
