@@ -12,7 +12,7 @@ use Rattle.kc_io.proofs.LogLemmas.{bytes_both, leads_as, leads_both, leads_nothi
 use Rattle.kc_dot.specs.Feeding.{ReadsPiece, StreamPosition, stream_start, to_come}
 use Rattle.kc_dot.specs.ReaderState.{ReaderState}
 use Rattle.kc_dot.specs.Reading.{Line, lines_from, reading, with_warnings}
-use Rattle.kc_conf.specs.Given.{InputFile, IsAsTold, IsThere, ended_lines, reads_one, still_told}
+use Rattle.kc_conf.specs.Given.{InputFile, IsAsTold, IsThere, begun, ended_lines, reads_one, still_told}
 use Rattle.kc_conf.specs.ReadSteps.{BreaksEnd, BreaksFile, BreaksOpened, BreaksPiece, EndsFile, FailsAt, Gives, IsStillFresh, Opens, ReadsFile, ReadsLines, ReadsOpened, Stand, StopsFile, TakesPiece, TakesSoFar, Warns, in_file, in_lines, said_now, there_file}
 use Rattle.kc_conf.specs.Stops.{event_of}
 use Rattle.kc_conf.specs.declared.reading.Waiting.{Waiting}
@@ -185,9 +185,8 @@ module _ (reader : ReaderState) (name : List ℕ) where
               bytes = so_far.bytes;
               begins = (left_of now.file.to_come, refl);
               short = short-piece reader.tree reader.prefix reader.name so_far.bytes position old.input now.input so_far.warned waits few so_far.takes;
-              opened = true;
-              nothing_before = λ not. absurd cc;
-              done_is = refl;
+              nothing_before = λ opens. absurd (let clash : Read ≡ Open = sym fails.0 ∙ opens in cc);
+              done_is = ap (λ action. begun action name so_far.bytes) (sym fails.0);
               front_is = ap (said_now old.waiting.holds) (warned-ended reader.tree reader.prefix reader.name so_far.bytes position old.input now.input so_far.warned waits so_far.takes);
             });
         log = leads_said (each_byte Read name so_far.bytes ++ event_of (Failed f)) (said_now old.waiting.holds so_far.warned ++ []) (said_now old.waiting.holds so_far.warned) old.log new.log
@@ -390,9 +389,8 @@ breaks-closed reader name may (Failed f) old new fails =
             bytes = [];
             begins = (file.bytes, refl);
             short = short-piece reader.tree reader.prefix reader.name [] stream_start old.input old.input [] none (omega arith) (λ rest more. refl);
-            opened = false;
             nothing_before = λ _. refl;
-            done_is = refl;
+            done_is = ap (λ action. begun action file.name []) (sym fails.0);
             front_is = sym (said-nothing old.waiting.holds)
                 ∙ ap (said_now old.waiting.holds) (warned-ended reader.tree reader.prefix reader.name [] stream_start old.input old.input [] none (λ rest more. refl));
           });

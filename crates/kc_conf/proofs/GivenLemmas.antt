@@ -5,6 +5,7 @@ use Rattle.std.specs.List.{flat_map}
 use Rattle.std.proofs.lemmas.List.Elements.{All-weaker, All-nil, All-cons}
 use Rattle.kc_io.specs.Held.{keeps_files, only_looks}
 use Rattle.kc_io.specs.Log.{Event, Journal, Log, Leads, Tells, did, each_byte, held}
+use Rattle.kc_io.specs.declared.device.Action.{Action}
 use Rattle.kc_io.specs.declared.device.Action.TheVariants.{Open, Miss, Read}
 use Rattle.kc_io.proofs.LogLemmas.{keeps_both, keeps_bytes}
 use Rattle.kc_dot.specs.Reading.{StreamLocation}
@@ -65,9 +66,9 @@ module _ (old mid new : Log) (a b : List Event) (s t : List ℕ) (keeps : keeps_
   AreReads-before (refused_name name is) = refused_name name is
   AreReads-before {inputs = inputs} (of_tree tree events accepted named there to) = of_tree tree events accepted named (AreThere-before inputs there) to
 
-  pub ReadsUpTo-before : (options : Options) (tree : TreeFacts) (inputs : List InputFile) (file : InputFile) (done : List Event) (said : List ℕ) →
-      ReadsUpTo (still_told mid new) options tree inputs file done said → ReadsUpTo (still_told old new) options tree inputs file done said
-  ReadsUpTo-before options tree inputs file done said up_to = record {
+  pub ReadsUpTo-before : (options : Options) (tree : TreeFacts) (inputs : List InputFile) (action : Action) (file : InputFile) (done : List Event) (said : List ℕ) →
+      ReadsUpTo (still_told mid new) options tree inputs action file done said → ReadsUpTo (still_told old new) options tree inputs action file done said
+  ReadsUpTo-before options tree inputs action file done said up_to = record {
     i = up_to.i;
     is_file = up_to.is_file;
     turn = up_to.turn;
@@ -75,7 +76,6 @@ module _ (old mid new : Log) (a b : List Event) (s t : List ℕ) (keeps : keeps_
     bytes = up_to.bytes;
     begins = up_to.begins;
     short = up_to.short;
-    opened = up_to.opened;
     nothing_before = up_to.nothing_before;
     done_is = up_to.done_is;
     said_is = up_to.said_is;
@@ -91,9 +91,9 @@ module _ (old mid new : Log) (b : List Event) (t : List ℕ) (w : Leads b t mid 
   AreReads-later (refused_name name is) = refused_name name is
   AreReads-later {inputs = inputs} (of_tree tree events accepted named there to) = of_tree tree events accepted named (AreThere-later inputs there) to
 
-  pub ReadsUpTo-later : (options : Options) (tree : TreeFacts) (inputs : List InputFile) (file : InputFile) (done : List Event) (said : List ℕ) →
-      ReadsUpTo (still_told old mid) options tree inputs file done said → ReadsUpTo (still_told old new) options tree inputs file done said
-  ReadsUpTo-later options tree inputs file done said up_to = record {
+  pub ReadsUpTo-later : (options : Options) (tree : TreeFacts) (inputs : List InputFile) (action : Action) (file : InputFile) (done : List Event) (said : List ℕ) →
+      ReadsUpTo (still_told old mid) options tree inputs action file done said → ReadsUpTo (still_told old new) options tree inputs action file done said
+  ReadsUpTo-later options tree inputs action file done said up_to = record {
     i = up_to.i;
     is_file = up_to.is_file;
     turn = up_to.turn;
@@ -101,7 +101,6 @@ module _ (old mid new : Log) (b : List Event) (t : List ℕ) (w : Leads b t mid 
     bytes = up_to.bytes;
     begins = up_to.begins;
     short = up_to.short;
-    opened = up_to.opened;
     nothing_before = up_to.nothing_before;
     done_is = up_to.done_is;
     said_is = up_to.said_is;

@@ -17,7 +17,7 @@ use Rattle.kc_dot.specs.Laws.{HasShortLines}
 use Rattle.kc_dot.specs.ReaderState.{ReaderState}
 use Rattle.kc_dot.specs.Reading.{Line, ReadResult, Stream, StreamLocation, UserInput, lines_from, lines_of, reading, with_warnings}
 use Rattle.kc_conf.specs.Asked.{holds_warnings, input_files, lead, may_at, names_of}
-use Rattle.kc_conf.specs.Given.{AreInputs, AreThere, HasTurn, InputFile, IsAsTold, IsThere, ReadsTo, all, bytes_of, ended_lines, line, reads, reads_one, still_told, warned_by}
+use Rattle.kc_conf.specs.Given.{AreInputs, AreThere, HasTurn, InputFile, IsAsTold, IsThere, ReadsTo, all, begun, bytes_of, ended_lines, line, reads, reads_one, still_told, warned_by}
 use Rattle.kc_conf.specs.Outcome.{AreLines, fresh_input, streams}
 use Rattle.kc_conf.specs.Reads.{BreaksInputs, ReadsInputs, StopsInputs, ended_with, in_input, in_notes, no_memory}
 use Rattle.kc_conf.specs.ReadSteps.{AreAsTold, BreaksFile, ReadsFile, ReadsSoFar, Stand, StopsFile, StopsWarnings, Warns, held_back, in_file, in_lines, said_now}
@@ -290,6 +290,11 @@ module _ (options : Options) (tree : TreeFacts) where
       bytes-inputs : bytes_of inputs ≡ bytes_of so_far.files ++ file.bytes ∷ bytes_of later
       bytes-inputs = map-append (λ (f : InputFile). f.bytes) so_far.files (file ∷ later)
 
+      turn-input : HasTurn inputs count
+      turn-input = λ j below.
+          let before : j < length (bytes_of so_far.files) = let c = so_far.counted in let l = length-map so_far.files (λ (f : InputFile). f.bytes) in omega (arith, below, c, l) in
+          subst HasShortLines (sym (ap (λ bs. get_or bs j []) bytes-inputs ∙ get_or_append_left (bytes_of so_far.files) (file.bytes ∷ bytes_of later) [] j before)) (so_far.short j [] before)
+
       goes-inputs : reading tree options.prefix old.input (lines_of (streams (names_of options) (bytes_of inputs)))
           ≡ with_warnings so_far.warned (reading tree options.prefix mid.input (lines_from stream 1 file.bytes ++ lines_of (streams later_streams (bytes_of later))))
       goes-inputs = ap (λ bs. reading tree options.prefix old.input (lines_of (streams (names_of options) bs))) bytes-inputs ∙ goes-at file.bytes (bytes_of later)
@@ -312,18 +317,15 @@ module _ (options : Options) (tree : TreeFacts) where
           in_input f file (reads so_far.files ++ done) (said_now old.waiting.holds so_far.warned ++ front) action called (record {
             i = count;
             is_file = get-input;
-            turn = λ j below.
-                let before : j < length (bytes_of so_far.files) = let c = so_far.counted in let l = length-map so_far.files (λ (f : InputFile). f.bytes) in omega (arith, below, c, l) in
-                subst HasShortLines (sym (ap (λ bs. get_or bs j []) bytes-inputs ∙ get_or_append_left (bytes_of so_far.files) (file.bytes ∷ bytes_of later) [] j before)) (so_far.short j [] before);
+            turn = turn-input;
             there = subst (AreThere (still_told old.log new.log)) (sym take-inputs)
                 (λ i other is turn. there-each (still_told old.log new.log) so_far.files i other there-before is);
             bytes = part.bytes;
             begins = part.begins;
             short = part.short;
-            opened = part.opened;
             nothing_before = part.nothing_before;
             done_is = ap (λ es. reads so_far.files ++ es) part.done_is
-                ∙ ap (λ (fs : List InputFile). reads fs ++ (if part.opened then did Open file.name ++ each_byte Read file.name part.bytes else [])) (sym take-inputs);
+                ∙ ap (λ (fs : List InputFile). reads fs ++ begun f.action file.name part.bytes) (sym take-inputs);
             said_is =
                 let rest = (reading tree options.prefix mid.input (ended_lines stream part.bytes)).warned in
                 let warned : so_far.warned ++ rest ≡ warned_by options tree inputs count part.bytes =
@@ -379,16 +381,18 @@ module _ (options : Options) (tree : TreeFacts) where
         let text = said_now mid.waiting.holds file.warned in
         let warns = warns-then so_far.warned file.warned (reads so_far.files) file.events old mid new so_far.warns file.warns in
         let given = inputs file.file new file.named file.told file.events text file.warns.log in
+        let long = long-stream tree options.prefix stream file.file.bytes mid.input (record { stream = stream; number = number }) (λ more. ap (λ (r : ReadResult). r.stopped) (file.goes more)) in
         record {
           inputs = given;
           are_inputs = are-all file.file new file.named file.told file.events text file.warns.log;
           events = reads so_far.files ++ file.events;
           reads_to = subst (λ (fs : List InputFile). ReadsTo given (Some (record { stream = stream; number = number })) (reads fs ++ file.events))
               (take-inputs file.file new file.named file.told file.events text file.warns.log)
-              (line (record { stream = stream; number = number }) count file.file file.events (get-input file.file new file.named file.told file.events text file.warns.log) file.reads_to);
+              (line (record { stream = stream; number = number }) count file.file file.events (get-input file.file new file.named file.told file.events text file.warns.log)
+              (turn-input file.file new file.named file.told file.events text file.warns.log) long file.reads_to);
           there = there-to (still_told old.log new.log) so_far.files (later file.file new file.named file.told file.events text file.warns.log) file.file
               (there-before file.file new file.named file.told file.events text file.warns.log) (there-this file.file new file.named file.told file.events text file.warns.log file.there)
-              (long-stream tree options.prefix stream file.file.bytes mid.input (record { stream = stream; number = number }) (λ more. ap (λ (r : ReadResult). r.stopped) (file.goes more)));
+              long;
           warned = so_far.warned ++ file.warned;
           reading_is = goes-inputs file.file new file.named file.told file.events text file.warns.log
               ∙ ap (with_warnings so_far.warned) (file.goes (lines_of (streams later_streams (bytes_of (later file.file new file.named file.told file.events text file.warns.log)))));

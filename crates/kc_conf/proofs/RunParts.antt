@@ -228,7 +228,7 @@ module _ (law : OneAnswer) (files : Files) (options : Options) (tree : TreeFacts
   breaks-told b t w (in_input f other file done said other_accepted named which name up_to) =
       let same : tree ≡ other = law.one_accepted files (root_file options) tree other accepted other_accepted in
       subst (λ l. Breaks files options said_of_tree inputs (noted told part) (still_told old new) (Failed f) done (l ++ said)) (ap (λ (s : TreeFacts). lines_text s.warnings) (sym same))
-      (in_input f other file done said other_accepted named which name (ReadsUpTo-before old mid new [] b told t refl h w options other inputs file done said up_to))
+      (in_input f other file done said other_accepted named which name (ReadsUpTo-before old mid new [] b told t refl h w options other inputs f.action file done said up_to))
   breaks-told b t w (in_delivery f events done are tells) =
       subst (λ l. Breaks files options said_of_tree inputs (noted told part) (still_told old new) (Failed f) (events ++ done) l) (sym (notes-noted told part))
       (in_delivery f events done (AreReads-before old mid new [] b told t refl h w are)
@@ -342,7 +342,7 @@ breaks-later files options before inputs outcome more text old mid new log (in_n
     in_notes f done left front note name split lines
     (Tells-later (λ journal. GoesBeyond (notes_of outcome ++ stale_lines options (stale_texts options (texts_of options outcome) journal)) front) old mid new more text log beyond)
 breaks-later files options before inputs outcome more text old mid new log (in_input f tree file done front accepted named which name up_to) =
-    in_input f tree file done front accepted named which name (ReadsUpTo-later old mid new more text log options tree inputs file done front up_to)
+    in_input f tree file done front accepted named which name (ReadsUpTo-later old mid new more text log options tree inputs f.action file done front up_to)
 breaks-later files options before inputs outcome more text old mid new log (in_delivery f events done are tells) =
     in_delivery f events done (AreReads-later old mid new more text log are)
     (Tells-later (λ journal. (left : List Event) × (done ++ left ≡ delivers options (texts_of options outcome) journal) × StopsBefore left (Err f)) old mid new more text log tells)

@@ -1,4 +1,4 @@
--- Trusted: A tree that was read, and one that was accepted.
+-- For proofs: A tree that was read, and one that was accepted.
 use Rattle.std.specs.Prelude.{◌≢◌, ℕ, List, Result, Ok, Err, IfOk, IfErr}
 use Rattle.kc_build.specs.Trees.{IsTreeOf}
 use Rattle.kc_read.specs.Files.{Files}

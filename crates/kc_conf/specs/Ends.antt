@@ -99,7 +99,7 @@ pub data Breaks (files : Files) (options : Options) (before : TreeFacts → List
       Breaks files options before inputs outcome told (Failed f) done front
   -- An input file could not be opened or read on.
   in_input : (f : Failure) (tree : TreeFacts) (file : InputFile) (done : List Event) (said_of_inputs : List ℕ) → IsAcceptedTree files (root_file options) tree → NamesAreRead files options →
-      (f.action ≡ Open) ⊎ (f.action ≡ Read) → f.name.now ≡ file.name → ReadsUpTo told options tree inputs file done said_of_inputs →
+      (f.action ≡ Open) ⊎ (f.action ≡ Read) → f.name.now ≡ file.name → ReadsUpTo told options tree inputs f.action file done said_of_inputs →
       Breaks files options before inputs outcome told (Failed f) done (before tree ++ said_of_inputs)
   -- A text could not be delivered: all was said, and what was to be done before was done.
   in_delivery : (f : Failure) (events done : List Event) → AreReads files options inputs told events →

@@ -15,7 +15,7 @@ use Rattle.kc_dot.specs.ReaderState.{ReaderState}
 use Rattle.kc_dot.specs.Reading.{Line, UserInput, lines_from, lines_of, reading, with_warnings}
 use Rattle.kc_dot.specs.Sink.{BeginsWith, GoesBeyond}
 use Rattle.kc_conf.specs.Asked.{input_files, names_of}
-use Rattle.kc_conf.specs.Given.{InputFile, IsAsTold, IsThere, ReadsInto, bytes_of, ended_lines, reads, reads_one, still_told}
+use Rattle.kc_conf.specs.Given.{InputFile, IsAsTold, IsThere, ReadsInto, begun, bytes_of, ended_lines, reads, reads_one, still_told}
 use Rattle.kc_conf.specs.Outcome.{AreLines, streams}
 use Rattle.kc_conf.specs.Reads.{IsNoteStop, ended_with}
 use Rattle.kc_conf.specs.Stops.{event_of}
@@ -163,13 +163,12 @@ module _ (reader : ReaderState) where
   ReadsFileTo (Some number) file events = ReadsInto file events
 
   -- It could not be opened or read on: so many of its bytes were read, in which no line is too long.
-  pub record ReadsPart (file : InputFile) (holds : Bool) (before : UserInput) (done : List Event) (front : List ℕ) : Type 0 where
+  pub record ReadsPart (action : Action) (file : InputFile) (holds : Bool) (before : UserInput) (done : List Event) (front : List ℕ) : Type 0 where
     pub bytes : List ℕ
     pub begins : BeginsWith file.bytes bytes
     pub short : HasShortLines bytes
-    pub opened : Bool
-    pub nothing_before : opened ≡ false → bytes ≡ []
-    pub done_is : done ≡ (if opened then did Open file.name ++ each_byte Read file.name bytes else [])
+    pub nothing_before : action ≡ Open → bytes ≡ []
+    pub done_is : done ≡ begun action file.name bytes
     pub front_is : front ≡ said_now holds (reading reader.tree reader.prefix before (ended_lines reader.name bytes)).warned
 
   -- why reading it was broken off, what was done of it and what was said
@@ -177,7 +176,7 @@ module _ (reader : ReaderState) where
     in_lines : (stop : Stop) (done left : List Event) (front : List ℕ) → done ++ left ≡ reads_one file →
         ((more : List Line) → StopsWarnings holds stop (reading reader.tree reader.prefix before (lines_from reader.name 1 file.bytes ++ more)).warned front) →
         StopsFile file holds before stop done front
-    in_file : (f : Failure) (done : List Event) (front : List ℕ) → (f.action ≡ Open) ⊎ (f.action ≡ Read) → f.name.now ≡ file.name → ReadsPart file holds before done front →
+    in_file : (f : Failure) (done : List Event) (front : List ℕ) → (f.action ≡ Open) ⊎ (f.action ≡ Read) → f.name.now ≡ file.name → ReadsPart f.action file holds before done front →
         StopsFile file holds before (Failed f) done front
 
   -- an open file was read

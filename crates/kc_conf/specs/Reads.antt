@@ -46,7 +46,7 @@ pub data StopsInputs (told : Log) (options : Options) (tree : TreeFacts) (inputs
   no_memory : (done left : List Event) (front : List ℕ) → done ++ left ≡ reads inputs → AreLines front → BeginsWith warned front → StopsInputs told options tree inputs warned OutOfMemory done front
   in_notes : (f : Failure) (done left : List Event) (front : List ℕ) → f.action ≡ Note → f.name.now ≡ [] → done ++ left ≡ reads inputs → AreLines front → GoesBeyond warned front →
       StopsInputs told options tree inputs warned (Failed f) done front
-  in_input : (f : Failure) (file : InputFile) (done : List Event) (front : List ℕ) → (f.action ≡ Open) ⊎ (f.action ≡ Read) → f.name.now ≡ file.name → ReadsUpTo told options tree inputs file done front →
+  in_input : (f : Failure) (file : InputFile) (done : List Event) (front : List ℕ) → (f.action ≡ Open) ⊎ (f.action ≡ Read) → f.name.now ≡ file.name → ReadsUpTo told options tree inputs f.action file done front →
       StopsInputs told options tree inputs warned (Failed f) done front
 
 pub record BreaksInputs (options : Options) (tree : TreeFacts) (stop : Stop) (before : UserInput) (old new : Log) : Type 0 where
