@@ -12,11 +12,7 @@ use kc_words::{Request, UsageError, request_of};
 
 /// Prints what the arguments ask for, to standard output, or says what is wrong with them. If standard output does not take all of
 /// it, that is a fault.
-pub(crate) fn print_usage<D: Device>(
-    rt: &HostRuntime,
-    device: &mut D,
-    usage: &UsageError,
-) -> Status
+pub(crate) fn print_usage<D: Device>(rt: &HostRuntime, device: &mut D, usage: &UsageError) -> Status
     ensures status { EndsUsage usage.now result }
     ensures says { SaysUsage usage.now (D.log device.old) (D.log device.new) }
 {
