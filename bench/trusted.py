@@ -27,6 +27,7 @@ RUN = {
     ("kc_io", "laws"): None,
     ("kc_io", "device"): None,
     ("kc_load", "folder"): None,
+    ("kc_disk", "laws"): None,
     ("kc_disk", "program"): {"kconf", "kconf_of", "kconf_over", "exit_status"},
 }
 HEADS = {"-- Trusted: ": True, "-- For proofs: ": False}

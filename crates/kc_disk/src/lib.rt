@@ -7,6 +7,7 @@ mod device;
 mod diagnostics;
 mod each;
 mod folder;
+pub mod laws;
 mod program;
 mod same_text;
 mod temporary;
