@@ -1,5 +1,5 @@
 -- What each of many configurations leaves, whatever the others do.
-use Rattle.std.proofs.Common.{◌≡◌, ◌≢◌, ℕ, zero, suc, ◌+◌, ◌<◌, ◌≤◌, Bool, true, false, not, ◌||◌, cond, List, [], ◌∷◌, ◌++◌, map, refl, sym, ap, subst, ◌∙◌, Option, None, Some, Result, Ok, Err, bytes_eq, arith, unwrap_or, is_none}
+use Rattle.std.proofs.Common.{◌≡◌, ◌≢◌, ℕ, suc, ◌+◌, ◌<◌, ◌≤◌, Bool, true, false, not, ◌||◌, cond, List, [], ◌∷◌, map, refl, sym, ap, subst, ◌∙◌, Option, Some, Ok, Err, bytes_eq, arith, unwrap_or, is_none}
 use Rattle.std.specs.Prelude.{◌&&◌, All}
 use Rattle.std.specs.List.{list_any}
 use Rattle.std.specs.Option.{option_map_or}
@@ -9,22 +9,20 @@ use Rattle.kc_io.specs.Held.{last_of}
 use Rattle.kc_io.specs.Log.{Event, Journal, Log, Leads, failed, held, is_held, noted}
 use Rattle.kc_io.specs.Scripts.{NamedText, stale}
 use Rattle.kc_io.specs.declared.device.Action.TheVariants.{Note}
-use Rattle.kc_io.specs.declared.device.Fault.{Fault}
 use Rattle.kc_io.proofs.LogLemmas.{keeps_noted}
 use Rattle.kc_read.specs.Files.{Files}
 use Rattle.kc_tree.specs.TreeFacts.{TreeFacts}
 use Rattle.kc_conf.specs.Asked.{input_files}
 use Rattle.kc_conf.specs.Ends.{stale_by, stale_texts, status_with, texts_of}
 use Rattle.kc_conf.specs.Given.{AreInputs, InputFile, IsAsTold}
-use Rattle.kc_conf.specs.Many.{EndsTurn, RunsEach, RunsTurn, StopsAtTree, TakeTurns, TakesTurn}
+use Rattle.kc_conf.specs.Many.{EndsTurn, StopsAtTree, TakeTurns, TakesTurn}
 use Rattle.kc_conf.specs.Many as many
 use Rattle.kc_conf.specs.Outcome.{Outcome, lines_text}
-use Rattle.kc_conf.specs.Stops.{TriesToSay}
 use Rattle.kc_conf.specs.declared.options.Delivery.{Delivery}
 use Rattle.kc_conf.specs.declared.options.Delivery.TheVariants as delivered
 use Rattle.kc_conf.specs.declared.options.Options.{Options}
 use Rattle.kc_conf.specs.declared.options.Status.{Status}
-use Rattle.kc_conf.specs.Separate.{AreSeparate, EachLeavesItsPart, EndsAmong, HoldAlike, IsWrittenByNone, LeavesEach, RunsAmong, TakesTurnAmong, TurnsAmong, is_among, output_files, written_by, written_files}
+use Rattle.kc_conf.specs.Separate.{AreSeparate, EachLeavesItsPart, EndsAmong, HoldAlike, TakesTurnAmong, TurnsAmong, is_among, output_files, written_by, written_files}
 use Rattle.kc_conf.specs.Separate as among
 use Rattle.kc_conf.proofs.SeparateLemmas.{broken_held, completes_held, completes_last, kept_held, texts_lack}
 

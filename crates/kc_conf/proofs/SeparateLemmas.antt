@@ -1,5 +1,5 @@
 -- Which files a turn leaves as they are, and what a whole one makes of the others.
-use Rattle.std.proofs.Common.{◌≡◌, ℕ, Bool, true, false, not, ◌||◌, ◌&&◌, cond, List, [], ◌∷◌, ◌++◌, fold, take, refl, sym, ap, subst, ◌∙◌, Option, None, Some, String, Result, Ok, Err, bytes_eq, string_bytes, is_some, if◌then◌else◌}
+use Rattle.std.proofs.Common.{◌≡◌, ℕ, Bool, true, false, not, ◌||◌, ◌&&◌, cond, List, [], ◌∷◌, ◌++◌, fold, take, refl, sym, ap, subst, ◌∙◌, Option, None, Some, String, bytes_eq, is_some, if◌then◌else◌}
 use Rattle.std.specs.List.{flat_map, list_all, list_any}
 use Rattle.std.specs.Option.{option_map_or}
 use Rattle.std.specs.declared.alloc.Global.{Global}
@@ -7,21 +7,20 @@ use Rattle.std.proofs.lemmas.Grind.{fold-append}
 use Rattle.std.proofs.lemmas.List.Folds.{list_all-append, list_any-append}
 use Rattle.std.proofs.lemmas.Slice.Eq.{bytes_eq-Decides}
 use Rattle.kc_io.specs.Held.{keeps_files, last_of, only_looks}
-use Rattle.kc_io.specs.Log.{Event, Journal, Log, Leads, Spot, acted, after, did, each_byte, held, is_held, noted}
+use Rattle.kc_io.specs.Log.{Event, Journal, Leads, Spot, acted, after, did, each_byte, held, is_held, noted}
 use Rattle.kc_io.specs.Scripts.{NamedText, chosen, delivery, moved, put, share_name, stale}
 use Rattle.kc_io.specs.declared.delivery.Manner.{Manner}
 use Rattle.kc_io.specs.declared.delivery.Manner.TheVariants.{Plain, Replacing}
 use Rattle.kc_io.specs.declared.device.Action.{Action}
 use Rattle.kc_io.specs.declared.device.Action.TheVariants.{Open, Miss, Read, Create, Write, Close, Move, Clear, Note}
-use Rattle.kc_io.specs.declared.device.Fault.{Fault}
 use Rattle.kc_io.specs.declared.device.Site.{Site}
 use Rattle.kc_io.specs.declared.device.Site.TheVariants.{Place, Beside}
 use Rattle.kc_io.proofs.HeldLemmas.{delivery_held}
 use Rattle.kc_io.proofs.LogLemmas.{keeps_both, keeps_bytes, keeps_noted, looks_acts, spot_more, spot_of}
 use Rattle.kc_read.specs.Files.{Files}
 use Rattle.kc_tree.specs.TreeFacts.{TreeFacts}
-use Rattle.kc_conf.specs.Ends.{AreReads, Breaks, Broken, Completes, delivered_by, delivers, in_delivery, in_input, in_notes, no_memory, stale_by, stale_texts, text_at, texts_of}
-use Rattle.kc_conf.specs.Given.{InputFile, reads, still_told}
+use Rattle.kc_conf.specs.Ends.{Breaks, Broken, Completes, delivered_by, delivers, in_delivery, in_input, in_notes, no_memory, text_at, texts_of}
+use Rattle.kc_conf.specs.Given.{InputFile, reads}
 use Rattle.kc_conf.specs.Outcome.{Outcome}
 use Rattle.kc_conf.specs.Stops.{cleared_by, clearing, event_of}
 use Rattle.kc_conf.specs.declared.options.Delivery.{Delivery}

@@ -1,11 +1,10 @@
 -- Configurations whose names are apart touch no file of one another.
-use Rattle.std.proofs.Common.{◌≡◌, ◌≢◌, ℕ, ◌<◌, Bool, true, false, List, [], ◌∷◌, ◌++◌, length, map, refl, sym, ap, ◌∙◌, Option, None, Some, Result, Ok, Err, String, string_bytes, option_map}
+use Rattle.std.proofs.Common.{◌≡◌, ℕ, Bool, true, false, List, [], ◌∷◌, ◌++◌, length, map, refl, sym, ap, ◌∙◌, Option, None, Some, Result, Ok, Err, String, string_bytes, option_map}
 use Rattle.std.specs.Prelude.{slice_index_or}
 use Rattle.std.specs.declared.alloc.Global.{Global}
 use Rattle.kc_io.specs.Laws.{LookingKeeps}
 use Rattle.kc_io.specs.Log.{Journal, Leads, Log, held, noted, with_events}
 use Rattle.kc_io.specs.declared.device.Fault.{Fault}
-use Rattle.kc_load.specs.Folders.{FolderState}
 use Rattle.kc_words.specs.Apart.{AreApart, filled_if, reads, writes}
 use Rattle.kc_words.specs.Patterns.{AreOptionsFor, filled}
 use Rattle.kc_words.specs.declared.each.Each.{Each}
@@ -15,11 +14,10 @@ use Rattle.kc_conf.specs.Asked.{input_files}
 use Rattle.kc_conf.specs.Separate.{AreSeparate, is_among, name_if, output_files}
 use Rattle.kc_conf.specs.Stops.{TriesToSay}
 use Rattle.kc_conf.specs.declared.options.Options.{Options}
-use Rattle.kc_conf.specs.declared.options.Status.{Status}
 use Rattle.kc_conf.proofs.AmongLemmas.{each_leaves_its_part_law, written_output}
-use Rattle.kc_disk.specs.EachLeaves.{FolderLeavesEach, NamedStandApart, ends_before, leaves}
-use Rattle.kc_disk.specs.EachRuns.{FolderRunsEach, GivesOptions, clashing, loaded, unlisted, unloaded}
-use Rattle.kc_disk.specs.Usage.{SaysText, SaysUsage}
+use Rattle.kc_disk.specs.EachLeaves.{NamedStandApart, ends_before, leaves}
+use Rattle.kc_disk.specs.EachRuns.{GivesOptions, clashing, loaded, unlisted, unloaded}
+use Rattle.kc_disk.specs.Usage.{SaysUsage}
 
 -- ---- the names of the files
 
