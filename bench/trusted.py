@@ -29,6 +29,7 @@ RUN = {
     ("kc_load", "folder"): None,
     ("kc_disk", "arguments"): {"of"},
     ("kc_disk", "ended"): {"status", "kconf_over"},
+    ("kc_disk", "laws"): None,
     ("kc_disk", "program"): {"kconf", "exit_status"},
 }
 HEADS = {"-- Trusted: ": True, "-- For proofs: ": False}

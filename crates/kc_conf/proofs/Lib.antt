@@ -20,4 +20,6 @@ pub mod PartOutcomes
 pub mod RunParts
 pub mod InputParts
 pub mod ManyLemmas
+pub mod SeparateLemmas
+pub mod AmongLemmas
 pub mod FolderLemmas

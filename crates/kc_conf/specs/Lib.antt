@@ -17,5 +17,6 @@ pub mod Accepted
 pub mod Computed
 pub mod Endings
 pub mod Many
+pub mod Separate
 pub mod PartRuns
 pub mod FolderRuns

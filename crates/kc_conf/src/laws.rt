@@ -2,10 +2,12 @@
 ghost use Rattle.kc_conf.specs.Existence.{AcceptedHaveAnOutcome, AnswerExists, ExactlyOneAnswer, ExactlyOneOutcome, OutcomeExists, SolutionExists};
 ghost use Rattle.kc_conf.specs.Accounted.{NothingIsLost};
 ghost use Rattle.kc_conf.specs.Many.{ExactlyOnePart, PartsAreOfRuns};
+ghost use Rattle.kc_conf.specs.Separate.{EachLeavesItsPart};
 ghost use Rattle.kc_conf.specs.Strict.{StrictTakesAll};
 ghost use Rattle.kc_conf.specs.Outcome.{NotesAreLines, OneAnswer, OneOutcome};
 ghost use Rattle.kc_conf.specs.Reruns.{ConfigIsReadAgain, MinimalIsReadAgain, MinimalIsRunAgain, OutcomesAreReadAgain, TextsHaveShortLines, WrittenAreWhole};
 
+use crate::many::Configurations;
 use kc_build::laws::{one_tree, trees_are_well_formed};
 use kc_dot::laws::{
     config_is_idempotent, config_is_of_values, lines_give_in_turn, minimal_gives_back,
@@ -149,3 +151,10 @@ pub fn exactly_one_part()
     one_outcome();
     exactly_one_outcome();
 }
+
+/// The law of many configurations in one run: if no file that one of them writes is an input or an output of another one, each
+/// leaves its part of what its input files held before the run. If its turn was whole, each file that it writes holds its text after
+/// the run. A file that none of them writes holds what it held. This holds over a device that tells what was done. (Our own.)
+pub fn configurations_stand_apart<C: Configurations>(configurations: &C)
+    ensures { EachLeavesItsPart (C.options configurations.now) (C.number configurations.now) }
+{}

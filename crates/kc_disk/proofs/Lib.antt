@@ -1,2 +1,3 @@
 mod UsageLemmas
 mod EachLemmas
+mod LeavesLemmas

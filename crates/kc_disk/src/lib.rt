@@ -9,6 +9,7 @@ mod diagnostics;
 mod each;
 mod ended;
 mod folder;
+pub mod laws;
 mod program;
 mod same_text;
 mod temporary;

@@ -1,0 +1,308 @@
+-- Which files a turn leaves as they are, and what a whole one makes of the others.
+use Rattle.std.proofs.Common.{◌≡◌, ℕ, Bool, true, false, not, ◌||◌, ◌&&◌, cond, List, [], ◌∷◌, ◌++◌, fold, take, refl, sym, ap, subst, ◌∙◌, Option, None, Some, String, bytes_eq, is_some, if◌then◌else◌}
+use Rattle.std.specs.List.{flat_map, list_all, list_any}
+use Rattle.std.specs.Option.{option_map_or}
+use Rattle.std.specs.declared.alloc.Global.{Global}
+use Rattle.std.proofs.lemmas.Grind.{fold-append}
+use Rattle.std.proofs.lemmas.List.Folds.{list_all-append, list_any-append}
+use Rattle.std.proofs.lemmas.Slice.Eq.{bytes_eq-Decides}
+use Rattle.kc_io.specs.Held.{keeps_files, last_of, only_looks}
+use Rattle.kc_io.specs.Log.{Event, Journal, Leads, Spot, acted, after, did, each_byte, held, is_held, noted}
+use Rattle.kc_io.specs.Scripts.{NamedText, chosen, delivery, moved, put, share_name, stale}
+use Rattle.kc_io.specs.declared.delivery.Manner.{Manner}
+use Rattle.kc_io.specs.declared.delivery.Manner.TheVariants.{Plain, Replacing}
+use Rattle.kc_io.specs.declared.device.Action.{Action}
+use Rattle.kc_io.specs.declared.device.Action.TheVariants.{Open, Miss, Read, Create, Write, Close, Move, Clear, Note}
+use Rattle.kc_io.specs.declared.device.Site.{Site}
+use Rattle.kc_io.specs.declared.device.Site.TheVariants.{Place, Beside}
+use Rattle.kc_io.proofs.HeldLemmas.{delivery_held}
+use Rattle.kc_io.proofs.LogLemmas.{keeps_both, keeps_bytes, keeps_noted, looks_acts, spot_more, spot_of}
+use Rattle.kc_read.specs.Files.{Files}
+use Rattle.kc_tree.specs.TreeFacts.{TreeFacts}
+use Rattle.kc_conf.specs.Ends.{Breaks, Broken, Completes, delivered_by, delivers, in_delivery, in_input, in_notes, no_memory, text_at, texts_of}
+use Rattle.kc_conf.specs.Given.{InputFile, reads}
+use Rattle.kc_conf.specs.Outcome.{Outcome}
+use Rattle.kc_conf.specs.Stops.{cleared_by, clearing, event_of}
+use Rattle.kc_conf.specs.declared.options.Delivery.{Delivery}
+use Rattle.kc_conf.specs.declared.options.Delivery.TheVariants as delivered
+use Rattle.kc_conf.specs.declared.options.Options.{Options}
+use Rattle.kc_conf.specs.declared.options.Status.{Status}
+use Rattle.kc_conf.specs.declared.stop.Stop.{Stop}
+use Rattle.kc_conf.specs.declared.stop.Stop.TheVariants.{OutOfMemory, Failed}
+use Rattle.kc_conf.proofs.GivenLemmas.{keeps-are_reads, keeps-reads}
+use Rattle.kc_conf.specs.Separate.{is_among, name_if, output_files, written_by, written_files}
+
+and-both : (a b : Bool) → (a && b) ≡ true → (a ≡ true) × (b ≡ true)
+and-both true b h = (refl, h)
+and-both false b h = absurd (let clash : false ≡ true = h in cc)
+
+and-of : (a b : Bool) → a ≡ true → b ≡ true → (a && b) ≡ true
+and-of true b h w = w
+and-of false b h w = h
+
+or-neither : (a b : Bool) → (a || b) ≡ false → (a ≡ false) × (b ≡ false)
+or-neither true b h = absurd (let clash : true ≡ false = h in cc)
+or-neither false b h = (refl, h)
+
+or-of : (a b : Bool) → a ≡ false → b ≡ false → (a || b) ≡ false
+or-of true b h w = h
+or-of false b h w = w
+
+-- ---- events that leave a file
+
+module _ (name : List ℕ) where
+  -- the event changes neither this file nor what stands beside it
+  abbrev passes : Event → Bool
+  passes event = is_some event.fault || (not (bytes_eq name event.name) || only_looks event.action)
+
+  abbrev pass : List Event → Bool
+  pass events = list_all passes events
+
+  passes_spot : (event : Event) (spot : Spot) → passes event ≡ true → after name spot event ≡ spot
+  passes_spot event spot h = one (is_some event.fault) (bytes_eq name event.name) h
+    where
+      one : (faulty same : Bool) → (faulty || (not same || only_looks event.action)) ≡ true → (if faulty || not same then spot else acted event.action event.bytes spot) ≡ spot
+      one true same h = refl
+      one false true h = looks_acts event.action event.bytes spot h
+      one false false h = refl
+
+  pass_spot : (events : List Event) (spot : Spot) → pass events ≡ true → fold (after name) spot events ≡ spot
+  pass_spot [] spot h = refl
+  pass_spot (event ∷ events) spot h =
+      let both = and-both (passes event) (pass events) h in
+      ap (λ (s : Spot). fold (after name) s events) (passes_spot event spot both.0) ∙ pass_spot events spot both.1
+
+  pass_both : (a b : List Event) → pass a ≡ true → pass b ≡ true → pass (a ++ b) ≡ true
+  pass_both a b h w = list_all-append passes a b ∙ and-of (pass a) (pass b) h w
+
+  pass_front : (a b : List Event) → pass (a ++ b) ≡ true → pass a ≡ true
+  pass_front a b h = (and-both (pass a) (pass b) (sym (list_all-append passes a b) ∙ h)).0
+
+  looks_passes : (faulty same looks : Bool) → (faulty || looks) ≡ true → (faulty || (not same || looks)) ≡ true
+  looks_passes true same looks h = refl
+  looks_passes false true looks h = h
+  looks_passes false false looks h = refl
+
+  keeps_pass : (events : List Event) → keeps_files events ≡ true → pass events ≡ true
+  keeps_pass [] h = refl
+  keeps_pass (event ∷ events) h =
+      let both = and-both (is_some event.fault || only_looks event.action) (keeps_files events) h in
+      and-of (passes event) (pass events) (looks_passes (is_some event.fault) (bytes_eq name event.name) (only_looks event.action) both.0) (keeps_pass events both.1)
+
+  -- what it holds after some events
+  led_held : (events : List Event) (text : List ℕ) (old new : Journal) → Leads events text (Some old) (Some new) → held new name ≡ (fold (after name) (spot_of old name) events).held
+  led_held events text old new leads =
+      let o = leads.told new refl in
+      let same : o.0 ≡ old = (let both : Some old ≡ Some o.0 = o.1 in cc) in
+      ap (λ (j : Journal). held j name) (sym o.2)
+      ∙ ap (λ (s : Spot). s.held) (spot_more events text o.0 name ∙ ap (λ (j : Journal). fold (after name) (spot_of j name) events) same)
+
+  -- it stays, where they do not change it
+  passed_held : (events : List Event) (text : List ℕ) (old new : Journal) → Leads events text (Some old) (Some new) → pass events ≡ true → held new name ≡ held old name
+  passed_held events text old new leads h = led_held events text old new leads ∙ ap (λ (s : Spot). s.held) (pass_spot events (spot_of old name) h)
+
+  -- and where they change no file
+  pub kept_held : (events : List Event) (text : List ℕ) (old new : Journal) → Leads events text (Some old) (Some new) → keeps_files events ≡ true → held new name ≡ held old name
+  kept_held events text old new leads h = passed_held events text old new leads (keeps_pass events h)
+
+  -- ---- a delivery of other texts
+
+  abbrev has : List NamedText → Bool
+  has texts = list_any (λ text. bytes_eq name text.name) texts
+
+  at_other : (action : Action) (n bytes : List ℕ) → bytes_eq name n ≡ false → passes (record { action = action; name = n; bytes = bytes; fault = None }) ≡ true
+  at_other action n bytes e = rw e refl
+
+  pass_did : (action : Action) (n : List ℕ) → bytes_eq name n ≡ false → pass (did action n) ≡ true
+  pass_did action n e = and-of _ true (at_other action n [] e) refl
+
+  pass_bytes : (site : Site) (n bytes : List ℕ) → bytes_eq name n ≡ false → pass (each_byte (Write site) n bytes) ≡ true
+  pass_bytes site n [] e = refl
+  pass_bytes site n (x ∷ bytes) e = and-of _ (pass (each_byte (Write site) n bytes)) (at_other (Write site) n (x ∷ []) e) (pass_bytes site n bytes e)
+
+  pass_put : (site : Site) (text : NamedText) → bytes_eq name text.name ≡ false → pass (put site text) ≡ true
+  pass_put site text e =
+      let n = text.name in
+      let bytes = each_byte (Write site) n text.bytes in
+      pass_both (did (Create site) n ++ bytes) (did (Close site) n)
+      (pass_both (did (Create site) n) bytes (pass_did (Create site) n e) (pass_bytes site n text.bytes e)) (pass_did (Close site) n e)
+
+  pass_all : (f : NamedText → List Event) → ((text : NamedText) → bytes_eq name text.name ≡ false → pass (f text) ≡ true) → (texts : List NamedText) → has texts ≡ false → pass (flat_map f texts) ≡ true
+  pass_all f one [] e = refl
+  pass_all f one (text ∷ texts) e =
+      let both = or-neither (bytes_eq name text.name) (has texts) e in
+      pass_both (f text) (flat_map f texts) (one text both.0) (pass_all f one texts both.1)
+
+  pass_delivery : (manner : Manner) (texts : List NamedText) → has texts ≡ false → pass (delivery manner texts) ≡ true
+  pass_delivery Plain texts e = pass_all (put Place) (pass_put Place) texts e
+  pass_delivery Replacing texts e =
+      pass_both (flat_map (put Beside) texts) (flat_map moved texts) (pass_all (put Beside) (pass_put Beside) texts e)
+      (pass_all moved (λ text other. pass_did Move text.name other) texts e)
+
+  stale_lacks : (texts : List NamedText) (journal : Journal) → has texts ≡ false → has (stale texts journal) ≡ false
+  stale_lacks [] journal e = refl
+  stale_lacks (text ∷ texts) journal e =
+      let both = or-neither (bytes_eq name text.name) (has texts) e in
+      one (not (is_held journal text.name text.bytes)) both.0 (stale_lacks texts journal both.1)
+    where
+      one : (b : Bool) → bytes_eq name text.name ≡ false → has (stale texts journal) ≡ false → has (cond b (text ∷ stale texts journal) (stale texts journal)) ≡ false
+      one true other rest = or-of (bytes_eq name text.name) (has (stale texts journal)) other rest
+      one false other rest = rest
+
+  chosen_lacks : (texts : List NamedText) (journal : Journal) → has texts ≡ false → has (chosen Replacing texts journal) ≡ false
+  chosen_lacks texts journal e = one (share_name texts)
+    where
+      one : (b : Bool) → has (if b then texts else stale texts journal) ≡ false
+      one true = e
+      one false = stale_lacks texts journal e
+
+  pass_delivered : (manner : Delivery) (texts : List NamedText) (names : List (List ℕ)) (journal : Journal) → is_among name (written_by manner names) ≡ false →
+      (is_among name names ≡ false → has texts ≡ false) → pass (delivered_by manner texts journal) ≡ true
+  pass_delivered delivered.Write texts names journal e lacks = pass_delivery Plain texts (lacks e)
+  pass_delivered delivered.Replace texts names journal e lacks = pass_delivery Replacing (chosen Replacing texts journal) (chosen_lacks texts journal (lacks e))
+  pass_delivered delivered.Check texts names journal e lacks = refl
+
+  -- ---- the texts of an outcome
+
+  at_lacks : (file : Option (String Global)) (text : Option (List ℕ)) → is_among name (name_if file) ≡ false → has (text_at file text) ≡ false
+  at_lacks None text e = refl
+  at_lacks (Some n) None e = refl
+  at_lacks (Some n) (Some bytes) e = e
+
+  has_both : (a b : List NamedText) → has a ≡ false → has b ≡ false → has (a ++ b) ≡ false
+  has_both a b e e' = list_any-append (λ (text : NamedText). bytes_eq name text.name) a b ∙ or-of (has a) (has b) e e'
+
+  among_neither : (a b : List (List ℕ)) → is_among name (a ++ b) ≡ false → (is_among name a ≡ false) × (is_among name b ≡ false)
+  among_neither a b e = or-neither (is_among name a) (is_among name b) (sym (list_any-append (bytes_eq name) a b) ∙ e)
+
+  pub texts_lack : (options : Options) (outcome : Outcome) → is_among name (output_files options) ≡ false → has (texts_of options outcome) ≡ false
+  texts_lack options outcome e =
+      let (out, after_out) = among_neither (name_if options.out) (name_if options.header ++ (name_if options.minimal ++ name_if options.depfile)) e in
+      let (header, after_header) = among_neither (name_if options.header) (name_if options.minimal ++ name_if options.depfile) after_out in
+      let (minimal, depfile) = among_neither (name_if options.minimal) (name_if options.depfile) after_header in
+      let a = text_at options.out outcome.config in
+      let b = text_at options.header outcome.header in
+      let c = text_at options.minimal outcome.minimal in
+      let d = text_at options.depfile outcome.depfile in
+      has_both (a ++ b ++ c) d
+      (has_both (a ++ b) c (has_both a b (at_lacks options.out outcome.config out) (at_lacks options.header outcome.header header)) (at_lacks options.minimal outcome.minimal minimal))
+      (at_lacks options.depfile outcome.depfile depfile)
+
+  -- ---- a turn
+
+  module _ (files : Files) (options : Options) (inputs : List InputFile) (part : Outcome) (unwritten : is_among name (written_files options) ≡ false) where
+    pass_delivers : (journal : Journal) → pass (delivers options (texts_of options part) journal) ≡ true
+    pass_delivers journal = pass_delivered options.delivery (texts_of options part) (output_files options) journal unwritten (texts_lack options part)
+
+    -- a whole one
+    pub completes_held : (old new : Journal) (status : Status) → Completes files options inputs part (Some old) (Some new) status → held new name ≡ held old name
+    completes_held old new status c =
+        passed_held (c.events ++ c.made) _ old new c.log
+        (pass_both c.events c.made (keeps_pass c.events (keeps-are_reads files options inputs (Some old) c.events c.are_reads)) (ap pass (c.of_old old refl).0 ∙ pass_delivers old))
+
+    pass_reads : (done left : List Event) → done ++ left ≡ reads inputs → pass done ≡ true
+    pass_reads done left e = pass_front done left (ap pass e ∙ keeps_pass (reads inputs) (keeps-reads inputs))
+
+    pass_breaks : (before : TreeFacts → List ℕ) (old : Journal) (stop : Stop) (done : List Event) (front : List ℕ) → Breaks files options before inputs part (Some old) stop done front → pass done ≡ true
+    pass_breaks before old _ _ _ (no_memory done left front all lines begins) = pass_reads done left all
+    pass_breaks before old _ _ _ (in_notes f done left front action named all lines more) = pass_reads done left all
+    pass_breaks before old _ _ _ (in_input f tree file done said_of_inputs accepted readable action named to) = opened to.opened done to.done_is
+      where
+        opened : (is_open : Bool) (done : List Event) → done ≡ reads (take to.i inputs) ++ (if is_open then did Open file.name ++ each_byte Read file.name to.bytes else []) → pass done ≡ true
+        opened true done e = ap pass e ∙ pass_both (reads (take to.i inputs)) (did Open file.name ++ each_byte Read file.name to.bytes) (keeps_pass (reads (take to.i inputs)) (keeps-reads (take to.i inputs)))
+            (keeps_pass (did Open file.name ++ each_byte Read file.name to.bytes) (keeps_both (did Open file.name) (each_byte Read file.name to.bytes) refl (keeps_bytes Read file.name to.bytes refl)))
+        opened false done e = ap pass e ∙ pass_both (reads (take to.i inputs)) [] (keeps_pass (reads (take to.i inputs)) (keeps-reads (take to.i inputs))) refl
+    pass_breaks before old _ _ _ (in_delivery f events done are_reads tells) =
+        let (left, all, stops) = tells old refl in
+        pass_both events done (keeps_pass events (keeps-are_reads files options inputs (Some old) events are_reads)) (pass_front done left (ap pass all ∙ pass_delivers old))
+
+    keeps_event : (stop : Stop) → keeps_files (event_of stop) ≡ true
+    keeps_event OutOfMemory = refl
+    keeps_event (Failed f) = refl
+
+    keeps_cleared : (manner : Delivery) (action : Action) → keeps_files (cleared_by manner action) ≡ true
+    keeps_cleared delivered.Write action = refl
+    keeps_cleared delivered.Check action = refl
+    keeps_cleared delivered.Replace Open = refl
+    keeps_cleared delivered.Replace Miss = refl
+    keeps_cleared delivered.Replace Read = refl
+    keeps_cleared delivered.Replace (Create site) = refl
+    keeps_cleared delivered.Replace (Write site) = refl
+    keeps_cleared delivered.Replace (Close site) = refl
+    keeps_cleared delivered.Replace Move = refl
+    keeps_cleared delivered.Replace Clear = refl
+    keeps_cleared delivered.Replace Note = refl
+
+    keeps_clearing : (stop : Stop) → keeps_files (clearing options stop) ≡ true
+    keeps_clearing OutOfMemory = refl
+    keeps_clearing (Failed f) = keeps_cleared options.delivery f.action
+
+    -- or one that was broken off
+    pub broken_held : (before : TreeFacts → List ℕ) (old new : Journal) (status : Status) → Broken files options before inputs part (Some old) (Some new) status → held new name ≡ held old name
+    broken_held before old new status b =
+        passed_held (b.done ++ event_of b.stop ++ clearing options b.stop ++ noted b.report) _ old new b.log
+        (pass_both (b.done ++ event_of b.stop ++ clearing options b.stop) (noted b.report)
+        (pass_both (b.done ++ event_of b.stop) (clearing options b.stop)
+        (pass_both b.done (event_of b.stop) (pass_breaks before old b.stop b.done b.front b.breaks) (keeps_pass (event_of b.stop) (keeps_event b.stop)))
+        (keeps_pass (clearing options b.stop) (keeps_clearing b.stop)))
+        (keeps_pass (noted b.report) (keeps_noted b.report)))
+
+  -- ---- what a whole delivery makes of a file
+
+  last_of_lacks : (texts : List NamedText) (there : Option (List ℕ)) → has texts ≡ false → last_of name texts there ≡ there
+  last_of_lacks [] there e = refl
+  last_of_lacks (text ∷ texts) there e =
+      let both = or-neither (bytes_eq name text.name) (has texts) e in
+      ap (λ (b : Bool). last_of name texts (if b then Some text.bytes else there)) both.0 ∙ last_of_lacks texts there both.1
+
+  -- the text that the file holds
+  is_held_text : (found : Option (List ℕ)) (bytes : List ℕ) → option_map_or (λ there. bytes_eq there bytes) found false ≡ true → found ≡ Some bytes
+  is_held_text None bytes e = absurd (let clash : false ≡ true = e in cc)
+  is_held_text (Some there) bytes e = ap (λ (b : List ℕ). Some b) ((bytes_eq-Decides there bytes).0 e)
+
+  -- a text that its file holds need not be written
+  stale_last : (texts : List NamedText) (there : Option (List ℕ)) (journal : Journal) → there ≡ held journal name → share_name texts ≡ false → last_of name (stale texts journal) there ≡ last_of name texts there
+  stale_last [] there journal is apart = refl
+  stale_last (text ∷ texts) there journal is apart =
+      let both = or-neither (list_any (λ other. bytes_eq text.name other.name) texts) (share_name texts) apart in
+      by (bytes_eq name text.name) refl (is_held journal text.name text.bytes) refl both.0 (stale_last texts there journal is both.1)
+    where
+      by : (same : Bool) → bytes_eq name text.name ≡ same → (found : Bool) → is_held journal text.name text.bytes ≡ found → list_any (λ other. bytes_eq text.name other.name) texts ≡ false →
+          last_of name (stale texts journal) there ≡ last_of name texts there →
+          last_of name (cond (not found) (text ∷ stale texts journal) (stale texts journal)) there ≡ last_of name texts (if bytes_eq name text.name then Some text.bytes else there)
+      by true e found f others rest =
+          let same : name ≡ text.name = (bytes_eq-Decides name text.name).0 e in
+          let none : has texts ≡ false = subst (λ (n : List ℕ). list_any (λ other. bytes_eq n other.name) texts ≡ false) (sym same) others in
+          own found f none ∙ sym (ap (λ (b : Bool). last_of name texts (if b then Some text.bytes else there)) e ∙ last_of_lacks texts (Some text.bytes) none)
+        where
+          own : (found : Bool) → is_held journal text.name text.bytes ≡ found → has texts ≡ false → last_of name (cond (not found) (text ∷ stale texts journal) (stale texts journal)) there ≡ Some text.bytes
+          own false f none = ap (λ (b : Bool). last_of name (stale texts journal) (if b then Some text.bytes else there)) e ∙ last_of_lacks (stale texts journal) (Some text.bytes) (stale_lacks texts journal none)
+          own true f none =
+              last_of_lacks (stale texts journal) there (stale_lacks texts journal none) ∙ is ∙ ap (held journal) ((bytes_eq-Decides name text.name).0 e) ∙ is_held_text (held journal text.name) text.bytes f
+      by false e false f others rest =
+          ap (λ (b : Bool). last_of name (stale texts journal) (if b then Some text.bytes else there)) e ∙ rest ∙ sym (ap (λ (b : Bool). last_of name texts (if b then Some text.bytes else there)) e)
+      by false e true f others rest = rest ∙ sym (ap (λ (b : Bool). last_of name texts (if b then Some text.bytes else there)) e)
+
+  chosen_last : (texts : List NamedText) (journal : Journal) → last_of name (chosen Replacing texts journal) (held journal name) ≡ last_of name texts (held journal name)
+  chosen_last texts journal = one (share_name texts) refl
+    where
+      one : (b : Bool) → share_name texts ≡ b → last_of name (if b then texts else stale texts journal) (held journal name) ≡ last_of name texts (held journal name)
+      one true e = refl
+      one false e = stale_last texts (held journal name) journal refl e
+
+  delivered_last : (manner : Delivery) (texts : List NamedText) (names : List (List ℕ)) (journal : Journal) → is_among name (written_by manner names) ≡ true →
+      (fold (after name) (spot_of journal name) (delivered_by manner texts journal)).held ≡ last_of name texts (held journal name)
+  delivered_last delivered.Write texts names journal e = delivery_held name Plain texts (spot_of journal name)
+  delivered_last delivered.Replace texts names journal e = delivery_held name Replacing (chosen Replacing texts journal) (spot_of journal name) ∙ chosen_last texts journal
+  delivered_last delivered.Check texts names journal e = absurd (let clash : false ≡ true = e in cc)
+
+  -- behind a whole turn a file that it writes holds its text
+  pub completes_last : (files : Files) (options : Options) (inputs : List InputFile) (part : Outcome) (old new : Journal) (status : Status) → is_among name (written_files options) ≡ true →
+      Completes files options inputs part (Some old) (Some new) status → held new name ≡ last_of name (texts_of options part) (held old name)
+  completes_last files options inputs part old new status written c =
+      let spot = spot_of old name in
+      let quiet = pass_spot c.events spot (keeps_pass c.events (keeps-are_reads files options inputs (Some old) c.events c.are_reads)) in
+      led_held (c.events ++ c.made) _ old new c.log
+      ∙ ap (λ (s : Spot). s.held) (fold-append (after name) spot c.events c.made ∙ ap (λ (s : Spot). fold (after name) s c.made) quiet)
+      ∙ ap (λ (made : List Event). (fold (after name) spot made).held) (c.of_old old refl).0
+      ∙ delivered_last options.delivery (texts_of options part) (output_files options) old written
