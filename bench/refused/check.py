@@ -1,7 +1,7 @@
 """Refuses each call of the system in turn in runs of a program, and judges what each run leaves: check.py BETWEEN PROGRAM
 
-BETWEEN is the library that between.c gives, PROGRAM is kconf or what stands in for it. The runs are those of cases.py. Each
-output holds another text before a run, so that one that was begun is told from one that was not; with --replace it may also
+BETWEEN is the library that between.c gives, PROGRAM is kconf or what stands in for it. The runs are those of cases.py and
+each_cases.py. judge.py and judge_each.py say whether what a run left is right, by these rules. Each output holds another text before a run, so that one that was begun is told from one that was not; with --replace it may also
 hold its text, or not be there.
 
 A run without a refused call has to end with its status, its notes and its outputs, to the byte. A run in which a call was
@@ -26,6 +26,13 @@ that. Where the system refuses to follow a link once, the run may go on; where i
 With --check every output stays as it was. An output that could not be compared, since a read of it or a growth was refused,
 counts as one that does not hold its text: the run then ends with status 1 and E22 for it. Where a growth was refused it may also
 end with E20.
+
+With --each every configuration takes its turn behind the warnings of the tree, and each line of its turn begins with its name. What
+is refused in one turn shows in that turn alone, as in a run of that configuration: its error line begins with `CONFIGURATION: `. Where
+all later reads of a fragment are refused too, so it is in each later turn. The turns before it and behind it are as without a refused
+call, and the status is the greatest of all. But want of memory and notes that are refused end the whole run: then no line and no byte
+comes of a later turn. E20 has the name of the configuration in whose turn it comes, and none where it comes before a turn. A file of
+the tree or the list that cannot be read is E18 of no configuration, and no turn is begun.
 
 Where standard error is closed the notes can't be written, so a run that has any ends with status 3 and begins nothing, and no
 word of the notes or of an error line stands in an output, whatever is refused besides.

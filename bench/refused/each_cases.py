@@ -155,6 +155,7 @@ STRANGE = Turn(
     status=1,
 )
 LOST = Turn("boards/two", None, "boards/two: error E18: cannot read boards/two\n", status=3)
+SECOND = Turn("boards/two", "CONFIG_N=7\n", "", asked(OWN, texts("", "#define CONFIG_A 1\n#define CONFIG_N 7\n", "")))
 THIRD = Turn("boards/three", "# CONFIG_A is not set\n", "", asked(OWN, texts("", "#define CONFIG_N 7\n", "# CONFIG_A is not set\n")))
 
 
@@ -222,6 +223,7 @@ def cases_of_each():
         many("--each and --replace, and a line that is too long", WARNED, THREE, SHARING, before=some, flags=("--replace",), **shared),
         checked(plain, "--each and --check, and a line that is too long", ["include/one.h", "boards/three.full", "build/three.min"], ("--check",)),
         own,
+        many("--each and --replace, over the configurations themselves", TREE, OWN, [FIRST, SECOND, THIRD], root="tree", flags=("--replace",)),
         many("--each, --replace and --strict, over the configurations themselves", WARNED, OWN, [FIRST, STRANGE, THIRD], said=UNTYPED, root="tree", flags=("--replace", "--strict")),
         checked(own, "--each and --check of the configurations themselves", ["include/one.h", "boards/three"], ("--check",)),
         checked(own, "--each and --check, and only one is not there", cases.texts_of(own), ("--check",)),

@@ -3,7 +3,7 @@
 import os
 
 import cases
-from runs import before, right
+from runs import before, changed, right
 
 
 def output_of(case, struck):
@@ -24,22 +24,26 @@ def warnings_of(case):
     return "".join(line for line in (lines if case.outputs else lines[:-1]) if not line.startswith(f"{case.lead}error E22: ")).encode()
 
 
-def is_stale_by_fault(case, run, kind):
-    """Whether the run reports each output that does not hold its text, and besides only such as could not be compared."""
-    stale = {name for name, text in cases.texts_of(case).items() if before(case)[name] != text}
-    found = {name for name in case.outputs if cases.stale_lines(case, [name]).encode() in run.notes}
-    besides = set(case.outputs) if kind.name in ("growth", "look") else {output_of(case, run.struck)}
-    return (
-        case.checks()
-        and (run.status, run.notes) == (1, warnings_of(case) + cases.stale_lines(case, found).encode())
-        and stale <= found <= stale | besides
-    )
-
-
 def is_compared(case, run):
     """Whether the call was one that compares an output. One that is an input file too is read as such where it is first opened."""
     is_input = run.opens == 1 and run.struck.lstrip("<") in case.inputs()
     return keeps_places(case) and run.struck.startswith("<") and output_of(case, run.struck) is not None and not is_input
+
+
+def not_compared(case, run, kind):
+    """The outputs that the refused call may have kept from being compared."""
+    if kind.name == "growth":
+        return set(case.outputs)
+    return {output_of(case, run.struck)} - {None} if kind.name == "look" or is_compared(case, run) else set()
+
+
+def is_stale_by_fault(case, run, kind):
+    """Whether the run reports each output that does not hold its text, and besides only such as could not be compared."""
+    stale = set(changed(case))
+    found = {name for name in case.outputs if cases.stale_lines(case, [name]).encode() in run.notes}
+    unsure = not_compared(case, run, kind)
+    said = (1, warnings_of(case) + cases.stale_lines(case, found).encode())
+    return case.checks() and bool(unsure) and (run.status, run.notes) == said and stale <= found <= stale | unsure
 
 
 def is_repeated(case, kind, struck):

@@ -157,6 +157,8 @@ def judge_left(case, run, kind):
 def judge_closed(case, run, kind, is_refused):
     """What is wrong with a run whose standard error was closed; None where nothing is. The turns before the first that has notes, or in
     which a call was refused, are whole, and those behind it are not begun."""
+    if not case.notes and run.left() == right(case):
+        return None
     if run.said or run.notes or run.status != 3:
         return "it said something, or did not end with status 3"
     is_over = bool(case.said)
