@@ -485,6 +485,15 @@ def of_three_configurations_one_with_a_fault_is_left(folder):
                 os.remove(folder.at(f"{name}.out"))
 
 
+def more_configurations_than_temporary_names_are_replaced(folder):
+    os.mkdir(folder.at("c"))
+    names = [f"c/{n}" for n in range(1_100)]
+    for name in names:
+        folder.put(name, "CONFIG_N=3\nCONFIG_A=y\n")
+    folder.run("--each", "--replace", "--savedefconfig", "{}", "Kconfig", *names)
+    want("the texts", {folder.get(name) for name in names}, {"CONFIG_A=y\n"})
+
+
 def three_configurations_with_links_and_modes(folder):
     three(folder)
     folder.put("real", "CONFIG_N=3\n")
@@ -605,6 +614,7 @@ CHECKS = (
     of_three_configurations_the_refused_one_is_left,
     of_three_configurations_one_with_a_fault_is_left,
     three_configurations_with_links_and_modes,
+    more_configurations_than_temporary_names_are_replaced,
     runs_at_once_leave_one_of_the_texts,
     killed_runs_leave_the_old_or_the_new,
     killed_runs_for_three_leave_whole_files,

@@ -8,8 +8,10 @@
  * that is a link: it is refused as another user's link in a sticky folder is. BESIDES names a kind of which every call is refused,
  * whatever KIND says.
  * When the program ends, the file that REPORT names gets one line: how many calls of the kind there were, how many writes
- * standard error took, how many writes to it were to end within a line, and what the refused call was for: '<' or '>' and the name of a file that was opened to read or to write,
- * '>' and the place of a file that was to be moved, or ">&2" for standard error.
+ * standard error took, how many writes to it were to end within a line, how often the file of the refused call had been opened by
+ * then, and what that call was for: '<' or '>' and the name of a file that was opened to read or to write, '>' and the place of a
+ * file that was to be moved, or ">&2" for standard error. Each further line names a file that was to be made where none may be, in
+ * order, up to the refused call.
  */
 #define _GNU_SOURCE
 #include <dlfcn.h>
@@ -24,12 +26,15 @@
 #include <unistd.h>
 
 #define FILES 64
+#define OPENS 256
 
 static const char *kind = "", *besides = "";
 static long refused, calls, told, torn;
 static int lasting;
 static char files[FILES][512] = {"<&0", ">&1", ">&2"};
 static char struck[512];
+static char opens[OPENS][512], made[FILES][512];
+static int opened_count, made_count, struck_opens, struck_made = -1;
 
 #define REAL(name, result, ...) \
     static result (*real)(__VA_ARGS__); \
@@ -48,9 +53,17 @@ __attribute__((destructor)) static void end(void) {
     kind = besides = "";
     file = name ? fopen(name, "w") : NULL;
     if (file) {
-        fprintf(file, "%ld %ld %ld %s\n", calls, told, torn, struck);
+        fprintf(file, "%ld %ld %ld %d %s\n", calls, told, torn, struck_opens, struck);
+        for (int at = 0; at < (struck_made < 0 ? made_count : struck_made); at++) fprintf(file, "%s\n", made[at]);
         fclose(file);
     }
+}
+
+/* Keeps which call is refused, and what came before it. */
+static void strike(const char *file) {
+    snprintf(struck, sizeof struck, "%s", file);
+    for (int at = 0; at < opened_count; at++) struck_opens += !strcmp(opens[at], file);
+    struck_made = made_count;
 }
 
 /* Counts a call of this kind. The answer is whether it is refused. */
@@ -58,7 +71,7 @@ static int is_refused(const char *name, const char *file) {
     if (!strcmp(besides, name)) return 1;
     if (strcmp(kind, name)) return 0;
     calls += 1;
-    if (calls == refused) snprintf(struck, sizeof struck, "%s", file);
+    if (calls == refused) strike(file);
     return refused && (calls == refused || (lasting && calls > refused && !strcmp(struck, file)));
 }
 
@@ -70,10 +83,13 @@ static int opened(int file, const char *path, int flags) {
     return file;
 }
 
-static int is_open_refused(const char *path, int flags) {
+/* Counts an open. The answer is the error of one that is refused, or 0. */
+static int open_fault(const char *path, int flags) {
     char file[512];
     snprintf(file, sizeof file, "%c%s", (flags & O_ACCMODE) == O_RDONLY ? '<' : '>', path);
-    return is_refused("open", file);
+    if (opened_count < OPENS) strcpy(opens[opened_count++], file);
+    if (flags & O_EXCL && made_count < FILES) snprintf(made[made_count++], sizeof made[0], "%s", path);
+    return is_refused("open", file) ? EIO : is_refused("interrupted open", file) ? EINTR : 0;
 }
 
 /* Whether the system may not follow the link at this path, if it is one. */
@@ -97,12 +113,13 @@ void *realloc(void *old, size_t size) {
 int open(const char *path, int flags, ...) {
     va_list more;
     mode_t mode;
+    int fault;
     REAL("open", int, const char *, int, ...);
     va_start(more, flags);
     mode = flags & O_CREAT ? va_arg(more, mode_t) : 0;
     va_end(more);
-    if (is_open_refused(path, flags)) return errno = EIO, -1;
-    if (is_refused("interrupted open", path)) return errno = EINTR, -1;
+    fault = open_fault(path, flags);
+    if (fault) return errno = fault, -1;
     if (!(flags & O_EXCL) && is_follow_refused(path)) return errno = EACCES, -1;
     return opened(real(path, flags, mode), path, flags);
 }

@@ -1,4 +1,4 @@
-"""The runs that the checker makes, and what each has to leave.
+"""The runs of one configuration that the checker makes, and what each has to leave. Those of many stand in each_cases.py.
 
 The texts follow from the rules of docs/formats.md and docs/language.md, worked by hand or, in the wide tree, by a few lines
 beside the tree itself; none was taken from a run. Those of the firmware are the stored texts of crates/kconf_firmware.
@@ -36,6 +36,12 @@ class Case:
     flags: tuple = ()
     before: dict = dataclasses.field(default_factory=dict)  # what outputs hold before the run where it is no other text; None: they are not there
     links: dict = dataclasses.field(default_factory=dict)  # the outputs that are links, and what they lead to
+    unwritten: tuple = ("out.config",)  # the outputs of a run that writes none
+    lead: str = ""  # what an error line without a location begins with
+
+    def places(self):
+        """All outputs, also those of a run that writes none."""
+        return list(self.outputs) or list(self.unwritten)
 
     def replaces(self):
         """Whether files take their places at the end."""
@@ -67,9 +73,9 @@ class Case:
         return there | self.fragments
 
 
-def rule_of(*files):
-    """The rule for make of out.config, which was made of these files; their names need no escape."""
-    return "out.config:" + "".join(f" \\\n {name}" for name in files) + "\n" + "".join(f"\n{name}:\n" for name in files)
+def rule_of(*files, target="out.config"):
+    """The rule for make of the target, which was made of these files; their names need no escape."""
+    return f"{target}:" + "".join(f" \\\n {name}" for name in files) + "\n" + "".join(f"\n{name}:\n" for name in files)
 
 
 def outputs(config, header=None, minimal=None, title="Main menu"):
@@ -354,7 +360,7 @@ def replacing():
 
 def stale_lines(case, names):
     """The error lines of these outputs, which do not hold their texts."""
-    return "".join(f"error E22: {name} is not up to date\n" for name in case.outputs if name in names)
+    return "".join(f"{case.lead}error E22: {name} is not up to date\n" for name in case.outputs if name in names)
 
 
 def checked(case, name, before):
@@ -412,5 +418,5 @@ def wide():
 
 
 def cases():
-    """All runs."""
+    """All runs of one configuration."""
     return [*SMALL, *OPTIONS, firmware(), wide(), *replacing(), *checking()]

@@ -2,7 +2,7 @@
 
 BETWEEN is the library that between.c gives. For some of the runs of cases.py stand_in.c is built as it is, which has to pass,
 and once for each of its faults, which has to fail: at a run in which a call was refused, ANY_TEXT, TORN and TOUCHES already where none was,
-BLIND, in a run that has no notes, where standard error is closed.
+BLIND, in a run that has no notes, where standard error is closed. So is stand_in_each.c for some of the runs of each_cases.py.
 
 The status is 1 where the checker judges one of them otherwise.
 """
@@ -15,6 +15,7 @@ import tempfile
 
 import cases
 import check
+import each_cases
 
 FAULTS = ["ANY_TEXT", "SILENT", "OTHER_NAME", "EARLY", "GOES_ON", "TORN"]
 REPLACING = ["IN_PLACE", "ONE_BY_ONE", "LEAVES", "TOUCHES", "EXPOSES", "SILENT"]
@@ -24,6 +25,11 @@ RUNS = [
     ("a wide tree", FAULTS),
     ("modules", ["BLIND"]),
     ("--replace, over each of these", REPLACING),
+]
+EACH = ["STOPS", "RUNS_ON", "UNNAMED", "OTHER_TURN", "LAST_STATUS", "EARLY", "AHEAD", "LOSES"]
+RUNS_OF_EACH = [
+    ("--each, and a line that is too long", EACH),
+    ("--each, over the configurations themselves, one of which is not there", ["STOPS", "RUNS_ON", "UNNAMED", "LAST_STATUS"]),
 ]
 
 
@@ -50,12 +56,28 @@ def header_of(case):
     return "\n".join([*defined, rows("inputs", inputs), rows("outputs", outputs), f"static const char notes[] = {quoted(case.notes)};", ""])
 
 
+def header_of_each(case):
+    """The names and texts of a run of many configurations: those of all turns, one behind another."""
+    tree = [(os.path.normpath(f"{case.root}/{name}"), name, 1) for name in case.tree]
+    inputs, outputs, turns = [], [], []
+    for turn in case.turns:
+        read = [turn.name] + [name for name in case.fragments if turn.reads_fragments()]
+        inputs += [(name, name, int(turn.settings is not None or name != turn.name)) for name in read]
+        made = case.alone(turn).outputs
+        outputs += [(name, text, len(text.encode())) for name, text in made.items()]
+        turns.append(f"    {{{quoted(turn.name)}, {quoted(turn.notes)}, {len(read)}, {len(made)}, {turn.status}}},")
+    defined = [f"#define TREE {len(tree)}", f"#define TURNS {len(turns)}", f"static const char said[] = {quoted(case.said)};"]
+    lines = ["static const struct turn turns[] = {", *turns, "};"]
+    return "\n".join([*defined, rows("tree", tree), rows("inputs", inputs), rows("outputs", outputs), *lines, ""])
+
+
 def is_judged(folder, between, case, fault):
     """Whether the checker judges the stand-in with this fault, or with none, as it has to."""
     program = folder / f"stand_in_{fault}"
-    words = ["cc", "-O1", "-w", f"-I{folder}", "-o", program, pathlib.Path(check.__file__).with_name("stand_in.c")]
+    source = "stand_in_each.c" if isinstance(case, each_cases.Many) else "stand_in.c"
+    words = ["cc", "-O1", "-w", f"-I{folder}", "-o", program, pathlib.Path(check.__file__).with_name(source)]
     subprocess.run(words + ([f"-D{fault}"] if fault else []), check=True)
-    wrong = check.check(between, str(program), [case], is_quiet=True)
+    _, wrong = check.check(between, str(program), [case], is_quiet=True)
     said = f"{len(wrong)} runs are wrong, the first: {wrong[0].split(': status')[0]}" if wrong else "no run is wrong"
     print(f"stand-in, {case.name}, {fault or 'without a fault'}: {said}")
     return bool(wrong) == bool(fault)
@@ -64,10 +86,11 @@ def is_judged(folder, between, case, fault):
 def main():
     between = sys.argv[1]
     judged = []
-    every = {case.name: case for case in cases.cases()}
-    for name, faults in RUNS:
+    every = {case.name: case for case in cases.cases() + each_cases.cases_of_each()}
+    for name, faults in RUNS + RUNS_OF_EACH:
         with tempfile.TemporaryDirectory() as folder:
-            (pathlib.Path(folder) / "run.h").write_text(header_of(every[name]))
+            case = every[name]
+            (pathlib.Path(folder) / "run.h").write_text(header_of_each(case) if isinstance(case, each_cases.Many) else header_of(case))
             for fault in [None, *faults]:
                 judged.append(is_judged(pathlib.Path(folder), between, every[name], fault))
     if not all(judged):
