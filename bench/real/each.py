@@ -1,8 +1,8 @@
 """`kconf --each` over all configurations of a tree at once: byte for byte what single runs write, and what the tree's own tool does.
 
 A configuration is laid down in the form for kconf, as kconf-tree does it. Then
-- each is run alone, with --must-exist, and all are run by --each: the full file, header, minimal file and diagnostics have to be
-  the same, and the status the greatest of those of the single runs;
+- each is run alone, with --must-exist, and all are run by --each: full file, header, minimal file and diagnostics (but the names
+  before their lines) have to be the same, and the status the greatest of those of the single runs;
 - --each --check has to answer 0 over the files just written, and to name exactly those in which one byte was changed;
 - --each --replace has to mend those, and to leave each other file untouched;
 - --each --replace --savedefconfig '{}' has to turn each configuration into its minimal file, and a second time to touch none;
@@ -22,8 +22,8 @@ from trees import DOLLAR
 
 OUTPUTS = {"--out": "config", "--header": "h", "--savedefconfig": "min"}
 FILES = {"config": "full", "min": "minimal"}
-# Every so many-th configuration gets one changed byte in one of its files.
-CHANGED = 7
+# Every third configuration gets one changed byte in one of its files.
+CHANGED = 3
 
 
 @dataclasses.dataclass
@@ -113,11 +113,11 @@ class Each:
     def checked(self, lines):
         """--check over the files just written, and over files with a changed byte; then --replace."""
         self.expect("--check over files just written", self.all_at_once("--check"), (0, lines))
-        paths = [self.work / f"each/{name}.{end}" for name in self.names for end in OUTPUTS.values()]
-        changed = paths[:: CHANGED * len(OUTPUTS)] + paths[1 :: CHANGED * len(OUTPUTS) + 1]
-        changed = sorted({path for path in changed if path.stat().st_size}, key=paths.index)
+        ends = list(OUTPUTS.values())
+        paths = [self.work / f"each/{name}.{end}" for name in self.names for end in ends]
+        changed = [self.work / f"each/{name}.{ends[at % len(ends)]}" for at, name in enumerate(self.names[::CHANGED])]
         for at, path in enumerate(changed):
-            change(path, at)
+            change(path, at // len(ends))
         status, told = self.all_at_once("--check")
         self.expect("the status of --check over changed files", status, 1)
         outdated = [line for line in told if b" error E22: " in line]
@@ -181,8 +181,7 @@ class Each:
 
 def named(name, line):
     """The line of a single run as --each shows it."""
-    start = f"in/{name}: ".encode()
-    return line if line.startswith(f"in/{name}:".encode()) else start + line.replace(b" alone/", b" each/")
+    return line if line.startswith(f"in/{name}:".encode()) else f"in/{name}: ".encode() + line
 
 
 def contents(path):
@@ -197,8 +196,8 @@ def stamp(path):
 
 
 def change(path, at):
-    """Changes one byte of a file: the first, one in the middle or the last."""
-    text = bytearray(path.read_bytes())
+    """Changes one byte of a file: the first, one in the middle or the last. An empty file gets one."""
+    text = bytearray(path.read_bytes() or b"\n")
     place = (0, len(text) // 2, len(text) - 1)[at % 3]
     text[place] ^= 1
     path.write_bytes(text)
