@@ -1,7 +1,7 @@
 #!/usr/bin/env python3
 """Draws the processor times of a Markdown table as an SVG chart: chart.py [FILE] >docs/bench.svg
 
-FILE is README.md or a table that bench/run.sh prints; without it, standard input is read. The first table whose cells begin
+FILE is docs/performance.md or a table that bench/run.sh prints; without it, standard input is read. The first table whose cells begin
 with a time (`0.045 s, ..`) is drawn: a group of bars for each column, a bar for each row. The colors can be read on a light and
 on a dark page.
 """

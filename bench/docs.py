@@ -11,7 +11,7 @@
 - Each case that a document names must be there, and each case and cause of crates/kconf_cases/conf.txt: the case in the
   data, the cause in docs/differences.md.
 - A line of a document has at most 120 columns, except in tables.
-- docs/bench.svg must be the chart of the table in README.md.
+- docs/bench.svg must be the chart of the first table of times in docs/performance.md.
 - README.md must have the number of trusted definitions and of their lines that bench/trusted.py counts.
 """
 
@@ -259,9 +259,9 @@ def widths():
 
 
 def chart():
-    """Complaints about the chart of the README's table."""
-    drawn = subprocess.run([os.path.join(TOP, "bench/chart.py"), os.path.join(TOP, "README.md")], capture_output=True, text=True)
-    return [] if drawn.stdout == read("docs/bench.svg") else ["docs/bench.svg: run bench/chart.py README.md >docs/bench.svg"]
+    """Complaints about the chart of the table in docs/performance.md."""
+    drawn = subprocess.run([os.path.join(TOP, "bench/chart.py"), os.path.join(TOP, "docs/performance.md")], capture_output=True, text=True)
+    return [] if drawn.stdout == read("docs/bench.svg") else ["docs/bench.svg: run bench/chart.py docs/performance.md >docs/bench.svg"]
 
 
 def trusted():

@@ -11,6 +11,7 @@
 # - the values are compared with those of the tree's own tool; a symbol without a line is n or empty;
 # - kconf-tree has to give the same values as kconf by hand;
 # - the full and the minimal file are compared byte for byte with those of the tree's own tool.
+# Then kconf --each runs all of these at once: bench/real/each.py says what it checks.
 #
 # Then come:
 # - SeaBIOS and toybox, each built with its own conf and with kconf: the results have to be the same byte for byte;
@@ -18,12 +19,13 @@
 #   header of Linux's own conf has to agree with that of kconf;
 # - kconf --strict --warn-lost on Linux: what it accepts and what it refuses;
 # - kconf-tree on four trees: what makes it flatten a tree again and what does not, its locations, status and time;
-# - boards: all boards of U-Boot, with kconf-tree: the minimal file has to be that of `savedefconfig` byte for byte.
+# - boards: all boards of U-Boot, with kconf-tree and with kconf --each: the minimal file has to be that of `savedefconfig` byte for
+#   byte, and all that kconf --each writes and reports has to be that of single runs.
 #
 # kconf is crates/kconf/out/kconf (make build), or the program that KCONF names. The status is 1 if
 # - a value differs that is not in bench/real/known.txt,
 # - a line of a written file differs whose cause is not in bench/real/lines.txt,
 # - kconf refuses a tree, or a check above fails.
-# JOBS is the number of compilers that may run at once (2).
+# JOBS is the number of compilers that may run at once (2), RUNS_AT_ONCE that of runs of kconf or of a tree's own tool (3).
 set -eu
 exec /usr/bin/python3 -B "$(dirname "$0")/real/main.py" "$@"

@@ -1,9 +1,10 @@
 #!/usr/bin/env bash
 # Times kconf, the kernel's conf and kconfiglib, and draws the processor times: bench/run.sh [SYMBOLS]
 #
-# There are three tables: Linux 6.1 with Debian's configuration for amd64, if `make real` has fetched it; a generated tree of
-# 20,000 symbols, or as many as SYMBOLS says; and generated trees of four sizes. The first two are printed again as the Markdown
-# table of README.md, and drawn as docs/bench.svg, or the file that CHART names.
+# There are four tables: Linux 6.1 with Debian's configuration for amd64, if `make real` has fetched it; a generated tree of
+# 20,000 symbols, or as many as SYMBOLS says; generated trees of four sizes; and all boards of U-Boot in one run of kconf --each
+# (bench/boards.py), if `make real` has fetched it. The first two are printed again as the Markdown table of docs/performance.md, and
+# drawn as docs/bench.svg, or the file that CHART names.
 #
 # kconf is crates/kconf/out/kconf (make build), or the program that KCONF names. One run of it writes the full .config, the header
 # and the minimal file. kconfig-conf and kconfiglib are timed if they are installed (Debian's packages kconfig-frontends-nox and
@@ -177,3 +178,8 @@ for size in 5000 10000 20000 40000; do
     fi
 done
 table growth
+
+if [ -f "$trees/flat/u-boot.Kconfig" ]; then
+    echo
+    "$here/boards.py" "$kconf" "$trees"
+fi

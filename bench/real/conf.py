@@ -8,6 +8,8 @@ import subprocess
 
 from debian import say
 
+# How many runs of kconf, or of a tree's own tool, there may be at once.
+AT_ONCE = int(os.environ.get("RUNS_AT_ONCE", "3"))
 # The older of them take their seed from the clock alone.
 SEED = """\
 #include <stdlib.h>

@@ -11,6 +11,7 @@ import time
 import boards
 import builds
 import companion
+import each
 import trees
 from conf import environment
 from debian import say
@@ -77,6 +78,7 @@ def one_tree(name, place, kconf, known, causes):
     causes.read(root / kconfig)
     runs = Runs(tree, kconf, kconf_tree(), (root, kconfig), place.folder / "runs" / name, known)
     summary = told(tree, runs.all(place.none), known, causes)
+    summary.faults += not each.Each(tree, kconf, (root, kconfig), place.folder / "each" / name).all(*runs.given(), causes)
     print(f"  {time.monotonic() - began:.0f} s", flush=True)
     return summary
 
@@ -85,11 +87,11 @@ def table(summaries):
     """The summary of all trees."""
     heads = (15, "configurations"), (17, "values compared"), (11, "differing"), (7, "known"), (12, "full same"), (14, "minimal same"), (15, "unknown lines"), (8, "faults")
     print(f"\n{'tree':<14}" + "".join(f"{head:>{width}}" for width, head in heads))
-    for each in summaries:
-        minimal = f"{each.minimal}/{each.with_minimal}" if each.with_minimal else "-"
-        full = f"{each.full}/{each.configurations}"
-        row = each.configurations, each.compared, each.differing, each.known, full, minimal, each.unknown_lines, each.faults
-        print(f"{each.tree:<14}" + "".join(f"{value:>{width}}" for value, (width, _) in zip(row, heads)))
+    for summary in summaries:
+        minimal = f"{summary.minimal}/{summary.with_minimal}" if summary.with_minimal else "-"
+        full = f"{summary.full}/{summary.configurations}"
+        row = summary.configurations, summary.compared, summary.differing, summary.known, full, minimal, summary.unknown_lines, summary.faults
+        print(f"{summary.tree:<14}" + "".join(f"{value:>{width}}" for value, (width, _) in zip(row, heads)))
 
 
 def build_linux(place, kconf, known):
@@ -122,8 +124,9 @@ def main():
         if name in companion.TREES:
             done.append(companion.trials(trees.TREES[name](place), kconf_tree(), kconf, place.folder / "companion" / name))
     if "boards" in names:
-        done.append(boards.Boards(trees.u_boot(place), kconf_tree(), kconf, place.folder / "boards").all())
-    sys.exit(not all(done) or any(each.faults or each.unknown_lines or each.differing > each.known for each in summaries))
+        tree = trees.u_boot(place)
+        done.append(boards.Boards(tree, kconf_tree(), kconf, place.folder / "boards").all(flat(tree, place), causes))
+    sys.exit(not all(done) or any(it.faults or it.unknown_lines or it.differing > it.known for it in summaries))
 
 
 if __name__ == "__main__":

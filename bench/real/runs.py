@@ -8,10 +8,9 @@ import subprocess
 
 import dotconfig
 import texts
-from conf import environment
+from conf import AT_ONCE, environment
 from trees import DOLLAR
 
-AT_ONCE = 3
 MODES = [("allyesconfig", 0), ("allnoconfig", 0)] + [("randconfig", seed) for seed in range(1, 6)]
 
 
@@ -92,6 +91,7 @@ class Runs:
         made, theirs = self.work / f"{number:03d}", self.work / f"{number:03d}.theirs"
         try:
             start = self.start(name, none)
+            shutil.copyfile(start, made.with_suffix(".given"))
             outcome.faults += self.ours(start, made, "--header", f"{made}.h", "--savedefconfig", f"{made}.min")
             if not outcome.faults:
                 self.files(made, outcome)
@@ -128,6 +128,13 @@ class Runs:
         minimal = theirs.with_suffix(".theirs.min")
         if self.tree.tool.minimal(theirs, minimal):
             outcome.files["minimal"] = texts.differing(f"{ours}.min", minimal)
+
+    def given(self):
+        """The configurations of the runs by number, and by number and end the full and the minimal files of the tree's own tool."""
+        configurations = {path.stem: path.read_bytes() for path in sorted(self.work.glob("*.given"))}
+        own = {(name, "config"): self.work / f"{name}.theirs" for name in configurations}
+        own |= {(name, "min"): self.work / f"{name}.theirs.min" for name in configurations}
+        return configurations, {key: path for key, path in own.items() if path.exists()}
 
     def all(self, none):
         """All runs, some at once, in order."""
