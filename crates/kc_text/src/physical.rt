@@ -1,9 +1,11 @@
 //! The physical lines of a file.
 ghost use Rattle.std.specs.Prelude.{◌≡◌, ◌<◌, ◌≤◌, ◌∷◌, length, count_by};
+ghost use Rattle.bstr.specs.Find.{IsFirstByte};
 ghost use Rattle.kc_text.specs.Lines.{physical_lines, continues, is_line_feed, without_continuation};
 
 use crate::bytes::without_carriage_return;
 use bstr::ByteSlice;
+use std::simd::prelude::*;
 
 /// A physical line without its end, whether it has one, and the bytes after it.
 #[derive(Drop)]
@@ -41,6 +43,30 @@ pub(crate) struct Unread<'a> {
     pub(crate) number: u32,
 }
 
+// How many bytes are compared at once with a line feed. Most lines end within two or three times as many.
+const LANES: usize = 16;
+
+// The place of the first line feed.
+#[inline(always)]
+fn line_feed_at(rest: &[u8]) -> Option<usize>
+    ensures { IsFirstByte is_line_feed rest.now result }
+{
+    let mut at = 0;
+    'lanes: while rest.len() - at >= LANES {
+        let found = u8x16::from_slice(&rest[at..])
+            .simd_eq(u8x16::splat(b'\n'))
+            .to_bitmask();
+        if found != 0 {
+            return Some(at + found.trailing_zeros() as usize);
+        }
+        at += LANES;
+    }
+    match (&rest[at..]).find_byte(b'\n') {
+        Some(n) => Some(at + n),
+        None => None,
+    }
+}
+
 /// The first physical line of what is left of a file.
 #[inline(always)]
 pub(crate) fn first_physical(rest: &[u8]) -> PhysicalLine<'_>
@@ -49,7 +75,7 @@ pub(crate) fn first_physical(rest: &[u8]) -> PhysicalLine<'_>
         ≡ record { text = result.text.now; ended = result.ended } ∷ physical_lines result.after.now }
     ensures less { length result.after.now < length rest.now }
 {
-    match rest.find_byte(b'\n') {
+    match line_feed_at(rest) {
         Some(n) => PhysicalLine {
             text: without_carriage_return(&rest[..n]),
             ended: true,

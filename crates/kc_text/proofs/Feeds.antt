@@ -1,0 +1,65 @@
+-- The first line feed, looked for by the lanes of loads.
+use Rattle.std.proofs.Common.{◌≡◌, ℕ, ◌+◌, ◌-◌, ◌^◌, ◌<◌, ◌≤◌, List, map, length, drop, get_or, w16, sym, ap, ◌∙◌, inl, inr, arith}
+use Rattle.std.specs.Prelude.{not}
+use Rattle.std.specs.List.{prefix_len}
+use Rattle.std.proofs.lemmas.Bool.{cases_lt, both_ways}
+use Rattle.std.proofs.lemmas.List.{get_or-drop, length-drop, length-map}
+use Rattle.std.proofs.lemmas.Nat.Bits.{bit_at-trailing_zeros}
+use Rattle.std.proofs.lemmas.Simd.{length-chunk, mask_l-lt, trailing_mask_l, none_from_empty_mask, run_in_chunk_fails, run_in_chunk_stops}
+use Rattle.bstr.specs.Find.{NoneBefore, Nowhere, Passes}
+use Rattle.kc_text.proofs.Physicals.{lf}
+use lib.Count.{count_trailing_zeros}
+use lib.Lanes.{chunk, mask_l}
+
+-- the lanes from place `at` on, with no line feed before it
+module _ (rest : List ℕ) (at mask : ℕ) (room : at + 16 ≤ length rest) (bits : mask ≡ mask_l (map lf (chunk at 16 rest))) (none : Nowhere (Passes lf rest) 0 at) where
+  long : length (chunk at 16 rest) ≡ 16
+  long = length-chunk at 16 rest room
+
+  counted : (k : ℕ) → 16 ≤ k → 0 < mask → count_trailing_zeros k mask ≡ prefix_len (λ x. not (lf x)) (chunk at 16 rest)
+  counted k le some = rw bits (trailing_mask_l lf k (chunk at 16 rest) (omega (arith, long)) (rw bits at some))
+
+  small : mask < 2 ^ 16
+  small = let ms = map lf (chunk at 16 rest) in let n : length ms ≡ 16 = length-map (chunk at 16 rest) lf ∙ long in rw bits (rw n at (mask_l-lt ms))
+
+  few : 0 < mask → count_trailing_zeros 64 mask < 16
+  few some = omega (arith, counted 64 (omega arith) some, counted 16 (omega arith) some, (bit_at-trailing_zeros w16 mask some small).0)
+
+  pub first_in_lanes : 0 < mask
+      → NoneBefore (Passes lf rest) 0 (length rest) (at + count_trailing_zeros 64 mask) × Passes lf rest (at + count_trailing_zeros 64 mask)
+  first_in_lanes some =
+      let n = count_trailing_zeros 64 mask in
+      let lt = few some in
+      let fails = run_in_chunk_fails lf rest at 16 n 0 room (counted 64 (omega arith) some) in (
+        record {
+          low = omega arith;
+          high = omega (arith, lt);
+          before = λ k low below p. elim (cases_lt k at) [ inl left ↦ none k low left p | inr right ↦ both_ways _ (fails k right below) p ];
+        },
+        run_in_chunk_stops lf rest at 16 n 0 room (counted 64 (omega arith) some) lt,
+      )
+
+  pub none_in_lanes : mask ≡ 0 → Nowhere (Passes lf rest) 0 (at + 16)
+  none_in_lanes empty k low below p =
+      elim (cases_lt k at) [ inl left ↦ none k low left p | inr right ↦ both_ways _ (none_from_empty_mask lf rest at 16 0 room (sym bits ∙ empty) k right below) p ]
+
+-- the rest from place `at` on, with no line feed before it
+module _ (rest : List ℕ) (at : ℕ) (within : at ≤ length rest) (none : Nowhere (Passes lf rest) 0 at) where
+  back : (k : ℕ) → at ≤ k → get_or (drop at rest) (k - at) 0 ≡ get_or rest k 0
+  back k le = let e : at + (k - at) ≡ k = omega arith in get_or-drop at rest (k - at) 0 ∙ ap (λ j. get_or rest j 0) e
+
+  pub first_after : (n : ℕ) → NoneBefore (Passes lf (drop at rest)) 0 (length (drop at rest)) n → Passes lf (drop at rest) n
+      → NoneBefore (Passes lf rest) 0 (length rest) (at + n) × Passes lf rest (at + n)
+  first_after n h here = (
+    record {
+      low = omega arith;
+      high = omega (arith, h.high, length-drop at rest);
+      before = λ k low below p.
+          elim (cases_lt k at) [ inl left ↦ none k low left p | inr right ↦ h.before (k - at) (omega arith) (omega arith) (ap lf (back k right) ∙ p) ];
+    },
+    ap lf (sym (get_or-drop at rest n 0)) ∙ here,
+  )
+
+  pub none_after : Nowhere (Passes lf (drop at rest)) 0 (length (drop at rest)) → Nowhere (Passes lf rest) 0 (length rest)
+  none_after h k low below p =
+      elim (cases_lt k at) [ inl left ↦ none k low left p | inr right ↦ h (k - at) (omega arith) (omega (arith, length-drop at rest)) (ap lf (back k right) ∙ p) ]

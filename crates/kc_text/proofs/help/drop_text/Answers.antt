@@ -1,0 +1,10 @@
+-- Why `drop_text` keeps its contract.
+use Rattle.std.proofs.Common.{sym}
+use Rattle.std.specs.Prelude.{Some}
+use Rattle.std.proofs.lemmas.Bool.{eqb-true}
+use Rattle.kc_text.specs.Help.{is_help_line}
+use Rattle.kc_text.proofs.Helps.{dropping_ends}
+use Rattle.kc_text.proofs.help.drop_text.Goals as goal
+
+pub returns : goal.returns
+returns c = dropping_ends c.args.rest.now c.dropped.after.now (is_help_line (Some c.args.indent)) c.args.number c.dropped.next c.dropped.invariant (eqb-true _ 0 (sym c.dropped-test.ensures))
