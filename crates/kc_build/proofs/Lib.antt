@@ -38,6 +38,7 @@ mod NameLemmas
 mod NamedLemmas
 mod NestLemmas
 mod NumberingLemmas
+mod OddLemmas
 mod OpenLemmas
 mod OpenerLemmas
 mod PlaceLemmas

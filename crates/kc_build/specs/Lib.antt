@@ -8,6 +8,7 @@ pub mod Growth
 pub mod SymbolRows
 pub mod WholeListRefusals
 pub mod Numberings
+pub mod Odd
 pub mod Passes
 pub mod Renamings
 pub mod ReverseRows

@@ -3,9 +3,11 @@
 ghost use Rattle.std.specs.Prelude.{◌≡◌, ◌++◌, [], None, map, option_map, IfOk, OnOk, MatchResult, Some};
 ghost use Rattle.std.specs.List.{list_any};
 ghost use Rattle.std.specs.Option.{option_or};
+ghost use Rattle.kc_expr.specs.Form.{form_of};
 ghost use Rattle.kc_read.specs.StatementViews.{line_view, statement_view};
 ghost use Rattle.kc_read.specs.RefusalView.{refusal_view};
 ghost use Rattle.kc_build.specs.Diagnosed.{IsLineDiagnosed, AreLinesDiagnosed};
+ghost use Rattle.kc_build.specs.Odd as odd;
 ghost use Rattle.kc_build.specs.Facts as facts;
 ghost use Rattle.kc_tree.specs.Common.{listed};
 ghost use Rattle.kc_build.specs.SymbolRows.{kind_by, choice_by, member_by, default_symbol, line_warnings_in};
@@ -17,7 +19,7 @@ use crate::lines::{
 };
 use crate::symbols::{choice_of, has_text, is_member, kind_of};
 use crate::warning::{Warning, entry_name, line_of};
-use kc_expr::expression::{Kind, SymId};
+use kc_expr::expression::{Expr, Kind, SymId};
 use kc_expr::names::Names;
 use kc_read::refusal::{Code, Refusal};
 use kc_read::statement::{Line, Statement};
@@ -227,6 +229,81 @@ fn is_bad_default(statement: &Statement, entry: MenuEntry, symbols: &[Symbol]) -
     }
 }
 
+// A type that is not that of the symbol whose entry it is.
+fn is_other_type(kind: Kind, entry: MenuEntry, symbols: &[Symbol]) -> bool
+    ensures { result ≡ odd.is_other_type symbols.now entry kind }
+{
+    match entry_symbol(entry) {
+        Some(symbol) => kind != kind_of(symbols, symbol),
+        None => false,
+    }
+}
+
+// A default of a choice, or one that a symbol whose value is a text may not have.
+fn is_odd_default(value: &Expr, entry: MenuEntry, symbols: &[Symbol]) -> bool
+    ensures { result ≡ odd.is_odd_default symbols.now entry (form_of value.now) }
+{
+    match entry {
+        MenuEntry::Symbol(symbol) => has_text(kind_of(symbols, symbol)) && !is_single(value),
+        MenuEntry::Choice(_) => true,
+        MenuEntry::Other => false,
+    }
+}
+
+// A symbol that no line should select or imply: a member of a choice, or one whose value is a text.
+fn is_odd_target(symbol: SymId, symbols: &[Symbol]) -> bool
+    ensures { result ≡ odd.is_odd_target symbols.now symbol }
+{
+    match symbols.get(symbol.0) {
+        Some(found) => found.choice.is_some() || has_text(found.kind),
+        None => false,
+    }
+}
+
+// Whether there may be a diagnostic about the line that begins an entry. Of most there is none.
+#[inline(always)]
+fn is_odd_head(statement: &Statement, summary: EntrySummary, symbols: &[Symbol]) -> bool
+    ensures { result ≡ odd.is_odd_head symbols.now summary (statement_view statement.now) }
+{
+    match statement {
+        Statement::Config(symbol) => match symbols.get(symbol.0) {
+            Some(found) => {
+                found.choice.is_some()
+                    || summary.within_choice.is_some()
+                    || found.kind == Kind::Undefined
+            }
+            None => true,
+        },
+        _ => true,
+    }
+}
+
+// Whether there may be a diagnostic about an attribute. Of most there is none.
+#[inline(always)]
+fn is_odd_attribute(
+    statement: &Statement,
+    entry: MenuEntry,
+    prompted: bool,
+    symbols: &[Symbol],
+) -> bool
+    ensures { result ≡ odd.is_odd_attribute symbols.now entry prompted (statement_view statement.now) }
+{
+    match statement {
+        Statement::Type(kind, prompt) => {
+            (prompt.is_some() && prompted) || is_other_type(*kind, entry, symbols)
+        }
+        Statement::Prompt(_) => prompted,
+        Statement::Default(value, _) => is_odd_default(value, entry, symbols),
+        Statement::Def(kind, value, _) => {
+            is_other_type(*kind, entry, symbols) || is_odd_default(value, entry, symbols)
+        }
+        Statement::Select(symbol, _) => is_odd_target(*symbol, symbols),
+        Statement::Imply(symbol, _) => is_odd_target(*symbol, symbols),
+        Statement::Config(_) => true,
+        _ => false,
+    }
+}
+
 // The refusal of a line, which names its entry.
 fn refusal(
     alloc: Global,
@@ -390,10 +467,14 @@ impl Diagnostics {
     ) -> Result<(), AllocError>
         ensures { OnOk result (AreLinesDiagnosed names.now symbols.now summary (line_view head.now) (map line_view attributes.now) self.old self.new) }
     {
-        self.diagnose_line(alloc, names, symbols, summary, false, head)?;
+        if is_odd_head(&head.statement, summary, symbols) {
+            self.diagnose_line(alloc, names, symbols, summary, false, head)?;
+        }
         let mut prompted = prompt_of(&head.statement).is_some();
         for line in attributes {
-            self.diagnose_line(alloc, names, symbols, summary, prompted, line)?;
+            if is_odd_attribute(&line.statement, summary.entry, prompted, symbols) {
+                self.diagnose_line(alloc, names, symbols, summary, prompted, line)?;
+            }
             prompted = prompted || prompt_of(&line.statement).is_some();
         }
         Ok(())

@@ -6,9 +6,10 @@ use Rattle.kc_tree.specs.declared.rows.Symbol.{Symbol}
 use Rattle.kc_build.specs.declared.diagnostics.EntrySummary.{EntrySummary}
 use Rattle.kc_build.specs.Diagnosed.{Diagnosis, lines_diagnosed, diagnosis_view, line_diagnosed}
 use Rattle.kc_build.specs.Facts.{prompt_of}
+use Rattle.kc_build.proofs.OddLemmas.{attribute_adds_nothing, head_adds_nothing}
 use Rattle.kc_build.proofs.ScanLemmas.{drop_at, drop_past}
 use Rattle.kc_build.proofs.diagnostics.Diagnostics.diagnose_entry.Goals as goal
-use Rattle.kc_build.proofs.diagnostics.Diagnostics.diagnose_entry.Goals.{then-prompted, else-prompted}
+use Rattle.kc_build.proofs.diagnostics.Diagnostics.diagnose_entry.Goals.{then-prompted, else-prompted, then-is_odd_head+in_ok-diagnose_line, else-is_odd_head, then-is_odd_attribute+in_ok-diagnose_line-2, else-is_odd_attribute}
 
 -- a prompt is there in the view as it is in the line
 is_some_alike : {A B : Type 0} (v : A → B) (o : Option A) (a : Option B) (b : Bool) → option_map v o ≡ a → b ≡ is_some o → b ≡ is_some a
@@ -36,22 +37,42 @@ module _ (names : List (List ℕ)) (symbols : List Symbol) (summary : EntrySumma
 
 pub loop-line-init : goal.loop-line-init
 loop-line-init c =
+    let names = c.args.names.now in
+    let symbols = c.args.symbols.now in
+    let summary = c.args.summary in
+    let head = line_view c.args.head.now in
+    let old = diagnosis_view c.args.self.now in
+    let own = map line_view c.args.attributes.now in
     let asked = is_some_alike _ c.prompt_of.result _ c.is_some-prompted.result c.prompt_of.ensures c.is_some-prompted.ensures in
-    ap (λ (b : Bool). lines_diagnosed c.args.names.now c.args.symbols.now c.args.summary b (map line_view c.args.attributes.now) (diagnosis_view c.diagnose_line.new.self)) asked
-    ∙ ap (lines_diagnosed c.args.names.now c.args.symbols.now c.args.summary (is_some (prompt_of (line_view c.args.head.now).statement))
-    (map line_view c.args.attributes.now)) c.in_ok-diagnose_line.ensures
+    let head_is : diagnosis_view c.if-is_odd_head.self ≡ line_diagnosed names symbols summary false head old = elim c.if-is_odd_head.branch [
+      | then-is_odd_head+in_ok-diagnose_line w ↦ rw w.self-is w.in_ok-diagnose_line.ensures
+      | else-is_odd_head w ↦ rw w.self-is (head_adds_nothing names symbols summary false head old (sym c.is_odd_head.ensures ∙ w.if-is_odd_head.false))
+    ] in
+    ap (λ (b : Bool). lines_diagnosed names symbols summary b own (diagnosis_view c.if-is_odd_head.self)) asked
+    ∙ ap (lines_diagnosed names symbols summary (is_some (prompt_of head.statement)) own) head_is
 
 pub loop-line-preserved : goal.loop-line-preserved
 loop-line-preserved c =
-    let asked : c.if-prompted.prompted ≡ (c.loop-line.prompted || is_some (prompt_of (line_view c.line-item.result).statement)) = elim c.if-prompted.branch [
-      | then-prompted w ↦ or_yes c.loop-line.prompted c.if-prompted.prompted _ w.prompted-is w.if-prompted.true
+    let names = c.args.names.now in
+    let symbols = c.args.symbols.now in
+    let summary = c.args.summary in
+    let prompted = c.loop-line.prompted in
+    let line = line_view c.line-item.result in
+    let old = diagnosis_view c.loop-line.self in
+    let asked : c.if-prompted.prompted ≡ (prompted || is_some (prompt_of line.statement)) = elim c.if-prompted.branch [
+      | then-prompted w ↦ or_yes prompted c.if-prompted.prompted _ w.prompted-is w.if-prompted.true
       | else-prompted w ↦
-          or_no c.loop-line.prompted c.if-prompted.prompted _
+          or_no prompted c.if-prompted.prompted _
           (w.prompted-is ∙ is_some_alike _ w.prompt_of-else-prompted.result _ w.is_some-prompted-else-prompted.result w.prompt_of-else-prompted.ensures
           w.is_some-prompted-else-prompted.ensures) w.if-prompted.false
     ] in
-    next c.args.names.now c.args.symbols.now c.args.summary c.args.attributes.now c.loop-line.line-index c.line-item.result c.loop-line.prompted
-    c.if-prompted.prompted _ _ _ c.loop-line-test.true c.line-item.is c.in_ok-diagnose_line-2.ensures asked c.loop-line.invariant
+    let line_is : diagnosis_view c.if-is_odd_attribute.self ≡ line_diagnosed names symbols summary prompted line old = elim c.if-is_odd_attribute.branch [
+      | then-is_odd_attribute+in_ok-diagnose_line-2 w ↦ rw w.self-is w.in_ok-diagnose_line-2.ensures
+      | else-is_odd_attribute w ↦
+          rw w.self-is (attribute_adds_nothing names symbols summary prompted line old (sym c.is_odd_attribute.ensures ∙ w.if-is_odd_attribute.false))
+    ] in
+    next names symbols summary c.args.attributes.now c.loop-line.line-index c.line-item.result prompted c.if-prompted.prompted _ _ _ c.loop-line-test.true
+    c.line-item.is line_is asked c.loop-line.invariant
 
 pub returns : goal.returns
 returns c =
