@@ -27,8 +27,8 @@ RUN = {
     ("kc_io", "laws"): None,
     ("kc_io", "device"): None,
     ("kc_load", "folder"): None,
-    ("kc_disk", "arguments"): {"of"},
-    ("kc_disk", "ended"): {"status", "kconf_over"},
+    ("kc_disk", "arguments"): None,
+    ("kc_disk", "ended"): None,
     ("kc_disk", "laws"): None,
     ("kc_disk", "program"): {"kconf", "exit_status"},
 }
