@@ -5,20 +5,18 @@ use Rattle.std.specs.List.{filter_map}
 use Rattle.std.proofs.lemmas.Bool.{cases_lt}
 use Rattle.std.proofs.lemmas.List.{append-nil, get_or_append_left, get_or_push, length_push}
 use Rattle.kc_expr.specs.declared.expression.SymId.{SymId}
-use Rattle.kc_expr.specs.Form.{Form, Leaf, form_of, leaf_of}
+use Rattle.kc_expr.specs.Form.{Form}
 use Rattle.kc_expr.specs.When.{when_view}
 use Rattle.kc_read.specs.declared.statement.Line.{Line}
 use Rattle.kc_read.specs.StatementViews.{statement_view}
 use Rattle.kc_read.specs.Statements.{Numbered}
 use Rattle.kc_tree.specs.declared.rows.ChoiceDefault.{ChoiceDefault}
 use Rattle.kc_tree.specs.declared.rows.Symbol.{Symbol}
-use Rattle.kc_tree.specs.declared.rows.SymbolDefault.{SymbolDefault}
-use Rattle.kc_tree.specs.declared.rows.SymbolRange.{SymbolRange}
 use Rattle.kc_tree.specs.Contexts.{and_also, condition_in, top}
 use Rattle.kc_tree.specs.TreeFacts.{Condition}
-use Rattle.kc_build.specs.EntryLines.{choice_default_line, default_line, default_row, member_line, range_line, range_row}
+use Rattle.kc_build.specs.EntryLines.{choice_default_line, member_line}
 use Rattle.kc_build.specs.Facts.{StatedDefault, stated_default, single_symbol}
-use Rattle.kc_build.specs.Growth.{IsGrown, Stands}
+use Rattle.kc_build.specs.Growth.{IsGrown, IsInside, Stands}
 use Rattle.kc_build.specs.SymbolRows.{member_by}
 use Rattle.kc_build.specs.Passes.{statements_of}
 use Rattle.kc_build.proofs.ScanLemmas.{statements_end, statements_from}
@@ -94,6 +92,11 @@ module _ (f : Numbered → Option Form) (old : List Condition) (outer : ℕ) whe
         condition = ap (λ c. with_conjuncts c rest) here ∙ more_asked (condition_in now at) e rest ∙ (rw (statements_from ls i x h n, ← q) at s);
       }
 
+  pub context_next : (ls : List Line) (i : ℕ) (x : Line) (now new : List Condition) (at next : ℕ) (o : Option Form) → ContextSoFar ls i now at → i < length ls →
+      x ≡ get_or ls i x → f (statement_view x.statement) ≡ o → IsInside now at o new next → ContextSoFar ls (i + 1) new next
+  context_next ls i x now new at next None a h n q p = rw (p.0, p.1) (context_kept ls i x now at a h n q)
+  context_next ls i x now new at next (Some e) a h n q p = context_more ls i x now new at next e a h n (sym q) p.0 p.1
+
   pub context_grown : (ls : List Line) (i : ℕ) (now : List Condition) (at : ℕ) → ContextSoFar ls i now at → i ≤ length ls → IsGrown old now (condition_in old outer).mode (length ls)
   context_grown ls i now at a h = grown_more old (condition_in old outer).mode now i (length ls) h a.grown
 
@@ -102,22 +105,6 @@ module _ (f : Numbered → Option Form) (old : List Condition) (outer : ℕ) whe
   context_end ls i now at a h =
       let s = a.condition in
       record { there = a.there; is = sym (all_asked (condition_in now at)) ∙ (rw (statements_end ls i h) at s) }
-
--- A default.
-pub default_made : (s : Numbered) (g : StatedDefault) (d : SymbolDefault) → Some g ≡ stated_default s → form_of d.value.value ≡ g.value →
-    when_view d.when ≡ g.when → default_line s ≡ Some (default_row d)
-default_made s g d h v w = rw (← h) (λ i. Some (sym v i, sym w i))
-
-pub default_missing : (s : Numbered) → None ≡ stated_default s → default_line s ≡ None
-default_missing s h = rw (← h) refl
-
--- A range.
-pub range_made : (s : Numbered) (r : Leaf × Leaf × Option Form) (d : SymbolRange) → Some r ≡ range_line s → leaf_of d.low ≡ r.0 → leaf_of d.high ≡ r.1 →
-    when_view d.when ≡ r.2 → range_line s ≡ Some (range_row d)
-range_made s r d h a b w = sym h ∙ (λ i. Some (sym a i, sym b i, sym w i))
-
-pub range_missing : (s : Numbered) → None ≡ range_line s → range_line s ≡ None
-range_missing s h = sym h
 
 -- A default of a choice.
 module _ (symbols : List Symbol) (k : ℕ) (s : Numbered) where

@@ -2,13 +2,14 @@
 use Rattle.std.proofs.Common.{◌≡◌, ℕ, zero, suc, ◌+◌, ◌-◌, ◌<◌, ◌≤◌, true, false, List, [], ◌∷◌, ◌++◌, length, take, drop, map, Option, Some, None, refl, ap, sym, ◌∙◌, arith, add-one, get_or, append_assoc, length-drop}
 use Rattle.std.specs.List.{slice_get, filter_map, cons_option, prefix_len}
 use Rattle.std.specs.Option.{option_map, option_or}
-use Rattle.std.proofs.lemmas.List.{map-append, append-nil, drop-map}
+use Rattle.std.proofs.lemmas.List.{map-append, append-nil, drop-map, length-map, length_push}
 use Rattle.std.proofs.Math.Seq.{take-length}
 use Rattle.std.proofs.lemmas.Option.{slice_get-get_or}
 use Rattle.kc_read.specs.declared.statement.Line.{Line}
 use Rattle.kc_read.specs.StatementViews.{statement_view}
 use Rattle.kc_read.specs.Statements.{Numbered}
 use Rattle.kc_read.specs.Blocks.{last_of, is_attribute}
+use Rattle.kc_tree.specs.Common.{listed}
 use Rattle.kc_build.specs.Facts.{first_of}
 use Rattle.kc_build.specs.Passes.{statements_of}
 use Rattle.kc_build.proofs.PlaceLemmas.{statement_at, length-statements_of}
@@ -149,10 +150,20 @@ module _ {A : Type 0} (f : Numbered → Option A) (base : List A) where
   pub adds_none : (ls : List Line) (i : ℕ) (x : Line) (out : List A) → Adds ls i out → i < length ls → x ≡ get_or ls i x → f (statement_view x.statement) ≡ None → Adds ls (i + 1) out
   adds_none ls i x out h b at e = (rw (statements_from ls i x b at, e) at h)
 
-  pub adds_one : {B : Type 0} (v : B → A) (ls : List Line) (i : ℕ) (x : Line) (out new : List B) (b : B) → Adds ls i (map v out) → i < length ls →
-      x ≡ get_or ls i x → f (statement_view x.statement) ≡ Some (v b) → new ≡ out ++ b ∷ [] → Adds ls (i + 1) (map v new)
-  adds_one v ls i x out new b h n at e p =
-      (rw (p, map-append v out (b ∷ [])) (append_assoc (map v out) (v b ∷ []) (filter_map f (drop (i + 1) (statements_of ls))))) ∙ (rw (statements_from ls i x n at, e) at h)
+  pub adds_next : (ls : List Line) (i : ℕ) (x : Line) (out new : List A) (o : Option A) → Adds ls i out → i < length ls → x ≡ get_or ls i x →
+      f (statement_view x.statement) ≡ o → new ≡ out ++ listed o → Adds ls (i + 1) new
+  adds_next ls i x out new None b h n e p = rw (p, append-nil out) (adds_none ls i x out b h n e)
+  adds_next ls i x out new (Some a) b h n e p =
+      (rw p (append_assoc out (a ∷ []) (filter_map f (drop (i + 1) (statements_of ls))))) ∙ (rw (statements_from ls i x h n, e) at b)
 
   pub adds_end : (ls : List Line) (i : ℕ) (out : List A) → Adds ls i out → length ls ≤ i → out ≡ base ++ filter_map f (statements_of ls)
   adds_end ls i out h b = sym (append-nil out) ∙ (rw (statements_end ls i b) at h)
+
+-- at most one more
+pub one_more : {A B : Type 0} (v : B → A) (now new : List B) (o : Option A) → map v new ≡ map v now ++ listed o → length new ≤ length now + 1
+one_more v now new None e =
+    let same : length new ≡ length now = sym (length-map new v) ∙ ap length (e ∙ append-nil (map v now)) ∙ length-map now v in
+    omega arith
+one_more v now new (Some a) e =
+    let more : length new ≡ length now + 1 = sym (length-map new v) ∙ ap length e ∙ length_push (map v now) a ∙ ap (λ n. n + 1) (length-map now v) in
+    omega arith

@@ -1,18 +1,20 @@
 //! The attributes of an entry, and what they say of it.
 
-ghost use Rattle.std.specs.Prelude.{◌≡◌, ◌<◌, ◌≤◌, ◌+◌, ◌++◌, ◌^◌, length, drop, map, option_map, IfOk, OnOk};
+ghost use Rattle.std.specs.Prelude.{◌≡◌, ◌<◌, ◌≤◌, ◌+◌, ◌++◌, ◌^◌, length, drop, map, option_map, IfOk, OnErr, OnOk};
 ghost use Rattle.std.specs.List.{filter_map, prefix_len};
 ghost use Rattle.kc_expr.specs.Form.{form_of};
 ghost use Rattle.kc_read.specs.Blocks as blocks;
 ghost use Rattle.kc_expr.specs.When.{when_view};
-ghost use Rattle.kc_read.specs.StatementViews.{input_prompt_view};
+ghost use Rattle.kc_read.specs.StatementViews.{input_prompt_view, statement_view};
+ghost use Rattle.kc_tree.specs.Common.{listed};
 ghost use Rattle.kc_tree.specs.Contexts.{condition_in};
 ghost use Rattle.kc_build.specs.Facts as facts;
-ghost use Rattle.kc_build.specs.Growth.{IsGrown, Stands};
+ghost use Rattle.kc_build.specs.Growth.{IsGrown, IsInside, Stands};
 ghost use Rattle.kc_build.specs.EntryLines.{prompt_line, default_line, range_line, member_line, choice_default_line, default_row, range_row};
 ghost use Rattle.kc_build.specs.Passes.{statements_of};
 ghost use Rattle.kc_tree.specs.Layouts.{with_conjuncts};
 
+use crate::blocks::BlockScope;
 use crate::copies::operand_copy;
 use crate::lines::{
     depends_of, is_attribute, prompt_of, range_of, single_symbol, stated_default, type_of,
@@ -21,7 +23,7 @@ use crate::lines::{
 use crate::symbols::is_member;
 use kc_expr::expression::{Expr, Kind};
 use kc_read::statement;
-use kc_read::statement::Line;
+use kc_read::statement::{Line, Statement};
 use kc_tree::contexts::Contexts;
 use kc_tree::rows::{
     ChoiceDefault, ChoiceId, ContextId, EntryPrompt, RowSpan, Symbol, SymbolDefault, SymbolRange,
@@ -84,6 +86,22 @@ pub(crate) fn shared_condition(when: Option<&Rc<Expr>>) -> Result<Option<Rc<Expr
     }
 }
 
+// The prompt of an entry whose last prompt this is; `visible` is what the enclosing menus ask of what is visible.
+fn entry_prompt(
+    last: Option<&statement::Prompt>,
+    visible: ContextId,
+) -> Result<Option<EntryPrompt>, AllocError>
+    ensures { IfOk result (λ o. option_map prompt_line o ≡ option_map (λ q. (visible.0, q.when)) (option_map (λ p. input_prompt_view p.now) last.entry)) }
+{
+    match last {
+        Some(prompt) => Ok(Some(EntryPrompt {
+            visible,
+            when: shared_condition(prompt.when.as_ref())?,
+        })),
+        None => Ok(None),
+    }
+}
+
 /// The prompt of an entry, where it has one; `visible` is what the enclosing menus ask of what is visible.
 pub(crate) fn prompt(
     attributes: &[Line],
@@ -91,13 +109,7 @@ pub(crate) fn prompt(
 ) -> Result<Option<EntryPrompt>, AllocError>
     ensures { IfOk result (λ o. option_map prompt_line o ≡ option_map (λ p. (visible.0, p.when)) (blocks.last_of (filter_map facts.prompt_of (statements_of attributes.now)))) }
 {
-    match last_prompt(attributes) {
-        Some(prompt) => Ok(Some(EntryPrompt {
-            visible,
-            when: shared_condition(prompt.when.as_ref())?,
-        })),
-        None => Ok(None),
-    }
+    entry_prompt(last_prompt(attributes), visible)
 }
 
 /// The context of an entry with these attributes: what its `depends on` lines ask for, besides what is asked for outside.
@@ -141,55 +153,114 @@ pub(crate) fn visible_context(
     Ok(at)
 }
 
-/// Adds the defaults of a symbol's entry to those of the tree, and answers where they stand.
-pub(crate) fn add_defaults(
-    attributes: &[Line],
-    defaults: &mut Vec<SymbolDefault>,
-) -> Result<RowSpan, AllocError>
-    requires few { length defaults.old.items + length attributes.now < 2 ^ 32 }
-    ensures added { OnOk result (map default_row defaults.new.items ≡ map default_row defaults.old.items ++ filter_map default_line (statements_of attributes.now)) }
-    ensures start { IfOk result (λ s. s.start ≡ length defaults.old.items) }
-    ensures end { IfOk result (λ s. s.end ≡ length defaults.new.items) }
-    ensures longer { length defaults.old.items ≤ length defaults.new.items }
+// The context inside another one, with what a line asks for; the other one, where the line is no `depends on`.
+fn line_context(
+    contexts: &mut Contexts,
+    outer: ContextId,
+    statement: &Statement,
+) -> Result<ContextId, AllocError>
+    requires there { outer.0 < length contexts.old }
+    requires few { length contexts.old < 2 ^ 32 }
+    ensures made { IfOk result (λ id. IsInside contexts.old outer.0 (facts.depends_form (statement_view statement.now)) contexts.new id.0) }
+    ensures unchanged { OnErr result (contexts.new ≡ contexts.old) }
 {
-    let start = defaults.len() as u32;
-    for line in attributes {
-        if let Some(stated) = stated_default(&line.statement) {
+    match depends_of(statement) {
+        Some(condition) => contexts.inside(outer, condition.clone()?),
+        None => Ok(outer),
+    }
+}
+
+// Adds the default of a line, where it has one.
+fn add_default(statement: &Statement, defaults: &mut Vec<SymbolDefault>) -> Result<(), AllocError>
+    ensures { OnOk result (map default_row defaults.new.items ≡ map default_row defaults.old.items ++ listed (default_line (statement_view statement.now))) }
+{
+    match stated_default(statement) {
+        Some(stated) => {
             let value = stated.value.clone()?;
             let when = shared_condition(stated.when)?;
             defaults.push(SymbolDefault { value, when })?;
+            Ok(())
         }
+        None => Ok(()),
     }
-    Ok(RowSpan {
-        start,
-        end: defaults.len() as u32,
-    })
 }
 
-/// Adds the ranges of a symbol's entry to those of the tree, and answers where they stand.
-pub(crate) fn add_ranges(
+// Adds the range of a line, where it has one.
+fn add_range(
     alloc: Global,
-    attributes: &[Line],
+    statement: &Statement,
     ranges: &mut Vec<SymbolRange>,
-) -> Result<RowSpan, AllocError>
-    requires few { length ranges.old.items + length attributes.now < 2 ^ 32 }
-    ensures added { OnOk result (map range_row ranges.new.items ≡ map range_row ranges.old.items ++ filter_map range_line (statements_of attributes.now)) }
-    ensures start { IfOk result (λ s. s.start ≡ length ranges.old.items) }
-    ensures end { IfOk result (λ s. s.end ≡ length ranges.new.items) }
-    ensures longer { length ranges.old.items ≤ length ranges.new.items }
+) -> Result<(), AllocError>
+    ensures { OnOk result (map range_row ranges.new.items ≡ map range_row ranges.old.items ++ listed (range_line (statement_view statement.now))) }
 {
-    let start = ranges.len() as u32;
-    for line in attributes {
-        if let Some(range) = range_of(&line.statement) {
+    match range_of(statement) {
+        Some(range) => {
             let low = operand_copy(alloc, range.low)?;
             let high = operand_copy(alloc, range.high)?;
             let when = shared_condition(range.when)?;
             ranges.push(SymbolRange { low, high, when })?;
+            Ok(())
         }
+        None => Ok(()),
     }
-    Ok(RowSpan {
-        start,
-        end: ranges.len() as u32,
+}
+
+/// What the attributes of a symbol's entry say of a definition: its context and its prompt, and where its defaults and its
+/// ranges stand.
+#[derive(Debug, Drop)]
+pub(crate) struct DefinitionParts {
+    pub within: ContextId,
+    pub prompt: Option<EntryPrompt>,
+    pub defaults: RowSpan,
+    pub ranges: RowSpan,
+}
+
+/// Adds the contexts, the defaults and the ranges of a symbol's entry in a block to those of the tree, in one pass.
+pub(crate) fn add_attributes(
+    alloc: Global,
+    outer: BlockScope,
+    attributes: &[Line],
+    contexts: &mut Contexts,
+    defaults: &mut Vec<SymbolDefault>,
+    ranges: &mut Vec<SymbolRange>,
+) -> Result<DefinitionParts, AllocError>
+    requires there { outer.within.0 < length contexts.old }
+    requires few { length contexts.old + length attributes.now < 2 ^ 32 }
+    requires few_defaults { length defaults.old.items + length attributes.now < 2 ^ 32 }
+    requires few_ranges { length ranges.old.items + length attributes.now < 2 ^ 32 }
+    ensures made { IfOk result (λ p. Stands contexts.new p.within.0 (with_conjuncts (condition_in contexts.old outer.within.0) (filter_map facts.depends_form (statements_of attributes.now)))) }
+    ensures kept { IsGrown contexts.old contexts.new (condition_in contexts.old outer.within.0).mode (length attributes.now) }
+    ensures prompt { IfOk result (λ p. option_map prompt_line p.prompt ≡ option_map (λ q. (outer.visible.0, q.when)) (blocks.last_of (filter_map facts.prompt_of (statements_of attributes.now)))) }
+    ensures defaults { OnOk result (map default_row defaults.new.items ≡ map default_row defaults.old.items ++ filter_map default_line (statements_of attributes.now)) }
+    ensures defaults_start { IfOk result (λ p. p.defaults.start ≡ length defaults.old.items) }
+    ensures defaults_end { IfOk result (λ p. p.defaults.end ≡ length defaults.new.items) }
+    ensures ranges { OnOk result (map range_row ranges.new.items ≡ map range_row ranges.old.items ++ filter_map range_line (statements_of attributes.now)) }
+    ensures ranges_start { IfOk result (λ p. p.ranges.start ≡ length ranges.old.items) }
+    ensures ranges_end { IfOk result (λ p. p.ranges.end ≡ length ranges.new.items) }
+{
+    let first_default = defaults.len() as u32;
+    let first_range = ranges.len() as u32;
+    let mut within = outer.within;
+    let mut last = None;
+    for line in attributes {
+        let statement = &line.statement;
+        within = line_context(contexts, within, statement)?;
+        last = prompt_of(statement).or(last);
+        add_default(statement, defaults)?;
+        add_range(alloc, statement, ranges)?;
+    }
+    let prompt = entry_prompt(last, outer.visible)?;
+    Ok(DefinitionParts {
+        within,
+        prompt,
+        defaults: RowSpan {
+            start: first_default,
+            end: defaults.len() as u32,
+        },
+        ranges: RowSpan {
+            start: first_range,
+            end: ranges.len() as u32,
+        },
     })
 }
 

@@ -13,7 +13,7 @@ ghost use Rattle.kc_tree.specs.Contexts.{IsPlain, condition_in};
 ghost use Rattle.kc_tree.specs.Layouts.{choice_facts as choice_in};
 
 use crate::attributes::{
-    add_defaults, add_ranges, choice_defaults, entry_context, entry_end, prompt, visible_context,
+    add_attributes, choice_defaults, entry_context, entry_end, prompt, visible_context,
 };
 use crate::blocks::{BlockScope, Blocks, choice_block, if_block};
 use crate::diagnostics::{Diagnostics, EntrySummary, MenuEntry};
@@ -74,16 +74,20 @@ impl EntryWalk {
         ensures { OnOk result (AddsDefinition symbol (statements_of own.now) self.old self.new) }
     {
         let outer = self.blocks.innermost();
-        let within = entry_context(&mut self.tables.contexts, outer.within, own)?;
-        let prompt = prompt(own, outer.visible)?;
-        let defaults = add_defaults(own, &mut self.tables.defaults)?;
-        let ranges = add_ranges(alloc, own, &mut self.tables.ranges)?;
+        let parts = add_attributes(
+            alloc,
+            outer,
+            own,
+            &mut self.tables.contexts,
+            &mut self.tables.defaults,
+            &mut self.tables.ranges,
+        )?;
         self.tables.definitions.push(Definition {
             symbol,
-            within,
-            prompt,
-            defaults,
-            ranges,
+            within: parts.within,
+            prompt: parts.prompt,
+            defaults: parts.defaults,
+            ranges: parts.ranges,
         })?;
         Ok(())
     }

@@ -8,8 +8,8 @@ use Rattle.kc_build.proofs.DefineLemmas.{adds_definition, entry_carries, keeping
 use Rattle.kc_build.proofs.PlaceLemmas.{length-statements_of}
 use Rattle.kc_build.proofs.entries.EntryWalk.add_definition.Goals as goal
 
-pub entry_context-requires-clause-there : goal.entry_context-requires-clause-there
-entry_context-requires-clause-there c =
+pub add_attributes-requires-clause-there : goal.add_attributes-requires-clause-there
+add_attributes-requires-clause-there c =
     let w = c.args.self.now in
     let e = c.innermost-outer.ensures in
     subst (λ (b : BlockScope). b.within.0 < length w.tables.contexts) (sym e) (w.within 0 w.blocks.innermost refl)
@@ -17,64 +17,43 @@ entry_context-requires-clause-there c =
 pub invariant_of-self : goal.invariant_of-self
 invariant_of-self c =
     let w = c.args.self.now in
-    let g = entry_carries w c.entry_context.new.contexts _ (outer_grown w c.innermost-outer.result c.entry_context.new.contexts _ c.innermost-outer.ensures c.entry_context.ensures.kept) in
-    keeping_carries w c.entry_context.new.contexts g
+    let g = entry_carries w c.add_attributes.new.contexts _ (outer_grown w c.innermost-outer.result c.add_attributes.new.contexts _ c.innermost-outer.ensures c.add_attributes.ensures.kept) in
+    keeping_carries w c.add_attributes.new.contexts g
 
 pub invariant_of-self-in-Break-1 : goal.invariant_of-self-in-Break-1
 invariant_of-self-in-Break-1 c =
     let w = c.args.self.now in
-    let g = entry_carries w c.entry_context.new.contexts _ (outer_grown w c.innermost-outer.result c.entry_context.new.contexts _ c.innermost-outer.ensures c.entry_context.ensures.kept) in
-    let h = held_carries w.tables.contexts c.entry_context.new.contexts w.blocks w.tables.titles.items g (held_by w) in
+    let g = entry_carries w c.add_attributes.new.contexts _ (outer_grown w c.innermost-outer.result c.add_attributes.new.contexts _ c.innermost-outer.ensures c.add_attributes.ensures.kept) in
+    let h = held_carries w.tables.contexts c.add_attributes.new.contexts w.blocks w.tables.titles.items g (held_by w) in
     record { top_is_empty = h.top_is_empty; top_plain = h.top_plain; within = h.within; visible = h.visible; plain = h.plain; titles = h.titles }
 
-pub invariant_of-self-in-Break-branch-2 : goal.invariant_of-self-in-Break-branch-2
-invariant_of-self-in-Break-branch-2 c =
+pub invariant_of-self-2 : goal.invariant_of-self-2
+invariant_of-self-2 c =
     let w = c.args.self.now in
-    let g = entry_carries w c.entry_context.new.contexts _ (outer_grown w c.innermost-outer.result c.entry_context.new.contexts _ c.innermost-outer.ensures c.entry_context.ensures.kept) in
-    let h = held_carries w.tables.contexts c.entry_context.new.contexts w.blocks w.tables.titles.items g (held_by w) in
-    record { top_is_empty = h.top_is_empty; top_plain = h.top_plain; within = h.within; visible = h.visible; plain = h.plain; titles = h.titles }
-
-pub invariant_of-self-in-Break-branch-3 : goal.invariant_of-self-in-Break-branch-3
-invariant_of-self-in-Break-branch-3 c =
-    let w = c.args.self.now in
-    let g = entry_carries w c.entry_context.new.contexts _ (outer_grown w c.innermost-outer.result c.entry_context.new.contexts _ c.innermost-outer.ensures c.entry_context.ensures.kept) in
-    let h = held_carries w.tables.contexts c.entry_context.new.contexts w.blocks w.tables.titles.items g (held_by w) in
-    record { top_is_empty = h.top_is_empty; top_plain = h.top_plain; within = h.within; visible = h.visible; plain = h.plain; titles = h.titles }
-
-pub invariant_of-self-in-Break-branch-4 : goal.invariant_of-self-in-Break-branch-4
-invariant_of-self-in-Break-branch-4 c =
-    let w = c.args.self.now in
-    let g = entry_carries w c.entry_context.new.contexts _ (outer_grown w c.innermost-outer.result c.entry_context.new.contexts _ c.innermost-outer.ensures c.entry_context.ensures.kept) in
-    let h = held_carries w.tables.contexts c.entry_context.new.contexts w.blocks w.tables.titles.items g (held_by w) in
-    record { top_is_empty = h.top_is_empty; top_plain = h.top_plain; within = h.within; visible = h.visible; plain = h.plain; titles = h.titles }
-
-pub invariant_of-self-4 : goal.invariant_of-self-4
-invariant_of-self-4 c =
-    let w = c.args.self.now in
-    let g = entry_carries w c.entry_context.new.contexts _ (outer_grown w c.innermost-outer.result c.entry_context.new.contexts _ c.innermost-outer.ensures c.entry_context.ensures.kept) in
-    let s = c.in_ok-within.ensures.made in
-    let p = prompt_visible c.in_ok-prompt.prompt c.innermost-outer.result.visible.0 _ c.in_ok-prompt.ensures in
+    let g = entry_carries w c.add_attributes.new.contexts _ (outer_grown w c.innermost-outer.result c.add_attributes.new.contexts _ c.innermost-outer.ensures c.add_attributes.ensures.kept) in
+    let s = c.in_ok-parts.ensures.made in
+    let p = prompt_visible c.in_ok-parts.parts.prompt c.innermost-outer.result.visible.0 _ c.in_ok-parts.ensures.prompt in
     let v = ap (λ (b : BlockScope). b.visible.0) c.innermost-outer.ensures in
-    keeping_definition w c.entry_context.new.contexts g _ s.there (λ q e. p q e ∙ v) (is_ok c.push.result) c.push.new.self.items c.push.ensures.items
+    keeping_definition w c.add_attributes.new.contexts g _ s.there (λ q e. p q e ∙ v) (is_ok c.push.result) c.push.new.self.items c.push.ensures.items
 
 pub returns : goal.returns
 returns c =
     let w = c.args.self.now in
     let n : length c.args.own.now ≡ length (statements_of c.args.own.now) = sym (length-statements_of c.args.own.now) in
-    let grown = outer_grown w c.innermost-outer.result c.entry_context.new.contexts _ c.innermost-outer.ensures c.entry_context.ensures.kept in
+    let grown = outer_grown w c.innermost-outer.result c.add_attributes.new.contexts _ c.innermost-outer.ensures c.add_attributes.ensures.kept in
     adds_definition c.args.symbol (statements_of c.args.own.now) w _ _
     (record {
-      contexts = subst (IsGrown w.tables.contexts c.entry_context.new.contexts (condition_in w.tables.contexts w.blocks.innermost.within.0).mode) n grown;
+      contexts = subst (IsGrown w.tables.contexts c.add_attributes.new.contexts (condition_in w.tables.contexts w.blocks.innermost.within.0).mode) n grown;
       pushed_is = c.in_ok-push.ensures.items;
       symbol_is = refl;
-      within = outer_stands w c.innermost-outer.result c.entry_context.new.contexts c.in_ok-within.within.0 _ c.innermost-outer.ensures c.in_ok-within.ensures.made;
-      prompt = outer_prompt w c.innermost-outer.result c.in_ok-prompt.prompt _ c.innermost-outer.ensures c.in_ok-prompt.ensures;
-      defaults = c.in_ok-defaults.ensures.added;
-      defaults_start = c.in_ok-defaults.ensures.start;
-      defaults_end = c.in_ok-defaults.ensures.end;
-      ranges = c.in_ok-ranges.ensures.added;
-      ranges_start = c.in_ok-ranges.ensures.start;
-      ranges_end = c.in_ok-ranges.ensures.end;
+      within = outer_stands w c.innermost-outer.result c.add_attributes.new.contexts c.in_ok-parts.parts.within.0 _ c.innermost-outer.ensures c.in_ok-parts.ensures.made;
+      prompt = outer_prompt w c.innermost-outer.result c.in_ok-parts.parts.prompt _ c.innermost-outer.ensures c.in_ok-parts.ensures.prompt;
+      defaults = c.in_ok-parts.ensures.defaults;
+      defaults_start = c.in_ok-parts.ensures.defaults_start;
+      defaults_end = c.in_ok-parts.ensures.defaults_end;
+      ranges = c.in_ok-parts.ensures.ranges;
+      ranges_start = c.in_ok-parts.ensures.ranges_start;
+      ranges_end = c.in_ok-parts.ensures.ranges_end;
       reverses = refl;
       choices = refl;
       titles = refl;
