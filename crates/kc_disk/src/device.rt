@@ -31,7 +31,7 @@ pub struct SystemDevice<'a> {
     writing: Option<(File, Option<TemporaryFile>)>,
     // Those that are whole, in the order in which they take their places.
     whole: Vec<Option<TemporaryFile>>,
-    // How many names of temporary files were tried.
+    // How many names of temporary files were tried since there was none.
     tried: usize,
 }
 
@@ -91,6 +91,13 @@ impl<'a> SystemDevice<'a> {
         Ok(())
     }
 
+    // If no temporary file is left, all their names are free again.
+    fn try_names_anew(&mut self) {
+        if self.whole.is_empty() {
+            self.tried = 0;
+        }
+    }
+
     // Moves the first of the whole files to its place.
     fn move_first(&mut self) -> io::Result<()> {
         if let Some(Some(temporary)) = self.whole.first() {
@@ -99,6 +106,7 @@ impl<'a> SystemDevice<'a> {
         if !self.whole.is_empty() {
             let _ = self.whole.remove(0);
         }
+        self.try_names_anew();
         Ok(())
     }
 }
@@ -211,5 +219,6 @@ impl<'a> Device for SystemDevice<'a> {
             remove(self.rt, temporary);
         }
         self.whole.clear();
+        self.try_names_anew();
     }
 }
