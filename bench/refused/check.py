@@ -8,7 +8,7 @@ A run without a refused call has to end with its status, its notes and its outpu
 refused ends with status 3. In each, a write to standard error holds one or more whole lines. So there are no more writes than
 lines; where a write moved one byte, one more. Only where the growth was refused that makes room to join lines, and that is one
 growth of a run, they may come in pieces. Its notes are then a beginning of the right ones, in whole lines, and the one error
-line: E20 for memory, E18 with the name of the file that could not be read, E19 with the name of the output that could not be
+line: E20 for memory, also where the system has none for an open, a read or a write, E18 with the name of the file that could not be read, E19 with the name of the output that could not be
 written; where the notes themselves were refused, a beginning and nothing else. Of the outputs, each that was begun holds a
 beginning of its text, and nothing is begun before the notes and the outputs before it are whole: so it is too where a growth was
 refused while an output was opened or written. Behind a file that could not be read nothing is begun, and before an output that
