@@ -68,7 +68,7 @@ def judge_of(case):
 
 def needed(case):
     """The kinds of which a run has to make a call: without one nothing is looked at."""
-    names = ["growth", "open", "read", "close"] + ["write"] * bool(case.notes or case.outputs and not case.checks())
+    names = ["growth"] + ["open", "read", "close"] * case.opens_files() + ["write"] * bool(case.notes or case.outputs and not case.checks())
     if not (case.replaces() and case.outputs):
         return names
     new = changed(case)
