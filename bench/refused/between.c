@@ -4,7 +4,8 @@
  * KIND names the kind. REFUSED is the number of the call that is refused, counted from 1; with 0 none is. Where LASTING is
  * there, each later call of the kind for the same file is refused too. A refused call of the kinds "short read" and "short
  * write" moves one byte. One of the kinds "interrupted read", "interrupted write" and "interrupted open" is told to be tried
- * again. One of the kind "busy move" is a move to a place that is in use. The kind "followed link" is a look or an open by a path
+ * again. One of the kinds "open without memory", "read without memory" and "write without memory" fails as the system does when it has
+ * no memory. One of the kind "busy move" is a move to a place that is in use. The kind "followed link" is a look or an open by a path
  * that is a link: it is refused as another user's link in a sticky folder is. BESIDES names a kind of which every call is refused,
  * whatever KIND says.
  * When the program ends, the file that REPORT names gets one line: how many calls of the kind there were, how many writes
@@ -89,7 +90,7 @@ static int open_fault(const char *path, int flags) {
     snprintf(file, sizeof file, "%c%s", (flags & O_ACCMODE) == O_RDONLY ? '<' : '>', path);
     if (opened_count < OPENS) strcpy(opens[opened_count++], file);
     if (flags & O_EXCL && made_count < FILES) snprintf(made[made_count++], sizeof made[0], "%s", path);
-    return is_refused("open", file) ? EIO : is_refused("interrupted open", file) ? EINTR : 0;
+    return is_refused("open", file) ? EIO : is_refused("interrupted open", file) ? EINTR : is_refused("open without memory", file) ? ENOMEM : 0;
 }
 
 /* Whether the system may not follow the link at this path, if it is one. */
@@ -144,6 +145,7 @@ ssize_t read(int file, void *bytes, size_t count) {
     REAL("read", ssize_t, int, void *, size_t);
     if (is_refused("read", file_of(file))) return errno = EIO, -1;
     if (is_refused("interrupted read", file_of(file))) return errno = EINTR, -1;
+    if (is_refused("read without memory", file_of(file))) return errno = ENOMEM, -1;
     if (is_refused("short read", file_of(file)) && count) count = 1;
     return real(file, bytes, count);
 }
@@ -153,6 +155,7 @@ ssize_t write(int file, const void *bytes, size_t count) {
     torn += file == 2 && count && ((const char *)bytes)[count - 1] != '\n';
     if (is_refused("write", file_of(file))) return errno = ENOSPC, -1;
     if (is_refused("interrupted write", file_of(file))) return errno = EINTR, -1;
+    if (is_refused("write without memory", file_of(file))) return errno = ENOMEM, -1;
     if (is_refused("short write", file_of(file)) && count) count = 1;
     told += file == 2;
     return real(file, bytes, count);

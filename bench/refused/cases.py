@@ -43,6 +43,10 @@ class Case:
         """All outputs, also those of a run that writes none."""
         return list(self.outputs) or list(self.unwritten)
 
+    def opens_files(self):
+        """Whether it comes to open a file."""
+        return True
+
     def replaces(self):
         """Whether files take their places at the end."""
         return "--replace" in self.flags

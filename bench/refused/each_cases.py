@@ -40,6 +40,10 @@ class Many(cases.Case):
         """Whether the configurations take their turns."""
         return self.notes != self.said or bool(self.outputs)
 
+    def opens_files(self):
+        """Not where there is no list, which a look tells."""
+        return not self.listed or self.listing is not None
+
     def places(self):
         return list(self.unwritten)
 

@@ -54,10 +54,11 @@ def is_repeated(case, kind, struck):
 
 def error_line(case, kind, struck):
     """The error line that has to come, and whether it tells of an output."""
-    if kind.name == "growth":
-        return f"{case.lead}error E20: out of memory\n", False
     output = output_of(case, struck)
-    if output and not struck.startswith("<"):
+    is_output = output is not None and not struck.startswith("<")
+    if kind.is_memory():
+        return f"{case.lead}error E20: out of memory\n", is_output
+    if is_output:
         return f"{case.lead}error E19: cannot write {output}\n", True
     path = os.path.normpath(struck.lstrip("<>"))
     names = {os.path.normpath(f"{case.root}/{name}"): name for name in case.tree}

@@ -17,6 +17,10 @@ class Kind(typing.NamedTuple):
     has_to: bool = False
     besides: str = ""
 
+    def is_memory(self):
+        """Whether the call fails for want of memory."""
+        return self.name == "growth" or self.name.endswith("without memory")
+
     def __str__(self):
         return self.name + (", and all later ones" if self.is_lasting else "") + (f", and each {self.besides}" if self.besides else "")
 
@@ -33,6 +37,9 @@ KINDS = [
     Kind("interrupted read", may_go_on=True),
     Kind("interrupted write", may_go_on=True),
     Kind("interrupted open", may_go_on=True),
+    Kind("open without memory"),
+    Kind("read without memory"),
+    Kind("write without memory"),
     Kind("close", may_go_on=True),
     Kind("short read", may_go_on=True, has_to=True),
     Kind("short write", may_go_on=True, has_to=True),

@@ -57,9 +57,10 @@ static int tell(void) {
     return 0;
 }
 
-/* The error line. The answer is the status. */
+/* The error line: where the system had no memory it says that. The answer is the status. */
 static int fault(const char *what, const char *name) {
     char line[256] = "error ";
+    if (errno == ENOMEM) what = "E20: out of memory", name = "";
     strcat(strcat(strcat(line, what), name), "\n");
     if (!has_stderr) return 3;
 #if !defined SILENT && !defined ANY_TEXT

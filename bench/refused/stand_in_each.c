@@ -45,9 +45,11 @@ static int tell(const char *text) {
     return 0;
 }
 
-/* The error line of the turn of this number; of none where it is negative. The answer is the status. */
+/* The error line of the turn of this number; of none where it is negative. Where the system had no memory it says that, and the whole
+   run is over. The answer is the status. */
 static int fault(int at, const char *what, const char *name) {
     char line[512] = "";
+    if (errno == ENOMEM) what = "E20: out of memory", name = "", is_over = 1;
 #ifdef OTHER_TURN
     if (at >= 0) at = (at + 1) % TURNS;
 #endif
@@ -60,14 +62,14 @@ static int fault(int at, const char *what, const char *name) {
     return 3;
 }
 
-/* Reads a file to its end. The answer is 0, or the status. */
+/* Reads a file to its end; one without bytes is not there. The answer is 0, or the status. */
 static int take(int at, const struct text *input) {
     char *buffer = malloc(65536);
     ssize_t count = 1;
     int file;
-    if (!buffer) return is_over = 1, fault(at, "E20: out of memory", "");
+    if (!buffer) return fault(at, "", "");
     file = open(input->name, O_RDONLY);
-    if (file < 0) return free(buffer), input->count ? fault(at, "E18: cannot read ", input->bytes) : 0;
+    if (file < 0) return free(buffer), input->count || errno == ENOMEM ? fault(at, "E18: cannot read ", input->bytes) : 0;
     while (count > 0 || (count < 0 && errno == EINTR)) count = read(file, buffer, 65536);
     free(buffer);
     close(file);

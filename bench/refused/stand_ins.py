@@ -7,6 +7,8 @@ BLIND, in a run that has no notes, where standard error is closed. So is stand_i
 The status is 1 where the checker judges one of them otherwise.
 """
 
+import concurrent.futures
+import itertools
 import os
 import pathlib
 import subprocess
@@ -71,29 +73,29 @@ def header_of_each(case):
     return "\n".join([*defined, rows("tree", tree), rows("inputs", inputs), rows("outputs", outputs), *lines, ""])
 
 
-def is_judged(folder, between, case, fault):
-    """Whether the checker judges the stand-in with this fault, or with none, as it has to."""
-    program = folder / f"stand_in_{fault}"
-    source = "stand_in_each.c" if isinstance(case, each_cases.Many) else "stand_in.c"
-    words = ["cc", "-O1", "-w", f"-I{folder}", "-o", program, pathlib.Path(check.__file__).with_name(source)]
-    subprocess.run(words + ([f"-D{fault}"] if fault else []), check=True)
-    _, wrong = check.check(between, str(program), [case], is_quiet=True)
+def is_judged(between, case, fault):
+    """Whether the checker judges the stand-in with this fault, or with none, as it has to; and a line that says how."""
+    is_many = isinstance(case, each_cases.Many)
+    with tempfile.TemporaryDirectory() as folder:
+        (pathlib.Path(folder) / "run.h").write_text(header_of_each(case) if is_many else header_of(case))
+        program = f"{folder}/stand_in"
+        source = pathlib.Path(check.__file__).with_name("stand_in_each.c" if is_many else "stand_in.c")
+        words = ["cc", "-O1", "-w", f"-I{folder}", "-o", program, source]
+        subprocess.run(words + ([f"-D{fault}"] if fault else []), check=True)
+        _, _, wrong = check.check_case(between, program, case)
     said = f"{len(wrong)} runs are wrong, the first: {wrong[0].split(': status')[0]}" if wrong else "no run is wrong"
-    print(f"stand-in, {case.name}, {fault or 'without a fault'}: {said}")
-    return bool(wrong) == bool(fault)
+    return bool(wrong) == bool(fault), f"stand-in, {case.name}, {fault or 'without a fault'}: {said}"
 
 
 def main():
     between = sys.argv[1]
-    judged = []
     every = {case.name: case for case in cases.cases() + each_cases.cases_of_each()}
-    for name, faults in RUNS + RUNS_OF_EACH:
-        with tempfile.TemporaryDirectory() as folder:
-            case = every[name]
-            (pathlib.Path(folder) / "run.h").write_text(header_of_each(case) if isinstance(case, each_cases.Many) else header_of(case))
-            for fault in [None, *faults]:
-                judged.append(is_judged(pathlib.Path(folder), between, every[name], fault))
-    if not all(judged):
+    judged = [(every[name], fault) for name, faults in RUNS + RUNS_OF_EACH for fault in [None, *faults]]
+    with concurrent.futures.ProcessPoolExecutor(check.JOBS) as pool:
+        found = list(pool.map(is_judged, itertools.repeat(between), *zip(*judged)))
+    for _, line in found:
+        print(line)
+    if not all(is_right for is_right, _ in found):
         sys.exit("the checker does not tell right from wrong")
 
 
