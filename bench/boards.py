@@ -109,10 +109,10 @@ def table(bench, runs):
 
 
 def same(bench):
-    """Prints for how many boards of the sample conf and kconf wrote the same minimal file."""
-    names = [path.name for path in (bench.work / "own").iterdir()]
-    equal = sum((bench.work / "own" / name).read_bytes() == (bench.work / "out" / name).read_bytes() for name in names)
-    print(f"the minimal files of {equal} of {len(names)} boards of the sample are the same, byte for byte")
+    """Prints for how many boards of the sample conf and kconf wrote the same minimal file: a `\\` in a string is not the same to both."""
+    texts = {path.name: [(bench.work / folder / path.name).read_bytes() for folder in ("in", "own", "out")] for path in (bench.work / "own").iterdir()}
+    plain = {name: own == out for name, (given, own, out) in texts.items() if b"\\" not in given}
+    print(f"the minimal files are the same, byte for byte, on {sum(plain.values())} of the {len(plain)} boards of the sample without a \\ in the defconfig")
 
 
 def count(bench):
