@@ -199,7 +199,7 @@ reads-split (first ∷ files) (suc i) file e =
 
 reads_to-front : {files : List InputFile} {stopped : Option StreamLocation} {events : List Event} → ReadsTo files stopped events → (left : List Event) × (events ++ left ≡ reads files)
 reads_to-front {files = files} all = ([], append-nil (reads files))
-reads_to-front {files = files} (line stop i file events is into) =
+reads_to-front {files = files} (line stop i file events is turn long into) =
     let (rest, split) = reads-split files i file is in (
       into.left ++ rest,
       append_assoc (reads (take i files)) events (into.left ++ rest) ∙ ap (λ l. reads (take i files) ++ l) (sym (append_assoc events into.left rest) ∙ ap (λ l. l ++ rest) into.begins) ∙ sym split,
