@@ -1,7 +1,7 @@
 -- How a run ends behind its reading.
 use Rattle.std.proofs.lemmas.List.Elements.{filter-append}
 use Rattle.std.proofs.lemmas.Grind.{flat_map-append}
-use Rattle.std.proofs.Common.{◌≡◌, ◌≢◌, ◌⊎◌, inl, inr, ℕ, Bool, true, false, List, [], ◌∷◌, ◌++◌, refl, sym, ap, subst, ◌∙◌, append_assoc, append-nil, codes, decimal, Option, None, Some, Result, Ok, Err}
+use Rattle.std.proofs.Common.{◌≡◌, ◌≢◌, inl, inr, ℕ, Bool, true, false, List, [], ◌∷◌, ◌++◌, refl, sym, ap, subst, ◌∙◌, append_assoc, append-nil, codes, decimal, Option, None, Some, Result, Ok, Err}
 use Rattle.std.specs.Prelude.{if◌then◌else◌, not, filter, bytes_eq}
 use Rattle.std.specs.Option.{option_map_or}
 use Rattle.std.specs.List.{flat_map}
@@ -14,18 +14,17 @@ use Rattle.kc_io.specs.Scripts.{NamedText, chosen, delivery, moved, put, share_n
 use Rattle.kc_io.specs.declared.delivery.Manner.{Manner}
 use Rattle.kc_io.specs.declared.delivery.Manner.TheVariants.{Plain, Replacing}
 use Rattle.kc_io.specs.declared.device.Action.{Action}
-use Rattle.kc_io.specs.declared.device.Action.TheVariants.{Create, Close, Move, Clear, Note, Write as WriteAt}
+use Rattle.kc_io.specs.declared.device.Action.TheVariants.{Create, Close, Clear, Note, Write as WriteAt}
 use Rattle.kc_io.specs.declared.device.Site.TheVariants.{Beside}
-use Rattle.kc_io.specs.declared.device.Fault.{Fault}
 use Rattle.kc_io.specs.declared.steps.Failure.{Failure}
 use Rattle.kc_io.proofs.LogLemmas.{leads_as, leads_both, leads_nothing, leads_said}
 use Rattle.kc_conf.specs.Asked.{lead}
-use Rattle.kc_conf.specs.Endings.{BreaksEnd, EndStops, Ends, HandsBy, IsChecked, IsEnded, SaysAll, in_delivery, in_notes, line_if, status_if, texts_or}
+use Rattle.kc_conf.specs.Endings.{BreaksEnd, EndStops, Ends, HandsBy, IsChecked, IsEnded, in_delivery, in_notes}
 use Rattle.kc_conf.specs.Ends.{delivered_by, delivers, stale_by, stale_lines, stale_texts, status_with}
 use Rattle.kc_conf.specs.ErrorLines.{error_at, error_if_at, first_line, message_behind, message_before, refusal_line, stale_line, strict_line, too_long_line, unreadable_line}
 use Rattle.kc_conf.specs.Given.{still_told}
 use Rattle.kc_conf.specs.Outcome.{AreLines, lines_text}
-use Rattle.kc_conf.specs.Reads.{IsNoteStop, Says}
+use Rattle.kc_conf.specs.Reads.{IsNoteStop}
 use Rattle.kc_conf.specs.Stops.{cleared_by, clearing, event_of}
 use Rattle.kc_conf.specs.declared.options.Delivery.{Delivery}
 use Rattle.kc_conf.specs.declared.options.Delivery.TheVariants.{Write, Replace, Check}
@@ -35,7 +34,7 @@ use Rattle.kc_conf.specs.declared.options.Status.TheVariants.{Done, Refused}
 use Rattle.kc_conf.specs.declared.stop.Stop.{Stop}
 use Rattle.kc_conf.specs.declared.stop.Stop.TheVariants.{OutOfMemory, Failed}
 use Rattle.kc_conf.proofs.PartLemmas.{AreLines-append, AreLines-nothing}
-use Rattle.kc_conf.proofs.TellingLemmas.{Leads-silent, Tells-first, Tells-later, Tells-silent, Tells-still, Tells-weaker, still-known}
+use Rattle.kc_conf.proofs.TellingLemmas.{Leads-silent, Tells-first, Tells-later, Tells-still, Tells-weaker, still-known}
 
 -- ---- text that is not empty
 

@@ -1,10 +1,10 @@
 -- The input files, one after another.
-use Rattle.std.proofs.Common.{◌≡◌, ℕ, zero, suc, ◌+◌, ◌<◌, ◌≤◌, Bool, true, false, List, [], ◌∷◌, ◌++◌, length, map, take, drop, get_or, refl, sym, ap, subst, ◌∙◌, append_assoc, append-nil, length-append, arith, Option, Some, None, Vec, Global}
-use Rattle.std.specs.Prelude.{◌&&◌, if◌then◌else◌, is_none, not, slice_get, slice_index_or, string_bytes, unwrap_or}
+use Rattle.std.proofs.Common.{◌≡◌, ℕ, zero, suc, ◌+◌, ◌<◌, ◌≤◌, Bool, true, false, List, [], ◌∷◌, ◌++◌, length, map, take, drop, get_or, refl, sym, ap, subst, ◌∙◌, append_assoc, append-nil, length-append, arith, Some, None, Vec, Global}
+use Rattle.std.specs.Prelude.{◌&&◌, if◌then◌else◌, is_none, not, slice_get, string_bytes, unwrap_or}
 use Rattle.std.specs.List.{All}
-use Rattle.std.proofs.Math.Seq.{get_or-append_seam, take-append_seam}
+use Rattle.std.proofs.Math.Seq.{take-append_seam}
 use Rattle.std.proofs.lemmas.Grind.{flat_map-append}
-use Rattle.std.proofs.lemmas.List.{drop_all, drop_more, get_or-map, get_or_append_left, length-map, length-replicate, map-append, take-append-drop, take_all, take_more}
+use Rattle.std.proofs.lemmas.List.{drop_more, get_or-map, get_or_append_left, length-map, length-replicate, map-append, take-append-drop, take_all, take_more}
 use Rattle.std.proofs.lemmas.List.Elements.{All-cons, All-nil, All-push}
 use Rattle.kc_tree.specs.TreeFacts.{TreeFacts}
 use Rattle.kc_user.specs.Places.{ArePlacesOf}
@@ -15,7 +15,7 @@ use Rattle.kc_io.proofs.LogLemmas.{held_stays, keeps_both, keeps_bytes, leads_as
 use Rattle.kc_dot.specs.Feeding.{stream_start}
 use Rattle.kc_dot.specs.Laws.{HasShortLines}
 use Rattle.kc_dot.specs.ReaderState.{ReaderState}
-use Rattle.kc_dot.specs.Reading.{Line, ReadResult, Stream, StreamLocation, UserInput, lines_from, lines_of, reading, with_warnings}
+use Rattle.kc_dot.specs.Reading.{ReadResult, Stream, UserInput, lines_from, lines_of, reading, with_warnings}
 use Rattle.kc_conf.specs.Asked.{holds_warnings, input_files, lead, may_at, names_of}
 use Rattle.kc_conf.specs.Given.{AreInputs, AreThere, HasTurn, InputFile, IsAsTold, IsThere, ReadsTo, all, begun, bytes_of, ended_lines, line, reads, reads_one, still_told, warned_by}
 use Rattle.kc_conf.specs.Outcome.{AreLines, fresh_input, streams}

@@ -1,5 +1,5 @@
 -- What a run leaves behind the tree's warnings, by how its input files were read.
-use Rattle.std.proofs.Common.{◌≡◌, ℕ, Bool, true, false, List, [], ◌∷◌, ◌++◌, map, refl, sym, ap, subst, ◌∙◌, append_assoc, append-nil, Option, None, Some, Result, Ok, Err}
+use Rattle.std.proofs.Common.{◌≡◌, ℕ, Bool, true, false, List, [], ◌++◌, map, refl, sym, ap, subst, ◌∙◌, append_assoc, append-nil, Option, None, Some, Result, Err}
 use Rattle.std.specs.Prelude.{◌||◌, if◌then◌else◌}
 use Rattle.kc_read.specs.Files.{Files}
 use Rattle.kc_read.specs.OpenedFiles.{AreOpened}

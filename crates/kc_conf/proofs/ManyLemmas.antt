@@ -1,5 +1,5 @@
 -- The parts that the runs for many configurations leave.
-use Rattle.std.proofs.Common.{◌≡◌, ◌⊎◌, inl, inr, ℕ, zero, suc, ◌+◌, ◌-◌, ◌<◌, ◌≤◌, Bool, true, false, not, List, [], ◌++◌, refl, sym, ap, subst, ◌∙◌, Option, None, Some, Result, Ok, Err, arith}
+use Rattle.std.proofs.Common.{◌≡◌, inl, inr, ℕ, suc, ◌+◌, ◌-◌, ◌<◌, ◌≤◌, Bool, true, false, not, List, [], ◌++◌, refl, sym, ap, subst, ◌∙◌, None, Some, Result, Ok, Err, arith}
 use Rattle.std.specs.Prelude.{◌||◌}
 use Rattle.std.proofs.lemmas.List.{append_cancel_left}
 use Rattle.kc_read.specs.Files.{Files}
@@ -19,7 +19,7 @@ use Rattle.kc_conf.specs.ErrorLines.{unreadable_line}
 use Rattle.kc_conf.specs.Existence.{ExactlyOneOutcome}
 use Rattle.kc_conf.specs.Given.{bytes_of, reads, still_told}
 use Rattle.kc_conf.specs.Many.{AreRootedAt, CannotSay, ExactlyOnePart, IsPart, IsWholeOf, PartsAreOfRuns, RunsTurn, TakeTurns, TakesTurn, broken, ends_all, greater, last, next, none, warned_before, whole}
-use Rattle.kc_conf.specs.Outcome.{IsAcceptedTree, IsLenientOutcome, IsOutcome, IsRefusedName, OneAnswer, OneOutcome, Outcome, accepted_tree, has_text, lines_text, noted, refused, refused_name, refused_tree, root_file, strictly, unreadable_name, with_rule}
+use Rattle.kc_conf.specs.Outcome.{IsAcceptedTree, IsLenientOutcome, IsOutcome, OneAnswer, OneOutcome, Outcome, accepted_tree, has_text, lines_text, noted, refused, refused_name, refused_tree, root_file, strictly, unreadable_name, with_rule}
 use Rattle.kc_conf.specs.PartRuns.{LeavesPart, LeavesTurn, strictly_after}
 use Rattle.kc_conf.specs.Reads.{IsNoteStop}
 use Rattle.kc_conf.specs.Stops.{Reports, TriesToSay, clearing, event_of, stop_line}

@@ -1,5 +1,5 @@
 -- What a run leaves behind the tree's warnings.
-use Rattle.std.proofs.Common.{◌≡◌, ℕ, Bool, true, false, List, [], ◌∷◌, ◌++◌, map, refl, sym, ap, subst, ◌∙◌, Option, None, Some, String, Global}
+use Rattle.std.proofs.Common.{◌≡◌, ℕ, Bool, true, false, List, [], ◌++◌, refl, sym, ap, subst, ◌∙◌, Option, None, Some, String, Global}
 use Rattle.std.specs.Prelude.{◌&&◌, ◌||◌, if◌then◌else◌}
 use Rattle.kc_read.specs.Files.{Files}
 use Rattle.kc_read.specs.OpenedFiles.{AreOpened}
@@ -9,7 +9,7 @@ use Rattle.kc_dot.specs.Reading.{ReadResult, StreamLocation, UserInput}
 use Rattle.kc_dot.specs.Sink.{BeginsWith}
 use Rattle.kc_io.specs.Log.{Log}
 use Rattle.kc_io.specs.Scripts.{NamedText}
-use Rattle.kc_conf.specs.Computed.{Computes, refuses, ruled_files, value_lines}
+use Rattle.kc_conf.specs.Computed.{refuses, ruled_files, value_lines}
 use Rattle.kc_conf.specs.Endings.{Ends, line_if, status_if, texts_or}
 use Rattle.kc_conf.specs.Ends.{text_at, texts_of}
 use Rattle.kc_conf.specs.ErrorLines.{too_long_line}

@@ -1,5 +1,5 @@
 -- What a run's texts give when they are read again.
-use Rattle.std.proofs.Common.{◌≡◌, ℕ, ◌<◌, true, false, List, [], ◌∷◌, ◌++◌, length, Option, Some, None, refl, ap, sym, ◌∙◌, subst, map}
+use Rattle.std.proofs.Common.{◌≡◌, ℕ, ◌<◌, true, false, List, [], ◌∷◌, ◌++◌, length, Some, None, refl, ap, sym, ◌∙◌, subst, map}
 use Rattle.std.specs.Prelude.{◌&&◌, not, string_bytes, slice_index_or}
 use Rattle.kc_expr.specs.Value.{SymbolValue, TextValue}
 use Rattle.kc_expr.specs.declared.expression.Kind.TheVariants.{Undefined}
@@ -7,7 +7,6 @@ use Rattle.std.proofs.lemmas.List.{ext_get_or}
 use Rattle.kc_read.specs.Files.{Files}
 use Rattle.kc_tree.specs.TreeFacts.{TreeFacts}
 use Rattle.kc_build.specs.Trees.{TreesAreWellFormed}
-use Rattle.kc_user.specs.GivenValue.{GivenValue, UserPlace}
 use Rattle.kc_user.specs.Places.{ArePlaces, Places, place_at}
 use Rattle.kc_order.specs.Solution.{Solves}
 use Rattle.kc_values.specs.Solution.{equations, symbol_count}

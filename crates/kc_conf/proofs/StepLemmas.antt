@@ -1,15 +1,14 @@
 -- Piece by piece: what warnings are said, and what waits.
-use Rattle.std.proofs.Common.{◌≡◌, ℕ, Bool, true, false, List, [], ◌∷◌, ◌++◌, refl, sym, ap, subst, ◌∙◌, append_assoc, append-nil, Option, Some, None, Result, Ok, Err, OnOk, IfErr, Vec, Global, length, arith}
+use Rattle.std.proofs.Common.{◌≡◌, ℕ, Bool, true, false, List, [], ◌∷◌, ◌++◌, refl, sym, ap, subst, ◌∙◌, append_assoc, append-nil, Some, None, Result, Ok, Err, OnOk, IfErr, Vec, Global, length, arith}
 use Rattle.std.specs.Prelude.{◌==◌}
 use Rattle.std.specs.List.{after_last}
 use Rattle.kc_text.specs.Lines.{HoldsNoLineFeed, is_line_feed}
-use Rattle.kc_tree.specs.TreeFacts.{TreeFacts}
 use Rattle.kc_io.specs.Log.{Event, Log, Leads}
 use Rattle.kc_io.specs.WholeLines.{is_whole_lines}
 use Rattle.kc_io.specs.declared.device.Action.{Action}
 use Rattle.kc_io.specs.declared.device.Action.TheVariants.{Note}
 use Rattle.kc_io.proofs.LogLemmas.{leads_both, leads_nothing, leads_said}
-use Rattle.kc_dot.specs.Feeding.{EndsStream, Feeds, FinishesStream, ReadsPiece, Refuses, StreamPosition, to_come}
+use Rattle.kc_dot.specs.Feeding.{StreamPosition, to_come}
 use Rattle.kc_dot.specs.ReaderCalls.{AnswersEnd, AnswersFeed}
 use Rattle.kc_dot.specs.ReaderState.{ReaderState}
 use Rattle.kc_dot.specs.Reading.{Line, ReadResult, UserInput, lines_from, reading, with_warnings}

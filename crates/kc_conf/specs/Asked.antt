@@ -1,5 +1,5 @@
 -- Trusted: What options ask for.
-use Rattle.std.specs.Prelude.{ℕ, zero, suc, Bool, false, ◌||◌, if◌then◌else◌, List, [], ◌∷◌, ◌++◌, map, codes, string_bytes, Option}
+use Rattle.std.specs.Prelude.{ℕ, zero, suc, Bool, false, ◌||◌, if◌then◌else◌, List, [], ◌∷◌, ◌++◌, map, codes, string_bytes}
 use Rattle.std.specs.Option.{option_map_or}
 use Rattle.kc_conf.specs.declared.options.Options.{Options}
 

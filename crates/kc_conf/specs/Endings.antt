@@ -1,8 +1,8 @@
 -- For proofs: How a run ends behind its reading.
-use Rattle.std.specs.Prelude.{◌≡◌, ◌≢◌, ◌⊎◌, ℕ, Bool, List, [], ◌∷◌, ◌++◌, Option, None, Some, Result, Ok, Err}
+use Rattle.std.specs.Prelude.{◌≡◌, ◌≢◌, ◌⊎◌, ℕ, Bool, List, [], ◌++◌, Option, None, Some, Result, Ok, Err}
 use Rattle.kc_dot.specs.Sink.{GoesBeyond}
 use Rattle.kc_io.specs.Delivered.{Delivered, StopsBefore}
-use Rattle.kc_io.specs.Log.{Event, Journal, Log, Leads, Tells}
+use Rattle.kc_io.specs.Log.{Event, Log, Leads, Tells}
 use Rattle.kc_io.specs.Scripts.{NamedText, stale}
 use Rattle.kc_io.specs.declared.delivery.Manner.{Manner}
 use Rattle.kc_io.specs.declared.device.Action.TheVariants.{Note}

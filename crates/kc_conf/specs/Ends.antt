@@ -1,12 +1,12 @@
 -- Trusted: How a run ends.
-use Rattle.std.specs.Prelude.{◌≡◌, ◌≢◌, ◌⊎◌, ℕ, Bool, true, false, if◌then◌else◌, List, [], ◌∷◌, ◌++◌, map, codes, string_bytes, Option, None, Some, Result, Ok, Err, ⊤, String}
+use Rattle.std.specs.Prelude.{◌≡◌, ◌⊎◌, ℕ, List, [], ◌∷◌, ◌++◌, string_bytes, Option, Some, Result, Err, String}
 use Rattle.std.specs.declared.alloc.Global.{Global}
 use Rattle.std.specs.List.{flat_map}
 use Rattle.kc_read.specs.Expansion.{Refused}
 use Rattle.kc_read.specs.Files.{Files}
 use Rattle.kc_tree.specs.TreeFacts.{TreeFacts}
 use Rattle.kc_io.specs.Delivered.{StopsBefore}
-use Rattle.kc_io.specs.Log.{Event, Journal, Log, Leads, Tells, did, failed, noted, said}
+use Rattle.kc_io.specs.Log.{Event, Journal, Log, Leads, Tells, noted, said}
 use Rattle.kc_io.specs.Scripts.{NamedText, chosen, delivery, stale}
 use Rattle.kc_io.specs.declared.delivery.Manner.TheVariants.{Plain, Replacing}
 use Rattle.kc_io.specs.declared.device.Action.TheVariants.{Open, Read, Note}

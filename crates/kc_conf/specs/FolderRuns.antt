@@ -1,5 +1,5 @@
 -- Trusted: How a run over a folder ends.
-use Rattle.std.specs.Prelude.{◌≡◌, ℕ, List, [], Option, Result, Ok, Err, string_bytes}
+use Rattle.std.specs.Prelude.{◌≡◌, ℕ, List, [], Option, Err, string_bytes}
 use Rattle.kc_io.specs.Log.{Log}
 use Rattle.kc_load.specs.Expanding.{AreFilesOf}
 use Rattle.kc_load.specs.Faults.{IsLoadFault, failed_load}

@@ -21,7 +21,7 @@ use Rattle.kc_conf.specs.ErrorLines.{refusal_line, strict_line, too_long_line, u
 pub use Rattle.kc_conf.specs.Taken.{lost_warnings}
 use Rattle.kc_conf.specs.Taken.{refuses_input}
 use Rattle.kc_conf.specs.declared.options.Status.{Status}
-use Rattle.kc_conf.specs.declared.options.Status.TheVariants.{Done, Refused as IsRefused, Usage, Faulted}
+use Rattle.kc_conf.specs.declared.options.Status.TheVariants.{Done, Refused as IsRefused}
 
 -- The texts that a run is to leave: none for an output that is not begun. To the notes it adds its warnings, and behind them
 -- the error line of what is refused, where anything is.

@@ -1,5 +1,5 @@
 -- For proofs: What a run leaves until it is said why it was broken off, whole or behind the tree's warnings.
-use Rattle.std.specs.Prelude.{◌≡◌, ◌≢◌, ◌⊎◌, ℕ, Bool, ◌&&◌, ◌||◌, List, [], ◌++◌, Result, Ok, Err}
+use Rattle.std.specs.Prelude.{◌≢◌, ℕ, Bool, ◌&&◌, ◌||◌, List, [], ◌++◌, Result, Ok, Err}
 use Rattle.kc_read.specs.Files.{Files}
 use Rattle.kc_tree.specs.TreeFacts.{TreeFacts}
 use Rattle.kc_io.specs.Log.{Event, Log, Leads}

@@ -1,5 +1,5 @@
 -- The texts are those of the solution, or are refused.
-use Rattle.std.proofs.Common.{◌≡◌, ◌∙◌, ℕ, Bool, List, true, false, ap, sym, map, Option, None, Some, Vec, Global}
+use Rattle.std.proofs.Common.{◌∙◌, ℕ, Bool, List, ap, sym, map, Option, None, Some, Vec, Global}
 use Rattle.std.specs.Prelude.{◌||◌, ◌&&◌, ◌++◌, if◌then◌else◌}
 use Rattle.kc_tree.specs.TreeFacts.{TreeFacts}
 use Rattle.kc_solve.specs.Solved.{Solution, warnings}

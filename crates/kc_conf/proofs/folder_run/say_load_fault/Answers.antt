@@ -1,8 +1,5 @@
 -- The last part ends the line.
-use Rattle.std.proofs.Common.{List, ℕ, codes, refl, subst}
-use Rattle.kc_conf.specs.ErrorLines.{cannot_read_line}
-use Rattle.kc_conf.specs.FolderRuns.{load_line}
-use Rattle.kc_conf.specs.Stops.{TriesToSay}
+use Rattle.std.proofs.Common.{codes, refl}
 use Rattle.kc_conf.proofs.folder_run.say_load_fault.Goals as goal
 
 pub try_to_say-requires-in-Memory : goal.try_to_say-requires-in-Memory

@@ -1,5 +1,5 @@
 -- The line was said, or not.
-use Rattle.std.proofs.Common.{[], refl}
+use Rattle.std.proofs.Common.{[]}
 use Rattle.kc_read.specs.RefusalView.{refusal_view}
 use Rattle.kc_conf.specs.ErrorLines.{refusal_line}
 use Rattle.kc_conf.proofs.EndingLemmas.{BreaksEnd-note, IsEnded-line, some-refusal}
