@@ -28,3 +28,4 @@ pub mod RowNeeds
 pub mod NodesBelow
 pub mod GraphNeeds
 pub mod NeedsAlike
+pub mod UpgradeLemmas

@@ -8,8 +8,9 @@ ghost use Rattle.kc_values.specs.TableFacts.{known_at, IsDefinitionOf};
 ghost use Rattle.kc_values.specs.FoundRows.{IsDefinitionAt, IsMetDefault};
 ghost use Rattle.kc_values.specs.User.{given_in};
 ghost use Rattle.kc_values.specs.Values as spec;
+ghost use Rattle.kc_values.specs.WrittenSymbols as written;
 
-use crate::conditions::{condition, context, is_n, prompt_condition, upgrade};
+use crate::conditions::{condition, context, is_n, prompt_condition};
 use crate::table::Table;
 use kc_expr::expression::{Kind, SymId, Tri};
 use kc_expr::values::{Values, eval, greater, lesser};
@@ -27,20 +28,29 @@ pub fn truth_of<V: Values>(id: SymId, values: &V) -> Tri
     }
 }
 
+// Whether the type is tristate under the values: it is written as that, and the modules symbol is a bool or tristate that is
+// not n.
+fn is_tristate(table: &Table<'_>, kind: Kind) -> bool
+    ensures { result ≡ written.is_tristate table.now.tree.now (known_at table.now) kind }
+{
+    if kind != Kind::Tristate {
+        return false;
+    }
+    match table.tree.modules_symbol() {
+        Some(id) => !is_n(truth_of(id, table)),
+        None => false,
+    }
+}
+
 /// The tristate upgrade: m as y where the type is not tristate under the values: where it is written as another one, or
-/// where the modules symbol is n, or is no bool or tristate, or is not there (kconfiglib's `tri_value`).
+/// where the modules symbol is n, or is no bool or tristate, or is not there (kconfiglib's `tri_value`). The modules symbol is
+/// looked at only where the value is m.
+#[tactic(auto, using(crate::proofs::UpgradeLemmas::n_stays, crate::proofs::UpgradeLemmas::y_stays, crate::proofs::UpgradeLemmas::m_upgraded, crate::proofs::UpgradeLemmas::m_kept))]
 pub(crate) fn upgraded(table: &Table<'_>, kind: Kind, value: Tri) -> Tri
     ensures { result ≡ spec.upgraded table.now.tree.now (known_at table.now) kind value }
 {
-    if kind != Kind::Tristate {
-        return upgrade(value);
-    }
-    let modules = match table.tree.modules_symbol() {
-        Some(id) => truth_of(id, table),
-        None => Tri::N,
-    };
-    match modules {
-        Tri::N => upgrade(value),
+    match value {
+        Tri::M if !is_tristate(table, kind) => Tri::Y,
         _ => value,
     }
 }
@@ -174,8 +184,10 @@ pub fn direct(table: &Table<'_>, symbol: &Symbol) -> Tri
 pub(crate) fn reverse(table: &Table<'_>, id: SymId, symbol: &Symbol) -> Tri
     ensures { result ≡ spec.reverse table.now.tree.now (known_at table.now) (facts_of table.now.layout.now id.0 symbol.now) }
 {
-    let selected = reverse_values(table, table.layout.last_select(id));
-    upgraded(table, symbol.kind, selected)
+    match table.layout.last_select(id) {
+        None => Tri::N,
+        Some(last) => upgraded(table, symbol.kind, reverse_values(table, Some(last))),
+    }
 }
 
 /// The weak reverse dependency of a symbol: the same over what implies it (the kernel's kconfig-language document, "Menu
@@ -183,8 +195,10 @@ pub(crate) fn reverse(table: &Table<'_>, id: SymId, symbol: &Symbol) -> Tri
 pub(crate) fn weak_reverse(table: &Table<'_>, id: SymId, symbol: &Symbol) -> Tri
     ensures { result ≡ spec.weak_reverse table.now.tree.now (known_at table.now) (facts_of table.now.layout.now id.0 symbol.now) }
 {
-    let implied = reverse_values(table, table.layout.last_imply(id));
-    upgraded(table, symbol.kind, implied)
+    match table.layout.last_imply(id) {
+        None => Tri::N,
+        Some(last) => upgraded(table, symbol.kind, reverse_values(table, Some(last))),
+    }
 }
 
 // The default, which an imply raises up to the direct dependency. That is looked at only where something implies the symbol.

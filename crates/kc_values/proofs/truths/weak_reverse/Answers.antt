@@ -1,13 +1,14 @@
-use Rattle.std.proofs.Common.{sym, ap, ◌∙◌}
 use Rattle.kc_values.specs.TableFacts.{known_at}
-use Rattle.kc_values.specs.Values.{upgraded}
-use Rattle.kc_values.proofs.ChainLemmas.{reverse_values-reverse}
+use Rattle.kc_values.proofs.UpgradeLemmas.{none_upgraded, some_upgraded}
 use Rattle.kc_values.proofs.truths.weak_reverse.Goals as goal
 
-pub returns : goal.returns
-returns c =
+pub returns-in-None : goal.returns-in-None
+returns-in-None c =
     let t = c.args.table.now in
-    let k = known_at t in
-    let values = c.reverse_values-implied.ensures ∙ sym (reverse_values-reverse t.layout.now.tables t.tree.now k c.last_imply.result) in
-    c.upgraded.ensures
-    ∙ ap (upgraded t.tree.now k c.args.symbol.now.kind) (rw c.last_imply.ensures at values)
+    rw c.last_imply.ensures at (none_upgraded t.tree.now (known_at t) t.layout.now.tables c.args.symbol.now.kind c.last_imply.result c.in-None.is)
+
+pub returns-in-Some : goal.returns-in-Some
+returns-in-Some c =
+    let t = c.args.table.now in
+    rw c.last_imply.ensures at (some_upgraded t.tree.now (known_at t) t.layout.now.tables c.args.symbol.now.kind c.last_imply.result c.in-Some.last c.reverse_values.result _
+    c.in-Some.is c.reverse_values.ensures c.upgraded.ensures)

@@ -1,0 +1,74 @@
+-- The tristate upgrade, by whether the type is tristate under the values.
+use Rattle.std.proofs.Common.{◌≡◌, Bool, true, false, Option, Some, None, reverse, refl, sym, ap, ◌∙◌, cond}
+use Rattle.std.specs.Prelude.{not}
+use Rattle.kc_expr.specs.Value.{SymbolValue}
+use Rattle.kc_expr.specs.declared.expression.SymId.{SymId}
+use Rattle.kc_expr.specs.declared.expression.Tri.{Tri}
+use Rattle.kc_expr.specs.declared.expression.Tri.TheVariants.{N, M, Y}
+use Rattle.kc_expr.specs.declared.expression.Kind.{Kind}
+use Rattle.kc_expr.specs.declared.expression.Kind.TheVariants.{Undefined, Bool as IsBool, Tristate, Str, Int, Hex}
+use Rattle.kc_tree.specs.declared.layout.Tables.{Tables}
+use Rattle.kc_tree.specs.declared.rows.ReverseId.{ReverseId}
+use Rattle.kc_tree.specs.Layouts.{reverses_from}
+use Rattle.kc_tree.specs.TreeFacts.{TreeFacts}
+use Rattle.kc_values.specs.Values as v
+use Rattle.kc_values.specs.WrittenSymbols as written
+use Rattle.kc_values.proofs.ChainLemmas.{reverse_values_from, reverse_values-reverse}
+
+module _ (tree : TreeFacts) (known : SymId → SymbolValue) where
+  either : (b : Bool) (t : Tri) → v.upgrade t ≡ t → t ≡ cond b (v.upgrade t) t
+  either true t e = sym e
+  either false t e = refl
+
+  -- n and y stay
+  stays : (kind : Kind) (t : Tri) → v.upgrade t ≡ t → t ≡ v.upgraded tree known kind t
+  stays Undefined t e = sym e
+  stays IsBool t e = sym e
+  stays Tristate t e = either (v.is_n (v.modules_value known tree.modules)) t e
+  stays Str t e = sym e
+  stays Int t e = sym e
+  stays Hex t e = sym e
+
+  pub n_stays : (kind : Kind) → N ≡ v.upgraded tree known kind N
+  n_stays kind = stays kind N refl
+
+  pub y_stays : (kind : Kind) → Y ≡ v.upgraded tree known kind Y
+  y_stays kind = stays kind Y refl
+
+  is_upgraded : (b : Bool) → not b ≡ false → Y ≡ cond b Y M
+  is_upgraded true e = refl
+  is_upgraded false e = absurd cc
+
+  is_kept : (b : Bool) → not b ≡ true → M ≡ cond b Y M
+  is_kept false e = refl
+  is_kept true e = absurd cc
+
+  -- m is y where the type is not tristate
+  pub m_upgraded : (kind : Kind) → written.is_tristate tree known kind ≡ false → Y ≡ v.upgraded tree known kind M
+  m_upgraded Undefined e = refl
+  m_upgraded IsBool e = refl
+  m_upgraded Tristate e = is_upgraded (v.is_n (v.modules_value known tree.modules)) e
+  m_upgraded Str e = refl
+  m_upgraded Int e = refl
+  m_upgraded Hex e = refl
+
+  -- and stays where it is
+  pub m_kept : (kind : Kind) → written.is_tristate tree known kind ≡ true → M ≡ v.upgraded tree known kind M
+  m_kept Undefined e = absurd cc
+  m_kept IsBool e = absurd cc
+  m_kept Tristate e = is_kept (v.is_n (v.modules_value known tree.modules)) e
+  m_kept Str e = absurd cc
+  m_kept Int e = absurd cc
+  m_kept Hex e = absurd cc
+
+  -- the upgrade of what no line selects or implies
+  pub none_upgraded : (tables : Tables) (kind : Kind) (last : Option ReverseId) → last ≡ None →
+      N ≡ v.upgraded tree known kind (v.reverse_values tree known (reverse (reverses_from tables last)))
+  none_upgraded tables kind last none = rw none (n_stays kind)
+
+  -- and of what some line does
+  pub some_upgraded : (tables : Tables) (kind : Kind) (last : Option ReverseId) (id : ReverseId) (values result : Tri) → last ≡ Some id →
+      values ≡ reverse_values_from tables tree known (Some id) → result ≡ v.upgraded tree known kind values →
+      result ≡ v.upgraded tree known kind (v.reverse_values tree known (reverse (reverses_from tables last)))
+  some_upgraded tables kind last id values result some are is =
+      is ∙ ap (v.upgraded tree known kind) (are ∙ sym (reverse_values-reverse tables tree known (Some id)) ∙ ap (λ l. v.reverse_values tree known (reverse (reverses_from tables l))) (sym some))
