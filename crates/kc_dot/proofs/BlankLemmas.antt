@@ -1,32 +1,20 @@
--- What bstr's finds say of blanks at the end of a line, and of the first `=`.
-use Rattle.std.proofs.Common.{◌≡◌, ◌≢◌, ℕ, ◌+◌, ◌-◌, ◌<◌, List, [], Bool, true, false, length, take, drop, ltb, cond, refl, arith, Option, Some, None}
+-- Blanks at the end of a line, and what bstr's find says of the first `=`.
+use Rattle.std.proofs.Common.{◌≡◌, ◌≢◌, ℕ, ◌+◌, ◌-◌, ◌<◌, ◌≤◌, List, get_or, Bool, true, false, length, take, drop, ltb, cond, refl, arith, Option, Some, None}
 use Rattle.std.specs.Prelude.{◌&&◌}
 use Rattle.std.specs.List.{position_or_len, suffix_len}
 use Rattle.std.proofs.lemmas.Bool.{false_from_ne_true, lt-ltb, le-ltb}
 use Rattle.std.proofs.lemmas.List.{take_rest}
 use Rattle.std.proofs.lemmas.List.Sums.{suffix_len_is, position_or_len_is}
-use Rattle.bstr.specs.Bytes.{not_in}
-use Rattle.bstr.specs.Find.{NoneAfter, NoneBefore, Nowhere, Passes, is_byte}
+use Rattle.bstr.specs.Find.{NoneBefore, Nowhere, Passes, is_byte}
 use Rattle.kc_text.specs.Lexemes.{is_blank}
-use Rattle.kc_text.proofs.Blanks.{blanks, fails_not, passes_not}
 use Rattle.kc_dot.specs.DotLine.{trimmed, split_at_equals, is_equals}
 
--- the last byte that is no blank ends the line
-pub trimmed_to : (bytes : List ℕ) (last : ℕ) → NoneAfter (Passes (not_in blanks) bytes) 0 (length bytes) last → Passes (not_in blanks) bytes last → take (last + 1) bytes ≡ trimmed bytes
-trimmed_to bytes last after here =
-    let high : last < length bytes = after.high in
-    let back : (last + 1) - 1 ≡ last = omega arith in
-    let n : suffix_len is_blank bytes ≡ length bytes - (last + 1) =
-    suffix_len_is is_blank bytes (last + 1) 0 (omega arith) (λ k low lt. fails_not _ (after.after k low lt)) (λ _. rw back (passes_not _ here)) in
-    let left : length bytes - (length bytes - (last + 1)) ≡ last + 1 = omega arith in
-    rw (n, left) refl
-
--- a line of blanks alone is empty
-pub trimmed_none : (bytes : List ℕ) → Nowhere (Passes (not_in blanks) bytes) 0 (length bytes) → [] ≡ trimmed bytes
-trimmed_none bytes none =
-    let n : suffix_len is_blank bytes ≡ length bytes - 0 =
-    suffix_len_is is_blank bytes 0 0 (omega arith) (λ k low lt. fails_not _ (none k low lt)) (λ (h : 0 < 0). absurd (omega arith)) in
-    let left : length bytes - (length bytes - 0) ≡ 0 = omega arith in
+-- the last byte that is no blank ends the line, or the line is empty
+pub trimmed_to : (bytes : List ℕ) (end : ℕ) → end ≤ length bytes → ((k : ℕ) → end ≤ k → k < length bytes → is_blank (get_or bytes k 0) ≡ true) →
+    (0 < end → is_blank (get_or bytes (end - 1) 0) ≡ false) → take end bytes ≡ trimmed bytes
+trimmed_to bytes end within after here =
+    let n : suffix_len is_blank bytes ≡ length bytes - end = suffix_len_is is_blank bytes end 0 within after here in
+    let left : length bytes - (length bytes - end) ≡ end = omega arith in
     rw (n, left) refl
 
 -- where the first `=` stands

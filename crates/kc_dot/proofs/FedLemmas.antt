@@ -1,14 +1,15 @@
 -- Where a reader stands after some bytes.
-use Rattle.std.proofs.Common.{◌≡◌, ℕ, ◌+◌, ◌-◌, ◌<◌, ◌≤◌, List, [], ◌∷◌, ◌++◌, Bool, true, false, length, take, drop, refl, sym, ap, ◌∙◌, arith, min, append_assoc, append-nil, length-append, count_by, cond, zero, suc, inl, inr}
+use Rattle.std.proofs.Common.{◌≡◌, ℕ, ◌+◌, ◌-◌, ◌<◌, ◌≤◌, List, [], ◌∷◌, ◌++◌, Bool, true, false, length, take, drop, refl, sym, ap, ◌∙◌, arith, min, append_assoc, append-nil, length-append, count_by, cond, zero, suc, inl, inr, subst}
 use Rattle.std.specs.Prelude.{not, ◌==◌}
 use Rattle.std.specs.List.{after_last, suffix_len}
 use Rattle.std.proofs.lemmas.Bool.{not_from_true, not_from_false, cases_Bool, eqb-true, eqb-false}
 use Rattle.std.proofs.lemmas.List.{reverse-append, drop-append-le, drop_all, take_all}
 use Rattle.std.proofs.lemmas.List.Elements.{All-get_or, All-from_get_or}
 use Rattle.std.proofs.lemmas.List.Sums.{suffix_len_is, suffix_len-le-length, sum_by-append}
-use Rattle.kc_text.specs.Limits.{last_count}
+use Rattle.kc_text.specs.Limits.{last_count, one_more}
 use Rattle.kc_text.specs.Lines.{is_line_feed}
 use Rattle.kc_dot.specs.Feeding.{StreamPosition, IsWithinLine, fed, number_after}
+use Rattle.kc_dot.specs.Limits.{longest_dot_line}
 use Rattle.kc_dot.proofs.LineLemmas.{HasNoLf}
 
 abbrev other : ℕ → Bool
@@ -121,6 +122,26 @@ fed-append a b old mid opened is = elim (cases_Bool (is_line_feed b)) [
 
     both : after_last is_line_feed (mid.pending ++ b ∷ []) ≡ after_last is_line_feed (old.pending ++ (a ++ b ∷ [])) → fed (b ∷ []) mid ≡ fed (a ++ b ∷ []) old
     both p = rw (n, p) refl
+
+-- an LF ends the line
+fed-lf : (b : ℕ) (old : StreamPosition) → is_line_feed b ≡ true → fed (b ∷ []) old ≡ record { number = one_more old.number; pending = [] }
+fed-lf b old ends = rw (after_last-lf old.pending b ends, ends) refl
+
+-- a whole line, of which nothing was pending
+pub fed-line : (a front : List ℕ) (b : ℕ) (old mid new : StreamPosition) → IsWithinLine mid → mid.pending ≡ [] → HasNoLf front → length front ≤ longest_dot_line →
+    is_line_feed b ≡ true → new ≡ record { number = one_more mid.number; pending = [] } → mid ≡ fed a old → new ≡ fed (a ++ (front ++ b ∷ [])) old
+fed-line a front b old mid new opened empty one within ends next is =
+    let waits : StreamPosition = record { number = mid.number; pending = mid.pending ++ front } in
+    let all : mid.pending ++ front ≡ front = ap (λ p. p ++ front) empty in
+    let still : IsWithinLine waits =
+    record { numbered = opened.numbered; within = subst (λ p. length p ≤ longest_dot_line) (sym all) within; one_line = subst HasNoLf (sym all) one }
+    in
+    next ∙ sym (fed-lf b waits ends) ∙ fed-append (a ++ front) b old waits still (fed-others a front old mid opened one is) ∙ ap (λ bytes. fed bytes old) (append_assoc a front (b ∷ []))
+
+-- the place of the next line, where nothing is pending
+pub line_next : (n m : ℕ) (bytes : List ℕ) → m ≡ one_more n → bytes ≡ [] → let next : StreamPosition = record { number = m; pending = bytes } in
+    next ≡ record { number = one_more n; pending = [] }
+line_next n m bytes number nothing = rw (number, nothing) refl
 
 no_length : (bytes : List ℕ) → length bytes ≡ 0 → bytes ≡ []
 no_length [] none = refl

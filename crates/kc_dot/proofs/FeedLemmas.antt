@@ -10,7 +10,8 @@ use Rattle.kc_dot.specs.declared.fault.DotFault.TheVariants.{DotLineTooLong, Mem
 use Rattle.kc_dot.specs.Feeding.{StreamPosition, IsWithinLine, fed, to_come, ReadsPiece, Feeds, StopsBecause, Refuses, FinishesStream}
 use Rattle.kc_text.specs.Limits.{one_more}
 use Rattle.kc_dot.specs.Reading.{UserInput, line, lines_from, reading, with_warnings, input_after, warning}
-use Rattle.kc_dot.proofs.LineLemmas.{lines_from-lf, lines_from-last, is_within-line}
+use Rattle.kc_dot.specs.Limits.{longest_dot_line}
+use Rattle.kc_dot.proofs.LineLemmas.{HasNoLf, lines_from-lf, lines_from-last, is_within-line}
 use Rattle.kc_dot.proofs.LongLineLemmas.{MeetsLongLine-long, MeetsLongLine-longer}
 use Rattle.kc_dot.proofs.ReadingLemmas.{with_warnings-with_warnings, reading_within}
 
@@ -83,6 +84,18 @@ module _ (tree : TreeFacts) (prefix name : List ℕ) where
       Feeds tree prefix name (b ∷ []) old new before after told told_after
   Feeds-lf b old new before after told told_after open' lf places tells next =
       (warning tree prefix before (line name old.number old.pending true), tells, λ rest more. rw (places, next) (ReadsPiece-lf b old before open' lf rest more))
+
+  -- a whole line was read, of which nothing was pending
+  pub Feeds-line : (front : List ℕ) (b : ℕ) (old new : StreamPosition) (before after : UserInput) (told told_after : List ℕ) → IsWithinLine old → old.pending ≡ [] →
+      HasNoLf front → length front ≤ longest_dot_line → is_line_feed b ≡ true →
+      after ≡ input_after tree prefix before (line name old.number front true ∷ []) →
+      told_after ≡ told ++ warning tree prefix before (line name old.number front true) →
+      new ≡ record { number = one_more old.number; pending = [] } →
+      Feeds tree prefix name (front ++ b ∷ []) old new before after told told_after
+  Feeds-line front b old new before after told told_after open' empty one within lf places tells next =
+      let waits : StreamPosition = record { number = old.number; pending = front } in
+      let (w, t, k) = Feeds-lf b waits new before after told told_after (record { numbered = open'.numbered; within = within; one_line = one }) lf places tells next in
+      (w, t, λ rest more. rw (empty, append_assoc front (b ∷ []) rest) (k rest more))
 
 pub OnOk-three : {T E : Type 0} → (r : Result T E) (P Q R S : Type 0) → (P → Q → R → S) → OnOk r P → OnOk r Q → OnOk r R → OnOk r S
 OnOk-three (Ok x) P Q R S f p q r = f p q r

@@ -45,13 +45,15 @@ pub fn parse_dot_line<'a>(prefix: &[u8], bytes: &'a [u8]) -> DotLine<'a>
 }
 
 // The line without the blanks at its end.
+#[tactic(auto, using(crate::proofs::BlankLemmas::trimmed_to))]
 fn trimmed(bytes: &[u8]) -> &[u8]
     ensures { result.now ≡ spec.trimmed bytes.now }
 {
-    match bytes.rfind_not_byteset(b" \t") {
-        Some(last) => &bytes[..last + 1],
-        None => &[],
+    let mut end = bytes.len();
+    while end > 0 && is_blank(bytes[end - 1]) {
+        end -= 1;
     }
+    &bytes[..end]
 }
 
 // Whether the text holds a blank.

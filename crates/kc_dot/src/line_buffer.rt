@@ -36,6 +36,29 @@ fn text_of(bytes: &[u8], ended: bool) -> &[u8]
     }
 }
 
+// Reads the bytes as the line with this number, and goes on to the next number. Its only error is to be out of memory; then
+// all is as it was.
+fn read_numbered<'a>(
+    alloc: Global,
+    stream: &NamedStream<'a>,
+    number: &mut u64,
+    bytes: &[u8],
+    ended: bool,
+    user: &mut UserInput<'a>,
+    told: &mut Vec<u8>,
+) -> Result<(), AllocError>
+    requires { ArePlacesOf stream.now.tree.now user.old.places }
+    ensures places { OnOk result (user.new ≡ input_after stream.now.tree.now stream.now.prefix.now user.old (line stream.now.name.now number.old bytes.now ended ∷ [])) }
+    ensures warned { OnOk result (told.new.items ≡ told.old.items ++ warning stream.now.tree.now stream.now.prefix.now user.old (line stream.now.name.now number.old bytes.now ended)) }
+    ensures next { OnOk result (number.new ≡ one_more number.old) }
+    ensures unchanged { OnErr result ((user.new ≡ user.old) × (number.new ≡ number.old) × (told.new.items ≡ told.old.items)) }
+{
+    let text = text_of(bytes, ended);
+    read_line(alloc, stream, *number, text, user, told)?;
+    *number = number.saturating_add(1);
+    Ok(())
+}
+
 /// Reads the pending bytes as a line, and goes on to the next. Its only error is to be out of memory; then all is as it was.
 pub(crate) fn end_line<'a>(
     alloc: Global,
@@ -51,9 +74,15 @@ pub(crate) fn end_line<'a>(
     ensures next { OnOk result (position_of line_buffer.new ≡ record { number = one_more line_buffer.old.number; pending = [] }) }
     ensures unchanged { OnErr result ((user.new ≡ user.old) × (position_of line_buffer.new ≡ position_of line_buffer.old) × (told.new.items ≡ told.old.items)) }
 {
-    let text = text_of(&line_buffer.pending, ended);
-    read_line(alloc, stream, line_buffer.number, text, user, told)?;
-    line_buffer.number = line_buffer.number.saturating_add(1);
+    read_numbered(
+        alloc,
+        stream,
+        &mut line_buffer.number,
+        &line_buffer.pending,
+        ended,
+        user,
+        told,
+    )?;
     line_buffer.pending.clear();
     Ok(())
 }
@@ -101,8 +130,9 @@ fn bytes_before_lf(bytes: &[u8], room: usize) -> usize
     }
 }
 
-// Takes a beginning of the bytes, and answers how many: those before the next LF, as far as the line does not get too long
-// by them, or where there are none, one.
+// Takes a beginning of the bytes, and answers how many: a line with its LF, which is read where it stands, where none of its
+// bytes is pending; else those before the next LF, as far as the line does not get too long by them, or where there are none,
+// one.
 fn take_front<'a>(
     alloc: Global,
     stream: &NamedStream<'a>,
@@ -125,6 +155,19 @@ fn take_front<'a>(
     ensures opened { OnOk result (IsWithinLine (position_of line_buffer.new)) }
 {
     let count = bytes_before_lf(bytes, LONGEST_DOT_LINE - line_buffer.pending.len());
+    if line_buffer.pending.is_empty() && count < bytes.len() && bytes[count] == b'\n' {
+        let whole = &bytes[..count];
+        read_numbered(
+            alloc,
+            stream,
+            &mut line_buffer.number,
+            whole,
+            true,
+            user,
+            told,
+        )?;
+        return Ok(count + 1);
+    }
     if count > 0 {
         line_buffer.pending.extend_from_slice(&bytes[..count])?;
         return Ok(count);

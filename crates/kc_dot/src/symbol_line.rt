@@ -4,7 +4,6 @@ ghost use Rattle.kc_text.specs.Escapes.{escape};
 ghost use Rattle.kc_dot.specs.SolvedView.{solution_view};
 ghost use Rattle.kc_dot.specs.SymbolLines.{dot_line, header_line, hex_text};
 ghost use Rattle.kc_dot.specs.KnownValue.{value_view};
-ghost use Rattle.kc_expr.specs.Value.{value_by_kind};
 
 use crate::prefix::Prefix;
 use crate::text::add_parts;
@@ -21,26 +20,20 @@ pub(crate) enum WrittenValue<'a> {
     TextValue(Kind, &'a [u8]),
 }
 
-// The value of a symbol of this type.
-fn value_by<'a>(kind: Kind, tri: Tri, text: &'a [u8]) -> WrittenValue<'a>
-    ensures { value_view result ≡ value_by_kind kind tri text.now }
-{
-    match kind {
-        Kind::Bool => WrittenValue::Truth(tri),
-        Kind::Tristate => WrittenValue::Truth(tri),
-        Kind::Undefined => WrittenValue::TextValue(Kind::Undefined, text),
-        Kind::Str => WrittenValue::TextValue(Kind::Str, text),
-        Kind::Int => WrittenValue::TextValue(Kind::Int, text),
-        Kind::Hex => WrittenValue::TextValue(Kind::Hex, text),
-    }
-}
-
-/// The value that the solution gives to a symbol, and to a name that is not defined its own text.
+/// The value that the solution gives to a symbol, and to a name that is not defined its own text. What its type has not is not
+/// looked at.
 pub(crate) fn symbol_value<'a>(solved: &'a Solved<'_>, id: SymId) -> WrittenValue<'a>
     ensures { value_view result ≡ (solution_view solved.now).value id }
 {
     solved.tells_known();
-    value_by(solved.kind(id), solved.tri(id), solved.text(id))
+    match solved.kind(id) {
+        Kind::Bool => WrittenValue::Truth(solved.tri(id)),
+        Kind::Tristate => WrittenValue::Truth(solved.tri(id)),
+        Kind::Undefined => WrittenValue::TextValue(Kind::Undefined, solved.text(id)),
+        Kind::Str => WrittenValue::TextValue(Kind::Str, solved.text(id)),
+        Kind::Int => WrittenValue::TextValue(Kind::Int, solved.text(id)),
+        Kind::Hex => WrittenValue::TextValue(Kind::Hex, solved.text(id)),
+    }
 }
 
 // Adds the parts before a string, the string with a `\` before each `"` and `\`, and the end of its line.
