@@ -1,8 +1,9 @@
 //! What arguments ask for, done.
 ghost use Rattle.std.specs.Prelude.{◌≡◌};
-ghost use Rattle.kc_disk.specs.Answering.{AnswersArguments};
+ghost use Rattle.kc_disk.specs.Answering.{AnswersArguments, KconfEnds};
 ghost use Rattle.kc_disk.specs.Usage.{EndsUsage, SaysUsage};
 
+use crate::arguments::Arguments;
 use crate::each::run_each_in_folder;
 use crate::usage::say_usage;
 use kc_conf::{AcceptedTree, Status, run_in_folder};
@@ -10,9 +11,9 @@ use kc_io::Device;
 use kc_load::Folder;
 use kc_words::{Request, UsageError, request_of};
 
-/// Prints what the arguments ask for, to standard output, or says what is wrong with them. If standard output does not take all of
-/// it, that is a fault.
-pub(crate) fn print_usage<D: Device>(rt: &HostRuntime, device: &mut D, usage: &UsageError) -> Status
+// Prints what the arguments ask for, to standard output, or says what is wrong with them. If standard output does not take all of
+// it, that is a fault.
+fn print_usage<D: Device>(rt: &HostRuntime, device: &mut D, usage: &UsageError) -> Status
     ensures status { EndsUsage usage.now result }
     ensures says { SaysUsage usage.now (D.log device.old) (D.log device.new) }
 {
@@ -28,8 +29,8 @@ pub(crate) fn print_usage<D: Device>(rt: &HostRuntime, device: &mut D, usage: &U
     }
 }
 
-/// Does what these arguments ask for.
-pub(crate) fn answer<F: Folder, D: Device>(
+// Does what arguments that were read ask for.
+fn answer_given<F: Folder, D: Device>(
     rt: &HostRuntime,
     arguments: &[String],
     folder: &mut F,
@@ -42,5 +43,21 @@ pub(crate) fn answer<F: Folder, D: Device>(
         Ok(Request::One(options)) => run_in_folder(rt.alloc(), folder, &options, device, kept),
         Ok(Request::Each(each)) => run_each_in_folder(rt.alloc(), folder, &each, device, kept),
         Err(usage) => print_usage(rt, device, &usage),
+    }
+}
+
+/// Does what the arguments ask for, or says why they could not be read.
+pub(crate) fn answer<F: Folder, D: Device>(
+    rt: &HostRuntime,
+    arguments: &Arguments,
+    folder: &mut F,
+    device: &mut D,
+    kept: &mut Option<AcceptedTree>,
+) -> Status
+    ensures { KconfEnds arguments.now (F.state folder.old) (F.state folder.new) (D.log device.old) (D.log device.new) result }
+{
+    match arguments {
+        Arguments::Given(given) => answer_given(rt, given, folder, device, kept),
+        Arguments::Unread(usage) => print_usage(rt, device, usage),
     }
 }

@@ -2,7 +2,7 @@
 ghost use Rattle.std.specs.Prelude.{◌≡◌};
 ghost use Rattle.kc_disk.specs.Answering.{KconfEnds};
 
-use crate::answer::{answer, print_usage};
+use crate::answer::answer;
 use crate::arguments::Arguments;
 use kc_conf::{AcceptedTree, Status};
 use kc_io::Device;
@@ -44,10 +44,7 @@ pub fn kconf_over<'a, F: Folder, D: Device>(
     ensures of { result.arguments.now ≡ arguments.now }
     ensures ends { KconfEnds arguments.now (F.state folder.old) (F.state folder.new) (D.log device.old) (D.log device.new) result.status }
 {
-    let status = match arguments {
-        Arguments::Given(given) => answer(rt, given, folder, device, kept),
-        Arguments::Unread(usage) => print_usage(rt, device, usage),
-    };
+    let status = answer(rt, arguments, folder, device, kept);
     Ended {
         arguments,
         status,

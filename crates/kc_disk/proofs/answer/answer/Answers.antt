@@ -1,19 +1,15 @@
--- The arguments ask for a run, which ends so, or for none.
-use Rattle.std.proofs.Common.{refl, subst}
-use Rattle.kc_words.specs.Fields.{IsRequestOf}
-use Rattle.kc_words.specs.Kconf.{rows_for}
-use Rattle.kc_words.specs.declared.options.Request.{Request}
-use Rattle.kc_disk.specs.Answering.{runs, none}
-use Rattle.kc_words.specs.declared.options.Request.TheVariants as request
+-- The arguments were read, or could not be.
+use Rattle.std.proofs.Common.{List, String, Global, refl, subst}
+use Rattle.kc_disk.specs.Answering.{AnswersArguments}
 use Rattle.kc_disk.proofs.answer.answer.Goals as goal
 
-pub returns-in-Ok-One : goal.returns-in-Ok-One
-returns-in-Ok-One g c =
-    runs (request.One c.in-Ok-One.options) (record { faultless = c.in-Ok-One.ensures.faultless; fields = subst (λ (r : Request). IsRequestOf (rows_for c.args.arguments.now) r) c.in-Ok-One.field-0-is c.in-Ok-One.ensures.ok }) c.run_in_folder.ensures
+pub returns-in-Given : goal.returns-in-Given
+returns-in-Given g c =
+    rw c.in-Given.is (
+    subst
+    (λ (l : List (String Global)). AnswersArguments l (g.F.Folder.state c.args.folder.now) (g.F.Folder.state c.answer_given.new.folder) (g.D.Device.log c.args.device.now) (g.D.Device.log c.answer_given.new.device) c.answer_given.result)
+    c.deref.ensures.value c.answer_given.ensures
+    )
 
-pub returns-in-Ok-Each : goal.returns-in-Ok-Each
-returns-in-Ok-Each g c =
-    runs (request.Each c.in-Ok-Each.each) (record { faultless = c.in-Ok-Each.ensures.faultless; fields = subst (λ (r : Request). IsRequestOf (rows_for c.args.arguments.now) r) c.in-Ok-Each.field-0-is c.in-Ok-Each.ensures.ok }) c.run_each_in_folder.ensures
-
-pub returns-in-Err : goal.returns-in-Err
-returns-in-Err g c = none c.in-Err.usage (c.in-Err.ensures.refused, c.in-Err.ensures.taken) c.print_usage.ensures.status c.print_usage.ensures.says refl
+pub returns-in-Unread : goal.returns-in-Unread
+returns-in-Unread g c = rw c.in-Unread.is (c.print_usage.ensures.status, c.print_usage.ensures.says, refl)
