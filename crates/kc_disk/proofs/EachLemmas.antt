@@ -1,7 +1,6 @@
 -- What a folder told stays so where it still tells, and how the steps of a run for many configurations make one.
-use Rattle.std.proofs.Common.{◌≡◌, ◌⊎◌, ℕ, List, [], ◌++◌, refl, ap, sym, subst, ◌∙◌, append-nil, Option, Some, None, Result, Ok, Err, String, Vec, Global, map, string_bytes, length}
+use Rattle.std.proofs.Common.{◌≡◌, ℕ, List, [], ◌++◌, refl, ap, sym, subst, ◌∙◌, append-nil, Option, Some, None, Ok, Err, String, Vec, Global, map, string_bytes}
 use Rattle.kc_io.specs.Log.{Log}
-use Rattle.kc_load.specs.Faults.{failed_load}
 use Rattle.kc_load.specs.Folders.{AnswersAs, FolderState, Leads, files_told}
 use Rattle.kc_load.specs.declared.fault.LoadFault.{LoadFault}
 use Rattle.kc_load.specs.declared.fault.LoadFault.TheVariants.{CannotRead, Memory}
@@ -12,7 +11,7 @@ use Rattle.kc_conf.specs.FolderRuns.{load_line}
 use Rattle.kc_conf.specs.Stops.{TriesToSay}
 use Rattle.kc_conf.specs.declared.options.Status.{Status}
 use Rattle.kc_conf.specs.declared.options.Status.TheVariants as answered
-use Rattle.kc_disk.specs.EachRuns.{AreListed, AreNames, FolderRunsEach, IsUnloaded, SaysClash, clashing, loaded, no_memory, unlisted, unloaded, unreadable}
+use Rattle.kc_disk.specs.EachRuns.{AreListed, AreNames, FolderRunsEach, SaysClash, clashing, loaded, no_memory, unlisted, unloaded, unreadable}
 use Rattle.kc_disk.specs.EachSteps.{FindsNames, RunsNamed, not_loaded, ran}
 
 -- behind reads of which none failed

@@ -3,7 +3,7 @@ use Rattle.std.proofs.Common.{◌≡◌, ℕ, Bool, true, false, List, [], ◌�
 use Rattle.std.specs.Prelude.{if◌then◌else◌, slice_index_or}
 use Rattle.std.specs.List.{last_or}
 use Rattle.kc_io.specs.WholeLines.{ends_line, is_whole_lines}
-use Rattle.kc_disk.specs.Usage.{ended_text, line_end}
+use Rattle.kc_disk.specs.Usage.{ended_text}
 
 -- the last of two lists is that of the second, where it has one
 last_or-append : {A : Type 0} (o : Option A) (a b : List A) → last_or o (a ++ b) ≡ last_or (last_or o a) b

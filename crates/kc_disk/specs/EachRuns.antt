@@ -1,14 +1,13 @@
 -- Trusted: How a run for many configurations ends.
 use Rattle.std.specs.Str.{IsUtf8}
 use Rattle.std.specs.declared.alloc.Global.{Global}
-use Rattle.std.specs.Prelude.{◌≡◌, ℕ, List, [], ◌∷◌, ◌++◌, length, map, Option, None, Some, Result, Ok, Err, slice_index_or, String, string_bytes}
+use Rattle.std.specs.Prelude.{◌≡◌, ℕ, List, [], ◌∷◌, ◌++◌, length, map, Option, None, Some, Err, slice_index_or, String, string_bytes}
 use Rattle.kc_io.specs.Log.{Log}
 use Rattle.kc_read.specs.Files.{Files}
 use Rattle.kc_load.specs.Expanding.{AreFilesOf}
 use Rattle.kc_load.specs.Faults.{IsLoadFault, failed_load}
 use Rattle.kc_load.specs.Folders.{AnswersAs, FolderState, Leads as FolderLeads, files_told}
 use Rattle.kc_load.specs.declared.fault.LoadFault.{LoadFault}
-use Rattle.kc_load.specs.declared.fault.LoadFault.TheVariants.{CannotRead, Memory}
 use Rattle.kc_words.specs.Apart.{AreApart, IsClash}
 use Rattle.kc_words.specs.Lists.{listed}
 use Rattle.kc_words.specs.Patterns.{AreOptionsFor}

@@ -1,5 +1,5 @@
 -- For proofs: The steps of a run for many configurations.
-use Rattle.std.specs.Prelude.{◌≡◌, ℕ, List, [], Option, Some, None, Result, Ok, Err, String, Vec, length, map, string_bytes}
+use Rattle.std.specs.Prelude.{◌≡◌, ℕ, List, [], Option, Some, Result, Ok, Err, String, Vec, length, map, string_bytes}
 use Rattle.std.specs.Str.{IsUtf8}
 use Rattle.std.specs.declared.alloc.Global.{Global}
 use Rattle.kc_io.specs.Log.{Log}

@@ -1,5 +1,5 @@
 -- The list is the one that is asked for.
-use Rattle.std.proofs.Common.{List, ℕ, Option, Some, Result, Ok, Err, String, Vec, Global, string_bytes, ◌≡◌, refl, sym, ◌∙◌}
+use Rattle.std.proofs.Common.{Option, Some, Result, Ok, Err, String, Vec, Global, string_bytes, ◌≡◌}
 use Rattle.kc_load.specs.Folders.{FolderState}
 use Rattle.kc_load.specs.declared.fault.LoadFault.{LoadFault}
 use Rattle.kc_load.specs.declared.fault.LoadFault.TheVariants.{CannotRead, Memory}

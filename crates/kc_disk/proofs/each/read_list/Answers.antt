@@ -1,5 +1,5 @@
 -- A list that is not there or is no UTF-8 cannot be read.
-use Rattle.std.proofs.Common.{List, ℕ, [], ◌∷◌, Option, None, Some, Result, Err, Vec, Global, subst}
+use Rattle.std.proofs.Common.{List, ℕ, [], ◌∷◌, Option, None, Some, Err, Vec, Global, subst}
 use Rattle.std.specs.Prelude.{option_map}
 use Rattle.std.specs.Str.{IsUtf8}
 use Rattle.kc_load.specs.Folders.{AnswersAs, FolderState, Leads, files_told}

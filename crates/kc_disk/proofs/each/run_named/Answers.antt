@@ -1,5 +1,5 @@
 -- The files that were loaded stand for those of the folder.
-use Rattle.std.proofs.Common.{List, ℕ, ap, refl, sym, subst, subst₂, Err, map, String, Global, string_bytes, length}
+use Rattle.std.proofs.Common.{List, ℕ, refl, sym, subst, subst₂, Err, map, string_bytes, length}
 use Rattle.std.proofs.lemmas.List.{length-map}
 use Rattle.kc_read.specs.Files.{bytes_in}
 use Rattle.kc_load.specs.Expanding.{Suffices}

@@ -1,7 +1,5 @@
 -- It is whole lines, with what ends the last one.
-use Rattle.std.proofs.Common.{ℕ, List, ◌++◌, ◌≡◌, true, append-nil, subst, sym}
-use Rattle.kc_io.specs.WholeLines.{is_whole_lines}
-use Rattle.kc_disk.specs.Usage.{SaysText, ended_text}
+use Rattle.std.proofs.Common.{append-nil}
 use Rattle.kc_disk.proofs.UsageLemmas.{ended-whole}
 use Rattle.kc_disk.proofs.usage.say_text.Goals as goal
 
