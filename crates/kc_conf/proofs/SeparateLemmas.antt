@@ -1,5 +1,5 @@
 -- Which files a turn leaves as they are, and what a whole one makes of the others.
-use Rattle.std.proofs.Common.{◌≡◌, ℕ, Bool, true, false, not, ◌||◌, ◌&&◌, cond, List, [], ◌∷◌, ◌++◌, fold, take, refl, sym, ap, subst, ◌∙◌, Option, None, Some, String, bytes_eq, is_some, if◌then◌else◌}
+use Rattle.std.proofs.Common.{◌≡◌, ◌⊎◌, inl, inr, ℕ, Bool, true, false, not, ◌||◌, ◌&&◌, cond, List, [], ◌∷◌, ◌++◌, fold, take, refl, sym, ap, subst, ◌∙◌, Option, None, Some, String, bytes_eq, is_some, if◌then◌else◌}
 use Rattle.std.specs.List.{flat_map, list_all, list_any}
 use Rattle.std.specs.Option.{option_map_or}
 use Rattle.std.specs.declared.alloc.Global.{Global}
@@ -20,7 +20,7 @@ use Rattle.kc_io.proofs.LogLemmas.{keeps_both, keeps_bytes, keeps_noted, looks_a
 use Rattle.kc_read.specs.Files.{Files}
 use Rattle.kc_tree.specs.TreeFacts.{TreeFacts}
 use Rattle.kc_conf.specs.Ends.{Breaks, Broken, Completes, delivered_by, delivers, in_delivery, in_input, in_notes, no_memory, text_at, texts_of}
-use Rattle.kc_conf.specs.Given.{InputFile, reads}
+use Rattle.kc_conf.specs.Given.{InputFile, begun, reads}
 use Rattle.kc_conf.specs.Outcome.{Outcome}
 use Rattle.kc_conf.specs.Stops.{cleared_by, clearing, event_of}
 use Rattle.kc_conf.specs.declared.options.Delivery.{Delivery}
@@ -206,12 +206,14 @@ module _ (name : List ℕ) where
     pass_breaks : (before : TreeFacts → List ℕ) (old : Journal) (stop : Stop) (done : List Event) (front : List ℕ) → Breaks files options before inputs part (Some old) stop done front → pass done ≡ true
     pass_breaks before old _ _ _ (no_memory done left front all lines begins) = pass_reads done left all
     pass_breaks before old _ _ _ (in_notes f done left front action named all lines more) = pass_reads done left all
-    pass_breaks before old _ _ _ (in_input f tree file done said_of_inputs accepted readable action named to) = opened to.opened done to.done_is
+    pass_breaks before old _ _ _ (in_input f tree file done said_of_inputs accepted readable action named to) =
+        ap pass to.done_is ∙ pass_both (reads (take to.i inputs)) (begun f.action file.name to.bytes) (keeps_pass (reads (take to.i inputs)) (keeps-reads (take to.i inputs))) (pass_begun action)
       where
-        opened : (is_open : Bool) (done : List Event) → done ≡ reads (take to.i inputs) ++ (if is_open then did Open file.name ++ each_byte Read file.name to.bytes else []) → pass done ≡ true
-        opened true done e = ap pass e ∙ pass_both (reads (take to.i inputs)) (did Open file.name ++ each_byte Read file.name to.bytes) (keeps_pass (reads (take to.i inputs)) (keeps-reads (take to.i inputs)))
-            (keeps_pass (did Open file.name ++ each_byte Read file.name to.bytes) (keeps_both (did Open file.name) (each_byte Read file.name to.bytes) refl (keeps_bytes Read file.name to.bytes refl)))
-        opened false done e = ap pass e ∙ pass_both (reads (take to.i inputs)) [] (keeps_pass (reads (take to.i inputs)) (keeps-reads (take to.i inputs))) refl
+        pass_begun : (f.action ≡ Open) ⊎ (f.action ≡ Read) → pass (begun f.action file.name to.bytes) ≡ true
+        pass_begun (inl opens) = ap (λ (a : Action). pass (begun a file.name to.bytes)) opens
+        pass_begun (inr reads_on) =
+            ap (λ (a : Action). pass (begun a file.name to.bytes)) reads_on
+            ∙ keeps_pass (did Open file.name ++ each_byte Read file.name to.bytes) (keeps_both (did Open file.name) (each_byte Read file.name to.bytes) refl (keeps_bytes Read file.name to.bytes refl))
     pass_breaks before old _ _ _ (in_delivery f events done are_reads tells) =
         let (left, all, stops) = tells old refl in
         pass_both events done (keeps_pass events (keeps-are_reads files options inputs (Some old) events are_reads)) (pass_front done left (ap pass all ∙ pass_delivers old))
