@@ -50,12 +50,14 @@ fn a_bad_command_line_reads_nothing(rt: HostRuntime) -> Result<(), Fail> {
     Ok(())
 }
 
+// The status of a run whose arguments cannot be read, for this cause.
+fn status_of_unread(rt: &HostRuntime, kind: ErrorKind) -> Status {
+    let arguments = Arguments::of(rt.alloc(), Err(io::Error::from(kind)));
+    kconf(rt, &arguments).status()
+}
+
 #[test]
 fn arguments_that_are_no_text_are_a_bad_command_line(rt: HostRuntime) {
-    let words = Err(io::Error::from(ErrorKind::InvalidData));
-    let arguments = Arguments::of(rt.alloc(), words);
-    assert!(rt; kconf(&rt, &arguments).status() == Status::Usage);
-    let words = Err(io::Error::from(ErrorKind::OutOfMemory));
-    let arguments = Arguments::of(rt.alloc(), words);
-    assert!(rt; kconf(&rt, &arguments).status() == Status::Faulted);
+    assert!(rt; status_of_unread(&rt, ErrorKind::InvalidData) == Status::Usage);
+    assert!(rt; status_of_unread(&rt, ErrorKind::OutOfMemory) == Status::Faulted);
 }
