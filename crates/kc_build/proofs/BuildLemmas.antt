@@ -1,5 +1,5 @@
 -- A tree is what the numbered lines of a root file give.
-use Rattle.std.proofs.Common.{◌≡◌, ◌≢◌, ◌≤◌, ℕ, List, [], ◌∷◌, length, map, Some, Result, Ok, Err, refl, ap, sym, ◌∙◌, subst, arith}
+use Rattle.std.proofs.Common.{◌≡◌, ◌≢◌, ◌≤◌, ℕ, List, [], ◌∷◌, length, map, Result, Ok, Err, refl, ap, sym, ◌∙◌, subst, arith}
 use Rattle.std.specs.Prelude.{All}
 use Rattle.std.specs.List.{slice_get, flat_map}
 use Rattle.std.specs.Option.{is_some}
@@ -93,7 +93,7 @@ module _ (log : Log) (l : Listing) (h : IsListing log l) where
   pub lines-typed : (files : Files) (root : List ℕ) → Expands files root (Ok log) → (ls : List Line) → ls ≡ l.lines.items → AreTypesDefined (statements_of ls)
   lines-typed files root x ls same =
       subst AreTypesDefined (statements_here ls same)
-      (numbered_typed (Some (modules_id (statements log.lines))) (number_of (names_of (statements log.lines))) log.lines (expanded_allowed files root log x))
+      (numbered_typed (number_of (names_of (statements log.lines))) log.lines (expanded_allowed files root log x))
 
   pub lines-opened : (files : Files) (root : List ℕ) → Expands files root (Ok log) → (ls : List Line) → ls ≡ l.lines.items → AreMenusOpened (statements_of ls)
   lines-opened files root x ls same =

@@ -11,7 +11,6 @@ use Rattle.kc_text.specs.Lines.{UnreadLines, unread_lines}
 use Rattle.kc_expr.specs.Names.{all_mentioned, mention, same_name}
 use Rattle.kc_expr.specs.Grammar.{Disjunction, if_word}
 use Rattle.kc_expr.specs.declared.expression.Kind.{Kind}
-use Rattle.kc_expr.specs.declared.expression.SymId.{SymId}
 use Rattle.kc_expr.specs.declared.expression.Kind.TheVariants as kind
 use Rattle.kc_expr.proofs.NamesLemmas.{all_mentioned-append}
 use Rattle.kc_read.specs.declared.refusal.Code.TheVariants as code
@@ -310,14 +309,14 @@ module _ (files : Files) where
   expanded_allowed root log h = allowed_by root log (bytes_cause root 0 (files root)) h
 
 -- The same of numbered lines.
-module _ (modules : Option SymId) (number : List ℕ → ℕ) where
-  untyped_not : (s : Named) → IsAllowed s → type_of (numbered modules number s) ≡ Some kind.Undefined → ⊥
+module _ (number : List ℕ → ℕ) where
+  untyped_not : (s : Named) → IsAllowed s → type_of (numbered number s) ≡ Some kind.Undefined → ⊥
   untyped_not (TypeLine k p) a e = a (let same : k ≡ kind.Undefined = cc in same)
   untyped_not (DefLine k v w) a e = a (let same : k ≡ kind.Undefined = cc in same)
   untyped_not _ a e = absurd cc
 
   pub numbered_typed : (ls : List (Located Named)) → ((i : ℕ) (l : Located Named) → slice_get ls i ≡ Some l → IsAllowed l.statement) →
-      AreTypesDefined (map (λ l. l.statement) (map (located_numbered modules number) ls))
+      AreTypesDefined (map (λ l. l.statement) (map (located_numbered number) ls))
   numbered_typed [] h i s e t = absurd cc
-  numbered_typed (l ∷ ls) h zero s e t = untyped_not l.statement (h zero l refl) (ap type_of (let same : numbered modules number l.statement ≡ s = cc in same) ∙ t)
+  numbered_typed (l ∷ ls) h zero s e t = untyped_not l.statement (h zero l refl) (ap type_of (let same : numbered number l.statement ≡ s = cc in same) ∙ t)
   numbered_typed (l ∷ ls) h (suc i) s e t = numbered_typed ls (λ j. h (suc j)) i s e t

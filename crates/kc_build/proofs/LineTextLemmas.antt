@@ -232,25 +232,25 @@ word_lines [] h = All-nil IsLineText
 word_lines (t ∷ ts) h = All-append IsLineText (names_in_terminal t) (names_in_terminals ts) (mentioned_by t (All-head IsLineTerminal t ts h)) (word_lines ts (All-tail IsLineTerminal t ts h))
 
 -- Their value: a constant that stands alone is one of their texts.
-leaf_by : (number : List ℕ → ℕ) (w : List ℕ) (b : Bool) → is_tristate_constant w ≡ b → IsLineText w → IsLineForm (plain_form None (leaf number (WordAtom w)))
+leaf_by : (number : List ℕ → ℕ) (w : List ℕ) (b : Bool) → is_tristate_constant w ≡ b → IsLineText w → IsLineForm (plain_form false (leaf number (WordAtom w)))
 leaf_by number w true e h = rw e h
 leaf_by number w false e h = rw e tt
 
-leaf_line : (number : List ℕ → ℕ) (a : Atom) → IsLineAtom a → IsLineForm (plain_form None (leaf number a))
+leaf_line : (number : List ℕ → ℕ) (a : Atom) → IsLineAtom a → IsLineForm (plain_form false (leaf number a))
 leaf_line number (WordAtom w) h = leaf_by number w (is_tristate_constant w) refl h
 leaf_line number (QuotedAtom t) h = h
 
 mutual
-  pub value_line : {c : _} (number : List ℕ → ℕ) (d : Chain c) → All IsLineTerminal (spell d) → IsLineForm (meaning None number d)
+  pub value_line : {c : _} (number : List ℕ → ℕ) (d : Chain c) → All IsLineTerminal (spell d) → IsLineForm (meaning false number d)
   value_line number (only p) h = part_value number p h
   value_line number (joined (negation n) ps) h = tt
   value_line number (joined (conjunction ps) qs) h = tt
 
-  part_value : {c : _} (number : List ℕ → ℕ) (p : Part c) → All IsLineTerminal (spell_part p) → IsLineForm (meaning_part None number p)
+  part_value : {c : _} (number : List ℕ → ℕ) (p : Part c) → All IsLineTerminal (spell_part p) → IsLineForm (meaning_part false number p)
   part_value number (negation n) h = not_value number n h
   part_value number (conjunction ps) h = value_line number ps h
 
-  not_value : (number : List ℕ → ℕ) (n : Negation) → All IsLineTerminal (spell_not n) → IsLineForm (meaning_not None number n)
+  not_value : (number : List ℕ → ℕ) (n : Negation) → All IsLineTerminal (spell_not n) → IsLineForm (meaning_not false number n)
   not_value number (bang n) h = tt
   not_value number (group d) h = value_line number d (all_front IsLineTerminal (spell d) (Close ∷ []) (All-tail IsLineTerminal Open (spell d ++ Close ∷ []) h))
   not_value number (lone a) h = leaf_line number a (All-head IsLineTerminal (Plain a) [] h)

@@ -4,7 +4,6 @@ use Rattle.std.specs.List.{slice_get, list_any, filter_map}
 use Rattle.std.specs.Option.{option_map}
 use Rattle.std.proofs.lemmas.List.{length-map}
 use Rattle.std.proofs.lemmas.Option.{slice_get-map}
-use Rattle.kc_expr.specs.declared.expression.SymId.{SymId}
 use Rattle.kc_read.specs.declared.statement.Block.{Block}
 use Rattle.kc_read.specs.declared.statement.Block.TheVariants as block
 use Rattle.kc_read.specs.Statements.{Named, Numbered, Located, numbered, ConfigLine, IfLine, MenuLine, EndMenuLine, ChoiceLine, statements}
@@ -68,28 +67,28 @@ module _ (f : Named → Numbered) (alike : (x : Named) → bracket (f x) ≡ bra
       subst (λ bs. Suits bs (turn s)) (sym blocks) (subst (Suits (open_blocks (take i ss))) here (n i x.0 x.1))
 
 -- The same of numbered statements.
-numbered_bracket : (modules : Option SymId) (number : List ℕ → ℕ) (x : Named) → bracket (numbered modules number x) ≡ bracket x
-numbered_bracket modules number (ConfigLine n) = refl
-numbered_bracket modules number _ = refl
+numbered_bracket : (number : List ℕ → ℕ) (x : Named) → bracket (numbered number x) ≡ bracket x
+numbered_bracket number (ConfigLine n) = refl
+numbered_bracket number _ = refl
 
-numbered_turn : (modules : Option SymId) (number : List ℕ → ℕ) (x : Named) → turn (numbered modules number x) ≡ turn x
-numbered_turn modules number (ConfigLine n) = refl
-numbered_turn modules number _ = refl
+numbered_turn : (number : List ℕ → ℕ) (x : Named) → turn (numbered number x) ≡ turn x
+numbered_turn number (ConfigLine n) = refl
+numbered_turn number _ = refl
 
-statements_are_numbered : (modules : Option SymId) (number : List ℕ → ℕ) (ls : List (Located Named)) →
-    map (λ l. l.statement) (map (located_numbered modules number) ls) ≡ map (numbered modules number) (statements ls)
-statements_are_numbered modules number [] = refl
-statements_are_numbered modules number (l ∷ ls) = ap (λ xs. numbered modules number l.statement ∷ xs) (statements_are_numbered modules number ls)
+statements_are_numbered : (number : List ℕ → ℕ) (ls : List (Located Named)) →
+    map (λ l. l.statement) (map (located_numbered number) ls) ≡ map (numbered number) (statements ls)
+statements_are_numbered number [] = refl
+statements_are_numbered number (l ∷ ls) = ap (λ xs. numbered number l.statement ∷ xs) (statements_are_numbered number ls)
 
-pub numbered_nested : (modules : Option SymId) (number : List ℕ → ℕ) (ls : List (Located Named)) → AreNested (statements ls) →
-    AreNested (map (λ l. l.statement) (map (located_numbered modules number) ls))
-numbered_nested modules number ls n =
-    subst AreNested (sym (statements_are_numbered modules number ls)) (AreNested-map (numbered modules number) (numbered_bracket modules number) (numbered_turn modules number) (statements ls) n)
+pub numbered_nested : (number : List ℕ → ℕ) (ls : List (Located Named)) → AreNested (statements ls) →
+    AreNested (map (λ l. l.statement) (map (located_numbered number) ls))
+numbered_nested number ls n =
+    subst AreNested (sym (statements_are_numbered number ls)) (AreNested-map (numbered number) (numbered_bracket number) (numbered_turn number) (statements ls) n)
 
 -- an expanded list, numbered: each line suits its enclosing blocks, and none is open at the end
-pub expanded_nested : (files : Files) (root : List ℕ) (log : Log) (modules : Option SymId) (number : List ℕ → ℕ) → Expands files root (Ok log) →
-    AreNested (map (λ l. l.statement) (map (located_numbered modules number) log.lines))
-expanded_nested files root log modules number x = numbered_nested modules number log.lines (expansion_is_nested files root log x).nested
+pub expanded_nested : (files : Files) (root : List ℕ) (log : Log) (number : List ℕ → ℕ) → Expands files root (Ok log) →
+    AreNested (map (λ l. l.statement) (map (located_numbered number) log.lines))
+expanded_nested files root log number x = numbered_nested number log.lines (expansion_is_nested files root log x).nested
 
 -- Lists of places that a function gives blocks of.
 module _ (f : ℕ → Option Block) where

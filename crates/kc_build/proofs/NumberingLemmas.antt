@@ -10,7 +10,7 @@ use Rattle.std.proofs.lemmas.Cmp.{nat_list_eq_equiv}
 use Rattle.std.proofs.lemmas.List.Folds.{list_any-append}
 use Rattle.std.proofs.lemmas.Map.Keys.{IsDistinct-push}
 use Rattle.std.proofs.lemmas.Map.Made.{length-from_same_keys}
-use Rattle.std.proofs.lemmas.Option.{get_or_from_slice_get, slice_get-map, slice_get_past, slice_get_within}
+use Rattle.std.proofs.lemmas.Option.{get_or_from_slice_get, slice_get-map, slice_get_within}
 use Rattle.kc_expr.specs.declared.expression.SymId.{SymId}
 use Rattle.kc_expr.specs.Names.{AreDistinct, IsNumber, IsRenumbered, Extends, same_name, number_of, symbol, mention, all_mentioned}
 use Rattle.kc_expr.specs.Order.{rank_of, ranked as ranked_in}
@@ -104,17 +104,13 @@ all_again known seen (w ∷ ws) =
     all_again known (mention seen w) ws ∙ ap (λ (ns : List (List ℕ)). all_mentioned ns ws) (mention_again known seen w)
 
 -- A name and its numbers, at first and in the end.
-module _ (first names : List (List ℕ)) (modules : SymId) (numbers : List SymId) (are : numbers ≡ map (λ w. symbol (number_of names w)) first) where
-  number_agrees : (w : List ℕ) → list_any (same_name w) first ≡ true → Agrees (final numbers modules) (number_of first) (number_of names) w
+module _ (first names : List (List ℕ)) (numbers : List SymId) (are : numbers ≡ map (λ w. symbol (number_of names w)) first) where
+  number_agrees : (w : List ℕ) → list_any (same_name w) first ≡ true → Agrees (final numbers) (number_of first) (number_of names) w
   number_agrees w h =
-      ap (λ (ids : List SymId). unwrap_or (slice_get ids (number_of first w)) modules) are
-      ∙ ap (λ (o : Option SymId). unwrap_or o modules) (slice_get-map (λ (v : List ℕ). symbol (number_of names v)) first (number_of first w))
-      ∙ ap (λ (o : Option (List ℕ)). unwrap_or (option_map (λ (v : List ℕ). symbol (number_of names v)) o) modules) (known_at first w h)
-
-  unknown_final : (unknown : SymId) → length first ≤ unknown.0 → final numbers modules unknown ≡ modules
-  unknown_final unknown h =
-      let few : length numbers ≡ length first = ap length are ∙ length-map first (λ (w : List ℕ). symbol (number_of names w)) in
-      ap (λ (o : Option SymId). unwrap_or o modules) (slice_get_past numbers unknown.0 (omega (arith, few)))
+      let own : SymId = symbol (number_of first w) in
+      ap (λ (ids : List SymId). unwrap_or (slice_get ids (number_of first w)) own) are
+      ∙ ap (λ (o : Option SymId). unwrap_or o own) (slice_get-map (λ (v : List ℕ). symbol (number_of names v)) first (number_of first w))
+      ∙ ap (λ (o : Option (List ℕ)). unwrap_or (option_map (λ (v : List ℕ). symbol (number_of names v)) o) own) (known_at first w h)
 
 or_true : (a : Bool) → (a || true) ≡ true
 or_true true = refl
@@ -263,7 +259,7 @@ all_stand ts (w ∷ ws) h =
     λ j. one j ∷ rest j
 
 -- The listing that an expansion gives, once its names have their ranks.
-module _ (log : Log) (e : Expansion) (mentioned : List (List ℕ)) (unknown : SymId) (x : IsExpansion [] (Some unknown) mentioned log e) where
+module _ (log : Log) (e : Expansion) (mentioned : List (List ℕ)) (x : IsExpansion [] mentioned log e) where
   abbrev all_words : List (List ℕ)
   all_words = flat_map names_in_statement (statements log.lines)
 
@@ -329,26 +325,25 @@ module _ (log : Log) (e : Expansion) (mentioned : List (List ℕ)) (unknown : Sy
         ∙ ap symbol (place_is names e.defined (defined (statements log.lines)) word id defined_are id_is)
         ∙ ap symbol (number_later (defined (statements log.lines)) word final_names (all_mentioned_extends known all_words))
 
-    words_agree : Agree (final numbers modules) (number_of names) (number_of final_names) all_words
-    words_agree = agree_all (final numbers modules) (number_of names) (number_of final_names) all_words
-        (λ w h. number_agrees names final_names modules numbers numbers_now w
+    words_agree : Agree (final numbers) (number_of names) (number_of final_names) all_words
+    words_agree = agree_all (final numbers) (number_of names) (number_of final_names) all_words
+        (λ w h. number_agrees names final_names numbers numbers_now w
         (known_longer mentioned names w longer (ap (list_any (same_name w)) x.mentions ∙ mentioned_known [] all_words w h)))
 
     module _ (now : List (List ℕ)) (count : ℕ) (lines : Vec Line Global) (now_is : now ≡ final_names) (count_was : count ≡ length e.defined)
-        (few : length names ≤ unknown.0) (renamed : map line_view lines.items ≡ map (line_renamed (final numbers modules)) (map line_view e.lines.items)) where
-      lines_now : map line_view lines.items ≡ map (located_numbered (Some modules) (number_of final_names)) log.lines
+        (renamed : map line_view lines.items ≡ map (line_renamed (final numbers)) (map line_view e.lines.items)) where
+      lines_now : map line_view lines.items ≡ map (located_numbered (number_of final_names)) log.lines
       lines_now =
           renamed
-          ∙ ap (map (line_renamed (final numbers modules))) (x.lines names longer)
-          ∙ lines_are (final numbers modules) (number_of names) (number_of final_names) (Some unknown) log.lines words_agree
-          ∙ ap (λ (s : SymId). map (located_numbered (Some s) (number_of final_names)) log.lines) (unknown_final names final_names modules numbers numbers_now unknown few)
+          ∙ ap (map (line_renamed (final numbers))) (x.lines names longer)
+          ∙ lines_are (final numbers) (number_of names) (number_of final_names) log.lines words_agree
 
       pub listing-is : IsListing log (record { names = now; count = count; modules = modules; lines = lines })
       listing-is = record {
         names_are = now_is;
         count_is = count_was ∙ ap length (x.defined_is mentioned (extends_none mentioned)) ∙ length-map (defined (statements log.lines)) (λ w. symbol (number_of mentioned w));
         modules_is = modules_are;
-        lines_are = lines_now ∙ ap (λ (s : SymId). map (located_numbered (Some s) (number_of final_names)) log.lines) modules_are;
+        lines_are = lines_now;
       }
 
 -- a defined name
@@ -391,33 +386,33 @@ module _ (ss : List Named) where
       omega arith
 
 -- a numbered `config` line was one
-config_by : (modules : Option SymId) (number : List ℕ → ℕ) (x : Named) (s : SymId) → symbol_of (Some (numbered modules number x)) ≡ Some s → (n : List ℕ)
+config_by : (number : List ℕ → ℕ) (x : Named) (s : SymId) → symbol_of (Some (numbered number x)) ≡ Some s → (n : List ℕ)
     × (defined_name x ≡ Some n) × (s ≡ symbol (number n))
-config_by modules number (ConfigLine n) s h = (n, refl, (let e : symbol (number n) ≡ s = cc in sym e))
-config_by modules number _ s h = absurd cc
+config_by number (ConfigLine n) s h = (n, refl, (let e : symbol (number n) ≡ s = cc in sym e))
+config_by number _ s h = absurd cc
 
-module _ (modules : Option SymId) (number : List ℕ → ℕ) (count : ℕ) where
+module _ (number : List ℕ → ℕ) (count : ℕ) where
   below_by : (ls : List (Located Named)) (o : Option Named) (i : ℕ) (s : SymId) → slice_get (statements ls) i ≡ o →
       ((x : Named) (n : List ℕ) → slice_get (statements ls) i ≡ Some x → defined_name x ≡ Some n → number n < count) →
-      symbol_of (option_map (numbered modules number) o) ≡ Some s → s.0 < count
+      symbol_of (option_map (numbered number) o) ≡ Some s → s.0 < count
   below_by ls None i s e below h = absurd cc
   below_by ls (Some x) i s e below h =
-      let found = config_by modules number x s h in
+      let found = config_by number x s h in
       let less : number found.0 < count = below x found.0 e found.1 in
       let same : s.0 ≡ number found.0 = ap (λ (t : SymId). t.0) found.2 in
       omega arith
 
   pub numbered_at : (ls : List (Located Named)) (i : ℕ) →
-      slice_get (map (λ l. l.statement) (map (located_numbered modules number) ls)) i ≡ option_map (numbered modules number) (slice_get (statements ls) i)
+      slice_get (map (λ l. l.statement) (map (located_numbered number) ls)) i ≡ option_map (numbered number) (slice_get (statements ls) i)
   numbered_at [] i = refl
   numbered_at (l ∷ ls) zero = refl
   numbered_at (l ∷ ls) (suc i) = numbered_at ls i
 
   pub are_below : (ls : List (Located Named)) → ((i : ℕ) (x : Named) (n : List ℕ) → slice_get (statements ls) i ≡ Some x → defined_name x ≡ Some n →
-      number n < count) → AreBelow count (map (λ l. l.statement) (map (located_numbered modules number) ls))
+      number n < count) → AreBelow count (map (λ l. l.statement) (map (located_numbered number) ls))
   are_below ls below i s h =
       below_by ls (slice_get (statements ls) i) i s refl (below i) (sym (ap symbol_of (numbered_at ls i)) ∙ h)
 
 pub numbered_below : (ls : List (Located Named)) → AreBelow (length (defined (statements ls))) (map (λ l. l.statement) (numbered_lines ls))
 numbered_below ls =
-    are_below (Some (modules_id (statements ls))) (number_of (names_of (statements ls))) (length (defined (statements ls))) ls (defined_below (statements ls))
+    are_below (number_of (names_of (statements ls))) (length (defined (statements ls))) ls (defined_below (statements ls))

@@ -70,7 +70,7 @@ module _ (names : List (List ℕ)) (count : ℕ) (modules : SymId) (lines : List
   -- no refusal, and all that is said
   pub whole : (p : TreeParts) → AreBelow count (statements_of lines) → length p.layout.symbols.items ≡ count → AreSymbols (statements_of lines) p.layout.symbols.items →
       IsWalkResult (statements_of lines) p.layout.symbols.items p.layout.tables p.main_menu.items →
-      d.bad_member ≡ None → d.bad_default ≡ None → p.warnings.items ≡ d.warnings.items → p.modules ≡ (if nat_lt modules.0 count then Some modules else None) →
+      d.bad_member ≡ None → d.bad_default ≡ None → p.warnings.items ≡ d.warnings.items → p.layout.modules ≡ (if nat_lt modules.0 count then Some modules else None) →
       Ok (tree_of names p) ≡ tree_with names count modules (map line_view lines)
   whole p below n are said no_member no_default warnings_are modules_is =
       let ss = statements_of lines in

@@ -5,7 +5,7 @@ use Rattle.kc_text.specs.declared.tokens.Op.TheVariants as op
 use Rattle.kc_expr.specs.declared.expression.SymId.{SymId}
 use Rattle.kc_expr.specs.declared.expression.Kind.{Kind}
 use Rattle.kc_expr.specs.declared.expression.Kind.TheVariants as kind
-use Rattle.kc_expr.specs.Form.{Form, Text, Symbol, Single, Related, Negated, Every, NoForms, MoreForms}
+use Rattle.kc_expr.specs.Form.{Form, Text, Symbol, Single, Related, Negated, PlainM, Every, NoForms, MoreForms}
 use Rattle.kc_expr.specs.Grammar.{Disjunction, Negation, WordAtom, QuotedAtom, only, joined, negation, conjunction, bang, group, lone, compare}
 use Rattle.kc_expr.specs.Names.{symbol}
 use Rattle.kc_read.specs.declared.refusal.Code.{Code}
@@ -351,17 +351,14 @@ selected_symbol = ConfigLine modules_word ∷ DefLine kind.Bool (word (codes "y"
 selected_symbol_facts : facts_at selected_symbol 2 ≡ fact kind.Tristate None (always ∷ []) (cond (sym 1 ∷ []) None ∷ []) (given (txt (codes "y")) always ∷ []) (by 1 always ∷ [])
 selected_symbol_facts = refl
 
--- a plain m of a condition stands with the modules symbol, whose name is not defined here
+-- a plain m of a condition, where no modules symbol is defined
 abbrev plain_m : List Named
 plain_m = ConfigLine (codes "A") ∷ bool_line (codes "a") ∷ DependsLine (word (codes "m")) ∷ []
-
-abbrev m_and : ℕ → Form
-m_and i = Every (MoreForms (txt (codes "m")) (MoreForms (sym i) NoForms))
 
 plain_m_names : names_of plain_m ≡ codes "A" ∷ modules_word ∷ []
 plain_m_names = refl
 
-plain_m_facts : facts_at plain_m 0 ≡ fact kind.Bool None (cond (m_and 1 ∷ []) None ∷ []) (cond (m_and 1 ∷ []) None ∷ []) [] []
+plain_m_facts : facts_at plain_m 0 ≡ fact kind.Bool None (cond (PlainM ∷ []) None ∷ []) (cond (PlainM ∷ []) None ∷ []) [] []
 plain_m_facts = refl
 
 plain_m_modules : (facts_of_lines plain_m (numbered_lines (in_root plain_m))).modules ≡ None
@@ -369,7 +366,7 @@ plain_m_modules = refl
 
 -- the modules symbol is defined after its use
 modules_line_afterwards : facts_at (ConfigLine (codes "A") ∷ bool_line (codes "a") ∷ DependsLine (word (codes "m")) ∷ ConfigLine (codes "LKM") ∷ bool_line (codes "l") ∷
-    ModulesLine ∷ []) 0 ≡ fact kind.Bool None (cond (m_and 1 ∷ []) None ∷ []) (cond (m_and 1 ∷ []) None ∷ []) [] []
+    ModulesLine ∷ []) 0 ≡ fact kind.Bool None (cond (PlainM ∷ []) None ∷ []) (cond (PlainM ∷ []) None ∷ []) [] []
 modules_line_afterwards = refl
 
 -- each `depends on` line of an entry is a part of its condition
@@ -488,7 +485,7 @@ compound_default = refl
 
 -- m is m in a default's value, also where it is one of several parts, and with the modules symbol in its condition
 m_in_default : facts_at (ConfigLine (codes "A") ∷ TypeLine kind.Tristate None ∷ DefaultLine (both (codes "m") (codes "B")) (Some (word (codes "m"))) ∷ [])
-    0 ≡ fact kind.Tristate None (always ∷ []) [] (given (Every (MoreForms (txt (codes "m")) (MoreForms (sym 2) NoForms))) (cond (m_and 1 ∷ []) None) ∷ []) []
+    0 ≡ fact kind.Tristate None (always ∷ []) [] (given (Every (MoreForms (txt (codes "m")) (MoreForms (sym 2) NoForms))) (cond (PlainM ∷ []) None) ∷ []) []
 m_in_default = refl
 
 -- a side of a relation is m alone; `!` takes the whole relation

@@ -6,7 +6,7 @@ use Rattle.kc_read.specs.declared.statement.Block.TheVariants as block
 use Rattle.kc_read.specs.Files.{Files}
 use Rattle.kc_read.specs.Statements.{Numbered, statements}
 use Rattle.kc_read.specs.Expansion.{Log, Expands}
-use Rattle.kc_read.specs.Numbering.{names_of, modules_id, numbered_lines}
+use Rattle.kc_read.specs.Numbering.{names_of, numbered_lines}
 use Rattle.kc_tree.specs.TreeFacts.{Condition, MenuShown, EndShown}
 use Rattle.kc_build.specs.Facts.{entries, enclosing_choice, of_block}
 use Rattle.kc_build.proofs.ExpansionLemmas.{AreNested}
@@ -19,7 +19,7 @@ module _ (files : Files) (root : List ℕ) (log : Log) (expands : Expands files 
 
   pub nested : AreNested numbered
   nested =
-      expanded_nested files root log (Some (modules_id (statements log.lines))) (number_of (names_of (statements log.lines))) expands
+      expanded_nested files root log (number_of (names_of (statements log.lines))) expands
 
   -- a choice does not stand in a choice
   pub choices_alone : (p : ℕ) → of_block numbered block.Choice p ≡ true → enclosing_choice numbered p ≡ None

@@ -139,9 +139,9 @@ definition_from (x ∷ ss) n k h = by (defined_name x) k refl h (definition_from
     by (Some m) zero e h rest = let same : m ≡ n = cc in (0, x, refl, e ∙ ap Some same)
     by (Some m) (suc k) e h rest = next (rest k h)
 
-config_symbol : (modules : Option SymId) (number : List ℕ → ℕ) (x : Named) (n : List ℕ) → defined_name x ≡ Some n → symbol_of (Some (numbered modules number x)) ≡ Some (symbol (number n))
-config_symbol modules number (ConfigLine m) n e = let same : m ≡ n = cc in ap (λ (w : List ℕ). Some (symbol (number w))) same
-config_symbol modules number _ n e = absurd cc
+config_symbol : (number : List ℕ → ℕ) (x : Named) (n : List ℕ) → defined_name x ≡ Some n → symbol_of (Some (numbered number x)) ≡ Some (symbol (number n))
+config_symbol number (ConfigLine m) n e = let same : m ≡ n = cc in ap (λ (w : List ℕ). Some (symbol (number w))) same
+config_symbol number _ n e = absurd cc
 
 any_at : (names : List (List ℕ)) (n : List ℕ) (i : ℕ) → slice_get names i ≡ Some n → list_any (same_name n) names ≡ true
 any_at [] n i h = absurd cc
@@ -173,9 +173,9 @@ module _ (ls : List (Located Named)) where
       let number = number_of (names_of (statements ls)) in
       let longer = names_extend (statements ls) in
       let there : slice_get (names_of (statements ls)) s.0 ≡ Some n = ap (λ (ns : List (List ℕ)). slice_get ns s.0) longer.1 ∙ front_get (defined (statements ls)) longer.0 s.0 n h in
-      let made : slice_get line_statements p ≡ Some (numbered modules number x) = numbered_at modules number (length (defined (statements ls))) ls p ∙ ap (option_map (numbered modules number)) at in
-      let symbol_is : symbol_at line_statements p ≡ Some s = ap symbol_of made ∙ config_symbol modules number x n named ∙ ap (λ (i : ℕ). Some (symbol i)) (number_is differ s.0 n there) in
-      shown_where line_statements p s (slice_get_within line_statements p (numbered modules number x) made) (ap (is_symbol_of s) symbol_is ∙ eq-eqb s.0 s.0 refl)
+      let made : slice_get line_statements p ≡ Some (numbered number x) = numbered_at number (length (defined (statements ls))) ls p ∙ ap (option_map (numbered number)) at in
+      let symbol_is : symbol_at line_statements p ≡ Some s = ap symbol_of made ∙ config_symbol number x n named ∙ ap (λ (i : ℕ). Some (symbol i)) (number_is differ s.0 n there) in
+      shown_where line_statements p s (slice_get_within line_statements p (numbered number x) made) (ap (is_symbol_of s) symbol_is ∙ eq-eqb s.0 s.0 refl)
 
   name_shown : Differ → (s : SymId) (n : List ℕ) → slice_get (defined (statements ls)) s.0 ≡ Some n → Contains (entries line_statements) (SymbolShown s)
   name_shown differ s n h = by (mentioned_from [] (definitions (statements ls)) n s.0 h)

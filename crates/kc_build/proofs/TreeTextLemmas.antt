@@ -81,13 +81,13 @@ name_lines ss h =
 abbrev IsLineNumbered : Numbered → Type 0
 IsLineNumbered s = HasTexts IsLineForm s
 
-numbered_texts : (modules : Option SymId) (number : List ℕ → ℕ) (s : Named) → HasTexts IsLineValue s → IsLineNumbered (numbered modules number s)
-numbered_texts modules number (CommentLine t) h = h
-numbered_texts modules number (MenuLine t) h = h
-numbered_texts modules number (MainMenuLine t) h = h
-numbered_texts modules number (DefaultLine v w) h = h number
-numbered_texts modules number (DefLine k v w) h = h number
-numbered_texts modules number _ h = tt
+numbered_texts : (number : List ℕ → ℕ) (s : Named) → HasTexts IsLineValue s → IsLineNumbered (numbered number s)
+numbered_texts number (CommentLine t) h = h
+numbered_texts number (MenuLine t) h = h
+numbered_texts number (MainMenuLine t) h = h
+numbered_texts number (DefaultLine v w) h = h number
+numbered_texts number (DefLine k v w) h = h number
+numbered_texts number _ h = tt
 
 module _ (ss : List Numbered) (texts : All IsLineNumbered ss) where
   -- entries
@@ -171,24 +171,24 @@ module _ (ls : List (Located Named)) (lines : All IsInLines (statements ls)) whe
   abbrev whole : TreeFacts
   whole = facts_with (names_of (statements ls)) (length (defined (statements ls))) (modules_id (statements ls)) (numbered_lines ls)
 
-  all_numbered : (modules : Option SymId) (number : List ℕ → ℕ) (rest : List (Located Named)) → All IsInLines (statements rest) →
-      All IsLineNumbered (map (λ l. numbered modules number l.statement) rest)
-  all_numbered modules number [] h = All-nil IsLineNumbered
-  all_numbered modules number (l ∷ rest) h =
-      All-cons IsLineNumbered (numbered modules number l.statement) (map (λ l. numbered modules number l.statement) rest)
-      (numbered_texts modules number l.statement (All-head IsInLines l.statement (statements rest) h).texts)
-      (all_numbered modules number rest (All-tail IsInLines l.statement (statements rest) h))
+  all_numbered : (number : List ℕ → ℕ) (rest : List (Located Named)) → All IsInLines (statements rest) →
+      All IsLineNumbered (map (λ l. numbered number l.statement) rest)
+  all_numbered number [] h = All-nil IsLineNumbered
+  all_numbered number (l ∷ rest) h =
+      All-cons IsLineNumbered (numbered number l.statement) (map (λ l. numbered number l.statement) rest)
+      (numbered_texts number l.statement (All-head IsInLines l.statement (statements rest) h).texts)
+      (all_numbered number rest (All-tail IsInLines l.statement (statements rest) h))
 
-  numbered_is : (modules : Option SymId) (number : List ℕ → ℕ) (rest : List (Located Named)) →
-      map (λ l. numbered modules number l.statement) rest ≡ map (λ l. l.statement) (map (located_numbered modules number) rest)
-  numbered_is modules number [] = refl
-  numbered_is modules number (l ∷ rest) = ap (λ xs. numbered modules number l.statement ∷ xs) (numbered_is modules number rest)
+  numbered_is : (number : List ℕ → ℕ) (rest : List (Located Named)) →
+      map (λ l. numbered number l.statement) rest ≡ map (λ l. l.statement) (map (located_numbered number) rest)
+  numbered_is number [] = refl
+  numbered_is number (l ∷ rest) = ap (λ xs. numbered number l.statement ∷ xs) (numbered_is number rest)
 
   all_texts : All IsLineNumbered line_statements
   all_texts =
       let modules = Some (modules_id (statements ls)) in
       let number = number_of (names_of (statements ls)) in
-      subst (All IsLineNumbered) (numbered_is modules number ls) (all_numbered modules number ls lines)
+      subst (All IsLineNumbered) (numbered_is number ls) (all_numbered number ls lines)
 
   -- each text of the tree stands in one line
   pub line_texts : HasLineTexts whole

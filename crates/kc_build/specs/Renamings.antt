@@ -1,12 +1,12 @@
 -- For proofs: Other numbers for the symbols of what is numbered.
 use Rattle.std.specs.Prelude.{List, slice_get, unwrap_or, option_map}
 use Rattle.kc_expr.specs.declared.expression.SymId.{SymId}
-use Rattle.kc_expr.specs.Form.{Form, Forms, Leaf, Text, Symbol, Single, Related, Negated, Every, Some_of, NoForms, MoreForms}
+use Rattle.kc_expr.specs.Form.{Form, Forms, Leaf, Text, Symbol, Single, Related, Negated, PlainM, Every, Some_of, NoForms, MoreForms}
 use Rattle.kc_read.specs.Statements.{Numbered, InputPrompt, Located, ConfigLine, IfLine, EndIfLine, CommentLine, SourceLine, MenuLine, EndMenuLine, ChoiceLine, EndChoiceLine, MainMenuLine, TypeLine, PromptLine, DefaultLine, DefLine, DependsLine, VisibleLine, SelectLine, ImplyLine, RangeLine, HelpLine, ModulesLine, IgnoredLine}
 
--- the symbol at a symbol's place in the list, and with none there this one
-abbrev pub final : List SymId → SymId → SymId → SymId
-final numbers modules s = unwrap_or (slice_get numbers s.0) modules
+-- the symbol at a symbol's place in the list, and with none there itself
+abbrev pub final : List SymId → SymId → SymId
+final numbers s = unwrap_or (slice_get numbers s.0) s
 
 module _ (f : SymId → SymId) where
   abbrev pub leaf_renamed : Leaf → Leaf
@@ -18,6 +18,7 @@ module _ (f : SymId → SymId) where
     renamed (Single o) = Single (leaf_renamed o)
     renamed (Related op a b) = Related op (leaf_renamed a) (leaf_renamed b)
     renamed (Negated x) = Negated (renamed x)
+    renamed PlainM = PlainM
     renamed (Every xs) = Every (all_renamed xs)
     renamed (Some_of xs) = Some_of (all_renamed xs)
 

@@ -1,6 +1,8 @@
 -- For proofs: What the tables say when all lines were gone over, and what the lines have against them.
-use Rattle.std.specs.Prelude.{◌≡◌, ◌<◌, ◌≤◌, ◌+◌, ◌*◌, ◌^◌, ℕ, List, [], All, Some, filter, map, length, nat_lt, slice_get}
+use Rattle.std.specs.Prelude.{◌≡◌, ◌<◌, ◌≤◌, ◌+◌, ◌*◌, ◌^◌, ℕ, List, [], All, Some, None, filter, map, length, nat_lt, slice_get}
 use Rattle.std.specs.List.{flat_map}
+use Rattle.std.specs.declared.alloc.Global.{Global}
+use Rattle.std.specs.declared.vec.Vec.{Vec}
 use Rattle.kc_expr.specs.Names.{symbol}
 use Rattle.kc_read.specs.Blocks.{numbers}
 use Rattle.kc_read.specs.Statements.{Numbered, Located, statements}
@@ -76,6 +78,10 @@ pub record IsDiagnosed (names : List (List ℕ)) (ls : List (Located Numbered)) 
   pub member : (diagnosis_view d).member ≡ first_of (flat_map (refused_at names ls code.ChoiceMember) (filter (λ j. nat_lt j i) (bad_members (statements ls))))
   pub default : (diagnosis_view d).default ≡ first_of (flat_map (refused_at names ls code.BadDefault) (filter (λ j. nat_lt j i) (bad_defaults (statements ls))))
   pub warnings : bad_members (statements ls) ≡ [] → (diagnosis_view d).warnings ≡ flat_map (λ j. warned_at names ls j (slice_get ls j)) (numbers i)
+
+-- nothing is refused, and these are the warnings
+abbrev pub HasOnlyWarnings : Diagnostics → List (Vec ℕ Global) → Type 0
+HasOnlyWarnings d warnings = (d.bad_member ≡ None) × (d.bad_default ≡ None) × (warnings ≡ d.warnings.items)
 
 -- all that lines say
 pub record IsWalkResult (ss : List Numbered) (symbols : List Symbol) (t : Tables) (main_menu : List ℕ) : Type 0 where

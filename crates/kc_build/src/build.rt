@@ -58,10 +58,13 @@ fn build_parts(
     match diagnostics.into_warnings() {
         Err(refusal) => Ok(Err(refusal)),
         Ok(warnings) => Ok(Ok(TreeParts {
-            layout: Layout { symbols, tables },
+            layout: Layout {
+                symbols,
+                tables,
+                modules: defined(modules, count),
+            },
             warnings,
             main_menu,
-            modules: defined(modules, count),
         })),
     }
 }

@@ -30,6 +30,7 @@ pub(crate) fn expression_copy(alloc: Global, e: &Expr) -> Result<Expr, AllocErro
             Ok(Expr::Rel(*op, Box::new(alloc, Operands { left, right })?))
         }
         Expr::Not(e) => Ok(Expr::Not(Box::new(alloc, expression_copy(alloc, e)?)?)),
+        Expr::Module => Ok(Expr::Module),
         Expr::All(parts) => {
             let mut all = Vec::with_capacity(alloc, parts.len())?;
             for part in parts {

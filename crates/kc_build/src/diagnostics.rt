@@ -8,6 +8,7 @@ ghost use Rattle.kc_read.specs.StatementViews.{line_view, statement_view};
 ghost use Rattle.kc_read.specs.RefusalView.{refusal_view};
 ghost use Rattle.kc_build.specs.Diagnosed.{IsLineDiagnosed, AreLinesDiagnosed};
 ghost use Rattle.kc_build.specs.Odd as odd;
+ghost use Rattle.kc_build.specs.WalkResult.{HasOnlyWarnings};
 ghost use Rattle.kc_build.specs.Facts as facts;
 ghost use Rattle.kc_tree.specs.Common.{listed};
 ghost use Rattle.kc_build.specs.SymbolRows.{kind_by, choice_by, member_by, default_symbol, line_warnings_in};
@@ -482,7 +483,7 @@ impl Diagnostics {
 
     /// The first refusal: of a definition of a member, and without one of a default. Where there is none, the warnings.
     pub(crate) fn into_warnings(self) -> Result<Vec<Vec<u8>>, Refusal>
-        ensures { MatchResult result (λ v. (self.bad_member ≡ None) × (self.bad_default ≡ None) × (v.items ≡ self.warnings.items)) (λ r. option_or self.bad_member self.bad_default ≡ Some r) }
+        ensures { MatchResult result (λ v. HasOnlyWarnings self v.items) (λ r. option_or self.bad_member self.bad_default ≡ Some r) }
     {
         let Diagnostics {
             warnings,

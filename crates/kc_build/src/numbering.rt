@@ -1,6 +1,6 @@
 //! The lines of a root file, with their names numbered.
 
-ghost use Rattle.std.specs.Prelude.{◌≡◌, ◌≢◌, ◌≤◌, ℕ, List, Option, IfOk, IfErr, OnOk, Ok, Err, [], Some, codes, length, map, unwrap_or};
+ghost use Rattle.std.specs.Prelude.{◌≡◌, ◌≢◌, ℕ, List, Option, IfOk, IfErr, OnOk, Ok, Err, [], Some, codes, map, unwrap_or};
 ghost use Rattle.kc_expr.specs.Names.{IsNumber, all_mentioned, mention, number_of, symbol};
 ghost use Rattle.kc_read.specs.Expansion.{Log, Expands};
 ghost use Rattle.kc_read.specs.Files.{bytes_in};
@@ -52,8 +52,7 @@ fn modules_symbol(names: &mut Names, modules: Option<SymId>) -> Result<SymId, Al
 
 // All names get ranks, behind the symbols that have one: the rank that each has then, which is its final number.
 fn number_names(alloc: Global, names: &Names, order: SymbolOrder) -> Result<Vec<SymId>, AllocError>
-    ensures few { OnOk result (length names.now ≤ usize.MAX) }
-    ensures numbers { IfOk result (λ v. (placed : List (List ℕ)) → AreNumbers names.now order placed → v.items ≡ map (λ n. symbol (number_of (all_mentioned placed names.now) n)) names.now) }
+    ensures { IfOk result (λ v. (placed : List (List ℕ)) → AreNumbers names.now order placed → v.items ≡ map (λ n. symbol (number_of (all_mentioned placed names.now) n)) names.now) }
 {
     let mut order = order;
     let count = names.count();
@@ -68,17 +67,14 @@ fn number_names(alloc: Global, names: &Names, order: SymbolOrder) -> Result<Vec<
     Ok(numbers)
 }
 
-// The lines of an expansion, whose names are numbered by first mention, and which names `unknown` where it means the
-// modules symbol: a number that no name has, since there are at most so many.
+// The lines of an expansion, whose names are numbered by first mention.
 fn number_lines(
     alloc: Global,
     mentioned: Names,
-    unknown: SymId,
     expansion: Expansion,
 ) -> Result<RootReading, AllocError>
-    requires unknown { unknown.0 ≡ usize.MAX }
-    requires expanded { (log : Log) × IsExpansion [] (Some unknown) mentioned log expansion }
-    ensures listing { IfOk result (λ r. (log : Log) → IsExpansion [] (Some unknown) mentioned log expansion → IsListing log r.listing) }
+    requires { (log : Log) × IsExpansion [] mentioned log expansion }
+    ensures listing { IfOk result (λ r. (log : Log) → IsExpansion [] mentioned log expansion → IsListing log r.listing) }
     ensures opened { IfOk result (λ r. r.opened ≡ expansion.opened) }
 {
     let mut names = mentioned;
@@ -88,7 +84,7 @@ fn number_lines(
     let modules = order.rank(symbol)?;
     let numbers = number_names(alloc, &names, order)?;
     let mut lines = expansion.lines;
-    rename_lines(alloc, &mut lines, &numbers, modules)?;
+    rename_lines(alloc, &mut lines, &numbers)?;
     names.renumber(numbers);
     Ok(RootReading {
         listing: Listing {
@@ -110,10 +106,9 @@ pub fn read_listing(alloc: Global, map: &FileMap, root: &[u8]) -> Result<RootRea
     ensures refused { IfErr result (λ r. r.code ≢ Memory → Expands (bytes_in map.now) root.now (Err (refusal_view r))) }
     ensures memory { IfErr result IsMemory }
 {
-    let unknown = SymId(usize::MAX);
     let mut mentioned = Names::new(alloc);
-    let expansion = expand(alloc, map, root, Some(unknown), &mut mentioned)?;
-    match number_lines(alloc, mentioned, unknown, expansion) {
+    let expansion = expand(alloc, map, root, &mut mentioned)?;
+    match number_lines(alloc, mentioned, expansion) {
         Ok(reading) => Ok(reading),
         Err(_) => Err(Refusal::out_of_memory(alloc)),
     }

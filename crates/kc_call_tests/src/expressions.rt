@@ -1,6 +1,7 @@
 //! Names, and the value of expressions over a type of one's own (kc_expr).
 
-ghost use Rattle.std.specs.Prelude.{[]};
+ghost use Rattle.std.specs.Prelude.{[], Some};
+ghost use Rattle.kc_expr.specs.Names.{symbol};
 ghost use Rattle.kc_expr.specs.declared.expression.Kind.TheVariants as kind;
 
 use kc_expr::expression::{Expr, Kind, SymId, Tri};
@@ -13,7 +14,7 @@ use std::alloc::Global;
 // Functions that answer whether a case holds own names and expressions: each early exit of a test would prove their drops
 // once more.
 
-// Each symbol is a bool of this value.
+// Each symbol is a bool of this value, and the first is the modules symbol.
 struct Alike(Tri);
 
 impl Values for Alike {
@@ -22,6 +23,8 @@ impl Values for Alike {
     ghost text_of = { λ a s. [] };
 
     ghost kind_of = { λ a s. kind.Bool };
+
+    ghost modules_of = { λ a. Some (symbol 0) };
 
     fn tri(&self, _id: SymId) -> Tri {
         self.0
@@ -33,6 +36,10 @@ impl Values for Alike {
 
     fn kind(&self, _id: SymId) -> Kind {
         Kind::Bool
+    }
+
+    fn modules(&self) -> Option<SymId> {
+        Some(SymId(0))
     }
 }
 
@@ -66,7 +73,7 @@ fn is_numbered(names: &mut Names, name: &[u8], number: usize) -> bool {
 fn read_mentions(alloc: Global, names: &mut Names) -> bool {
     let mut tokens = Vec::new(alloc);
     lex(b"B && A = B || n || \"Q\" || X || C D", &mut tokens).is_ok()
-        && parse(alloc, &tokens, 0, None, names).is_ok()
+        && parse(alloc, &tokens, 0, false, names).is_ok()
 }
 
 fn are_numbered_at_first_mention(alloc: Global) -> bool {
@@ -102,9 +109,9 @@ fn a_number_has_its_name(rt: HostRuntime) {
     assert!(rt; the_second_has_its_name(rt.alloc()));
 }
 
-// Whether the tokens are an expression of this value where each symbol is worth m.
+// Whether the tokens are a condition of this value where each symbol is worth m.
 fn tokens_are_worth(alloc: Global, tokens: &[Token], names: &mut Names, want: Tri) -> bool {
-    match parse(alloc, tokens, 0, None, names) {
+    match parse(alloc, tokens, 0, true, names) {
         Ok((expr, _)) => value_of(&expr) == want,
         Err(_) => false,
     }
@@ -131,6 +138,9 @@ const TRUTHS: &[(&[u8], Tri)] = &[
     (b"A || y", Tri::Y),
     (b"A = m", Tri::Y),
     (b"A > m", Tri::N),
+    (b"m", Tri::M),
+    (b"y && !m", Tri::M),
+    (b"m = m", Tri::Y),
 ];
 
 #[test]
@@ -142,8 +152,8 @@ fn expressions_are_evaluated_over_any_type(rt: HostRuntime) {
 
 // Adds the symbols that the tokens name to those that are there.
 fn named_into(alloc: Global, tokens: &[Token], names: &mut Names, ids: &mut Vec<SymId>) -> bool {
-    match parse(alloc, tokens, 0, Some(SymId(7)), names) {
-        Ok((expr, _)) => symbols_into(&expr, ids).is_ok(),
+    match parse(alloc, tokens, 0, true, names) {
+        Ok((expr, _)) => symbols_into(&expr, Some(SymId(7)), ids).is_ok(),
         Err(_) => false,
     }
 }

@@ -98,7 +98,7 @@ foo $~& =>
 
 // Adds how much the file `Kconfig` gives, or its refusal.
 fn outcome_into(alloc: Global, map: &FileMap, names: &mut Names, text: &mut String) {
-    match expand(alloc, map, b"Kconfig", None, names) {
+    match expand(alloc, map, b"Kconfig", names) {
         Ok(expansion) => {
             let (lines, symbols) = (expansion.lines.len(), expansion.defined.count());
             let _ = write!(text, "{lines} lines, {symbols} symbols");

@@ -87,7 +87,7 @@ fn part_count(expression: &Expr) -> usize {
 
 // How `parse` ends, of an expression of six names, two of which are known.
 fn parse_end(alloc: Global, tokens: &[Token], names: &mut Names) -> CallEnd {
-    match parse(alloc, tokens, 0, None, names) {
+    match parse(alloc, tokens, 0, false, names) {
         Ok((expression, after)) => {
             let is_whole = part_count(&expression) == 5 && after == tokens.len();
             done(is_whole && names.count() == 6 && are_numbered(names, 6))
@@ -115,7 +115,7 @@ const LISTED: &[SymId] = &[
 // How `symbols_into` ends, behind a symbol that stands there.
 fn symbols_end(alloc: Global, expression: &Expr) -> Result<CallEnd, AllocError> {
     let mut listed = vec![in alloc; SymId(9)]?;
-    match symbols_into(expression, &mut listed) {
+    match symbols_into(expression, None, &mut listed) {
         Ok(()) => Ok(done(listed.as_slice() == LISTED)),
         Err(_) => Ok(refused(!listed.is_empty() && LISTED.starts_with(&listed))),
     }
@@ -123,7 +123,7 @@ fn symbols_end(alloc: Global, expression: &Expr) -> Result<CallEnd, AllocError> 
 
 // The same for what the tokens are.
 fn listed_end(alloc: Global, tokens: &[Token], names: &mut Names) -> Result<CallEnd, AllocError> {
-    match parse(alloc, tokens, 0, None, names) {
+    match parse(alloc, tokens, 0, false, names) {
         Ok((expression, _)) => symbols_end(alloc, &expression),
         Err(_) => Err(AllocError),
     }

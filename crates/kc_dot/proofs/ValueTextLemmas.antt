@@ -17,7 +17,7 @@ use Rattle.kc_expr.specs.declared.expression.Tri.{Tri}
 use Rattle.kc_expr.specs.declared.expression.Tri.TheVariants.{N, M, Y}
 use Rattle.kc_expr.specs.declared.expression.Kind.{Kind}
 use Rattle.kc_expr.specs.declared.expression.Kind.TheVariants as kind
-use Rattle.kc_expr.specs.Form.{Form, Text, Symbol, Single, Related, Negated, Every, Some_of}
+use Rattle.kc_expr.specs.Form.{Form, Text, Symbol, Single, Related, Negated, PlainM, Every, Some_of}
 use Rattle.kc_expr.specs.Names.{symbol}
 use Rattle.kc_expr.specs.Value.{SymbolValue, Truth, TextValue, text_of_value, tri_text}
 use Rattle.kc_order.specs.Needs.{needs_in, unordered_after}
@@ -233,6 +233,7 @@ module _ (tree : TreeFacts) (known : SymId â†’ SymbolValue) (all : (s : SymId) â
   single_fits (Single (Symbol s)) line = known_text_fits (known s) (all s)
   single_fits (Related op a b) line = refl
   single_fits (Negated f) line = refl
+  single_fits PlainM line = refl
   single_fits (Every fs) line = refl
   single_fits (Some_of fs) line = refl
 

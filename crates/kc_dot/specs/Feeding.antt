@@ -32,6 +32,10 @@ number_after n bytes = min (n + count_by is_line_feed bytes) last_count
 abbrev pub fed : List ℕ → StreamPosition → StreamPosition
 fed piece position = record { number = number_after position.number piece; pending = after_last is_line_feed (position.pending ++ piece) }
 
+-- from wherever a reader came to a position, these bytes bring it on to the next
+abbrev pub GoesOnBy : List ℕ → StreamPosition → StreamPosition → Type 0
+GoesOnBy bytes old new = (before : List ℕ) (first : StreamPosition) → old ≡ fed before first → new ≡ fed (before ++ bytes) first
+
 -- where it stands once the last line is ended
 abbrev pub ended : StreamPosition → StreamPosition
 ended position = record { number = if length position.pending == 0 then position.number else one_more position.number; pending = [] }

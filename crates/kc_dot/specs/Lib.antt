@@ -8,6 +8,7 @@ pub mod Feeding
 pub mod HasNames
 pub mod InputView
 pub mod Laws
+pub mod LineByLine
 pub mod LineSteps
 pub mod Limits
 pub mod LineValue

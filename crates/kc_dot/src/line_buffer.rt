@@ -1,11 +1,12 @@
 //! The line that is not yet ended, and what each byte does to it.
-ghost use Rattle.std.specs.Prelude.{◌≡◌, ◌<◌, ◌≤◌, ◌∷◌, ◌++◌, [], ℕ, List, true, false, length, take, OnOk, OnErr, IfOk, IfErr, if◌then◌else◌, slice_index};
+ghost use Rattle.std.specs.Prelude.{◌≡◌, ◌<◌, ◌≤◌, ◌∷◌, ◌++◌, [], true, false, length, take, OnOk, OnErr, IfOk, IfErr, if◌then◌else◌, slice_index};
 ghost use Rattle.std.specs.Str.Lines.{strip_carriage_return};
 ghost use Rattle.kc_text.specs.Lines.{HoldsNoLineFeed, is_line_feed};
 ghost use Rattle.kc_user.specs.Places.{ArePlacesOf};
-ghost use Rattle.kc_dot.specs.Feeding.{StreamPosition, IsWithinLine, Feeds, Refuses, StopsBecause, FinishesStream, fed, ended};
+ghost use Rattle.kc_dot.specs.Feeding.{IsWithinLine, GoesOnBy, Refuses, StopsBecause, FinishesStream, fed, ended};
 ghost use Rattle.kc_text.specs.Limits.{one_more};
-ghost use Rattle.kc_dot.specs.Reading.{line, input_after, warning};
+ghost use Rattle.kc_dot.specs.LineByLine.{line_at, after_line, warning_of, TakesPiece};
+ghost use Rattle.kc_dot.specs.Reading.{line};
 ghost use Rattle.kc_dot.specs.ReaderView.{position_of};
 
 use crate::fault::DotFault;
@@ -48,8 +49,8 @@ fn read_numbered<'a>(
     told: &mut Vec<u8>,
 ) -> Result<(), AllocError>
     requires { ArePlacesOf stream.now.tree.now user.old.places }
-    ensures places { OnOk result (user.new ≡ input_after stream.now.tree.now stream.now.prefix.now user.old (line stream.now.name.now number.old bytes.now ended ∷ [])) }
-    ensures warned { OnOk result (told.new.items ≡ told.old.items ++ warning stream.now.tree.now stream.now.prefix.now user.old (line stream.now.name.now number.old bytes.now ended)) }
+    ensures places { OnOk result (user.new ≡ after_line stream.now user.old (line stream.now.name.now number.old bytes.now ended)) }
+    ensures warned { OnOk result (told.new.items ≡ told.old.items ++ warning_of stream.now user.old (line stream.now.name.now number.old bytes.now ended)) }
     ensures next { OnOk result (number.new ≡ one_more number.old) }
     ensures unchanged { OnErr result ((user.new ≡ user.old) × (number.new ≡ number.old) × (told.new.items ≡ told.old.items)) }
 {
@@ -69,8 +70,8 @@ pub(crate) fn end_line<'a>(
     told: &mut Vec<u8>,
 ) -> Result<(), AllocError>
     requires { ArePlacesOf stream.now.tree.now user.old.places }
-    ensures places { OnOk result (user.new ≡ input_after stream.now.tree.now stream.now.prefix.now user.old (line stream.now.name.now line_buffer.old.number line_buffer.old.pending.items ended ∷ [])) }
-    ensures warned { OnOk result (told.new.items ≡ told.old.items ++ warning stream.now.tree.now stream.now.prefix.now user.old (line stream.now.name.now line_buffer.old.number line_buffer.old.pending.items ended)) }
+    ensures places { OnOk result (user.new ≡ after_line stream.now user.old (line_at stream.now (position_of line_buffer.old) ended)) }
+    ensures warned { OnOk result (told.new.items ≡ told.old.items ++ warning_of stream.now user.old (line_at stream.now (position_of line_buffer.old) ended)) }
     ensures next { OnOk result (position_of line_buffer.new ≡ record { number = one_more line_buffer.old.number; pending = [] }) }
     ensures unchanged { OnErr result ((user.new ≡ user.old) × (position_of line_buffer.new ≡ position_of line_buffer.old) × (told.new.items ≡ told.old.items)) }
 {
@@ -98,7 +99,7 @@ fn take_byte<'a>(
 ) -> Result<(), DotFault>
     requires user { ArePlacesOf stream.now.tree.now user.old.places }
     requires opened { IsWithinLine (position_of line_buffer.old) }
-    ensures ok { OnOk result (Feeds stream.now.tree.now stream.now.prefix.now stream.now.name.now (byte ∷ []) (position_of line_buffer.old) (position_of line_buffer.new) user.old user.new told.old.items told.new.items) }
+    ensures ok { OnOk result (TakesPiece stream.now (byte ∷ []) (position_of line_buffer.old) (position_of line_buffer.new) user.old user.new told.old.items told.new.items) }
     ensures position { OnOk result (position_of line_buffer.new ≡ fed (byte ∷ []) (position_of line_buffer.old)) }
     ensures unchanged { OnErr result ((user.new ≡ user.old) × (position_of line_buffer.new ≡ position_of line_buffer.old) × (told.new.items ≡ told.old.items)) }
     ensures err { IfErr result (λ fault. StopsBecause stream.now.tree.now stream.now.prefix.now stream.now.name.now fault (byte ∷ []) (position_of line_buffer.old) user.old) }
@@ -146,9 +147,8 @@ fn take_front<'a>(
     requires opened { IsWithinLine (position_of line_buffer.old) }
     ensures some { IfOk result (λ n. 0 < n) }
     ensures within { IfOk result (λ n. n ≤ length bytes.now) }
-    ensures ok { IfOk result (λ n. Feeds stream.now.tree.now stream.now.prefix.now stream.now.name.now (take n bytes.now) (position_of line_buffer.old)
-        (position_of line_buffer.new) user.old user.new told.old.items told.new.items) }
-    ensures position { IfOk result (λ n. (before : List ℕ) (first : StreamPosition) → position_of line_buffer.old ≡ fed before first → position_of line_buffer.new ≡ fed (before ++ take n bytes.now) first) }
+    ensures ok { IfOk result (λ n. TakesPiece stream.now (take n bytes.now) (position_of line_buffer.old) (position_of line_buffer.new) user.old user.new told.old.items told.new.items) }
+    ensures position { IfOk result (λ n. GoesOnBy (take n bytes.now) (position_of line_buffer.old) (position_of line_buffer.new)) }
     ensures unchanged { OnErr result ((user.new ≡ user.old) × (position_of line_buffer.new ≡ position_of line_buffer.old) × (told.new.items ≡ told.old.items)) }
     ensures err { IfErr result (λ fault. StopsBecause stream.now.tree.now stream.now.prefix.now stream.now.name.now fault bytes.now (position_of line_buffer.old) user.old) }
     ensures user { OnOk result (ArePlacesOf stream.now.tree.now user.new.places) }
@@ -187,7 +187,7 @@ pub(crate) fn take_piece<'a>(
 ) -> Result<(), DotFault>
     requires user { ArePlacesOf stream.now.tree.now user.old.places }
     requires opened { IsWithinLine (position_of line_buffer.old) }
-    ensures ok { OnOk result (Feeds stream.now.tree.now stream.now.prefix.now stream.now.name.now piece.now (position_of line_buffer.old) (position_of line_buffer.new) user.old user.new told.old.items told.new.items) }
+    ensures ok { OnOk result (TakesPiece stream.now piece.now (position_of line_buffer.old) (position_of line_buffer.new) user.old user.new told.old.items told.new.items) }
     ensures position { OnOk result (position_of line_buffer.new ≡ fed piece.now (position_of line_buffer.old)) }
     ensures err { IfErr result (λ fault. Refuses stream.now.tree.now stream.now.prefix.now stream.now.name.now fault piece.now (position_of line_buffer.old)
         (position_of line_buffer.new) user.old user.new told.old.items told.new.items) }

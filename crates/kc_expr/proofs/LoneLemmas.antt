@@ -1,8 +1,6 @@
 -- An operand that stands alone is a whole expression, and what breaks off there breaks the expression off.
-use Rattle.std.proofs.Common.{◌≡◌, ℕ, ◌∷◌, List}
-use Rattle.std.specs.Prelude.{Option}
+use Rattle.std.proofs.Common.{◌≡◌, ℕ, ◌∷◌, List, Bool}
 use Rattle.kc_expr.specs.declared.parse.ExprFault.{ExprFault}
-use Rattle.kc_expr.specs.declared.expression.SymId.{SymId}
 use Rattle.kc_expr.specs.declared.parse.Connective.TheVariants.{And, Or}
 use Rattle.kc_expr.specs.Form.{Form, Leaf}
 use Rattle.kc_expr.specs.Grammar.{Terminal, Plain, Atom, leaf, names_in_atom, plain_form}
@@ -11,7 +9,7 @@ use Rattle.kc_expr.specs.Reading.{ParsedChain, FailsNot, FailsChain, StartsNoOp}
 use Rattle.kc_expr.proofs.ParseLemmas.{parsed_lone, parsed_negation, parsed_conjunction, parsed_only}
 use Rattle.kc_expr.proofs.ReadingLemmas.{fails_negation, fails_conjunction, fails_first}
 
-pub parsed_alone : (condition : Option SymId) (ts rest : List Terminal) (old names : List (List ℕ)) (a : Atom) (l : Leaf) (f : Form) (k : ℕ) → ts ≡ Plain a ∷ rest →
+pub parsed_alone : (condition : Bool) (ts rest : List Terminal) (old names : List (List ℕ)) (a : Atom) (l : Leaf) (f : Form) (k : ℕ) → ts ≡ Plain a ∷ rest →
     StartsNoOp rest → names ≡ all_mentioned old (names_in_atom a) → ((later : List (List ℕ)) → Extends names later → l ≡ leaf (number_of later) a) →
     f ≡ plain_form condition l → ParsedChain Or condition k ts rest old names f
 parsed_alone condition ts rest old names a l f k e s m is plain =

@@ -1,6 +1,5 @@
 -- The longest front that begins some expression, and so the outcome of parsing, is the only one.
-use Rattle.std.proofs.Common.{◌≡◌, ℕ, List, [], ◌∷◌, ◌++◌, Option, refl, sym, ap, ◌∙◌, subst, append_assoc, append-nil}
-use Rattle.kc_expr.specs.declared.expression.SymId.{SymId}
+use Rattle.std.proofs.Common.{◌≡◌, ℕ, List, [], ◌∷◌, ◌++◌, refl, sym, ap, ◌∙◌, subst, append_assoc, append-nil, Bool}
 use Rattle.kc_expr.specs.Form.{Form}
 use Rattle.kc_expr.specs.Names.{number_of, all_mentioned, Extends}
 use Rattle.kc_expr.specs.Grammar.{Terminal, Disjunction, spell_or, meaning_or, names_in, Begins, BeginsWithin, NoLonger, LongestFront, HasOneLongestFront}
@@ -69,10 +68,10 @@ not_too_deep ts front rest l w r =
     let x = in_longest ts front rest r.front r.rest l r.whole r.begins in
     r.deep (within_front 64 front r.front x.0 x.1 w)
 
-spelled_longest : (condition : Option SymId) (ts rest : List Terminal) (old names : List (List ℕ)) (f : Form) (p : IsParsed condition ts rest old names f) → LongestFront ts (spell_or p.tree) rest
+spelled_longest : (condition : Bool) (ts rest : List Terminal) (old names : List (List ℕ)) (f : Form) (p : IsParsed condition ts rest old names f) → LongestFront ts (spell_or p.tree) rest
 spelled_longest condition ts rest old names f p = subst (λ l. LongestFront ts l rest) (sym p.derives) p.longest
 
-same_tree : (condition : Option SymId) (ts rest rest' : List Terminal) (old names names' : List (List ℕ)) (f f' : Form)
+same_tree : (condition : Bool) (ts rest rest' : List Terminal) (old names names' : List (List ℕ)) (f f' : Form)
     (p : IsParsed condition ts rest old names f) (q : IsParsed condition ts rest' old names' f') → p.tree ≡ q.tree
 same_tree condition ts rest rest' old names names' f f' p q =
     unambiguous p.tree q.tree (p.derives ∙ (one_longest ts p.front rest q.front rest' p.longest q.longest).0 ∙ sym q.derives)

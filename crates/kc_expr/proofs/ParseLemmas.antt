@@ -1,5 +1,5 @@
 -- What the parser's functions need of tokens and names.
-use Rattle.std.proofs.Common.{◌≡◌, ◌≢◌, ℕ, suc, ◌+◌, ◌-◌, ◌≤◌, ◌<◌, false, List, [], ◌∷◌, ◌++◌, map, length, Result, IfErr, IsErrAnd, Option, refl, sym, ap, ◌∙◌, subst, append_assoc, append-nil, arith}
+use Rattle.std.proofs.Common.{◌≡◌, ◌≢◌, ℕ, suc, ◌+◌, ◌-◌, ◌≤◌, ◌<◌, false, List, [], ◌∷◌, ◌++◌, map, length, Result, IfErr, IsErrAnd, refl, sym, ap, ◌∙◌, subst, append_assoc, append-nil, arith, Bool}
 use Rattle.std.proofs.lemmas.Bool.{false≢true}
 use Rattle.std.proofs.lemmas.Result.{err_from_is_err_and}
 use Rattle.std.specs.declared.vec.Vec.{Vec}
@@ -56,7 +56,7 @@ no_right_side ts rest a r e p k =
     subst (λ l. Broken spell_not levels_not Any_start k l) (sym e) (no_right k a r rest (λ limit base stack. refuses_right limit base stack rest p))
 
 -- an operand that is alone
-pub parsed_lone : (condition : Option SymId) (ts rest : List Terminal) (old names : List (List ℕ)) (a : Atom) (l : Leaf) (f : Form) → ts ≡ Plain a ∷ rest →
+pub parsed_lone : (condition : Bool) (ts rest : List Terminal) (old names : List (List ℕ)) (a : Atom) (l : Leaf) (f : Form) → ts ≡ Plain a ∷ rest →
     starts_compares rest ≡ false → names ≡ all_mentioned old (names_in_atom a) →
     ((later : List (List ℕ)) → Extends names later → l ≡ leaf (number_of later) a) → f ≡ plain_form condition l → (k : ℕ) →
     ParsedNot condition k ts rest old names f
@@ -70,7 +70,7 @@ parsed_lone condition ts rest old names a l f e s m is plain k = record {
 }
 
 -- a relation
-pub parsed_compare : (condition : Option SymId) (ts rest : List Terminal) (old now names : List (List ℕ)) (a b : Atom) (r : Op) (l m : Leaf) → ts ≡ Plain a ∷
+pub parsed_compare : (condition : Bool) (ts rest : List Terminal) (old now names : List (List ℕ)) (a b : Atom) (r : Op) (l m : Leaf) → ts ≡ Plain a ∷
     (Compares r ∷ (Plain b ∷ rest)) → now ≡ all_mentioned old (names_in_atom a) → names ≡ all_mentioned now (names_in_atom b) →
     ((later : List (List ℕ)) → Extends now later → l ≡ leaf (number_of later) a) →
     ((later : List (List ℕ)) → Extends names later → m ≡ leaf (number_of later) b) → (k : ℕ) → ParsedNot condition k ts rest old names (Related r l m)
@@ -90,7 +90,7 @@ pub two_pushed : {X : Type 0} (us vs ws : List X) (x y : X) → us ≡ [] → vs
 two_pushed us vs ws x y e f g = g ∙ ap (λ l. l ++ y ∷ []) (f ∙ ap (λ l. l ++ x ∷ []) e)
 
 -- The parts that were read so far, where a connective stands at a place that joins another to them.
-pub record Parts (c : Connective) (condition : Option SymId) (k : ℕ) (tokens : List Token) (at place : ℕ) (old names : List (List ℕ)) (es : List Expr) : Type 0 where
+pub record Parts (c : Connective) (condition : Bool) (k : ℕ) (tokens : List Token) (at place : ℕ) (old names : List (List ℕ)) (es : List Expr) : Type 0 where
   pub tree : Chain c
   pub after : at ≤ place
   pub there : place < length tokens
@@ -125,7 +125,7 @@ fails_group_at f k ts rest n w h =
     let e : k ≡ suc (k - 1) = omega arith in
     subst (λ l. FailsNot f k l) (sym w) (subst (λ m. FailsNot f m (Open ∷ rest)) (sym e) (fails_group f (k - 1) rest h))
 
-pub parsed_bang : (condition : Option SymId) (k : ℕ) (ts inside rest : List Terminal) (old names : List (List ℕ)) (f g : Form) → k ≢ 0 → ts ≡ Bang ∷ inside →
+pub parsed_bang : (condition : Bool) (k : ℕ) (ts inside rest : List Terminal) (old names : List (List ℕ)) (f g : Form) → k ≢ 0 → ts ≡ Bang ∷ inside →
     f ≡ g → ParsedNot condition (k - 1) inside rest old names g → ParsedNot condition k ts rest old names (Negated f)
 parsed_bang condition k ts inside rest old names f g n w e p = record {
   tree = bang p.tree;
@@ -136,14 +136,14 @@ parsed_bang condition k ts inside rest old names f g n w e p = record {
   form = λ later x. ap Negated (e ∙ p.form later x);
 }
 
-pub unclosed_at : (condition : Option SymId) (k : ℕ) (ts inside rest : List Terminal) (old names : List (List ℕ)) (f : Form) → k ≢ 0 → ts ≡ Open ∷ inside →
+pub unclosed_at : (condition : Bool) (k : ℕ) (ts inside rest : List Terminal) (old names : List (List ℕ)) (f : Form) → k ≢ 0 → ts ≡ Open ∷ inside →
     ParsedChain Or condition (k - 1) inside rest old names f → starts_close rest ≡ false → BrokenNot k ts
 unclosed_at condition k ts inside rest old names f n w p s =
     let e : k ≡ suc (k - 1) = omega arith in
     let all = w ∙ ap (λ l. Open ∷ l) p.whole in
     subst (λ l. BrokenNot k l) (sym all) (subst (λ m. BrokenNot m (Open ∷ (spell p.tree ++ rest))) (sym e) (unclosed (k - 1) p.tree rest p.within p.stops s))
 
-pub parsed_group : (condition : Option SymId) (k : ℕ) (ts inside close rest : List Terminal) (old names : List (List ℕ)) (f : Form) → k ≢ 0 → ts ≡ Open ∷
+pub parsed_group : (condition : Bool) (k : ℕ) (ts inside close rest : List Terminal) (old names : List (List ℕ)) (f : Form) → k ≢ 0 → ts ≡ Open ∷
     inside → ParsedChain Or condition (k - 1) inside close old names f → close ≡ Close ∷ rest → ParsedNot condition k ts rest old names f
 parsed_group condition k ts inside close rest old names f n w p e = record {
   tree = group p.tree;
@@ -155,7 +155,7 @@ parsed_group condition k ts inside close rest old names f n w p e = record {
 }
 
 -- a negation or a conjunction as a part
-pub parsed_negation : (condition : Option SymId) (k : ℕ) (ts rest : List Terminal) (old names : List (List ℕ)) (f : Form) →
+pub parsed_negation : (condition : Bool) (k : ℕ) (ts rest : List Terminal) (old names : List (List ℕ)) (f : Form) →
     ParsedNot condition k ts rest old names f → ParsedPart And condition k ts rest old names f
 parsed_negation condition k ts rest old names f p = record {
   tree = negation p.tree;
@@ -166,7 +166,7 @@ parsed_negation condition k ts rest old names f p = record {
   form = p.form;
 }
 
-pub parsed_conjunction : (condition : Option SymId) (k : ℕ) (ts rest : List Terminal) (old names : List (List ℕ)) (f : Form) →
+pub parsed_conjunction : (condition : Bool) (k : ℕ) (ts rest : List Terminal) (old names : List (List ℕ)) (f : Form) →
     ParsedChain And condition k ts rest old names f → ParsedPart Or condition k ts rest old names f
 parsed_conjunction condition k ts rest old names f p = record {
   tree = conjunction p.tree;
@@ -178,7 +178,7 @@ parsed_conjunction condition k ts rest old names f p = record {
 }
 
 -- one part, that no connective joins to another
-pub parsed_only : (c : Connective) (condition : Option SymId) (k : ℕ) (ts rest : List Terminal) (old names : List (List ℕ)) (f : Form) →
+pub parsed_only : (c : Connective) (condition : Bool) (k : ℕ) (ts rest : List Terminal) (old names : List (List ℕ)) (f : Form) →
     ParsedPart c condition k ts rest old names f → starts_joins c rest ≡ false → ParsedChain c condition k ts rest old names f
 parsed_only c condition k ts rest old names f p s = record {
   tree = only p.tree;
@@ -193,7 +193,7 @@ map_form_push : (es : List Expr) (e : Expr) → map form_of (es ++ e ∷ []) ≡
 map_form_push [] e = refl
 map_form_push (x ∷ es) e = ap (λ l. form_of x ∷ l) (map_form_push es e)
 
-module _ (c : Connective) (condition : Option SymId) (k : ℕ) (tokens : List Token) (at place end : ℕ) (old names names' : List (List ℕ)) (es es' : List Expr) (e : Expr) where
+module _ (c : Connective) (condition : Bool) (k : ℕ) (tokens : List Token) (at place end : ℕ) (old names names' : List (List ℕ)) (es es' : List Expr) (e : Expr) where
   -- the first part, where the connective follows
   pub parts_one : es' ≡ e ∷ [] → ParsedPart c condition k (terminals_from tokens at) (terminals_from tokens end) old names (form_of e) → at ≤ end →
       end < length tokens → terminals_from tokens end ≡ Joins c ∷ terminals_from tokens (end + 1) → Parts c condition k tokens at end old names es'
@@ -256,7 +256,7 @@ module _ (c : Connective) (condition : Option SymId) (k : ℕ) (tokens : List To
   }
 
 -- the next part fails
-pub fails_after : (c : Connective) (condition : Option SymId) (k : ℕ) (tokens : List Token) (at place : ℕ) (old names : List (List ℕ)) (es : List Expr)
+pub fails_after : (c : Connective) (condition : Bool) (k : ℕ) (tokens : List Token) (at place : ℕ) (old names : List (List ℕ)) (es : List Expr)
     (f : ExprFault) → Parts c condition k tokens at place old names es → FailsPart c f k (terminals_from tokens (place + 1)) →
     FailsChain c f k (terminals_from tokens at)
 fails_after c condition k tokens at place old names es f s h = subst (λ l. FailsChain c f k l) (sym s.whole) (fails_next f k s.tree (terminals_from tokens (place + 1)) s.within h)

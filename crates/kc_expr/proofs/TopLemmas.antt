@@ -1,6 +1,5 @@
 -- What a whole expression's reading says of the longest front.
-use Rattle.std.proofs.Common.{◌≡◌, ℕ, ◌+◌, ◌≤◌, Bool, true, false, List, [], ◌∷◌, ◌++◌, Option, Some, None, option_and_then, Result, Ok, Err, IfErr, inr, refl, sym, ap, ◌∙◌, subst, append-nil, arith}
-use Rattle.kc_expr.specs.declared.expression.SymId.{SymId}
+use Rattle.std.proofs.Common.{◌≡◌, ℕ, ◌+◌, ◌≤◌, Bool, true, false, List, [], ◌∷◌, ◌++◌, Some, None, option_and_then, Result, Ok, Err, IfErr, inr, refl, sym, ap, ◌∙◌, subst, append-nil, arith}
 use Rattle.kc_expr.specs.declared.parse.ExprFault.{ExprFault}
 use Rattle.kc_expr.specs.declared.parse.ExprFault.TheVariants.{Syntax, TooDeep, Memory}
 use Rattle.kc_expr.specs.Form.{Form}
@@ -46,7 +45,7 @@ longest_of d rest w stops = record {
       (after (lone_in d) 0 [], runs d limit (omega arith), refuses_after limit (lone_in d) 0 [] rest stops.0 stops.1 stops.2 (inr refl)));
 }
 
-pub is_parsed : (condition : Option SymId) (ts rest : List Terminal) (old names : List (List ℕ)) (f : Form) → ParsedChain Or condition 64 ts rest old names f → IsParsed condition ts rest old names f
+pub is_parsed : (condition : Bool) (ts rest : List Terminal) (old names : List (List ℕ)) (f : Form) → ParsedChain Or condition 64 ts rest old names f → IsParsed condition ts rest old names f
 is_parsed condition ts rest old names f p = record {
   front = spell p.tree;
   longest = subst (λ l. LongestFront l (spell p.tree) rest) (sym p.whole) (longest_of p.tree rest p.within p.stops);

@@ -5,18 +5,17 @@
 --     not  = "!" not | "(" or ")" | rel
 --     rel  = operand [ ( "=" | "!=" | "<" | ">" | "<=" | ">=" ) operand ]
 --     operand = a word other than if | a quoted text
-use Rattle.std.specs.Prelude.{◌≡◌, ℕ, suc, max, ◌≤◌, Bool, false, List, [], ◌∷◌, ◌++◌, map, drop, is_some, Option, Some, None, if◌then◌else◌, codes}
+use Rattle.std.specs.Prelude.{◌≡◌, ℕ, suc, max, ◌≤◌, Bool, false, List, [], ◌∷◌, ◌++◌, map, drop, is_some, if◌then◌else◌, codes, ◌&&◌}
 use Rattle.std.specs.List.{flat_map}
 use Rattle.kc_text.specs.declared.tokens.Op.{Op}
 use Rattle.kc_text.specs.declared.tokens.Op.TheVariants as op
-use Rattle.kc_expr.specs.declared.expression.SymId.{SymId}
 use Rattle.kc_expr.specs.declared.expression.Tri.TheVariants.{M}
 use Rattle.kc_expr.specs.declared.parse.Connective.{Connective}
 use Rattle.kc_expr.specs.declared.parse.Connective.TheVariants.{And, Or}
 use Rattle.kc_text.specs.Escapes.{unescape}
 use Rattle.kc_text.specs.Lexemes.{Lexeme, AWord, AQuoted, AnOp, lexeme}
 use Rattle.kc_text.specs.declared.tokens.Token.{Token}
-use Rattle.kc_expr.specs.Form.{Form, Forms, forms, Leaf, Text, Symbol, Single, Related, Negated, Every, Some_of, NoForms, MoreForms, tri_text}
+use Rattle.kc_expr.specs.Form.{Form, Forms, forms, Leaf, Text, Symbol, Single, Related, Negated, Every, Some_of, tri_text, PlainM}
 use Rattle.kc_expr.specs.Value.{tristate_constant}
 use Rattle.kc_expr.specs.Names.{symbol, same_name}
 
@@ -133,10 +132,9 @@ abbrev pub is_m_leaf : Leaf → Bool
 is_m_leaf (Symbol s) = false
 is_m_leaf (Text t) = same_name t m_word
 
--- a plain m of a condition stands for m && the modules symbol
-abbrev pub plain_form : Option SymId → Leaf → Form
-plain_form None l = Single l
-plain_form (Some s) l = if is_m_leaf l then Every (MoreForms (Single l) (MoreForms (Single (Symbol s)) NoForms)) else Single l
+-- in a condition a plain m also asks for the modules symbol
+abbrev pub plain_form : Bool → Leaf → Form
+plain_form condition l = if condition && is_m_leaf l then PlainM else Single l
 
 -- an operand, where names have these numbers
 abbrev pub leaf : (List ℕ → ℕ) → Atom → Leaf
@@ -148,7 +146,7 @@ abbrev pub connected : Connective → Forms → Form
 connected And fs = Every fs
 connected Or fs = Some_of fs
 
-module _ (condition : Option SymId) (number : List ℕ → ℕ) where
+module _ (condition : Bool) (number : List ℕ → ℕ) where
   -- The expression: two parts or more are one Every or Some_of, a single part is itself, and parentheses add nothing.
   abbrev mutual
     pub meaning : {c : Connective} → Chain c → Form

@@ -1,15 +1,14 @@
 -- Trusted: What parsing answers.
-use Rattle.std.specs.Prelude.{◌≡◌, ◌≢◌, ℕ, ◌≤◌, List, ◌∷◌, ◌++◌, Option}
+use Rattle.std.specs.Prelude.{◌≡◌, ◌≢◌, ℕ, ◌≤◌, List, ◌∷◌, ◌++◌, Bool}
 use Rattle.kc_expr.specs.Limits.{most_levels}
 use Rattle.kc_expr.specs.declared.parse.ExprFault.{ExprFault}
 use Rattle.kc_expr.specs.declared.parse.ExprFault.TheVariants.{Syntax, TooDeep, Memory}
-use Rattle.kc_expr.specs.declared.expression.SymId.{SymId}
 use Rattle.kc_expr.specs.Form.{Form}
 use Rattle.kc_expr.specs.Names.{number_of, all_mentioned, Extends}
 use Rattle.kc_expr.specs.Grammar.{Atom, Terminal, Plain, Disjunction, spell_or, levels_or, meaning_or, names_in, Begins, BeginsWithin, LongestFront}
 
 -- what parsing answers: the one expression of the longest front that begins some expression
-pub record IsParsed (condition : Option SymId) (ts rest : List Terminal) (old names : List (List ℕ)) (f : Form) : Type 0 where
+pub record IsParsed (condition : Bool) (ts rest : List Terminal) (old names : List (List ℕ)) (f : Form) : Type 0 where
   pub front : List Terminal
   pub longest : LongestFront ts front rest
   pub tree : Disjunction
@@ -49,9 +48,9 @@ IsRefused Memory ts = HasOperand ts
 
 -- Parsing has one answer: one expression, one place and one list of names, or one of the refusals.
 pub record IsDetermined (ts : List Terminal) : Type 0 where
-  pub one_answer : (condition : Option SymId) (rest rest' : List Terminal) (old names names' : List (List ℕ)) (f f' : Form) →
+  pub one_answer : (condition : Bool) (rest rest' : List Terminal) (old names names' : List (List ℕ)) (f f' : Form) →
       IsParsed condition ts rest old names f → IsParsed condition ts rest' old names' f' → (rest ≡ rest') × (names ≡ names') × (f ≡ f')
-  pub not_refused : (condition : Option SymId) (rest : List Terminal) (old names : List (List ℕ)) (f : Form) → IsParsed condition ts rest old names f → (IsNoExpression ts → ⊥) × (IsTooDeep ts → ⊥)
+  pub not_refused : (condition : Bool) (rest : List Terminal) (old names : List (List ℕ)) (f : Form) → IsParsed condition ts rest old names f → (IsNoExpression ts → ⊥) × (IsTooDeep ts → ⊥)
   pub one_refusal : IsNoExpression ts → IsTooDeep ts → ⊥
 
 -- what the grammar answers to tokens: an expression and what follows it, or one of the refusals

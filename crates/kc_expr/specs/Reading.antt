@@ -4,7 +4,6 @@ use Rattle.kc_expr.specs.declared.parse.ExprFault.{ExprFault}
 use Rattle.kc_expr.specs.declared.parse.ExprFault.TheVariants.{Syntax, TooDeep, Memory}
 use Rattle.kc_text.specs.declared.tokens.Op.{Op}
 use Rattle.kc_text.specs.declared.tokens.Op.TheVariants as op
-use Rattle.kc_expr.specs.declared.expression.SymId.{SymId}
 use Rattle.kc_expr.specs.declared.expression.Operand.{Operand}
 use Rattle.kc_text.specs.declared.tokens.Token.{Token}
 use Rattle.kc_text.specs.declared.tokens.TokenKind.{TokenKind}
@@ -113,13 +112,13 @@ StopsPart c p rest = (lone_part p ≡ true → starts_compares rest ≡ false) �
 abbrev pub StopsChain : (c : Connective) → Chain c → List Terminal → Type 0
 StopsChain c ps rest = (lone_in ps ≡ true → starts_compares rest ≡ false) × NoneWithin c rest × (starts_joins c rest ≡ false)
 
-abbrev pub ParsedNot : Option SymId → ℕ → List Terminal → List Terminal → List (List ℕ) → List (List ℕ) → Form → Type 0
+abbrev pub ParsedNot : Bool → ℕ → List Terminal → List Terminal → List (List ℕ) → List (List ℕ) → Form → Type 0
 ParsedNot condition = Parsed spell_not levels_not (meaning_not condition) StopsNot
 
-abbrev pub ParsedPart : Connective → Option SymId → ℕ → List Terminal → List Terminal → List (List ℕ) → List (List ℕ) → Form → Type 0
+abbrev pub ParsedPart : Connective → Bool → ℕ → List Terminal → List Terminal → List (List ℕ) → List (List ℕ) → Form → Type 0
 ParsedPart c condition = Parsed {T = Part c} spell_part levels_part (λ number p. meaning_part condition number p) (StopsPart c)
 
-abbrev pub ParsedChain : Connective → Option SymId → ℕ → List Terminal → List Terminal → List (List ℕ) → List (List ℕ) → Form → Type 0
+abbrev pub ParsedChain : Connective → Bool → ℕ → List Terminal → List Terminal → List (List ℕ) → List (List ℕ) → Form → Type 0
 ParsedChain c condition = Parsed {T = Chain c} spell levels (λ number ps. meaning condition number ps) (StopsChain c)
 
 -- where a part may start: the first negation of a chain also after `!`

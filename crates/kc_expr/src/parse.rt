@@ -8,10 +8,10 @@ ghost use Rattle.kc_expr.specs.Form.{form_of, forms, leaf_of};
 ghost use Rattle.kc_expr.specs.Grammar as spec;
 ghost use Rattle.kc_expr.specs.Grammar.{terminals_from, is_m_leaf, plain_form, IsUnambiguous, Terminal, HasOneLongestFront};
 ghost use Rattle.kc_expr.specs.Parsing.{IsParsed, IsDetermined, IsRefused, OneAnswer};
-ghost use Rattle.kc_expr.specs.Reading.{ParsedNot, ParsedPart, ParsedChain, FailsNot, FailsPart, FailsChain, IsLone, IsNext, ReadsOperand, ReadsRelation, IsMemory, IsMemoryAt, IsOp, IsJoined, StartsNoOp, StartsNoOperand};
+ghost use Rattle.kc_expr.specs.Reading.{ParsedNot, ParsedPart, ParsedChain, FailsNot, FailsPart, FailsChain, IsLone, IsNext, ReadsOperand, ReadsRelation, IsMemoryAt, IsOp, IsJoined, StartsNoOp, StartsNoOperand};
 ghost use Rattle.kc_expr.specs.Names.{Extends};
 
-use crate::expression::{Expr, Operand, Operands, SymId, Tri};
+use crate::expression::{Expr, Operand, Operands, Tri};
 use crate::names::Names;
 use crate::values::tristate_constant;
 use kc_text::{Op, Token, TokenKind, unescape_into};
@@ -62,8 +62,7 @@ const MOST_LEVELS: usize = 64;
 /// ```
 ///
 /// Two parts or more are one `All` or `Any`, a single part is itself, and parentheses add nothing. In a condition,
-/// `condition` is the modules symbol: an operand `m`, quoted or not, that is no side of a relation then stands for `m`
-/// and that symbol.
+/// an operand `m`, quoted or not, that is no side of a relation is [`Expr::Module`].
 ///
 /// [`ExprFault::TooDeep`] where a 65th `(` or `!` is opened at once; else [`ExprFault::Syntax`] where that front is no
 /// expression itself; [`ExprFault::Memory`] when out of memory, which no tokens without an operand answer. On `Ok` the
@@ -73,7 +72,7 @@ pub fn parse(
     alloc: Global,
     tokens: &[Token],
     at: usize,
-    condition: Option<SymId>,
+    condition: bool,
     names: &mut Names,
 ) -> Result<(Expr, usize), ExprFault>
     requires { at ≤ length tokens.now }
@@ -140,7 +139,7 @@ fn lone(
     alloc: Global,
     tokens: &[Token],
     at: usize,
-    condition: Option<SymId>,
+    condition: bool,
     names: &mut Names,
 ) -> Result<(Expr, usize), ExprFault>
     requires { IsLone tokens.now at true }
@@ -152,7 +151,7 @@ fn lone(
     let Some(found) = operand(alloc, tokens, at, names)? else {
         return Err(ExprFault::Syntax);
     };
-    Ok((plain(alloc, found, condition)?, at + 1))
+    Ok((plain(found, condition), at + 1))
 }
 
 // What joins the parts of a chain.
@@ -170,7 +169,7 @@ fn chain(
     at: usize,
     levels: usize,
     connective: Connective,
-    condition: Option<SymId>,
+    condition: bool,
     names: &mut Names,
 ) -> Result<(Expr, usize), ExprFault>
     requires { at ≤ length tokens.now }
@@ -213,7 +212,7 @@ fn part(
     at: usize,
     levels: usize,
     connective: Connective,
-    condition: Option<SymId>,
+    condition: bool,
     names: &mut Names,
 ) -> Result<(Expr, usize), ExprFault>
     requires { at ≤ length tokens.now }
@@ -235,7 +234,7 @@ fn negation(
     tokens: &[Token],
     at: usize,
     levels: usize,
-    condition: Option<SymId>,
+    condition: bool,
     names: &mut Names,
 ) -> Result<(Expr, usize), ExprFault>
     requires { at ≤ length tokens.now }
@@ -278,7 +277,7 @@ fn relation(
     alloc: Global,
     tokens: &[Token],
     at: usize,
-    condition: Option<SymId>,
+    condition: bool,
     names: &mut Names,
 ) -> Result<(Expr, usize), ExprFault>
     requires no_op { StartsNoOperand (terminals_from tokens.now at) }
@@ -291,7 +290,7 @@ fn relation(
         return Err(ExprFault::Syntax);
     };
     let Some(op) = relation_op(tokens, at + 1) else {
-        return Ok((plain(alloc, left, condition)?, at + 1));
+        return Ok((plain(left, condition), at + 1));
     };
     let Some(right) = operand(alloc, tokens, at + 2, names)? else {
         return Err(ExprFault::Syntax);
@@ -300,21 +299,15 @@ fn relation(
     Ok((Expr::Rel(op, operands), at + 3))
 }
 
-// An operand that is alone: a plain m of a condition stands for m && the modules symbol.
-fn plain(alloc: Global, operand: Operand, condition: Option<SymId>) -> Result<Expr, ExprFault>
-    ensures plain { IfOk result (λ e. form_of e ≡ plain_form condition (leaf_of operand)) }
-    ensures memory { IfErr result IsMemory }
+// An operand that is alone: a plain m of a condition is also asked of the modules symbol.
+fn plain(operand: Operand, condition: bool) -> Expr
+    ensures { form_of result ≡ plain_form condition (leaf_of operand) }
 {
-    let Some(modules) = condition else {
-        return Ok(Expr::One(operand));
-    };
-    if !is_m(&operand) {
-        return Ok(Expr::One(operand));
+    if condition && is_m(&operand) {
+        Expr::Module
+    } else {
+        Expr::One(operand)
     }
-    let mut parts = Vec::with_capacity(alloc, 2)?;
-    parts.push(Expr::One(operand))?;
-    parts.push(Expr::One(Operand::Sym(modules)))?;
-    Ok(Expr::All(parts))
 }
 
 // The constant m.

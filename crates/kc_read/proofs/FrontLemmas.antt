@@ -1,9 +1,8 @@
 -- An expression at the front of a line's tokens.
-use Rattle.std.proofs.Common.{◌≡◌, ℕ, zero, suc, ◌+◌, ◌-◌, ◌≤◌, List, [], ◌∷◌, map, drop, Option, refl, sym, ap, ◌∙◌, subst, arith, inl, inr}
+use Rattle.std.proofs.Common.{◌≡◌, ℕ, zero, suc, ◌+◌, ◌-◌, ◌≤◌, List, [], ◌∷◌, map, drop, refl, sym, ap, ◌∙◌, subst, arith, inl, inr, Bool}
 use Rattle.std.proofs.lemmas.List.{drop-map}
 use Rattle.kc_text.specs.Lexemes.{lexeme}
 use Rattle.kc_text.specs.declared.tokens.Token.{Token}
-use Rattle.kc_expr.specs.declared.expression.SymId.{SymId}
 use Rattle.kc_expr.specs.declared.parse.ExprFault.{ExprFault}
 use Rattle.kc_expr.specs.declared.parse.ExprFault.TheVariants as expr
 use Rattle.kc_expr.specs.Form.{Form}
@@ -37,7 +36,7 @@ lexemes_later tokens at end h =
     ∙ ap (map (λ t. lexeme t.kind)) (sym (drop_twice at (end - at) tokens))
     ∙ sym (drop-map (λ t. lexeme t.kind) (end - at) (drop at tokens))
 
-pub is_front : (condition : Option SymId) (old names : List (List ℕ)) (tokens : List Token) (at end : ℕ) (e : Form) → at ≤ end →
+pub is_front : (condition : Bool) (old names : List (List ℕ)) (tokens : List Token) (at end : ℕ) (e : Form) → at ≤ end →
     IsParsed condition (terminals_from tokens at) (terminals_from tokens end) old names e →
     IsFront condition old names (lexemes_from tokens at) (lexemes_from tokens end) e
 is_front condition old names tokens at end e h p = record {

@@ -1,5 +1,5 @@
 -- Parts of a line, and refusals that are passed on.
-use Rattle.std.proofs.Common.{◌≡◌, ℕ, true, false, List, [], ◌∷◌, drop, Option, Some, None, Result, Ok, IfErr, IsErrAnd, Err, codes, refl, sym, ap, subst, inl, inr}
+use Rattle.std.proofs.Common.{◌≡◌, ℕ, true, false, List, [], ◌∷◌, drop, Option, Some, None, Result, Ok, IfErr, IsErrAnd, Err, codes, refl, sym, ap, subst, inl, inr, Bool}
 use Rattle.std.specs.Prelude.{is_some}
 use Rattle.std.proofs.lemmas.Result.{err_from_is_err_and}
 use Rattle.kc_text.specs.Escapes.{unescape}
@@ -54,9 +54,9 @@ operand_quoted ls rest t b names e s = record {
 pub condition_fault : (ls ts : List Lexeme) (f : LineFault) → begins_with if_word ls ≡ true → drop 1 ls ≡ ts → IsFault f (WholeFault ts) → IsFault f (ConditionFault ls)
 condition_fault ls ts f b e h n = inl (b, subst (λ us. WholeFault us (cause_of f)) (sym e) (h n))
 
-pub condition_if : (modules : Option SymId) (old names : List (List ℕ)) (ls ts : List Lexeme) (e : Form) → begins_with if_word ls ≡ true → drop 1 ls ≡ ts →
-    IsWholeForm modules old names ts e → IsConditionForm modules old names ls (Some e)
-condition_if modules old names ls ts e b d w = record {
+pub condition_if : (old names : List (List ℕ)) (ls ts : List Lexeme) (e : Form) → begins_with if_word ls ≡ true → drop 1 ls ≡ ts →
+    IsWholeForm old names ts e → IsConditionForm old names ls (Some e)
+condition_if old names ls ts e b d w = record {
   tree = Some w.tree;
   mentions = w.mentions;
   condition_is = (b, subst (λ us. IsWhole us w.tree) (sym d) w.whole);
@@ -64,19 +64,19 @@ condition_if modules old names ls ts e b d w = record {
 }
 
 -- a refusal of a part is one of the line
-pub read_passed : (modules : Option SymId) (old names : List (List ℕ)) (Reads : Result Named Cause → Type 0) (r : Result Statement LineFault) (e : LineFault) →
-    IsErrAnd r (λ y. y ≡ e) → IsFault e (λ c. Reads (Err c)) → IsRead modules old names Reads r
-read_passed modules old names Reads r e a h = let p = err_from_is_err_and r a in rw (p.1, p.2) h
+pub read_passed : (old names : List (List ℕ)) (Reads : Result Named Cause → Type 0) (r : Result Statement LineFault) (e : LineFault) →
+    IsErrAnd r (λ y. y ≡ e) → IsFault e (λ c. Reads (Err c)) → IsRead old names Reads r
+read_passed old names Reads r e a h = let p = err_from_is_err_and r a in rw (p.1, p.2) h
 
 -- memory ran out
-pub memory_passed : (modules : Option SymId) (old names : List (List ℕ)) (Reads : Result Named Cause → Type 0) (r : Result Statement LineFault) →
-    IsErrAnd r (λ y. y.code ≡ code.Memory) → IsRead modules old names Reads r
-memory_passed modules old names Reads r a = let p = err_from_is_err_and r a in rw p.1 (λ n. absurd (n p.2))
+pub memory_passed : (old names : List (List ℕ)) (Reads : Result Named Cause → Type 0) (r : Result Statement LineFault) →
+    IsErrAnd r (λ y. y.code ≡ code.Memory) → IsRead old names Reads r
+memory_passed old names Reads r a = let p = err_from_is_err_and r a in rw p.1 (λ n. absurd (n p.2))
 
 -- a value is refused
-pub value_refused : (modules : Option SymId) (old names : List (List ℕ)) (make : Disjunction → Option Disjunction → Named) (ts : List Lexeme)
-    (r : Result Statement LineFault) (e : LineFault) → IsErrAnd r (λ y. y ≡ e) → IsFault e (ExpressionFault ts) → IsRead modules old names (ReadsValue make ts) r
-value_refused modules old names make ts r e a h = read_passed modules old names (ReadsValue make ts) r e a (λ n. inl (h n))
+pub value_refused : (old names : List (List ℕ)) (make : Disjunction → Option Disjunction → Named) (ts : List Lexeme)
+    (r : Result Statement LineFault) (e : LineFault) → IsErrAnd r (λ y. y ≡ e) → IsFault e (ExpressionFault ts) → IsRead old names (ReadsValue make ts) r
+value_refused old names make ts r e a h = read_passed old names (ReadsValue make ts) r e a (λ n. inl (h n))
 
 pub text_line_ok : (make : List ℕ → Named) (ls : List Lexeme) (t : List ℕ) → text_of ls ≡ Ok t → drop 1 ls ≡ [] → ReadsTextLine make ls (Ok (make t))
 text_line_ok make ls t e d = rw (e, d) refl
@@ -121,10 +121,10 @@ option_modules ls b e = rw (b, e) refl
 pub option_ignored : (ls : List Lexeme) → begins_with (codes "modules") ls ≡ false → begins_with (codes "allnoconfig_y") ls ≡ true → drop 1 ls ≡ [] → Ok IgnoredLine ≡ option_line ls
 option_ignored ls a b e = rw (a, b, e) refl
 
-pub typed_read : (modules : Option SymId) (old names : List (List ℕ)) (k : Kind) (ls : List Lexeme) (r : Result Statement LineFault) → IsMore ls →
-    IsRead modules old names (ReadsPrompt (λ p. TypeLine k (Some p)) ls) r → IsRead modules old names (ReadsType k ls) r
-typed_read modules old names k ls (Ok s) m h = (h.0, inr (m, h.1), h.2)
-typed_read modules old names k ls (Err f) m h = λ n. inr (m, h n)
+pub typed_read : (old names : List (List ℕ)) (k : Kind) (ls : List Lexeme) (r : Result Statement LineFault) → IsMore ls →
+    IsRead old names (ReadsPrompt (λ p. TypeLine k (Some p)) ls) r → IsRead old names (ReadsType k ls) r
+typed_read old names k ls (Ok s) m h = (h.0, inr (m, h.1), h.2)
+typed_read old names k ls (Err f) m h = λ n. inr (m, h n)
 
 pub range_ok : (ls ms ts : List Lexeme) (a b : Atom) (w : Option Disjunction) → operand_of ls ≡ Ok a → drop 1 ls ≡ ms → operand_of ms ≡ Ok b → drop 2 ls ≡ ts →
     IsCondition ts w → ReadsRange ls (Ok (RangeLine a b w))
@@ -134,22 +134,22 @@ pub range_fault : (ls ms ts : List Lexeme) (a b : Atom) (f : LineFault) → oper
     IsFault f (ConditionFault ts) → IsFault f (λ c. ReadsRange ls (Err c))
 range_fault ls ms ts a b f e d g h i n = rw (e, d, g, h) (i n)
 
-pub line_rest : (modules : Option SymId) (old names : List (List ℕ)) (c : LineContext) (ls us : List Lexeme) (w : List ℕ) (k : Keyword)
+pub line_rest : (old names : List (List ℕ)) (c : LineContext) (ls us : List Lexeme) (w : List ℕ) (k : Keyword)
     (r : Result Statement LineFault) → word_of ls ≡ Ok w → keyword_of w ≡ Some k → drop 1 ls ≡ us → placement_cause c w us k ≡ None →
-    IsRead modules old names (ReadsRest w k us) r → IsRead modules old names (ReadsLine c ls) r
-line_rest modules old names c ls us w k (Ok s) e f d p h = (h.0, rw (e, f, d, p) h.1, h.2)
-line_rest modules old names c ls us w k (Err y) e f d p h = λ n. rw (e, f, d, p) (h n)
+    IsRead old names (ReadsRest w k us) r → IsRead old names (ReadsLine c ls) r
+line_rest old names c ls us w k (Ok s) e f d p h = (h.0, rw (e, f, d, p) h.1, h.2)
+line_rest old names c ls us w k (Err y) e f d p h = λ n. rw (e, f, d, p) (h n)
 
 pub line_place : (c : LineContext) (ls us : List Lexeme) (w : List ℕ) (k : Keyword) (f : LineFault) → word_of ls ≡ Ok w → keyword_of w ≡ Some k → drop 1 ls ≡ us →
     placement_cause c w us k ≡ Some (cause_of f) → IsFault f (λ y. ReadsLine c ls (Err y))
 line_place c ls us w k f e g d p n = rw (e, g, d, p) refl
 
 -- something is left after an expression
-pub whole_more : (condition : Option SymId) (old names : List (List ℕ)) (ts rest : List Lexeme) (e : Form) (f : LineFault) → IsFront condition old names ts rest e →
+pub whole_more : (condition : Bool) (old names : List (List ℕ)) (ts rest : List Lexeme) (e : Form) (f : LineFault) → IsFront condition old names ts rest e →
     IsMore rest → cause_of f ≡ syntax_cause → IsFault f (WholeFault ts)
 whole_more condition old names ts rest e f i more c n = inr (front i.tree rest, i.starts, more, c)
 
 -- the condition after a value is refused
-pub value_fault : (make : Disjunction → Option Disjunction → Named) (condition : Option SymId) (old names : List (List ℕ)) (ts rest : List Lexeme) (e : Form)
+pub value_fault : (make : Disjunction → Option Disjunction → Named) (condition : Bool) (old names : List (List ℕ)) (ts rest : List Lexeme) (e : Form)
     (f : LineFault) → IsFront condition old names ts rest e → IsFault f (ConditionFault rest) → IsFault f (λ c. ReadsValue make ts (Err c))
 value_fault make condition old names ts rest e f i h n = inr (front i.tree rest, i.starts, h n)

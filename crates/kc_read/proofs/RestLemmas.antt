@@ -2,7 +2,6 @@
 use Rattle.std.specs.Bool.{⊤}
 use Rattle.std.proofs.Common.{IfErr, IsErrAnd, take, ◌≡◌, ◌≢◌, ℕ, ◌-◌, ◌<◌, Bool, true, false, cond, List, [], ◌∷◌, ◌++◌, length, Option, Some, None, Result, Ok, Err, refl, sym, ap, ◌∙◌, subst, map, arith, append-nil}
 use Rattle.std.proofs.lemmas.Result.{err_from_is_err_and}
-use Rattle.kc_expr.specs.declared.expression.SymId.{SymId}
 use Rattle.kc_text.specs.Lines.{UnreadLines, unread_lines}
 use Rattle.kc_text.specs.Tokens.{TokenView}
 use Rattle.kc_text.specs.declared.faults.TextFault.{TextFault}
@@ -69,26 +68,26 @@ step_refused files a l own log c file r e f h ne =
     refusal_at files a l own log r w.0 file l.number w.2 f refl (fault_of_rest files a l own log c w.0 e w.1)
 
 -- the end of a file
-pub ended : (files : Files) (first : List (List ℕ)) (modules : Option SymId) (names : List (List ℕ)) (a : FileContext) (l : UnreadLines)
-    (own : List (Located Named)) (log : Log) (p : Progress) (f : Frame) → IsState first modules names a own log p f → l.lines ≡ [] → f.blocks.items ≡ [] →
-    IsEnded files first modules names a l own log p
-ended files first modules names a l own log p f i e none = record {
+pub ended : (files : Files) (first : List (List ℕ)) (names : List (List ℕ)) (a : FileContext) (l : UnreadLines)
+    (own : List (Located Named)) (log : Log) (p : Progress) (f : Frame) → IsState first names a own log p f → l.lines ≡ [] → f.blocks.items ≡ [] →
+    IsEnded files first names a l own log p
+ended files first names a l own log p f i e none = record {
   rest = at_end a l own log e (sym (blocks.blocks_of_located own) ∙ ap (map (λ o. o.block)) (sym i.frame.blocks ∙ none));
   progress = i.progress;
 }
 
-pub end_refused : (files : Files) (first : List (List ℕ)) (modules : Option SymId) (names : List (List ℕ)) (a : FileContext) (l : UnreadLines)
-    (own : List (Located Named)) (log : Log) (p : Progress) (f : Frame) (r : Refusal) → IsState first modules names a own log p f → l.lines ≡ [] →
+pub end_refused : (files : Files) (first : List (List ℕ)) (names : List (List ℕ)) (a : FileContext) (l : UnreadLines)
+    (own : List (Located Named)) (log : Log) (p : Progress) (f : Frame) (r : Refusal) → IsState first names a own log p f → l.lines ≡ [] →
     IsOpenAtEnd f (refusal_view r) → Rest files a l own log (Err (refusal_view r))
-end_refused files first modules names a l own log p f r i e o =
+end_refused files first names a l own log p f r i e o =
     subst (λ x. Rest files a l own log (Err x)) (sym (o.2 ∙ ap (λ n. refused (cause code.Block) n o.0.line) i.frame.file))
     (unclosed a l own log o.0.line e (blocks.unclosed own o.0 (ap last_of (sym i.frame.blocks) ∙ o.1)))
 
 -- a line without tokens
-pub blank_goes : (files : Files) (first : List (List ℕ)) (modules : Option SymId) (names : List (List ℕ)) (a : FileContext) (l m : UnreadLines)
-    (own : List (Located Named)) (log : Log) (p : Progress) (f : Frame) → IsState first modules names a own log p f → NextLine l m [] None →
-    HasAdvanced files first modules names a l m own log p f
-blank_goes files first modules names a l m own log p f i n = record {
+pub blank_goes : (files : Files) (first : List (List ℕ)) (names : List (List ℕ)) (a : FileContext) (l m : UnreadLines)
+    (own : List (Located Named)) (log : Log) (p : Progress) (f : Frame) → IsState first names a own log p f → NextLine l m [] None →
+    HasAdvanced files first names a l m own log p f
+blank_goes files first names a l m own log p f i n = record {
   own_now = own;
   log_now = log;
   state = i;
@@ -96,49 +95,49 @@ blank_goes files first modules names a l m own log p f i n = record {
 }
 
 -- a statement that is no `source` line
-pub statement_goes : (files : Files) (first : List (List ℕ)) (modules : Option SymId) (known names : List (List ℕ)) (a : FileContext) (l m : UnreadLines)
-    (own : List (Located Named)) (log : Log) (f g : Frame) (p q : Progress) (s : Statement) (x : Named) (line : ℕ) → IsState first modules known a own log p f →
-    IsMade modules known names s x → NextStatement l m (context_of a own log) (Ok x) → line ≡ l.number → is_source x ≡ false →
-    IsTaken (statement_view s) line f g p q → limit_view (statement_view s) f p ≡ None → HasAdvanced files first modules names a l m own log q g
-statement_goes files first modules known names a l m own log f g p q s x line i made next e src t allowed = record {
+pub statement_goes : (files : Files) (first : List (List ℕ)) (known names : List (List ℕ)) (a : FileContext) (l m : UnreadLines)
+    (own : List (Located Named)) (log : Log) (f g : Frame) (p q : Progress) (s : Statement) (x : Named) (line : ℕ) → IsState first known a own log p f →
+    IsMade known names s x → NextStatement l m (context_of a own log) (Ok x) → line ≡ l.number → is_source x ≡ false →
+    IsTaken (statement_view s) line f g p q → limit_view (statement_view s) f p ≡ None → HasAdvanced files first names a l m own log q g
+statement_goes files first known names a l m own log f g p q s x line i made next e src t allowed = record {
   own_now = with_line own a line x;
   log_now = logged log a line x;
-  state = state_taken first modules known names a own log f g p q s x line i made t
+  state = state_taken first known names a own log f g p q s x line i made t
       (enables (context_of a own log) x (read_suits (context_of a own log) (lexemes next.tokens) x next.reads));
   follows = λ r rest.
-      statement a l m own log x r next src (sym (effect_same first modules known names a own log f p s x i made) ∙ allowed)
+      statement a l m own log x r next src (sym (effect_same first known names a own log f p s x i made) ∙ allowed)
       (subst (λ n. Rest files a m (with_line own a n x) (logged log a n x) r) e rest);
 }
 
-pub effect_refused : (files : Files) (first : List (List ℕ)) (modules : Option SymId) (known names : List (List ℕ)) (a : FileContext) (l m : UnreadLines)
+pub effect_refused : (files : Files) (first : List (List ℕ)) (known names : List (List ℕ)) (a : FileContext) (l m : UnreadLines)
     (own : List (Located Named)) (log : Log) (f : Frame) (p : Progress) (s : Statement) (x : Named) (line : ℕ) (file : List ℕ) (why : Cause) (r : Refusal) →
-    IsState first modules known a own log p f → IsMade modules known names s x → NextStatement l m (context_of a own log) (Ok x) → line ≡ l.number →
+    IsState first known a own log p f → IsMade known names s x → NextStatement l m (context_of a own log) (Ok x) → line ≡ l.number →
     file ≡ f.file.value.items → limit_view (statement_view s) f p ≡ Some why → refusal_view r ≡ refused why file line →
     Rest files a l own log (Err (refusal_view r))
-effect_refused files first modules known names a l m own log f p s x line file why r i made next e g effect v =
+effect_refused files first known names a l m own log f p s x line file why r i made next e g effect v =
     refusal_at files a l own log r why file line v (g ∙ i.frame.file) e
-    (over_limit a l m own log x why next (sym (effect_same first modules known names a own log f p s x i made) ∙ effect))
+    (over_limit a l m own log x why next (sym (effect_same first known names a own log f p s x i made) ∙ effect))
 
 -- a `source` line
-pub source_refused : (files : Files) (first : List (List ℕ)) (modules : Option SymId) (names : List (List ℕ)) (a : FileContext) (l m : UnreadLines)
+pub source_refused : (files : Files) (first : List (List ℕ)) (names : List (List ℕ)) (a : FileContext) (l m : UnreadLines)
     (own : List (Located Named)) (log : Log) (f : Frame) (p : Progress) (name : List ℕ) (line : ℕ) (file : List ℕ) (why : Cause) (r : Refusal) →
-    IsState first modules names a own log p f → NextStatement l m (context_of a own log) (Ok (SourceLine name)) → line ≡ l.number → file ≡ f.file.value.items →
+    IsState first names a own log p f → NextStatement l m (context_of a own log) (Ok (SourceLine name)) → line ≡ l.number → file ≡ f.file.value.items →
     sourcing_cause files (open_names p) p.total_lines name ≡ Some why → refusal_view r ≡ refused why file line → Rest files a l own log (Err (refusal_view r))
-source_refused files first modules names a l m own log f p name line file why r i next e g bad v =
+source_refused files first names a l m own log f p name line file why r i next e g bad v =
     refusal_at files a l own log r why file line v (g ∙ i.frame.file) e
     (bad_source a l m own log name why next ((λ j. sourcing_cause files (sym i.files j) (sym i.progress.total_lines j) name) ∙ bad))
 
-source_allowed : (files : Files) (first : List (List ℕ)) (modules : Option SymId) (names : List (List ℕ)) (a : FileContext) (own : List (Located Named))
-    (log : Log) (f : Frame) (p : Progress) (name : List ℕ) → IsState first modules names a own log p f →
+source_allowed : (files : Files) (first : List (List ℕ)) (names : List (List ℕ)) (a : FileContext) (own : List (Located Named))
+    (log : Log) (f : Frame) (p : Progress) (name : List ℕ) → IsState first names a own log p f →
     sourcing_cause files (open_names p) p.total_lines name ≡ None → source_cause files a log.total_lines name ≡ None
-source_allowed files first modules names a own log f p name i allowed = (λ j. sourcing_cause files (sym i.files j) (sym i.progress.total_lines j) name) ∙ allowed
+source_allowed files first names a own log f p name i allowed = (λ j. sourcing_cause files (sym i.files j) (sym i.progress.total_lines j) name) ∙ allowed
 
-pub inside_refused : (files : Files) (first : List (List ℕ)) (modules : Option SymId) (names : List (List ℕ)) (a : FileContext) (l m : UnreadLines)
-    (own : List (Located Named)) (log : Log) (f : Frame) (p : Progress) (name bytes : List ℕ) (r : Refusal) → IsState first modules names a own log p f →
+pub inside_refused : (files : Files) (first : List (List ℕ)) (names : List (List ℕ)) (a : FileContext) (l m : UnreadLines)
+    (own : List (Located Named)) (log : Log) (f : Frame) (p : Progress) (name bytes : List ℕ) (r : Refusal) → IsState first names a own log p f →
     NextStatement l m (context_of a own log) (Ok (SourceLine name)) → sourcing_cause files (open_names p) p.total_lines name ≡ None → files name ≡ Some bytes →
     IsRestRefusal files (inside a own name) (unread_lines bytes 1) [] (with_file log name bytes) r → IsRestRefusal files a l own log r
-inside_refused files first modules names a l m own log f p name bytes r i next allowed found inner ne =
-    refused_inside a l m own log name bytes (refusal_view r) next (source_allowed files first modules names a own log f p name i allowed) found (inner ne)
+inside_refused files first names a l m own log f p name bytes r i next allowed found inner ne =
+    refused_inside a l m own log name bytes (refusal_view r) next (source_allowed files first names a own log f p name i allowed) found (inner ne)
 
 -- no entry goes on behind a `source` line
 no_entry : (a : FileContext) (own : List (Located Named)) (n : ℕ) (name : List ℕ) →
@@ -150,17 +149,17 @@ no_entry a own n name e =
     let f : is_config entry.Nothing ≡ true = subst (λ k. is_config k ≡ true) none e in
     cc
 
-pub source_goes : (files : Files) (first : List (List ℕ)) (modules : Option SymId) (known names : List (List ℕ)) (a : FileContext) (l m : UnreadLines)
-    (own : List (Located Named)) (log : Log) (f g : Frame) (p q done : Progress) (name bytes : List ℕ) (line : ℕ) → IsState first modules known a own log p f →
+pub source_goes : (files : Files) (first : List (List ℕ)) (known names : List (List ℕ)) (a : FileContext) (l m : UnreadLines)
+    (own : List (Located Named)) (log : Log) (f g : Frame) (p q done : Progress) (name bytes : List ℕ) (line : ℕ) → IsState first known a own log p f →
     NextStatement l m (context_of a own log) (Ok (SourceLine name)) → line ≡ l.number → sourcing_cause files (open_names p) p.total_lines name ≡ None →
-    files name ≡ Some bytes → IsFileRead files first modules names (inside a own name) (unread_lines bytes 1) (with_file log name bytes) q →
+    files name ≡ Some bytes → IsFileRead files first names (inside a own name) (unread_lines bytes 1) (with_file log name bytes) q →
     g ≡ record f { entry = entry.Nothing } → open_names done ≡ open_names p → done ≡ record q { open_files = done.open_files } →
-    HasAdvanced files first modules names a l m own log done g
-source_goes files first modules known names a l m own log f g p q done name bytes line i next e allowed found inner frame_is files_are done_is = record {
+    HasAdvanced files first names a l m own log done g
+source_goes files first known names a l m own log f g p q done name bytes line i next e allowed found inner frame_is files_are done_is = record {
   own_now = with_line own a line (SourceLine name);
   log_now = inner.log_now;
   state = record {
-    progress = subst (IsProgress first modules names inner.log_now) (sym done_is) (record {
+    progress = subst (IsProgress first names inner.log_now) (sym done_is) (record {
       lines = inner.progress.lines;
       mentions = inner.progress.mentions;
       total_lines = inner.progress.total_lines;
@@ -176,50 +175,50 @@ source_goes files first modules known names a l m own log f g p q done name byte
     entered = λ e. absurd (no_entry a own line name e);
   };
   follows = λ r rest.
-      source a l m own log inner.log_now name bytes r next (source_allowed files first modules known a own log f p name i allowed) found inner.rest
+      source a l m own log inner.log_now name bytes r next (source_allowed files first known a own log f p name i allowed) found inner.rest
       (subst (λ n. Rest files a m (with_line own a n (SourceLine name)) inner.log_now r) e rest);
 }
 
 -- one line after another
-pub goes_on : (files : Files) (first : List (List ℕ)) (modules : Option SymId) (mid names : List (List ℕ)) (a : FileContext) (k l m : UnreadLines) (log : Log)
-    (p q : Progress) (f g : Frame) (h : HasAdvanced files first modules mid a k l [] log p f) →
-    HasAdvanced files first modules names a l m h.own_now h.log_now q g → HasAdvanced files first modules names a k m [] log q g
-goes_on files first modules mid names a k l m log p q f g h n = record {
+pub goes_on : (files : Files) (first : List (List ℕ)) (mid names : List (List ℕ)) (a : FileContext) (k l m : UnreadLines) (log : Log)
+    (p q : Progress) (f g : Frame) (h : HasAdvanced files first mid a k l [] log p f) →
+    HasAdvanced files first names a l m h.own_now h.log_now q g → HasAdvanced files first names a k m [] log q g
+goes_on files first mid names a k l m log p q f g h n = record {
   own_now = n.own_now;
   log_now = n.log_now;
   state = n.state;
   follows = λ r rest. h.follows r (n.follows r rest);
 }
 
-pub file_read : (files : Files) (first : List (List ℕ)) (modules : Option SymId) (mid names : List (List ℕ)) (a : FileContext) (k l : UnreadLines) (log : Log)
-    (p q : Progress) (f : Frame) (h : HasAdvanced files first modules mid a k l [] log p f) → IsEnded files first modules names a l h.own_now h.log_now q →
-    IsFileRead files first modules names a k log q
-file_read files first modules mid names a k l log p q f h n = record {
+pub file_read : (files : Files) (first : List (List ℕ)) (mid names : List (List ℕ)) (a : FileContext) (k l : UnreadLines) (log : Log)
+    (p q : Progress) (f : Frame) (h : HasAdvanced files first mid a k l [] log p f) → IsEnded files first names a l h.own_now h.log_now q →
+    IsFileRead files first names a k log q
+file_read files first mid names a k l log p q f h n = record {
   log_now = h.log_now;
   rest = h.follows (Ok h.log_now) n.rest;
   progress = n.progress;
 }
 
-pub file_refused : (files : Files) (first : List (List ℕ)) (modules : Option SymId) (mid : List (List ℕ)) (a : FileContext) (k l : UnreadLines) (log : Log)
-    (p : Progress) (f : Frame) (r : Refusal) (h : HasAdvanced files first modules mid a k l [] log p f) → IsRestRefusal files a l h.own_now h.log_now r →
+pub file_refused : (files : Files) (first : List (List ℕ)) (mid : List (List ℕ)) (a : FileContext) (k l : UnreadLines) (log : Log)
+    (p : Progress) (f : Frame) (r : Refusal) (h : HasAdvanced files first mid a k l [] log p f) → IsRestRefusal files a l h.own_now h.log_now r →
     IsRestRefusal files a k [] log r
-file_refused files first modules mid a k l log p f r h n ne = h.follows (Err (refusal_view r)) (n ne)
+file_refused files first mid a k l log p f r h n ne = h.follows (Err (refusal_view r)) (n ne)
 
 -- a refusal that is passed on
-pub reading_passed : (files : Files) (first : List (List ℕ)) (modules : Option SymId) (names : List (List ℕ)) (a : FileContext) (l : UnreadLines) (log : Log)
+pub reading_passed : (files : Files) (first : List (List ℕ)) (names : List (List ℕ)) (a : FileContext) (l : UnreadLines) (log : Log)
     (p : Progress) (r : Result ⊤ Refusal) (e : Refusal) → IsErrAnd r (λ y. y ≡ e) → IsRestRefusal files a l [] log e →
-    IsReading files first modules names a l log p r
-reading_passed files first modules names a l log p r e is h = let q = err_from_is_err_and r is in rw (q.1, q.2) h
+    IsReading files first names a l log p r
+reading_passed files first names a l log p r e is h = let q = err_from_is_err_and r is in rw (q.1, q.2) h
 
-pub next_passed : (files : Files) (first : List (List ℕ)) (modules : Option SymId) (names : List (List ℕ)) (a : FileContext) (l m : UnreadLines)
+pub next_passed : (files : Files) (first : List (List ℕ)) (names : List (List ℕ)) (a : FileContext) (l m : UnreadLines)
     (own : List (Located Named)) (log : Log) (p : Progress) (f : Frame) (r : Result Bool Refusal) (e : Refusal) → IsErrAnd r (λ y. y ≡ e) →
-    IsRestRefusal files a l own log e → IsNextRead files first modules names a l m own log p f r
-next_passed files first modules names a l m own log p f r e is h = let q = err_from_is_err_and r is in rw (q.1, q.2) h
+    IsRestRefusal files a l own log e → IsNextRead files first names a l m own log p f r
+next_passed files first names a l m own log p f r e is h = let q = err_from_is_err_and r is in rw (q.1, q.2) h
 
-pub statement_passed : (files : Files) (first : List (List ℕ)) (modules : Option SymId) (names : List (List ℕ)) (a : FileContext) (l m : UnreadLines)
+pub statement_passed : (files : Files) (first : List (List ℕ)) (names : List (List ℕ)) (a : FileContext) (l m : UnreadLines)
     (own : List (Located Named)) (log : Log) (p : Progress) (f : Frame) (r : Result ⊤ Refusal) (e : Refusal) → IsErrAnd r (λ y. y ≡ e) →
-    IsRestRefusal files a l own log e → IsStatementRead files first modules names a l m own log p f r
-statement_passed files first modules names a l m own log p f r e is h = let q = err_from_is_err_and r is in rw (q.1, q.2) h
+    IsRestRefusal files a l own log e → IsStatementRead files first names a l m own log p f r
+statement_passed files first names a l m own log p f r e is h = let q = err_from_is_err_and r is in rw (q.1, q.2) h
 
 -- a cause that is not being out of memory
 pub no_memory : (r : Refusal) (f : LineFault) (file : List ℕ) (line : ℕ) → r.code ≢ code.Memory → (r.code ≢ code.Memory → refusal_view r ≡ refused (cause_of f) file line) → f.code ≢ code.Memory

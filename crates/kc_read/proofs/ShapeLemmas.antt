@@ -3,7 +3,6 @@ use Rattle.std.specs.declared.vec.Vec.{Vec}
 use Rattle.std.specs.declared.alloc.Global.{Global}
 use Rattle.std.proofs.Common.{◌≡◌, ℕ, ◌+◌, Bool, false, List, length, Option, Some, None, option_map, refl, sym, ap, ◌∙◌}
 use Rattle.std.specs.Option.{option_or}
-use Rattle.kc_expr.specs.declared.expression.SymId.{SymId}
 use Rattle.kc_expr.specs.Names.{symbol, number_of}
 use Rattle.kc_read.specs.declared.statement.EntryKind.{EntryKind}
 use Rattle.kc_read.specs.declared.statement.Statement.{Statement}
@@ -22,59 +21,59 @@ use Rattle.kc_read.proofs.NameLemmas.{extends_none, is_named}
 abbrev pub shape : {E L S : Type 0} → s.Statement E L S → Bracket × Bool × EntryKind × Bool × Bool
 shape x = (bracket x, is_attribute x, entry_of (Some x), is_modules x, is_source x)
 
-shape_numbered : (modules : Option SymId) (number : List ℕ → ℕ) (x : Named) → shape (numbered modules number x) ≡ shape x
-shape_numbered modules number (ConfigLine n) = refl
-shape_numbered modules number (IfLine e) = refl
-shape_numbered modules number EndIfLine = refl
-shape_numbered modules number (CommentLine t) = refl
-shape_numbered modules number (SourceLine t) = refl
-shape_numbered modules number (MenuLine t) = refl
-shape_numbered modules number EndMenuLine = refl
-shape_numbered modules number ChoiceLine = refl
-shape_numbered modules number EndChoiceLine = refl
-shape_numbered modules number (MainMenuLine t) = refl
-shape_numbered modules number (TypeLine k p) = refl
-shape_numbered modules number (PromptLine p) = refl
-shape_numbered modules number (DefaultLine v w) = refl
-shape_numbered modules number (DefLine k v w) = refl
-shape_numbered modules number (DependsLine e) = refl
-shape_numbered modules number (VisibleLine e) = refl
-shape_numbered modules number (SelectLine n w) = refl
-shape_numbered modules number (ImplyLine n w) = refl
-shape_numbered modules number (RangeLine a b w) = refl
-shape_numbered modules number HelpLine = refl
-shape_numbered modules number ModulesLine = refl
-shape_numbered modules number IgnoredLine = refl
+shape_numbered : (number : List ℕ → ℕ) (x : Named) → shape (numbered number x) ≡ shape x
+shape_numbered number (ConfigLine n) = refl
+shape_numbered number (IfLine e) = refl
+shape_numbered number EndIfLine = refl
+shape_numbered number (CommentLine t) = refl
+shape_numbered number (SourceLine t) = refl
+shape_numbered number (MenuLine t) = refl
+shape_numbered number EndMenuLine = refl
+shape_numbered number ChoiceLine = refl
+shape_numbered number EndChoiceLine = refl
+shape_numbered number (MainMenuLine t) = refl
+shape_numbered number (TypeLine k p) = refl
+shape_numbered number (PromptLine p) = refl
+shape_numbered number (DefaultLine v w) = refl
+shape_numbered number (DefLine k v w) = refl
+shape_numbered number (DependsLine e) = refl
+shape_numbered number (VisibleLine e) = refl
+shape_numbered number (SelectLine n w) = refl
+shape_numbered number (ImplyLine n w) = refl
+shape_numbered number (RangeLine a b w) = refl
+shape_numbered number HelpLine = refl
+shape_numbered number ModulesLine = refl
+shape_numbered number IgnoredLine = refl
 
-name_numbered : (modules : Option SymId) (number : List ℕ → ℕ) (x : Named) → defined_name (numbered modules number x) ≡ option_map (λ n. symbol (number n)) (defined_name x)
-name_numbered modules number (ConfigLine n) = refl
-name_numbered modules number (IfLine e) = refl
-name_numbered modules number EndIfLine = refl
-name_numbered modules number (CommentLine t) = refl
-name_numbered modules number (SourceLine t) = refl
-name_numbered modules number (MenuLine t) = refl
-name_numbered modules number EndMenuLine = refl
-name_numbered modules number ChoiceLine = refl
-name_numbered modules number EndChoiceLine = refl
-name_numbered modules number (MainMenuLine t) = refl
-name_numbered modules number (TypeLine k p) = refl
-name_numbered modules number (PromptLine p) = refl
-name_numbered modules number (DefaultLine v w) = refl
-name_numbered modules number (DefLine k v w) = refl
-name_numbered modules number (DependsLine e) = refl
-name_numbered modules number (VisibleLine e) = refl
-name_numbered modules number (SelectLine n w) = refl
-name_numbered modules number (ImplyLine n w) = refl
-name_numbered modules number (RangeLine a b w) = refl
-name_numbered modules number HelpLine = refl
-name_numbered modules number ModulesLine = refl
-name_numbered modules number IgnoredLine = refl
+name_numbered : (number : List ℕ → ℕ) (x : Named) → defined_name (numbered number x) ≡ option_map (λ n. symbol (number n)) (defined_name x)
+name_numbered number (ConfigLine n) = refl
+name_numbered number (IfLine e) = refl
+name_numbered number EndIfLine = refl
+name_numbered number (CommentLine t) = refl
+name_numbered number (SourceLine t) = refl
+name_numbered number (MenuLine t) = refl
+name_numbered number EndMenuLine = refl
+name_numbered number ChoiceLine = refl
+name_numbered number EndChoiceLine = refl
+name_numbered number (MainMenuLine t) = refl
+name_numbered number (TypeLine k p) = refl
+name_numbered number (PromptLine p) = refl
+name_numbered number (DefaultLine v w) = refl
+name_numbered number (DefLine k v w) = refl
+name_numbered number (DependsLine e) = refl
+name_numbered number (VisibleLine e) = refl
+name_numbered number (SelectLine n w) = refl
+name_numbered number (ImplyLine n w) = refl
+name_numbered number (RangeLine a b w) = refl
+name_numbered number HelpLine = refl
+name_numbered number ModulesLine = refl
+name_numbered number IgnoredLine = refl
 
-pub made_shape : (modules : Option SymId) (known names : List (List ℕ)) (s : Statement) (x : Named) → IsMade modules known names s x → shape (statement_view s) ≡ shape x
-made_shape modules known names s x m = ap shape (m.form names (extends_none names)) ∙ shape_numbered modules (number_of names) x
+pub made_shape : (known names : List (List ℕ)) (s : Statement) (x : Named) → IsMade known names s x → shape (statement_view s) ≡ shape x
+made_shape known names s x m = ap shape (m.form names (extends_none names)) ∙ shape_numbered (number_of names) x
 
-pub made_name : (modules : Option SymId) (known names : List (List ℕ)) (s : Statement) (x : Named) → IsMade modules known names s x → IsNamed names (defined_name (statement_view s)) (defined_name x)
-made_name modules known names s x m = is_named names (defined_name (statement_view s)) (defined_name x) (λ later e. ap defined_name (m.form later e) ∙ name_numbered modules (number_of later) x)
+pub made_name : (known names : List (List ℕ)) (s : Statement) (x : Named) → IsMade known names s x → IsNamed names (defined_name (statement_view s)) (defined_name x)
+made_name known names s x m = is_named names (defined_name (statement_view s)) (defined_name x) (λ later e. ap defined_name (m.form later e) ∙ name_numbered (number_of later) x)
 
 pub or_none : {A : Type 0} (o : Option A) → option_or o None ≡ o
 or_none None = refl
@@ -108,29 +107,29 @@ effect_by site own log ModulesLine = refl
 effect_by site own log IgnoredLine = refl
 
 -- a `source` line is written as one
-pub source_is : (modules : Option SymId) (number : List ℕ → ℕ) (t : List ℕ) (x : Named) → SourceLine t ≡ numbered modules number x → x ≡ SourceLine t
-source_is modules number t (ConfigLine n) same = absurd cc
-source_is modules number t (IfLine e) same = absurd cc
-source_is modules number t EndIfLine same = absurd cc
-source_is modules number t (CommentLine u) same = absurd cc
-source_is modules number t (SourceLine u) same = ap SourceLine (let f : u ≡ t = cc in f)
-source_is modules number t (MenuLine u) same = absurd cc
-source_is modules number t EndMenuLine same = absurd cc
-source_is modules number t ChoiceLine same = absurd cc
-source_is modules number t EndChoiceLine same = absurd cc
-source_is modules number t (MainMenuLine u) same = absurd cc
-source_is modules number t (TypeLine k p) same = absurd cc
-source_is modules number t (PromptLine p) same = absurd cc
-source_is modules number t (DefaultLine v w) same = absurd cc
-source_is modules number t (DefLine k v w) same = absurd cc
-source_is modules number t (DependsLine e) same = absurd cc
-source_is modules number t (VisibleLine e) same = absurd cc
-source_is modules number t (SelectLine n w) same = absurd cc
-source_is modules number t (ImplyLine n w) same = absurd cc
-source_is modules number t (RangeLine a b w) same = absurd cc
-source_is modules number t HelpLine same = absurd cc
-source_is modules number t ModulesLine same = absurd cc
-source_is modules number t IgnoredLine same = absurd cc
+pub source_is : (number : List ℕ → ℕ) (t : List ℕ) (x : Named) → SourceLine t ≡ numbered number x → x ≡ SourceLine t
+source_is number t (ConfigLine n) same = absurd cc
+source_is number t (IfLine e) same = absurd cc
+source_is number t EndIfLine same = absurd cc
+source_is number t (CommentLine u) same = absurd cc
+source_is number t (SourceLine u) same = ap SourceLine (let f : u ≡ t = cc in f)
+source_is number t (MenuLine u) same = absurd cc
+source_is number t EndMenuLine same = absurd cc
+source_is number t ChoiceLine same = absurd cc
+source_is number t EndChoiceLine same = absurd cc
+source_is number t (MainMenuLine u) same = absurd cc
+source_is number t (TypeLine k p) same = absurd cc
+source_is number t (PromptLine p) same = absurd cc
+source_is number t (DefaultLine v w) same = absurd cc
+source_is number t (DefLine k v w) same = absurd cc
+source_is number t (DependsLine e) same = absurd cc
+source_is number t (VisibleLine e) same = absurd cc
+source_is number t (SelectLine n w) same = absurd cc
+source_is number t (ImplyLine n w) same = absurd cc
+source_is number t (RangeLine a b w) same = absurd cc
+source_is number t HelpLine same = absurd cc
+source_is number t ModulesLine same = absurd cc
+source_is number t IgnoredLine same = absurd cc
 
 no_source : (s : Statement) → ((t : Vec ℕ Global) → s ≡ made.Source t → ⊥) → is_source (statement_view s) ≡ false
 no_source (made.Config s) h = refl
@@ -156,6 +155,6 @@ no_source made.Help h = refl
 no_source made.Modules h = refl
 no_source made.Ignored h = refl
 
-pub made_no_source : (modules : Option SymId) (known names : List (List ℕ)) (s : Statement) (x : Named) → IsMade modules known names s x →
+pub made_no_source : (known names : List (List ℕ)) (s : Statement) (x : Named) → IsMade known names s x →
     ((t : Vec ℕ Global) → s ≡ made.Source t → ⊥) → is_source x ≡ false
-made_no_source modules known names s x m h = sym (ap (λ z. z.4) (made_shape modules known names s x m)) ∙ no_source s h
+made_no_source known names s x m h = sym (ap (λ z. z.4) (made_shape known names s x m)) ∙ no_source s h

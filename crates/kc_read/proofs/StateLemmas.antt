@@ -7,7 +7,6 @@ use Rattle.std.proofs.Math.ListN.{length-map}
 use Rattle.std.proofs.lemmas.Grind.{flat_map-append}
 use Rattle.std.proofs.lemmas.List.Elements.{filter-append, filter_map-append}
 use Rattle.std.proofs.lemmas.List.Folds.{list_any-append}
-use Rattle.kc_expr.specs.declared.expression.SymId.{SymId}
 use Rattle.kc_expr.specs.Names.{all_mentioned, mention, number_of, symbol, Extends}
 use Rattle.kc_expr.proofs.NamesLemmas.{extends_on, mentioned_on, mentioned_extends, all_mentioned-append}
 use Rattle.kc_read.specs.declared.frame.Frame.{Frame}
@@ -100,23 +99,23 @@ entered_push own ss x before e =
 words_push : (ss : List Named) (x : Named) → flat_map names_in_statement ss ++ names_in_statement x ≡ flat_map names_in_statement (ss ++ x ∷ [])
 words_push ss x = ap (λ ws. flat_map names_in_statement ss ++ ws) (sym (append-nil (names_in_statement x))) ∙ sym (flat_map-append names_in_statement ss (x ∷ []))
 
-progress_taken : (first : List (List ℕ)) (modules : Option SymId) (known names : List (List ℕ)) (a : FileContext) (own : List (Located Named)) (log : Log)
-    (f g : Frame) (p q : Progress) (s : Statement) (x : Named) (n : ℕ) → IsProgress first modules known log p → IsFrame a own f →
-    IsMade modules known names s x → IsTaken (statement_view s) n f g p q → (is_modules x ≡ true → is_some (last_of (definitions (statements log.lines))) ≡ true) →
-    IsProgress first modules names (logged log a n x) q
-progress_taken first modules known names a own log f g p q s x n i fr m t begun =
+progress_taken : (first : List (List ℕ)) (known names : List (List ℕ)) (a : FileContext) (own : List (Located Named)) (log : Log)
+    (f g : Frame) (p q : Progress) (s : Statement) (x : Named) (n : ℕ) → IsProgress first known log p → IsFrame a own f →
+    IsMade known names s x → IsTaken (statement_view s) n f g p q → (is_modules x ≡ true → is_some (last_of (definitions (statements log.lines))) ≡ true) →
+    IsProgress first names (logged log a n x) q
+progress_taken first known names a own log f g p q s x n i fr m t begun =
     let ss = statements log.lines in
     let later_names : Extends known names = mentioned_extends known names (names_in_statement x) m.mentions in
     let pushed : statements (log.lines ++ ranked a n x ∷ []) ≡ ss ++ x ∷ [] = map-push (λ l. l.statement) log.lines (ranked a n x) in
-    let name : IsNamed names (defined_name (statement_view s)) (defined_name x) = made_name modules known names s x m in
-    let is_mod : is_modules (statement_view s) ≡ is_modules x = ap (λ z. z.3) (made_shape modules known names s x m) in
+    let name : IsNamed names (defined_name (statement_view s)) (defined_name x) = made_name known names s x m in
+    let is_mod : is_modules (statement_view s) ≡ is_modules x = ap (λ z. z.3) (made_shape known names s x m) in
     let config_now : IsNamed names p.config (last_of (definitions ss)) = named_later known names p.config (last_of (definitions ss)) later_names i.config in
     let modules_now : IsNamed names p.modules (modules_of ss) = named_later known names p.modules (modules_of ss) later_names i.modules_is in
     record {
       lines = λ later e.
           t.lines
           ∙ (λ j. i.lines later (extends_on known names later later_names e) j ++ record { file = fr.file j; line = n; statement = m.form later e j } ∷ [])
-          ∙ sym (map-push (located_numbered modules (number_of later)) log.lines (ranked a n x));
+          ∙ sym (map-push (located_numbered (number_of later)) log.lines (ranked a n x));
       mentions = mentioned_on first known names (flat_map names_in_statement ss) (names_in_statement x) i.mentions m.mentions
           ∙ ap (all_mentioned first) (words_push ss x ∙ ap (flat_map names_in_statement) (sym pushed));
       total_lines = t.total_lines ∙ i.total_lines;
@@ -138,13 +137,13 @@ progress_taken first modules known names a own log f g p q s x n i fr m t begun 
       marked = subst (λ l. is_some (modules_of l) ≡ list_any is_modules l) (sym pushed) (marked_push ss x i.marked begun);
     }
 
-pub state_taken : (first : List (List ℕ)) (modules : Option SymId) (known names : List (List ℕ)) (a : FileContext) (own : List (Located Named)) (log : Log)
-    (f g : Frame) (p q : Progress) (s : Statement) (x : Named) (n : ℕ) → IsState first modules known a own log p f → IsMade modules known names s x →
+pub state_taken : (first : List (List ℕ)) (known names : List (List ℕ)) (a : FileContext) (own : List (Located Named)) (log : Log)
+    (f g : Frame) (p q : Progress) (s : Statement) (x : Named) (n : ℕ) → IsState first known a own log p f → IsMade known names s x →
     IsTaken (statement_view s) n f g p q → (is_modules x ≡ true → is_config (entry_of (last_no_attribute (statements own))) ≡ true) →
-    IsState first modules names a (with_line own a n x) (logged log a n x) q g
-state_taken first modules known names a own log f g p q s x n i m t placed = record {
-  progress = progress_taken first modules known names a own log f g p q s x n i.progress i.frame m t (λ e. i.entered (placed e));
-  frame = frame_taken a own f g p q (statement_view s) x n i.frame (made_shape modules known names s x m) t;
+    IsState first names a (with_line own a n x) (logged log a n x) q g
+state_taken first known names a own log f g p q s x n i m t placed = record {
+  progress = progress_taken first known names a own log f g p q s x n i.progress i.frame m t (λ e. i.entered (placed e));
+  frame = frame_taken a own f g p q (statement_view s) x n i.frame (made_shape known names s x m) t;
   files = ap (λ fs. map (λ f. f.value.items) fs.items) t.open_files ∙ i.files;
   entered = λ e.
       subst (λ l. is_some (last_of (definitions l)) ≡ true) (sym (map-push (λ l. l.statement) log.lines (ranked a n x)))
@@ -153,11 +152,11 @@ state_taken first modules known names a own log f g p q s x n i m t placed = rec
 }
 
 -- the context of the next line
-pub context_same : (first : List (List ℕ)) (modules : Option SymId) (names : List (List ℕ)) (a : FileContext) (own : List (Located Named)) (log : Log)
-    (f : Frame) (p : Progress) (c : LineContext) → IsState first modules names a own log p f → c.entry ≡ f.entry →
+pub context_same : (first : List (List ℕ)) (names : List (List ℕ)) (a : FileContext) (own : List (Located Named)) (log : Log)
+    (f : Frame) (p : Progress) (c : LineContext) → IsState first names a own log p f → c.entry ≡ f.entry →
     c.own ≡ option_map (λ o. o.block) (last_of f.blocks.items) → c.in_choice ≡ (f.in_choice || list_any (λ o. is_choice o.block) f.blocks.items) →
     c.modules ≡ ids_match p.modules p.config → c ≡ context_of a own log
-context_same first modules names a own log f p c i e_entry e_own e_choice e_modules =
+context_same first names a own log f p c i e_entry e_own e_choice e_modules =
     let blocks : map (λ o. o.block) f.blocks.items ≡ open_blocks (statements own) = ap (map (λ o. o.block)) i.frame.blocks ∙ blocks_of_located own in
     let entry_is = e_entry ∙ i.frame.entry in
     let own_is = e_own ∙ sym (last_of-map (λ o. o.block) f.blocks.items) ∙ ap last_of blocks in
@@ -167,10 +166,10 @@ context_same first modules names a own log f p c i e_entry e_own e_choice e_modu
     λ j. record { entry = entry_is j; own = own_is j; in_choice = choice_is j; modules = modules_are j }
 
 -- inside a file that is sourced
-pub state_inside : (first : List (List ℕ)) (modules : Option SymId) (names : List (List ℕ)) (a : FileContext) (own : List (Located Named)) (log : Log)
-    (f g : Frame) (p q : Progress) (name bytes : List ℕ) (total_lines : ℕ) → IsState first modules names a own log p f → IsSourcedFrame f name g →
-    IsEntered name total_lines p q → total_lines ≡ p.total_lines + lines_of bytes → IsState first modules names (inside a own name) [] (with_file log name bytes) q g
-state_inside first modules names a own log f g p q name bytes total_lines i n t c =
+pub state_inside : (first : List (List ℕ)) (names : List (List ℕ)) (a : FileContext) (own : List (Located Named)) (log : Log)
+    (f g : Frame) (p q : Progress) (name bytes : List ℕ) (total_lines : ℕ) → IsState first names a own log p f → IsSourcedFrame f name g →
+    IsEntered name total_lines p q → total_lines ≡ p.total_lines + lines_of bytes → IsState first names (inside a own name) [] (with_file log name bytes) q g
+state_inside first names a own log f g p q name bytes total_lines i n t c =
     let blocks : map (λ o. o.block) f.blocks.items ≡ open_blocks (statements own) = ap (map (λ o. o.block)) i.frame.blocks ∙ blocks_of_located own in
     let mapped : length (map (λ o. o.block) f.blocks.items) ≡ length f.blocks.items = simp length-map in
     let many : length f.blocks.items ≡ length (open_blocks (statements own)) = sym mapped ∙ ap length blocks in
@@ -203,24 +202,24 @@ state_inside first modules names a own log f g p q name bytes total_lines i n t 
     }
 
 -- the limit that a statement passes
-pub effect_same : (first : List (List ℕ)) (modules : Option SymId) (known names : List (List ℕ)) (a : FileContext) (own : List (Located Named)) (log : Log)
-    (f : Frame) (p : Progress) (s : Statement) (x : Named) → IsState first modules known a own log p f → IsMade modules known names s x →
+pub effect_same : (first : List (List ℕ)) (known names : List (List ℕ)) (a : FileContext) (own : List (Located Named)) (log : Log)
+    (f : Frame) (p : Progress) (s : Statement) (x : Named) → IsState first known a own log p f → IsMade known names s x →
     limit_view (statement_view s) f p ≡ limit_cause a own log x
-effect_same first modules known names a own log f p s x i m =
+effect_same first known names a own log f p s x i m =
     let blocks : map (λ o. o.block) f.blocks.items ≡ open_blocks (statements own) = ap (map (λ o. o.block)) i.frame.blocks ∙ blocks_of_located own in
     let mapped : length (map (λ o. o.block) f.blocks.items) ≡ length f.blocks.items = simp length-map in
     let many : length f.blocks.items ≡ length (open_blocks (statements own)) = sym mapped ∙ ap length blocks in
     let later_names : Extends known names = mentioned_extends known names (names_in_statement x) m.mentions in
     let defining = defining_same known names p.defined (defined (statements log.lines)) (defined_name (statement_view s)) (defined_name x)
-    later_names i.progress.defined_is (made_name modules known names s x m) in
+    later_names i.progress.defined_is (made_name known names s x m) in
     let depth : f.depth + length f.blocks.items ≡ length a.blocks + length (open_blocks (statements own)) = ap (λ k. k + length f.blocks.items) i.frame.depth ∙ ap (λ k. length a.blocks + k) many in
-    (λ j. option_or (defining j) (nesting_cause (depth j) (ap (λ z. z.0) (made_shape modules known names s x m) j)))
+    (λ j. option_or (defining j) (nesting_cause (depth j) (ap (λ z. z.0) (made_shape known names s x m) j)))
     ∙ effect_by a own log x
 
 -- as the root file is opened
-pub state_begun : (modules : Option SymId) (names : List (List ℕ)) (root bytes : List ℕ) (total_lines : ℕ) (f : Frame) (p : Progress) →
-    IsBegun root total_lines f p → total_lines ≡ 0 + lines_of bytes → IsState names modules names (root_context root) [] (with_file nothing_read root bytes) p f
-state_begun modules names root bytes total_lines f p b c = record {
+pub state_begun : (names : List (List ℕ)) (root bytes : List ℕ) (total_lines : ℕ) (f : Frame) (p : Progress) →
+    IsBegun root total_lines f p → total_lines ≡ 0 + lines_of bytes → IsState names names (root_context root) [] (with_file nothing_read root bytes) p f
+state_begun names root bytes total_lines f p b c = record {
   progress = record {
     lines = λ later e. ap (map line_view) b.lines;
     mentions = refl;

@@ -22,8 +22,8 @@ abbrev pub AreNumbers : List (List ℕ) → List SymId → List (List ℕ) → T
 AreNumbers names ids ns = ForLater names (λ number. ids ≡ map (λ n. symbol (number n)) ns)
 
 -- the expanded list that was read: the names stood at first, and are names now
-pub record IsExpansion (first : List (List ℕ)) (modules : Option SymId) (names : List (List ℕ)) (log : Log) (e : Expansion) : Type 0 where
-  pub lines : ForLater names (λ number. map line_view e.lines.items ≡ map (located_numbered modules number) log.lines)
+pub record IsExpansion (first : List (List ℕ)) (names : List (List ℕ)) (log : Log) (e : Expansion) : Type 0 where
+  pub lines : ForLater names (λ number. map line_view e.lines.items ≡ map (located_numbered number) log.lines)
   pub mentions : names ≡ all_mentioned first (flat_map names_in_statement (statements log.lines))
   pub defined_is : AreNumbers names e.defined (defined (statements log.lines))
   pub modules_is : IsNamed names e.modules (modules_of (statements log.lines))

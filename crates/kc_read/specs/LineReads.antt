@@ -1,6 +1,5 @@
 -- For proofs: What the calls that read a line answer.
 use Rattle.std.specs.Prelude.{◌≡◌, ◌≢◌, ℕ, ◌+◌, ◌<◌, List, [], ◌∷◌, length, map, drop, Bool, true, false, Option, Some, None, Result, Ok, Err, option_map}
-use Rattle.kc_expr.specs.declared.expression.SymId.{SymId}
 use Rattle.kc_expr.specs.Form.{Form, Leaf}
 use Rattle.kc_expr.specs.Grammar.{Disjunction, Atom, leaf, meaning_or, names_in, names_in_atom}
 use Rattle.kc_expr.specs.Names.{all_mentioned}
@@ -52,35 +51,35 @@ IsPart part view (Ok a) = part ≡ Ok (view a)
 IsPart part view (Err f) = IsFault f (λ c. part ≡ Err c)
 
 -- the statement that was made of what is written, and the names that it mentioned
-pub record IsMade (modules : Option SymId) (old names : List (List ℕ)) (s : Statement) (x : Named) : Type 0 where
+pub record IsMade (old names : List (List ℕ)) (s : Statement) (x : Named) : Type 0 where
   pub mentions : names ≡ all_mentioned old (names_in_statement x)
-  pub form : ForLater names (λ number. statement_view s ≡ numbered modules number x)
+  pub form : ForLater names (λ number. statement_view s ≡ numbered number x)
 
 -- the line's statement was read, or refused
-abbrev pub IsRead : Option SymId → List (List ℕ) → List (List ℕ) → (Result Named Cause → Type 0) → Result Statement LineFault → Type 0
-IsRead modules old names Reads (Ok s) = (x : Named) × Reads (Ok x) × IsMade modules old names s x
-IsRead modules old names Reads (Err f) = IsFault f (λ c. Reads (Err c))
+abbrev pub IsRead : List (List ℕ) → List (List ℕ) → (Result Named Cause → Type 0) → Result Statement LineFault → Type 0
+IsRead old names Reads (Ok s) = (x : Named) × Reads (Ok x) × IsMade old names s x
+IsRead old names Reads (Err f) = IsFault f (λ c. Reads (Err c))
 
 -- an expression and the place after it
-pub record IsFront (condition : Option SymId) (old names : List (List ℕ)) (ts rest : List Lexeme) (e : Form) : Type 0 where
+pub record IsFront (condition : Bool) (old names : List (List ℕ)) (ts rest : List Lexeme) (e : Form) : Type 0 where
   pub tree : Disjunction
   pub starts : StartsExpression ts (front tree rest)
   pub mentions : names ≡ all_mentioned old (names_in tree)
   pub form : ForLater names (λ number. e ≡ meaning_or condition number tree)
 
 -- an expression up to the end of the line
-pub record IsWholeForm (condition : Option SymId) (old names : List (List ℕ)) (ts : List Lexeme) (e : Form) : Type 0 where
+pub record IsWholeForm (old names : List (List ℕ)) (ts : List Lexeme) (e : Form) : Type 0 where
   pub tree : Disjunction
   pub whole : IsWhole ts tree
   pub mentions : names ≡ all_mentioned old (names_in tree)
-  pub form : ForLater names (λ number. e ≡ meaning_or condition number tree)
+  pub form : ForLater names (λ number. e ≡ meaning_or true number tree)
 
 -- a condition up to the end of the line
-pub record IsConditionForm (condition : Option SymId) (old names : List (List ℕ)) (ts : List Lexeme) (e : Option Form) : Type 0 where
+pub record IsConditionForm (old names : List (List ℕ)) (ts : List Lexeme) (e : Option Form) : Type 0 where
   pub tree : Option Disjunction
   pub condition_is : IsCondition ts tree
   pub mentions : names ≡ all_mentioned old (names_in_condition tree)
-  pub form : ForLater names (λ number. e ≡ option_map (meaning_or condition number) tree)
+  pub form : ForLater names (λ number. e ≡ option_map (meaning_or true number) tree)
 
 -- the operand that was read
 pub record IsOperand (old names : List (List ℕ)) (part : Result Atom Cause) (l : Leaf) : Type 0 where

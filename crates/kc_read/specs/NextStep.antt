@@ -1,6 +1,5 @@
 -- For proofs: What the next line of a file is.
-use Rattle.std.specs.Prelude.{◌≡◌, ◌≢◌, ℕ, List, [], Option, Some, None, Ok, Err}
-use Rattle.kc_expr.specs.declared.expression.SymId.{SymId}
+use Rattle.std.specs.Prelude.{◌≡◌, ◌≢◌, ℕ, List, [], Some, None, Ok, Err}
 use Rattle.kc_text.specs.Lines.{UnreadLines}
 use Rattle.kc_read.specs.declared.refusal.Refusal.{Refusal}
 use Rattle.kc_read.specs.declared.refusal.Code.TheVariants as code
@@ -24,10 +23,10 @@ long_line fault.Macro = 0
 long_line fault.Memory = 0
 
 -- the end, a line without tokens, or a statement with the number of its line
-abbrev pub IsStep : Option SymId → List (List ℕ) → List (List ℕ) → LineContext → UnreadLines → UnreadLines → Step → Type 0
-IsStep modules known names c old new step.End = (old.lines ≡ []) × (names ≡ known)
-IsStep modules known names c old new step.Blank = NextLine old new [] None × (names ≡ known)
-IsStep modules known names c old new (step.Next n s) = (x : Named) × (n ≡ old.number) × NextStatement old new c (Ok x) × IsMade modules known names s x
+abbrev pub IsStep : List (List ℕ) → List (List ℕ) → LineContext → UnreadLines → UnreadLines → Step → Type 0
+IsStep known names c old new step.End = (old.lines ≡ []) × (names ≡ known)
+IsStep known names c old new step.Blank = NextLine old new [] None × (names ≡ known)
+IsStep known names c old new (step.Next n s) = (x : Named) × (n ≡ old.number) × NextStatement old new c (Ok x) × IsMade known names s x
 
 -- the first fault of the line
 pub data StepFault (c : LineContext) (old : UnreadLines) : Cause → Type 0 where

@@ -1,5 +1,5 @@
 -- Trusted: How the expanded list is numbered: the defined symbols first, then the modules symbol, then the other names.
-use Rattle.std.specs.Prelude.{ℕ, List, [], ◌∷◌, map, codes, Option, Some, unwrap_or}
+use Rattle.std.specs.Prelude.{ℕ, List, [], ◌∷◌, map, codes, unwrap_or}
 use Rattle.std.specs.List.{flat_map}
 use Rattle.kc_expr.specs.declared.expression.SymId.{SymId}
 use Rattle.kc_expr.specs.Names.{symbol, number_of, all_mentioned}
@@ -23,11 +23,11 @@ abbrev pub modules_id : List Named → SymId
 modules_id ss = symbol (number_of (names_of ss) (modules_name ss))
 
 -- a line with its names numbered
-abbrev pub located_numbered : Option SymId → (List ℕ → ℕ) → Located Named → Located Numbered
-located_numbered modules number l = record { file = l.file; line = l.line; statement = numbered modules number l.statement }
+abbrev pub located_numbered : (List ℕ → ℕ) → Located Named → Located Numbered
+located_numbered number l = record { file = l.file; line = l.line; statement = numbered number l.statement }
 
 abbrev pub number_line : List Named → Located Named → Located Numbered
-number_line ss = located_numbered (Some (modules_id ss)) (number_of (names_of ss))
+number_line ss = located_numbered (number_of (names_of ss))
 
 abbrev pub numbered_lines : List (Located Named) → List (Located Numbered)
 numbered_lines ls = map (number_line (statements ls)) ls

@@ -84,8 +84,8 @@ context_in f p = record {
 }
 
 -- what is remembered of all files: the names stood at first, and are names now
-pub record IsProgress (first : List (List ℕ)) (modules : Option SymId) (names : List (List ℕ)) (log : Log) (p : Progress) : Type 0 where
-  pub lines : ForLater names (λ number. map line_view p.lines.items ≡ map (located_numbered modules number) log.lines)
+pub record IsProgress (first : List (List ℕ)) (names : List (List ℕ)) (log : Log) (p : Progress) : Type 0 where
+  pub lines : ForLater names (λ number. map line_view p.lines.items ≡ map (located_numbered number) log.lines)
   pub mentions : names ≡ all_mentioned first (flat_map names_in_statement (statements log.lines))
   pub total_lines : p.total_lines ≡ log.total_lines
   pub opened : p.opened ≡ log.opened
@@ -98,8 +98,8 @@ pub record IsProgress (first : List (List ℕ)) (modules : Option SymId) (names 
 abbrev pub open_names : Progress → List (List ℕ)
 open_names p = map (λ f. f.value.items) p.open_files.items
 
-pub record IsState (first : List (List ℕ)) (modules : Option SymId) (names : List (List ℕ)) (a : FileContext) (own : List (Located Named)) (log : Log) (p : Progress) (f : Frame) : Type 0 where
-  pub progress : IsProgress first modules names log p
+pub record IsState (first : List (List ℕ)) (names : List (List ℕ)) (a : FileContext) (own : List (Located Named)) (log : Log) (p : Progress) (f : Frame) : Type 0 where
+  pub progress : IsProgress first names log p
   pub frame : IsFrame a own f
   pub files : open_names p ≡ a.open_files
   -- in the entry of a `config` line some symbol is defined
@@ -191,24 +191,24 @@ IsOpenAtEnd f r = (o : OpenBlock) × (last_of f.blocks.items ≡ Some o) × (r �
 abbrev pub IsRestRefusal : Files → FileContext → UnreadLines → List (Located Named) → Log → Refusal → Type 0
 IsRestRefusal files a l own log r = r.code ≢ code.Memory → Rest files a l own log (Err (refusal_view r))
 
-module _ (files : Files) (first : List (List ℕ)) (modules : Option SymId) (names : List (List ℕ)) (a : FileContext) where
+module _ (files : Files) (first : List (List ℕ)) (names : List (List ℕ)) (a : FileContext) where
   -- the reader has advanced in a file: what its rest gives from here on is what it gave from the line before on
   pub record HasAdvanced (old new : UnreadLines) (own : List (Located Named)) (log : Log) (p : Progress) (f : Frame) : Type 0 where
     pub own_now : List (Located Named)
     pub log_now : Log
-    pub state : IsState first modules names a own_now log_now p f
+    pub state : IsState first names a own_now log_now p f
     pub follows : (r : Result Log Refused) → Rest files a new own_now log_now r → Rest files a old own log r
 
   -- a whole file was read
   pub record IsFileRead (l : UnreadLines) (log : Log) (p : Progress) : Type 0 where
     pub log_now : Log
     pub rest : Rest files a l [] log (Ok log_now)
-    pub progress : IsProgress first modules names log_now p
+    pub progress : IsProgress first names log_now p
 
   -- a file has ended
   pub record IsEnded (l : UnreadLines) (own : List (Located Named)) (log : Log) (p : Progress) : Type 0 where
     pub rest : Rest files a l own log (Ok log)
-    pub progress : IsProgress first modules names log p
+    pub progress : IsProgress first names log p
 
   abbrev pub IsReading : UnreadLines → Log → Progress → Result ⊤ Refusal → Type 0
   IsReading l log p (Ok u) = IsFileRead l log p
@@ -237,3 +237,14 @@ pub record IsBegun (root : List ℕ) (total_lines : ℕ) (f : Frame) (p : Progre
   pub config : p.config ≡ None
   pub modules_is : p.modules ≡ None
   pub open_files : open_names p ≡ root ∷ []
+
+-- what a `config` line leaves as it was
+abbrev pub KeepsWhenDefining : Progress → Progress → Type 0
+KeepsWhenDefining old new =
+    (new.lines ≡ old.lines) × (new.total_lines ≡ old.total_lines) × (new.modules ≡ old.modules) × (new.opened ≡ old.opened) × (new.open_files ≡ old.open_files)
+
+-- what a `modules` line leaves as it was
+abbrev pub KeepsWhenMarking : Progress → Progress → Type 0
+KeepsWhenMarking old new =
+    (new.lines ≡ old.lines) × (new.total_lines ≡ old.total_lines) × (new.defined ≡ old.defined) × (new.config ≡ old.config) × (new.opened ≡ old.opened)
+    × (new.open_files ≡ old.open_files)

@@ -1,5 +1,5 @@
 -- Trusted: The statements of a Kconfig file.
-use Rattle.std.specs.Prelude.{ℕ, List, [], ◌∷◌, ◌++◌, Option, Some, None, map, option_map}
+use Rattle.std.specs.Prelude.{ℕ, true, false, List, [], ◌∷◌, ◌++◌, Option, Some, None, map, option_map}
 use Rattle.kc_expr.specs.declared.expression.SymId.{SymId}
 use Rattle.kc_expr.specs.declared.expression.Kind.{Kind}
 use Rattle.kc_expr.specs.Form.{Form, Leaf}
@@ -46,13 +46,13 @@ Numbered = Statement Form Leaf SymId
 
 -- a value: a plain m is m
 abbrev pub value_form : (List ℕ → ℕ) → Disjunction → Form
-value_form number d = meaning_or None number d
+value_form number d = meaning_or false number d
 
--- For a modules symbol, where names have these numbers.
-module _ (modules : Option SymId) (number : List ℕ → ℕ) where
+-- Where names have these numbers.
+module _ (number : List ℕ → ℕ) where
   -- a condition: a plain m in it asks for the modules symbol too
   abbrev pub condition_form : Disjunction → Form
-  condition_form d = meaning_or modules number d
+  condition_form d = meaning_or true number d
 
   -- a prompt's condition: what it asks is not kept
   abbrev pub prompt_form : InputPrompt Disjunction → InputPrompt Form

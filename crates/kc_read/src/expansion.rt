@@ -74,9 +74,7 @@ fn begin(
 /// The expanded list of the root file: the statements of the file, each `source` line replaced by the statements of
 /// its file, each with its file and line; or the first refusal.
 ///
-/// `modules` is the number of the modules symbol, by which a plain `m` of a condition also asks for that symbol. On
-/// `Ok` the names are the old ones and then each new one at its first mention. A caller who does not know the modules
-/// symbol yet gives a number that no name has, and puts other numbers into the lines afterwards.
+/// On `Ok` the names are the old ones and then each new one at its first mention.
 ///
 /// Each of the refusals E1 to E12 and E16 comes exactly for its cause, at the first line with a fault: E1 where a file
 /// is not in the map, E2 where it is open now, E3 where the physical lines of the files opened so far are more than
@@ -89,10 +87,9 @@ pub fn expand(
     alloc: Global,
     map: &FileMap,
     root: &[u8],
-    modules: Option<SymId>,
     names: &mut Names,
 ) -> Result<Expansion, Refusal>
-    ensures expanded { IfOk result (λ e. (log : Log) × Expands (bytes_in map.now) root.now (Ok log) × IsExpansion names.old modules names.new log e) }
+    ensures expanded { IfOk result (λ e. (log : Log) × Expands (bytes_in map.now) root.now (Ok log) × IsExpansion names.old names.new log e) }
     ensures refused { IfErr result (λ r. r.code ≢ Memory → Expands (bytes_in map.now) root.now (Err (refusal_view r))) }
     ensures memory { IfErr result IsMemory }
     ensures names { Extends names.old names.new }
@@ -105,11 +102,7 @@ pub fn expand(
         Ok(begun) => begun,
         Err(_) => return Err(Refusal::out_of_memory(alloc)),
     };
-    let reader = Reader {
-        alloc,
-        map,
-        modules,
-    };
+    let reader = Reader { alloc, map };
     read_file(&reader, bytes, frame, &mut progress, names)?;
     Ok(Expansion {
         lines: progress.lines,

@@ -35,12 +35,11 @@ pub const MOST_LINES: usize = 1_000_000;
 // The most files that may be open at once.
 const MOST_FILES: usize = 64;
 
-/// What stays the same while files are read: the files, and the modules symbol's number.
+/// What stays the same while files are read: the files.
 #[derive(Drop)]
 pub(crate) struct Reader<'a> {
     pub alloc: Global,
     pub map: &'a FileMap,
-    pub modules: Option<SymId>,
 }
 
 /// The bytes of a file, and the total of physical lines with those of the file.
@@ -213,8 +212,8 @@ pub(crate) fn read_file(
 ) -> Result<(), Refusal>
     requires shallow { IsShallow frame }
     requires bounded { IsBounded progress.old }
-    ensures read { (first : List (List ℕ)) (a : FileContext) (log : Log) → IsState first reader.now.modules names.old a [] log progress.old frame
-        → IsReading (bytes_in reader.now.map.now) first reader.now.modules names.new a (unread_lines bytes.now 1) log progress.new result }
+    ensures read { (first : List (List ℕ)) (a : FileContext) (log : Log) → IsState first names.old a [] log progress.old frame
+        → IsReading (bytes_in reader.now.map.now) first names.new a (unread_lines bytes.now 1) log progress.new result }
     ensures open { OnOk result (progress.new.open_files.items ≡ progress.old.open_files.items) }
     ensures bounded { OnOk result (IsBounded progress.new) }
     ensures memory { IfErr result IsMemory }
@@ -251,8 +250,8 @@ fn read_next<'a>(
     requires shallow { IsShallow frame.old }
     requires bounded { IsBounded progress.old }
     ensures read { (first : List (List ℕ)) (a : FileContext) (own : List (Located Named)) (log : Log)
-        → IsState first reader.now.modules names.old a own log progress.old frame.old
-        → IsNextRead (bytes_in reader.now.map.now) first reader.now.modules names.new a lines.old lines.new own log progress.new frame.new result }
+        → IsState first names.old a own log progress.old frame.old
+        → IsNextRead (bytes_in reader.now.map.now) first names.new a lines.old lines.new own log progress.new frame.new result }
     ensures less { IfOk result (λ more. IsTrue more → length lines.new.lines < length lines.old.lines) }
     ensures clear { IfOk result (λ more. IsTrue more → lines.new.refusal ≡ None) }
     ensures open { OnOk result (progress.new.open_files.items ≡ progress.old.open_files.items) }
@@ -263,7 +262,6 @@ fn read_next<'a>(
 {
     let position = Position {
         alloc: reader.alloc,
-        modules: reader.modules,
         frame,
         progress,
     };
@@ -293,9 +291,9 @@ fn read_statement(
     requires shallow { IsShallow frame.old }
     requires bounded { IsBounded progress.old }
     ensures read { (first known : List (List ℕ)) (a : FileContext) (own : List (Located Named)) (log : Log) (x : Named) (l m : UnreadLines)
-        → IsState first reader.now.modules known a own log progress.old frame.old → IsMade reader.now.modules known names.old statement x
+        → IsState first known a own log progress.old frame.old → IsMade known names.old statement x
         → NextStatement l m (spec.context_of a own log) (Ok x) → line ≡ l.number
-        → IsStatementRead (bytes_in reader.now.map.now) first reader.now.modules names.new a l m own log progress.new frame.new result }
+        → IsStatementRead (bytes_in reader.now.map.now) first names.new a l m own log progress.new frame.new result }
     ensures open { OnOk result (progress.new.open_files.items ≡ progress.old.open_files.items) }
     ensures shallow { OnOk result (IsShallow frame.new) }
     ensures bounded { OnOk result (IsBounded progress.new) }
@@ -324,9 +322,9 @@ fn source(
     requires shallow { IsShallow frame.old }
     requires bounded { IsBounded progress.old }
     ensures read { (first : List (List ℕ)) (a : FileContext) (own : List (Located Named)) (log : Log) (l m : UnreadLines)
-        → IsState first reader.now.modules names.old a own log progress.old frame.old
+        → IsState first names.old a own log progress.old frame.old
         → NextStatement l m (spec.context_of a own log) (Ok (SourceLine name.items)) → line ≡ l.number
-        → IsStatementRead (bytes_in reader.now.map.now) first reader.now.modules names.new a l m own log progress.new frame.new result }
+        → IsStatementRead (bytes_in reader.now.map.now) first names.new a l m own log progress.new frame.new result }
     ensures open { OnOk result (progress.new.open_files.items ≡ progress.old.open_files.items) }
     ensures shallow { OnOk result (IsShallow frame.new) }
     ensures bounded { OnOk result (IsBounded progress.new) }

@@ -169,7 +169,7 @@ pub(crate) fn front<'a>(
     alloc: Global,
     tokens: &[Token<'a>],
     at: usize,
-    condition: Option<SymId>,
+    condition: bool,
     names: &mut Names,
 ) -> Result<(Expr, usize), LineFault<'a>>
     requires { at ≤ length tokens.now }
@@ -184,20 +184,19 @@ pub(crate) fn front<'a>(
     }
 }
 
-/// An expression up to the end of the line. It is shared with what is made of the line.
+/// A condition up to the end of the line. It is shared with what is made of the line.
 pub(crate) fn whole<'a>(
     alloc: Global,
     tokens: &[Token<'a>],
     at: usize,
-    condition: Option<SymId>,
     names: &mut Names,
 ) -> Result<Rc<Expr>, LineFault<'a>>
     requires { at ≤ length tokens.now }
-    ensures whole { IfOk result (λ e. IsWholeForm condition names.old names.new (lexemes_from tokens.now at) (form_of e.value)) }
+    ensures whole { IfOk result (λ e. IsWholeForm names.old names.new (lexemes_from tokens.now at) (form_of e.value)) }
     ensures fault { IfErr result (λ f. IsFault f (WholeFault (lexemes_from tokens.now at))) }
     ensures names { Extends names.old names.new }
 {
-    let (expr, after) = front(alloc, tokens, at, condition, names)?;
+    let (expr, after) = front(alloc, tokens, at, true, names)?;
     end(tokens, after)?;
     Ok(Rc::new(alloc, expr)?)
 }
@@ -207,16 +206,15 @@ pub(crate) fn condition<'a>(
     alloc: Global,
     tokens: &[Token<'a>],
     at: usize,
-    modules: Option<SymId>,
     names: &mut Names,
 ) -> Result<Option<Rc<Expr>>, LineFault<'a>>
     requires { at ≤ length tokens.now }
-    ensures condition { IfOk result (λ e. IsConditionForm modules names.old names.new (lexemes_from tokens.now at) (when_view e)) }
+    ensures condition { IfOk result (λ e. IsConditionForm names.old names.new (lexemes_from tokens.now at) (when_view e)) }
     ensures fault { IfErr result (λ f. IsFault f (ConditionFault (lexemes_from tokens.now at))) }
     ensures names { Extends names.old names.new }
 {
     if begins_with(tokens, at, b"if") {
-        let when = whole(alloc, tokens, at + 1, modules, names)?;
+        let when = whole(alloc, tokens, at + 1, names)?;
         return Ok(Some(when));
     }
     end(tokens, at)?;

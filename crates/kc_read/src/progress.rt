@@ -3,7 +3,7 @@
 ghost use Rattle.std.specs.Prelude.{◌≡◌, IfErr, OnOk, None, Some};
 ghost use Rattle.std.specs.Option.{option_or};
 ghost use Rattle.kc_expr.specs.Order.{ranked};
-ghost use Rattle.kc_read.specs.Progress.{defining_cause, ids_match, HasSymbolsWithin, IsRemembered, symbol_limit_cause};
+ghost use Rattle.kc_read.specs.Progress.{defining_cause, ids_match, HasSymbolsWithin, IsRemembered, symbol_limit_cause, KeepsWhenDefining, KeepsWhenMarking};
 ghost use Rattle.kc_read.specs.StatementViews.{statement_view};
 ghost use Rattle.kc_read.specs.LineReads.{IsFault};
 ghost use Rattle.kc_read.specs.Blocks.{defined_name};
@@ -49,7 +49,7 @@ impl Progress {
         requires { HasSymbolsWithin self.old }
         ensures defined { OnOk result (self.new.defined ≡ ranked self.old.defined id) }
         ensures config { OnOk result (self.new.config ≡ Some id) }
-        ensures kept { (self.new.lines ≡ self.old.lines) × (self.new.total_lines ≡ self.old.total_lines) × (self.new.modules ≡ self.old.modules) × (self.new.opened ≡ self.old.opened) × (self.new.open_files ≡ self.old.open_files) }
+        ensures kept { KeepsWhenDefining self.old self.new }
         ensures within { OnOk result (HasSymbolsWithin self.new) }
         ensures allowed { OnOk result (symbol_limit_cause self.old.defined id ≡ None) }
         ensures fault { IfErr result (λ f. IsFault f (λ c. symbol_limit_cause self.old.defined id ≡ Some c)) }
@@ -68,7 +68,7 @@ impl Progress {
     // The symbol that was defined last has a `modules` line.
     fn note_modules(&mut self)
         ensures modules { self.new.modules ≡ option_or self.old.modules self.old.config }
-        ensures kept { (self.new.lines ≡ self.old.lines) × (self.new.total_lines ≡ self.old.total_lines) × (self.new.defined ≡ self.old.defined) × (self.new.config ≡ self.old.config) × (self.new.opened ≡ self.old.opened) × (self.new.open_files ≡ self.old.open_files) }
+        ensures kept { KeepsWhenMarking self.old self.new }
     {
         if self.modules.is_none() {
             self.modules = self.config;

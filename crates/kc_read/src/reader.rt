@@ -5,7 +5,6 @@ ghost use Rattle.kc_expr.specs.Names.{Extends};
 ghost use Rattle.kc_read.specs.Lines as spec;
 ghost use Rattle.kc_read.specs.Lines.{finish, ReadsLine, ReadsRest, ReadsWhole, ReadsValue, ReadsPrompt, ReadsType, ReadsTarget, ReadsRange, ReadsDepends, ReadsVisible, ReadsConfig, ReadsSource, ReadsTextLine};
 ghost use Rattle.std.specs.Prelude.{List, Option};
-ghost use Rattle.kc_expr.specs.declared.expression.SymId.{SymId};
 ghost use Rattle.kc_read.specs.Statements.{Named, SourceLine, IfLine, CommentLine, DefaultLine, PromptLine, SelectLine, ImplyLine, MenuLine, MainMenuLine, DefLine, TypeLine};
 ghost use Rattle.kc_read.specs.LineReads.{IsFault, IsRead, IsMade, lexemes_from};
 ghost use Rattle.kc_read.specs.Progress.{context_in};
@@ -26,18 +25,16 @@ use kc_text::Token;
 use std::alloc::Global;
 use std::rc::Rc;
 
-/// Where the next line stands: in a file that is open, behind what was read so far. `modules` is the number that stands for
-/// the modules symbol.
+/// Where the next line stands: in a file that is open, behind what was read so far.
 #[derive(Drop)]
 pub(crate) struct Position<'p> {
     pub alloc: Global,
-    pub modules: Option<SymId>,
     pub frame: &'p Frame,
     pub progress: &'p Progress,
 }
 
 fn config_line<'a>(tokens: &[Token<'a>], names: &mut Names) -> Result<Statement, LineFault<'a>>
-    ensures read { (modules : Option SymId) → IsRead modules names.old names.new (ReadsConfig (lexemes_from tokens.now 1)) result }
+    ensures read { IsRead names.old names.new (ReadsConfig (lexemes_from tokens.now 1)) result }
     ensures names { Extends names.old names.new }
 {
     let word = word_at(tokens, 1)?;
@@ -55,19 +52,18 @@ fn config_line<'a>(tokens: &[Token<'a>], names: &mut Names) -> Result<Statement,
 fn if_line<'a>(
     alloc: Global,
     tokens: &[Token<'a>],
-    modules: Option<SymId>,
     names: &mut Names,
 ) -> Result<Statement, LineFault<'a>>
     requires { 1 ≤ length tokens.now }
-    ensures read { IsRead modules names.old names.new (ReadsWhole IfLine (lexemes_from tokens.now 1)) result }
+    ensures read { IsRead names.old names.new (ReadsWhole IfLine (lexemes_from tokens.now 1)) result }
     ensures names { Extends names.old names.new }
 {
-    let when = whole(alloc, tokens, 1, modules, names)?;
+    let when = whole(alloc, tokens, 1, names)?;
     Ok(Statement::If(when))
 }
 
 fn comment_line<'a>(alloc: Global, tokens: &[Token<'a>]) -> Result<Statement, LineFault<'a>>
-    ensures { (modules : Option SymId) (names : List (List ℕ)) → IsRead modules names names (ReadsTextLine CommentLine (lexemes_from tokens.now 1)) result }
+    ensures { (names : List (List ℕ)) → IsRead names names (ReadsTextLine CommentLine (lexemes_from tokens.now 1)) result }
 {
     let text = text_at(alloc, tokens, 1)?;
     end(tokens, 2)?;
@@ -88,7 +84,7 @@ pub(crate) fn source_name<'a>(alloc: Global, tokens: &[Token<'a>]) -> Result<Vec
 }
 
 fn source_line<'a>(alloc: Global, tokens: &[Token<'a>]) -> Result<Statement, LineFault<'a>>
-    ensures { (modules : Option SymId) (names : List (List ℕ)) → IsRead modules names names (ReadsSource (lexemes_from tokens.now 1)) result }
+    ensures { (names : List (List ℕ)) → IsRead names names (ReadsSource (lexemes_from tokens.now 1)) result }
 {
     let name = source_name(alloc, tokens)?;
     Ok(Statement::Source(name))
@@ -97,51 +93,48 @@ fn source_line<'a>(alloc: Global, tokens: &[Token<'a>]) -> Result<Statement, Lin
 fn default_line<'a>(
     alloc: Global,
     tokens: &[Token<'a>],
-    modules: Option<SymId>,
     names: &mut Names,
 ) -> Result<Statement, LineFault<'a>>
     requires { 1 ≤ length tokens.now }
-    ensures read { IsRead modules names.old names.new (ReadsValue DefaultLine (lexemes_from tokens.now 1)) result }
+    ensures read { IsRead names.old names.new (ReadsValue DefaultLine (lexemes_from tokens.now 1)) result }
     ensures names { Extends names.old names.new }
 {
-    let (value, after) = front(alloc, tokens, 1, None, names)?;
-    let when = condition(alloc, tokens, after, modules, names)?;
+    let (value, after) = front(alloc, tokens, 1, false, names)?;
+    let when = condition(alloc, tokens, after, names)?;
     Ok(Statement::Default(Rc::new(alloc, value)?, when))
 }
 
 fn prompt_line<'a>(
     alloc: Global,
     tokens: &[Token<'a>],
-    modules: Option<SymId>,
     names: &mut Names,
 ) -> Result<Statement, LineFault<'a>>
-    ensures read { IsRead modules names.old names.new (ReadsPrompt PromptLine (lexemes_from tokens.now 1)) result }
+    ensures read { IsRead names.old names.new (ReadsPrompt PromptLine (lexemes_from tokens.now 1)) result }
     ensures names { Extends names.old names.new }
 {
     // The text is not kept.
     raw_text(tokens, 1)?;
-    let when = condition(alloc, tokens, 2, modules, names)?;
+    let when = condition(alloc, tokens, 2, names)?;
     Ok(Statement::Prompt(Prompt { when }))
 }
 
 fn depends_line<'a>(
     alloc: Global,
     tokens: &[Token<'a>],
-    modules: Option<SymId>,
     names: &mut Names,
 ) -> Result<Statement, LineFault<'a>>
-    ensures read { IsRead modules names.old names.new (ReadsDepends (lexemes_from tokens.now 1)) result }
+    ensures read { IsRead names.old names.new (ReadsDepends (lexemes_from tokens.now 1)) result }
     ensures names { Extends names.old names.new }
 {
     if !begins_with(tokens, 1, b"on") {
         return Err(syntax());
     }
-    let when = whole(alloc, tokens, 2, modules, names)?;
+    let when = whole(alloc, tokens, 2, names)?;
     Ok(Statement::Depends(when))
 }
 
 fn end_line<'a>(tokens: &[Token<'a>], statement: Statement) -> Result<Statement, LineFault<'a>>
-    ensures { (x : Named) (modules : Option SymId) (names : List (List ℕ)) → IsMade modules names names statement x → IsRead modules names names (λ r. r ≡ finish x (lexemes_from tokens.now 1)) result }
+    ensures { (x : Named) (names : List (List ℕ)) → IsMade names names statement x → IsRead names names (λ r. r ≡ finish x (lexemes_from tokens.now 1)) result }
 {
     // The call drops the statement once, where `?` would write out the drop of every kind of it.
     if let Err(fault) = end(tokens, 1) {
@@ -152,7 +145,7 @@ fn end_line<'a>(tokens: &[Token<'a>], statement: Statement) -> Result<Statement,
 }
 
 fn choice_line<'a>(tokens: &[Token<'a>]) -> Result<Statement, LineFault<'a>>
-    ensures { (modules : Option SymId) (names : List (List ℕ)) → IsRead modules names names (λ r. r ≡ spec.choice_line (lexemes_from tokens.now 1)) result }
+    ensures { (names : List (List ℕ)) → IsRead names names (λ r. r ≡ spec.choice_line (lexemes_from tokens.now 1)) result }
 {
     match next(tokens, 1) {
         Some(_) => Err(left_out(b"named choice")),
@@ -163,36 +156,34 @@ fn choice_line<'a>(tokens: &[Token<'a>]) -> Result<Statement, LineFault<'a>>
 fn select_line<'a>(
     alloc: Global,
     tokens: &[Token<'a>],
-    modules: Option<SymId>,
     names: &mut Names,
 ) -> Result<Statement, LineFault<'a>>
-    ensures read { IsRead modules names.old names.new (ReadsTarget SelectLine (lexemes_from tokens.now 1)) result }
+    ensures read { IsRead names.old names.new (ReadsTarget SelectLine (lexemes_from tokens.now 1)) result }
     ensures names { Extends names.old names.new }
 {
     let word = target_at(tokens, 1)?;
     let id = name_number(names, word)?;
-    let when = condition(alloc, tokens, 2, modules, names)?;
+    let when = condition(alloc, tokens, 2, names)?;
     Ok(Statement::Select(id, when))
 }
 
 fn range_line<'a>(
     alloc: Global,
     tokens: &[Token<'a>],
-    modules: Option<SymId>,
     names: &mut Names,
 ) -> Result<Statement, LineFault<'a>>
-    ensures read { IsRead modules names.old names.new (ReadsRange (lexemes_from tokens.now 1)) result }
+    ensures read { IsRead names.old names.new (ReadsRange (lexemes_from tokens.now 1)) result }
     ensures names { Extends names.old names.new }
 {
     let low = operand_at(alloc, tokens, 1, names)?;
     let high = operand_at(alloc, tokens, 2, names)?;
-    let when = condition(alloc, tokens, 3, modules, names)?;
+    let when = condition(alloc, tokens, 3, names)?;
     let bounds = Box::new(alloc, Bounds { low, high })?;
     Ok(Statement::Range(bounds, when))
 }
 
 fn option_line<'a>(tokens: &[Token<'a>]) -> Result<Statement, LineFault<'a>>
-    ensures { (modules : Option SymId) (names : List (List ℕ)) → IsRead modules names names (λ r. r ≡ spec.option_line (lexemes_from tokens.now 1)) result }
+    ensures { (names : List (List ℕ)) → IsRead names names (λ r. r ≡ spec.option_line (lexemes_from tokens.now 1)) result }
 {
     if begins_with(tokens, 1, b"modules") {
         end(tokens, 2)?;
@@ -212,7 +203,7 @@ fn option_line<'a>(tokens: &[Token<'a>]) -> Result<Statement, LineFault<'a>>
 }
 
 fn menu_line<'a>(alloc: Global, tokens: &[Token<'a>]) -> Result<Statement, LineFault<'a>>
-    ensures { (modules : Option SymId) (names : List (List ℕ)) → IsRead modules names names (ReadsTextLine MenuLine (lexemes_from tokens.now 1)) result }
+    ensures { (names : List (List ℕ)) → IsRead names names (ReadsTextLine MenuLine (lexemes_from tokens.now 1)) result }
 {
     let text = text_at(alloc, tokens, 1)?;
     end(tokens, 2)?;
@@ -220,7 +211,7 @@ fn menu_line<'a>(alloc: Global, tokens: &[Token<'a>]) -> Result<Statement, LineF
 }
 
 fn main_menu_line<'a>(alloc: Global, tokens: &[Token<'a>]) -> Result<Statement, LineFault<'a>>
-    ensures { (modules : Option SymId) (names : List (List ℕ)) → IsRead modules names names (ReadsTextLine MainMenuLine (lexemes_from tokens.now 1)) result }
+    ensures { (names : List (List ℕ)) → IsRead names names (ReadsTextLine MainMenuLine (lexemes_from tokens.now 1)) result }
 {
     let text = text_at(alloc, tokens, 1)?;
     end(tokens, 2)?;
@@ -230,31 +221,29 @@ fn main_menu_line<'a>(alloc: Global, tokens: &[Token<'a>]) -> Result<Statement, 
 fn imply_line<'a>(
     alloc: Global,
     tokens: &[Token<'a>],
-    modules: Option<SymId>,
     names: &mut Names,
 ) -> Result<Statement, LineFault<'a>>
-    ensures read { IsRead modules names.old names.new (ReadsTarget ImplyLine (lexemes_from tokens.now 1)) result }
+    ensures read { IsRead names.old names.new (ReadsTarget ImplyLine (lexemes_from tokens.now 1)) result }
     ensures names { Extends names.old names.new }
 {
     let word = target_at(tokens, 1)?;
     let id = name_number(names, word)?;
-    let when = condition(alloc, tokens, 2, modules, names)?;
+    let when = condition(alloc, tokens, 2, names)?;
     Ok(Statement::Imply(id, when))
 }
 
 fn visible_line<'a>(
     alloc: Global,
     tokens: &[Token<'a>],
-    modules: Option<SymId>,
     names: &mut Names,
 ) -> Result<Statement, LineFault<'a>>
-    ensures read { IsRead modules names.old names.new (ReadsVisible (lexemes_from tokens.now 1)) result }
+    ensures read { IsRead names.old names.new (ReadsVisible (lexemes_from tokens.now 1)) result }
     ensures names { Extends names.old names.new }
 {
     if !begins_with(tokens, 1, b"if") {
         return Err(syntax());
     }
-    let when = whole(alloc, tokens, 2, modules, names)?;
+    let when = whole(alloc, tokens, 2, names)?;
     Ok(Statement::Visible(when))
 }
 
@@ -262,15 +251,14 @@ fn def_line<'a>(
     alloc: Global,
     tokens: &[Token<'a>],
     kind: Kind,
-    modules: Option<SymId>,
     names: &mut Names,
 ) -> Result<Statement, LineFault<'a>>
     requires { 1 ≤ length tokens.now }
-    ensures read { IsRead modules names.old names.new (ReadsValue (DefLine kind) (lexemes_from tokens.now 1)) result }
+    ensures read { IsRead names.old names.new (ReadsValue (DefLine kind) (lexemes_from tokens.now 1)) result }
     ensures names { Extends names.old names.new }
 {
-    let (value, after) = front(alloc, tokens, 1, None, names)?;
-    let when = condition(alloc, tokens, after, modules, names)?;
+    let (value, after) = front(alloc, tokens, 1, false, names)?;
+    let when = condition(alloc, tokens, after, names)?;
     Ok(Statement::Def(kind, Rc::new(alloc, value)?, when))
 }
 
@@ -278,15 +266,14 @@ fn prompted_type<'a>(
     alloc: Global,
     tokens: &[Token<'a>],
     kind: Kind,
-    modules: Option<SymId>,
     names: &mut Names,
 ) -> Result<Statement, LineFault<'a>>
-    ensures read { IsRead modules names.old names.new (ReadsPrompt (λ p. TypeLine kind (Some p)) (lexemes_from tokens.now 1)) result }
+    ensures read { IsRead names.old names.new (ReadsPrompt (λ p. TypeLine kind (Some p)) (lexemes_from tokens.now 1)) result }
     ensures names { Extends names.old names.new }
 {
     // The text is not kept.
     raw_text(tokens, 1)?;
-    let when = condition(alloc, tokens, 2, modules, names)?;
+    let when = condition(alloc, tokens, 2, names)?;
     Ok(Statement::Type(kind, Some(Prompt { when })))
 }
 
@@ -294,14 +281,13 @@ fn type_line<'a>(
     alloc: Global,
     tokens: &[Token<'a>],
     kind: Kind,
-    modules: Option<SymId>,
     names: &mut Names,
 ) -> Result<Statement, LineFault<'a>>
-    ensures read { IsRead modules names.old names.new (ReadsType kind (lexemes_from tokens.now 1)) result }
+    ensures read { IsRead names.old names.new (ReadsType kind (lexemes_from tokens.now 1)) result }
     ensures names { Extends names.old names.new }
 {
     match next(tokens, 1) {
-        Some(_) => prompted_type(alloc, tokens, kind, modules, names),
+        Some(_) => prompted_type(alloc, tokens, kind, names),
         None => Ok(Statement::Type(kind, None)),
     }
 }
@@ -312,16 +298,15 @@ fn rest_of_line<'a>(
     tokens: &[Token<'a>],
     word: &'a [u8],
     keyword: Keyword,
-    modules: Option<SymId>,
     names: &mut Names,
 ) -> Result<Statement, LineFault<'a>>
     requires { 1 ≤ length tokens.now }
-    ensures read { IsRead modules names.old names.new (ReadsRest word.now keyword (lexemes_from tokens.now 1)) result }
+    ensures read { IsRead names.old names.new (ReadsRest word.now keyword (lexemes_from tokens.now 1)) result }
     ensures names { Extends names.old names.new }
 {
     match keyword {
         Keyword::Config => config_line(tokens, names),
-        Keyword::If => if_line(alloc, tokens, modules, names),
+        Keyword::If => if_line(alloc, tokens, names),
         Keyword::EndIf => end_line(tokens, Statement::EndIf),
         Keyword::Comment => comment_line(alloc, tokens),
         Keyword::Source => source_line(alloc, tokens),
@@ -330,15 +315,15 @@ fn rest_of_line<'a>(
         Keyword::Choice => choice_line(tokens),
         Keyword::EndChoice => end_line(tokens, Statement::EndChoice),
         Keyword::MainMenu => main_menu_line(alloc, tokens),
-        Keyword::Type(kind) => type_line(alloc, tokens, kind, modules, names),
-        Keyword::Prompt => prompt_line(alloc, tokens, modules, names),
-        Keyword::Default => default_line(alloc, tokens, modules, names),
-        Keyword::Def(kind) => def_line(alloc, tokens, kind, modules, names),
-        Keyword::Depends => depends_line(alloc, tokens, modules, names),
-        Keyword::Visible => visible_line(alloc, tokens, modules, names),
-        Keyword::Select => select_line(alloc, tokens, modules, names),
-        Keyword::Imply => imply_line(alloc, tokens, modules, names),
-        Keyword::Range => range_line(alloc, tokens, modules, names),
+        Keyword::Type(kind) => type_line(alloc, tokens, kind, names),
+        Keyword::Prompt => prompt_line(alloc, tokens, names),
+        Keyword::Default => default_line(alloc, tokens, names),
+        Keyword::Def(kind) => def_line(alloc, tokens, kind, names),
+        Keyword::Depends => depends_line(alloc, tokens, names),
+        Keyword::Visible => visible_line(alloc, tokens, names),
+        Keyword::Select => select_line(alloc, tokens, names),
+        Keyword::Imply => imply_line(alloc, tokens, names),
+        Keyword::Range => range_line(alloc, tokens, names),
         Keyword::Help => end_line(tokens, Statement::Help),
         Keyword::Modules => end_line(tokens, Statement::Modules),
         Keyword::Option => option_line(tokens),
@@ -352,7 +337,7 @@ pub(crate) fn read_line<'a>(
     tokens: &[Token<'a>],
     names: &mut Names,
 ) -> Result<Statement, LineFault<'a>>
-    ensures read { IsRead position.now.modules names.old names.new (ReadsLine (context_in position.now.frame.now position.now.progress.now) (lexemes_from tokens.now 0)) result }
+    ensures read { IsRead names.old names.new (ReadsLine (context_in position.now.frame.now position.now.progress.now) (lexemes_from tokens.now 0)) result }
     ensures names { Extends names.old names.new }
 {
     let word = word_at(tokens, 0)?;
@@ -362,12 +347,5 @@ pub(crate) fn read_line<'a>(
     if let Some(fault) = placement_fault(position.frame, position.progress, word, tokens, keyword) {
         return Err(fault);
     }
-    rest_of_line(
-        position.alloc,
-        tokens,
-        word,
-        keyword,
-        position.modules,
-        names,
-    )
+    rest_of_line(position.alloc, tokens, word, keyword, names)
 }

@@ -83,7 +83,7 @@ fn step_of_line<'l>(
     requires short { length line.now ≤ longest_line }
     // Whatever the lines were before.
     ensures step { IfOk result (λ s. (before : UnreadLines) → number ≡ before.number → TakesLine before lines.old line.now
-        → IsStep position.now.modules names.old names.new (context_in position.now.frame.now position.now.progress.now) before lines.new s) }
+        → IsStep names.old names.new (context_in position.now.frame.now position.now.progress.now) before lines.new s) }
     ensures refused { IfErr result (λ r. (before : UnreadLines) → number ≡ before.number → TakesLine before lines.old line.now
         → IsStepRefusal position.now.frame.now.file.value.items (context_in position.now.frame.now position.now.progress.now) before r) }
     ensures memory { IfErr result IsMemory }
@@ -119,7 +119,7 @@ fn next_joined(
     names: &mut Names,
 ) -> Result<Step, Refusal>
     requires { lines.old.refusal ≡ None }
-    ensures step { IfOk result (IsStep position.now.modules names.old names.new (context_in position.now.frame.now position.now.progress.now) lines.old lines.new) }
+    ensures step { IfOk result (IsStep names.old names.new (context_in position.now.frame.now position.now.progress.now) lines.old lines.new) }
     ensures refused { IfErr result (IsStepRefusal position.now.frame.now.file.value.items (context_in position.now.frame.now position.now.progress.now) lines.old) }
     ensures memory { IfErr result IsMemory }
     ensures names { Extends names.old names.new }
@@ -153,7 +153,7 @@ pub(crate) fn next_step<'a>(
     names: &mut Names,
 ) -> Result<Step, Refusal>
     requires { lines.old.refusal ≡ None }
-    ensures step { IfOk result (IsStep position.now.modules names.old names.new (context_in position.now.frame.now position.now.progress.now) lines.old lines.new) }
+    ensures step { IfOk result (IsStep names.old names.new (context_in position.now.frame.now position.now.progress.now) lines.old lines.new) }
     ensures refused { IfErr result (IsStepRefusal position.now.frame.now.file.value.items (context_in position.now.frame.now position.now.progress.now) lines.old) }
     ensures memory { IfErr result IsMemory }
     ensures names { Extends names.old names.new }

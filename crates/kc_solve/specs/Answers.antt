@@ -23,7 +23,11 @@ tri_of s id = truth_of_value (known s id)
 abbrev pub text_of : Solution → SymId → List ℕ
 text_of s id = text_of_value (known s id)
 
--- these three tell what is known
+-- the modules symbol, by which a plain m of a condition counts
+abbrev pub modules_of : Solution → Option SymId
+modules_of s = s.tree.modules
+
+-- the three before tell what is known
 abbrev pub TellsKnown : Solution → Type 0
 TellsKnown s = (id : SymId) → values_by (kind_of s) (tri_of s) (text_of s) id ≡ known s id
 

@@ -1,17 +1,14 @@
 //! What each choice selects, and what is said of each symbol, under the values of a full table.
 
 ghost use Rattle.std.specs.Prelude.{◌≡◌, ◌<◌, false, length, map, slice_index_or, None, IfOk, IfSome};
-ghost use Rattle.std.specs.List.{range_with_len};
 ghost use Rattle.kc_order.specs.Solution.{Solves};
 ghost use Rattle.kc_solve.specs.Flags as flag;
 ghost use Rattle.kc_solve.specs.Flags.{IsSolvedOwn};
-ghost use Rattle.kc_solve.specs.Kept.{valuation};
 ghost use Rattle.kc_user.specs.Places.{ArePlacesOf, member_place, place_at};
-ghost use Rattle.kc_tree.specs.Layouts.{facts_of};
 ghost use Rattle.kc_values.specs.Differs as spec;
 ghost use Rattle.kc_values.specs.Solution.{symbol_count, equations};
 ghost use Rattle.kc_values.specs.Lookups.{choice_at};
-ghost use Rattle.kc_values.specs.TableFacts.{known_at, AreSelected, IsRowOf};
+ghost use Rattle.kc_values.specs.TableFacts.{facts_in, known_at, AreSelected, IsRowOf};
 ghost use Rattle.kc_values.specs.User.{given_in};
 ghost use Rattle.kc_values.specs.Values as value;
 ghost use Rattle.kc_values.specs.Warnings.{value_warnings};
@@ -72,10 +69,8 @@ pub(crate) fn selections(
     requires full { length table.now.values.items ≡ symbol_count table.now.tree.now }
     requires user { ArePlacesOf table.now.tree.now user.now }
     requires selected { AreSelected table.now user.now.choices }
-    ensures selected { IfOk result (λ s. s.selected.items ≡ map
-        (spec.selection table.now.tree.now (place_at user.now) (valuation table.now.tree.now table.now.values.items))
-        (range_with_len 0 (length table.now.tree.now.choices))) }
-    ensures default { IfOk result (λ s. s.default.items ≡ map (spec.default_selection table.now.tree.now (valuation table.now.tree.now table.now.values.items)) (range_with_len 0 (length table.now.tree.now.choices))) }
+    ensures selected { IfOk result (λ s. s.selected.items ≡ flag.selected_by table.now user.now) }
+    ensures default { IfOk result (λ s. s.default.items ≡ flag.selected_by_default table.now) }
 {
     let count = choice_count(table.tree);
     let mut selected = Vec::with_capacity(alloc, count)?;
@@ -120,9 +115,9 @@ fn symbol_differs(
     requires row { IsRowOf table.now id symbol.now }
     requires selections { IfSome symbol.now.choice (λ c. c.0 < length selections.now) }
     requires defaults { IfSome symbol.now.choice (λ c. c.0 < length defaults.now) }
-    requires visibility { visibility ≡ value.visibility table.now.tree.now (known_at table.now) (facts_of table.now.layout.now id.0 symbol.now) }
-    requires solved { IsSolvedOwn table.now.tree.now (known_at table.now) id (facts_of table.now.layout.now id.0 symbol.now) (facts_of table.now.layout.now id.0 symbol.now).choice (given_in user) }
-    ensures { IfOk result (λ b. b ≡ flag.differs_by table.now.tree.now (known_at table.now) id (facts_of table.now.layout.now id.0 symbol.now) (facts_of table.now.layout.now id.0 symbol.now).choice selections.now defaults.now) }
+    requires visibility { visibility ≡ value.visibility table.now.tree.now (known_at table.now) (facts_in table.now id symbol.now) }
+    requires solved { IsSolvedOwn table.now.tree.now (known_at table.now) id (facts_in table.now id symbol.now) (facts_in table.now id symbol.now).choice (given_in user) }
+    ensures { IfOk result (λ b. b ≡ flag.differs_by table.now.tree.now (known_at table.now) id (facts_in table.now id symbol.now) (facts_in table.now id symbol.now).choice selections.now defaults.now) }
 {
     match symbol.choice {
         Some(choice) => Ok(member_differs(
@@ -163,12 +158,12 @@ pub(crate) fn flags_of(
 ) -> Result<Flags, AllocError>
     requires full { length table.now.values.items ≡ symbol_count table.now.tree.now }
     requires user { ArePlacesOf table.now.tree.now user.now }
-    requires solves { Solves (symbol_count table.now.tree.now) (equations table.now.tree.now (place_at user.now)) (valuation table.now.tree.now table.now.values.items) }
-    requires selections { selections.now ≡ map (spec.selection table.now.tree.now (place_at user.now) (valuation table.now.tree.now table.now.values.items)) (range_with_len 0 (length table.now.tree.now.choices)) }
-    requires defaults { defaults.now ≡ map (spec.default_selection table.now.tree.now (valuation table.now.tree.now table.now.values.items)) (range_with_len 0 (length table.now.tree.now.choices)) }
-    ensures differing { IfOk result (λ f. f.differing.items ≡ map (spec.differs table.now.tree.now (place_at user.now) (valuation table.now.tree.now table.now.values.items)) (range_with_len 0 (symbol_count table.now.tree.now))) }
-    ensures written { IfOk result (λ f. f.written.items ≡ map (flag.is_written table.now.tree.now (valuation table.now.tree.now table.now.values.items)) (range_with_len 0 (symbol_count table.now.tree.now))) }
-    ensures warnings { IfOk result (λ f. map (λ w. w.items) f.warnings.items ≡ value_warnings table.now.tree.now (place_at user.now) (valuation table.now.tree.now table.now.values.items)) }
+    requires solves { Solves (symbol_count table.now.tree.now) (equations table.now.tree.now (place_at user.now)) (flag.values_in table.now) }
+    requires selections { selections.now ≡ flag.selected_by table.now user.now }
+    requires defaults { defaults.now ≡ flag.selected_by_default table.now }
+    ensures differing { IfOk result (λ f. f.differing.items ≡ flag.differing_by table.now user.now) }
+    ensures written { IfOk result (λ f. f.written.items ≡ flag.written_in table.now) }
+    ensures warnings { IfOk result (λ f. map (λ w. w.items) f.warnings.items ≡ value_warnings table.now.tree.now (place_at user.now) (flag.values_in table.now)) }
 {
     let count = table.tree.symbol_count();
     let mut differing = Vec::with_capacity(alloc, count)?;

@@ -207,6 +207,8 @@ impl<'a> Values for Solved<'a> {
 
     ghost kind_of = { spec.kind_of };
 
+    ghost modules_of = { spec.modules_of };
+
     fn tri(&self, id: SymId) -> Tri {
         truth_of(id, &self.table)
     }
@@ -217,5 +219,9 @@ impl<'a> Values for Solved<'a> {
 
     fn kind(&self, id: SymId) -> Kind {
         self.table.kind(id)
+    }
+
+    fn modules(&self) -> Option<SymId> {
+        self.table.modules()
     }
 }

@@ -158,3 +158,4 @@ pub record IsLayoutOf (t : TreeFacts) (l : Layout) : Type 0 where
   pub symbols : t.symbols ≡ symbols_in l
   pub choices : t.choices ≡ choices_in l
   pub entries : t.entries ≡ entries_in l
+  pub modules : t.modules ≡ l.modules

@@ -3,7 +3,7 @@ use Rattle.std.specs.Prelude.{◌≡◌, ℕ, true, ◌<◌, ◌≤◌, List, le
 use Rattle.kc_expr.specs.declared.expression.SymId.{SymId}
 use Rattle.kc_expr.specs.declared.expression.Kind.{Kind}
 use Rattle.kc_expr.specs.declared.expression.Kind.TheVariants as kind
-use Rattle.kc_expr.specs.Form.{Form, Leaf, Text, Symbol, Single, Related, Negated, Every, Some_of}
+use Rattle.kc_expr.specs.Form.{Form, Leaf, Text, Symbol, Single, Related, Negated, PlainM, Every, Some_of}
 use Rattle.kc_text.specs.Limits.{longest_line}
 use Rattle.kc_text.specs.Lines.{HoldsNoLineFeed}
 use Rattle.kc_expr.specs.Limits.{longest_name}
@@ -127,6 +127,7 @@ IsLineForm (Single (Text bytes)) = IsLineText bytes
 IsLineForm (Single (Symbol s)) = Unit {0}
 IsLineForm (Related op a b) = Unit {0}
 IsLineForm (Negated f) = Unit {0}
+IsLineForm PlainM = Unit {0}
 IsLineForm (Every fs) = Unit {0}
 IsLineForm (Some_of fs) = Unit {0}
 

@@ -4,4 +4,4 @@ use Rattle.kc_tree.specs.TreeFacts.{TreeFacts}
 use Rattle.kc_tree.specs.Wholes.{tree_of}
 
 abbrev pub tree_of_parts : Inside → TreeFacts
-tree_of_parts t = tree_of t.names (record { layout = t.layout; warnings = t.warnings; main_menu = t.main_menu; modules = t.modules })
+tree_of_parts t = tree_of t.names (record { layout = t.layout; warnings = t.warnings; main_menu = t.main_menu })

@@ -12,5 +12,5 @@ tree_of names p = record {
   entries = entries_in p.layout;
   warnings = map (λ w. w.items) p.warnings.items;
   main_menu = p.main_menu.items;
-  modules = p.modules;
+  modules = p.layout.modules;
 }

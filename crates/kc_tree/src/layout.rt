@@ -67,6 +67,8 @@ impl Tables {
 pub struct Layout {
     pub symbols: Vec<Symbol>,
     pub tables: Tables,
+    /// The modules symbol, by which a plain `m` of a condition counts, where one is defined.
+    pub modules: Option<SymId>,
     ghost few: { length symbols.items + length tables.contexts + length tables.choices.items < 2 ^ 32 },
 }
 
@@ -76,7 +78,6 @@ pub struct TreeParts {
     pub layout: Layout,
     pub warnings: Vec<Vec<u8>>,
     pub main_menu: Vec<u8>,
-    pub modules: Option<SymId>,
 }
 
 // The slice of a table that a span names; an empty one where it is not there.

@@ -24,7 +24,6 @@ pub struct Tree {
     layout: Layout,
     warnings: Vec<Vec<u8>>,
     main_menu: Vec<u8>,
-    modules: Option<SymId>,
 }
 
 impl Model for Tree {
@@ -52,14 +51,12 @@ impl Tree {
             layout,
             warnings,
             main_menu,
-            modules,
         } = parts;
         Tree {
             names,
             layout,
             warnings,
             main_menu,
-            modules,
         }
     }
 
@@ -159,6 +156,6 @@ impl Tree {
     pub fn modules_symbol(&self) -> Option<SymId>
         ensures { result ≡ self.now.modules }
     {
-        self.modules
+        self.layout.modules
     }
 }

@@ -18,8 +18,8 @@ least-y Y = refl
 pub mode_is_prompt : ModeIsPromptCondition
 mode_is_prompt tree known c f p formed at prompt =
     let none = (formed.choices_sound c f at).prompt p prompt in
-    ap (prompt_value known) prompt
-    ∙ sym (least-y (and_value known p.conjuncts)) ∙ ap (λ m. lesser (and_value known p.conjuncts) (mode_value tree known m)) (sym none)
+    ap (prompt_value tree known) prompt
+    ∙ sym (least-y (and_value tree known p.conjuncts)) ∙ ap (λ m. lesser (and_value tree known p.conjuncts) (mode_value tree known m)) (sym none)
 
 some_same : {X : Type 0} (a b : X) → Some a ≡ Some b → a ≡ b
 some_same a b e = cc

@@ -76,32 +76,32 @@ module _ (tree : TreeFacts) (l : Layout) (laid : IsLayoutOf tree l) (g : Nodes) 
   module _ (bound : ℕ) (stand : ContextsStand bound) where
     mode_row : (k : ℕ) (o : Option Choice) → slice_get l.tables.choices.items k ≡ o →
         ((c : Choice) → o ≡ Some c → (c.within.0 < bound) × ((p : EntryPrompt) → c.prompt ≡ Some p → p.visible.0 < bound)) →
-        (list_any st (rows.nodes_of_choice l o) || names tree l v (rows.names_of_choice o)) ≡ names tree l v (spec.prompt_names (option_map (choice_facts l.tables) o))
+        (list_any st (rows.nodes_of_choice l o) || names tree l v (rows.names_of_choice l.modules o)) ≡ names tree l v (spec.prompt_names tree (option_map (choice_facts l.tables) o))
     mode_row k None e there = refl
     mode_row k (Some c) e there =
         let h = there c refl in
-        choice_prompt_needs tree l v st bound stand c.within.0 c.prompt h.0 (l.tables.choices_plain k c e) (λ p q. (h.1 p q, l.tables.choice_prompts_plain k c p e q))
+        choice_prompt_needs tree l v (sym laid.modules) st bound stand c.within.0 c.prompt h.0 (l.tables.choices_plain k c e) (λ p q. (h.1 p q, l.tables.choice_prompts_plain k c p e q))
 
     mode_needs : (o : Option ChoiceId) → ((c : Choice) → rows.choice_row l o ≡ Some c → (c.within.0 < bound) × ((p : EntryPrompt) → c.prompt ≡ Some p → p.visible.0 < bound)) →
         (list_any st (rows.mode_nodes l o) || names tree l v (rows.mode_names l o)) ≡ mode tree l v (mode_view o)
     mode_needs None there = refl
     mode_needs (Some k) there =
-        mode_row k.0 (slice_get l.tables.choices.items k.0) refl there ∙ ap (λ o. names tree l v (spec.prompt_names o)) (sym (choices_laid tree l laid k.0))
+        mode_row k.0 (slice_get l.tables.choices.items k.0) refl there ∙ ap (λ o. names tree l v (spec.prompt_names tree o)) (sym (choices_laid tree l laid k.0))
 
     -- what a context asks for besides the one outside it
     asked_needs : (outer : ℕ) (w : Option (Rc Expr Global)) (o : Option ChoiceId) → outer < bound →
         ((e : Form) → when_view w ≡ Some e → mode_view o ≡ (condition_in l.tables.contexts outer).mode) → (when_view w ≡ None → IsPlain l.tables.contexts outer) →
         ((c : Choice) → rows.choice_row l o ≡ Some c → (c.within.0 < bound) × ((p : EntryPrompt) → c.prompt ≡ Some p → p.visible.0 < bound)) →
-        (list_any st (rows.context_nodes l outer ++ cond (is_some w) [] (rows.mode_nodes l o)) || names tree l v (cond (is_some w) (rows.when_names (when_view w)) (rows.mode_names l o))) ≡
+        (list_any st (rows.context_nodes l outer ++ cond (is_some w) [] (rows.mode_nodes l o)) || names tree l v (cond (is_some w) (rows.when_names l.modules (when_view w)) (rows.mode_names l o))) ≡
         condition_hits tree l v (record { conjuncts = (condition_in l.tables.contexts outer).conjuncts ++ listed (when_view w); mode = mode_view o })
     asked_needs outer (Some e) o b keeps begins there =
         let c = condition_in l.tables.contexts outer in
-        let own = names tree l v (symbols (form_of e.value)) in
+        let own = names tree l v (symbols l.modules (form_of e.value)) in
         ap (λ x. x || own) (list_any-append st (rows.context_nodes l outer) [] ∙ ap (λ x. x || false) (stand outer b ∙ hits_conjuncts tree l v c))
         ∙ turned (forms tree l v c.conjuncts) (mode tree l v c.mode) own
         ∙ sym (hits_conjuncts tree l v (record { conjuncts = c.conjuncts ++ listed (Some (form_of e.value)); mode = mode_view o })
         ∙ ap (λ x. x || mode tree l v (mode_view o))
-        (forms_more tree l v c.conjuncts (listed (Some (form_of e.value))) ∙ ap (λ x. forms tree l v c.conjuncts || x) (forms_when tree l v (Some (form_of e.value))))
+        (forms_more tree l v c.conjuncts (listed (Some (form_of e.value))) ∙ ap (λ x. forms tree l v c.conjuncts || x) (forms_when tree l v (sym laid.modules) (Some (form_of e.value))))
         ∙ ap (λ m. (forms tree l v c.conjuncts || own) || mode tree l v m) (keeps (form_of e.value) refl))
       where
         turned : (a m x : Bool) → (((a || m) || false) || x) ≡ ((a || x) || m)
@@ -168,7 +168,7 @@ module _ (tree : TreeFacts) (l : Layout) (laid : IsLayoutOf tree l) (g : Nodes) 
             of_group (choice_number l k) (omega arith) (omega arith)
             ∙ ap (list_any st) (row_of_choice tree l g made k h.0 h.2 b)
             ∙ of_row (rows.choice_nodes l h.0) (rows.choice_names l h.0)
-            ∙ choice_needs tree l v st stand laid k h.0 h.2
+            ∙ choice_needs tree l v (sym laid.modules) st stand laid k h.0 h.2
             ∙ ap (λ o. names tree l v (spec.names_of_choice tree o)) (sym (choices_laid tree l laid k ∙ ap (option_map (choice_facts l.tables)) h.2))
         | inr h ↦ absurd (omega (arith, h.0))
       ]
@@ -181,7 +181,7 @@ module _ (tree : TreeFacts) (l : Layout) (laid : IsLayoutOf tree l) (g : Nodes) 
           | inl h ↦
               ap (list_any st) (row_of_symbol tree l g made i h.0 b h.2)
               ∙ of_row (rows.symbol_nodes l i h.0) (rows.symbol_names tree l i h.0)
-              ∙ symbol_needs tree l v st stand i h.0 (λ k e. choice_stands k.0 (there i h.0 k h.2 e))
+              ∙ symbol_needs tree l v (sym laid.modules) st stand i h.0 (λ k e. choice_stands k.0 (there i h.0 k h.2 e))
               ∙ ap (λ o. names tree l v (spec.names_of tree o)) (sym (facts_laid tree l laid i ∙ ap (option_map (facts_of l i)) h.2))
           | inr h ↦ absurd (omega (arith, h.0))
         ]

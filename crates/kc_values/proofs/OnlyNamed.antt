@@ -8,7 +8,7 @@ use Rattle.kc_expr.specs.declared.expression.Tri.{Tri}
 use Rattle.kc_expr.specs.declared.expression.Tri.TheVariants.{N, M, Y}
 use Rattle.kc_expr.specs.declared.expression.Kind.{Kind}
 use Rattle.kc_expr.specs.declared.expression.Kind.TheVariants.{Undefined, Bool as IsBool, Tristate, Str, Int, Hex}
-use Rattle.kc_expr.specs.Form.{Form, Leaf, Text, Symbol, Single, Related, Negated, Every, Some_of, symbols, leaf_symbols}
+use Rattle.kc_expr.specs.Form.{Form, Leaf, Text, Symbol, Single, Related, Negated, PlainM, Every, Some_of, symbols, leaf_symbols}
 use Rattle.kc_expr.specs.Value.{SymbolValue, Truth, TextValue, value, text, least, greatest, lesser, greater, truth_of_value, text_of_value, DependsOnSymbols}
 use Rattle.kc_tree.specs.TreeFacts.{Condition, Guarded, Bounds, SymbolFacts, ChoiceFacts, TreeFacts}
 use Rattle.kc_expr.specs.Names.{symbol, same_symbol}
@@ -38,21 +38,21 @@ module _ (law : DependsOnSymbols) (tree : TreeFacts) (k l : SymId → SymbolValu
   back : (xs ys : List SymId) → Sames (xs ++ ys) → Sames ys
   back xs ys h = back_of Same xs ys h
 
-  same_value : (f : Form) → Sames (symbols f) → value k f ≡ value l f
-  same_value f h = law k l f (All-from_recursion Same (symbols f) h)
+  same_value : (f : Form) → Sames (symbols tree.modules f) → value k tree.modules f ≡ value l tree.modules f
+  same_value f h = law k l tree.modules f (All-from_recursion Same (symbols tree.modules f) h)
 
   same_text : (o : Leaf) → Sames (leaf_symbols o) → text k o ≡ text l o
   same_text (Text bytes) h = refl
   same_text (Symbol s) h = ap text_of_value h.0
 
-  same_and_value : (conjuncts : List Form) → Sames (flat_map symbols conjuncts) → v.and_value k conjuncts ≡ v.and_value l conjuncts
-  same_and_value conjuncts h = ap least (map_same Same symbols (value k) (value l) same_value conjuncts h)
+  same_and_value : (conjuncts : List Form) → Sames (flat_map (symbols tree.modules) conjuncts) → v.and_value tree k conjuncts ≡ v.and_value tree l conjuncts
+  same_and_value conjuncts h = ap least (map_same Same (symbols tree.modules) (value k tree.modules) (value l tree.modules) same_value conjuncts h)
 
-  same_prompt : (p : Option Condition) → Sames (n.conjunct_names p) → v.prompt_value k p ≡ v.prompt_value l p
+  same_prompt : (p : Option Condition) → Sames (n.conjunct_names tree p) → v.prompt_value tree k p ≡ v.prompt_value tree l p
   same_prompt None h = refl
   same_prompt (Some c) h = same_and_value c.conjuncts h
 
-  same_mode : (c : Option ChoiceFacts) → Sames (n.prompt_names c) → v.mode_of k c ≡ v.mode_of l c
+  same_mode : (c : Option ChoiceFacts) → Sames (n.prompt_names tree c) → v.mode_of tree k c ≡ v.mode_of tree l c
   same_mode None h = refl
   same_mode (Some c) h = ap upgrade (same_prompt c.prompt h)
 
@@ -62,8 +62,8 @@ module _ (law : DependsOnSymbols) (tree : TreeFacts) (k l : SymId → SymbolValu
 
   pub same_condition : (c : Condition) → Sames (n.condition_names tree c) → v.condition tree k c ≡ v.condition tree l c
   same_condition c h =
-      let a = same_and_value c.conjuncts (front (flat_map symbols c.conjuncts) (n.mode_names tree c.mode) h) in
-      let b = same_mode_value c.mode (back (flat_map symbols c.conjuncts) (n.mode_names tree c.mode) h) in
+      let a = same_and_value c.conjuncts (front (flat_map (symbols tree.modules) c.conjuncts) (n.mode_names tree c.mode) h) in
+      let b = same_mode_value c.mode (back (flat_map (symbols tree.modules) c.conjuncts) (n.mode_names tree c.mode) h) in
       cc
 
   same_conditions : (cs : List Condition) → Sames (flat_map (n.condition_names tree) cs) → v.conditions tree k cs ≡ v.conditions tree l cs
@@ -131,22 +131,23 @@ module _ (law : DependsOnSymbols) (tree : TreeFacts) (k l : SymId → SymbolValu
       (λ g hs. let a = ap truth_of_value hs.0 in let b = same_condition g.when hs.1 in cc)
       gs h)
 
-  same_default : (f : SymbolFacts) → Sames (n.guarded_names tree symbols f.defaults) → v.default_value tree k (v.first_met tree k f.defaults) ≡ v.default_value tree l (v.first_met tree l f.defaults)
+  same_default : (f : SymbolFacts) → Sames (n.guarded_names tree (symbols tree.modules) f.defaults) → v.default_value tree k (v.first_met tree k f.defaults) ≡ v.default_value tree l (v.first_met tree l f.defaults)
   same_default f h =
-      same_first symbols (v.default_value tree k) (v.default_value tree l) refl
+      same_first (symbols tree.modules) (v.default_value tree k) (v.default_value tree l) refl
       (λ g a b. let x = same_value g.what a in let y = same_condition g.when b in cc)
       f.defaults h
 
-  same_single : (f : Form) → Sames (symbols f) → v.single_text k f ≡ v.single_text l f
+  same_single : (f : Form) → Sames (symbols tree.modules f) → v.single_text k f ≡ v.single_text l f
   same_single (Single o) h = same_text o h
   same_single (Related op a b) h = refl
   same_single (Negated f) h = refl
+  same_single PlainM h = refl
   same_single (Every fs) h = refl
   same_single (Some_of fs) h = refl
 
-  same_default_text : (f : SymbolFacts) → Sames (n.guarded_names tree symbols f.defaults) → v.default_text k (v.first_met tree k f.defaults) ≡ v.default_text l (v.first_met tree l f.defaults)
+  same_default_text : (f : SymbolFacts) → Sames (n.guarded_names tree (symbols tree.modules) f.defaults) → v.default_text k (v.first_met tree k f.defaults) ≡ v.default_text l (v.first_met tree l f.defaults)
   same_default_text f h =
-      same_first symbols (v.default_text k) (v.default_text l) refl (λ g a b. same_single g.what a) f.defaults h
+      same_first (symbols tree.modules) (v.default_text k) (v.default_text l) refl (λ g a b. same_single g.what a) f.defaults h
 
   same_base : (user : Option GivenValue) (vis vis' d d' weak_reverse weak' dir dir' reverse rev' : Tri) → vis ≡ vis' → d ≡ d' → weak_reverse ≡ weak' → dir ≡ dir' → reverse ≡ rev' →
       greater (v.user_or user vis (v.implied d weak_reverse dir)) reverse ≡ greater (v.user_or user vis' (v.implied d' weak' dir')) rev'
@@ -171,7 +172,7 @@ module _ (law : DependsOnSymbols) (tree : TreeFacts) (k l : SymId → SymbolValu
     Prompts = flat_map (n.condition_names tree) f.prompts
 
     abbrev Defaults : List SymId
-    Defaults = n.guarded_names tree symbols f.defaults
+    Defaults = n.guarded_names tree (symbols tree.modules) f.defaults
 
     abbrev Deps : List SymId
     Deps = flat_map (n.condition_names tree) f.dependencies
@@ -272,7 +273,7 @@ module _ (law : DependsOnSymbols) (tree : TreeFacts) (k l : SymId → SymbolValu
   pub same_selected : (c : Option ChoiceFacts) (user : Option GivenValue) → Sames (n.names_of_choice tree c) → v.selected tree k c user ≡ v.selected tree l c user
   same_selected None user h = refl
   same_selected (Some c) user h =
-      let Own = n.conjunct_names c.prompt in
+      let Own = n.conjunct_names tree c.prompt in
       let Defaults = n.guarded_names tree (n.no_name) c.defaults in
       let shown = front (Shown c) (Own ++ Defaults) h in
       let more1 = back (Shown c) (Own ++ Defaults) h in

@@ -25,11 +25,11 @@ module _ (l : Layout) (id : ReverseId) where
   nodes_next r e = ap (flat_map (λ (x : Reverse). source_nodes l (stored_definition l x.source))) (line_next r e)
 
   pub names_next : (r : Reverse) → slice_get l.tables.reverses.lines.items id.0 ≡ Some r →
-      reverses_names l (Some id) ≡ source_names r (stored_definition l r.source) ++ reverses_names l r.next
-  names_next r e = ap (flat_map (λ (x : Reverse). source_names x (stored_definition l x.source))) (line_next r e)
+      reverses_names l (Some id) ≡ source_names l.modules r (stored_definition l r.source) ++ reverses_names l r.next
+  names_next r e = ap (flat_map (λ (x : Reverse). source_names l.modules x (stored_definition l x.source))) (line_next r e)
 
   pub nodes_past : slice_get l.tables.reverses.lines.items id.0 ≡ None → reverses_nodes l (Some id) ≡ []
   nodes_past e = ap (flat_map (λ (x : Reverse). source_nodes l (stored_definition l x.source))) (line_past e)
 
   pub names_past : slice_get l.tables.reverses.lines.items id.0 ≡ None → reverses_names l (Some id) ≡ []
-  names_past e = ap (flat_map (λ (x : Reverse). source_names x (stored_definition l x.source))) (line_past e)
+  names_past e = ap (flat_map (λ (x : Reverse). source_names l.modules x (stored_definition l x.source))) (line_past e)

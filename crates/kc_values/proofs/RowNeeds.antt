@@ -84,7 +84,7 @@ module _ (tree : TreeFacts) (l : Layout) (v : ℕ) where
   names ss = list_any hit ss
 
   abbrev pub forms : List Form → Bool
-  forms fs = names (flat_map symbols fs)
+  forms fs = names (flat_map (symbols tree.modules) fs)
 
   abbrev pub mode : Option ℕ → Bool
   mode o = names (spec.mode_names tree o)
@@ -93,14 +93,10 @@ module _ (tree : TreeFacts) (l : Layout) (v : ℕ) where
   condition_hits c = names (spec.condition_names tree c)
 
   pub hits_conjuncts : (c : Condition) → condition_hits c ≡ (forms c.conjuncts || mode c.mode)
-  hits_conjuncts c = list_any-append hit (flat_map symbols c.conjuncts) (spec.mode_names tree c.mode)
+  hits_conjuncts c = list_any-append hit (flat_map (symbols tree.modules) c.conjuncts) (spec.mode_names tree c.mode)
 
   pub forms_more : (fs gs : List Form) → forms (fs ++ gs) ≡ (forms fs || forms gs)
-  forms_more fs gs = ap names (flat_map-append symbols fs gs) ∙ list_any-append hit (flat_map symbols fs) (flat_map symbols gs)
-
-  pub forms_when : (o : Option Form) → forms (listed o) ≡ names (rows.when_names o)
-  forms_when None = refl
-  forms_when (Some f) = ap names (append-nil (symbols f))
+  forms_more fs gs = ap names (flat_map-append (symbols tree.modules) fs gs) ∙ list_any-append hit (flat_map (symbols tree.modules) fs) (flat_map (symbols tree.modules) gs)
 
   pub no_mode : (o : Option ℕ) → is_some o ≡ false → mode o ≡ false
   no_mode None e = refl
@@ -115,54 +111,60 @@ module _ (tree : TreeFacts) (l : Layout) (v : ℕ) where
       turned : (a b c : Bool) → ((a || b) || c) ≡ ((a || c) || b)
       turned a b c = grind arith
 
-  hits_when : (c : Condition) (w : Option Form) → condition_hits (with_when c w) ≡ (condition_hits c || names (rows.when_names w))
-  hits_when c w = hits_more c (listed w) ∙ ap (λ b. condition_hits c || b) (forms_when w)
+  module _ (alike : l.modules ≡ tree.modules) where
+    pub forms_when : (o : Option Form) → forms (listed o) ≡ names (rows.when_names l.modules o)
+    forms_when None = refl
+    forms_when (Some f) = ap names (append-nil (symbols tree.modules f)) ∙ ap (λ m. names (symbols m f)) (sym alike)
 
-  -- things under the same condition, each with names of its own
-  guarded : {X Y : Type 0} (view : Y → Guarded X) (what : X → List SymId) (own : Y → List SymId) (a : Bool) →
-      ((y : Y) → (names (what (view y).what) || condition_hits (view y).when) ≡ (a || names (own y))) →
-      (ys : List Y) → names (spec.guarded_names tree what (map view ys)) ≡ ((has_some ys && a) || names (flat_map own ys))
-  guarded {X} view what own a h ys =
-      let each : Guarded X → List SymId = λ g. what g.what ++ spec.condition_names tree g.when in
-      any_flat hit each (map view ys)
-      ∙ any_map (λ g. names (each g)) view ys
-      ∙ any_same (λ y. names (each (view y))) (λ y. a || names (own y)) (λ y. list_any-append hit (what (view y).what) (spec.condition_names tree (view y).when) ∙ h y) ys
-      ∙ any_beside a (λ y. names (own y)) ys
-      ∙ ap (λ b. (has_some ys && a) || b) (sym (any_flat hit own ys))
+    hits_when : (c : Condition) (w : Option Form) → condition_hits (with_when c w) ≡ (condition_hits c || names (rows.when_names l.modules w))
+    hits_when c w = hits_more c (listed w) ∙ ap (λ b. condition_hits c || b) (forms_when w)
 
-  defaults_names : (c : Condition) (ds : List SymbolDefault) →
-      names (spec.guarded_names tree symbols (map (default_view c) ds)) ≡ ((has_some ds && condition_hits c) || names (flat_map rows.default_names ds))
-  defaults_names c = guarded (default_view c) symbols rows.default_names (condition_hits c) one
-    where
-      turned : (x a w : Bool) → (x || (a || w)) ≡ (a || (x || w))
-      turned x a w = grind arith
+    -- things under the same condition, each with names of its own
+    guarded : {X Y : Type 0} (view : Y → Guarded X) (what : X → List SymId) (own : Y → List SymId) (a : Bool) →
+        ((y : Y) → (names (what (view y).what) || condition_hits (view y).when) ≡ (a || names (own y))) →
+        (ys : List Y) → names (spec.guarded_names tree what (map view ys)) ≡ ((has_some ys && a) || names (flat_map own ys))
+    guarded {X} view what own a h ys =
+        let each : Guarded X → List SymId = λ g. what g.what ++ spec.condition_names tree g.when in
+        any_flat hit each (map view ys)
+        ∙ any_map (λ g. names (each g)) view ys
+        ∙ any_same (λ y. names (each (view y))) (λ y. a || names (own y)) (λ y. list_any-append hit (what (view y).what) (spec.condition_names tree (view y).when) ∙ h y) ys
+        ∙ any_beside a (λ y. names (own y)) ys
+        ∙ ap (λ b. (has_some ys && a) || b) (sym (any_flat hit own ys))
 
-      one : (d : SymbolDefault) → (names (symbols (form_of d.value.value)) || condition_hits (with_when c (when_view d.when))) ≡ (condition_hits c || names (rows.default_names d))
-      one d =
-          ap (λ b. names (symbols (form_of d.value.value)) || b) (hits_when c (when_view d.when))
-          ∙ turned (names (symbols (form_of d.value.value))) (condition_hits c) (names (rows.when_names (when_view d.when)))
-          ∙ ap (λ b. condition_hits c || b) (sym (list_any-append hit (symbols (form_of d.value.value)) (rows.when_names (when_view d.when))))
+    defaults_names : (c : Condition) (ds : List SymbolDefault) →
+        names (spec.guarded_names tree (symbols tree.modules) (map (default_view c) ds)) ≡ ((has_some ds && condition_hits c) || names (flat_map (rows.default_names l.modules) ds))
+    defaults_names c = guarded (default_view c) (symbols tree.modules) (rows.default_names l.modules) (condition_hits c) one
+      where
+        turned : (x a w : Bool) → (x || (a || w)) ≡ (a || (x || w))
+        turned x a w = grind arith
 
-  ranges_names : (c : Condition) (rs : List SymbolRange) →
-      names (spec.guarded_names tree spec.bounds_names (map (range_view c) rs)) ≡ ((has_some rs && condition_hits c) || names (flat_map rows.range_names rs))
-  ranges_names c = guarded (range_view c) spec.bounds_names rows.range_names (condition_hits c) one
-    where
-      turned : (x a w : Bool) → (x || (a || w)) ≡ (a || (x || w))
-      turned x a w = grind arith
+        one : (d : SymbolDefault) → (names (symbols tree.modules (form_of d.value.value)) || condition_hits (with_when c (when_view d.when))) ≡ (condition_hits c || names (rows.default_names l.modules d))
+        one d =
+            ap (λ b. names (symbols tree.modules (form_of d.value.value)) || b) (hits_when c (when_view d.when))
+            ∙ turned (names (symbols tree.modules (form_of d.value.value))) (condition_hits c) (names (rows.when_names l.modules (when_view d.when)))
+            ∙ ap (λ m. condition_hits c || (names (symbols m (form_of d.value.value)) || names (rows.when_names l.modules (when_view d.when)))) (sym alike)
+            ∙ ap (λ b. condition_hits c || b) (sym (list_any-append hit (symbols l.modules (form_of d.value.value)) (rows.when_names l.modules (when_view d.when))))
 
-      one : (r : SymbolRange) → (names (leaf_symbols (leaf_of r.low) ++ leaf_symbols (leaf_of r.high)) || condition_hits (with_when c (when_view r.when)))
-          ≡ (condition_hits c || names (rows.range_names r))
-      one r =
-          let bounds = leaf_symbols (leaf_of r.low) ++ leaf_symbols (leaf_of r.high) in
-          ap (λ b. names bounds || b) (hits_when c (when_view r.when)) ∙ turned (names bounds) (condition_hits c) (names (rows.when_names (when_view r.when)))
-          ∙ ap (λ b. condition_hits c || b) (sym (list_any-append hit bounds (rows.when_names (when_view r.when))))
+    ranges_names : (c : Condition) (rs : List SymbolRange) →
+        names (spec.guarded_names tree spec.bounds_names (map (range_view c) rs)) ≡ ((has_some rs && condition_hits c) || names (flat_map (rows.range_names l.modules) rs))
+    ranges_names c = guarded (range_view c) spec.bounds_names (rows.range_names l.modules) (condition_hits c) one
+      where
+        turned : (x a w : Bool) → (x || (a || w)) ≡ (a || (x || w))
+        turned x a w = grind arith
 
-  choice_defaults_names : (c : Condition) (ds : List ChoiceDefault) →
-      names (spec.guarded_names tree spec.no_name (map (choice_default_view c) ds)) ≡ ((has_some ds && condition_hits c) || names (flat_map rows.choice_default_names ds))
-  choice_defaults_names c = guarded (choice_default_view c) spec.no_name rows.choice_default_names (condition_hits c) (λ d. hits_when c (when_view d.when))
+        one : (r : SymbolRange) → (names (leaf_symbols (leaf_of r.low) ++ leaf_symbols (leaf_of r.high)) || condition_hits (with_when c (when_view r.when)))
+            ≡ (condition_hits c || names (rows.range_names l.modules r))
+        one r =
+            let bounds = leaf_symbols (leaf_of r.low) ++ leaf_symbols (leaf_of r.high) in
+            ap (λ b. names bounds || b) (hits_when c (when_view r.when)) ∙ turned (names bounds) (condition_hits c) (names (rows.when_names l.modules (when_view r.when)))
+            ∙ ap (λ b. condition_hits c || b) (sym (list_any-append hit bounds (rows.when_names l.modules (when_view r.when))))
+
+    choice_defaults_names : (c : Condition) (ds : List ChoiceDefault) →
+        names (spec.guarded_names tree spec.no_name (map (choice_default_view c) ds)) ≡ ((has_some ds && condition_hits c) || names (flat_map (rows.choice_default_names l.modules) ds))
+    choice_defaults_names c = guarded (choice_default_view c) spec.no_name (rows.choice_default_names l.modules) (condition_hits c) (λ d. hits_when c (when_view d.when))
 
 -- Under what each node stands for: of contexts below a bound what their conditions name.
-module _ (tree : TreeFacts) (l : Layout) (v : ℕ) (st : ℕ → Bool) (bound : ℕ)
+module _ (tree : TreeFacts) (l : Layout) (v : ℕ) (alike : l.modules ≡ tree.modules) (st : ℕ → Bool) (bound : ℕ)
     (at : (i : ℕ) → i < bound → list_any st (rows.context_nodes l i) ≡ condition_hits tree l v (condition_in l.tables.contexts i)) where
   abbrev known : List ℕ → Bool
   known ns = list_any st ns
@@ -175,7 +177,7 @@ module _ (tree : TreeFacts) (l : Layout) (v : ℕ) (st : ℕ → Bool) (bound : 
   IsBelow o = (p : EntryPrompt) → o ≡ Some p → (p.visible.0 < bound) × IsPlain l.tables.contexts p.visible.0
 
   abbrev prompt_own : Option EntryPrompt → Bool
-  prompt_own o = known (rows.prompt_nodes l o) || names tree l v (rows.prompt_names o)
+  prompt_own o = known (rows.prompt_nodes l o) || names tree l v (rows.prompt_names l.modules o)
 
   prompt_hits : (c : Condition) (o : Option EntryPrompt) → IsBelow o → passes (condition_hits tree l v) (option_map (prompt_view l.tables.contexts c) o)
       ≡ ((is_some o && condition_hits tree l v c) || prompt_own o)
@@ -183,21 +185,21 @@ module _ (tree : TreeFacts) (l : Layout) (v : ℕ) (st : ℕ → Bool) (bound : 
   prompt_hits c (Some p) h =
       let visible = (cond_at p.visible.0).conjuncts in
       let there = h p refl in
-      let conjuncts = names tree l v (flat_map symbols visible) in
-      let when = names tree l v (rows.when_names (when_view p.when)) in
+      let conjuncts = names tree l v (flat_map (symbols tree.modules) visible) in
+      let when = names tree l v (rows.when_names l.modules (when_view p.when)) in
       let same : known (rows.context_nodes l p.visible.0) ≡ (conjuncts || false) =
       at p.visible.0 there.0 ∙ hits_conjuncts tree l v (cond_at p.visible.0) ∙ ap (λ b. conjuncts || b) (no_mode tree l v (cond_at p.visible.0).mode there.1) in
-      hits_when tree l v (with_conjuncts c visible) (when_view p.when) ∙ ap (λ b. b || when) (hits_more tree l v c visible)
+      hits_when tree l v alike (with_conjuncts c visible) (when_view p.when) ∙ ap (λ b. b || when) (hits_more tree l v c visible)
       ∙ turned (condition_hits tree l v c) conjuncts when (known (rows.context_nodes l p.visible.0)) same
     where
       turned : (a x w k : Bool) → k ≡ (x || false) → ((a || x) || w) ≡ ((true && a) || (k || w))
       turned a x w k e = grind arith
 
   -- of a choice the conjuncts alone
-  conjuncts_hit : (o : Option Condition) → ((c : Condition) → o ≡ Some c → is_some c.mode ≡ false) → names tree l v (spec.conjunct_names o) ≡ passes (condition_hits tree l v) o
+  conjuncts_hit : (o : Option Condition) → ((c : Condition) → o ≡ Some c → is_some c.mode ≡ false) → names tree l v (spec.conjunct_names tree o) ≡ passes (condition_hits tree l v) o
   conjuncts_hit None h = refl
   conjuncts_hit (Some c) h =
-      sym (hits_conjuncts tree l v c ∙ ap (λ b. names tree l v (flat_map symbols c.conjuncts) || b) (no_mode tree l v c.mode (h c refl)) ∙ drop_false (names tree l v (flat_map symbols c.conjuncts)))
+      sym (hits_conjuncts tree l v c ∙ ap (λ b. names tree l v (flat_map (symbols tree.modules) c.conjuncts) || b) (no_mode tree l v c.mode (h c refl)) ∙ drop_false (names tree l v (flat_map (symbols tree.modules) c.conjuncts)))
     where
       drop_false : (b : Bool) → (b || false) ≡ b
       drop_false b = grind arith
@@ -210,14 +212,14 @@ module _ (tree : TreeFacts) (l : Layout) (v : ℕ) (st : ℕ → Bool) (bound : 
 
   -- a prompt and the context that it stands in
   prompt_needs : (within : ℕ) (o : Option EntryPrompt) → within < bound → IsBelow o →
-      (known (cond (is_some o) (rows.context_nodes l within) [] ++ rows.prompt_nodes l o) || names tree l v (rows.prompt_names o)) ≡
+      (known (cond (is_some o) (rows.context_nodes l within) [] ++ rows.prompt_nodes l o) || names tree l v (rows.prompt_names l.modules o)) ≡
       passes (condition_hits tree l v) (option_map (prompt_view l.tables.contexts (cond_at within)) o)
   prompt_needs within o b h =
       let own = rows.context_nodes l within in
       let rest = known (rows.prompt_nodes l o) in
       let first : known (cond (is_some o) own []) ≡ (is_some o && condition_hits tree l v (cond_at within)) = any_if st (is_some o) own ∙ ap (λ x. is_some o && x) (at within b) in
-      ap (λ x. x || names tree l v (rows.prompt_names o)) (list_any-append st (cond (is_some o) own []) (rows.prompt_nodes l o) ∙ ap (λ x. x || rest) first)
-      ∙ regroup (is_some o && condition_hits tree l v (cond_at within)) rest (names tree l v (rows.prompt_names o))
+      ap (λ x. x || names tree l v (rows.prompt_names l.modules o)) (list_any-append st (cond (is_some o) own []) (rows.prompt_nodes l o) ∙ ap (λ x. x || rest) first)
+      ∙ regroup (is_some o && condition_hits tree l v (cond_at within)) rest (names tree l v (rows.prompt_names l.modules o))
       ∙ sym (prompt_hits (cond_at within) o h)
     where
       regroup : (a b c : Bool) → ((a || b) || c) ≡ (a || (b || c))
@@ -225,42 +227,42 @@ module _ (tree : TreeFacts) (l : Layout) (v : ℕ) (st : ℕ → Bool) (bound : 
 
   -- that of a choice, whose conjuncts alone count
   pub choice_prompt_needs : (within : ℕ) (o : Option EntryPrompt) → within < bound → IsPlain l.tables.contexts within → IsBelow o →
-      (known (cond (is_some o) (rows.context_nodes l within) [] ++ rows.prompt_nodes l o) || names tree l v (rows.prompt_names o)) ≡
-      names tree l v (spec.conjunct_names (option_map (prompt_view l.tables.contexts (cond_at within)) o))
+      (known (cond (is_some o) (rows.context_nodes l within) [] ++ rows.prompt_nodes l o) || names tree l v (rows.prompt_names l.modules o)) ≡
+      names tree l v (spec.conjunct_names tree (option_map (prompt_view l.tables.contexts (cond_at within)) o))
   choice_prompt_needs within o b plain h =
       prompt_needs within o b h ∙ sym (conjuncts_hit (option_map (prompt_view l.tables.contexts (cond_at within)) o) (view_plain (cond_at within) o plain))
 
   -- a definition whose context is below the bound
   module _ (d : Definition) (within : d.within.0 < bound) (prompt : IsBelow d.prompt) where
     -- its prompt alone
-    entry_needs : (known (rows.entry_nodes l d) || names tree l v (rows.entry_names d)) ≡ passes (condition_hits tree l v) (definition_facts l.tables d).prompt
+    entry_needs : (known (rows.entry_nodes l d) || names tree l v (rows.entry_names l.modules d)) ≡ passes (condition_hits tree l v) (definition_facts l.tables d).prompt
     entry_needs = prompt_needs d.within.0 d.prompt within prompt
 
     definition_needs : (kind : Kind) → (known (rows.definition_nodes l kind d) || names tree l v (rows.definition_names l kind d)) ≡
         ((rows.is_truth kind && condition_hits tree l v (definition_facts l.tables d).dependency)
-        || ((passes (condition_hits tree l v) (definition_facts l.tables d).prompt || names tree l v (spec.guarded_names tree symbols (definition_facts l.tables d).defaults))
+        || ((passes (condition_hits tree l v) (definition_facts l.tables d).prompt || names tree l v (spec.guarded_names tree (symbols tree.modules) (definition_facts l.tables d).defaults))
         || (rows.is_number kind && names tree l v (spec.guarded_names tree spec.bounds_names (definition_facts l.tables d).ranges))))
     definition_needs kind =
         let c = cond_at d.within.0 in
         let ds = rows.defaults_of l d in
         let rs = rows.ranges_of l d in
         let pn = known (rows.prompt_nodes l d.prompt) in
-        let pw = names tree l v (rows.prompt_names d.prompt) in
-        let dn = names tree l v (flat_map rows.default_names ds) in
-        let rn = names tree l v (flat_map rows.range_names rs) in
+        let pw = names tree l v (rows.prompt_names l.modules d.prompt) in
+        let dn = names tree l v (flat_map (rows.default_names l.modules) ds) in
+        let rn = names tree l v (flat_map (rows.range_names l.modules) rs) in
         let nodes : known (rows.definition_nodes l kind d) ≡ ((rows.is_read l kind d && condition_hits tree l v c) || pn) =
         list_any-append st (cond (rows.is_read l kind d) (rows.context_nodes l d.within.0) []) (rows.prompt_nodes l d.prompt)
         ∙ ap (λ x. x || pn) (any_if st (rows.is_read l kind d) (rows.context_nodes l d.within.0) ∙ ap (λ x. rows.is_read l kind d && x) (at d.within.0 within)) in
         let own : names tree l v (rows.definition_names l kind d) ≡ ((pw || dn) || (rows.is_number kind && rn)) =
-        list_any-append (hit tree l v) (rows.prompt_names d.prompt ++ flat_map rows.default_names ds) (cond (rows.is_number kind) (flat_map rows.range_names rs) [])
-        ∙ ap (λ x. x || names tree l v (cond (rows.is_number kind) (flat_map rows.range_names rs) [])) (list_any-append (hit tree l v) (rows.prompt_names d.prompt) (flat_map rows.default_names ds))
-        ∙ ap (λ x. (pw || dn) || x) (any_if (hit tree l v) (rows.is_number kind) (flat_map rows.range_names rs)) in
+        list_any-append (hit tree l v) (rows.prompt_names l.modules d.prompt ++ flat_map (rows.default_names l.modules) ds) (cond (rows.is_number kind) (flat_map (rows.range_names l.modules) rs) [])
+        ∙ ap (λ x. x || names tree l v (cond (rows.is_number kind) (flat_map (rows.range_names l.modules) rs) [])) (list_any-append (hit tree l v) (rows.prompt_names l.modules d.prompt) (flat_map (rows.default_names l.modules) ds))
+        ∙ ap (λ x. (pw || dn) || x) (any_if (hit tree l v) (rows.is_number kind) (flat_map (rows.range_names l.modules) rs)) in
         let p = prompt_hits c d.prompt prompt in
-        let df = defaults_names tree l v c ds in
-        let rf = ranges_names tree l v c rs in
+        let df = defaults_names tree l v alike c ds in
+        let rf = ranges_names tree l v alike c rs in
         together (rows.is_truth kind) (is_some d.prompt) (has_some ds) (has_some rs) (nat_lt 0 (length ds)) (nat_lt 0 (length rs)) (rows.is_number kind) (condition_hits tree l v c) pn pw dn rn
         (known (rows.definition_nodes l kind d)) (names tree l v (rows.definition_names l kind d)) (passes (condition_hits tree l v) (definition_facts l.tables d).prompt)
-        (names tree l v (spec.guarded_names tree symbols (definition_facts l.tables d).defaults)) (names tree l v (spec.guarded_names tree spec.bounds_names (definition_facts l.tables d).ranges))
+        (names tree l v (spec.guarded_names tree (symbols tree.modules) (definition_facts l.tables d).defaults)) (names tree l v (spec.guarded_names tree spec.bounds_names (definition_facts l.tables d).ranges))
         (some_length ds) (some_length rs) nodes own p df rf
       where
         together : (t sp sd sr ld lr n a pn pw dn rn ns ow p df rf : Bool) → ld ≡ sd → lr ≡ sr →
@@ -269,12 +271,12 @@ module _ (tree : TreeFacts) (l : Layout) (v : ℕ) (st : ℕ → Bool) (bound : 
         together t sp sd sr ld lr n a pn pw dn rn ns ow p df rf e f g h i j k = grind arith
 
 -- Where each context that there is stands for what its condition names.
-module _ (tree : TreeFacts) (l : Layout) (v : ℕ) (st : ℕ → Bool)
+module _ (tree : TreeFacts) (l : Layout) (v : ℕ) (alike : l.modules ≡ tree.modules) (st : ℕ → Bool)
     (at : (i : ℕ) → i < length l.tables.contexts → list_any st (rows.context_nodes l i) ≡ condition_hits tree l v (condition_in l.tables.contexts i)) where
   abbrev all : ℕ
   all = length l.tables.contexts
 
-  definition_there : (id : DefinitionId) (d : Definition) → rows.stored_definition l id ≡ Some d → IsBelow tree l v st (length l.tables.contexts) at d.prompt
+  definition_there : (id : DefinitionId) (d : Definition) → rows.stored_definition l id ≡ Some d → IsBelow tree l v alike st (length l.tables.contexts) at d.prompt
   definition_there id d e p h = (l.tables.prompts_within id.0 d p e h, l.tables.prompts_plain id.0 d p e h)
 
   facts_list : (ids : List DefinitionId) → filter_map (laid.definition_at l.tables) ids ≡ map (definition_facts l.tables) (rows.definitions_of l ids)
@@ -287,7 +289,7 @@ module _ (tree : TreeFacts) (l : Layout) (v : ℕ) (st : ℕ → Bool)
   dep_of d = condition_hits tree l v (definition_facts l.tables d).dependency
 
   abbrev defaults_of : Definition → Bool
-  defaults_of d = names tree l v (spec.guarded_names tree symbols (definition_facts l.tables d).defaults)
+  defaults_of d = names tree l v (spec.guarded_names tree (symbols tree.modules) (definition_facts l.tables d).defaults)
 
   abbrev ranges_of : Definition → Bool
   ranges_of d = names tree l v (spec.guarded_names tree spec.bounds_names (definition_facts l.tables d).ranges)
@@ -332,12 +334,12 @@ module _ (tree : TreeFacts) (l : Layout) (v : ℕ) (st : ℕ → Bool)
   prompts_needs i s =
       let ids = definition_ids s in
       let node : Definition → Bool = λ d. list_any st (rows.entry_nodes l d) in
-      let name : Definition → Bool = λ d. names tree l v (rows.entry_names d) in
+      let name : Definition → Bool = λ d. names tree l v (rows.entry_names l.modules d) in
       ap (λ b. b || names tree l v (rows.prompts_names l s)) (any_flat st (rows.entry_nodes l) (rows.definitions_of l ids))
-      ∙ ap (λ b. list_any node (rows.definitions_of l ids) || b) (any_flat (hit tree l v) rows.entry_names (rows.definitions_of l ids))
+      ∙ ap (λ b. list_any node (rows.definitions_of l ids) || b) (any_flat (hit tree l v) (rows.entry_names l.modules) (rows.definitions_of l ids))
       ∙ sym (any_or node name (rows.definitions_of l ids))
       ∙ found_same (λ d. node d || name d) prompt_of (rows.stored_definition l)
-      (λ id d e. entry_needs tree l v st (length l.tables.contexts) at d (l.tables.within id.0 d e) (definition_there id d e)) ids
+      (λ id d e. entry_needs tree l v alike st (length l.tables.contexts) at d (l.tables.within id.0 d e) (definition_there id d e)) ids
       ∙ sym (prompts_seen ids)
 
   -- and of its definitions
@@ -352,7 +354,7 @@ module _ (tree : TreeFacts) (l : Layout) (v : ℕ) (st : ℕ → Bool)
       ∙ ap (λ b. list_any node (rows.definitions_of l ids) || b) (any_flat (hit tree l v) (rows.definition_names l kind) (rows.definitions_of l ids))
       ∙ sym (any_or node name (rows.definitions_of l ids))
       ∙ found_same (λ d. node d || name d) (λ d. (rows.is_truth kind && dep_of d) || ((prompt_of d || defaults_of d) || (rows.is_number kind && ranges_of d))) (rows.stored_definition l)
-      (λ id d e. definition_needs tree l v st (length l.tables.contexts) at d (l.tables.within id.0 d e) (definition_there id d e) kind) ids
+      (λ id d e. definition_needs tree l v alike st (length l.tables.contexts) at d (l.tables.within id.0 d e) (definition_there id d e) kind) ids
       ∙ any_four (rows.is_truth kind) (rows.is_number kind) dep_of prompt_of defaults_of ranges_of (rows.definitions_of l ids)
 
   -- a line that selects or implies
@@ -360,20 +362,20 @@ module _ (tree : TreeFacts) (l : Layout) (v : ℕ) (st : ℕ → Bool)
   line g = names tree l v (spec.one_name g.what ++ spec.condition_names tree g.when)
 
   source_needs : (r : Reverse) (o : Option Definition) → rows.stored_definition l r.source ≡ o →
-      (list_any st (rows.source_nodes l o) || names tree l v (rows.source_names r o)) ≡
+      (list_any st (rows.source_nodes l o) || names tree l v (rows.source_names l.modules r o)) ≡
       passes line (option_map (λ (d : DefinitionFacts). record { what = d.symbol; when = with_when d.dependency (when_view r.when) }) (option_map (definition_facts l.tables) o))
   source_needs r None e = refl
   source_needs r (Some d) e =
-      let w = names tree l v (rows.when_names (when_view r.when)) in
+      let w = names tree l v (rows.when_names l.modules (when_view r.when)) in
       ap (λ b. b || (hit tree l v d.symbol || w)) (at d.within.0 (l.tables.within r.source.0 d e))
       ∙ turned (condition_hits tree l v (condition_in l.tables.contexts d.within.0)) (hit tree l v d.symbol) w
-      ∙ ap (λ b. hit tree l v d.symbol || b) (sym (hits_when tree l v (condition_in l.tables.contexts d.within.0) (when_view r.when)))
+      ∙ ap (λ b. hit tree l v d.symbol || b) (sym (hits_when tree l v alike (condition_in l.tables.contexts d.within.0) (when_view r.when)))
     where
       turned : (a x w : Bool) → (a || (x || w)) ≡ (x || (a || w))
       turned a x w = grind arith
 
   reverse_needs : (o : Option Reverse) →
-      (passes (λ (r : Reverse). list_any st (rows.source_nodes l (rows.stored_definition l r.source)) || names tree l v (rows.source_names r (rows.stored_definition l r.source))) o) ≡
+      (passes (λ (r : Reverse). list_any st (rows.source_nodes l (rows.stored_definition l r.source)) || names tree l v (rows.source_names l.modules r (rows.stored_definition l r.source))) o) ≡
       passes line (option_and_then (reverse_facts l.tables) o)
   reverse_needs None = refl
   reverse_needs (Some r) = source_needs r (rows.stored_definition l r.source) refl
@@ -383,10 +385,10 @@ module _ (tree : TreeFacts) (l : Layout) (v : ℕ) (st : ℕ → Bool)
   reverses_needs last =
       let chain = chain_of (chains_of l.tables.reverses.lines.items) last in
       let node : Reverse → Bool = λ r. list_any st (rows.source_nodes l (rows.stored_definition l r.source)) in
-      let name : Reverse → Bool = λ r. names tree l v (rows.source_names r (rows.stored_definition l r.source)) in
+      let name : Reverse → Bool = λ r. names tree l v (rows.source_names l.modules r (rows.stored_definition l r.source)) in
       let each : Guarded SymId → List SymId = λ g. spec.one_name g.what ++ spec.condition_names tree g.when in
       ap (λ b. b || names tree l v (rows.reverses_names l last)) (any_flat st (λ (r : Reverse). rows.source_nodes l (rows.stored_definition l r.source)) (rows.lines_from l last))
-      ∙ ap (λ b. list_any node (rows.lines_from l last) || b) (any_flat (hit tree l v) (λ (r : Reverse). rows.source_names r (rows.stored_definition l r.source)) (rows.lines_from l last))
+      ∙ ap (λ b. list_any node (rows.lines_from l last) || b) (any_flat (hit tree l v) (λ (r : Reverse). rows.source_names l.modules r (rows.stored_definition l r.source)) (rows.lines_from l last))
       ∙ sym (any_or node name (rows.lines_from l last))
       ∙ any_found (λ r. node r || name r) (rows.reverse_row l) chain
       ∙ any_same (λ i. passes (λ r. node r || name r) (rows.reverse_row l i)) (λ i. passes line (reverse_at l.tables i)) (λ i. reverse_needs (rows.reverse_row l i)) chain
@@ -410,9 +412,9 @@ module _ (tree : TreeFacts) (l : Layout) (v : ℕ) (st : ℕ → Bool)
     common_seen : name (spec.names_of_all tree (facts_of l i s)) ≡
         (list_any prompt_of (rows.definitions_of l (definition_ids s)) || list_any defaults_of (rows.definitions_of l (definition_ids s)))
     common_seen =
-        name_both (flat_map (spec.condition_names tree) (facts_of l i s).prompts) (spec.guarded_names tree symbols (facts_of l i s).defaults)
-        ∙ ap (λ b. b || name (spec.guarded_names tree symbols (facts_of l i s).defaults)) (prompts_seen (definition_ids s))
-        ∙ ap (λ b. list_any prompt_of (rows.definitions_of l (definition_ids s)) || b) (several symbols (λ (d : DefinitionFacts). d.defaults) (definition_ids s))
+        name_both (flat_map (spec.condition_names tree) (facts_of l i s).prompts) (spec.guarded_names tree (symbols tree.modules) (facts_of l i s).defaults)
+        ∙ ap (λ b. b || name (spec.guarded_names tree (symbols tree.modules) (facts_of l i s).defaults)) (prompts_seen (definition_ids s))
+        ∙ ap (λ b. list_any prompt_of (rows.definitions_of l (definition_ids s)) || b) (several (symbols tree.modules) (λ (d : DefinitionFacts). d.defaults) (definition_ids s))
 
     text_needs : rows.is_truth s.kind ≡ false → rows.is_number s.kind ≡ false →
         (list_any st (rows.definitions_nodes l s) || name (rows.definitions_names l s)) ≡ name (spec.names_of_all tree (facts_of l i s))
@@ -520,15 +522,15 @@ module _ (tree : TreeFacts) (l : Layout) (v : ℕ) (st : ℕ → Bool)
     choice_needs k c e =
         let dependency = condition_in l.tables.contexts c.within.0 in
         let within = l.tables.choices_within k c e in
-        let below : IsBelow tree l v st (length l.tables.contexts) at c.prompt = λ p h. (l.tables.choice_prompts_within k c p e h, l.tables.choice_prompts_plain k c p e h) in
+        let below : IsBelow tree l v alike st (length l.tables.contexts) at c.prompt = λ p h. (l.tables.choice_prompts_within k c p e h, l.tables.choice_prompts_plain k c p e h) in
         let mn = rows.members_nodes l c.members.items in
         let pn = rows.choice_prompt_nodes l c in
         let dn = rows.choice_defaults_nodes l c in
         let mw = rows.members_names l c.members.items in
-        let pw = rows.prompt_names c.prompt in
-        let dw = flat_map rows.choice_default_names c.defaults.items in
+        let pw = rows.prompt_names l.modules c.prompt in
+        let dw = flat_map (rows.choice_default_names l.modules) c.defaults.items in
         let m = flat_map (λ m. spec.prompts_names tree (facts tree m)) c.members.items in
-        let p = spec.conjunct_names (choice_facts l.tables c).prompt in
+        let p = spec.conjunct_names tree (choice_facts l.tables c).prompt in
         let d = spec.guarded_names tree spec.no_name (choice_facts l.tables c).defaults in
         let nodes : list_any st (rows.choice_nodes l c) ≡ ((list_any st mn || list_any st pn) || list_any st dn) =
         list_any-append st (mn ++ pn) dn ∙ ap (λ b. b || list_any st dn) (list_any-append st mn pn) in
@@ -538,8 +540,8 @@ module _ (tree : TreeFacts) (l : Layout) (v : ℕ) (st : ℕ → Bool)
         any_where st c.defaults.items (rows.context_nodes l c.within.0) ∙ ap (λ b. has_some c.defaults.items && b) (at c.within.0 within) in
         close (list_any st mn) (list_any st pn) (list_any st dn) (name mw) (name pw) (name dw) (name m) (name p) (name d) (has_some c.defaults.items && condition_hits tree l v dependency)
         (list_any st (rows.choice_nodes l c)) (name (rows.choice_names l c)) (name (spec.names_of_choice tree (Some (choice_facts l.tables c))))
-        nodes own seen (members_needs c.members.items) (choice_prompt_needs tree l v st (length l.tables.contexts) at c.within.0 c.prompt within (l.tables.choices_plain k c e) below)
-        defaults (choice_defaults_names tree l v dependency c.defaults.items)
+        nodes own seen (members_needs c.members.items) (choice_prompt_needs tree l v alike st (length l.tables.contexts) at c.within.0 c.prompt within (l.tables.choices_plain k c e) below)
+        defaults (choice_defaults_names tree l v alike dependency c.defaults.items)
       where
         close : (mn pn dn mw pw dw m p d h ns ow want : Bool) → ns ≡ ((mn || pn) || dn) → ow ≡ ((mw || pw) || dw) → want ≡ (m || (p || d)) → (mn || mw) ≡ m →
             (pn || pw) ≡ p → dn ≡ h → d ≡ (h || dw) →

@@ -69,7 +69,7 @@ module _ (tree : TreeFacts) (k : SymId → SymbolValue) where
   -- what is selected is a visible member
   pub selected_visible : (c : ChoiceFacts) (user : Option GivenValue) (m : SymId) → v.selected tree k (Some c) user ≡ Some m → v.visible_member tree k c m ≡ true
   selected_visible c user m e =
-      let h = unlock (is_n (v.mode_of k (Some c))) _ m e in
+      let h = unlock (is_n (v.mode_of tree k (Some c))) _ m e in
       elim (either_some (v.chosen_member tree k c user) (v.unselected tree k c) m h.1) [
         | inl a ↦ chosen_visible c user m a
         | inr b ↦ unselected_visible c m b
@@ -79,7 +79,7 @@ module _ (tree : TreeFacts) (k : SymId → SymbolValue) where
   pub selected_again : (o : Option ChoiceFacts) (user : Option GivenValue) (m : SymId) → v.selected tree k o user ≡ Some m → v.selected tree k o (Some (Member m)) ≡ Some m
   selected_again None user m e = e
   selected_again (Some c) user m e =
-      let h = unlock (is_n (v.mode_of k (Some c))) _ m e in
+      let h = unlock (is_n (v.mode_of tree k (Some c))) _ m e in
       let s = selected_visible c user m e in
       ap (λ b. cond b None (option_or (v.chosen_member tree k c (Some (Member m))) (v.unselected tree k c))) h.0
       ∙ ap (λ b. option_or (cond b (Some m) None) (v.unselected tree k c)) s
@@ -92,7 +92,7 @@ module _ (tree : TreeFacts) (k : SymId → SymbolValue) where
   pub none_selected : (o : Option ChoiceFacts) (user : Option GivenValue) → v.selected tree k o user ≡ None → v.selected tree k o None ≡ None
   none_selected None user e = e
   none_selected (Some c) user e =
-      locked (is_n (v.mode_of k (Some c))) (option_or (v.chosen_member tree k c user) (v.unselected tree k c)) (v.unselected tree k c)
+      locked (is_n (v.mode_of tree k (Some c))) (option_or (v.chosen_member tree k c user) (v.unselected tree k c)) (v.unselected tree k c)
       (neither (v.chosen_member tree k c user) (v.unselected tree k c)) e
 
   -- what is selected is a member of a choice that is there

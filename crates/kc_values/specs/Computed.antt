@@ -13,9 +13,9 @@ use Rattle.kc_values.specs.Table.{known_in}
 use Rattle.kc_values.specs.Values.{condition}
 
 -- the value of an `if`, y where there is none
-abbrev pub when_value : (SymId → SymbolValue) → Option Form → Tri
-when_value known None = Y
-when_value known (Some f) = value known f
+abbrev pub when_value : TreeFacts → (SymId → SymbolValue) → Option Form → Tri
+when_value tree known None = Y
+when_value tree known (Some f) = value known tree.modules f
 
 -- a truth as a number, by which a table may hold what it is
 abbrev pub rank : Tri → ℕ

@@ -76,7 +76,7 @@ IdempotentWhere =
 abbrev pub ModeIsPromptCondition : Type 0
 ModeIsPromptCondition =
     (tree : TreeFacts) (known : SymId → SymbolValue) (c : ℕ) (f : ChoiceFacts) (p : Condition) → IsWellFormed tree → choice_at tree c ≡ Some f → f.prompt ≡ Some p →
-    prompt_value known f.prompt ≡ condition tree known p
+    prompt_value tree known f.prompt ≡ condition tree known p
 
 -- What a tree says of a symbol is what the symbol's row says in any layout of the tree: nothing where it has no row.
 abbrev pub RowsTellFacts : Type 0

@@ -28,36 +28,37 @@ use Rattle.kc_tree.specs.TreeFacts.{TreeFacts}
 use Rattle.kc_values.specs.Needs.{kind_names}
 use Rattle.kc_values.specs.Nodes.{choice_number, context_number, node_count}
 
--- names
-abbrev pub when_names : Option Form → List SymId
-when_names None = []
-when_names (Some f) = symbols f
+-- names, where this is the modules symbol
+module _ (modules : Option SymId) where
+  abbrev pub when_names : Option Form → List SymId
+  when_names None = []
+  when_names (Some f) = symbols modules f
 
-abbrev pub prompt_names : Option EntryPrompt → List SymId
-prompt_names None = []
-prompt_names (Some p) = when_names (when_view p.when)
+  abbrev pub prompt_names : Option EntryPrompt → List SymId
+  prompt_names None = []
+  prompt_names (Some p) = when_names (when_view p.when)
 
-abbrev pub names_of_choice : Option Choice → List SymId
-names_of_choice None = []
-names_of_choice (Some c) = prompt_names c.prompt
+  abbrev pub names_of_choice : Option Choice → List SymId
+  names_of_choice None = []
+  names_of_choice (Some c) = prompt_names c.prompt
 
--- of a definition, those of its prompt alone
-abbrev pub entry_names : Definition → List SymId
-entry_names d = prompt_names d.prompt
+  -- of a definition, those of its prompt alone
+  abbrev pub entry_names : Definition → List SymId
+  entry_names d = prompt_names d.prompt
 
--- of a line that selects or implies
-abbrev pub source_names : Reverse → Option Definition → List SymId
-source_names r None = []
-source_names r (Some d) = d.symbol ∷ when_names (when_view r.when)
+  -- of a line that selects or implies
+  abbrev pub source_names : Reverse → Option Definition → List SymId
+  source_names r None = []
+  source_names r (Some d) = d.symbol ∷ when_names (when_view r.when)
 
-abbrev pub default_names : SymbolDefault → List SymId
-default_names d = symbols (form_of d.value.value) ++ when_names (when_view d.when)
+  abbrev pub default_names : SymbolDefault → List SymId
+  default_names d = symbols modules (form_of d.value.value) ++ when_names (when_view d.when)
 
-abbrev pub range_names : SymbolRange → List SymId
-range_names r = leaf_symbols (leaf_of r.low) ++ leaf_symbols (leaf_of r.high) ++ when_names (when_view r.when)
+  abbrev pub range_names : SymbolRange → List SymId
+  range_names r = leaf_symbols (leaf_of r.low) ++ leaf_symbols (leaf_of r.high) ++ when_names (when_view r.when)
 
-abbrev pub choice_default_names : ChoiceDefault → List SymId
-choice_default_names d = when_names (when_view d.when)
+  abbrev pub choice_default_names : ChoiceDefault → List SymId
+  choice_default_names d = when_names (when_view d.when)
 
 abbrev pub is_number : Kind → Bool
 is_number Undefined = false
@@ -103,14 +104,14 @@ module _ (l : Layout) where
   mode_nodes o = nodes_of_choice (choice_row o)
 
   abbrev pub mode_names : Option ChoiceId → List SymId
-  mode_names o = names_of_choice (choice_row o)
+  mode_names o = names_of_choice l.modules (choice_row o)
 
   -- what a context asks for besides the one outside it
   abbrev pub context_row_nodes : Context → List ℕ
   context_row_nodes c = context_nodes c.outer.0 ++ (if is_some c.own_condition then [] else mode_nodes c.mode)
 
   abbrev pub context_row_names : Context → List SymId
-  context_row_names c = if is_some c.own_condition then when_names (when_view c.own_condition) else mode_names c.mode
+  context_row_names c = if is_some c.own_condition then when_names l.modules (when_view c.own_condition) else mode_names c.mode
 
   -- the definitions of a symbol
   abbrev pub stored_definition : DefinitionId → Option Definition
@@ -133,7 +134,7 @@ module _ (l : Layout) where
   prompts_nodes_of ids = flat_map entry_nodes (definitions_of ids)
 
   abbrev pub prompts_names_of : List DefinitionId → List SymId
-  prompts_names_of ids = flat_map entry_names (definitions_of ids)
+  prompts_names_of ids = flat_map (entry_names l.modules) (definitions_of ids)
 
   abbrev pub prompts_nodes : Symbol → List ℕ
   prompts_nodes s = prompts_nodes_of (definition_ids s)
@@ -150,7 +151,7 @@ module _ (l : Layout) where
 
   abbrev pub definition_names : Kind → Definition → List SymId
   definition_names kind d =
-      prompt_names d.prompt ++ flat_map default_names (defaults_of d) ++ (if is_number kind then flat_map range_names (ranges_of d) else [])
+      prompt_names l.modules d.prompt ++ flat_map (default_names l.modules) (defaults_of d) ++ (if is_number kind then flat_map (range_names l.modules) (ranges_of d) else [])
 
   abbrev pub definitions_nodes_of : Kind → List DefinitionId → List ℕ
   definitions_nodes_of kind ids = flat_map (definition_nodes kind) (definitions_of ids)
@@ -179,7 +180,7 @@ module _ (l : Layout) where
   reverses_nodes last = flat_map (λ (r : Reverse). source_nodes (stored_definition r.source)) (lines_from last)
 
   abbrev pub reverses_names : Option ReverseId → List SymId
-  reverses_names last = flat_map (λ (r : Reverse). source_names r (stored_definition r.source)) (lines_from last)
+  reverses_names last = flat_map (λ (r : Reverse). source_names l.modules r (stored_definition r.source)) (lines_from last)
 
   abbrev pub last_select : ℕ → Option ReverseId
   last_select s = slice_index_or l.tables.reverses.selects.items s None
@@ -222,7 +223,7 @@ module _ (l : Layout) where
   choice_nodes c = members_nodes c.members.items ++ choice_prompt_nodes c ++ choice_defaults_nodes c
 
   abbrev pub choice_names : Choice → List SymId
-  choice_names c = members_names c.members.items ++ prompt_names c.prompt ++ flat_map choice_default_names c.defaults.items
+  choice_names c = members_names c.members.items ++ prompt_names l.modules c.prompt ++ flat_map (choice_default_names l.modules) c.defaults.items
 
   -- the rows of contexts and choices
   abbrev pub defined : List SymId → List ℕ

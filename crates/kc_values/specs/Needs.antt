@@ -20,22 +20,22 @@ no_name s = []
 abbrev pub bounds_names : Bounds → List SymId
 bounds_names r = leaf_symbols r.low ++ leaf_symbols r.high
 
-abbrev pub conjunct_names : Option Condition → List SymId
-conjunct_names None = []
-conjunct_names (Some c) = flat_map symbols c.conjuncts
-
--- a mode names what the choice's prompt condition names
-abbrev pub prompt_names : Option ChoiceFacts → List SymId
-prompt_names None = []
-prompt_names (Some c) = conjunct_names c.prompt
-
 module _ (tree : TreeFacts) where
+  abbrev pub conjunct_names : Option Condition → List SymId
+  conjunct_names None = []
+  conjunct_names (Some c) = flat_map (symbols tree.modules) c.conjuncts
+
+  -- a mode names what the choice's prompt condition names
+  abbrev pub prompt_names : Option ChoiceFacts → List SymId
+  prompt_names None = []
+  prompt_names (Some c) = conjunct_names c.prompt
+
   abbrev pub mode_names : Option ℕ → List SymId
   mode_names None = []
   mode_names (Some c) = prompt_names (choice_at tree c)
 
   abbrev pub condition_names : Condition → List SymId
-  condition_names c = flat_map symbols c.conjuncts ++ mode_names c.mode
+  condition_names c = flat_map (symbols tree.modules) c.conjuncts ++ mode_names c.mode
 
   abbrev pub guarded_names : {X : Type 0} → (X → List SymId) → List (Guarded X) → List SymId
   guarded_names names gs = flat_map (λ g. names g.what ++ condition_names g.when) gs
@@ -55,7 +55,7 @@ module _ (tree : TreeFacts) where
 
   -- the conditions of its prompts, the values and conditions of its defaults
   abbrev pub names_of_all : SymbolFacts → List SymId
-  names_of_all f = flat_map condition_names f.prompts ++ guarded_names symbols f.defaults
+  names_of_all f = flat_map condition_names f.prompts ++ guarded_names (symbols tree.modules) f.defaults
 
   -- bool and tristate: also the dependencies, and each symbol that selects or implies it with the condition of that line
   abbrev pub names_of_truth : SymbolFacts → List SymId

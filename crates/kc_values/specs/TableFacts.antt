@@ -8,13 +8,15 @@ use Rattle.kc_tree.specs.declared.rows.Definition.{Definition}
 use Rattle.kc_tree.specs.declared.rows.DefinitionId.{DefinitionId}
 use Rattle.kc_tree.specs.declared.rows.Symbol.{Symbol}
 use Rattle.kc_tree.specs.Contexts.{condition_in}
+use Rattle.kc_tree.specs.Layouts.{facts_of}
 use Rattle.kc_tree.specs.Spans.{definition_ids}
-use Rattle.kc_tree.specs.TreeFacts.{Condition}
+use Rattle.kc_tree.specs.TreeFacts.{Condition, SymbolFacts}
+use Rattle.kc_user.specs.GivenValue.{GivenValue}
 use Rattle.kc_user.specs.Places.{member_place}
 use Rattle.kc_values.specs.declared.table.Table.{Table}
 use Rattle.kc_values.specs.Lookups.{choice_at}
 use Rattle.kc_values.specs.Table.{known_in}
-use Rattle.kc_values.specs.Values.{selected}
+use Rattle.kc_values.specs.Values.{by_kind, selected}
 
 -- what a table tells of each symbol
 abbrev pub known_at : Table → SymId → SymbolValue
@@ -35,6 +37,14 @@ IsDefinitionOf t s i o = option_map (λ (d : Bor Definition). d.now) o ≡ optio
 -- a symbol's row
 abbrev pub IsRowOf : Table → SymId → Symbol → Type 0
 IsRowOf t id s = slice_get t.layout.now.symbols.items id.0 ≡ Some s
+
+-- what a symbol's row says
+abbrev pub facts_in : Table → SymId → Symbol → SymbolFacts
+facts_in t id s = facts_of t.layout.now id.0 s
+
+-- what the equation of a symbol outside a choice gives
+abbrev pub own_value : Table → SymId → Symbol → Option GivenValue → SymbolValue
+own_value t id s given = by_kind t.tree.now (known_at t) id (facts_in t id s) s.kind given
 
 -- where the selection of a choice is computed, it is the selection under this member of the user's
 abbrev pub IsSelected : Table → ℕ → Option SymId → Type 0

@@ -4,7 +4,7 @@
 use Rattle.std.specs.Prelude.{ℕ, ◌&&◌, Bool, true, false, not, if◌then◌else◌, List, [], map, Option, Some, None, unwrap_or}
 use Rattle.std.specs.List.{find, list_any}
 use Rattle.std.specs.Option.{option_or}
-use Rattle.kc_expr.specs.Form.{Form, Single, Related, Negated, Every, Some_of}
+use Rattle.kc_expr.specs.Form.{Form, Single, Related, Negated, PlainM, Every, Some_of}
 use Rattle.kc_expr.specs.Value.{SymbolValue, Truth, TextValue, value, text, least, greatest, lesser, greater, truth_of_value}
 use Rattle.kc_expr.specs.declared.expression.SymId.{SymId}
 use Rattle.kc_expr.specs.declared.expression.Tri.{Tri}
@@ -59,22 +59,12 @@ prompt_of (Some c) = c.prompt
 
 -- Under what is known of the symbols alone.
 module _ (known : SymId → SymbolValue) where
-  abbrev pub and_value : List Form → Tri
-  and_value conjuncts = least (map (value known) conjuncts)
-
-  abbrev pub prompt_value : Option Condition → Tri
-  prompt_value None = N
-  prompt_value (Some c) = and_value c.conjuncts
-
-  -- The mode of a choice: y where its prompt's condition is not n (a choice of bools; kconfiglib's `tri_value` of a choice).
-  abbrev pub mode_of : Option ChoiceFacts → Tri
-  mode_of c = upgrade (prompt_value (prompt_of c))
-
   -- the text of a default that is one operand
   abbrev pub single_text : Form → List ℕ
   single_text (Single o) = text known o
   single_text (Related op a b) = []
   single_text (Negated a) = []
+  single_text PlainM = []
   single_text (Every fs) = []
   single_text (Some_of fs) = []
 
@@ -95,13 +85,24 @@ module _ (known : SymId → SymbolValue) where
 
 -- Under a tree and what is known of its symbols.
 module _ (tree : TreeFacts) (known : SymId → SymbolValue) where
+  abbrev pub and_value : List Form → Tri
+  and_value conjuncts = least (map (value known tree.modules) conjuncts)
+
+  abbrev pub prompt_value : Option Condition → Tri
+  prompt_value None = N
+  prompt_value (Some c) = and_value c.conjuncts
+
+  -- The mode of a choice: y where its prompt's condition is not n (a choice of bools; kconfiglib's `tri_value` of a choice).
+  abbrev pub mode_of : Option ChoiceFacts → Tri
+  mode_of c = upgrade (prompt_value (prompt_of c))
+
   abbrev pub mode_value : Option ℕ → Tri
   mode_value None = Y
-  mode_value (Some c) = mode_of known (choice_at tree c)
+  mode_value (Some c) = mode_of (choice_at tree c)
 
   -- The `&&` of the conjuncts and of the mode (the document's "Menu dependencies").
   abbrev pub condition : Condition → Tri
-  condition c = lesser (and_value known c.conjuncts) (mode_value c.mode)
+  condition c = lesser (and_value c.conjuncts) (mode_value c.mode)
 
   abbrev pub conditions : List Condition → Tri
   conditions cs = greatest (map condition cs)
@@ -143,7 +144,7 @@ module _ (tree : TreeFacts) (known : SymId → SymbolValue) where
   -- min(value, condition) of the met default, or n
   abbrev pub default_value : Option (Guarded Form) → Tri
   default_value None = N
-  default_value (Some g) = lesser (value known g.what) (condition g.when)
+  default_value (Some g) = lesser (value known tree.modules g.what) (condition g.when)
 
   -- the default as an `imply` raises it
   abbrev pub implied_value : SymbolFacts → Tri
@@ -201,7 +202,7 @@ module _ (tree : TreeFacts) (known : SymId → SymbolValue) where
   abbrev pub selected : Option ChoiceFacts → Option GivenValue → Option SymId
   selected None user = None
   selected (Some c) user =
-      if is_n (mode_of known (Some c)) then None else option_or (chosen_member c user) (unselected c)
+      if is_n (mode_of (Some c)) then None else option_or (chosen_member c user) (unselected c)
 
   -- A member is y where it is selected, which is visible, else n; its own defaults have no effect.
   abbrev pub member_equation : SymId → ℕ → Option GivenValue → Tri

@@ -1,6 +1,8 @@
 -- Trusted: What the values are warned of: whole lines, without the line feed (our own).
-use Rattle.std.specs.Prelude.{ℕ, if◌then◌else◌, List, [], ◌∷◌, ◌++◌, codes, Option, Some, None}
+use Rattle.std.specs.Prelude.{ℕ, if◌then◌else◌, List, [], ◌∷◌, ◌++◌, map, codes, Option, Some, None}
 use Rattle.std.specs.List.{flat_map, range_with_len}
+use Rattle.std.specs.declared.alloc.Global.{Global}
+use Rattle.std.specs.declared.vec.Vec.{Vec}
 use Rattle.kc_expr.specs.Form.{Form}
 use Rattle.kc_expr.specs.Names.{symbol}
 use Rattle.kc_expr.specs.Value.{SymbolValue, tri_text}
@@ -16,6 +18,10 @@ use Rattle.kc_values.specs.Values.{first_met, direct, reverse, visibility, visib
 use Rattle.kc_values.specs.WrittenSymbols.{above}
 use Rattle.kc_values.specs.Solution.{known_from, symbol_count}
 use Rattle.kc_values.specs.declared.numbers.Interval.{Interval}
+
+-- the bytes of lines that are held
+abbrev pub texts : List (Vec ℕ Global) → List (List ℕ)
+texts lines = map (λ (l : Vec ℕ Global). l.items) lines
 
 -- `NAME is selected to REV while its dependency is DIRECT`
 abbrev pub selected_line : List ℕ → Tri → Tri → List ℕ

@@ -39,7 +39,7 @@ pub(crate) fn is_n(value: Tri) -> bool
 
 /// The value of an `if`, y where there is none.
 pub(crate) fn if_value(when: &Option<Rc<Expr>>, table: &Table<'_>) -> Tri
-    ensures { result ≡ when_value (known_at table.now) (when_view when.now) }
+    ensures { result ≡ when_value table.now.tree.now (known_at table.now) (when_view when.now) }
 {
     match when {
         Some(e) => eval(e, table),
@@ -50,7 +50,7 @@ pub(crate) fn if_value(when: &Option<Rc<Expr>>, table: &Table<'_>) -> Tri
 // The least of a value and of what the contexts from this one outwards ask for, up to one that is computed.
 fn enclosing_least(table: &Table<'_>, within: ContextId, first: Tri) -> Tri
     requires { lesser first (spec.mode_value table.now.tree.now (known_at table.now) (condition_at table.now within.0).mode) ≡ first }
-    ensures { result ≡ lesser first (spec.and_value (known_at table.now) (condition_at table.now within.0).conjuncts) }
+    ensures { result ≡ lesser first (spec.and_value table.now.tree.now (known_at table.now) (condition_at table.now within.0).conjuncts) }
 {
     let mut least = first;
     let mut at = within;
@@ -67,7 +67,7 @@ fn enclosing_least(table: &Table<'_>, within: ContextId, first: Tri) -> Tri
 // The condition of the prompt of a choice, n without one.
 fn choice_prompt(table: &Table<'_>, choice: &Choice) -> Tri
     requires { IsChoiceThere table.now.layout.now.tables.contexts choice.now }
-    ensures { result ≡ spec.prompt_value (known_at table.now) (choice_facts table.now.layout.now.tables choice.now).prompt }
+    ensures { result ≡ spec.prompt_value table.now.tree.now (known_at table.now) (choice_facts table.now.layout.now.tables choice.now).prompt }
 {
     match &choice.prompt {
         Some(prompt) => {
@@ -81,7 +81,7 @@ fn choice_prompt(table: &Table<'_>, choice: &Choice) -> Tri
 /// The mode of a choice: y where its prompt's condition is not n, else n; n without a prompt, and where there is no such choice
 /// (kconfiglib's `tri_value` of a choice; that its members are bools and that m counts as y is our own).
 pub fn mode_of(table: &Table<'_>, id: ChoiceId) -> Tri
-    ensures { result ≡ spec.mode_of (known_at table.now) (choice_at table.now.tree.now id.0) }
+    ensures { result ≡ spec.mode_of table.now.tree.now (known_at table.now) (choice_at table.now.tree.now id.0) }
 {
     match table.layout.choice(id) {
         Some(choice) => upgrade(choice_prompt(table, choice)),
@@ -112,7 +112,7 @@ pub fn context(table: &Table<'_>, within: ContextId) -> Tri
 
 // A value up to an `if`, which is looked at only where the value is not n.
 fn guarded(first: Tri, when: &Option<Rc<Expr>>, table: &Table<'_>) -> Tri
-    ensures { result ≡ lesser first (when_value (known_at table.now) (when_view when.now)) }
+    ensures { result ≡ lesser first (when_value table.now.tree.now (known_at table.now) (when_view when.now)) }
 {
     if is_n(first) {
         Tri::N

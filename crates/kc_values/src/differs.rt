@@ -3,9 +3,8 @@
 ghost use Rattle.std.specs.Prelude.{◌≡◌, ◌&&◌, None, not, IfOk};
 ghost use Rattle.std.specs.Option.{is_some};
 ghost use Rattle.kc_tree.specs.Common.{is_symbol_of};
-ghost use Rattle.kc_tree.specs.Layouts.{facts_of};
 ghost use Rattle.kc_values.specs.Differs.{same_value};
-ghost use Rattle.kc_values.specs.TableFacts.{known_at, IsRowOf};
+ghost use Rattle.kc_values.specs.TableFacts.{known_at, own_value, IsRowOf};
 ghost use Rattle.kc_values.specs.User.{given_in};
 ghost use Rattle.kc_values.specs.Values as value;
 
@@ -29,7 +28,7 @@ pub fn own_differs(
     symbol: &Symbol,
 ) -> Result<bool, AllocError>
     requires { IsRowOf table.now id symbol.now }
-    ensures { IfOk result (λ b. b ≡ not (same_value (known_at table.now id) (value.by_kind table.now.tree.now (known_at table.now) id (facts_of table.now.layout.now id.0 symbol.now) symbol.now.kind None))) }
+    ensures { IfOk result (λ b. b ≡ not (same_value (known_at table.now id) (own_value table.now id symbol.now None))) }
 {
     match symbol.kind {
         Kind::Bool => Ok(table.tri(id) != truth_equation(table, id, symbol, None)),

@@ -2,7 +2,7 @@
 
 ghost use Rattle.std.specs.Prelude.{◌≡◌, None, slice_index_or, IfOk};
 ghost use Rattle.kc_tree.specs.Layouts.{facts_of};
-ghost use Rattle.kc_values.specs.TableFacts.{known_at};
+ghost use Rattle.kc_values.specs.TableFacts.{known_at, own_value};
 ghost use Rattle.kc_values.specs.Selections.{given_for};
 ghost use Rattle.kc_values.specs.TableFacts.{AreSelected};
 ghost use Rattle.kc_values.specs.Table.{known_value};
@@ -29,7 +29,7 @@ pub fn own_equation(
     symbol: &Symbol,
     user: Option<&UserValue>,
 ) -> Result<Value, AllocError>
-    ensures { IfOk result (λ x. known_value symbol.now.kind x ≡ spec.by_kind table.now.tree.now (known_at table.now) id (facts_of table.now.layout.now id.0 symbol.now) symbol.now.kind (given_in user.entry)) }
+    ensures { IfOk result (λ x. known_value symbol.now.kind x ≡ own_value table.now id symbol.now (given_in user.entry)) }
 {
     match symbol.kind {
         Kind::Bool => Ok(Value::Truth(truth_equation(table, id, symbol, user))),

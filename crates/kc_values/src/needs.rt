@@ -34,11 +34,15 @@ struct NeedRow {
 }
 
 // Adds the names in an `if`.
-fn if_names_into(when: &Option<Rc<Expr>>, out: &mut NeedRow) -> Result<(), AllocError>
-    ensures { OnOk result (Adds out.old out.new [] (rows.when_names (when_view when.now))) }
+fn if_names_into(
+    layout: &Layout,
+    when: &Option<Rc<Expr>>,
+    out: &mut NeedRow,
+) -> Result<(), AllocError>
+    ensures { OnOk result (Adds out.old out.new [] (rows.when_names layout.now.modules (when_view when.now))) }
 {
     match when {
-        Some(e) => symbols_into(e, &mut out.names),
+        Some(e) => symbols_into(e, layout.modules, &mut out.names),
         None => Ok(()),
     }
 }
@@ -61,12 +65,12 @@ fn prompt_into(
     out: &mut NeedRow,
 ) -> Result<(), AllocError>
     requires there { IsPromptThere layout.now.tables.contexts prompt.now }
-    ensures { OnOk result (Adds out.old out.new (rows.prompt_nodes layout.now prompt.now) (rows.prompt_names prompt.now)) }
+    ensures { OnOk result (Adds out.old out.new (rows.prompt_nodes layout.now prompt.now) (rows.prompt_names layout.now.modules prompt.now)) }
 {
     match prompt {
         Some(prompt) => {
             context_into(layout, prompt.visible, out)?;
-            if_names_into(&prompt.when, out)
+            if_names_into(layout, &prompt.when, out)
         }
         None => Ok(()),
     }
@@ -75,7 +79,7 @@ fn prompt_into(
 // Adds the prompt of a choice, where there is one.
 fn choice_prompt_into(layout: &Layout, choice: &Choice, out: &mut NeedRow) -> Result<(), AllocError>
     requires there { IsChoiceThere layout.now.tables.contexts choice.now }
-    ensures { OnOk result (Adds out.old out.new (rows.choice_prompt_nodes layout.now choice.now) (rows.prompt_names choice.now.prompt)) }
+    ensures { OnOk result (Adds out.old out.new (rows.choice_prompt_nodes layout.now choice.now) (rows.prompt_names layout.now.modules choice.now.prompt)) }
 {
     if choice.prompt.is_some() {
         context_into(layout, choice.within, out)?;
@@ -104,7 +108,7 @@ fn context_row_into(layout: &Layout, context: &Context, out: &mut NeedRow) -> Re
 {
     context_into(layout, context.outer, out)?;
     match &context.own_condition {
-        Some(e) => symbols_into(e, &mut out.names),
+        Some(e) => symbols_into(e, layout.modules, &mut out.names),
         None => mode_into(layout, context.mode, out),
     }
 }
@@ -125,12 +129,16 @@ fn prompts_into(layout: &Layout, symbol: &Symbol, out: &mut NeedRow) -> Result<(
 }
 
 // Adds the defaults of a definition, but for what it depends on.
-fn defaults_into(defaults: &[SymbolDefault], out: &mut NeedRow) -> Result<(), AllocError>
-    ensures { OnOk result (Adds out.old out.new [] (flat_map rows.default_names defaults.now)) }
+fn defaults_into(
+    layout: &Layout,
+    defaults: &[SymbolDefault],
+    out: &mut NeedRow,
+) -> Result<(), AllocError>
+    ensures { OnOk result (Adds out.old out.new [] (flat_map (rows.default_names layout.now.modules) defaults.now)) }
 {
     for default in defaults {
-        symbols_into(&default.value, &mut out.names)?;
-        if_names_into(&default.when, out)?;
+        symbols_into(&default.value, layout.modules, &mut out.names)?;
+        if_names_into(layout, &default.when, out)?;
     }
     Ok(())
 }
@@ -149,20 +157,20 @@ fn bound_into(bound: &Operand, out: &mut NeedRow) -> Result<(), AllocError>
 }
 
 // Adds the names in a range.
-fn range_into(range: &SymbolRange, out: &mut NeedRow) -> Result<(), AllocError>
-    ensures { OnOk result (Adds out.old out.new [] (rows.range_names range.now)) }
+fn range_into(layout: &Layout, range: &SymbolRange, out: &mut NeedRow) -> Result<(), AllocError>
+    ensures { OnOk result (Adds out.old out.new [] (rows.range_names layout.now.modules range.now)) }
 {
     bound_into(&range.low, out)?;
     bound_into(&range.high, out)?;
-    if_names_into(&range.when, out)
+    if_names_into(layout, &range.when, out)
 }
 
 // Adds the ranges of a definition, but for what it depends on.
-fn ranges_into(ranges: &[SymbolRange], out: &mut NeedRow) -> Result<(), AllocError>
-    ensures { OnOk result (Adds out.old out.new [] (flat_map rows.range_names ranges.now)) }
+fn ranges_into(layout: &Layout, ranges: &[SymbolRange], out: &mut NeedRow) -> Result<(), AllocError>
+    ensures { OnOk result (Adds out.old out.new [] (flat_map (rows.range_names layout.now.modules) ranges.now)) }
 {
     for range in ranges {
-        range_into(range, out)?;
+        range_into(layout, range, out)?;
     }
     Ok(())
 }
@@ -199,9 +207,9 @@ fn definition_into(
         context_into(layout, definition.within, out)?;
     }
     prompt_into(layout, &definition.prompt, out)?;
-    defaults_into(layout.defaults(definition), out)?;
+    defaults_into(layout, layout.defaults(definition), out)?;
     if is_number(kind) {
-        ranges_into(layout.ranges(definition), out)?;
+        ranges_into(layout, layout.ranges(definition), out)?;
     }
     Ok(())
 }
@@ -234,7 +242,7 @@ fn reverses_into(
         if let Some(source) = layout.definition(line.source) {
             out.names.push(source.symbol)?;
             context_into(layout, source.within, out)?;
-            if_names_into(&line.when, out)?;
+            if_names_into(layout, &line.when, out)?;
         }
         at = line.next;
     }
@@ -305,13 +313,13 @@ fn choice_defaults_into(
     out: &mut NeedRow,
 ) -> Result<(), AllocError>
     requires there { IsChoiceThere layout.now.tables.contexts choice.now }
-    ensures { OnOk result (Adds out.old out.new (rows.choice_defaults_nodes layout.now choice.now) (flat_map rows.choice_default_names choice.now.defaults.items)) }
+    ensures { OnOk result (Adds out.old out.new (rows.choice_defaults_nodes layout.now choice.now) (flat_map (rows.choice_default_names layout.now.modules) choice.now.defaults.items)) }
 {
     if !choice.defaults.is_empty() {
         context_into(layout, choice.within, out)?;
     }
     for default in &choice.defaults {
-        if_names_into(&default.when, out)?;
+        if_names_into(layout, &default.when, out)?;
     }
     Ok(())
 }

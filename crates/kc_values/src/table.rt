@@ -119,6 +119,8 @@ impl<'t> Values for Table<'t> {
 
     ghost kind_of = { λ t s. kind_in (lookup.facts t.tree.now s) };
 
+    ghost modules_of = { λ t. t.tree.now.modules };
+
     fn tri(&self, id: SymId) -> Tri {
         match value_of(&self.values, id) {
             Some(Value::Truth(tri)) => *tri,
@@ -138,5 +140,9 @@ impl<'t> Values for Table<'t> {
             Some(symbol) => symbol.kind,
             None => Kind::Undefined,
         }
+    }
+
+    fn modules(&self) -> Option<SymId> {
+        self.tree.modules_symbol()
     }
 }

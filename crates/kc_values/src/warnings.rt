@@ -1,9 +1,9 @@
 //! What the values of a tree are warned of.
 
-ghost use Rattle.std.specs.Prelude.{◌≡◌, ◌++◌, codes, Some, map, IfOk, IfSome, OnOk};
+ghost use Rattle.std.specs.Prelude.{◌≡◌, ◌++◌, codes, Some, IfOk, IfSome, OnOk};
 ghost use Rattle.std.specs.Option.{option_copied};
 ghost use Rattle.kc_tree.specs.Layouts.{facts_of};
-ghost use Rattle.kc_values.specs.TableFacts.{known_at};
+ghost use Rattle.kc_values.specs.TableFacts.{facts_in, known_at};
 ghost use Rattle.kc_values.specs.Lookups as lookup;
 ghost use Rattle.kc_values.specs.Numbers.{number_text};
 ghost use Rattle.kc_values.specs.Small.{HasSmallBounds};
@@ -151,7 +151,7 @@ fn user_warning(
     out: &mut Vec<Vec<u8>>,
 ) -> Result<(), AllocError>
     requires { IfSome range HasSmallBounds }
-    ensures { OnOk result (map (λ w. w.items) out.new.items ≡ map (λ w. w.items) out.old.items ++ spec.user_warnings kind name.now range (option_copied given.entry)) }
+    ensures { OnOk result (spec.texts out.new.items ≡ spec.texts out.old.items ++ spec.user_warnings kind name.now range (option_copied given.entry)) }
 {
     let Some(bounds) = range else {
         return Ok(());
@@ -178,7 +178,7 @@ fn default_warning(
     out: &mut Vec<Vec<u8>>,
 ) -> Result<(), AllocError>
     requires { IfSome range HasSmallBounds }
-    ensures { OnOk result (map (λ w. w.items) out.new.items ≡ map (λ w. w.items) out.old.items ++ spec.default_warnings kind name.now range (option_copied used.entry) (option_copied default.entry)) }
+    ensures { OnOk result (spec.texts out.new.items ≡ spec.texts out.old.items ++ spec.default_warnings kind name.now range (option_copied used.entry) (option_copied default.entry)) }
 {
     if used.is_some() {
         return Ok(());
@@ -208,7 +208,7 @@ fn range_warnings(
     out: &mut Vec<Vec<u8>>,
 ) -> Result<(), AllocError>
     requires { visibility ≡ value.visibility table.now.tree.now (known_at table.now) (facts_of table.now.layout.now 0 symbol.now) }
-    ensures { OnOk result (map (λ w. w.items) out.new.items ≡ map (λ w. w.items) out.old.items ++ spec.range_warnings table.now.tree.now (known_at table.now) name.now
+    ensures { OnOk result (spec.texts out.new.items ≡ spec.texts out.old.items ++ spec.range_warnings table.now.tree.now (known_at table.now) name.now
         (facts_of table.now.layout.now 0 symbol.now) (given_in user.entry)) }
 {
     let range = active_range(table, symbol);
@@ -229,7 +229,7 @@ fn select_warnings(
     symbol: &Symbol,
     out: &mut Vec<Vec<u8>>,
 ) -> Result<(), AllocError>
-    ensures { OnOk result (map (λ w. w.items) out.new.items ≡ map (λ w. w.items) out.old.items ++ spec.select_warnings table.now.tree.now (known_at table.now) name.now (facts_of table.now.layout.now id.0 symbol.now)) }
+    ensures { OnOk result (spec.texts out.new.items ≡ spec.texts out.old.items ++ spec.select_warnings table.now.tree.now (known_at table.now) name.now (facts_in table.now id symbol.now)) }
 {
     let reverse = reverse(table, id, symbol);
     // What nothing selects is above no direct dependency.
@@ -258,9 +258,9 @@ pub fn warnings_into(
     user: Option<&UserValue>,
     out: &mut Vec<Vec<u8>>,
 ) -> Result<(), AllocError>
-    requires { visibility ≡ value.visibility table.now.tree.now (known_at table.now) (facts_of table.now.layout.now id.0 symbol.now) }
-    ensures { OnOk result (map (λ w. w.items) out.new.items ≡ map (λ w. w.items) out.old.items ++ spec.warnings_of table.now.tree.now (known_at table.now)
-        (lookup.name table.now.tree.now id) (Some (facts_of table.now.layout.now id.0 symbol.now)) (given_in user.entry)) }
+    requires { visibility ≡ value.visibility table.now.tree.now (known_at table.now) (facts_in table.now id symbol.now) }
+    ensures { OnOk result (spec.texts out.new.items ≡ spec.texts out.old.items ++ spec.warnings_of table.now.tree.now (known_at table.now)
+        (lookup.name table.now.tree.now id) (Some (facts_in table.now id symbol.now)) (given_in user.entry)) }
 {
     if symbol.choice.is_some() {
         return Ok(());

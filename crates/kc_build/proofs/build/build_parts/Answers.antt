@@ -18,8 +18,7 @@ returns-in-Ok c =
     let few : length symbols.items + length s.tables.contexts + length s.tables.choices.items < 2 ^ 32 = omega (arith, small.contexts, small.choices) in
     let tables = subst (λ (l : List Symbol). IsWalkResult (statements_of c.args.lines.now) l s.tables s.main_menu.items) c.deref.ensures.value c.in_ok-tables.ensures.tables in
     whole c.args.names.now c.args.count c.args.modules c.args.lines.now s.diagnostics c.in_ok-tables.ensures.diagnosed (record {
-      layout = record { symbols = symbols; tables = s.tables; few = few };
+      layout = record { symbols = symbols; tables = s.tables; modules = c.defined.result; few = few };
       warnings = c.in-Ok.warnings;
       main_menu = s.main_menu;
-      modules = c.defined.result;
     }) c.requires.below c.in_ok-symbols.ensures.count c.in_ok-symbols.ensures.rows tables c.in-Ok.ensures.0 c.in-Ok.ensures.1 c.in-Ok.ensures.2 c.defined.ensures

@@ -1,4 +1,4 @@
-use Rattle.std.proofs.Common.{◌≤◌, ◌∙◌, length, subst, sym, arith}
+use Rattle.std.proofs.Common.{◌∙◌, subst, sym}
 use Rattle.kc_read.specs.Blocks.{modules_of}
 use Rattle.kc_read.specs.Expanded.{AreNumbers}
 use Rattle.kc_read.specs.Statements.{statements}
@@ -8,26 +8,25 @@ use Rattle.kc_build.proofs.numbering.number_lines.Goals as goal
 
 pub renumber-requires : goal.renumber-requires
 renumber-requires c =
-    let log = c.requires.expanded.0 in
-    let x = c.requires.expanded.1 in
+    let log = c.requires.0 in
+    let x = c.requires.1 in
     let named = modules_of (statements log.lines) in (
       names_of (statements log.lines),
-      renumbered log c.args.expansion c.args.mentioned c.args.unknown x c.modules_symbol.new.names c.in_ok-symbol.symbol c.in_ok-modules.modules c.in_ok-numbers.numbers.items
+      renumbered log c.args.expansion c.args.mentioned x c.modules_symbol.new.names c.in_ok-symbol.symbol c.in_ok-modules.modules c.in_ok-numbers.numbers.items
           (c.in_ok-symbol.ensures.names named x.modules_is) (c.in_ok-symbol.ensures.number named x.modules_is) c.in_ok-modules.ensures.rank
-          (λ placed h. c.in_ok-numbers.ensures.numbers placed (subst (λ l. AreNumbers c.modules_symbol.new.names l placed) (sym c.in_ok-modules.ensures.order) h)),
+          (λ placed h. c.in_ok-numbers.ensures placed (subst (λ l. AreNumbers c.modules_symbol.new.names l placed) (sym c.in_ok-modules.ensures.order) h)),
     )
 
 pub returns-clause-listing : goal.returns-clause-listing
 returns-clause-listing c = λ log x.
     let named = modules_of (statements log.lines) in
-    let few : length c.modules_symbol.new.names ≤ c.args.unknown.0 = omega (arith, c.in_ok-numbers.ensures.few, c.requires.unknown) in
-    listing-is log c.args.expansion c.args.mentioned c.args.unknown x c.modules_symbol.new.names c.in_ok-symbol.symbol c.in_ok-modules.modules c.deref.result.now
+    listing-is log c.args.expansion c.args.mentioned x c.modules_symbol.new.names c.in_ok-symbol.symbol c.in_ok-modules.modules c.deref.result.now
     (c.in_ok-symbol.ensures.names named x.modules_is) (c.in_ok-symbol.ensures.number named x.modules_is) c.in_ok-modules.ensures.rank
-    (λ placed h. c.deref.ensures.value ∙ c.in_ok-numbers.ensures.numbers placed (subst (λ l. AreNumbers c.modules_symbol.new.names l placed) (sym c.in_ok-modules.ensures.order) h))
+    (λ placed h. c.deref.ensures.value ∙ c.in_ok-numbers.ensures placed (subst (λ l. AreNumbers c.modules_symbol.new.names l placed) (sym c.in_ok-modules.ensures.order) h))
     c.renumber.new.self c.count-count.result c.rename_lines.new.lines
     (c.renumber.ensures (names_of (statements log.lines))
-    (renumbered log c.args.expansion c.args.mentioned c.args.unknown x c.modules_symbol.new.names c.in_ok-symbol.symbol c.in_ok-modules.modules
+    (renumbered log c.args.expansion c.args.mentioned x c.modules_symbol.new.names c.in_ok-symbol.symbol c.in_ok-modules.modules
     c.in_ok-numbers.numbers.items
     (c.in_ok-symbol.ensures.names named x.modules_is) (c.in_ok-symbol.ensures.number named x.modules_is) c.in_ok-modules.ensures.rank
-    (λ placed h. c.in_ok-numbers.ensures.numbers placed (subst (λ l. AreNumbers c.modules_symbol.new.names l placed) (sym c.in_ok-modules.ensures.order) h))))
-    c.count-count.ensures few c.in_ok-rename_lines.ensures
+    (λ placed h. c.in_ok-numbers.ensures placed (subst (λ l. AreNumbers c.modules_symbol.new.names l placed) (sym c.in_ok-modules.ensures.order) h))))
+    c.count-count.ensures c.in_ok-rename_lines.ensures

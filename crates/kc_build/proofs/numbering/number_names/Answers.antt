@@ -12,7 +12,7 @@ loop-i-preserved c = λ placed h.
     placed_next names placed c.loop-i.i c.loop-i.order c.rank.new.self c.loop-i.numbers.items c.push.new.self.items c.name-name.result.now _ c.in_ok-rank.rank
     (c.loop-i.invariant placed h) c.name-name.ensures.there id c.in_ok-rank.ensures.rank c.in_ok-rank.ensures.order c.in_ok-push.ensures.items
 
-pub returns-clause-numbers : goal.returns-clause-numbers
-returns-clause-numbers c = λ placed h.
+pub returns : goal.returns
+returns c = λ placed h.
     let past : length c.args.names.now ≤ c.loop-i.i = omega (arith, c.count-count.ensures, c.loop-i-test.false) in
     placed_end c.args.names.now placed c.loop-i.i c.loop-i.order c.loop-i.numbers.items (c.loop-i.invariant placed h) past

@@ -3,8 +3,8 @@ use Rattle.kc_read.specs.Files.{bytes_in}
 use Rattle.kc_read.proofs.OpenedOnce.{are_opened}
 use Rattle.kc_build.proofs.numbering.read_listing.Goals as goal
 
-pub number_lines-requires-clause-expanded : goal.number_lines-requires-clause-expanded
-number_lines-requires-clause-expanded c =
+pub number_lines-requires : goal.number_lines-requires
+number_lines-requires c =
     let x = c.in_ok-expansion.ensures.expanded in
     (x.0, rw c.new-mentioned.ensures at x.2)
 

@@ -7,5 +7,5 @@ use Rattle.kc_build.proofs.renaming.rename_lines.Given as goal
 abbrev pub invariant-loop-i : goal.invariant-loop-i
 invariant-loop-i l = record {
   all : length l.lines.items ≡ length l.fn.lines.items;
-  so_far : map line_view l.lines.items ≡ changed_to (line_renamed (final l.numbers l.modules)) l.i (map line_view l.fn.lines.items);
+  so_far : map line_view l.lines.items ≡ changed_to (line_renamed (final l.numbers)) l.i (map line_view l.fn.lines.items);
 }

@@ -1,5 +1,5 @@
 -- What the check left open in `lone`.
-use Rattle.kc_expr.proofs.OperandLemmas.{memory_at, memory_not, operand_here}
+use Rattle.kc_expr.proofs.OperandLemmas.{memory_at}
 use Rattle.kc_expr.proofs.ParseLemmas.{fault_passed, no_left}
 use Rattle.kc_expr.proofs.LoneLemmas.{parsed_alone, fails_alone}
 use Rattle.kc_expr.specs.Grammar.{terminals_from}
@@ -16,17 +16,10 @@ returns-in_default-clause-fails c =
 pub returns-clause-parsed : goal.returns-clause-parsed
 returns-clause-parsed c =
     let found = rw c.in-Some.is at c.in_ok-found.ensures.reads in
-    parsed_alone _ _ _ _ _ found.atom _ _ _ found.next c.requires.1 found.mentions found.leaf_is c.in_ok-plain.ensures.plain
+    parsed_alone _ _ _ _ _ found.atom _ _ _ found.next c.requires.1 found.mentions found.leaf_is c.plain.ensures
 
 pub returns-in_err-found-clause-fails : goal.returns-in_err-found-clause-fails
 returns-in_err-found-clause-fails c =
     let ts = terminals_from c.args.tokens.now c.args.at in
     fault_passed c.from_residual.result (λ f. FailsChain Or f most_levels ts) _ c.from_residual.ensures.1
     (fails_alone _ _ ts (memory_at _ _ ts c.in_err-found.ensures.memory))
-
-pub returns-in_err-plain-clause-fails : goal.returns-in_err-plain-clause-fails
-returns-in_err-plain-clause-fails c =
-    let ts = terminals_from c.args.tokens.now c.args.at in
-    let found = rw c.in-Some.is at c.in_ok-found.ensures.reads in
-    fault_passed c.from_residual-in_err-plain.result (λ f. FailsChain Or f most_levels ts) _ c.from_residual-in_err-plain.ensures.1
-    (fails_alone _ _ ts (memory_not _ _ ts c.in_err-plain.ensures.memory (operand_here ts _ found.atom found.next)))

@@ -16,7 +16,7 @@ returns-in_default-clause-fails c =
 pub returns-in_default-relation_op-clause-parsed : goal.returns-in_default-relation_op-clause-parsed
 returns-in_default-relation_op-clause-parsed c =
     let left = rw c.in-Some.is at c.in_ok-left.ensures.reads in
-    parsed_lone _ _ _ _ _ left.atom _ _ left.next c.in_default-relation_op.ensures left.mentions left.leaf_is c.in_ok-plain.ensures.plain
+    parsed_lone _ _ _ _ _ left.atom _ _ left.next c.in_default-relation_op.ensures left.mentions left.leaf_is c.plain.ensures
 
 pub returns-in_default-2-clause-fails : goal.returns-in_default-2-clause-fails
 returns-in_default-2-clause-fails c =
@@ -41,13 +41,6 @@ pub returns-in_err-left-clause-fails : goal.returns-in_err-left-clause-fails
 returns-in_err-left-clause-fails c =
     let ts = terminals_from c.args.tokens.now c.args.at in
     fault_passed c.from_residual.result (λ f. (k : ℕ) → FailsNot f k ts) _ c.from_residual.ensures.1 (λ k. memory_at _ k ts c.in_err-left.ensures.memory)
-
-pub returns-in_err-plain-clause-fails : goal.returns-in_err-plain-clause-fails
-returns-in_err-plain-clause-fails c =
-    let ts = terminals_from c.args.tokens.now c.args.at in
-    let left = rw c.in-Some.is at c.in_ok-left.ensures.reads in
-    fault_passed c.from_residual-in_err-plain.result (λ f. (k : ℕ) → FailsNot f k ts) _ c.from_residual-in_err-plain.ensures.1
-    (λ k. memory_not _ k ts c.in_err-plain.ensures.memory (operand_here ts _ left.atom left.next))
 
 pub returns-in_err-right-clause-fails : goal.returns-in_err-right-clause-fails
 returns-in_err-right-clause-fails c =

@@ -6,6 +6,6 @@ use Rattle.kc_expr.proofs.values.+symbols_into.Given as goal
 
 abbrev pub invariant-loop-part : goal.invariant-loop-part
 invariant-loop-part l = record {
-  so_far : l.out.items ≡ l.fn.out.items ++ symbols_of_all (take l.part-index l.part-items);
-  all : symbols (form_of l.e) ≡ symbols_of_all l.part-items;
+  so_far : l.out.items ≡ l.fn.out.items ++ symbols_of_all l.modules (take l.part-index l.part-items);
+  all : symbols l.modules (form_of l.e) ≡ symbols_of_all l.modules l.part-items;
 }

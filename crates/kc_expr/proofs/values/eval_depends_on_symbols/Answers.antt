@@ -1,6 +1,7 @@
 -- What the check left open in `eval_depends_on_symbols`.
+use Rattle.std.proofs.Common.{◌∙◌, ap}
 use Rattle.kc_expr.specs.Form.{form_of}
-use Rattle.kc_expr.specs.Value.{values_by}
+use Rattle.kc_expr.specs.Value.{values_by, value}
 use Rattle.kc_expr.proofs.AgreeLemmas.{depends_on_symbols}
 use Rattle.kc_expr.proofs.values.eval_depends_on_symbols.Goals as goal
 
@@ -8,5 +9,8 @@ pub returns : goal.returns
 returns g c =
     let values = c.args.values.now in
     let others = c.args.others.now in
-    depends_on_symbols (values_by (g.V.Values.kind_of values) (g.V.Values.tri_of values) (g.V.Values.text_of values))
-    (values_by (g.W.Values.kind_of others) (g.W.Values.tri_of others) (g.W.Values.text_of others)) (form_of c.args.e.now)
+    let known = values_by (g.V.Values.kind_of values) (g.V.Values.tri_of values) (g.V.Values.text_of values) in
+    let others_known = values_by (g.W.Values.kind_of others) (g.W.Values.tri_of others) (g.W.Values.text_of others) in
+    λ same agree.
+    depends_on_symbols known others_known (g.V.Values.modules_of values) (form_of c.args.e.now) agree
+    ∙ ap (λ m. value others_known m (form_of c.args.e.now)) same

@@ -17,7 +17,7 @@ returns-in_err-read_file-clause-refused c =
     let files = bytes_in c.args.map.now in
     let root = c.args.root.now in
     let bytes = c.in-Ok.opened.0.now in
-    let state = state_begun c.args.modules c.args.names.now root bytes c.in-Ok.opened.1 c.in-Ok-begin.begun.0 c.in-Ok-begin.begun.1 c.in-Ok-begin.ensures.begun c.in-Ok.ensures.total_lines.0 in
+    let state = state_begun c.args.names.now root bytes c.in-Ok.opened.1 c.in-Ok-begin.begun.0 c.in-Ok-begin.begun.1 c.in-Ok-begin.ensures.begun c.in-Ok.ensures.total_lines.0 in
     refusal_passed c.from_residual.result (λ r. r.code ≢ Memory → Expands files root (Err (refusal_view r))) c.in_err-read_file.field-0.0 c.from_residual.ensures.1 (λ ne.
     expands_read files root bytes (Err (refusal_view c.in_err-read_file.field-0.0)) c.in-Ok.ensures.allowed c.in-Ok.ensures.bytes
     (c.in_err-read_file.ensures.read c.args.names.now (root_context root) (with_file nothing_read root bytes) state ne))
@@ -27,7 +27,7 @@ returns-clause-expanded c =
     let files = bytes_in c.args.map.now in
     let root = c.args.root.now in
     let bytes = c.in-Ok.opened.0.now in
-    let state = state_begun c.args.modules c.args.names.now root bytes c.in-Ok.opened.1 c.in-Ok-begin.begun.0 c.in-Ok-begin.begun.1 c.in-Ok-begin.ensures.begun c.in-Ok.ensures.total_lines.0 in
+    let state = state_begun c.args.names.now root bytes c.in-Ok.opened.1 c.in-Ok-begin.begun.0 c.in-Ok-begin.begun.1 c.in-Ok-begin.ensures.begun c.in-Ok.ensures.total_lines.0 in
     let read = c.in_ok-read_file.ensures.read c.args.names.now (root_context root) (with_file nothing_read root bytes) state in (
       read.log_now,
       expands_read files root bytes (Ok read.log_now) c.in-Ok.ensures.allowed c.in-Ok.ensures.bytes read.rest,

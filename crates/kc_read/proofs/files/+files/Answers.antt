@@ -18,20 +18,18 @@ use Rattle.kc_read.proofs.files.+files.Goals as goal
 pub read_file-returns-in_err-read_next-clause-read : goal.read_file-returns-in_err-read_next-clause-read
 read_file-returns-in_err-read_next-clause-read t c = λ first a log i.
     let files = bytes_in c.args.reader.now.map.now in
-    let modules = c.args.reader.now.modules in
     let go = c.loop-tokens.invariant.read first a log i in
-    reading_passed files first modules c.read_next.new.names a (unread_lines c.args.bytes.now 1)
+    reading_passed files first c.read_next.new.names a (unread_lines c.args.bytes.now 1)
     log c.read_next.new.progress c.from_residual.result c.in_err-read_next.field-0.0 c.from_residual.ensures.1
-    (file_refused files first modules c.loop-tokens.names a (unread_lines c.args.bytes.now 1) c.loop-tokens.lines log c.loop-tokens.progress c.loop-tokens.frame c.in_err-read_next.field-0.0 go
+    (file_refused files first c.loop-tokens.names a (unread_lines c.args.bytes.now 1) c.loop-tokens.lines log c.loop-tokens.progress c.loop-tokens.frame c.in_err-read_next.field-0.0 go
     (c.in_err-read_next.ensures.read first a go.own_now go.log_now go.state))
 
 pub read_file-loop-tokens-preserved : goal.read_file-loop-tokens-preserved
 read_file-loop-tokens-preserved t c = record {
   read = λ first a log i.
       let files = bytes_in c.args.reader.now.map.now in
-      let modules = c.args.reader.now.modules in
       let go = c.loop-tokens.invariant.read first a log i in
-      goes_on files first modules c.loop-tokens.names c.read_next.new.names a (unread_lines c.args.bytes.now 1)
+      goes_on files first c.loop-tokens.names c.read_next.new.names a (unread_lines c.args.bytes.now 1)
       c.loop-tokens.lines c.read_next.new.lines log c.loop-tokens.progress c.read_next.new.progress c.loop-tokens.frame c.read_next.new.frame go
       (rw c.if-branch.true at (c.in_ok-read_next.ensures.read first a go.own_now go.log_now go.state));
   clear = c.in_ok-read_next.ensures.clear c.if-branch.true;
@@ -44,18 +42,16 @@ read_file-loop-tokens-preserved t c = record {
 pub read_file-returns-clause-read : goal.read_file-returns-clause-read
 read_file-returns-clause-read t c = λ first a log i.
     let files = bytes_in c.args.reader.now.map.now in
-    let modules = c.args.reader.now.modules in
     let go = c.loop-tokens.invariant.read first a log i in
-    file_read files first modules c.loop-tokens.names c.read_next.new.names a (unread_lines c.args.bytes.now 1)
+    file_read files first c.loop-tokens.names c.read_next.new.names a (unread_lines c.args.bytes.now 1)
     c.loop-tokens.lines log c.loop-tokens.progress c.read_next.new.progress c.loop-tokens.frame go
     (rw c.if-branch.false at (c.in_ok-read_next.ensures.read first a go.own_now go.log_now go.state))
 
 pub read_next-returns-in_err-next_step-clause-read : goal.read_next-returns-in_err-next_step-clause-read
 read_next-returns-in_err-next_step-clause-read t c = λ first a own log i.
     let files = bytes_in c.args.reader.now.map.now in
-    let modules = c.args.reader.now.modules in
-    let same = context_same first modules c.args.names.now a own log c.args.frame.now c.args.progress.now (context_in c.args.frame.now c.args.progress.now) i refl refl refl refl in
-    next_passed files first modules c.next_step.new.names a c.args.lines.now c.next_step.new.lines own log c.args.progress.now c.args.frame.now
+    let same = context_same first c.args.names.now a own log c.args.frame.now c.args.progress.now (context_in c.args.frame.now c.args.progress.now) i refl refl refl refl in
+    next_passed files first c.next_step.new.names a c.args.lines.now c.next_step.new.lines own log c.args.progress.now c.args.frame.now
     c.from_residual.result c.in_err-next_step.field-0.0 c.from_residual.ensures.1
     (step_refused files a c.args.lines.now own log (context_in c.args.frame.now c.args.progress.now)
     c.args.frame.now.file.value.items c.in_err-next_step.field-0.0 same i.frame.file c.in_err-next_step.ensures.refused)
@@ -63,28 +59,25 @@ read_next-returns-in_err-next_step-clause-read t c = λ first a own log i.
 pub read_next-returns-in_err-end-in-End-clause-read : goal.read_next-returns-in_err-end-in-End-clause-read
 read_next-returns-in_err-end-in-End-clause-read t c = λ first a own log i.
     let files = bytes_in c.args.reader.now.map.now in
-    let modules = c.args.reader.now.modules in
     let step = rw c.in-End.is at c.in_ok-next_step.ensures.step in
-    next_passed files first modules c.next_step.new.names a c.args.lines.now c.next_step.new.lines own log c.args.progress.now c.args.frame.now
+    next_passed files first c.next_step.new.names a c.args.lines.now c.next_step.new.lines own log c.args.progress.now c.args.frame.now
     c.from_residual-in_err-end-in-End.result c.in_err-end-in-End.field-0.0 c.from_residual-in_err-end-in-End.ensures.1
-    (λ ne. end_refused files first modules c.args.names.now a c.args.lines.now own log c.args.progress.now c.args.frame.now c.in_err-end-in-End.field-0.0 i
+    (λ ne. end_refused files first c.args.names.now a c.args.lines.now own log c.args.progress.now c.args.frame.now c.in_err-end-in-End.field-0.0 i
     step.0 (c.in_err-end-in-End.ensures.open ne))
 
 pub read_next-returns-in_ok-end-in-End-clause-read : goal.read_next-returns-in_ok-end-in-End-clause-read
 read_next-returns-in_ok-end-in-End-clause-read t c = λ first a own log i.
     let files = bytes_in c.args.reader.now.map.now in
-    let modules = c.args.reader.now.modules in
     let step = rw c.in-End.is at c.in_ok-next_step.ensures.step in
-    subst (λ ns. IsEnded files first modules ns a c.args.lines.now own log c.args.progress.now) (sym step.1)
-    (ended files first modules c.args.names.now a c.args.lines.now own log c.args.progress.now c.args.frame.now i step.0 c.in_ok-end-in-End.ensures.closed)
+    subst (λ ns. IsEnded files first ns a c.args.lines.now own log c.args.progress.now) (sym step.1)
+    (ended files first c.args.names.now a c.args.lines.now own log c.args.progress.now c.args.frame.now i step.0 c.in_ok-end-in-End.ensures.closed)
 
 pub read_next-returns-in-Blank-clause-read : goal.read_next-returns-in-Blank-clause-read
 read_next-returns-in-Blank-clause-read t c = λ first a own log i.
     let files = bytes_in c.args.reader.now.map.now in
-    let modules = c.args.reader.now.modules in
     let step = rw c.in-Blank.is at c.in_ok-next_step.ensures.step in
-    subst (λ ns. HasAdvanced files first modules ns a c.args.lines.now c.next_step.new.lines own log c.args.progress.now c.args.frame.now) (sym step.1)
-    (blank_goes files first modules c.args.names.now a c.args.lines.now c.next_step.new.lines own log c.args.progress.now c.args.frame.now i step.0)
+    subst (λ ns. HasAdvanced files first ns a c.args.lines.now c.next_step.new.lines own log c.args.progress.now c.args.frame.now) (sym step.1)
+    (blank_goes files first c.args.names.now a c.args.lines.now c.next_step.new.lines own log c.args.progress.now c.args.frame.now i step.0)
 
 pub read_next-returns-in-Blank-clause-less : goal.read_next-returns-in-Blank-clause-less
 read_next-returns-in-Blank-clause-less t c = λ more. let step = rw c.in-Blank.is at c.in_ok-next_step.ensures.step in next_less c.args.lines.now c.next_step.new.lines [] None step.0
@@ -95,10 +88,9 @@ read_next-returns-in-Blank-clause-clear t c = λ more. let step = rw c.in-Blank.
 pub read_next-returns-in_err-read_statement-in-Next-clause-read : goal.read_next-returns-in_err-read_statement-in-Next-clause-read
 read_next-returns-in_err-read_statement-in-Next-clause-read t c = λ first a own log i.
     let files = bytes_in c.args.reader.now.map.now in
-    let modules = c.args.reader.now.modules in
-    let same = context_same first modules c.args.names.now a own log c.args.frame.now c.args.progress.now (context_in c.args.frame.now c.args.progress.now) i refl refl refl refl in
+    let same = context_same first c.args.names.now a own log c.args.frame.now c.args.progress.now (context_in c.args.frame.now c.args.progress.now) i refl refl refl refl in
     let step = rw c.in-Next.is at c.in_ok-next_step.ensures.step in
-    next_passed files first modules c.read_statement.new.names a c.args.lines.now c.next_step.new.lines own log c.read_statement.new.progress
+    next_passed files first c.read_statement.new.names a c.args.lines.now c.next_step.new.lines own log c.read_statement.new.progress
     c.read_statement.new.frame c.from_residual-in_err-read_statement-in-Next.result c.in_err-read_statement-in-Next.field-0.0
     c.from_residual-in_err-read_statement-in-Next.ensures.1
     (c.in_err-read_statement-in-Next.ensures.read first c.args.names.now a own log step.0 c.args.lines.now c.next_step.new.lines i step.3
@@ -106,8 +98,7 @@ read_next-returns-in_err-read_statement-in-Next-clause-read t c = λ first a own
 
 pub read_next-returns-in_ok-read_statement-in-Next-clause-read : goal.read_next-returns-in_ok-read_statement-in-Next-clause-read
 read_next-returns-in_ok-read_statement-in-Next-clause-read t c = λ first a own log i.
-    let modules = c.args.reader.now.modules in
-    let same = context_same first modules c.args.names.now a own log c.args.frame.now c.args.progress.now (context_in c.args.frame.now c.args.progress.now) i refl refl refl refl in
+    let same = context_same first c.args.names.now a own log c.args.frame.now c.args.progress.now (context_in c.args.frame.now c.args.progress.now) i refl refl refl refl in
     let step = rw c.in-Next.is at c.in_ok-next_step.ensures.step in
     c.in_ok-read_statement-in-Next.ensures.read first c.args.names.now a own log step.0 c.args.lines.now c.next_step.new.lines i step.3
     (subst (λ k. NextStatement c.args.lines.now c.next_step.new.lines k (Ok step.0)) same step.2) step.1
@@ -124,26 +115,23 @@ read_next-returns-in_ok-read_statement-in-Next-clause-clear t c = λ more.
 
 pub read_statement-returns-in-Source-clause-read : goal.read_statement-returns-in-Source-clause-read
 read_statement-returns-in-Source-clause-read t c = λ first known a own log x l m i made next line.
-    let modules = c.args.reader.now.modules in
     let name = c.in-Source.name.items in
     let view = rw c.in-Source.is at (made.form c.args.names.now (extends_none c.args.names.now)) in
-    let e : x ≡ SourceLine name = source_is modules (number_of c.args.names.now) name x view in
+    let e : x ≡ SourceLine name = source_is (number_of c.args.names.now) name x view in
     let same : c.args.names.now ≡ known = made.mentions ∙ ap (λ y. all_mentioned known (names_in_statement y)) e in
-    c.source.ensures.read first a own log l m (subst (λ ns. IsState first modules ns a own log c.args.progress.now c.args.frame.now) (sym same) i)
+    c.source.ensures.read first a own log l m (subst (λ ns. IsState first ns a own log c.args.progress.now c.args.frame.now) (sym same) i)
     (subst (λ y. NextStatement l m (context_of a own log) (Ok y)) e next) line
 
 pub read_statement-returns-in-Ok-clause-read : goal.read_statement-returns-in-Ok-clause-read
 read_statement-returns-in-Ok-clause-read t c = λ first known a own log x l m i made next line.
     let files = bytes_in c.args.reader.now.map.now in
-    let modules = c.args.reader.now.modules in
-    statement_goes files first modules known c.args.names.now a l m own log c.args.frame.now c.take.new.frame c.args.progress.now c.take.new.progress c.args.statement x c.args.line i made next line
-    (made_no_source modules known c.args.names.now c.args.statement x made c.in_default.not-Source) c.in-Ok.ensures.taken c.in-Ok.ensures.allowed
+    statement_goes files first known c.args.names.now a l m own log c.args.frame.now c.take.new.frame c.args.progress.now c.take.new.progress c.args.statement x c.args.line i made next line
+    (made_no_source known c.args.names.now c.args.statement x made c.in_default.not-Source) c.in-Ok.ensures.taken c.in-Ok.ensures.allowed
 
 pub read_statement-returns-in-Err-clause-read : goal.read_statement-returns-in-Err-clause-read
 read_statement-returns-in-Err-clause-read t c = λ first known a own log x l m i made next line ne.
     let files = bytes_in c.args.reader.now.map.now in
-    let modules = c.args.reader.now.modules in
-    effect_refused files first modules known c.args.names.now a l m own log c.args.frame.now c.args.progress.now c.args.statement x c.args.line
+    effect_refused files first known c.args.names.now a l m own log c.args.frame.now c.args.progress.now c.args.statement x c.args.line
     c.deref-in-Err.result.now (cause_of c.in-Err.fault) c.refuse.result i made next line
     (c.deref-in-Err.ensures.value ∙ ap (λ v. v.items) c.deref.ensures ∙ ap (λ r. r.value.items) c.in-Err.ensures.file)
     (c.in-Err.ensures.fault (no_memory c.refuse.result c.in-Err.fault c.deref-in-Err.result.now c.args.line ne c.refuse.ensures.refused)) (c.refuse.ensures.refused ne)
@@ -151,37 +139,34 @@ read_statement-returns-in-Err-clause-read t c = λ first known a own log x l m i
 pub source-returns-in-Err-clause-read : goal.source-returns-in-Err-clause-read
 source-returns-in-Err-clause-read t c = λ first a own log l m i next line ne.
     let files = bytes_in c.args.reader.now.map.now in
-    let modules = c.args.reader.now.modules in
-    source_refused files first modules c.args.names.now a l m own log c.args.frame.now c.args.progress.now c.args.name.items c.args.line
+    source_refused files first c.args.names.now a l m own log c.args.frame.now c.args.progress.now c.args.name.items c.args.line
     c.deref-in-Err-2.result.now (cause_of c.in-Err.fault) c.refuse.result i next line
     (c.deref-in-Err-2.ensures.value ∙ ap (λ v. v.items) c.deref-in-Err.ensures) (rw c.deref.ensures.value at c.in-Err.ensures.fault) (c.refuse.ensures.refused ne)
 
 pub source-returns-in_err-read_file-clause-read : goal.source-returns-in_err-read_file-clause-read
 source-returns-in_err-read_file-clause-read t c = λ first a own log l m i next line.
     let files = bytes_in c.args.reader.now.map.now in
-    let modules = c.args.reader.now.modules in
     let name = c.args.name.items in
     let bytes = c.in-Ok.opened.0.now in
-    let within = state_inside first modules c.args.names.now a own log c.args.frame.now c.in-Ok-enter.inside c.args.progress.now c.enter.new.progress name bytes
+    let within = state_inside first c.args.names.now a own log c.args.frame.now c.in-Ok-enter.inside c.args.progress.now c.enter.new.progress name bytes
     c.in-Ok.opened.1 i c.in-Ok-enter.ensures.frame c.in-Ok-enter.ensures.progress c.in-Ok.ensures.total_lines.0 in
-    statement_passed files first modules c.read_file.new.names a l m own log c.read_file.new.progress c.args.frame.now c.from_residual.result c.in_err-read_file.field-0.0 c.from_residual.ensures.1
-    (inside_refused files first modules c.args.names.now a l m own log c.args.frame.now c.args.progress.now name bytes c.in_err-read_file.field-0.0 i next
+    statement_passed files first c.read_file.new.names a l m own log c.read_file.new.progress c.args.frame.now c.from_residual.result c.in_err-read_file.field-0.0 c.from_residual.ensures.1
+    (inside_refused files first c.args.names.now a l m own log c.args.frame.now c.args.progress.now name bytes c.in_err-read_file.field-0.0 i next
     (rw c.deref.ensures.value at c.in-Ok.ensures.allowed) (rw c.deref.ensures.value at c.in-Ok.ensures.bytes)
     (c.in_err-read_file.ensures.read first (inside a own name) (with_file log name bytes) within))
 
 pub source-returns-clause-read : goal.source-returns-clause-read
 source-returns-clause-read t c = λ first a own log l m i next line.
     let files = bytes_in c.args.reader.now.map.now in
-    let modules = c.args.reader.now.modules in
     let name = c.args.name.items in
     let bytes = c.in-Ok.opened.0.now in
     let q = c.read_file.new.progress in
     let entered = c.in-Ok-enter.ensures.progress in
-    let within = state_inside first modules c.args.names.now a own log c.args.frame.now c.in-Ok-enter.inside c.args.progress.now c.enter.new.progress name bytes
+    let within = state_inside first c.args.names.now a own log c.args.frame.now c.in-Ok-enter.inside c.args.progress.now c.enter.new.progress name bytes
     c.in-Ok.opened.1 i c.in-Ok-enter.ensures.frame entered c.in-Ok.ensures.total_lines.0 in
     let same_files = popped c.args.progress.now.open_files.items q.open_files.items c.pop.new.self.items q.open_files.len entered.open_files.0
     c.pop.ensures.rest (omega (arith, q.open_files.ok.0)) (c.in_ok-read_file.ensures.open ∙ entered.open_files.2) in
-    source_goes files first modules c.args.names.now c.read_file.new.names a l m own log c.args.frame.now (record c.args.frame.now { entry = entry.Nothing })
+    source_goes files first c.args.names.now c.read_file.new.names a l m own log c.args.frame.now (record c.args.frame.now { entry = entry.Nothing })
     c.args.progress.now q (record q { open_files = c.pop.new.self }) name bytes c.args.line i next line
     (rw c.deref.ensures.value at c.in-Ok.ensures.allowed) (rw c.deref.ensures.value at c.in-Ok.ensures.bytes)
     (c.in_ok-read_file.ensures.read first (inside a own name) (with_file log name bytes) within) refl (ap (map (λ f. f.value.items)) same_files) refl

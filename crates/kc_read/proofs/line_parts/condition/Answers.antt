@@ -15,5 +15,5 @@ returns-in_err-when-clause-fault c =
 pub returns-then-begins_with-clause-condition : goal.returns-then-begins_with-clause-condition
 returns-then-begins_with-clause-condition c =
     let ls = lexemes_from c.args.tokens.now c.args.at in
-    condition_if c.args.modules c.args.names.now c.whole.new.names ls _ (form_of c.in_ok-when.when.value)
+    condition_if c.args.names.now c.whole.new.names ls _ (form_of c.in_ok-when.when.value)
     (sym c.begins_with.ensures.word ∙ c.if-begins_with.true) (after_one c.args.tokens.now c.args.at) c.in_ok-when.ensures.whole

@@ -3,4 +3,4 @@ use Rattle.kc_read.specs.Statements.{ChoiceLine}
 use Rattle.kc_read.proofs.reader.choice_line.Goals as goal
 
 pub returns-in-None : goal.returns-in-None
-returns-in-None c = λ modules names. (ChoiceLine, rw c.in-None.ensures refl, record { mentions = refl; form = λ later x. refl })
+returns-in-None c = λ names. (ChoiceLine, rw c.in-None.ensures refl, record { mentions = refl; form = λ later x. refl })

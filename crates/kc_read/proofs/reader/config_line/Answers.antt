@@ -6,7 +6,7 @@ use Rattle.kc_read.proofs.PartLemmas.{config_ok}
 use Rattle.kc_read.proofs.reader.config_line.Goals as goal
 
 pub returns-clause-read : goal.returns-clause-read
-returns-clause-read c = λ modules.
+returns-clause-read c =
     let ls = lexemes_from c.args.tokens.now 1 in
     let w = c.in_ok-word.word.now in (
       ConfigLine w,

@@ -1,5 +1,5 @@
 use Rattle.kc_expr.specs.Form.{form_of}
-use Rattle.std.proofs.Common.{None}
+use Rattle.std.proofs.Common.{false}
 use Rattle.kc_read.specs.Lines.{ReadsValue}
 use Rattle.kc_read.proofs.PartLemmas.{read_passed, value_fault, value_refused, memory_passed}
 use Rattle.std.proofs.Common.{refl}
@@ -28,19 +28,19 @@ returns-clause-read c =
 pub returns-in_err-when-clause-read : goal.returns-in_err-when-clause-read
 returns-in_err-when-clause-read c =
     let ls = lexemes_from c.args.tokens.now 1 in
-    read_passed c.args.modules c.args.names.now c.condition.new.names (ReadsValue (DefLine c.args.kind) ls)
+    read_passed c.args.names.now c.condition.new.names (ReadsValue (DefLine c.args.kind) ls)
     c.from_residual-in_err-when.result c.in_err-when.field-0.0 c.from_residual-in_err-when.ensures.1
-    (value_fault (DefLine c.args.kind) None c.args.names.now c.front.new.names ls (lexemes_from c.args.tokens.now c.in_ok-value.after)
+    (value_fault (DefLine c.args.kind) false c.args.names.now c.front.new.names ls (lexemes_from c.args.tokens.now c.in_ok-value.after)
     (form_of c.in_ok-value.value) c.in_err-when.field-0.0 c.in_ok-value.ensures.front c.in_err-when.ensures.fault)
 
 pub returns-in_err-value-clause-read : goal.returns-in_err-value-clause-read
 returns-in_err-value-clause-read c =
-    value_refused c.args.modules c.args.names.now c.front.new.names (DefLine c.args.kind) (lexemes_from c.args.tokens.now 1) c.from_residual.result
+    value_refused c.args.names.now c.front.new.names (DefLine c.args.kind) (lexemes_from c.args.tokens.now 1) c.from_residual.result
     c.in_err-value.field-0.0 c.from_residual.ensures.1 c.in_err-value.ensures.fault
 
 pub returns-in_err-new-clause-read : goal.returns-in_err-new-clause-read
 returns-in_err-new-clause-read c =
-    memory_passed c.args.modules c.args.names.now c.condition.new.names (ReadsValue (DefLine c.args.kind) (lexemes_from c.args.tokens.now 1))
+    memory_passed c.args.names.now c.condition.new.names (ReadsValue (DefLine c.args.kind) (lexemes_from c.args.tokens.now 1))
     c.from_residual-in_err-new.result c.from_residual-in_err-new.ensures.1
 
 pub returns-in_err-when-clause-names : goal.returns-in_err-when-clause-names

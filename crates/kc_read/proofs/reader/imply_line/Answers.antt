@@ -25,7 +25,7 @@ returns-clause-read c =
 pub returns-in_err-when-clause-read : goal.returns-in_err-when-clause-read
 returns-in_err-when-clause-read c =
     let ls = lexemes_from c.args.tokens.now 1 in
-    read_passed c.args.modules c.args.names.now c.condition.new.names (ReadsTarget ImplyLine ls)
+    read_passed c.args.names.now c.condition.new.names (ReadsTarget ImplyLine ls)
     c.from_residual-in_err-when.result c.in_err-when.field-0.0 c.from_residual-in_err-when.ensures.1
     (target_fault ImplyLine ls (lexemes_from c.args.tokens.now 2) c.in_ok-word.word.now c.in_err-when.field-0.0 c.in_ok-word.ensures.part
     (after_one c.args.tokens.now 1) c.in_err-when.ensures.fault)

@@ -6,7 +6,7 @@ use Rattle.kc_read.proofs.PartLemmas.{text_line_ok}
 use Rattle.kc_read.proofs.reader.menu_line.Goals as goal
 
 pub returns : goal.returns
-returns c = λ modules names.
+returns c = λ names.
     let ls = lexemes_from c.args.tokens.now 1 in (
       MenuLine c.in_ok-text.text.items,
       text_line_ok MenuLine ls c.in_ok-text.text.items c.in_ok-text.ensures.part

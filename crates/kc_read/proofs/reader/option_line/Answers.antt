@@ -6,7 +6,7 @@ use Rattle.kc_read.proofs.FrontLemmas.{after_one}
 use Rattle.kc_read.proofs.reader.option_line.Goals as goal
 
 pub returns-then-begins_with : goal.returns-then-begins_with
-returns-then-begins_with c = λ modules names.
+returns-then-begins_with c = λ names.
     let ls = lexemes_from c.args.tokens.now 1 in (
       ModulesLine,
       option_modules ls (sym c.begins_with.ensures.word ∙ c.if-begins_with.true) (after_one c.args.tokens.now 1 ∙ c.in_ok-end.ensures.end),
@@ -14,7 +14,7 @@ returns-then-begins_with c = λ modules names.
     )
 
 pub returns-then-begins_with-2 : goal.returns-then-begins_with-2
-returns-then-begins_with-2 c = λ modules names.
+returns-then-begins_with-2 c = λ names.
     let ls = lexemes_from c.args.tokens.now 1 in (
       IgnoredLine,
       option_ignored ls (sym c.begins_with.ensures.word ∙ c.if-begins_with.false) (sym c.begins_with-2.ensures.word ∙ c.if-begins_with-2.true)

@@ -36,12 +36,12 @@ returns-in_err-when-clause-read c =
     let ts = c.args.tokens.now in
     let a = c.in_ok-low.ensures.operand in
     let b = c.in_ok-high.ensures.operand in
-    read_passed c.args.modules c.args.names.now c.condition.new.names (ReadsRange (lexemes_from ts 1)) c.from_residual-in_err-when.result c.in_err-when.field-0.0 c.from_residual-in_err-when.ensures.1
+    read_passed c.args.names.now c.condition.new.names (ReadsRange (lexemes_from ts 1)) c.from_residual-in_err-when.result c.in_err-when.field-0.0 c.from_residual-in_err-when.ensures.1
     (range_fault (lexemes_from ts 1) (lexemes_from ts 2) (lexemes_from ts 3) a.atom b.atom c.in_err-when.field-0.0 a.part_is (after_one ts 1) b.part_is (after_two ts 1) c.in_err-when.ensures.fault)
 
 pub returns-in_err-bounds-clause-read : goal.returns-in_err-bounds-clause-read
 returns-in_err-bounds-clause-read c =
-    memory_passed c.args.modules c.args.names.now c.condition.new.names (ReadsRange (lexemes_from c.args.tokens.now 1))
+    memory_passed c.args.names.now c.condition.new.names (ReadsRange (lexemes_from c.args.tokens.now 1))
     c.from_residual-in_err-bounds.result c.from_residual-in_err-bounds.ensures.1
 
 pub returns-in_err-high-clause-names : goal.returns-in_err-high-clause-names

@@ -3,4 +3,4 @@ use Rattle.kc_read.specs.Statements.{SourceLine}
 use Rattle.kc_read.proofs.reader.source_line.Goals as goal
 
 pub returns : goal.returns
-returns c = λ modules names. (SourceLine c.in_ok-name.name.items, c.in_ok-name.ensures.name, record { mentions = refl; form = λ later x. refl })
+returns c = λ names. (SourceLine c.in_ok-name.name.items, c.in_ok-name.ensures.name, record { mentions = refl; form = λ later x. refl })

@@ -10,4 +10,4 @@ returns-in-None-clause-read c = (TypeLine c.args.kind None, inl (c.in-None.ensur
 
 pub returns-in-Some-clause-read : goal.returns-in-Some-clause-read
 returns-in-Some-clause-read c =
-    typed_read c.args.modules c.args.names.now c.prompted_type.new.names c.args.kind (lexemes_from c.args.tokens.now 1) c.prompted_type.result (_, _, c.in-Some.ensures.1) c.prompted_type.ensures.read
+    typed_read c.args.names.now c.prompted_type.new.names c.args.kind (lexemes_from c.args.tokens.now 1) c.prompted_type.result (_, _, c.in-Some.ensures.1) c.prompted_type.ensures.read

@@ -19,6 +19,6 @@ returns-clause-read c =
 pub returns-in_err-when-clause-read : goal.returns-in_err-when-clause-read
 returns-in_err-when-clause-read c =
     let ls = lexemes_from c.args.tokens.now 1 in
-    read_passed c.args.modules c.args.names.now c.whole.new.names (ReadsVisible ls) c.from_residual.result c.in_err-when.field-0.0 c.from_residual.ensures.1
+    read_passed c.args.names.now c.whole.new.names (ReadsVisible ls) c.from_residual.result c.in_err-when.field-0.0 c.from_residual.ensures.1
     (visible_fault ls (lexemes_from c.args.tokens.now 2) c.in_err-when.field-0.0 (sym c.begins_with.ensures.word ∙ c.if-not-begins_with.false)
     (after_one c.args.tokens.now 1) c.in_err-when.ensures.fault)

@@ -15,8 +15,8 @@ returns-in-Some c =
     let cs = t.layout.now.tables.contexts in
     let dep = condition_in cs c.args.choice.now.within.0 in
     let p = c.in-Some.prompt in
-    let V = and_value k (condition_in cs p.visible.0).conjuncts in
+    let V = and_value t.tree.now k (condition_in cs p.visible.0).conjuncts in
     c.enclosing_least.ensures
-    ∙ ap (λ x. lesser x (and_value k dep.conjuncts)) (c.enclosing_least-shown.ensures ∙ ap (λ x. lesser x V) c.if_value.ensures)
-    ∙ sym (prompt_asked k cs dep p)
-    ∙ ap (λ o. prompt_value k (option_map (prompt_view cs dep) o)) (sym c.in-Some.is)
+    ∙ ap (λ x. lesser x (and_value t.tree.now k dep.conjuncts)) (c.enclosing_least-shown.ensures ∙ ap (λ x. lesser x V) c.if_value.ensures)
+    ∙ sym (prompt_asked t.tree.now k cs dep p)
+    ∙ ap (λ o. prompt_value t.tree.now k (option_map (prompt_view cs dep) o)) (sym c.in-Some.is)

@@ -10,5 +10,5 @@ pub returns : goal.returns
 returns c =
     let t = c.args.table.now in
     c.guarded.ensures
-    ∙ ap (λ x. lesser x (when_value (known_at t) (when_view c.args.when.now))) c.context.ensures
+    ∙ ap (λ x. lesser x (when_value t.tree.now (known_at t) (when_view c.args.when.now))) c.context.ensures
     ∙ sym (condition-with_when t.tree.now (known_at t) (condition_at t c.args.within.0) (when_view c.args.when.now))

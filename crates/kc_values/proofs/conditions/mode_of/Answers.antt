@@ -12,9 +12,9 @@ returns-in-Some c =
     ∥∥₁_elim t.laid (one_way _ _)
     (λ laid.
     c.upgrade.ensures ∙ ap upgrade c.choice_prompt.ensures
-    ∙ ap (mode_of (known_at t)) (choice_found t.tree.now t.layout.now laid c.args.id.0 (Some c.in-Some.choice.now) c.in-Some.ensures))
+    ∙ ap (mode_of t.tree.now (known_at t)) (choice_found t.tree.now t.layout.now laid c.args.id.0 (Some c.in-Some.choice.now) c.in-Some.ensures))
 
 pub returns-in-None : goal.returns-in-None
 returns-in-None c =
     let t = c.args.table.now in
-    ∥∥₁_elim t.laid (one_way _ _) (λ laid. ap (mode_of (known_at t)) (choice_found t.tree.now t.layout.now laid c.args.id.0 None c.in-None.ensures))
+    ∥∥₁_elim t.laid (one_way _ _) (λ laid. ap (mode_of t.tree.now (known_at t)) (choice_found t.tree.now t.layout.now laid c.args.id.0 None c.in-None.ensures))

@@ -19,5 +19,5 @@ returns c =
     ∙ ap (lesser (condition t.tree.now k dep)) c.context-2.ensures
     in
     c.guarded.ensures
-    ∙ ap (λ x. lesser x (when_value k (when_view p.when))) first
+    ∙ ap (λ x. lesser x (when_value t.tree.now k (when_view p.when))) first
     ∙ sym (condition-prompt t.tree.now k t.layout.now.tables.contexts dep p c.requires)

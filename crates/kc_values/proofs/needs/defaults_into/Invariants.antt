@@ -6,4 +6,4 @@ use Rattle.kc_values.proofs.needs.defaults_into.Given as goal
 abbrev pub invariant-loop-default : goal.invariant-loop-default
 invariant-loop-default l =
     (l.out.nodes.items ≡ l.initial.out.nodes.items) ×
-    (l.out.names.items ≡ l.initial.out.names.items ++ flat_map default_names (take l.default-index l.defaults))
+    (l.out.names.items ≡ l.initial.out.names.items ++ flat_map (default_names l.layout.modules) (take l.default-index l.defaults))

@@ -33,27 +33,27 @@ pub returns-in_ok-ranges_into : goal.returns-in_ok-ranges_into
 returns-in_ok-ranges_into c =
     let l = c.args.layout.now in
     let d = c.args.definition.now in
-    let given = flat_map rows.range_names c.ranges-then-is_number.result.now in
-    let asked = rows.prompt_names d.prompt in
-    let defaults = flat_map rows.default_names (rows.defaults_of l d) in
-    let ranges = flat_map rows.range_names (rows.ranges_of l d) in
+    let given = flat_map (rows.range_names l.modules) c.ranges-then-is_number.result.now in
+    let asked = rows.prompt_names l.modules d.prompt in
+    let defaults = flat_map (rows.default_names l.modules) (rows.defaults_of l d) in
+    let ranges = flat_map (rows.range_names l.modules) (rows.ranges_of l d) in
     all_added c.args.out.now c.if-is_read.out c.prompt_into.new.out c.defaults_into.new.out c.ranges_into.new.out
     (cond (rows.is_read l c.args.kind d) (rows.context_nodes l d.within.0) []) (rows.prompt_nodes l d.prompt) asked
-    (flat_map rows.default_names c.defaults.result.now) given (asked ++ defaults ++ cond (rows.is_number c.args.kind) ranges [])
+    (flat_map (rows.default_names l.modules) c.defaults.result.now) given (asked ++ defaults ++ cond (rows.is_number c.args.kind) ranges [])
     (read (goal.at.returns-in_ok-ranges_into c).In_ok-defaults_into) c.in_ok-prompt_into.ensures c.in_ok-defaults_into.ensures c.in_ok-ranges_into.ensures
-    (ap (λ ds. asked ++ flat_map rows.default_names ds ++ given) c.defaults.ensures
-    ∙ ap (λ rs. asked ++ defaults ++ flat_map rows.range_names rs) c.ranges-then-is_number.ensures
+    (ap (λ ds. asked ++ flat_map (rows.default_names l.modules) ds ++ given) c.defaults.ensures
+    ∙ ap (λ rs. asked ++ defaults ++ flat_map (rows.range_names l.modules) rs) c.ranges-then-is_number.ensures
     ∙ ap (λ b. asked ++ defaults ++ cond b ranges []) c.if-is_number.ensures)
 
 pub returns-else-is_number : goal.returns-else-is_number
 returns-else-is_number c =
     let l = c.args.layout.now in
     let d = c.args.definition.now in
-    let asked = rows.prompt_names d.prompt in
-    let defaults = flat_map rows.default_names (rows.defaults_of l d) in
-    let ranges = flat_map rows.range_names (rows.ranges_of l d) in
+    let asked = rows.prompt_names l.modules d.prompt in
+    let defaults = flat_map (rows.default_names l.modules) (rows.defaults_of l d) in
+    let ranges = flat_map (rows.range_names l.modules) (rows.ranges_of l d) in
     all_added c.args.out.now c.if-is_read.out c.prompt_into.new.out c.defaults_into.new.out c.defaults_into.new.out
     (cond (rows.is_read l c.args.kind d) (rows.context_nodes l d.within.0) []) (rows.prompt_nodes l d.prompt) asked
-    (flat_map rows.default_names c.defaults.result.now) [] (asked ++ defaults ++ cond (rows.is_number c.args.kind) ranges [])
+    (flat_map (rows.default_names l.modules) c.defaults.result.now) [] (asked ++ defaults ++ cond (rows.is_number c.args.kind) ranges [])
     (read (goal.at.returns-else-is_number c).In_ok-defaults_into) c.in_ok-prompt_into.ensures c.in_ok-defaults_into.ensures (adds_nothing c.defaults_into.new.out)
-    (ap (λ ds. asked ++ flat_map rows.default_names ds ++ []) c.defaults.ensures ∙ ap (λ b. asked ++ defaults ++ cond b ranges []) c.if-is_number.ensures)
+    (ap (λ ds. asked ++ flat_map (rows.default_names l.modules) ds ++ []) c.defaults.ensures ∙ ap (λ b. asked ++ defaults ++ cond b ranges []) c.if-is_number.ensures)

@@ -18,21 +18,21 @@ loop-i-preserved c =
           let some : rows.context_nodes l d.within.0 ++ rows.prompt_nodes l d.prompt ≡ rows.entry_nodes l d =
           ap (λ b. cond b (rows.context_nodes l d.within.0) [] ++ rows.prompt_nodes l d.prompt) w.if-is_some.ensures in
           let both = adds_both now w.context_into.new.out w.prompt_into.new.out (rows.context_nodes l d.within.0) (rows.prompt_nodes l d.prompt) []
-          (rows.entry_names d) w.in_ok-context_into.ensures w.in_ok-prompt_into.ensures in
-          adds_more c.args.out.now now next _ (rows.entry_nodes l d) _ _ (rows.entry_names d) _ c.loop-i.invariant (rw (w.out-is, ← some) both)
+          (rows.entry_names l.modules d) w.in_ok-context_into.ensures w.in_ok-prompt_into.ensures in
+          adds_more c.args.out.now now next _ (rows.entry_nodes l d) _ _ (rows.entry_names l.modules d) _ c.loop-i.invariant (rw (w.out-is, ← some) both)
           (found_more (rows.entry_nodes l) (rows.stored_definition l) ids c.loop-i.i lt d (sym w.in-Some.ensures))
-          (found_more rows.entry_names (rows.stored_definition l) ids c.loop-i.i lt d (sym w.in-Some.ensures))
+          (found_more (rows.entry_names l.modules) (rows.stored_definition l) ids c.loop-i.i lt d (sym w.in-Some.ensures))
       | in-Some+else-is_some w ↦
           let d = w.in-Some.definition.now in
           let none = no_prompt d.prompt (sym w.if-is_some.ensures) in
           let noNodes : rows.entry_nodes l d ≡ [] =
           ap (λ b. cond b (rows.context_nodes l d.within.0) [] ++ rows.prompt_nodes l d.prompt) (sym w.if-is_some.ensures) ∙ ap (rows.prompt_nodes l) none in
-          let noNames : rows.entry_names d ≡ [] = ap rows.prompt_names none in
-          adds_more c.args.out.now now next _ (rows.entry_nodes l d) _ _ (rows.entry_names d) _ c.loop-i.invariant (rw (w.out-is, noNodes, noNames) (adds_nothing now))
+          let noNames : rows.entry_names l.modules d ≡ [] = ap (rows.prompt_names l.modules) none in
+          adds_more c.args.out.now now next _ (rows.entry_nodes l d) _ _ (rows.entry_names l.modules d) _ c.loop-i.invariant (rw (w.out-is, noNodes, noNames) (adds_nothing now))
           (found_more (rows.entry_nodes l) (rows.stored_definition l) ids c.loop-i.i lt d (sym w.in-Some.ensures))
-          (found_more rows.entry_names (rows.stored_definition l) ids c.loop-i.i lt d (sym w.in-Some.ensures))
+          (found_more (rows.entry_names l.modules) (rows.stored_definition l) ids c.loop-i.i lt d (sym w.in-Some.ensures))
       | in_default w ↦
           adds_more c.args.out.now now next _ [] _ _ [] _ c.loop-i.invariant (rw w.out-is (adds_nothing now))
           (none_more (rows.entry_nodes l) (rows.stored_definition l) ids c.loop-i.i lt (sym w.in_default.ensures))
-          (none_more rows.entry_names (rows.stored_definition l) ids c.loop-i.i lt (sym w.in_default.ensures))
+          (none_more (rows.entry_names l.modules) (rows.stored_definition l) ids c.loop-i.i lt (sym w.in_default.ensures))
     ]

@@ -39,14 +39,14 @@ lines-preserved c =
           let push : Adds now pushed [] (d.symbol ∷ []) = record { nodes_are = sym (append-nil now.nodes.items); names_are = w.in_ok-push.ensures.items } in
           let two = adds_both now pushed w.context_into.new.out [] (rows.context_nodes l d.within.0) (d.symbol ∷ []) [] push w.in_ok-context_into.ensures in
           let three = adds_both now w.context_into.new.out w.if_names_into.new.out (rows.context_nodes l d.within.0) []
-          (d.symbol ∷ []) (rows.when_names (when_view r.when)) two w.in_ok-if_names_into.ensures in
-          adds_of_left now next (rows.context_nodes l d.within.0 ++ []) leftNodes _ (d.symbol ∷ rows.when_names (when_view r.when)) leftNames _ _ _
+          (d.symbol ∷ []) (rows.when_names l.modules (when_view r.when)) two w.in_ok-if_names_into.ensures in
+          adds_of_left now next (rows.context_nodes l d.within.0 ++ []) leftNodes _ (d.symbol ∷ rows.when_names l.modules (when_view r.when)) leftNames _ _ _
           (rw w.out-is three)
           (allNodes ∙ ap (λ o. rows.source_nodes l o ++ leftNodes) found ∙ ap (λ x. x ++ leftNodes) (sym (append-nil (rows.context_nodes l d.within.0))))
-          (allNames ∙ ap (λ o. rows.source_names r o ++ leftNames) found)
+          (allNames ∙ ap (λ o. rows.source_names l.modules r o ++ leftNames) found)
           c.lines.invariant
       | in_default-definition w ↦
           let found = sym w.in_default-definition.ensures in
           adds_of_left now next [] leftNodes _ [] leftNames _ _ _ (rw w.out-is (adds_nothing now)) (allNodes ∙ ap (λ o. rows.source_nodes l o ++ leftNodes) found)
-          (allNames ∙ ap (λ o. rows.source_names r o ++ leftNames) found) c.lines.invariant
+          (allNames ∙ ap (λ o. rows.source_names l.modules r o ++ leftNames) found) c.lines.invariant
     ]
