@@ -27,10 +27,10 @@ use Rattle.kc_dot.specs.Reading.{Line, UserInput, before_too_long, effect, effec
 use Rattle.kc_dot.specs.ReadingLaws.{LinesGiveInTurn, LinesInTurn}
 use Rattle.kc_dot.specs.SolvedView.{solution_view}
 use Rattle.kc_dot.specs.Texts.{config_text}
-use Rattle.kc_conf.specs.declared.options.Options.{Options}
+use Rattle.kc_options.specs.declared.options.Options.{Options}
 use Rattle.kc_conf.specs.Accounted.{HoldsLine, IsAccountedFor, IsKeptOrWarned, IsSetAgain, LeavesAlone, NothingIsLost}
 use Rattle.kc_conf.specs.Lost.{has_prompt, lost_at, lost_by, lost_line, lost_lines, lost_of}
-use Rattle.kc_conf.specs.Asked.{lead}
+use Rattle.kc_options.specs.Asked.{lead}
 use Rattle.kc_conf.proofs.OutcomeLemmas.{text_if_is}
 use Rattle.kc_conf.specs.Outcome.{AreLines, Outcome, fresh_input, lines_text, lost_warnings, names_of, noted, read_of, streams, warned_files, with_rule}
 use Rattle.kc_conf.specs.Reruns.{RefusesNothing, WrittenAreWhole}

@@ -18,7 +18,7 @@ use Rattle.kc_io.specs.declared.device.Action.TheVariants.{Create, Close, Clear,
 use Rattle.kc_io.specs.declared.device.Site.TheVariants.{Beside}
 use Rattle.kc_io.specs.declared.steps.Failure.{Failure}
 use Rattle.kc_io.proofs.LogLemmas.{leads_as, leads_both, leads_nothing, leads_said}
-use Rattle.kc_conf.specs.Asked.{lead}
+use Rattle.kc_options.specs.Asked.{lead}
 use Rattle.kc_conf.specs.Endings.{BreaksEnd, EndStops, Ends, HandsBy, IsChecked, IsEnded, in_delivery, in_notes}
 use Rattle.kc_conf.specs.Ends.{delivered_by, delivers, stale_by, stale_lines, stale_texts, status_with}
 use Rattle.kc_conf.specs.ErrorLines.{error_at, error_if_at, first_line, message_behind, message_before, refusal_line, stale_line, strict_line, too_long_line, unreadable_line}
@@ -26,11 +26,11 @@ use Rattle.kc_conf.specs.Given.{still_told}
 use Rattle.kc_conf.specs.Outcome.{AreLines, lines_text}
 use Rattle.kc_conf.specs.Reads.{IsNoteStop}
 use Rattle.kc_conf.specs.Stops.{cleared_by, clearing, event_of}
-use Rattle.kc_conf.specs.declared.options.Delivery.{Delivery}
-use Rattle.kc_conf.specs.declared.options.Delivery.TheVariants.{Write, Replace, Check}
-use Rattle.kc_conf.specs.declared.options.Options.{Options}
-use Rattle.kc_conf.specs.declared.options.Status.{Status}
-use Rattle.kc_conf.specs.declared.options.Status.TheVariants.{Done, Refused}
+use Rattle.kc_options.specs.declared.options.Delivery.{Delivery}
+use Rattle.kc_options.specs.declared.options.Delivery.TheVariants.{Write, Replace, Check}
+use Rattle.kc_options.specs.declared.options.Options.{Options}
+use Rattle.kc_options.specs.declared.options.Status.{Status}
+use Rattle.kc_options.specs.declared.options.Status.TheVariants.{Done, Refused}
 use Rattle.kc_conf.specs.declared.stop.Stop.{Stop}
 use Rattle.kc_conf.specs.declared.stop.Stop.TheVariants.{OutOfMemory, Failed}
 use Rattle.kc_conf.proofs.PartLemmas.{AreLines-append, AreLines-nothing}

@@ -7,8 +7,8 @@ use Rattle.kc_tree.specs.TreeFacts.{TreeFacts}
 use Rattle.kc_build.specs.Trees.{IsTreeOf}
 use Rattle.kc_io.specs.Log.{Event, Log}
 use Rattle.kc_load.specs.Expanding.{ExpandsAlike}
-use Rattle.kc_conf.specs.declared.options.Options.{Options}
-use Rattle.kc_conf.specs.declared.options.Status.{Status}
+use Rattle.kc_options.specs.declared.options.Options.{Options}
+use Rattle.kc_options.specs.declared.options.Status.{Status}
 use Rattle.kc_conf.specs.declared.stop.Stop.{Stop}
 use Rattle.kc_conf.specs.Ends.{AreReads, Breaks, Broken, Completes, Runs, in_delivery, in_input, in_notes, no_memory, of_tree, refused_name as reads_no_name, refused_tree as reads_no_tree}
 use Rattle.kc_conf.specs.Given.{InputFile}

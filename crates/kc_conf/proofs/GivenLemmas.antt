@@ -12,7 +12,7 @@ use Rattle.kc_read.specs.Files.{Files}
 use Rattle.kc_tree.specs.TreeFacts.{TreeFacts}
 use Rattle.kc_conf.specs.Ends.{AreReads, refused_tree, refused_name, of_tree}
 use Rattle.kc_conf.specs.Given.{AreInputs, AreThere, InputFile, IsAsTold, IsThere, ReadsTo, ReadsUpTo, all, line, reads, reads_one, still_told}
-use Rattle.kc_conf.specs.declared.options.Options.{Options}
+use Rattle.kc_options.specs.declared.options.Options.{Options}
 use Rattle.kc_conf.proofs.TellingLemmas.{Tells-first, Tells-later}
 
 -- ---- what they are

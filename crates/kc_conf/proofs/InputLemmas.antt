@@ -16,13 +16,13 @@ use Rattle.kc_dot.specs.Feeding.{stream_start}
 use Rattle.kc_dot.specs.Laws.{HasShortLines}
 use Rattle.kc_dot.specs.ReaderState.{ReaderState}
 use Rattle.kc_dot.specs.Reading.{ReadResult, Stream, UserInput, lines_from, lines_of, reading, with_warnings}
-use Rattle.kc_conf.specs.Asked.{holds_warnings, input_files, lead, may_at, names_of}
+use Rattle.kc_options.specs.Asked.{holds_warnings, input_files, lead, may_at, names_of}
 use Rattle.kc_conf.specs.Given.{AreInputs, AreThere, HasTurn, InputFile, IsAsTold, IsThere, ReadsTo, all, begun, bytes_of, ended_lines, line, reads, reads_one, still_told, warned_by}
 use Rattle.kc_conf.specs.Outcome.{AreLines, fresh_input, streams}
 use Rattle.kc_conf.specs.Reads.{BreaksInputs, ReadsInputs, StopsInputs, ended_with, in_input, in_notes, no_memory}
 use Rattle.kc_conf.specs.ReadSteps.{AreAsTold, BreaksFile, ReadsFile, ReadsSoFar, Stand, StopsFile, StopsWarnings, Warns, held_back, in_file, in_lines, said_now}
 use Rattle.kc_conf.specs.Stops.{event_of}
-use Rattle.kc_conf.specs.declared.options.Options.{Options}
+use Rattle.kc_options.specs.declared.options.Options.{Options}
 use Rattle.kc_conf.specs.declared.stop.Stop.{Stop}
 use Rattle.kc_conf.specs.declared.stop.Stop.TheVariants.{OutOfMemory, Failed}
 use Rattle.kc_conf.proofs.GivenLemmas.{IsThere-before, IsThere-later}

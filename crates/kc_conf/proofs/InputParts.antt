@@ -10,7 +10,7 @@ use Rattle.kc_io.specs.Scripts.{NamedText}
 use Rattle.kc_io.proofs.LogLemmas.{leads_nothing}
 use Rattle.kc_dot.specs.Reading.{ReadResult, StreamLocation, UserInput, lines_of, reading}
 use Rattle.kc_dot.specs.Sink.{BeginsWith}
-use Rattle.kc_conf.specs.Asked.{holds_warnings, lead, names_of}
+use Rattle.kc_options.specs.Asked.{holds_warnings, lead, names_of}
 use Rattle.kc_conf.specs.Computed.{Computes, refuses, ruled_files, value_lines}
 use Rattle.kc_conf.specs.Endings.{Ends, line_if, status_if, texts_or}
 use Rattle.kc_conf.specs.Ends.{AreReads, of_tree, texts_of, nothing_said}
@@ -20,9 +20,9 @@ use Rattle.kc_conf.specs.Given.{AreInputs, AreThere, InputFile, ReadsTo, bytes_o
 use Rattle.kc_conf.specs.Outcome.{AreLines, IsAcceptedTree, IsOutcomeOfReading, OneAnswer, Outcome, fresh_input, has_text, lines_text, lost_warnings, names_listed, noted, outcome_of, read_of, refused, root_file, streams, unreadable_name}
 use Rattle.kc_conf.specs.PartRuns.{LeavesPart}
 use Rattle.kc_conf.specs.Reads.{BreaksInputs, ReadsInputs, ended_with}
-use Rattle.kc_conf.specs.declared.options.Options.{Options}
-use Rattle.kc_conf.specs.declared.options.Status.{Status}
-use Rattle.kc_conf.specs.declared.options.Status.TheVariants.{Refused}
+use Rattle.kc_options.specs.declared.options.Options.{Options}
+use Rattle.kc_options.specs.declared.options.Status.{Status}
+use Rattle.kc_options.specs.declared.options.Status.TheVariants.{Refused}
 use Rattle.kc_conf.specs.declared.reading.Waiting.{Waiting}
 use Rattle.kc_conf.specs.declared.stop.Stop.{Stop}
 use Rattle.kc_conf.specs.declared.stop.Stop.TheVariants.{OutOfMemory}

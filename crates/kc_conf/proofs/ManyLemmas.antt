@@ -11,7 +11,7 @@ use Rattle.kc_io.specs.declared.device.Action.{Action}
 use Rattle.kc_io.specs.declared.device.Action.TheVariants.{Note}
 use Rattle.kc_io.proofs.LogLemmas.{leads_both, leads_nothing}
 use Rattle.kc_conf.specs.Accepted.{IsAcceptedOf}
-use Rattle.kc_conf.specs.Asked.{lead}
+use Rattle.kc_options.specs.Asked.{lead}
 use Rattle.kc_conf.specs.Endings.{Ends}
 use Rattle.kc_conf.specs.Ends.{nothing_said, texts_of}
 use Rattle.kc_conf.specs.Ends as ends
@@ -24,9 +24,9 @@ use Rattle.kc_conf.specs.PartRuns.{LeavesPart, LeavesTurn, strictly_after}
 use Rattle.kc_conf.specs.Reads.{IsNoteStop}
 use Rattle.kc_conf.specs.Stops.{Reports, TriesToSay, clearing, event_of, stop_line}
 use Rattle.kc_conf.specs.declared.accepted.OrderedTree.{OrderedTree}
-use Rattle.kc_conf.specs.declared.options.Options.{Options}
-use Rattle.kc_conf.specs.declared.options.Status.{Status}
-use Rattle.kc_conf.specs.declared.options.Status.TheVariants.{Done, Refused, Usage, Faulted}
+use Rattle.kc_options.specs.declared.options.Options.{Options}
+use Rattle.kc_options.specs.declared.options.Status.{Status}
+use Rattle.kc_options.specs.declared.options.Status.TheVariants.{Done, Refused, Usage, Faulted}
 use Rattle.kc_conf.specs.declared.stop.Stop.{Stop}
 use Rattle.kc_conf.specs.declared.stop.Stop.TheVariants.{OutOfMemory, Failed}
 use Rattle.kc_conf.proofs.GivenLemmas.{AreInputs-later, inputs-exist}

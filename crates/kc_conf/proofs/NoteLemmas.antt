@@ -9,11 +9,11 @@ use Rattle.kc_tree.specs.TreeFacts.{TreeFacts}
 use Rattle.kc_solve.specs.Solved.{warnings}
 use Rattle.kc_dot.specs.Limits.{longest_dot_line}
 use Rattle.kc_dot.specs.Reading.{StreamLocation, lines_of}
-use Rattle.kc_conf.specs.Asked.{lead}
+use Rattle.kc_options.specs.Asked.{lead}
 use Rattle.kc_conf.specs.ErrorLines.{error_if_at, first_line, message_before, message_behind, refusal_line, strict_line, too_long_line, unreadable_line}
 use Rattle.kc_conf.specs.Outcome.{AreLines, IsLenientOutcome, IsOutcomeOfReading, NotesAreLines, Outcome, accepted_tree, depfile_text, has_text, is_done, lines_text, long_line, lost_warnings, names_of, noted, outcome_of, read_of, refused, refused_name, refused_tree, streams, strictly, whole, fresh_input, refused_if, warned_files}
 use Rattle.kc_conf.specs.Taken.{refuses_input}
-use Rattle.kc_conf.specs.declared.options.Options.{Options}
+use Rattle.kc_options.specs.declared.options.Options.{Options}
 use Rattle.kc_conf.proofs.PartLemmas.{AreLines-append, AreLines-nothing, AreLines-reading}
 
 AreLines-line : (text : List ℕ) → AreLines (text ++ codes "\n")

@@ -17,8 +17,8 @@ use Rattle.kc_solve.specs.LoopText.{loop_text}
 use Rattle.kc_solve.specs.Refused.{IsLoopText, loop_refused}
 use Rattle.kc_solve.specs.Solved.{Solution, value_of}
 use Rattle.kc_dot.specs.Reading.{ReadResult}
-use Rattle.kc_conf.specs.declared.options.Options.{Options}
-use Rattle.kc_conf.specs.Asked.{lead}
+use Rattle.kc_options.specs.declared.options.Options.{Options}
+use Rattle.kc_options.specs.Asked.{lead}
 use Rattle.kc_conf.specs.ErrorLines.{refusal_line, too_long_line, unreadable_line}
 use Rattle.kc_conf.specs.Outcome.{Outcome, IsLenientOutcome, OneAnswer, OneOutcome, strictly, noted, lines_text, refused, outcome_of, read_of, root_file, IsRefusedTree, no_tree, looped, IsAcceptedTree, IsSolutionFor, refused_tree, refused_name, accepted_tree, IsOutcomeOfReading, IsOutcomeOfTree, long_line, whole, with_rule}
 use Rattle.std.proofs.lemmas.List.{ext_get_or}

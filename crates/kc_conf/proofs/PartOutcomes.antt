@@ -18,8 +18,8 @@ use Rattle.kc_conf.specs.Outcome.{IsAcceptedTree, IsLenientOutcome, IsOutcome, I
 use Rattle.kc_conf.specs.PartRuns.{strictly_after}
 use Rattle.kc_conf.specs.Reads.{ended_with}
 use Rattle.kc_conf.specs.Taken.{refuses_input}
-use Rattle.kc_conf.specs.declared.options.Options.{Options}
-use Rattle.kc_conf.specs.declared.options.Status.{Status}
+use Rattle.kc_options.specs.declared.options.Options.{Options}
+use Rattle.kc_options.specs.declared.options.Status.{Status}
 use Rattle.kc_conf.specs.declared.stop.Stop.{Stop}
 use Rattle.std.specs.Prelude.{Result}
 use Rattle.kc_conf.proofs.Once.{one_opened}

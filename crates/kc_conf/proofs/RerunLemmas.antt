@@ -19,8 +19,8 @@ use Rattle.kc_dot.specs.SolvedView.{solution_view}
 use Rattle.kc_dot.specs.Streams.{StreamsLeavePlaces}
 use Rattle.kc_dot.specs.Texts.{config_text, minimal_text}
 use Rattle.kc_dot.specs.Prefixes.{is_prefix}
-use Rattle.kc_conf.specs.declared.options.Options.{Options}
-use Rattle.kc_conf.specs.Asked.{lead}
+use Rattle.kc_options.specs.declared.options.Options.{Options}
+use Rattle.kc_options.specs.Asked.{lead}
 use Rattle.kc_conf.specs.Outcome.{IsAcceptedTree, IsLenientOutcome, IsOutcomeOfReading, IsRefusedTree, IsSolutionFor, OneAnswer, Outcome, accepted_tree, lines_text, long_line, names_of, noted, read_of, refused_name, refused_tree, root_file, streams, strictly, text_if, unreadable_name, whole, with_rule, fresh_input, refused_if, warned_files}
 use Rattle.kc_conf.proofs.OutcomeLemmas.{strictly-config, strictly-minimal, strictly-off, config_kept, minimal_kept, rule-config, rule-minimal, text_if-same, text_if_is}
 use Rattle.kc_conf.specs.Taken.{is_taken, refuses_input}

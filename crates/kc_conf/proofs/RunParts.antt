@@ -11,7 +11,7 @@ use Rattle.kc_io.specs.declared.device.Action.TheVariants.{Open, Read}
 use Rattle.kc_io.specs.declared.steps.Failure.{Failure}
 use Rattle.kc_io.proofs.LogLemmas.{leads_as, leads_both, leads_nothing, leads_said}
 use Rattle.kc_dot.specs.Sink.{BeginsWith, GoesBeyond}
-use Rattle.kc_conf.specs.Asked.{lead}
+use Rattle.kc_options.specs.Asked.{lead}
 use Rattle.kc_conf.specs.Endings.{Answers, BreaksEnd, EndStops, Ends, IsEnded}
 use Rattle.kc_conf.specs.Endings as tail
 use Rattle.kc_read.specs.Expansion.{Refused as RefusedTree}
@@ -22,7 +22,7 @@ use Rattle.kc_read.specs.declared.refusal.Code.TheVariants as code
 use Rattle.kc_read.specs.declared.refusal.Code.TheVariants.{Memory as NoMemory}
 use Rattle.kc_read.specs.declared.refusal.Refusal.{Refusal}
 use Rattle.kc_conf.specs.ErrorLines.{refusal_line, unreadable_line}
-use Rattle.kc_conf.specs.declared.options.Status.TheVariants.{Refused}
+use Rattle.kc_options.specs.declared.options.Status.TheVariants.{Refused}
 use Rattle.kc_conf.specs.Ends.{AreReads, Breaks, Completes, Runs, delivers, in_delivery, in_input, in_notes, no_memory, nothing_said, refused_name as name_refused, refused_tree as tree_refused, said_of_tree, stale_lines, stale_texts, texts_of}
 use Rattle.kc_conf.specs.Given.{InputFile, bytes_of, reads, still_told}
 use Rattle.kc_conf.specs.Existence.{ExactlyOneOutcome}
@@ -31,10 +31,10 @@ use Rattle.kc_conf.specs.PartRuns.{EndsSo, IsBrokenOff, LeavesPart, LeavesRun, S
 use Rattle.kc_conf.specs.Reads.{IsNoteStop, StopsInputs}
 use Rattle.kc_conf.specs.Reads as reading_stops
 use Rattle.kc_conf.specs.Stops.{cleared_by, clearing, event_of, stop_line}
-use Rattle.kc_conf.specs.declared.options.Delivery.{Delivery}
-use Rattle.kc_conf.specs.declared.options.Delivery.TheVariants.{Write, Replace, Check}
-use Rattle.kc_conf.specs.declared.options.Options.{Options}
-use Rattle.kc_conf.specs.declared.options.Status.{Status}
+use Rattle.kc_options.specs.declared.options.Delivery.{Delivery}
+use Rattle.kc_options.specs.declared.options.Delivery.TheVariants.{Write, Replace, Check}
+use Rattle.kc_options.specs.declared.options.Options.{Options}
+use Rattle.kc_options.specs.declared.options.Status.{Status}
 use Rattle.kc_conf.specs.declared.stop.Stop.{Stop}
 use Rattle.kc_conf.specs.declared.stop.Stop.TheVariants.{OutOfMemory, Failed}
 use Rattle.kc_conf.proofs.EndingLemmas.{beyond-nothing, cleared-note, delivers-same, stale-same}

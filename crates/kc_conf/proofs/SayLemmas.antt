@@ -16,10 +16,10 @@ use Rattle.kc_read.specs.declared.refusal.Code.{Code}
 use Rattle.kc_read.specs.declared.refusal.Code.TheVariants as code
 use Rattle.kc_conf.specs.ErrorLines.{first_line, message_behind}
 use Rattle.kc_conf.specs.Outcome.{AreLines, lines_text}
-use Rattle.kc_conf.specs.Asked.{lead}
+use Rattle.kc_options.specs.Asked.{lead}
 use Rattle.kc_conf.specs.Reads.{IsWholeEnd, LastEndsLine, SaysIf, failure_line}
 use Rattle.kc_conf.specs.Stops.{Reports}
-use Rattle.kc_conf.specs.declared.options.Options.{Options}
+use Rattle.kc_options.specs.declared.options.Options.{Options}
 use Rattle.kc_conf.specs.declared.stop.Stop.TheVariants.{Failed}
 
 -- ---- the bytes before the first line feed

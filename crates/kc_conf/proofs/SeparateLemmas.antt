@@ -23,10 +23,10 @@ use Rattle.kc_conf.specs.Ends.{Breaks, Broken, Completes, delivered_by, delivers
 use Rattle.kc_conf.specs.Given.{InputFile, begun, reads}
 use Rattle.kc_conf.specs.Outcome.{Outcome}
 use Rattle.kc_conf.specs.Stops.{cleared_by, clearing, event_of}
-use Rattle.kc_conf.specs.declared.options.Delivery.{Delivery}
-use Rattle.kc_conf.specs.declared.options.Delivery.TheVariants as delivered
-use Rattle.kc_conf.specs.declared.options.Options.{Options}
-use Rattle.kc_conf.specs.declared.options.Status.{Status}
+use Rattle.kc_options.specs.declared.options.Delivery.{Delivery}
+use Rattle.kc_options.specs.declared.options.Delivery.TheVariants as delivered
+use Rattle.kc_options.specs.declared.options.Options.{Options}
+use Rattle.kc_options.specs.declared.options.Status.{Status}
 use Rattle.kc_conf.specs.declared.stop.Stop.{Stop}
 use Rattle.kc_conf.specs.declared.stop.Stop.TheVariants.{OutOfMemory, Failed}
 use Rattle.kc_conf.proofs.GivenLemmas.{keeps-are_reads, keeps-reads}

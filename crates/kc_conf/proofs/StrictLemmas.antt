@@ -21,7 +21,7 @@ use Rattle.kc_dot.specs.Reading.{is_taken as is_taken_by}
 use Rattle.kc_dot.specs.ReadingLaws.{LinesGiveInTurn, LinesInTurn}
 use Rattle.kc_dot.specs.SolvedView.{solution_view}
 use Rattle.kc_dot.specs.Texts.{config_text}
-use Rattle.kc_conf.specs.declared.options.Options.{Options}
+use Rattle.kc_options.specs.declared.options.Options.{Options}
 use Rattle.kc_conf.specs.Lost.{has_prompt, lost_lines}
 use Rattle.kc_conf.proofs.OutcomeLemmas.{text_if_is}
 use Rattle.kc_conf.specs.Outcome.{Outcome, fresh_input, names_of, read_of, streams}

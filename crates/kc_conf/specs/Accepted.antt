@@ -8,11 +8,11 @@ use Rattle.kc_read.specs.declared.refusal.Code.TheVariants.{Memory}
 use Rattle.kc_read.specs.declared.refusal.Refusal.{Refusal}
 use Rattle.kc_solve.specs.Graphs.{IsGraphOf}
 use Rattle.kc_tree.specs.Layouts.{IsLayoutOf}
-use Rattle.kc_conf.specs.Asked.{root_file}
+use Rattle.kc_options.specs.Asked.{root_file}
 use Rattle.kc_conf.specs.Outcome.{IsAcceptedTree}
 use Rattle.kc_conf.specs.declared.accepted.OrderedTree.{OrderedTree}
 use Rattle.kc_conf.specs.declared.accepted.TreeReading.{TreeReading}
-use Rattle.kc_conf.specs.declared.options.Options.{Options}
+use Rattle.kc_options.specs.declared.options.Options.{Options}
 
 -- what was read of these files: the tree of the root file, and the files that it opens
 pub record IsReadOf (files : Files) (root : List ℕ) (read : TreeReading) : Type 0 where

@@ -13,7 +13,7 @@ use Rattle.kc_dot.specs.Reading.{Line, effect, lines_of, stream_location}
 use Rattle.kc_dot.specs.Changes.{change_line}
 use Rattle.kc_dot.specs.SolvedView.{solution_view}
 use Rattle.kc_dot.specs.Texts.{config_text}
-use Rattle.kc_conf.specs.declared.options.Options.{Options}
+use Rattle.kc_options.specs.declared.options.Options.{Options}
 use Rattle.kc_conf.specs.Lost.{has_prompt, lost_line}
 use Rattle.kc_conf.specs.Outcome.{AreLines, IsOutcome, Outcome, names_of, streams}
 use Rattle.kc_conf.specs.Reruns.{RefusesNothing}

@@ -5,11 +5,11 @@ use Rattle.kc_solve.specs.Solved.{Solution, warnings}
 use Rattle.kc_dot.specs.Reading.{UserInput}
 use Rattle.kc_io.specs.Scripts.{NamedText}
 use Rattle.kc_load.specs.Rules.{rule_text}
-use Rattle.kc_conf.specs.Asked.{lead, target}
+use Rattle.kc_options.specs.Asked.{lead, target}
 use Rattle.kc_conf.specs.Ends.{texts_of}
 use Rattle.kc_conf.specs.Outcome.{IsSolutionFor, Outcome, files_of, has_text, lines_text, lost_warnings}
 use Rattle.kc_conf.specs.Taken.{refuses_input}
-use Rattle.kc_conf.specs.declared.options.Options.{Options}
+use Rattle.kc_options.specs.declared.options.Options.{Options}
 
 -- the files of a solution, with a dependency file that lists these names
 abbrev pub ruled_files : Options → TreeFacts → Solution → Option (List (List ℕ)) → Outcome

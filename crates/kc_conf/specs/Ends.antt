@@ -13,16 +13,16 @@ use Rattle.kc_io.specs.declared.device.Action.TheVariants.{Open, Read, Note}
 use Rattle.kc_io.specs.declared.device.Fault.{Fault}
 use Rattle.kc_io.specs.declared.steps.Failure.{Failure}
 use Rattle.kc_dot.specs.Sink.{BeginsWith, GoesBeyond}
-use Rattle.kc_conf.specs.Asked.{lead, root_file}
+use Rattle.kc_options.specs.Asked.{lead, root_file}
 use Rattle.kc_conf.specs.ErrorLines.{stale_line}
 use Rattle.kc_conf.specs.Given.{AreInputs, AreThere, InputFile, ReadsTo, ReadsUpTo, bytes_of, reads, still_told}
 use Rattle.kc_conf.specs.Outcome.{AreLines, IsAcceptedTree, IsOutcome, IsRefusedName, IsRefusedTree, NamesAreRead, Outcome, lines_text, notes_of, read_of}
 use Rattle.kc_conf.specs.Stops.{IsReport, clearing, event_of, stop_line}
-use Rattle.kc_conf.specs.declared.options.Delivery.{Delivery}
-use Rattle.kc_conf.specs.declared.options.Delivery.TheVariants as delivered
-use Rattle.kc_conf.specs.declared.options.Options.{Options}
-use Rattle.kc_conf.specs.declared.options.Status.{Status}
-use Rattle.kc_conf.specs.declared.options.Status.TheVariants as answered
+use Rattle.kc_options.specs.declared.options.Delivery.{Delivery}
+use Rattle.kc_options.specs.declared.options.Delivery.TheVariants as delivered
+use Rattle.kc_options.specs.declared.options.Options.{Options}
+use Rattle.kc_options.specs.declared.options.Status.{Status}
+use Rattle.kc_options.specs.declared.options.Status.TheVariants as answered
 use Rattle.kc_conf.specs.declared.stop.Stop.{Stop}
 use Rattle.kc_conf.specs.declared.stop.Stop.TheVariants.{OutOfMemory, Failed}
 

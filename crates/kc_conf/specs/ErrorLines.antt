@@ -87,10 +87,6 @@ first_line (b ∷ rest) = if b == byte "\n" then [] else b ∷ first_line rest
 abbrev pub unreadable_line : List ℕ → List ℕ
 unreadable_line name = codes "error E23: make cannot read the name " ++ first_line name ++ codes "\n"
 
--- the error line where no memory is to be had
-abbrev pub out_of_memory_line : List ℕ
-out_of_memory_line = codes "error " ++ message_before code.Memory ++ codes "\n"
-
 -- the error line of a file that does not hold its text
 abbrev pub stale_line : List ℕ → List ℕ
 stale_line name = codes "error E22: " ++ name ++ codes " is not up to date\n"

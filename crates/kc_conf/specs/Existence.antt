@@ -6,7 +6,7 @@ use Rattle.kc_tree.specs.TreeFacts.{TreeFacts}
 use Rattle.kc_user.specs.Places.{ArePlacesOf, Places}
 use Rattle.kc_values.specs.Needs.{IsAccepted}
 use Rattle.kc_solve.specs.Solved.{Solution}
-use Rattle.kc_conf.specs.declared.options.Options.{Options}
+use Rattle.kc_options.specs.declared.options.Options.{Options}
 use Rattle.kc_conf.specs.Outcome.{IsAcceptedTree, IsOutcome, IsRefusedTree, IsSolutionFor, Outcome, root_file}
 
 -- An accepted tree has a solution under any of its places.

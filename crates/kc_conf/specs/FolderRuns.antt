@@ -7,13 +7,14 @@ use Rattle.kc_load.specs.Folders.{FolderState, Leads as FolderLeads, files_told}
 use Rattle.kc_load.specs.declared.fault.LoadFault.{LoadFault}
 use Rattle.kc_load.specs.declared.fault.LoadFault.TheVariants.{CannotRead, Memory}
 use Rattle.kc_read.specs.Files.{Files}
-use Rattle.kc_conf.specs.Asked.{root_file}
+use Rattle.kc_options.specs.Asked.{root_file}
 use Rattle.kc_conf.specs.Ends.{Runs}
-use Rattle.kc_conf.specs.ErrorLines.{cannot_read_line, out_of_memory_line}
+use Rattle.kc_conf.specs.ErrorLines.{cannot_read_line}
+use Rattle.kc_options.specs.ErrorLines.{out_of_memory_line}
 use Rattle.kc_conf.specs.Stops.{TriesToSay}
-use Rattle.kc_conf.specs.declared.options.Options.{Options}
-use Rattle.kc_conf.specs.declared.options.Status.{Status}
-use Rattle.kc_conf.specs.declared.options.Status.TheVariants as answered
+use Rattle.kc_options.specs.declared.options.Options.{Options}
+use Rattle.kc_options.specs.declared.options.Status.{Status}
+use Rattle.kc_options.specs.declared.options.Status.TheVariants as answered
 
 -- the error line of a tree that could not be loaded
 abbrev pub load_line : LoadFault → List ℕ

@@ -1,4 +1,3 @@
-pub mod Asked
 pub mod ErrorLines
 pub mod Outcome
 pub mod Taken

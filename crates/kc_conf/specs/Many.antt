@@ -11,13 +11,14 @@ use Rattle.kc_io.specs.declared.device.Action.TheVariants.{Note}
 use Rattle.kc_io.specs.declared.device.Fault.{Fault}
 use Rattle.kc_io.specs.declared.device.Fault.TheVariants as fault
 use Rattle.kc_conf.specs.Ends.{Broken, Completes, nothing_said}
-use Rattle.kc_conf.specs.ErrorLines.{out_of_memory_line, refusal_line}
+use Rattle.kc_conf.specs.ErrorLines.{refusal_line}
+use Rattle.kc_options.specs.ErrorLines.{out_of_memory_line}
 use Rattle.kc_conf.specs.Given.{AreInputs, InputFile, bytes_of, still_told}
 use Rattle.kc_conf.specs.Outcome.{IsAcceptedTree, IsOutcome, IsRefusedName, IsRefusedTree, Outcome, lines_text, noted, root_file, unreadable_name}
 use Rattle.kc_conf.specs.Stops.{TriesToSay}
-use Rattle.kc_conf.specs.declared.options.Options.{Options}
-use Rattle.kc_conf.specs.declared.options.Status.{Status}
-use Rattle.kc_conf.specs.declared.options.Status.TheVariants as answered
+use Rattle.kc_options.specs.declared.options.Options.{Options}
+use Rattle.kc_options.specs.declared.options.Status.{Status}
+use Rattle.kc_options.specs.declared.options.Status.TheVariants as answered
 use Rattle.kc_conf.specs.declared.stop.Stop.{Stop}
 use Rattle.kc_conf.specs.declared.stop.Stop.TheVariants.{OutOfMemory, Failed}
 

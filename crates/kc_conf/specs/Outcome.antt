@@ -12,16 +12,16 @@ use Rattle.kc_solve.specs.Solved.{Solution, IsSolution, warnings}
 use Rattle.kc_dot.specs.Reading.{ReadResult, StreamLocation, Stream, UserInput, no_input, reading_of}
 use Rattle.kc_dot.specs.SolvedView.{solution_view}
 use Rattle.kc_dot.specs.Texts.{config_text, header_text, minimal_text}
-pub use Rattle.kc_conf.specs.Asked.{lead, names_of, root_file, target}
-use Rattle.kc_conf.specs.declared.options.Options.{Options}
+pub use Rattle.kc_options.specs.Asked.{lead, names_of, root_file, target}
+use Rattle.kc_options.specs.declared.options.Options.{Options}
 use Rattle.kc_read.specs.OpenedFiles.{AreOpened}
 use Rattle.kc_load.specs.Prerequisites.{inputs_of, prerequisites_of}
 use Rattle.kc_load.specs.Rules.{rule_text, unreadable_of}
 use Rattle.kc_conf.specs.ErrorLines.{refusal_line, strict_line, too_long_line, unreadable_line}
 pub use Rattle.kc_conf.specs.Taken.{lost_warnings}
 use Rattle.kc_conf.specs.Taken.{refuses_input}
-use Rattle.kc_conf.specs.declared.options.Status.{Status}
-use Rattle.kc_conf.specs.declared.options.Status.TheVariants.{Done, Refused as IsRefused}
+use Rattle.kc_options.specs.declared.options.Status.{Status}
+use Rattle.kc_options.specs.declared.options.Status.TheVariants.{Done, Refused as IsRefused}
 
 -- The texts that a run is to leave: none for an output that is not begun. To the notes it adds its warnings, and behind them
 -- the error line of what is refused, where anything is.

@@ -9,8 +9,8 @@ use Rattle.kc_conf.specs.Many.{IsPart}
 use Rattle.kc_conf.specs.Outcome.{IsOutcome, Outcome, has_text, is_done, lines_text, noted, refused_if}
 use Rattle.kc_conf.specs.Reads.{IsNoteStop}
 use Rattle.kc_conf.specs.Stops.{clearing, event_of}
-use Rattle.kc_conf.specs.declared.options.Options.{Options}
-use Rattle.kc_conf.specs.declared.options.Status.{Status}
+use Rattle.kc_options.specs.declared.options.Options.{Options}
+use Rattle.kc_options.specs.declared.options.Status.{Status}
 use Rattle.kc_conf.specs.declared.stop.Stop.{Stop}
 use Rattle.kc_conf.specs.declared.stop.Stop.TheVariants.{OutOfMemory, Failed}
 

@@ -14,12 +14,12 @@ use Rattle.kc_dot.specs.Laws.{HasShortLines}
 use Rattle.kc_dot.specs.ReaderState.{ReaderState}
 use Rattle.kc_dot.specs.Reading.{Line, UserInput, lines_from, lines_of, reading, with_warnings}
 use Rattle.kc_dot.specs.Sink.{BeginsWith, GoesBeyond}
-use Rattle.kc_conf.specs.Asked.{input_files, names_of}
+use Rattle.kc_options.specs.Asked.{input_files, names_of}
 use Rattle.kc_conf.specs.Given.{InputFile, IsAsTold, IsThere, ReadsInto, begun, bytes_of, ended_lines, reads, reads_one, still_told}
 use Rattle.kc_conf.specs.Outcome.{AreLines, streams}
 use Rattle.kc_conf.specs.Reads.{IsNoteStop, ended_with}
 use Rattle.kc_conf.specs.Stops.{event_of}
-use Rattle.kc_conf.specs.declared.options.Options.{Options}
+use Rattle.kc_options.specs.declared.options.Options.{Options}
 use Rattle.kc_conf.specs.declared.reading.Waiting.{Waiting}
 use Rattle.kc_conf.specs.declared.stop.Stop.{Stop}
 use Rattle.kc_conf.specs.declared.stop.Stop.TheVariants.{OutOfMemory, Failed}

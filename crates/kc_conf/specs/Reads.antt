@@ -10,12 +10,12 @@ use Rattle.kc_io.specs.declared.device.Fault.TheVariants as fault
 use Rattle.kc_io.specs.declared.steps.Failure.{Failure}
 use Rattle.kc_dot.specs.Reading.{ReadResult, StreamLocation, UserInput, lines_of, reading}
 use Rattle.kc_dot.specs.Sink.{BeginsWith, GoesBeyond}
-use Rattle.kc_conf.specs.Asked.{names_of}
-use Rattle.kc_conf.specs.ErrorLines.{out_of_memory_line}
+use Rattle.kc_options.specs.Asked.{names_of}
+use Rattle.kc_options.specs.ErrorLines.{out_of_memory_line}
 use Rattle.kc_conf.specs.Stops.{event_of}
 use Rattle.kc_conf.specs.Given.{AreInputs, AreThere, InputFile, ReadsTo, ReadsUpTo, bytes_of, reads, still_told}
 use Rattle.kc_conf.specs.Outcome.{AreLines, streams}
-use Rattle.kc_conf.specs.declared.options.Options.{Options}
+use Rattle.kc_options.specs.declared.options.Options.{Options}
 use Rattle.kc_conf.specs.declared.reading.LongLine.{LongLine}
 use Rattle.kc_conf.specs.declared.reading.Waiting.{Waiting}
 use Rattle.kc_conf.specs.declared.stop.Stop.{Stop}

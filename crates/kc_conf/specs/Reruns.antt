@@ -10,7 +10,7 @@ use Rattle.kc_dot.specs.Prefixes.{is_prefix}
 use Rattle.kc_dot.specs.Reread.{valuation_view}
 use Rattle.kc_dot.specs.SolvedView.{solution_view}
 use Rattle.kc_dot.specs.Texts.{config_text, minimal_text}
-use Rattle.kc_conf.specs.declared.options.Options.{Options}
+use Rattle.kc_options.specs.declared.options.Options.{Options}
 use Rattle.kc_conf.specs.Outcome.{IsAcceptedTree, IsOutcome, IsSolutionFor, NamesAreRead, Outcome, lines_text, noted, read_of, root_file, with_rule, warned_files}
 use Rattle.kc_conf.specs.Taken.{refuses_input}
 

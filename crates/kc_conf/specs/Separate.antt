@@ -7,16 +7,16 @@ use Rattle.kc_read.specs.Files.{Files}
 use Rattle.kc_tree.specs.TreeFacts.{TreeFacts}
 use Rattle.kc_io.specs.Held.{last_of}
 use Rattle.kc_io.specs.Log.{Journal, held}
-use Rattle.kc_conf.specs.Asked.{input_files}
+use Rattle.kc_options.specs.Asked.{input_files}
 use Rattle.kc_conf.specs.Ends.{Broken, nothing_said, stale_texts, status_with, texts_of}
 use Rattle.kc_conf.specs.Given.{AreInputs, InputFile, bytes_of}
 use Rattle.kc_conf.specs.Many.{IsPart, RunsEach, StopsAtTree, ends_all, greater}
 use Rattle.kc_conf.specs.Outcome.{IsAcceptedTree, Outcome}
-use Rattle.kc_conf.specs.declared.options.Delivery.{Delivery}
-use Rattle.kc_conf.specs.declared.options.Delivery.TheVariants as delivered
-use Rattle.kc_conf.specs.declared.options.Options.{Options}
-use Rattle.kc_conf.specs.declared.options.Status.{Status}
-use Rattle.kc_conf.specs.declared.options.Status.TheVariants as answered
+use Rattle.kc_options.specs.declared.options.Delivery.{Delivery}
+use Rattle.kc_options.specs.declared.options.Delivery.TheVariants as delivered
+use Rattle.kc_options.specs.declared.options.Options.{Options}
+use Rattle.kc_options.specs.declared.options.Status.{Status}
+use Rattle.kc_options.specs.declared.options.Status.TheVariants as answered
 
 -- ---- the files
 

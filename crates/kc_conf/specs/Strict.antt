@@ -11,7 +11,7 @@ use Rattle.kc_dot.specs.Effects.{Effect, Silent, Warns, Assigns}
 use Rattle.kc_dot.specs.Reading.{Line, effect, lines_of}
 use Rattle.kc_dot.specs.SolvedView.{solution_view}
 use Rattle.kc_dot.specs.Texts.{config_text}
-use Rattle.kc_conf.specs.declared.options.Options.{Options}
+use Rattle.kc_options.specs.declared.options.Options.{Options}
 use Rattle.kc_conf.specs.Lost.{has_prompt}
 use Rattle.kc_conf.specs.Outcome.{IsOutcome, Outcome, names_of, streams}
 use Rattle.kc_conf.specs.Reruns.{RefusesNothing}

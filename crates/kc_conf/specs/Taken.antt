@@ -3,7 +3,7 @@ use Rattle.std.specs.Prelude.{ℕ, Bool, not, ◌&&◌, ◌==◌, if◌then◌el
 use Rattle.std.specs.List.{list_any}
 use Rattle.kc_solve.specs.Solved.{Solution, warnings}
 use Rattle.kc_dot.specs.Reading.{UserInput}
-use Rattle.kc_conf.specs.declared.options.Options.{Options}
+use Rattle.kc_options.specs.declared.options.Options.{Options}
 use Rattle.kc_conf.specs.Lost.{lost_lines}
 
 -- the lines of the values that were given and are not the symbols', where they are asked for

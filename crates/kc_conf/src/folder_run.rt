@@ -4,10 +4,10 @@ ghost use Rattle.kc_conf.specs.Stops.{TriesToSay};
 
 use crate::accepted::AcceptedTree;
 use crate::notes::try_to_say;
-use crate::options::{Options, Status};
 use crate::runs::run;
 use kc_io::Device;
 use kc_load::{Folder, LoadFault, load};
+use kc_options::{Options, Status};
 use std::alloc::Global;
 
 /// Says why the files of a tree could not be loaded. A fault in it changes nothing else.

@@ -3,21 +3,19 @@
 
 mod accepted;
 mod compute;
-pub mod error_lines;
 mod folder_run;
 pub mod laws;
 mod lost;
 mod many;
 mod notes;
-mod options;
 mod reading;
 mod runs;
 mod stop;
 
 pub use accepted::AcceptedTree;
 pub use folder_run::{run_in_folder, say_load_fault};
+pub use kc_options::{Delivery, Options, Status};
 pub use kc_read::{Code, FileMap, Refusal};
 pub use many::{Configurations, run_each};
-pub use options::{Delivery, Options, Status};
 pub use runs::run;
 pub use stop::Stop;

@@ -14,11 +14,11 @@ ghost use Rattle.kc_conf.specs.Lost as spec;
 ghost use Rattle.kc_conf.specs.LostView.{is_prompted};
 ghost use Rattle.kc_conf.specs.Taken.{lost_warnings};
 
-use crate::options::Options;
 use kc_dot::shown::{InputLine, ShownValue, add_location, add_value, is_same, shown_given};
 use kc_dot::user_input::UserInput;
 use kc_expr::expression::{Kind, SymId, Tri};
 use kc_expr::values::Values;
+use kc_options::Options;
 use kc_solve::solved::Solved;
 use kc_tree::layout::Layout;
 use kc_tree::rows::{DefinitionId, Symbol};

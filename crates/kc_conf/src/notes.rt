@@ -3,19 +3,20 @@
 ghost use Rattle.std.specs.Prelude.{◌≡◌, ◌++◌, [], codes, map, IfErr, OnOk};
 ghost use Rattle.std.specs.List.{flat_map};
 ghost use Rattle.kc_read.specs.RefusalView.{refusal_view};
-ghost use Rattle.kc_conf.specs.Asked.{lead};
+ghost use Rattle.kc_options.specs.Asked.{lead};
 ghost use Rattle.kc_io.specs.Log.{Leads};
-ghost use Rattle.kc_conf.specs.ErrorLines.{error_at, first_line, message_before, message_behind, out_of_memory_line, refusal_line, stale_line, strict_line, too_long_line, unreadable_line};
+ghost use Rattle.kc_conf.specs.ErrorLines.{error_at, first_line, message_before, message_behind, refusal_line, stale_line, strict_line, too_long_line, unreadable_line};
+ghost use Rattle.kc_options.specs.ErrorLines.{out_of_memory_line};
 ghost use Rattle.kc_conf.specs.Outcome.{lines_text};
 ghost use Rattle.kc_conf.specs.Reads.{IsNoteOrMemory, IsWholeEnd, LastEndsLine, Says, SaysIf, failure_line, stop_of};
 ghost use Rattle.kc_conf.specs.Stops.{Reports, event_of, TriesToSay};
 
 use crate::compute::add_lines;
-use crate::options::Options;
 use crate::reading::LongLine;
 use crate::stop::Stop;
 use itoa::Buffer;
 use kc_io::{Action, Device, Failure, Fault};
+use kc_options::Options;
 use kc_read::refusal::{Code, Refusal};
 use std::alloc::Global;
 

@@ -7,12 +7,11 @@ ghost use Rattle.kc_io.specs.Reading.{ReadsOn, reading};
 ghost use Rattle.kc_io.specs.WholeLines.{is_whole_lines};
 ghost use Rattle.kc_user.specs.Places.{ArePlacesOf};
 ghost use Rattle.kc_dot.specs.Feeding.{stream_start};
-ghost use Rattle.kc_conf.specs.Asked.{holds_warnings, lead, names_of};
+ghost use Rattle.kc_options.specs.Asked.{holds_warnings, lead, names_of};
 ghost use Rattle.kc_conf.specs.Outcome.{fresh_input};
 ghost use Rattle.kc_conf.specs.Reads.{BreaksInputs, ReadsInputs, stop_of};
 ghost use Rattle.kc_conf.specs.ReadSteps.{BreaksEnd, BreaksFile, BreaksOpened, BreaksPiece, EndsFile, FailsAt, IsReadyToRead, Opens, ReadsFile, ReadsOpened, SaysWaiting, TakesPiece, stand};
 
-use crate::options::Options;
 use crate::stop::Stop;
 use kc_dot::fault::DotFault;
 use kc_dot::laws::{lines_are_cut, reading_goes_line_by_line};
@@ -20,6 +19,7 @@ use kc_dot::prefix::Prefix;
 use kc_dot::reader::DotReader;
 use kc_dot::user_input::UserInput;
 use kc_io::{Action, Device, Failure};
+use kc_options::Options;
 use kc_tree::tree::Tree;
 use std::alloc::{AllocError, Global};
 

@@ -5,7 +5,7 @@ ghost use Rattle.kc_read.specs.RefusalView.{refusal_view};
 ghost use Rattle.kc_read.specs.declared.refusal.Code.TheVariants.{Memory};
 ghost use Rattle.kc_io.specs.TextViews.{text_view};
 ghost use Rattle.kc_conf.specs.Accepted.{IsAcceptedOf, IsReadOf, IsReady};
-ghost use Rattle.kc_conf.specs.Asked.{lead};
+ghost use Rattle.kc_options.specs.Asked.{lead};
 ghost use Rattle.kc_conf.specs.Ends.{Runs};
 ghost use Rattle.kc_conf.specs.Endings.{Answers, Ends, HandsBy, SaysAll, line_if, status_if, texts_or};
 ghost use Rattle.kc_conf.specs.ErrorLines.{refusal_line, strict_line, too_long_line, unreadable_line};
@@ -19,13 +19,13 @@ use crate::laws::{exactly_one_outcome, one_answer};
 use crate::notes::{
     report, say_lines, say_long_line, say_parts, say_refusal, say_stale, say_strict, say_unreadable,
 };
-use crate::options::{Delivery, Options, Status};
 use crate::reading::{LongLine, Waiting, read_inputs, stream_names};
 use crate::stop::Stop;
 use kc_dot::user_input::UserInput;
 use kc_expr::names::Names;
 use kc_io::{Device, Manner, Text, deliver};
 use kc_load::unreadable_name;
+use kc_options::{Delivery, Options, Status};
 use kc_read::file_map::FileMap;
 use kc_read::laws::opened_are_one_list;
 use kc_read::refusal::{Code, Refusal};

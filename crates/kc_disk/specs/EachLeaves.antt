@@ -6,7 +6,7 @@ use Rattle.kc_load.specs.Expanding.{AreFilesOf}
 use Rattle.kc_load.specs.Folders.{FolderState, files_told}
 use Rattle.kc_words.specs.declared.each.Each.{Each}
 use Rattle.kc_conf.specs.Separate.{LeavesEach}
-use Rattle.kc_conf.specs.declared.options.Status.{Status}
+use Rattle.kc_options.specs.declared.options.Status.{Status}
 use Rattle.kc_disk.specs.EachRuns.{AreNames, FolderRunsEach, GivesOptions}
 
 -- It ends before any configuration takes its turn, and changes no file; or it leaves what each configuration leaves of the files as they were before it.

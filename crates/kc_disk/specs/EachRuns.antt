@@ -13,14 +13,15 @@ use Rattle.kc_words.specs.Lists.{listed}
 use Rattle.kc_words.specs.Patterns.{AreOptionsFor}
 use Rattle.kc_words.specs.declared.each.Each.{Each}
 use Rattle.kc_words.specs.declared.usage.UsageError.{UsageError}
-use Rattle.kc_conf.specs.ErrorLines.{cannot_read_line, out_of_memory_line}
+use Rattle.kc_conf.specs.ErrorLines.{cannot_read_line}
+use Rattle.kc_options.specs.ErrorLines.{out_of_memory_line}
 use Rattle.kc_conf.specs.FolderRuns.{load_line}
 use Rattle.kc_conf.specs.Stops.{TriesToSay}
 use Rattle.kc_conf.specs.Many.{RunsEach}
-use Rattle.kc_conf.specs.declared.options.Options.{Options}
-use Rattle.kc_conf.specs.declared.options.Status.{Status}
+use Rattle.kc_options.specs.declared.options.Options.{Options}
+use Rattle.kc_options.specs.declared.options.Status.{Status}
 use Rattle.kc_disk.specs.Usage.{EndsUsage, SaysUsage}
-use Rattle.kc_conf.specs.declared.options.Status.TheVariants as answered
+use Rattle.kc_options.specs.declared.options.Status.TheVariants as answered
 
 -- these are the configurations of a list in a file, where there is one
 abbrev pub AreListed : Option FolderState → Option (String Global) → List (List ℕ) → Type 0

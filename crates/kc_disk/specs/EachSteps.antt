@@ -13,8 +13,8 @@ use Rattle.kc_words.specs.declared.each.Each.{Each}
 use Rattle.kc_conf.specs.FolderRuns.{load_line}
 use Rattle.kc_conf.specs.Many.{RunsEach}
 use Rattle.kc_conf.specs.Stops.{TriesToSay}
-use Rattle.kc_conf.specs.declared.options.Status.{Status}
-use Rattle.kc_conf.specs.declared.options.Status.TheVariants as answered
+use Rattle.kc_options.specs.declared.options.Status.{Status}
+use Rattle.kc_options.specs.declared.options.Status.TheVariants as answered
 use Rattle.kc_disk.specs.EachRuns.{AreListed, AreNames, GivesOptions, HasNoList, IsUnloaded}
 
 -- the folder told of this list, or it cannot be read

@@ -3,7 +3,7 @@ use Rattle.std.specs.Prelude.{◌≡◌, ◌==◌, ◌++◌, List, [], ◌∷◌
 use Rattle.std.specs.List.{flat_map, last_or, slice_split, starts_with}
 use Rattle.clap.specs.Words.{Text}
 use Rattle.kc_text.specs.Bytes.{byte}
-use Rattle.kc_conf.specs.declared.options.Options.{Options}
+use Rattle.kc_options.specs.declared.options.Options.{Options}
 use Rattle.kc_words.specs.declared.each.Each.{Each}
 
 -- what follows the last `/`

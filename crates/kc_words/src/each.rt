@@ -7,8 +7,8 @@ ghost use Rattle.kc_words.specs.Patterns.{AreOptionsFor};
 use crate::apart;
 use crate::patterns::{filled_if, push_filled};
 use crate::usage::UsageError;
-use kc_conf::Options;
 use kc_dot::prefix::Prefix;
+use kc_options::Options;
 use std::alloc::{AllocError, Global};
 
 /// What is asked for each of many configurations of one tree (our own).

@@ -14,8 +14,8 @@ use crate::each::Each;
 use crate::usage::{UsageError, bad};
 use clap::error::ErrorKind;
 use clap::{ArgMatches, Error};
-use kc_conf::{Delivery, Options};
 use kc_dot::prefix::Prefix;
+use kc_options::{Delivery, Options};
 use std::alloc::{AllocError, Global};
 
 /// What the arguments ask for.

@@ -1,7 +1,7 @@
 -- The lines of the values behind the lead, and then those of the lost values.
 use Rattle.std.proofs.Common.{◌≡◌, ◌∙◌, ℕ, List, [], ◌∷◌, ◌++◌, ap, map, refl, append_assoc, Vec, Global}
 use Rattle.std.specs.List.{flat_map}
-use Rattle.kc_conf.specs.Asked.{lead}
+use Rattle.kc_options.specs.Asked.{lead}
 use Rattle.kc_conf.specs.Outcome.{lines_text}
 use Rattle.kc_conf.proofs.compute.add_value_lines.Goals as goal
 

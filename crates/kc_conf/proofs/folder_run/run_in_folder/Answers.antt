@@ -4,7 +4,7 @@ use Rattle.kc_load.specs.Expanding.{Suffices}
 use Rattle.kc_load.specs.Faults.{IsLoadFault, failed_load}
 use Rattle.kc_load.specs.Folders.{Leads, files_told}
 use Rattle.kc_read.specs.Files.{bytes_in}
-use Rattle.kc_conf.specs.Asked.{root_file}
+use Rattle.kc_options.specs.Asked.{root_file}
 use Rattle.kc_conf.specs.FolderRuns.{loaded, unloaded}
 use Rattle.kc_conf.proofs.FolderLemmas.{flipped, runs_over}
 use Rattle.kc_conf.proofs.folder_run.run_in_folder.Goals as goal

@@ -1,7 +1,7 @@
 -- The last part ends the line.
 use Rattle.std.proofs.Common.{List, [], ◌++◌, codes, arith, refl, subst, ℕ}
 use Rattle.std.proofs.lemmas.Grind.{common_steps}
-use Rattle.kc_conf.specs.Asked.{lead}
+use Rattle.kc_options.specs.Asked.{lead}
 use Rattle.kc_conf.specs.Reads.{Says}
 use Rattle.kc_conf.proofs.notes.say_unreadable.Goals as goal
 

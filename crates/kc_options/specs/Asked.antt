@@ -1,7 +1,7 @@
 -- Trusted: What options ask for.
 use Rattle.std.specs.Prelude.{ℕ, zero, suc, Bool, false, ◌||◌, if◌then◌else◌, List, [], ◌∷◌, ◌++◌, map, codes, string_bytes}
 use Rattle.std.specs.Option.{option_map_or}
-use Rattle.kc_conf.specs.declared.options.Options.{Options}
+use Rattle.kc_options.specs.declared.options.Options.{Options}
 
 -- the root file's name in the map
 abbrev pub root_file : Options → List ℕ

@@ -1,6 +1,6 @@
-//! The error line of a fault that the crates above report too.
+//! The error line for want of memory, which each crate above may have to report.
 ghost use Rattle.std.specs.Prelude.{◌≡◌};
-ghost use Rattle.kc_conf.specs.ErrorLines.{out_of_memory_line};
+ghost use Rattle.kc_options.specs.ErrorLines.{out_of_memory_line};
 
 /// E20: no memory was to be had.
 pub fn out_of_memory() -> &'static str

@@ -2,7 +2,7 @@
 
 ghost use Rattle.std.specs.Prelude.{◌≡◌, [], not, slice_index_or};
 ghost use Rattle.std.specs.List.{flat_map};
-ghost use Rattle.kc_conf.specs.Asked.{holds_warnings, input_files, lead, may_at, target};
+ghost use Rattle.kc_options.specs.Asked.{holds_warnings, input_files, lead, may_at, target};
 
 use kc_dot::prefix::Prefix;
 
@@ -67,8 +67,8 @@ pub enum Status {
 }
 
 impl Options {
-    // What each diagnostic begins with that is not about a line of the `.config`, in two parts.
-    pub(crate) fn lead(&self) -> [&[u8]; 2]
+    /// What each diagnostic begins with that is not about a line of the `.config`, in two parts (our own).
+    pub fn lead(&self) -> [&[u8]; 2]
         ensures { flat_map (λ part. part.now) result ≡ lead self.now }
     {
         if self.names_config {
@@ -78,8 +78,8 @@ impl Options {
         }
     }
 
-    // The name of an input file: 0 is the `.config`, n the n-th fragment.
-    pub(crate) fn input_file(&self, i: usize) -> &str
+    /// The name of an input file: 0 is the `.config`, n the n-th fragment. It is empty where there is none (our own).
+    pub fn input_file(&self, i: usize) -> &str
         ensures { result.now ≡ slice_index_or (input_files self.now) i [] }
     {
         match i {
@@ -91,22 +91,22 @@ impl Options {
         }
     }
 
-    // Whether an input file may be missing: the `.config`, unless it must exist.
-    pub(crate) fn may_be_missing(&self, i: usize) -> bool
+    /// Whether an input file may be missing: the `.config`, unless it must exist (our own).
+    pub fn may_be_missing(&self, i: usize) -> bool
         ensures { result ≡ may_at (not self.now.must_exist) i }
     {
         i == 0 && !self.must_exist
     }
 
-    // Whether the warnings of the input files are said only once all are read.
-    pub(crate) fn holds_warnings(&self) -> bool
+    /// Whether the warnings of the input files are said only once all are read (our own).
+    pub fn holds_warnings(&self) -> bool
         ensures { result ≡ holds_warnings self.now }
     {
         self.strict || self.strict_tree
     }
 
-    // The file that a dependency file's rule makes.
-    pub(crate) fn target(&self) -> &str
+    /// The file that a dependency file's rule makes; empty where no full `.config` is written (our own).
+    pub fn target(&self) -> &str
         ensures { result.now ≡ target self.now }
     {
         match &self.out {
