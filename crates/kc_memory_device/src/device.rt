@@ -74,7 +74,7 @@ impl<'a> MemoryDevice<'a> {
 
     /// What was asked, in order: each call but the notes that were written, or nothing where there was no memory for it.
     pub fn records(&self) -> Option<&[Record]>
-        ensures { Tells (log_of self.now) (λ journal. option_map (λ records. events_of records.now) result ≡ Some journal.events) }
+        ensures { option_map (λ records. events_of records.now) result ≡ option_map (λ journal. journal.events) (log_of self.now) }
     {
         match &self.records {
             Some(records) => Some(records.as_slice()),
