@@ -1,10 +1,9 @@
 -- A tree is what the numbered lines of a root file give.
-use Rattle.std.proofs.Common.{◌≡◌, ◌≢◌, ◌≤◌, ℕ, List, [], ◌∷◌, length, map, Result, Ok, Err, refl, ap, sym, ◌∙◌, subst, arith}
+use Rattle.std.proofs.Common.{◌≡◌, ◌≢◌, ℕ, List, [], ◌∷◌, length, map, Result, Ok, Err, refl, ap, sym, ◌∙◌, subst}
 use Rattle.std.specs.Prelude.{All}
 use Rattle.std.specs.List.{slice_get, flat_map}
 use Rattle.std.specs.Option.{is_some}
 use Rattle.std.proofs.lemmas.List.Elements.{All-append, All-head}
-use Rattle.kc_expr.specs.declared.expression.SymId.{SymId}
 use Rattle.kc_expr.specs.Names.{AreDistinct, number_of}
 use Rattle.kc_read.specs.declared.statement.Line.{Line}
 use Rattle.kc_read.specs.declared.refusal.Code.{Code}
@@ -12,20 +11,20 @@ use Rattle.kc_read.specs.declared.refusal.Code.TheVariants as code
 use Rattle.kc_read.specs.declared.refusal.Refusal.{Refusal}
 use Rattle.kc_read.specs.Expansion.{Expands, Log, OneExpansion, Refused, defined, refused}
 use Rattle.kc_read.specs.Files.{Files}
-use Rattle.kc_read.specs.Numbering.{modules_id, names_of, numbered_lines}
+use Rattle.kc_read.specs.Numbering.{names_of, numbered_lines}
 use Rattle.kc_read.specs.StatementViews.{line_view}
 use Rattle.kc_read.specs.Statements.{Numbered, Located, Named, statements}
 use Rattle.kc_read.specs.RefusalView.{IsMemory, refusal_view}
-use Rattle.kc_build.specs.declared.numbering.Listing.{Listing}
+use Rattle.kc_build.specs.declared.listing.Listing.{Listing}
 use Rattle.kc_build.specs.PartsView.{parts_view}
 use Rattle.kc_tree.specs.Common.{listed}
 use Rattle.kc_build.specs.SymbolRows.{AreBelow, AreChoicesApart, AreMenusOpened, AreTypesDefined}
-use Rattle.kc_build.specs.Numberings.{IsListing}
+use Rattle.kc_build.specs.Listings.{IsListing}
+use Rattle.kc_build.specs.Facts.{defined_symbols}
 use Rattle.kc_build.specs.Passes.{statements_of}
 use Rattle.kc_tree.specs.TreeFacts.{TreeFacts, IsWellFormed}
 use Rattle.kc_tree.specs.declared.layout.TreeParts.{TreeParts}
-use Rattle.kc_expr.specs.Limits.{most_symbols}
-use Rattle.kc_build.specs.Trees.{OneTree, facts_with, tree_of_lines, tree_of_log, tree_with, unless_refused}
+use Rattle.kc_build.specs.Trees.{OneTree, facts_with, modules_symbol, tree_of_lines, tree_of_log, tree_with, unless_refused}
 use Rattle.kc_build.specs.Warnings.{bad_defaults, bad_members, entry_name, whole_list_refusals, menu_entry_at, entry_symbol, refused_at}
 use Rattle.kc_build.proofs.DefinedLemmas.{AreNames, expanded_allowed, expanded_known, numbered_typed}
 use Rattle.kc_build.proofs.ElementLemmas.{All-flat_map, All-map_each}
@@ -63,14 +62,14 @@ whole_by (r ∷ rs) t u h = absurd cc
 pub refused-memory : (ls : List (Located Named)) (r : Refusal) → Err (refusal_view r) ≡ tree_of_lines ls → IsMemory r
 refused-memory ls r h m =
     absurd (not_memory (whole_list_refusals (names_of (statements ls)) (numbered_lines ls))
-    (facts_with (names_of (statements ls)) (length (defined (statements ls))) (modules_id (statements ls)) (numbered_lines ls)) (refusal_view r)
+    (facts_with (names_of (statements ls)) (numbered_lines ls)) (refusal_view r)
     (refusal_codes (names_of (statements ls)) (numbered_lines ls)) h m)
 
 -- the tree that lines give is well formed
 pub whole-formed : (ls : List (Located Named)) (t : TreeFacts) → AreNames (defined (statements ls)) → AreDistinct (names_of (statements ls)) → IsShaped ls → Ok t ≡ tree_of_lines ls → IsWellFormed t
 whole-formed ls t known distinct shaped h =
     let w = whole_by (whole_list_refusals (names_of (statements ls)) (numbered_lines ls)) t
-    (facts_with (names_of (statements ls)) (length (defined (statements ls))) (modules_id (statements ls)) (numbered_lines ls)) h in
+    (facts_with (names_of (statements ls)) (numbered_lines ls)) h in
     subst IsWellFormed (sym w.1) (well_formed ls known distinct shaped w.0)
 
 -- what the numbered lines of an expanded list give
@@ -82,9 +81,18 @@ module _ (log : Log) (l : Listing) (h : IsListing log l) where
   statements_here ls same =
       ap (λ (ps : List (Located Numbered)). map (λ x. x.statement) ps) (sym h.lines_are) ∙ statements-are l.lines.items ∙ ap statements_of (sym same)
 
-  pub lines-below : (ls : List Line) → ls ≡ l.lines.items → AreBelow l.count (statements_of ls)
+  pub lines-below : (ls : List Line) → ls ≡ l.lines.items → AreBelow (length l.names) (statements_of ls)
   lines-below ls same =
-      subst (λ (ss : List Numbered). AreBelow l.count ss) (statements_here ls same) (subst (λ (k : ℕ). AreBelow k line_statements) (sym h.count_is) (numbered_below log.lines))
+      subst (λ (ss : List Numbered). AreBelow (length l.names) ss) (statements_here ls same)
+      (subst (λ (ns : List (List ℕ)). AreBelow (length ns) line_statements) (sym h.names_are) (numbered_below log.lines))
+
+  pub lines-define : (ls : List Line) → ls ≡ l.lines.items → l.defined.items ≡ defined_symbols (statements_of ls)
+  lines-define ls same = h.defined_are ∙ ap defined_symbols (statements_here ls same)
+
+  pub lines-modules : (ls : List Line) → ls ≡ l.lines.items → l.modules ≡ modules_symbol l.names (statements_of ls)
+  lines-modules ls same =
+      h.modules_is ∙ ap (modules_symbol (names_of (statements log.lines))) (statements_here ls same)
+      ∙ ap (λ (ns : List (List ℕ)). modules_symbol ns (statements_of ls)) (sym h.names_are)
 
   pub lines-apart : (files : Files) (root : List ℕ) → Expands files root (Ok log) → (ls : List Line) → ls ≡ l.lines.items → AreChoicesApart (statements_of ls)
   lines-apart files root x ls same =
@@ -99,22 +107,13 @@ module _ (log : Log) (l : Listing) (h : IsListing log l) where
   lines-opened files root x ls same =
       subst AreMenusOpened (statements_here ls same) (λ i e. ap is_some (menu_closed line_statements (nested files root log x) i e).1)
 
-  pub count-few : (files : Files) (root : List ℕ) → Expands files root (Ok log) → l.count ≤ most_symbols
-  count-few files root x =
-      let n = h.count_is in
-      let few = (expanded_known files root log x).few in
-      omega arith
-
   pub parts-lines : (ls : List Line) (s : Result TreeParts Refusal) → ls ≡ l.lines.items →
-      parts_view l.names s ≡ tree_with l.names l.count l.modules (map line_view ls) → parts_view l.names s ≡ tree_of_lines log.lines
+      parts_view l.names s ≡ tree_with l.names (map line_view ls) → parts_view l.names s ≡ tree_of_lines log.lines
   parts-lines ls s same a =
-      let ss = statements log.lines in
       a
-      ∙ ap (λ (xs : List Line). tree_with l.names l.count l.modules (map line_view xs)) same
-      ∙ ap (λ (ps : List (Located Numbered)). tree_with l.names l.count l.modules ps) h.lines_are
-      ∙ ap (λ (ns : List (List ℕ)). tree_with ns l.count l.modules (numbered_lines log.lines)) h.names_are
-      ∙ ap (λ (k : ℕ). tree_with (names_of ss) k l.modules (numbered_lines log.lines)) h.count_is
-      ∙ ap (λ (id : SymId). tree_with (names_of ss) (length (defined ss)) id (numbered_lines log.lines)) h.modules_is
+      ∙ ap (λ (xs : List Line). tree_with l.names (map line_view xs)) same
+      ∙ ap (tree_with l.names) h.lines_are
+      ∙ ap (λ (ns : List (List ℕ)). tree_with ns (numbered_lines log.lines)) h.names_are
 
   pub lines-formed : (files : Files) (root : List ℕ) (t : TreeFacts) → Expands files root (Ok log) → AreDistinct l.names → Ok t ≡ tree_of_lines log.lines → IsWellFormed t
   lines-formed files root t x d a =

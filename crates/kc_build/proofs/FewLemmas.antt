@@ -14,8 +14,8 @@ use Rattle.kc_read.specs.Numbering.{number_line}
 use Rattle.kc_read.specs.StatementViews.{line_view}
 use Rattle.kc_read.specs.Statements.{Located, Named, statements}
 use Rattle.kc_read.proofs.RestLemmas.{next_less}
-use Rattle.kc_build.specs.declared.numbering.Listing.{Listing}
-use Rattle.kc_build.specs.Numberings.{IsListing}
+use Rattle.kc_build.specs.declared.listing.Listing.{Listing}
+use Rattle.kc_build.specs.Listings.{IsListing}
 
 -- a file that may be opened adds no more lines than there may be
 few_opened : (name : List ℕ) (n : ℕ) (bytes : List ℕ) → bytes_cause name n (Some bytes) ≡ None → n + lines_of bytes ≤ most_lines

@@ -9,7 +9,7 @@ use Rattle.kc_expr.specs.Form.{Form}
 use Rattle.kc_expr.specs.Names.{symbol}
 use Rattle.kc_read.specs.Blocks.{numbers, attributes, last_of}
 use Rattle.kc_read.specs.Statements.{InputPrompt, Numbered, Located, RangeLine}
-use Rattle.kc_tree.specs.TreeFacts.{Condition, Guarded, Bounds, TreeFacts, AreLinesSound, IsModeBelow, IsDefined}
+use Rattle.kc_tree.specs.TreeFacts.{Condition, Guarded, Bounds, TreeFacts, AreLinesSound, IsModeBelow, IsMentioned}
 use Rattle.kc_tree.specs.Common.{listed}
 use Rattle.kc_build.specs.Facts.{prompt_of, prompt_condition, can_be_target, enclosing_choice, choices, defaults_at, guarded_default, definitions_of, dependency, imply_of, guarded_symbol, naming_at, indices, prompt_at, guarded_range, select_of, stated_default, symbol_at, symbol_facts}
 use Rattle.kc_build.specs.SymbolRows.{AreBelow}
@@ -42,28 +42,28 @@ module _ (ss : List Numbered) where
   range_mode i _ g h = absurd cc
 
 -- Symbols and their lines.
-module _ (names : List (List ℕ)) (count : ℕ) (modules : SymId) (ls : List (Located Numbered)) where
+module _ (names : List (List ℕ)) (ls : List (Located Numbered)) where
   abbrev pub line_statements : List Numbered
   line_statements = map (λ l. l.statement) ls
 
   abbrev pub tree : TreeFacts
-  tree = facts_with names count modules ls
+  tree = facts_with names ls
 
-  pub defined_if : (s : SymId) → s.0 < count → IsDefined tree s
-  defined_if s h = let n = length-map_numbers (λ i. symbol_facts line_statements (symbol i)) count in omega arith
+  pub mentioned_if : (s : SymId) → s.0 < length names → IsMentioned tree s
+  mentioned_if s h = let n = length-map_numbers (λ i. symbol_facts line_statements (symbol i)) (length names) in omega arith
 
-  pub facts_at : (i : ℕ) → i < count → slice_get tree.symbols i ≡ Some (symbol_facts line_statements (symbol i))
-  facts_at i h = get-map_numbers (λ i. symbol_facts line_statements (symbol i)) count i h
+  pub facts_at : (i : ℕ) → i < length names → slice_get tree.symbols i ≡ Some (symbol_facts line_statements (symbol i))
+  facts_at i h = get-map_numbers (λ i. symbol_facts line_statements (symbol i)) (length names) i h
 
   abbrev NamesSound : Guarded SymId → Type 0
-  NamesSound g = IsDefined tree g.what × IsModeBelow (length tree.choices) g.when
+  NamesSound g = IsMentioned tree g.what × IsModeBelow (length tree.choices) g.when
 
-  module _ (below : AreBelow count line_statements) where
+  module _ (below : AreBelow (length names) line_statements) where
     names_by : (line : Numbered → Option (Option Form)) (i : ℕ) (o : Option SymId) → symbol_at line_statements i ≡ o →
         All NamesSound (flat_map (λ s. map (guarded_symbol line_statements i s) (filter_map line (attributes line_statements i))) (listed o))
     names_by line i None e = All-nil NamesSound
     names_by line i (Some s) e =
-        let d = defined_if s (below i s e) in
+        let d = mentioned_if s (below i s e) in
         All-append NamesSound (map (guarded_symbol line_statements i s) (filter_map line (attributes line_statements i))) []
         (All-map_each NamesSound (guarded_symbol line_statements i s) (λ w. (d, sound_at line_statements i (guarded_symbol line_statements i s w).when refl))
         (filter_map line (attributes line_statements i))) (All-nil NamesSound)
@@ -91,4 +91,4 @@ module _ (names : List (List ℕ)) (count : ℕ) (modules : SymId) (ls : List (L
     }
 
     pub all_sound : All (AreLinesSound tree) tree.symbols
-    all_sound = All-map_each (AreLinesSound tree) (λ i. symbol_facts line_statements (symbol i)) (λ i. lines_sound (symbol i)) (numbers count)
+    all_sound = All-map_each (AreLinesSound tree) (λ i. symbol_facts line_statements (symbol i)) (λ i. lines_sound (symbol i)) (numbers (length names))

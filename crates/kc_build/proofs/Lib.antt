@@ -6,7 +6,6 @@ mod ChainLemmas
 mod ChoiceLemmas
 mod ChoiceOpenLemmas
 mod CloserLemmas
-mod CopyLemmas
 mod DefineLemmas
 mod DefineWalkLemmas
 mod DefinedLemmas
@@ -29,6 +28,7 @@ mod LayoutLemmas
 mod LineTextLemmas
 mod LineWalkLemmas
 mod ListLemmas
+mod ListingLemmas
 mod MemberLemmas
 mod MemberSoundLemmas
 mod MembersLemmas
@@ -38,13 +38,12 @@ mod NameLemmas
 mod NamedLemmas
 mod NestLemmas
 mod NumberingLemmas
+mod SymbolListLemmas
 mod OddLemmas
 mod OpenLemmas
 mod OpenerLemmas
 mod PlaceLemmas
 mod ReadTextLemmas
-mod RenamedLemmas
-mod RenamingLemmas
 mod ReverseLemmas
 mod ScopeLemmas
 mod Rows

@@ -166,20 +166,20 @@ module _ (ss : List Numbered) (none : bad_members ss ≡ []) where
         All-filter_map (DefaultSound (members_of ss (choice_number ss p))) (member_default ss p) (λ v g h. default_by p v g (single_symbol v.value) r h) (filter_map stated_default (attributes ss p))
 
 -- The same of a tree.
-module _ (names : List (List ℕ)) (count : ℕ) (modules : SymId) (ls : List (Located Numbered)) where
+module _ (names : List (List ℕ)) (ls : List (Located Numbered)) where
   abbrev pub line_statements : List Numbered
   line_statements = map (λ l. l.statement) ls
 
   abbrev pub whole : TreeFacts
-  whole = tree names count modules ls
+  whole = tree names ls
 
-  module _ (below : AreBelow count line_statements) (none : bad_members line_statements ≡ []) where
+  module _ (below : AreBelow (length names) line_statements) (none : bad_members line_statements ≡ []) where
     members_sound : (k : ℕ) → All (IsMemberOf whole k) (members_of line_statements k)
     members_sound k =
         All-kept (IsMemberOf whole k) (symbol_at line_statements) (is_member_index line_statements k)
         (λ i s m h. (
           symbol_facts line_statements (symbol s.0),
-          facts_at names count modules ls s.0 (below i s h),
+          facts_at names ls s.0 (below i s h),
           member_choice line_statements none k i s m h,
           member_kind line_statements none k i s m h,
         )) (indices line_statements)
@@ -192,10 +192,10 @@ module _ (names : List (List ℕ)) (count : ℕ) (modules : SymId) (ls : List (L
 
     pub all_listed : (i : ℕ) (f : SymbolFacts) → slice_get whole.symbols i ≡ Some f → IsListed whole (symbol i) f
     all_listed i f h k c =
-        let n = length-map_numbers (λ i. symbol_facts line_statements (symbol i)) count in
+        let n = length-map_numbers (λ i. symbol_facts line_statements (symbol i)) (length names) in
         let m = slice_get_within whole.symbols i f h in
-        let l : i < count = omega arith in
-        listed_by i k f (symbol_facts line_statements (symbol i)) (sym (facts_at names count modules ls i l) ∙ h) refl c
+        let l : i < length names = omega arith in
+        listed_by i k f (symbol_facts line_statements (symbol i)) (sym (facts_at names ls i l) ∙ h) refl c
 
     module _ (alone : (p : ℕ) → of_block line_statements block.Choice p ≡ true → enclosing_choice line_statements p ≡ None) where
       sound_place : (k p : ℕ) → IsKept (of_block line_statements block.Choice) (length line_statements) k p → IsChoiceSound whole k (choice_facts line_statements p)

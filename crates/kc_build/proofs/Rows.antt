@@ -1,5 +1,5 @@
 -- The definitions, computed at some lists of statements.
-use Rattle.std.proofs.Common.{◌≡◌, ℕ, suc, List, [], ◌∷◌, ◌++◌, length, map, Option, Some, None, Ok, Err, codes, refl}
+use Rattle.std.proofs.Common.{◌≡◌, ℕ, suc, List, [], ◌∷◌, ◌++◌, map, Option, Some, None, Ok, Err, codes, refl}
 use Rattle.std.specs.Fmt.{digits}
 use Rattle.kc_text.specs.declared.tokens.Op.TheVariants as op
 use Rattle.kc_expr.specs.declared.expression.SymId.{SymId}
@@ -13,9 +13,9 @@ use Rattle.kc_read.specs.declared.refusal.Code.TheVariants as code
 use Rattle.kc_read.specs.Statements.{Named, Numbered, InputPrompt, Located, ConfigLine, IfLine, EndIfLine, CommentLine, MenuLine, EndMenuLine, ChoiceLine, EndChoiceLine, MainMenuLine, TypeLine, PromptLine, DefaultLine, DefLine, DependsLine, VisibleLine, SelectLine, ImplyLine, RangeLine, ModulesLine, statements}
 use Rattle.kc_tree.specs.TreeFacts.{TreeFacts, Condition, Guarded, SymbolFacts, SymbolShown, MenuShown, EndShown, CommentShown}
 use Rattle.kc_build.specs.Facts.{symbol_facts, choices, entries}
-use Rattle.kc_read.specs.Expansion.{Refused, refused, defined}
+use Rattle.kc_read.specs.Expansion.{Refused, refused}
 use Rattle.kc_build.specs.Warnings.{warnings, whole_list_refusals}
-use Rattle.kc_read.specs.Numbering.{names_of, modules_id, numbered_lines}
+use Rattle.kc_read.specs.Numbering.{names_of, numbered_lines}
 use Rattle.kc_build.specs.Trees.{tree_of_lines, facts_with}
 
 -- Short words for the rows.
@@ -52,7 +52,7 @@ cond ps m = record { conjuncts = ps; mode = m }
 
 -- what lines say, where nothing is to be refused
 abbrev facts_of_lines : List Named → List (Located Numbered) → TreeFacts
-facts_of_lines ss ls = facts_with (names_of ss) (length (defined ss)) (modules_id ss) ls
+facts_of_lines ss ls = facts_with (names_of ss) ls
 
 -- A choice with a default, and its members.
 abbrev choice_default : List Named
@@ -60,14 +60,15 @@ choice_default = ChoiceLine ∷ PromptLine (asked (codes "c") None) ∷ DefaultL
     ConfigLine (codes "B") ∷ bool_line (codes "b") ∷ ConfigLine (codes "C") ∷ bool_line (codes "c") ∷ EndChoiceLine ∷ []
 
 choice_default_tree : tree_of_lines (in_root choice_default) ≡ Ok (record {
-  names = codes "A" ∷ codes "B" ∷ codes "C" ∷ codes "MODULES" ∷ [];
+  names = codes "B" ∷ codes "A" ∷ codes "C" ∷ [];
   symbols =
       record { kind = kind.Bool; choice = Some 0; dependencies = cond [] (Some 0) ∷ []; prompts = cond [] (Some 0) ∷ []; defaults = []; ranges = []; selectors = []; impliers = [] }
       ∷ record { kind = kind.Bool; choice = Some 0; dependencies = cond [] (Some 0) ∷ []; prompts = cond [] (Some 0) ∷ []; defaults = []; ranges = []; selectors = []; impliers = [] }
       ∷ record { kind = kind.Bool; choice = Some 0; dependencies = cond [] (Some 0) ∷ []; prompts = cond [] (Some 0) ∷ []; defaults = []; ranges = []; selectors = []; impliers = [] }
       ∷ [];
-  choices = record { prompt = Some (cond [] None); defaults = record { what = symbol 1; when = cond [] None } ∷ []; members = symbol 0 ∷ symbol 1 ∷ symbol 2 ∷ [] } ∷ [];
-  entries = SymbolShown (symbol 0) ∷ SymbolShown (symbol 1) ∷ SymbolShown (symbol 2) ∷ [];
+  defined = symbol 1 ∷ symbol 0 ∷ symbol 2 ∷ [];
+  choices = record { prompt = Some (cond [] None); defaults = record { what = symbol 0; when = cond [] None } ∷ []; members = symbol 1 ∷ symbol 0 ∷ symbol 2 ∷ [] } ∷ [];
+  entries = SymbolShown (symbol 1) ∷ SymbolShown (symbol 0) ∷ SymbolShown (symbol 2) ∷ [];
   warnings = [];
   main_menu = codes "Main menu";
   modules = None;
@@ -99,15 +100,16 @@ member_dependency = ConfigLine (codes "D") ∷ bool_line (codes "d") ∷ ChoiceL
     DependsLine (word (codes "D")) ∷ EndChoiceLine ∷ []
 
 member_dependency_tree : tree_of_lines (in_root member_dependency) ≡ Ok (record {
-  names = codes "D" ∷ codes "A" ∷ codes "B" ∷ codes "C" ∷ modules_word ∷ [];
+  names = codes "D" ∷ codes "B" ∷ codes "A" ∷ codes "C" ∷ [];
   symbols =
       fact kind.Bool None (always ∷ []) (always ∷ []) [] []
       ∷ fact kind.Bool (Some 0) (mode_0 ∷ []) (mode_0 ∷ []) [] []
       ∷ fact kind.Bool (Some 0) (mode_0 ∷ []) (mode_0 ∷ []) [] []
       ∷ fact kind.Bool (Some 0) (cond (sym 0 ∷ []) (Some 0) ∷ []) (cond (sym 0 ∷ []) (Some 0) ∷ []) [] []
       ∷ [];
-  choices = record { prompt = Some always; defaults = by 2 always ∷ []; members = symbol 1 ∷ symbol 2 ∷ symbol 3 ∷ [] } ∷ [];
-  entries = SymbolShown (symbol 0) ∷ SymbolShown (symbol 1) ∷ SymbolShown (symbol 2) ∷ SymbolShown (symbol 3) ∷ [];
+  defined = symbol 0 ∷ symbol 2 ∷ symbol 1 ∷ symbol 3 ∷ [];
+  choices = record { prompt = Some always; defaults = by 1 always ∷ []; members = symbol 2 ∷ symbol 1 ∷ symbol 3 ∷ [] } ∷ [];
+  entries = SymbolShown (symbol 0) ∷ SymbolShown (symbol 2) ∷ SymbolShown (symbol 1) ∷ SymbolShown (symbol 3) ∷ [];
   warnings = [];
   main_menu = codes "Main menu";
   modules = None;
@@ -121,12 +123,13 @@ hidden_menu = ConfigLine (codes "A") ∷ DefLine kind.Bool (word (codes "y")) No
     DefaultLine (word (codes "y")) None ∷ EndMenuLine ∷ CommentLine (codes "end") ∷ []
 
 hidden_menu_tree : tree_of_lines (in_root hidden_menu) ≡ Ok (record {
-  names = codes "A" ∷ codes "B" ∷ codes "C" ∷ modules_word ∷ [];
+  names = codes "A" ∷ codes "B" ∷ codes "C" ∷ [];
   symbols =
       fact kind.Bool None (always ∷ []) [] (given (txt (codes "y")) always ∷ []) []
       ∷ fact kind.Bool None (always ∷ []) (cond (txt (codes "n") ∷ []) None ∷ []) [] (by 0 always ∷ [])
       ∷ fact kind.Bool None (always ∷ []) (cond (txt (codes "n") ∷ []) None ∷ []) (given (txt (codes "y")) always ∷ []) []
       ∷ [];
+  defined = symbol 0 ∷ symbol 1 ∷ symbol 2 ∷ [];
   choices = [];
   entries = SymbolShown (symbol 0) ∷ MenuShown (codes "hidden") (cond (txt (codes "n") ∷ []) None) ∷ SymbolShown (symbol 1) ∷ SymbolShown (symbol 2) ∷
       EndShown 1 ∷ CommentShown (codes "end") always ∷ [];
@@ -142,8 +145,9 @@ nested_menus = MainMenuLine (codes "Demo") ∷ MenuLine (codes "one") ∷ MenuLi
     EndMenuLine ∷ ConfigLine (codes "B") ∷ bool_line (codes "b") ∷ MenuLine (codes "three") ∷ EndMenuLine ∷ []
 
 nested_menus_tree : tree_of_lines (in_root nested_menus) ≡ Ok (record {
-  names = codes "A" ∷ codes "B" ∷ modules_word ∷ [];
+  names = codes "A" ∷ codes "B" ∷ [];
   symbols = fact kind.Bool None (always ∷ []) (always ∷ []) [] [] ∷ fact kind.Bool None (always ∷ []) (always ∷ []) [] [] ∷ [];
+  defined = symbol 0 ∷ symbol 1 ∷ [];
   choices = [];
   entries = MenuShown (codes "one") always ∷ MenuShown (codes "two") always ∷ SymbolShown (symbol 0) ∷ EndShown 1 ∷ EndShown 0 ∷ SymbolShown (symbol 1) ∷
       MenuShown (codes "three") always ∷ EndShown 6 ∷ [];
@@ -163,8 +167,9 @@ sourced_twice = at (codes "Kconfig") 1 (ConfigLine (codes "X")) ∷ at (codes "K
     at (codes "a") 2 (bool_line (codes "z")) ∷ at (codes "Kconfig") 6 EndIfLine ∷ []
 
 sourced_twice_tree : tree_of_lines sourced_twice ≡ Ok (record {
-  names = codes "X" ∷ codes "Z" ∷ modules_word ∷ [];
+  names = codes "X" ∷ codes "Z" ∷ [];
   symbols = fact kind.Bool None (always ∷ []) (always ∷ []) [] [] ∷ fact kind.Bool None (always ∷ cond (sym 0 ∷ []) None ∷ []) (always ∷ cond (sym 0 ∷ []) None ∷ []) [] [] ∷ [];
+  defined = symbol 0 ∷ symbol 1 ∷ [];
   choices = [];
   entries = SymbolShown (symbol 0) ∷ SymbolShown (symbol 1) ∷ [];
   warnings = [];
@@ -179,9 +184,10 @@ second_definition = ConfigLine (codes "A") ∷ bool_line (codes "a") ∷ MenuLin
     bool_line (codes "b") ∷ EndMenuLine ∷ ConfigLine (codes "B") ∷ bool_line (codes "again") ∷ DefaultLine (word (codes "y")) None ∷ []
 
 second_definition_tree : tree_of_lines (in_root second_definition) ≡ Ok (record {
-  names = codes "A" ∷ codes "B" ∷ modules_word ∷ [];
+  names = codes "A" ∷ codes "B" ∷ [];
   symbols = fact kind.Bool None (always ∷ []) (always ∷ []) [] [] ∷
       fact kind.Bool None (cond (sym 0 ∷ []) None ∷ always ∷ []) (cond (sym 0 ∷ []) None ∷ always ∷ []) (given (txt (codes "y")) always ∷ []) [] ∷ [];
+  defined = symbol 0 ∷ symbol 1 ∷ [];
   choices = [];
   entries = SymbolShown (symbol 0) ∷ MenuShown (codes "m") (cond (sym 0 ∷ []) None) ∷ SymbolShown (symbol 1) ∷ EndShown 1 ∷ [];
   warnings = [];
@@ -235,6 +241,7 @@ modules_line_tree : tree_of_lines (in_root modules_line) ≡ Ok (record {
   names = codes "LKM" ∷ codes "A" ∷ [];
   symbols = fact kind.Bool None (always ∷ []) (always ∷ []) (given (txt (codes "y")) always ∷ []) [] ∷
       fact kind.Tristate None (always ∷ []) (always ∷ []) (given (txt (codes "m")) always ∷ []) [] ∷ [];
+  defined = symbol 0 ∷ symbol 1 ∷ [];
   choices = [];
   entries = SymbolShown (symbol 0) ∷ SymbolShown (symbol 1) ∷ [];
   warnings = [];
@@ -256,8 +263,9 @@ member_prompt_condition = ChoiceLine ∷ PromptLine (asked (codes "c") None) ∷
     TypeLine kind.Bool (Some (asked (codes "a") (Some (word (codes "B"))))) ∷ ConfigLine (codes "B") ∷ bool_line (codes "b") ∷ EndChoiceLine ∷ []
 
 member_prompt_condition_tree : tree_of_lines (in_root member_prompt_condition) ≡ Ok (record {
-  names = codes "A" ∷ codes "B" ∷ modules_word ∷ [];
+  names = codes "A" ∷ codes "B" ∷ [];
   symbols = fact kind.Bool (Some 0) (mode_0 ∷ []) (cond (sym 1 ∷ []) (Some 0) ∷ []) [] [] ∷ fact kind.Bool (Some 0) (mode_0 ∷ []) (mode_0 ∷ []) [] [] ∷ [];
+  defined = symbol 0 ∷ symbol 1 ∷ [];
   choices = record { prompt = Some always; defaults = []; members = symbol 0 ∷ symbol 1 ∷ [] } ∷ [];
   entries = SymbolShown (symbol 0) ∷ SymbolShown (symbol 1) ∷ [];
   warnings = [];
@@ -299,7 +307,7 @@ string_default_refused = refl
 abbrev ranged_int : List Named
 ranged_int = ConfigLine (codes "I") ∷ TypeLine kind.Int (Some (asked (codes "i") None)) ∷ RangeLine (WordAtom (codes "-5")) (WordAtom (codes "-2")) None ∷ DefaultLine (word (codes "FOO")) None ∷ []
 
-ranged_int_names : names_of ranged_int ≡ codes "I" ∷ modules_word ∷ codes "-5" ∷ codes "-2" ∷ codes "FOO" ∷ []
+ranged_int_names : names_of ranged_int ≡ codes "I" ∷ codes "-5" ∷ codes "-2" ∷ codes "FOO" ∷ []
 ranged_int_names = refl
 
 ranged_int_facts : facts_at ranged_int 0 ≡ record {
@@ -308,8 +316,8 @@ ranged_int_facts : facts_at ranged_int 0 ≡ record {
   dependencies = always ∷ [];
   prompts = always ∷ [];
   defaults =
-      given (sym 4) always ∷ [];
-  ranges = record { what = record { low = Symbol (symbol 2); high = Symbol (symbol 3) }; when = always } ∷ [];
+      given (sym 3) always ∷ [];
+  ranges = record { what = record { low = Symbol (symbol 1); high = Symbol (symbol 2) }; when = always } ∷ [];
   selectors =
       [];
   impliers = [];
@@ -323,11 +331,11 @@ implied_symbol = ConfigLine modules_word ∷ DefLine kind.Bool (word (codes "y")
     TypeLine kind.Tristate (Some (asked (codes "bar") None)) ∷ DefaultLine (word (codes "m")) None ∷ ConfigLine (codes "BAZ") ∷
     TypeLine kind.Tristate (Some (asked (codes "baz") None)) ∷ DependsLine (word (codes "BAR")) ∷ []
 
-implied_symbol_target : facts_at implied_symbol 3 ≡ record {
+implied_symbol_target : facts_at implied_symbol 2 ≡ record {
   kind = kind.Tristate;
   choice = None;
-  dependencies = cond (sym 2 ∷ []) None ∷ [];
-  prompts = cond (sym 2 ∷ []) None ∷ [];
+  dependencies = cond (sym 3 ∷ []) None ∷ [];
+  prompts = cond (sym 3 ∷ []) None ∷ [];
   defaults = [];
   ranges =
       [];
@@ -336,7 +344,7 @@ implied_symbol_target : facts_at implied_symbol 3 ≡ record {
 }
 implied_symbol_target = refl
 
-implied_symbol_dependency : facts_at implied_symbol 2 ≡ fact kind.Tristate None (always ∷ []) (always ∷ []) (given (txt (codes "m")) always ∷ []) []
+implied_symbol_dependency : facts_at implied_symbol 3 ≡ fact kind.Tristate None (always ∷ []) (always ∷ []) (given (txt (codes "m")) always ∷ []) []
 implied_symbol_dependency = refl
 
 implied_symbol_modules : (facts_of_lines implied_symbol (numbered_lines (in_root implied_symbol))).modules ≡ Some (symbol 0)
@@ -355,7 +363,7 @@ selected_symbol_facts = refl
 abbrev plain_m : List Named
 plain_m = ConfigLine (codes "A") ∷ bool_line (codes "a") ∷ DependsLine (word (codes "m")) ∷ []
 
-plain_m_names : names_of plain_m ≡ codes "A" ∷ modules_word ∷ []
+plain_m_names : names_of plain_m ≡ codes "A" ∷ []
 plain_m_names = refl
 
 plain_m_facts : facts_at plain_m 0 ≡ fact kind.Bool None (cond (PlainM ∷ []) None ∷ []) (cond (PlainM ∷ []) None ∷ []) [] []
@@ -371,7 +379,7 @@ modules_line_afterwards = refl
 
 -- each `depends on` line of an entry is a part of its condition
 two_dependencies : facts_at (ConfigLine (codes "A") ∷ bool_line (codes "a") ∷ DependsLine (word (codes "B")) ∷ DependsLine (word (codes "C")) ∷ [])
-    0 ≡ fact kind.Bool None (cond (sym 2 ∷ sym 3 ∷ []) None ∷ []) (cond (sym 2 ∷ sym 3 ∷ []) None ∷ []) [] []
+    0 ≡ fact kind.Bool None (cond (sym 1 ∷ sym 2 ∷ []) None ∷ []) (cond (sym 1 ∷ sym 2 ∷ []) None ∷ []) [] []
 two_dependencies = refl
 
 -- so is each `visible if` line of a menu; a menu in a menu is shown by its own and those that enclose it; a comment by neither
@@ -381,16 +389,16 @@ menus = MenuLine (codes "o") ∷ VisibleLine (word (codes "A")) ∷ VisibleLine 
     TypeLine kind.Bool (Some (asked (codes "x") (Some (word (codes "G"))))) ∷ DefaultLine (word (codes "y")) (Some (word (codes "H"))) ∷ EndIfLine ∷ EndMenuLine
     ∷ EndMenuLine ∷ []
 
-menus_names : names_of menus ≡ codes "X" ∷ modules_word ∷ codes "A" ∷ codes "B" ∷ codes "C" ∷ codes "D" ∷ codes "E" ∷ codes "F" ∷ codes "G" ∷ codes "H" ∷ []
+menus_names : names_of menus ≡ codes "A" ∷ codes "B" ∷ codes "C" ∷ codes "D" ∷ codes "E" ∷ codes "F" ∷ codes "X" ∷ codes "G" ∷ codes "H" ∷ []
 menus_names = refl
 
-menus_entries : entries (numbered_of menus) ≡ MenuShown (codes "o") (cond (sym 4 ∷ sym 2 ∷ sym 3 ∷ []) None) ∷
-    MenuShown (codes "i") (cond (sym 4 ∷ sym 2 ∷ sym 3 ∷ sym 5 ∷ []) None) ∷ CommentShown (codes "t") (cond (sym 4 ∷ sym 6 ∷ []) None) ∷ SymbolShown (symbol 0)
+menus_entries : entries (numbered_of menus) ≡ MenuShown (codes "o") (cond (sym 2 ∷ sym 0 ∷ sym 1 ∷ []) None) ∷
+    MenuShown (codes "i") (cond (sym 2 ∷ sym 0 ∷ sym 1 ∷ sym 3 ∷ []) None) ∷ CommentShown (codes "t") (cond (sym 2 ∷ sym 4 ∷ []) None) ∷ SymbolShown (symbol 6)
     ∷ EndShown 1 ∷ EndShown 0 ∷ []
 menus_entries = refl
 
-menus_facts : facts_at menus 0 ≡ fact kind.Bool None (cond (sym 4 ∷ sym 7 ∷ []) None ∷ []) (cond (sym 4 ∷ sym 7 ∷ sym 2 ∷ sym 3 ∷ sym 5 ∷ sym 8 ∷ []) None ∷ [])
-    (given (txt (codes "y")) (cond (sym 4 ∷ sym 7 ∷ sym 9 ∷ []) None) ∷ []) []
+menus_facts : facts_at menus 6 ≡ fact kind.Bool None (cond (sym 2 ∷ sym 5 ∷ []) None ∷ []) (cond (sym 2 ∷ sym 5 ∷ sym 0 ∷ sym 1 ∷ sym 3 ∷ sym 7 ∷ []) None ∷ [])
+    (given (txt (codes "y")) (cond (sym 2 ∷ sym 5 ∷ sym 8 ∷ []) None) ∷ []) []
 menus_facts = refl
 
 -- the last of several prompts of one entry counts
@@ -399,7 +407,7 @@ prompts = ConfigLine (codes "A") ∷ TypeLine kind.Bool (Some (asked (codes "a")
     PromptLine (asked (codes "b") (Some (word (codes "Y")))) ∷ PromptLine (asked (codes "c") None) ∷ ConfigLine (codes "A") ∷
     PromptLine (asked (codes "d") (Some (word (codes "Z")))) ∷ []
 
-prompts_facts : facts_at prompts 0 ≡ fact kind.Bool None (always ∷ always ∷ []) (always ∷ cond (sym 4 ∷ []) None ∷ []) [] []
+prompts_facts : facts_at prompts 0 ≡ fact kind.Bool None (always ∷ always ∷ []) (always ∷ cond (sym 3 ∷ []) None ∷ []) [] []
 prompts_facts = refl
 
 prompts_warnings : warnings_of prompts ≡ codes "Kconfig:3: warning K2: prompt of A redefined, the last is kept" ∷ codes "Kconfig:4: warning K2: prompt of A redefined, the last is kept" ∷ []
@@ -417,11 +425,11 @@ choice_prompts_warnings = refl
 
 -- the choice's dependencies count in its prompt and defaults, and for its members by its mode alone
 choice_prompts_choices : choices (numbered_of choice_prompts)
-    ≡ record { prompt = Some (cond (sym 4 ∷ sym 2 ∷ []) None); defaults = by 0 (cond (sym 4 ∷ sym 3 ∷ []) None) ∷ []; members = symbol 0 ∷ [] } ∷ []
+    ≡ record { prompt = Some (cond (sym 3 ∷ sym 0 ∷ []) None); defaults = by 1 (cond (sym 3 ∷ sym 2 ∷ []) None) ∷ []; members = symbol 1 ∷ [] } ∷ []
 choice_prompts_choices = refl
 
 -- a member without a type is bool, and has no K3
-choice_prompts_facts : facts_at choice_prompts 0 ≡ fact kind.Bool (Some 0) (mode_0 ∷ []) [] [] []
+choice_prompts_facts : facts_at choice_prompts 1 ≡ fact kind.Bool (Some 0) (mode_0 ∷ []) [] [] []
 choice_prompts_facts = refl
 
 -- two choices, an `if` that encloses a member; a member that selects; a member is no target
@@ -430,17 +438,17 @@ two_choices = ChoiceLine ∷ ConfigLine (codes "A") ∷ SelectLine (codes "D") N
     PromptLine (asked (codes "c") None) ∷ IfLine (word (codes "Y")) ∷ ConfigLine (codes "B") ∷ ImplyLine (codes "A") None ∷ EndIfLine ∷ EndChoiceLine ∷
     EndIfLine ∷ ConfigLine (codes "D") ∷ TypeLine kind.Bool None ∷ []
 
-two_choices_b : facts_at two_choices 1 ≡ fact kind.Bool (Some 1) (cond (sym 4 ∷ sym 5 ∷ []) (Some 1) ∷ []) [] [] []
+two_choices_b : facts_at two_choices 4 ≡ fact kind.Bool (Some 1) (cond (sym 2 ∷ sym 3 ∷ []) (Some 1) ∷ []) [] [] []
 two_choices_b = refl
 
 two_choices_a : facts_at two_choices 0 ≡ fact kind.Bool (Some 0) (mode_0 ∷ []) [] [] []
 two_choices_a = refl
 
-two_choices_d : facts_at two_choices 2 ≡ fact kind.Bool None (always ∷ []) [] [] (by 0 mode_0 ∷ [])
+two_choices_d : facts_at two_choices 1 ≡ fact kind.Bool None (always ∷ []) [] [] (by 0 mode_0 ∷ [])
 two_choices_d = refl
 
 two_choices_choices : choices (numbered_of two_choices) ≡ record { prompt = None; defaults = []; members = symbol 0 ∷ [] } ∷
-    record { prompt = Some (cond (sym 4 ∷ []) None); defaults = []; members = symbol 1 ∷ [] } ∷ []
+    record { prompt = Some (cond (sym 2 ∷ []) None); defaults = []; members = symbol 4 ∷ [] } ∷ []
 two_choices_choices = refl
 
 two_choices_warnings : warnings_of two_choices ≡ codes "Kconfig:10: warning K6: A is a choice member, the imply has no effect" ∷ []
@@ -485,12 +493,12 @@ compound_default = refl
 
 -- m is m in a default's value, also where it is one of several parts, and with the modules symbol in its condition
 m_in_default : facts_at (ConfigLine (codes "A") ∷ TypeLine kind.Tristate None ∷ DefaultLine (both (codes "m") (codes "B")) (Some (word (codes "m"))) ∷ [])
-    0 ≡ fact kind.Tristate None (always ∷ []) [] (given (Every (MoreForms (txt (codes "m")) (MoreForms (sym 2) NoForms))) (cond (PlainM ∷ []) None) ∷ []) []
+    0 ≡ fact kind.Tristate None (always ∷ []) [] (given (Every (MoreForms (txt (codes "m")) (MoreForms (sym 1) NoForms))) (cond (PlainM ∷ []) None) ∷ []) []
 m_in_default = refl
 
 -- a side of a relation is m alone; `!` takes the whole relation
 m_in_relation : facts_at (ConfigLine (codes "A") ∷ DependsLine (whole (bang (compare op.Eq (WordAtom (codes "B")) (WordAtom (codes "m"))))) ∷ [])
-    0 ≡ fact kind.Undefined None (cond (Negated (Related op.Eq (Symbol (symbol 2)) (Text (codes "m"))) ∷ []) None ∷ []) [] [] []
+    0 ≡ fact kind.Undefined None (cond (Negated (Related op.Eq (Symbol (symbol 1)) (Text (codes "m"))) ∷ []) None ∷ []) [] [] []
 m_in_relation = refl
 
 -- A second prompt is counted within one definition alone.
@@ -548,11 +556,11 @@ relations = ConfigLine (codes "I") ∷ TypeLine kind.Int None ∷ DefaultLine (w
     DefLine kind.Bool (whole (compare op.Gt (WordAtom (codes "I")) (WordAtom (codes "9")))) None ∷ ConfigLine (codes "B") ∷
     DefLine kind.Bool (whole (compare op.Lt (QuotedAtom (codes "10")) (QuotedAtom (codes "9")))) None ∷ []
 
-relations_names : names_of relations ≡ codes "I" ∷ codes "A" ∷ codes "B" ∷ modules_word ∷ codes "10" ∷ codes "9" ∷ []
+relations_names : names_of relations ≡ codes "I" ∷ codes "10" ∷ codes "A" ∷ codes "9" ∷ codes "B" ∷ []
 relations_names = refl
 
-relations_symbols : facts_at relations 1 ≡ fact kind.Bool None (always ∷ []) [] (given (Related op.Gt (Symbol (symbol 0)) (Symbol (symbol 5))) always ∷ []) []
+relations_symbols : facts_at relations 2 ≡ fact kind.Bool None (always ∷ []) [] (given (Related op.Gt (Symbol (symbol 0)) (Symbol (symbol 3))) always ∷ []) []
 relations_symbols = refl
 
-relations_quoted : facts_at relations 2 ≡ fact kind.Bool None (always ∷ []) [] (given (Related op.Lt (Text (codes "10")) (Text (codes "9"))) always ∷ []) []
+relations_quoted : facts_at relations 4 ≡ fact kind.Bool None (always ∷ []) [] (given (Related op.Lt (Text (codes "10")) (Text (codes "9"))) always ∷ []) []
 relations_quoted = refl

@@ -1,15 +1,14 @@
 -- The texts of a tree are those of the expanded list.
 use Rattle.std.proofs.Common.{◌≡◌, ℕ, suc, Bool, true, false, ◌==◌, if◌then◌else◌, List, [], ◌∷◌, ◌++◌, length, drop, map, Option, Some, None, refl, ap, subst, arith, codes}
 use Rattle.std.specs.Prelude.{All}
-use Rattle.std.specs.List.{before_first, slice_get, list_any, filter_map, flat_map, position_or_len, prefix_len}
+use Rattle.std.specs.List.{slice_get, list_any, filter_map, flat_map, prefix_len}
 use Rattle.std.specs.Option.{option_map, unwrap_or, IfSome}
 use Rattle.std.proofs.lemmas.List.Elements.{All-nil, All-cons, All-head, All-tail, All-append, All-push, All-take, All-drop, All-map, All-contains, All-from_recursion}
 use Rattle.kc_expr.specs.declared.expression.SymId.{SymId}
 use Rattle.kc_expr.specs.Form.{Form}
 use Rattle.kc_expr.specs.Names.{all_mentioned, mention, number_of, same_name, symbol}
-use Rattle.kc_read.specs.Blocks.{attributes, definitions, is_attribute, is_modules, last_of, modules_of, defined_name, numbers}
-use Rattle.kc_read.specs.Expansion.{defined}
-use Rattle.kc_read.specs.Numbering.{leading_names, modules_id, modules_name, names_of, numbered_lines, located_numbered}
+use Rattle.kc_read.specs.Blocks.{attributes, is_attribute, last_of, numbers}
+use Rattle.kc_read.specs.Numbering.{names_of, numbered_lines, located_numbered}
 use Rattle.kc_read.specs.Statements.{Named, Numbered, Located, ConfigLine, CommentLine, MenuLine, EndMenuLine, MainMenuLine, DefaultLine, DefLine, numbered, names_in_statement, statements}
 use Rattle.kc_tree.specs.TreeFacts.{TreeFacts, SymbolFacts, Guarded, Shown, SymbolShown, MenuShown, EndShown, CommentShown, HasLineTexts, IsLineText, IsLineForm, OfTitle}
 use Rattle.kc_build.specs.Facts.{StatedDefault, guarded_default, defaults_at, definitions_of, dependency, shown_at, shown_number, stated_default, is_first_definition, enclosing_block, indices, shown_when, symbol_facts, title_of}
@@ -34,48 +33,18 @@ statement_names : (ss : List Named) → All IsInLines ss → All IsLineText (fla
 statement_names [] h = All-nil IsLineText
 statement_names (s ∷ ss) h = All-append IsLineText (names_in_statement s) (flat_map names_in_statement ss) (All-head IsInLines s ss h).names (statement_names ss (All-tail IsInLines s ss h))
 
-name_line : (s : Named) (n : List ℕ) → IsInLines s → defined_name s ≡ Some n → IsLineText n
-name_line (ConfigLine m) n h e = let same : m ≡ n = cc in subst IsLineText same (All-head IsLineText m [] h.names)
-name_line _ n h e = absurd cc
-
-definition_names : (ss : List Named) → All IsInLines ss → All IsLineText (definitions ss)
-definition_names [] h = All-nil IsLineText
-definition_names (s ∷ ss) h =
-    All-cons_option IsLineText (defined_name s) (definitions ss) (λ n e. name_line s n (All-head IsInLines s ss h) e) (definition_names ss (All-tail IsInLines s ss h))
-
 -- a plain text, byte by byte
-modules_word : IsLineText (codes "MODULES")
-modules_word =
-    let long : length (codes "MODULES") ≡ 7 = refl in
-    record { within = omega arith; one_line = All-from_recursion (λ b. (b == 10) ≡ false) (codes "MODULES") (refl, (refl, (refl, (refl, (refl, (refl, (refl, tt))))))) }
-
 main_menu_words : IsLineText (codes "Main menu")
 main_menu_words =
     let long : length (codes "Main menu") ≡ 9 = refl in
     record { within = omega arith; one_line = All-from_recursion (λ b. (b == 10) ≡ false) (codes "Main menu") (refl, (refl, (refl, (refl, (refl, (refl, (refl, (refl, (refl, tt))))))))) }
-
-last_in : (ns : List (List ℕ)) → All IsLineText ns → IfSome (last_of ns) IsLineText
-last_in [] h = tt
-last_in (n ∷ []) h = All-head IsLineText n [] h
-last_in (n ∷ m ∷ ns) h = last_in (m ∷ ns) (All-tail IsLineText n (m ∷ ns) h)
-
-modules_line : (ss : List Named) → All IsInLines ss → IfSome (modules_of ss) IsLineText
-modules_line ss h = by (list_any is_modules ss)
-  where
-    by : (b : Bool) → IfSome (if b then last_of (definitions (before_first is_modules ss)) else None) IsLineText
-    by true = last_in (definitions (before_first is_modules ss)) (definition_names (before_first is_modules ss) (All-take IsInLines (position_or_len is_modules ss) ss h))
-    by false = tt
 
 unless_named : (o : Option (List ℕ)) (d : List ℕ) → IfSome o IsLineText → IsLineText d → IsLineText (unwrap_or o d)
 unless_named None d h k = k
 unless_named (Some n) d h k = h
 
 name_lines : (ss : List Named) → All IsInLines ss → All IsLineText (names_of ss)
-name_lines ss h =
-    let first : All IsLineText (defined ss) = mentioned_all [] (definitions ss) (All-nil IsLineText) (definition_names ss h) in
-    let modules : IsLineText (modules_name ss) = unless_named (modules_of ss) (codes "MODULES") (modules_line ss h) modules_word in
-    mentioned_all (leading_names ss) (flat_map names_in_statement ss)
-    (mentioned_all (defined ss) (modules_name ss ∷ []) first (All-cons IsLineText (modules_name ss) [] modules (All-nil IsLineText))) (statement_names ss h)
+name_lines ss h = mentioned_all [] (flat_map names_in_statement ss) (All-nil IsLineText) (statement_names ss h)
 
 -- The numbered statements.
 abbrev IsLineNumbered : Numbered → Type 0
@@ -169,7 +138,7 @@ module _ (ls : List (Located Named)) (lines : All IsInLines (statements ls)) whe
   line_statements = map (λ l. l.statement) (numbered_lines ls)
 
   abbrev whole : TreeFacts
-  whole = facts_with (names_of (statements ls)) (length (defined (statements ls))) (modules_id (statements ls)) (numbered_lines ls)
+  whole = facts_with (names_of (statements ls)) (numbered_lines ls)
 
   all_numbered : (number : List ℕ → ℕ) (rest : List (Located Named)) → All IsInLines (statements rest) →
       All IsLineNumbered (map (λ l. numbered number l.statement) rest)
@@ -186,7 +155,6 @@ module _ (ls : List (Located Named)) (lines : All IsInLines (statements ls)) whe
 
   all_texts : All IsLineNumbered line_statements
   all_texts =
-      let modules = Some (modules_id (statements ls)) in
       let number = number_of (names_of (statements ls)) in
       subst (All IsLineNumbered) (numbered_is number ls) (all_numbered number ls lines)
 
@@ -197,6 +165,6 @@ module _ (ls : List (Located Named)) (lines : All IsInLines (statements ls)) whe
     names = λ i name h. All-at IsLineText (names_of (statements ls)) i name (name_lines (statements ls) lines) h;
     defaults = λ i f h g c.
         let each = All-map_each (λ (f : SymbolFacts). All (λ (g : Guarded Form). IsLineForm g.what) f.defaults) (λ i. symbol_facts line_statements (symbol i))
-        (λ i. default_lines line_statements all_texts (symbol i)) (numbers (length (defined (statements ls)))) in
+        (λ i. default_lines line_statements all_texts (symbol i)) (numbers (length (names_of (statements ls)))) in
         All-contains (λ (g : Guarded Form). IsLineForm g.what) f.defaults g (All-at (λ (f : SymbolFacts). All (λ (g : Guarded Form). IsLineForm g.what) f.defaults) whole.symbols i f each h) c;
   }

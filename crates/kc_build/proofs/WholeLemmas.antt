@@ -1,15 +1,17 @@
 -- What holds of every tree.
-use Rattle.std.proofs.Common.{◌≡◌, ℕ, zero, suc, ◌+◌, ◌<◌, nat_lt, nat_le, Bool, true, false, ◌&&◌, ◌||◌, if◌then◌else◌, List, [], ◌∷◌, ◌++◌, length, map, Option, Some, None, Ok, refl, ap, sym, ◌∙◌, subst, arith, length-append}
-use Rattle.std.specs.Prelude.{All}
+use Rattle.std.proofs.Common.{◌≡◌, ◌≢◌, ℕ, zero, suc, ◌<◌, nat_le, get_or, Bool, true, false, ◌&&◌, ◌||◌, if◌then◌else◌, List, [], ◌∷◌, ◌++◌, length, map, Option, Some, None, Ok, refl, ap, sym, ◌∙◌, subst, arith}
+use Rattle.std.specs.Prelude.{All, Contains}
 use Rattle.std.specs.List.{slice_get, list_any, list_all, flat_map, AllByRecursion, IsDistinct}
 use Rattle.std.specs.Option.{option_map}
 use Rattle.std.proofs.lemmas.Bool.Decides.{nat_tests}
-use Rattle.std.proofs.lemmas.List.Elements.{All-nil, All-cons, All-head, All-from_recursion, filter_passes}
-use Rattle.std.proofs.lemmas.Option.{slice_get-map}
+use Rattle.std.proofs.lemmas.List.Elements.{All-nil, All-cons, All-head, All-from_recursion, Contains-get_or, filter_passes}
+use Rattle.std.proofs.lemmas.Option.{slice_get-map, slice_get_within}
 use Rattle.kc_expr.specs.declared.expression.SymId.{SymId}
-use Rattle.kc_expr.specs.Names.{AreDistinct, same_name, symbol}
+use Rattle.kc_expr.specs.Names.{AreDistinct, number_of, same_name, symbol}
+use Rattle.kc_expr.specs.Order.{stands_in}
 use Rattle.kc_expr.specs.Grammar.{if_word, is_tristate_constant}
 use Rattle.kc_expr.proofs.NamesLemmas.{same_name-refl}
+use Rattle.kc_expr.specs.declared.expression.Kind.TheVariants as kind
 use Rattle.kc_read.specs.declared.refusal.Code.{Code}
 use Rattle.kc_read.specs.declared.refusal.Code.TheVariants as code
 use Rattle.kc_read.specs.declared.statement.Block.TheVariants as block
@@ -17,25 +19,27 @@ use Rattle.kc_read.specs.Files.{Files}
 use Rattle.kc_read.specs.Expansion.{Expands, Log, Refused, refused, defined}
 use Rattle.kc_expr.specs.Names.{is_name_byte}
 use Rattle.kc_read.specs.Lines.{is_good_name}
-use Rattle.kc_read.specs.Numbering.{names_of, modules_id, numbered_lines}
+use Rattle.kc_read.specs.Blocks.{definitions}
+use Rattle.kc_read.specs.Numbering.{names_of, numbered_lines}
+use Rattle.kc_read.proofs.NameLemmas.{known_at}
 use Rattle.kc_read.specs.Statements.{Named, Numbered, Located, statements}
-use Rattle.kc_tree.specs.TreeFacts.{Condition, EndShown, MenuShown, TreeFacts, IsSymbolName, IsWellFormed}
+use Rattle.kc_tree.specs.TreeFacts.{Condition, EndShown, MenuShown, SymbolFacts, TreeFacts, IsMentioned, IsSymbolName, IsWellFormed}
 use Rattle.kc_tree.specs.Common.{listed}
 use Rattle.kc_build.specs.Facts.{entries, enclosing_choice, choice_of, kind_of, of_block, symbol_facts, indices}
-use Rattle.kc_build.specs.Trees.{facts_with}
+use Rattle.kc_build.specs.Trees.{facts_with, modules_symbol, symbol_if}
 use Rattle.kc_build.specs.FirstDefinitions.{is_first_definition_at}
 use Rattle.kc_build.specs.Warnings.{bad_members, bad_defaults, is_bad_member, entry_name, whole_list_refusals, menu_entry_at, entry_symbol, refused_at}
 use Rattle.kc_build.proofs.DefinedLemmas.{AreNames}
-use Rattle.kc_build.proofs.ElementLemmas.{All-at}
+use Rattle.kc_build.proofs.ElementLemmas.{All-at, found_is}
 use Rattle.kc_build.proofs.EntrySoundLemmas.{entries_sound}
-use Rattle.kc_build.proofs.FormedLemmas.{all_sound, defined_if}
-use Rattle.kc_build.proofs.GrownLemmas.{get_front}
+use Rattle.kc_build.proofs.FormedLemmas.{all_sound, facts_at, mentioned_if}
 use Rattle.kc_build.proofs.MemberSoundLemmas.{all_listed, choices_sound}
-use Rattle.kc_build.proofs.NumberingLemmas.{names_extend, numbered_below}
+use Rattle.kc_build.proofs.NumberingLemmas.{as_many_defined, config_of, defined_at, mentioned_known, numbered_below}
 use Rattle.kc_build.proofs.ShapeLemmas.{choices_alone, ends_name_menus}
 use Rattle.kc_build.proofs.PlaceLemmas.{length-map_numbers}
 use Rattle.kc_build.proofs.ReadTextLemmas.{IsInLines, expanded_lines}
 use Rattle.kc_build.proofs.ShownLemmas.{shows_each}
+use Rattle.kc_build.proofs.SymbolListLemmas.{defined-once, defined_line, prompted_is_defined, typed_is_defined}
 use Rattle.kc_build.proofs.TreeTextLemmas.{line_texts}
 
 -- Names that differ stand at one place each.
@@ -121,13 +125,13 @@ module _ (names : List (List ℕ)) (ls : List (Located Numbered)) where
   pub none_bad : whole_list_refusals names ls ≡ [] → bad_members numbered ≡ []
   none_bad h = none_by (bad_members numbered) (flat_map (refused_at names ls code.BadDefault) (bad_defaults numbered)) refl h
 
-modules_below : (s : SymId) (count : ℕ) (b : Bool) (t : SymId) → nat_lt s.0 count ≡ b → (if b then Some s else None) ≡ Some t → t.0 < count
-modules_below s count false t e h = absurd cc
-modules_below s count true t e h =
-    let same : s ≡ t = cc in
-    let n : s.0 ≡ t.0 = ap (λ (u : SymId). u.0) same in
-    let l : s.0 < count = grind (arith, nat_tests) in
-    omega arith
+modules_by : (defined : List SymId) (modules : Option SymId) (s : SymId) → symbol_if (stands_in defined) modules ≡ Some s → Contains defined s
+modules_by defined None s h = absurd cc
+modules_by defined (Some m) s h = by (stands_in defined m) refl h
+  where
+    by : (b : Bool) → stands_in defined m ≡ b → (if b then Some m else None) ≡ Some s → Contains defined s
+    by false e f = absurd cc
+    by true e f = let same : m ≡ s = cc in subst (Contains defined) same (found_is m defined e)
 
 -- What the shape of the expanded list gives: its texts stand in lines, a choice stands in no choice, and the end of a menu
 -- names that menu.
@@ -145,41 +149,69 @@ shaped files root log e = record {
 }
 
 module _ (ls : List (Located Named)) where
+  abbrev names : List (List ℕ)
+  names = names_of (statements ls)
+
+  abbrev line_statements : List Numbered
+  line_statements = statements (numbered_lines ls)
+
   abbrev whole : TreeFacts
-  whole = facts_with (names_of (statements ls)) (length (defined (statements ls))) (modules_id (statements ls)) (numbered_lines ls)
+  whole = facts_with names (numbered_lines ls)
 
-  abbrev count_is : length whole.symbols ≡ length (defined (statements ls))
-  count_is = length-map_numbers (λ i. symbol_facts (map (λ l. l.statement) (numbered_lines ls)) (symbol i)) (length (defined (statements ls)))
+  abbrev count_is : length whole.symbols ≡ length names
+  count_is = length-map_numbers (λ i. symbol_facts line_statements (symbol i)) (length names)
 
-  allowed : AreNames (defined (statements ls)) → (i : ℕ) (name : List ℕ) → i < length whole.symbols → slice_get whole.names i ≡ Some name → IsSymbolName name
-  allowed k i name l h =
-      let n = count_is in
-      let b : i < length (defined (statements ls)) = omega arith in
-      let x = names_extend (statements ls) in
-      let first : slice_get (defined (statements ls)) i ≡ Some name = sym (ap (λ (ns : List (List ℕ)). slice_get ns i) x.1 ∙ get_front (defined (statements ls)) x.0 i b) ∙ h in
-      good_is name (All-at (λ m. is_good_name m ≡ true) (defined (statements ls)) i name k.good first)
+  -- a name that a line defines is one that a symbol may have
+  good_name : AreNames (defined (statements ls)) → (n : List ℕ) → list_any (same_name n) (definitions (statements ls)) ≡ true → IsSymbolName n
+  good_name known n h =
+      let there = known_at (defined (statements ls)) n (mentioned_known [] (definitions (statements ls)) n h) in
+      good_is n (All-at (λ m. is_good_name m ≡ true) (defined (statements ls)) (number_of (defined (statements ls)) n) n known.good there)
 
-  pub well_formed : AreNames (defined (statements ls)) → AreDistinct (names_of (statements ls)) → IsShaped ls →
-      whole_list_refusals (names_of (statements ls)) (numbered_lines ls) ≡ [] → IsWellFormed whole
+  allowed : AreNames (defined (statements ls)) → (s : SymId) (name : List ℕ) → Contains whole.defined s → slice_get whole.names s.0 ≡ Some name → IsSymbolName name
+  allowed known s name c h =
+      let l = defined_line line_statements s c in
+      let config = config_of ls l.place s l.at in
+      let there : slice_get names s.0 ≡ Some config.name = ap (λ (t : SymId). slice_get names t.0) config.is ∙ known_at names config.name config.known in
+      let same : config.name ≡ name = (let e : Some config.name ≡ Some name = sym there ∙ h in cc) in
+      subst IsSymbolName same (good_name known config.name (defined_at (statements ls) l.place config.line config.name config.at config.defines))
+
+  there : (s : SymId) → Contains whole.defined s → IsMentioned whole s
+  there s c = let l = defined_line line_statements s c in mentioned_if names (numbered_lines ls) s (numbered_below ls l.place s l.at)
+
+  all_there : All (IsMentioned whole) whole.defined
+  all_there i d l = there (get_or whole.defined i d) (Contains-get_or whole.defined i d l)
+
+  facts_are : (s : SymId) (f : SymbolFacts) → slice_get whole.symbols s.0 ≡ Some f → symbol_facts line_statements s ≡ f
+  facts_are s f h =
+      let within : s.0 < length names = (let l = slice_get_within whole.symbols s.0 f h in let n = count_is in omega arith) in
+      (let e = sym (facts_at names (numbered_lines ls) s.0 within) ∙ h in cc)
+
+  typed : (s : SymId) (f : SymbolFacts) → slice_get whole.symbols s.0 ≡ Some f → f.kind ≢ kind.Undefined → Contains whole.defined s
+  typed s f h k = typed_is_defined line_statements s (λ e. k (sym (ap (λ (g : SymbolFacts). g.kind) (facts_are s f h)) ∙ e))
+
+  prompted : (s : SymId) (f : SymbolFacts) → slice_get whole.symbols s.0 ≡ Some f → 0 < length f.prompts → Contains whole.defined s
+  prompted s f h l = prompted_is_defined line_statements s (let n = ap (λ (g : SymbolFacts). length g.prompts) (facts_are s f h) in omega (arith, n, l))
+
+  pub well_formed : AreNames (defined (statements ls)) → AreDistinct names → IsShaped ls → whole_list_refusals names (numbered_lines ls) ≡ [] → IsWellFormed whole
   well_formed known distinct shaped none =
-      let n = count_is in
       let few = known.few in
-      let x = names_extend (statements ls) in
-      let long : length (names_of (statements ls)) ≡ length (defined (statements ls)) + length x.0 = ap (λ (ns : List (List ℕ)). length ns) x.1 ∙ length-append (defined (statements ls)) x.0 in
+      let many = as_many_defined ls in
       let below = numbered_below ls in
-      let good = none_bad (names_of (statements ls)) (numbered_lines ls) none in
+      let good = none_bad names (numbered_lines ls) none in
       record {
-        names_differ = names_differ (names_of (statements ls)) distinct;
-        symbols_named = omega arith;
+        names_differ = names_differ names distinct;
+        symbols_named = count_is;
         names_allowed = allowed known;
         symbols_few = omega arith;
-        lines_sound = all_sound (names_of (statements ls)) (length (defined (statements ls))) (modules_id (statements ls)) (numbered_lines ls) below;
-        members_listed = all_listed (names_of (statements ls)) (length (defined (statements ls))) (modules_id (statements ls)) (numbered_lines ls) below good;
-        choices_sound = choices_sound (names_of (statements ls)) (length (defined (statements ls))) (modules_id (statements ls)) (numbered_lines ls) below good shaped.alone;
-        entries_sound = entries_sound (names_of (statements ls)) (length (defined (statements ls))) (modules_id (statements ls)) (numbered_lines ls) below shaped.ends;
-        symbols_shown = shows_each ls (names_differ (names_of (statements ls)) distinct);
-        modules_defined = λ s h. defined_if (names_of (statements ls)) (length (defined (statements ls))) (modules_id (statements ls)) (numbered_lines ls) s
-            (modules_below (modules_id (statements ls)) (length (defined (statements ls)))
-            (nat_lt (modules_id (statements ls)).0 (length (defined (statements ls)))) s refl h);
+        defined_once = defined-once line_statements;
+        defined_there = all_there;
+        typed_defined = typed;
+        prompted_defined = prompted;
+        lines_sound = all_sound names (numbered_lines ls) below;
+        members_listed = all_listed names (numbered_lines ls) below good;
+        choices_sound = choices_sound names (numbered_lines ls) below good shaped.alone;
+        entries_sound = entries_sound names (numbered_lines ls) shaped.ends;
+        symbols_shown = shows_each names (numbered_lines ls);
+        modules_defined = modules_by whole.defined (modules_symbol names line_statements);
         texts = line_texts ls shaped.lines;
       }

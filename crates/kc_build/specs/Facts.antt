@@ -10,6 +10,7 @@ use Rattle.kc_read.specs.declared.statement.Block.{Block}
 use Rattle.kc_read.specs.declared.statement.Block.TheVariants as block
 use Rattle.kc_read.specs.Statements.{Numbered, InputPrompt, ConfigLine, IfLine, CommentLine, MenuLine, EndMenuLine, MainMenuLine, TypeLine, PromptLine, DefaultLine, DefLine, DependsLine, VisibleLine, SelectLine, ImplyLine, RangeLine}
 use Rattle.kc_expr.specs.Names.{same_symbol}
+use Rattle.kc_expr.specs.Order.{added}
 use Rattle.kc_tree.specs.Common.{listed, is_symbol_of}
 use Rattle.kc_tree.specs.TreeFacts.{Condition, Guarded, Bounds, SymbolFacts, ChoiceFacts, Shown, SymbolShown, MenuShown, EndShown, CommentShown}
 use Rattle.kc_read.specs.Blocks.{numbers, last_of, enclosing, attributes, definitions, bracket_at, opened}
@@ -53,6 +54,15 @@ abbrev pub stated_default : Numbered → Option StatedDefault
 stated_default (DefaultLine v w) = Some (record { value = v; when = w })
 stated_default (DefLine k v w) = Some (record { value = v; when = w })
 stated_default _ = None
+
+-- the symbols once these are added, one after another, each once
+abbrev pub all_added : List SymId → List SymId → List SymId
+all_added ids [] = ids
+all_added ids (s ∷ ss) = all_added (added ids s) ss
+
+-- the defined symbols, in the order of their first definition
+abbrev pub defined_symbols : List Numbered → List SymId
+defined_symbols ss = all_added [] (definitions ss)
 
 abbrev pub symbol_of : Option Numbered → Option SymId
 symbol_of (Some (ConfigLine s)) = Some s

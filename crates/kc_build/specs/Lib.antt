@@ -7,10 +7,10 @@ pub mod FirstDefinitions
 pub mod Growth
 pub mod SymbolRows
 pub mod WholeListRefusals
-pub mod Numberings
+pub mod Limits
+pub mod Listings
 pub mod Odd
 pub mod Passes
-pub mod Renamings
 pub mod ReverseRows
 pub mod Scopes
 pub mod WalkResult

@@ -1,19 +1,21 @@
 //! The tree of a root file.
 
-ghost use Rattle.std.specs.Prelude.{◌≡◌, ◌≢◌, ◌<◌, ◌≤◌, ◌+◌, ◌*◌, ◌^◌, ℕ, List, length, map, nat_lt, if◌then◌else◌, IfOk, IfErr, Ok, Err, Some, None};
-ghost use Rattle.kc_expr.specs.Limits.{most_symbols};
+ghost use Rattle.std.specs.Prelude.{◌≡◌, ◌≢◌, ◌<◌, ◌≤◌, ◌+◌, ◌*◌, ◌^◌, ℕ, List, length, map, IfOk, IfErr, OnOk, Ok, Err};
+ghost use Rattle.kc_expr.specs.Order.{stands_in};
 ghost use Rattle.kc_read.specs.Files.{Files, bytes_in};
 ghost use Rattle.kc_read.specs.RefusalView.{IsMemory, refusal_view};
 ghost use Rattle.kc_read.specs.StatementViews.{line_view};
 ghost use Rattle.kc_read.specs.declared.refusal.Code.TheVariants.{Memory};
-ghost use Rattle.kc_build.specs.Numberings.{IsListingOf};
+ghost use Rattle.kc_build.specs.Facts.{defined_symbols};
+ghost use Rattle.kc_build.specs.Limits.{most_names};
+ghost use Rattle.kc_build.specs.Listings.{IsListingOf};
 ghost use Rattle.kc_build.specs.PartsView.{parts_view};
 ghost use Rattle.kc_build.specs.Passes.{statements_of};
 ghost use Rattle.kc_build.specs.SymbolRows.{AreBelow, AreChoicesApart, AreMenusOpened, AreTypesDefined};
-ghost use Rattle.kc_build.specs.Trees.{IsTreeOf, tree_with};
+ghost use Rattle.kc_build.specs.Trees.{IsTreeOf, modules_symbol, symbol_if, tree_with};
 
 use crate::entries::{WalkResult, walk_entries};
-use crate::numbering::{Listing, read_listing};
+use crate::listing::{Listing, read_listing};
 use crate::symbols::symbols;
 use kc_expr::expression::SymId;
 use kc_expr::names::Names;
@@ -24,44 +26,72 @@ use kc_tree::layout::{Layout, TreeParts};
 use kc_tree::tree::Tree;
 use std::alloc::{AllocError, Global};
 
-// The symbol, where it is one of the defined ones.
-fn defined(symbol: SymId, count: usize) -> Option<SymId>
-    ensures { result ≡ (if nat_lt symbol.0 count then Some symbol else None) }
+// The most names that a tree may mention. So many take far more memory than a machine has.
+const MOST_NAMES: usize = 2147483648;
+
+// The symbol is one of these.
+fn is_one_of(symbols: &[SymId], id: SymId) -> bool
+    ensures { result ≡ stands_in symbols.now id }
 {
-    if symbol.0 < count { Some(symbol) } else { None }
+    symbols.iter().any(|s| id.0 == s.0)
 }
 
-// What the lines say, where the symbols that are defined are those below `count` and `modules` is the one that
-// stands for modules: the first refusal that the whole list shows, and where there is none all parts of the tree.
-// Its only error is to be out of memory.
+// The symbol, where there is one and it is defined.
+fn if_defined(defined: &[SymId], symbol: Option<SymId>) -> Option<SymId>
+    ensures { result ≡ symbol_if (stands_in defined.now) symbol }
+{
+    match symbol {
+        Some(id) if is_one_of(defined, id) => Some(id),
+        _ => None,
+    }
+}
+
+// Fails where there are more names than any table could have rows.
+fn check_names(count: usize) -> Result<(), AllocError>
+    ensures { OnOk result (count ≤ most_names) }
+{
+    if count <= MOST_NAMES {
+        Ok(())
+    } else {
+        Err(AllocError)
+    }
+}
+
+// What the lines say, which define these symbols, and where `modules` stands for modules, if it is one of them: the first
+// refusal that the whole list shows, and where there is none all parts of the tree. Its only error is to be out of memory.
 fn build_parts(
     alloc: Global,
     names: &Names,
     lines: &[Line],
-    count: usize,
-    modules: SymId,
+    defined: Vec<SymId>,
+    modules: Option<SymId>,
 ) -> Result<Result<TreeParts, Refusal>, AllocError>
-    requires below { AreBelow count (statements_of lines.now) }
+    requires below { AreBelow (length names.now) (statements_of lines.now) }
     requires types { AreTypesDefined (statements_of lines.now) }
     requires apart { AreChoicesApart (statements_of lines.now) }
     requires ends { AreMenusOpened (statements_of lines.now) }
-    requires defined { count ≤ most_symbols }
-    requires few { 4 * length lines.now + 8 < 2 ^ 32 }
-    ensures { IfOk result (λ s. parts_view names.now s ≡ tree_with names.now count modules (map line_view lines.now)) }
+    requires defined { defined.items ≡ defined_symbols (statements_of lines.now) }
+    requires modules { modules ≡ modules_symbol names.now (statements_of lines.now) }
+    requires few { 8 * length lines.now + 8 < 2 ^ 32 }
+    ensures { IfOk result (λ s. parts_view names.now s ≡ tree_with names.now (map line_view lines.now)) }
 {
+    let count = names.count();
+    check_names(count)?;
     let symbols = symbols(alloc, lines, count)?;
     let WalkResult {
         tables,
         main_menu,
         diagnostics,
-    } = walk_entries(alloc, names, lines, &symbols)?;
+    } = walk_entries(alloc, names, lines, &symbols, defined.len())?;
+    let modules = if_defined(&defined, modules);
     match diagnostics.into_warnings() {
         Err(refusal) => Ok(Err(refusal)),
         Ok(warnings) => Ok(Ok(TreeParts {
             layout: Layout {
                 symbols,
+                defined,
                 tables,
-                modules: defined(modules, count),
+                modules,
             },
             warnings,
             main_menu,
@@ -87,11 +117,11 @@ pub fn tree_of(alloc: Global, listing: Listing) -> Result<Tree, Refusal>
 {
     let Listing {
         names,
-        count,
+        defined,
         modules,
         lines,
     } = listing;
-    let outcome = match build_parts(alloc, &names, &lines, count, modules) {
+    let outcome = match build_parts(alloc, &names, &lines, defined, modules) {
         Ok(outcome) => outcome,
         Err(_) => return Err(Refusal::out_of_memory(alloc)),
     };

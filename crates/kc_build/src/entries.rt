@@ -314,12 +314,13 @@ pub(crate) struct WalkResult {
     pub diagnostics: Diagnostics,
 }
 
-/// What the lines say, entry by entry. The symbols are those of the first walk.
+/// What the lines say, entry by entry. The symbols are those of the first walk, of which about `count` are defined.
 pub(crate) fn walk_entries(
     alloc: Global,
     names: &Names,
     lines: &[Line],
     symbols: &[Symbol],
+    count: usize,
 ) -> Result<WalkResult, AllocError>
     requires symbols { AreSymbols (statements_of lines.now) symbols.now }
     requires below { AreBelow (length symbols.now) (statements_of lines.now) }
@@ -331,7 +332,7 @@ pub(crate) fn walk_entries(
     ensures diagnosed { IfOk result (λ s. IsDiagnosed names.now (map line_view lines.now) (length lines.now) s.diagnostics) }
 {
     let mut walk = EntryWalk {
-        tables: Tables::empty(alloc, symbols.len())?,
+        tables: Tables::empty(alloc, count, symbols.len())?,
         blocks: Blocks::new(alloc),
         main_menu: Vec::from_slice(alloc, b"Main menu")?,
     };

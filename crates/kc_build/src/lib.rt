@@ -9,11 +9,10 @@ mod diagnostics;
 mod entries;
 pub mod laws;
 mod lines;
-mod numbering;
-mod renaming;
+mod listing;
 mod reverse_lines;
 mod symbols;
 mod warning;
 
 pub use build::{build_tree, tree_of};
-pub use numbering::{Listing, RootReading, read_listing};
+pub use listing::{Listing, RootReading, read_listing};

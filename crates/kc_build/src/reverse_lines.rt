@@ -16,7 +16,7 @@ use kc_tree::rows::{DefinitionId, Reverse, ReverseId, Symbol};
 use std::alloc::AllocError;
 use std::rc::Rc;
 
-// Whether selecting or implying the symbol has an effect: it is defined, no choice's member, and its value is no text.
+// Whether selecting or implying the symbol has an effect: it is no choice's member, and its value is no text.
 fn is_target(symbols: &[Symbol], symbol: SymId) -> bool
     ensures { result ≡ can_be_target symbols.now symbol }
 {

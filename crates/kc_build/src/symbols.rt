@@ -128,7 +128,7 @@ fn give_member_types(symbols: &mut Vec<Symbol>)
     }
 }
 
-/// What the lines say of the first `count` symbols: their types, their choices and their definitions.
+/// What the lines say of the `count` symbols that they mention: their types, their choices and their definitions.
 pub(crate) fn symbols(
     alloc: Global,
     lines: &[Line],

@@ -1,5 +1,8 @@
 //! Orders and loops of graphs (kc_order): which loop is named, and the laws at a type.
 
+ghost use Rattle.std.specs.Prelude.{◌≡◌, ◌<◌, ◌^◌, map, IfOk};
+ghost use Rattle.std.specs.List.{range_with_len};
+
 use kc_order::{
     Graph, NoOrder, Order, accepted_have_one_solution, computing_solves, cycles_are_unordered,
     iterations_solve, minimal_has_nothing_to_spare, minimal_restores, named_loop_is_closed,
@@ -7,19 +10,42 @@ use kc_order::{
 };
 use std::alloc::{AllocError, Global};
 
-// An order, for a graph that may be asked for.
+// The numbers below this one.
+fn numbers(alloc: Global, count: usize) -> Result<Vec<u32>, AllocError>
+    requires { count < 2 ^ 32 }
+    ensures { IfOk result (λ v. v.items ≡ map (λ i. i) (range_with_len 0 count)) }
+{
+    let mut numbers = Vec::new(alloc);
+    for i in 0..count {
+        numbers.push(i as u32)?;
+    }
+    Ok(numbers)
+}
+
+// An order, for a graph that may be asked for, whose symbols count in the order of their numbers.
 fn order_if_within(alloc: Global, graph: Graph) -> Result<Order, NoOrder> {
     if graph.is_within() {
         if graph.count() < 1_000_000 {
-            return order_of(alloc, graph);
+            let sequence = numbers(alloc, graph.symbols())?;
+            return order_of(alloc, graph, &sequence);
         }
     }
     Err(NoOrder::Memory)
 }
 
-// The loop that is named of this graph, and nothing where there is an order.
-fn loop_of(alloc: Global, graph: Graph) -> Result<Vec<u32>, AllocError> {
-    match order_if_within(alloc, graph) {
+// The same of a graph of two symbols, of which the second counts first.
+fn order_of_two(alloc: Global, graph: Graph) -> Result<Order, NoOrder> {
+    if graph.is_within() {
+        if graph.count() < 1_000_000 && graph.symbols() == 2 {
+            return order_of(alloc, graph, &[1, 0]);
+        }
+    }
+    Err(NoOrder::Memory)
+}
+
+// The loop that is named, and nothing where there is an order.
+fn loop_of(alloc: Global, order: Result<Order, NoOrder>) -> Result<Vec<u32>, AllocError> {
+    match order {
         Ok(_order) => Ok(Vec::new(alloc)),
         Err(reason) => match reason {
             NoOrder::Loop(symbols) => Ok(symbols),
@@ -90,8 +116,8 @@ const LOOPS: &[LoopCase] = &[
     },
 ];
 
-fn has_loop(alloc: Global, graph: Graph, named: &[u32]) -> bool {
-    match loop_of(alloc, graph) {
+fn has_loop(alloc: Global, order: Result<Order, NoOrder>, named: &[u32]) -> bool {
+    match loop_of(alloc, order) {
         Ok(found) => found.as_slice() == named,
         Err(_) => false,
     }
@@ -99,7 +125,7 @@ fn has_loop(alloc: Global, graph: Graph, named: &[u32]) -> bool {
 
 fn has_named_loop(alloc: Global, case: &LoopCase) -> bool {
     match graph_from(alloc, case.symbols, case.needs) {
-        Ok(graph) => has_loop(alloc, graph, case.named),
+        Ok(graph) => has_loop(alloc, order_if_within(alloc, graph), case.named),
         Err(_) => false,
     }
 }
@@ -109,6 +135,19 @@ fn the_first_loop_is_named(rt: HostRuntime) {
     for case in LOOPS {
         assert!(rt; has_named_loop(rt.alloc(), case), "{}", case.name);
     }
+}
+
+// Two symbols that need themselves.
+fn names_the_second(alloc: Global) -> bool {
+    match graph_from(alloc, 2, &[&[0], &[1]]) {
+        Ok(graph) => has_loop(alloc, order_of_two(alloc, graph), &[1]),
+        Err(_) => false,
+    }
+}
+
+#[test]
+fn the_sequence_says_which_loop_is_the_first(rt: HostRuntime) {
+    assert!(rt; names_the_second(rt.alloc()));
 }
 
 fn has_counts(alloc: Global, symbols: usize, needs: &[&[u32]]) -> bool {

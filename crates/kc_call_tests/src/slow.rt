@@ -14,7 +14,7 @@ ghost use Rattle.kc_user.specs.GivenValue.{SymbolPlace};
 ghost use Rattle.kc_user.specs.Places.{ArePlacesOf, place_at};
 ghost use Rattle.kc_values.specs.Needs.{IsAccepted};
 ghost use Rattle.kc_values.specs.Selections.{given_for, member_given};
-ghost use Rattle.kc_values.specs.Solution.{equations, symbol_count};
+ghost use Rattle.kc_values.specs.Solution.{equations, name_count};
 ghost use Rattle.kc_values.specs.Table.{known_value};
 ghost use Rattle.kc_values.specs.Values.{by_choice, member_equation};
 
@@ -32,7 +32,7 @@ use kc_values::laws::accepted_have_one_solution;
 use kc_values::table::{Table, Value};
 use std::alloc::{AllocError, Global};
 
-// The row of a symbol that is defined.
+// The row of a symbol.
 fn symbol_row(layout: &Layout, id: SymId) -> &Symbol
     requires { id.0 < length layout.now.symbols.items }
     ensures { slice_get layout.now.symbols.items id.0 ≡ Some result.now }
@@ -59,9 +59,9 @@ fn first_value(alloc: Global, kind: Kind) -> Value
 
 // A table of n and empty texts.
 fn first_values(alloc: Global, tree: &Tree) -> Result<Vec<Option<Value>>, AllocError>
-    ensures { IfOk result (λ v. length v.items ≡ symbol_count tree.now) }
+    ensures { IfOk result (λ v. length v.items ≡ name_count tree.now) }
 {
-    let count = tree.symbol_count();
+    let count = tree.name_count();
     let mut values = Vec::with_capacity(alloc, count)?;
     for i in 0..count {
         let kind = symbol_row(tree.layout(), SymId(i)).kind;
@@ -78,7 +78,7 @@ fn first_table<'t>(
 ) -> Result<Table<'t>, AllocError>
     requires { IsLayoutOf tree.now layout.now }
     ensures tree { IfOk result (λ t. t.tree.now ≡ tree.now) }
-    ensures count { IfOk result (λ t. length t.values.items ≡ symbol_count tree.now) }
+    ensures count { IfOk result (λ t. length t.values.items ≡ name_count tree.now) }
     ensures unsettled { IfOk result (λ t. t.contexts.items ≡ replicate (length layout.now.tables.contexts) None) }
 {
     let mut table = Table::empty(alloc, tree, layout)?;
@@ -131,14 +131,14 @@ fn compute_anew(
     chosen: &[Option<SymId>],
 ) -> Result<(), AllocError>
     requires defined { id.0 < length table.old.values.items }
-    requires full { length table.old.values.items ≡ symbol_count table.old.tree.now }
+    requires full { length table.old.values.items ≡ name_count table.old.tree.now }
     requires given { length given.now ≡ length table.old.values.items }
     requires chosen { length chosen.now ≡ length table.old.tree.now.choices }
     requires unsettled { table.old.contexts.items ≡ replicate (length table.old.contexts.items) None }
     ensures { OnOk result (IsComputedSymbol given.now chosen.now id table.old table.new) }
 {
-    // A member's choice is one of the tree's: `symbol_count` says so.
-    let _count = table.tree.symbol_count();
+    // A member's choice is one of the tree's: `name_count` says so.
+    let _count = table.tree.name_count();
     let symbol = symbol_row(table.layout, id);
     let value = value_anew(alloc, table, id, symbol, given, chosen)?;
     table.values[id.0] = Some(value);
@@ -146,7 +146,7 @@ fn compute_anew(
 }
 
 /// The values that [`kc_solve::solve::solve`] finds, by the plainest way there is. In a table of n and empty texts
-/// every equation is computed anew, one symbol after another in the order of their first definitions, in as many iterations
+/// every equation is computed anew, one symbol after another in the order of their first mention, in as many iterations
 /// as there are symbols; the order is only asked that there is one (our own). The caller owes the layout, the order and the
 /// places of that tree. Fails only when it is out of memory.
 pub(crate) fn slow_table<'t>(
@@ -161,14 +161,14 @@ pub(crate) fn slow_table<'t>(
     requires user { ArePlacesOf tree.now user.now }
     ensures tree { IfOk result (λ t. t.tree.now ≡ tree.now) }
     ensures accepted { OnOk result (IsAccepted tree.now) }
-    ensures count { IfOk result (λ t. length t.values.items ≡ symbol_count tree.now) }
-    ensures solves { IfOk result (λ t. Solves (symbol_count tree.now) (equations tree.now (place_at user.now)) (valuation tree.now t.values.items)) }
-    ensures only { IfOk result (λ t. IsOnlySolution (symbol_count tree.now) (equations tree.now (place_at user.now)) (valuation tree.now t.values.items)) }
+    ensures count { IfOk result (λ t. length t.values.items ≡ name_count tree.now) }
+    ensures solves { IfOk result (λ t. Solves (name_count tree.now) (equations tree.now (place_at user.now)) (valuation tree.now t.values.items)) }
+    ensures only { IfOk result (λ t. IsOnlySolution (name_count tree.now) (equations tree.now (place_at user.now)) (valuation tree.now t.values.items)) }
 {
     accepted_have_one_solution();
     ordered_are_accepted();
     let _nodes = order.nodes();
-    let count = tree.symbol_count();
+    let count = tree.name_count();
     let given = user.symbols();
     let chosen = user.choices();
     let mut table = first_table(alloc, tree, layout)?;

@@ -100,8 +100,8 @@ pub(crate) fn lines_into(
     out: &mut Vec<u8>,
     lines: &mut Vec<Vec<u8>>,
 ) -> Result<(), AllocError> {
-    for i in 0..table.tree.symbol_count() {
-        symbol_line(alloc, table, user, SymId(i), out, lines)?;
+    for id in table.layout.defined() {
+        symbol_line(alloc, table, user, *id, out, lines)?;
     }
     for c in 0..choice_count(table.tree) {
         let choice = ChoiceId(c);

@@ -15,7 +15,7 @@ fn symbol_line(solved: &Solved<'_>, id: SymId, out: &mut Vec<u8>) -> Result<(), 
         value: solved.text(id),
         visibility: solved.visibility(id),
         is_written: solved.written(id),
-        differs: id.0 < solved.tree().symbol_count() && solved.differs(id),
+        differs: id.0 < solved.tree().name_count() && solved.differs(id),
     };
     symbol_into(report, out)
 }
@@ -32,8 +32,8 @@ fn choice_line(solved: &Solved<'_>, choice: ChoiceId, out: &mut Vec<u8>) -> Resu
 
 /// Adds the lines of a solution.
 pub(crate) fn lines_into(solved: &Solved<'_>, out: &mut Vec<u8>) -> Result<(), AllocError> {
-    for i in 0..solved.tree().symbol_count() {
-        symbol_line(solved, SymId(i), out)?;
+    for id in solved.tree().layout().defined() {
+        symbol_line(solved, *id, out)?;
     }
     for c in 0..choice_count(solved.tree()) {
         choice_line(solved, ChoiceId(c), out)?;

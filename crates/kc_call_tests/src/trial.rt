@@ -68,7 +68,7 @@ fn set(tree: &Tree, user: &mut User, name: &[u8], value: UserValue) -> bool
     ensures { ArePlacesOf tree.now user.new }
 {
     match tree.find(name) {
-        Some(id) if id.0 < tree.symbol_count() => {
+        Some(id) if id.0 < tree.name_count() => {
             user.set(id, value);
             true
         }

@@ -1,25 +1,25 @@
 -- That no line of the streams goes unaccounted for where lost values are warned of.
 use Rattle.std.proofs.Common.{◌≡◌, ◌⊎◌, inl, inr, ℕ, ◌+◌, ◌<◌, zero, suc, Bool, true, false, List, [], ◌∷◌, ◌++◌, length, Some, None, refl, sym, ap, subst, ◌∙◌, append_assoc, append-nil, arith, codes, eqb, map, Option}
 use Rattle.std.specs.Prelude.{not, find, is_some, replicate, slice_index_or, if◌then◌else◌}
-use Rattle.std.specs.List.{All, flat_map, range_with_len}
+use Rattle.std.specs.List.{All, Contains, flat_map, slice_get}
 use Rattle.std.specs.Option.{option_map}
 use Rattle.std.proofs.lemmas.Grind.{flat_map-append}
 use Rattle.std.proofs.lemmas.List.{get_or-set_same, get_or-set_other, length-replicate}
 use Rattle.std.proofs.lemmas.List.Elements.{All-cons, All-nil}
 use Rattle.std.proofs.lemmas.List.Sums.{take_while-cons}
 use Rattle.std.proofs.lemmas.Bool.{eqb-false, eqb-true}
-use Rattle.std.proofs.lemmas.Option.{slice_get_within}
+use Rattle.std.proofs.lemmas.Option.{slice_get-get_or, slice_get_within}
 use Rattle.std.proofs.lemmas.Slice.Eq.{bytes_eq-Decides}
 use Rattle.kc_expr.specs.declared.expression.SymId.{SymId}
 use Rattle.kc_expr.specs.declared.expression.Tri.{Tri}
 use Rattle.kc_expr.specs.declared.expression.Tri.TheVariants.{N, M, Y}
 use Rattle.kc_read.specs.Files.{Files}
-use Rattle.kc_tree.specs.TreeFacts.{SymbolFacts, TreeFacts}
+use Rattle.kc_tree.specs.TreeFacts.{Condition, IsWellFormed, SymbolFacts, TreeFacts}
+use Rattle.kc_build.specs.Trees.{TreesAreWellFormed}
 use Rattle.kc_user.specs.GivenValue.{GivenValue, GivenTruth, GivenText, Member, SymbolPlace, same_given, same_tri}
 use Rattle.kc_user.specs.Places.{ArePlacesOf, Places, place_at}
 use Rattle.kc_values.specs.Differs.{given_of}
 use Rattle.kc_values.specs.Lookups.{facts, name}
-use Rattle.kc_values.specs.Solution.{symbol_count}
 use Rattle.kc_solve.specs.Solved.{Solution, known, warnings as value_warnings}
 use Rattle.kc_dot.specs.Changes.{StreamLocation, change_line, change_text}
 use Rattle.kc_dot.specs.Effects.{Effect, Silent, Warns, Assigns, SetAgain, LineWarning, kind_in, kind_of, warning_line}
@@ -32,7 +32,7 @@ use Rattle.kc_conf.specs.Accounted.{HoldsLine, IsAccountedFor, IsKeptOrWarned, I
 use Rattle.kc_conf.specs.Lost.{has_prompt, lost_at, lost_by, lost_line, lost_lines, lost_of}
 use Rattle.kc_options.specs.Asked.{lead}
 use Rattle.kc_conf.proofs.OutcomeLemmas.{text_if_is}
-use Rattle.kc_conf.specs.Outcome.{AreLines, Outcome, fresh_input, lines_text, lost_warnings, names_of, noted, read_of, streams, warned_files, with_rule}
+use Rattle.kc_conf.specs.Outcome.{AreLines, Outcome, fresh_input, lines_text, lost_warnings, names_of, noted, read_of, root_file, streams, warned_files, with_rule}
 use Rattle.kc_conf.specs.Reruns.{RefusesNothing, WrittenAreWhole}
 use Rattle.kc_conf.proofs.PartLemmas.{AreLines-append, AreLines-nothing, AreLines-reading, AreLines-warning_if, AreLines-warnings}
 
@@ -79,14 +79,18 @@ given_is (Member m) b e = cc
 
 -- ---- the lines that are told
 
--- what one number gives stands in what all give
-one_of_range : {X : Type 0} (f : ℕ → List X) (a n i : ℕ) → i < n → (before after : List X) × (flat_map f (range_with_len a n) ≡ before ++ (f (a + i) ++ after))
-one_of_range f a zero i below = absurd (let e : i < 0 = below in omega arith)
-one_of_range f a (suc n) zero below = ([], flat_map f (range_with_len (a + 1) n), ap (λ m. f m ++ flat_map f (range_with_len (a + 1) n)) (omega arith))
-one_of_range f a (suc n) (suc i) below =
-    let (before, after, is) = one_of_range f (a + 1) n i (omega arith) in
-    let same : a + 1 + i ≡ a + suc i = omega arith in
-    (f a ++ before, after, ap (λ t. f a ++ t) (is ∙ ap (λ m. before ++ (f m ++ after)) same) ∙ sym (append_assoc (f a) before (f (a + suc i) ++ after)))
+-- what one symbol gives stands in what all give
+one_of_all : {X : Type 0} (f : SymId → List X) (ids : List SymId) (i : ℕ) (id : SymId) → slice_get ids i ≡ Some id → (before after : List X) × (flat_map f ids ≡ before ++ (f id ++ after))
+one_of_all f [] i id at = absurd cc
+one_of_all f (x ∷ ids) zero id at = let same : x ≡ id = cc in ([], flat_map f ids, ap (λ y. f y ++ flat_map f ids) same)
+one_of_all f (x ∷ ids) (suc i) id at =
+    let (before, after, is) = one_of_all f ids i id at in
+    (f x ++ before, after, ap (λ t. f x ++ t) is ∙ sym (append_assoc (f x) before (f id ++ after)))
+
+-- a symbol with a prompt has one prompt at least
+pub some_prompts : (prompts : List Condition) → has_prompt prompts ≡ true → 0 < length prompts
+some_prompts [] e = absurd cc
+some_prompts (p ∷ prompts) e = omega arith
 
 line_stands : (line : List ℕ) (lines before after : List (List ℕ)) → lines ≡ before ++ ((line ∷ []) ++ after) → StandsIn (line ++ codes "\n") (lines_text lines)
 line_stands line lines before after is = (
@@ -97,7 +101,7 @@ line_stands line lines before after is = (
 )
 
 module _ (lines : List (Option StreamLocation)) (s : Solution) (id : SymId) (f : SymbolFacts) (given : GivenValue) (at : StreamLocation) (defined : facts s.tree id ≡ Some f)
-    (prompted : has_prompt f.prompts ≡ true) (there : place_at s.places (SymbolPlace id.0) ≡ Some given) (by_line : slice_index_or lines id.0 None ≡ Some at) where
+    (one : Contains s.tree.defined id) (prompted : has_prompt f.prompts ≡ true) (there : place_at s.places (SymbolPlace id.0) ≡ Some given) (by_line : slice_index_or lines id.0 None ≡ Some at) where
   abbrev value : GivenValue
   value = given_of (known s id)
 
@@ -116,9 +120,8 @@ module _ (lines : List (Option StreamLocation)) (s : Solution) (id : SymId) (f :
     by : (b : Bool) → same_given given value ≡ b → (given ≡ value) ⊎ StandsIn (line_of ++ codes "\n") (lines_text (lost_lines lines s))
     by true e = inl (given_is given value e)
     by false e =
-        let (before, after, is) = one_of_range (lost_at lines s) 0 (symbol_count s.tree) id.0 (slice_get_within s.tree.symbols id.0 f defined) in
-        let here : lost_at lines s (0 + id.0) ≡ line_of ∷ [] =
-        ap (lost_at lines s) (let z : 0 + id.0 ≡ id.0 = omega arith in z) ∙ lost_here ∙ ap (λ b. if b then [] else line_of ∷ []) e in
+        let (before, after, is) = one_of_all (λ x. lost_at lines s x.0) s.tree.defined one.0 id (slice_get-get_or s.tree.defined one.0 id one.1 ∙ ap Some one.2) in
+        let here : lost_at lines s id.0 ≡ line_of ∷ [] = lost_here ∙ ap (λ b. if b then [] else line_of ∷ []) e in
         inr (line_stands line_of (lost_lines lines s) before after (is ∙ ap (λ l. before ++ (l ++ after)) here))
 
   -- where no line is lost, what was given is the value
@@ -131,9 +134,8 @@ module _ (lines : List (Option StreamLocation)) (s : Solution) (id : SymId) (f :
     by : (b : Bool) → same_given given value ≡ b → given ≡ value
     by true e = given_is given value e
     by false e =
-        let (before, after, is) = one_of_range (lost_at lines s) 0 (symbol_count s.tree) id.0 (slice_get_within s.tree.symbols id.0 f defined) in
-        let here : lost_at lines s (0 + id.0) ≡ line_of ∷ [] =
-        ap (lost_at lines s) (let z : 0 + id.0 ≡ id.0 = omega arith in z) ∙ lost_here ∙ ap (λ b. if b then [] else line_of ∷ []) e in
+        let (before, after, is) = one_of_all (λ x. lost_at lines s x.0) s.tree.defined one.0 id (slice_get-get_or s.tree.defined one.0 id one.1 ∙ ap Some one.2) in
+        let here : lost_at lines s id.0 ≡ line_of ∷ [] = lost_here ∙ ap (λ b. if b then [] else line_of ∷ []) e in
         absurd (never before line_of after (sym (ap (λ l. before ++ (l ++ after)) here) ∙ sym is ∙ none))
 
 -- ---- the lines of the streams
@@ -300,7 +302,7 @@ module _ (files : Files) (options : Options) (all : List (List ℕ)) (tree : Tre
   abbrev last_lines : List (Option StreamLocation)
   last_lines = (input_after tree prefix empty lines).lines
 
-  module _ (turn : LinesInTurn tree prefix) (asked : options.warn_lost ≡ true) (outcome : Outcome) (opened : List (List ℕ)) (is : outcome ≡ with_rule options opened
+  module _ (formed : IsWellFormed tree) (turn : LinesInTurn tree prefix) (asked : options.warn_lost ≡ true) (outcome : Outcome) (opened : List (List ℕ)) (is : outcome ≡ with_rule options opened
       (noted (lines_text tree.warnings) (noted (read_of options tree all).warned (warned_files options tree (read_of options tree all).input solution)))) where
     notes_are : outcome.warned ≡ lines_text tree.warnings ++ (warnings tree prefix empty lines ++ (lines_text (map (λ line. lead options ++ line) (value_warnings solution)) ++ lines_text (lost_lines last_lines solution)))
     notes_are =
@@ -361,12 +363,13 @@ module _ (files : Files) (options : Options) (all : List (List ℕ)) (tree : Tre
           (assigned tree prefix turn (input_after tree prefix empty before) l s given assigns below line_below)
 
       kept : Has (input_after tree prefix here later) s.0 given (stream_location l) → IsKeptOrWarned tree solution outcome.warned l s f given
-      kept stays = elim (kept_or_told last_lines solution s f given (stream_location l) (subst (λ (t : TreeFacts). facts t s ≡ Some f) (sym is_whole.solution_is.tree_is) defined) prompted there by_line) [
-        | inl same ↦ inl same
-        | inr told ↦ inr (of_lost (lost_line (stream_location l) (name tree s) f.kind given (given_of (known solution s)) ++ codes "\n")
-            (subst (λ (t : TreeFacts). StandsIn (lost_line (stream_location l) (name t s) f.kind given (given_of (known solution s)) ++ codes "\n")
-            (lines_text (lost_lines last_lines solution))) is_whole.solution_is.tree_is told))
-      ]
+      kept stays = elim (kept_or_told last_lines solution s f given (stream_location l) (subst (λ (t : TreeFacts). facts t s ≡ Some f) (sym is_whole.solution_is.tree_is) defined)
+          (subst (λ (t : TreeFacts). Contains t.defined s) (sym is_whole.solution_is.tree_is) (formed.prompted_defined s f defined (some_prompts f.prompts prompted))) prompted there by_line) [
+            | inl same ↦ inl same
+            | inr told ↦ inr (of_lost (lost_line (stream_location l) (name tree s) f.kind given (given_of (known solution s)) ++ codes "\n")
+                (subst (λ (t : TreeFacts). StandsIn (lost_line (stream_location l) (name t s) f.kind given (given_of (known solution s)) ++ codes "\n")
+                (lines_text (lost_lines last_lines solution))) is_whole.solution_is.tree_is told))
+          ]
         where
           joined : lines ≡ (before ++ l ∷ []) ++ later
           joined = split ∙ sym (append_assoc before (l ∷ []) later)
@@ -441,10 +444,10 @@ module _ (files : Files) (options : Options) (all : List (List ℕ)) (tree : Tre
           stands_within [] (warning_line l.stream l.number line_warning) [] outcome.warned AreLines-nothing (line_told before later l (Warns line_warning) split is_effect)
       by (Assigns s given) is_effect = heard before later l split s given is_effect
 
-pub nothing_lost : WrittenAreWhole → LinesGiveInTurn → NothingIsLost
-nothing_lost written turns files options all outcome text is_outcome there asked =
+pub nothing_lost : TreesAreWellFormed → WrittenAreWhole → LinesGiveInTurn → NothingIsLost
+nothing_lost trees written turns files options all outcome text is_outcome there asked =
     let (tree, solution, is_whole, (opened, are, is), passed) = written files options all outcome text is_outcome there in
     let text_is : text ≡ config_text tree options.prefix (solution_view solution) =
     sym (text_if_is options.out _ text (sym (ap (λ (o : Outcome). o.config) is) ∙ there))
     in
-    (tree, solution, is_whole, text_is, each_accounted_for files options all tree solution is_whole (turns tree options.prefix) asked outcome opened is)
+    (tree, solution, is_whole, text_is, each_accounted_for files options all tree solution is_whole (trees files (root_file options) tree is_whole.accepted.built) (turns tree options.prefix) asked outcome opened is)

@@ -1,6 +1,7 @@
 -- There is an outcome.
 use Rattle.std.proofs.Common.{◌≡◌, ◌⊎◌, ℕ, ◌<◌, List, [], length, map, Option, Some, None, Result, Ok, Err, refl, sym, ◌∙◌, arith, inl, inr, ◌++◌}
 use Rattle.std.specs.List.{range_with_len}
+use Rattle.kc_expr.specs.declared.expression.SymId.{SymId}
 use Rattle.std.proofs.lemmas.List.FromFn.{get_or-map-range_with_len, length-map-range_with_len}
 use Rattle.kc_expr.specs.Value.{SymbolValue, TextValue}
 use Rattle.kc_expr.specs.declared.expression.Kind.TheVariants.{Undefined}
@@ -13,9 +14,9 @@ use Rattle.kc_build.specs.Trees.{IsTreeOf, TreesAreWellFormed, tree_of_log}
 use Rattle.kc_user.specs.Places.{ArePlaces, Places, place_at}
 use Rattle.kc_order.specs.Laws as order
 use Rattle.kc_order.specs.Solution.{IsOnlySolution, Solves}
-use Rattle.kc_values.specs.Laws.{AcceptedHaveOneSolution, EquationsReadNeeds, NeedsAreDefined}
+use Rattle.kc_values.specs.Laws.{AcceptedHaveOneSolution, EquationsReadNeeds, NeedingAreDefined, NeedsAreSymbols}
 use Rattle.kc_values.specs.Needs.{needs, needs_of}
-use Rattle.kc_values.specs.Solution.{equations, symbol_count}
+use Rattle.kc_values.specs.Solution.{equations, name_count}
 use Rattle.kc_solve.specs.LoopText.{loop_text}
 use Rattle.kc_solve.specs.Refused.{loop_refused}
 use Rattle.kc_solve.specs.Solved.{Solution, value_of}
@@ -29,39 +30,39 @@ use Rattle.kc_conf.specs.Outcome.{IsAcceptedTree, IsLenientOutcome, IsOutcome, I
 
 -- ---- a solution
 
-module _ (reads : EquationsReadNeeds) (within : NeedsAreDefined) (tree : TreeFacts) (places : Places) (V : ℕ → SymbolValue) where
+module _ (reads : EquationsReadNeeds) (within : NeedsAreSymbols) (tree : TreeFacts) (places : Places) (V : ℕ → SymbolValue) where
   abbrev values : List SymbolValue
-  values = map V (range_with_len 0 (symbol_count tree))
+  values = map V (range_with_len 0 (name_count tree))
 
   abbrev listed : Solution
   listed = record { tree = tree; places = places; values = values }
 
-  same_value : (i : ℕ) → i < symbol_count tree → value_of listed i ≡ V i
-  same_value i l = get_or-map-range_with_len V 0 (symbol_count tree) i i (TextValue Undefined []) l (omega arith)
+  same_value : (i : ℕ) → i < name_count tree → value_of listed i ≡ V i
+  same_value i l = get_or-map-range_with_len V 0 (name_count tree) i i (TextValue Undefined []) l (omega arith)
 
-  needs_long : length (needs tree) ≡ symbol_count tree
-  needs_long = length-map-range_with_len (needs_of tree) 0 (symbol_count tree)
+  needs_long : length (needs tree) ≡ name_count tree
+  needs_long = length-map-range_with_len (needs_of tree) 0 (name_count tree)
 
-  listed_solves : Solves (symbol_count tree) (equations tree (place_at places)) V → Solves (symbol_count tree) (equations tree (place_at places)) (value_of listed)
+  listed_solves : Solves (name_count tree) (equations tree (place_at places)) V → Solves (name_count tree) (equations tree (place_at places)) (value_of listed)
   listed_solves solves i l =
       let long = needs_long in
       same_value i l ∙ solves i l
       ∙ reads tree (place_at places) i V (value_of listed)
       (λ t c. sym (same_value t (let lt : t < length (needs tree) = within tree i t (omega arith) c in omega arith)))
 
-  listed_only : IsOnlySolution (symbol_count tree) (equations tree (place_at places)) V → IsOnlySolution (symbol_count tree) (equations tree (place_at places)) (value_of listed)
+  listed_only : IsOnlySolution (name_count tree) (equations tree (place_at places)) V → IsOnlySolution (name_count tree) (equations tree (place_at places)) (value_of listed)
   listed_only only W solves i l = only W solves i l ∙ sym (same_value i l)
 
-pub solution_exists : AcceptedHaveOneSolution → EquationsReadNeeds → NeedsAreDefined → SolutionExists
+pub solution_exists : AcceptedHaveOneSolution → EquationsReadNeeds → NeedsAreSymbols → SolutionExists
 solution_exists exists reads within tree places accepted there =
     let (V, solves, only) = exists tree (place_at places) accepted in (
-      record { tree = tree; places = places; values = map V (range_with_len 0 (symbol_count tree)) },
+      record { tree = tree; places = places; values = map V (range_with_len 0 (name_count tree)) },
       record {
         tree_is = refl;
         places_are = refl;
         solves = record {
           places = there;
-          count = length-map-range_with_len V 0 (symbol_count tree);
+          count = length-map-range_with_len V 0 (name_count tree);
           solves = listed_solves reads within tree places V solves;
           only = listed_only reads within tree places V only;
         };
@@ -70,14 +71,14 @@ solution_exists exists reads within tree places accepted there =
 
 -- ---- an answer
 
-module _ (expands : HasOneExpansion) (either : order.AcceptedOrUnordered) (named : order.UnorderedHaveALoop) (within : NeedsAreDefined) where
+module _ (expands : HasOneExpansion) (either : order.AcceptedOrUnordered) (named : order.UnorderedHaveALoop) (within : NeedsAreSymbols) (defined : NeedingAreDefined) (formed : TreesAreWellFormed) where
   tree_answer : (files : Files) (root : List ℕ) (r : Result TreeFacts Refused) → IsTreeOf files root r →
       ((tree : TreeFacts) × IsAcceptedTree files root tree) ⊎ ((r : Refused) × IsRefusedTree files root r)
   tree_answer files root (Err r) built = inr (r, no_tree built)
   tree_answer files root (Ok tree) built = elim (either (needs tree)) [
     | inl accepted ↦ inl (tree, record { built = built; accepted = accepted })
     | inr stuck ↦
-        let (loop, is) = named (needs tree) (within tree) stuck in
+        let (loop, is) = named (map (λ (s : SymId). s.0) tree.defined) (needs tree) (defined tree (formed files root tree built)) (within tree) stuck in
         inr (loop_refused (loop_text tree loop), looped tree (loop_text tree loop) built (loop, is, refl) refl)
   ]
 

@@ -1,8 +1,12 @@
 -- The lines of the values that are lost, symbol by symbol.
-use Rattle.std.proofs.Common.{◌≡◌, ℕ, ◌+◌, Bool, true, false, List, [], ◌++◌, Option, Some, None, zero, suc, sym, ◌∙◌, ap, arith, append_assoc, append-nil}
+use Rattle.std.proofs.Common.{◌≡◌, ℕ, ◌+◌, ◌≤◌, Bool, true, false, List, [], ◌∷◌, ◌++◌, length, take, Option, Some, None, sym, ◌∙◌, ap, append-nil}
 use Rattle.std.specs.Prelude.{if◌then◌else◌, slice_index_or}
 use Rattle.kc_dot.specs.Changes.{StreamLocation}
-use Rattle.std.specs.List.{slice_get, flat_map, range_with_len}
+use Rattle.std.specs.List.{slice_get, flat_map}
+use Rattle.std.proofs.lemmas.Grind.{flat_map-append}
+use Rattle.std.proofs.lemmas.List.{take_all, take_more}
+use Rattle.std.proofs.lemmas.Option.{get_or_from_slice_get, slice_get_within}
+use Rattle.kc_expr.specs.declared.expression.SymId.{SymId}
 use Rattle.std.specs.Option.{option_map}
 use Rattle.kc_expr.specs.Names.{symbol}
 use Rattle.kc_tree.specs.Layouts.{IsLayoutOf, facts_of}
@@ -17,22 +21,20 @@ use Rattle.kc_values.specs.Laws.{RowsTellFacts}
 use Rattle.kc_solve.specs.Solved.{Solution, known}
 use Rattle.kc_conf.specs.Lost.{has_prompt, lost_at, lost_by, lost_of}
 
-flat_range : {X : Type 0} (f : ℕ → List X) (a n : ℕ) → flat_map f (range_with_len a (suc n)) ≡ flat_map f (range_with_len a n) ++ f (a + n)
-flat_range f a zero = append-nil (f a) ∙ ap f (omega arith)
-flat_range f a (suc n) =
-    ap (λ r. f a ++ r) (flat_range f (a + 1) n)
-    ∙ sym (append_assoc (f a) (flat_map f (range_with_len (a + 1) n)) (f (a + 1 + n)))
-    ∙ ap (λ m. (f a ++ flat_map f (range_with_len (a + 1) n)) ++ f m) (omega arith)
-
 -- the lines of one symbol more
-pub one_more_lost : (lines : List (Option StreamLocation)) (s : Solution) (i : ℕ) (old new : List (List ℕ)) → old ≡ flat_map (lost_at lines s) (range_with_len 0 i) → new ≡ old ++ lost_at lines s i →
-    new ≡ flat_map (lost_at lines s) (range_with_len 0 (i + 1))
-one_more_lost lines s i old new before one =
-    let f = lost_at lines s in
-    let next : i + 1 ≡ suc i = omega arith in
-    let here : 0 + i ≡ i = omega arith in
-    one ∙ ap (λ x. x ++ f i) before
-    ∙ sym (ap (λ m. flat_map f (range_with_len 0 m)) next ∙ flat_range f 0 i ∙ ap (λ m. flat_map f (range_with_len 0 i) ++ f m) here)
+pub one_more_lost : (lines : List (Option StreamLocation)) (s : Solution) (ids : List SymId) (i : ℕ) (id : SymId) (old new : List (List ℕ)) → slice_get ids i ≡ Some id →
+    old ≡ flat_map (λ x. lost_at lines s x.0) (take i ids) → new ≡ old ++ lost_at lines s id.0 → new ≡ flat_map (λ x. lost_at lines s x.0) (take (i + 1) ids)
+one_more_lost lines s ids i id old new at before one =
+    let f : SymId → List (List ℕ) = λ x. lost_at lines s x.0 in
+    let next : take (i + 1) ids ≡ take i ids ++ id ∷ [] =
+    take_more ids i id (slice_get_within ids i id at) ∙ ap (λ x. take i ids ++ x ∷ []) (get_or_from_slice_get ids i id id at) in
+    one ∙ ap (λ x. x ++ f id) before
+    ∙ sym (ap (flat_map f) next ∙ flat_map-append f (take i ids) (id ∷ []) ∙ ap (λ x. flat_map f (take i ids) ++ x) (append-nil (f id)))
+
+-- all symbols
+pub all_lost : (lines : List (Option StreamLocation)) (s : Solution) (ids : List SymId) (i : ℕ) (all : List (List ℕ)) → length ids ≤ i →
+    all ≡ flat_map (λ x. lost_at lines s x.0) (take i ids) → all ≡ flat_map (λ x. lost_at lines s x.0) ids
+all_lost lines s ids i all past is = is ∙ ap (flat_map (λ x. lost_at lines s x.0)) (take_all i ids past)
 
 -- ---- the line of a symbol
 

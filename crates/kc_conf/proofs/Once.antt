@@ -1,5 +1,6 @@
 -- A run has one outcome.
-use Rattle.std.proofs.Common.{◌≡◌, ℕ, ◌<◌, List, [], ◌++◌, length, Option, Some, None, Result, Ok, Err, true, false, sym, ap, subst, ◌∙◌, slice_index}
+use Rattle.std.proofs.Common.{◌≡◌, ℕ, ◌<◌, List, [], ◌++◌, length, map, Option, Some, None, Result, Ok, Err, true, false, sym, ap, subst, ◌∙◌}
+use Rattle.kc_expr.specs.declared.expression.SymId.{SymId}
 use Rattle.kc_read.specs.OpenedFiles.{AreOpened}
 use Rattle.kc_read.specs.Expansion.{Expands, Log, Refused}
 use Rattle.kc_read.specs.Files.{Files}
@@ -8,11 +9,11 @@ use Rattle.kc_build.specs.Trees.{IsTreeOf, OneTree, tree_of_log}
 use Rattle.kc_user.specs.Places.{Places, place_at}
 use Rattle.kc_expr.specs.Value.{TextValue}
 use Rattle.kc_expr.specs.declared.expression.Kind.TheVariants.{Undefined}
-use Rattle.kc_order.specs.Laws.{OneNamedLoop}
+use Rattle.kc_order.specs.Laws.{NamedAreUnordered, OneNamedLoop}
 use Rattle.kc_order.specs.Solution.{Solves}
 use Rattle.kc_values.specs.Needs.{IsAccepted}
 use Rattle.kc_values.specs.Needs.{needs}
-use Rattle.kc_values.specs.Solution.{equations, symbol_count}
+use Rattle.kc_values.specs.Solution.{equations, name_count}
 use Rattle.kc_solve.specs.LoopText.{loop_text}
 use Rattle.kc_solve.specs.Refused.{IsLoopText, loop_refused}
 use Rattle.kc_solve.specs.Solved.{Solution, value_of}
@@ -34,16 +35,15 @@ err_or d (Ok x) = d
 err_or d (Err e) = e
 
 one_loop_text : OneNamedLoop → (tree : TreeFacts) (a b : List ℕ) → IsLoopText tree a → IsLoopText tree b → a ≡ b
-one_loop_text law tree a b (loop, named, is) (other, named', is') = is ∙ ap (loop_text tree) (law (needs tree) loop other named named') ∙ sym is'
+one_loop_text law tree a b (loop, named, is) (other, named', is') = is ∙ ap (loop_text tree) (law (map (λ (s : SymId). s.0) tree.defined) (needs tree) loop other named named') ∙ sym is'
 
 -- a loop is named only where some symbol is unordered
-never_both : (tree : TreeFacts) (text : List ℕ) → IsLoopText tree text → IsAccepted tree → ⊥
-never_both tree text (loop, named, is) accepted =
-    let first = named.walk.begins in
-    let none = accepted (slice_index (named.lead ++ loop ++ _) 0) first.below in
-    absurd (let e : true ≡ false = sym first.unordered ∙ none in cc)
+never_both : NamedAreUnordered → (tree : TreeFacts) (text : List ℕ) → IsLoopText tree text → IsAccepted tree → ⊥
+never_both stuck tree text (loop, named, is) accepted =
+    let (s, below, unordered) = stuck (map (λ (s : SymId). s.0) tree.defined) (needs tree) loop named in
+    absurd (let e : true ≡ false = sym unordered ∙ accepted s below in cc)
 
-module _ (law : OneTree) (loops : OneNamedLoop) (files : Files) (root : List ℕ) where
+module _ (law : OneTree) (loops : OneNamedLoop) (stuck : NamedAreUnordered) (files : Files) (root : List ℕ) where
   same_tree : (tree other : TreeFacts) → IsTreeOf files root (Ok tree) → IsTreeOf files root (Ok other) → tree ≡ other
   same_tree tree other a b = ap (ok_or tree) (law files root (Ok tree) (Ok other) a b)
 
@@ -64,13 +64,13 @@ module _ (law : OneTree) (loops : OneNamedLoop) (files : Files) (root : List ℕ
   not_both_law : (r : Refused) (tree : TreeFacts) → IsRefusedTree files root r → IsAcceptedTree files root tree → ⊥
   not_both_law r tree (no_tree a) b = never tree r b.built a
   not_both_law r tree (looped other text a named is) b =
-      never_both tree text (subst (λ t. IsLoopText t text) (same_tree other tree a b.built) named) b.accepted
+      never_both stuck tree text (subst (λ t. IsLoopText t text) (same_tree other tree a b.built) named) b.accepted
 
-pub one_answer_law : OneTree → OneNamedLoop → OneAnswer
-one_answer_law law loops = record {
-  one_refusal = one_refusal_law law loops;
-  one_accepted = one_accepted_law law loops;
-  not_both = not_both_law law loops;
+pub one_answer_law : OneTree → OneNamedLoop → NamedAreUnordered → OneAnswer
+one_answer_law law loops stuck = record {
+  one_refusal = one_refusal_law law loops stuck;
+  one_accepted = one_accepted_law law loops stuck;
+  not_both = not_both_law law loops stuck;
 }
 
 -- ---- solutions
@@ -83,13 +83,13 @@ pub one_solution : (tree : TreeFacts) (places : Places) (s t : Solution) → IsS
 one_solution tree places s t a b =
     let trees : t.tree ≡ s.tree = b.tree_is ∙ sym a.tree_is in
     let user : t.places ≡ s.places = b.places_are ∙ sym a.places_are in
-    let counts : length t.values ≡ length s.values = b.solves.count ∙ ap symbol_count trees ∙ sym a.solves.count in
-    let first : Solves (symbol_count s.tree) (equations s.tree (place_at t.places)) (value_of t) =
-    subst (λ (f : TreeFacts). Solves (symbol_count f) (equations f (place_at t.places)) (value_of t)) trees b.solves.solves in
-    let solves : Solves (symbol_count s.tree) (equations s.tree (place_at s.places)) (value_of t) =
-    subst (λ (p : Places). Solves (symbol_count s.tree) (equations s.tree (place_at p)) (value_of t)) user first in
+    let counts : length t.values ≡ length s.values = b.solves.count ∙ ap name_count trees ∙ sym a.solves.count in
+    let first : Solves (name_count s.tree) (equations s.tree (place_at t.places)) (value_of t) =
+    subst (λ (f : TreeFacts). Solves (name_count f) (equations f (place_at t.places)) (value_of t)) trees b.solves.solves in
+    let solves : Solves (name_count s.tree) (equations s.tree (place_at s.places)) (value_of t) =
+    subst (λ (p : Places). Solves (name_count s.tree) (equations s.tree (place_at p)) (value_of t)) user first in
     let agree = a.solves.only (value_of t) solves in
-    same_record s t (sym trees) (sym user) (sym (ext_get_or (TextValue Undefined []) t.values s.values counts (λ i lt. agree i (subst (λ n. i < n) (b.solves.count ∙ ap symbol_count trees) lt))))
+    same_record s t (sym trees) (sym user) (sym (ext_get_or (TextValue Undefined []) t.values s.values counts (λ i lt. agree i (subst (λ n. i < n) (b.solves.count ∙ ap name_count trees) lt))))
 
 -- ---- outcomes
 

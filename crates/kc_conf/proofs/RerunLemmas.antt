@@ -9,7 +9,7 @@ use Rattle.kc_tree.specs.TreeFacts.{TreeFacts}
 use Rattle.kc_build.specs.Trees.{TreesAreWellFormed}
 use Rattle.kc_user.specs.Places.{ArePlaces, Places, place_at}
 use Rattle.kc_order.specs.Solution.{Solves}
-use Rattle.kc_values.specs.Solution.{equations, symbol_count}
+use Rattle.kc_values.specs.Solution.{equations, name_count}
 use Rattle.kc_solve.specs.Solved.{Solution, value_of}
 use Rattle.kc_dot.specs.Laws.{HasShortLines}
 use Rattle.kc_dot.specs.WrittenLaws.{ConfigIsIdempotent, ConfigIsOfValues, IsSolutionOf, MinimalHasNothingToSpare, MinimalRestores, WrittenTextsAreShort}
@@ -82,7 +82,7 @@ module _ (formed : TreesAreWellFormed) (leaves : StreamsLeavePlaces) (files : Fi
         formed = well;
         accepted = is.accepted.accepted;
         held = subst (ArePlaces tree) (sym is.solution_is.places_are) held;
-        solves = subst (λ (t : TreeFacts). Solves (symbol_count t) (equations t (place_at solution.places)) (value_of solution)) is.solution_is.tree_is is.solution_is.solves.solves;
+        solves = subst (λ (t : TreeFacts). Solves (name_count t) (equations t (place_at solution.places)) (value_of solution)) is.solution_is.tree_is is.solution_is.solves.solves;
       }
 
 pub minimal_read_again : TreesAreWellFormed → StreamsLeavePlaces → MinimalRestores → MinimalHasNothingToSpare → MinimalIsReadAgain
@@ -168,15 +168,15 @@ no_more_streams [] e = refl
 no_more_streams (n ∷ names) e = refl
 
 -- two solutions under the same places, one of them the only one, have the same values
-values_same : (tree : TreeFacts) (places : Places) (s t : Solution) → s.tree ≡ tree → length s.values ≡ symbol_count s.tree →
+values_same : (tree : TreeFacts) (places : Places) (s t : Solution) → s.tree ≡ tree → length s.values ≡ name_count s.tree →
     IsOneSolution tree places (value_of s) → IsSolutionFor tree places t → t.values ≡ s.values
 values_same tree places s t same count one is =
-    let counts : length t.values ≡ length s.values = is.solves.count ∙ ap symbol_count (is.tree_is ∙ sym same) ∙ sym count in
-    let first : Solves (symbol_count tree) (equations tree (place_at t.places)) (value_of t) =
-    subst (λ (f : TreeFacts). Solves (symbol_count f) (equations f (place_at t.places)) (value_of t)) is.tree_is is.solves.solves in
-    let solves : Solves (symbol_count tree) (equations tree (place_at places)) (value_of t) =
-    subst (λ (p : Places). Solves (symbol_count tree) (equations tree (place_at p)) (value_of t)) is.places_are first in
-    ext_get_or (TextValue Undefined []) t.values s.values counts (λ i lt. one.only (value_of t) solves i (subst (λ n. i < n) (is.solves.count ∙ ap symbol_count is.tree_is) lt))
+    let counts : length t.values ≡ length s.values = is.solves.count ∙ ap name_count (is.tree_is ∙ sym same) ∙ sym count in
+    let first : Solves (name_count tree) (equations tree (place_at t.places)) (value_of t) =
+    subst (λ (f : TreeFacts). Solves (name_count f) (equations f (place_at t.places)) (value_of t)) is.tree_is is.solves.solves in
+    let solves : Solves (name_count tree) (equations tree (place_at places)) (value_of t) =
+    subst (λ (p : Places). Solves (name_count tree) (equations tree (place_at p)) (value_of t)) is.places_are first in
+    ext_get_or (TextValue Undefined []) t.values s.values counts (λ i lt. one.only (value_of t) solves i (subst (λ n. i < n) (is.solves.count ∙ ap name_count is.tree_is) lt))
 
 module _ (text_same : ConfigIsOfValues) (answer : OneAnswer) (again : MinimalIsReadAgain) (files : Files) (options alone : Options) (all : List (List ℕ)) (text : List ℕ)
     (is_pre : is_prefix options.prefix ≡ true) (same : AreAlone options alone) (lets_pass : alone.strict ≡ false) where

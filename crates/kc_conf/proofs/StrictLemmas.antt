@@ -8,7 +8,8 @@ use Rattle.std.proofs.lemmas.List.{get_or-set_same, get_or-set_other, length-rep
 use Rattle.std.proofs.lemmas.Option.{slice_get_within}
 use Rattle.kc_expr.specs.declared.expression.SymId.{SymId}
 use Rattle.kc_read.specs.Files.{Files}
-use Rattle.kc_tree.specs.TreeFacts.{SymbolFacts, TreeFacts}
+use Rattle.kc_tree.specs.TreeFacts.{IsWellFormed, SymbolFacts, TreeFacts}
+use Rattle.kc_build.specs.Trees.{TreesAreWellFormed}
 use Rattle.kc_user.specs.GivenValue.{GivenValue, SymbolPlace, same_given}
 use Rattle.kc_user.specs.Places.{ArePlacesOf, Places, place_at}
 use Rattle.kc_values.specs.Differs.{given_of}
@@ -24,11 +25,11 @@ use Rattle.kc_dot.specs.Texts.{config_text}
 use Rattle.kc_options.specs.declared.options.Options.{Options}
 use Rattle.kc_conf.specs.Lost.{has_prompt, lost_lines}
 use Rattle.kc_conf.proofs.OutcomeLemmas.{text_if_is}
-use Rattle.kc_conf.specs.Outcome.{Outcome, fresh_input, names_of, read_of, streams}
+use Rattle.kc_conf.specs.Outcome.{Outcome, fresh_input, names_of, read_of, root_file, streams}
 use Rattle.kc_conf.specs.Reruns.{RefusesNothing, WrittenAreWhole}
 use Rattle.kc_conf.specs.Strict.{IsTakenAsWritten, StrictTakesAll}
 use Rattle.kc_conf.specs.Taken.{is_outside, is_taken, lost_warnings, refuses_input}
-use Rattle.kc_conf.proofs.AccountedLemmas.{given_is, input_is, lost_if, line_in, no_line, number_of, places_are, same_symbol, value_in}
+use Rattle.kc_conf.proofs.AccountedLemmas.{given_is, some_prompts, input_is, lost_if, line_in, no_line, number_of, places_are, same_symbol, value_in}
 
 -- ---- lists and truths
 
@@ -186,7 +187,7 @@ module _ (tree : TreeFacts) (prefix : List ℕ) (turn : LinesInTurn tree prefix)
 -- ---- a whole run
 
 module _ (files : Files) (options : Options) (all : List (List ℕ)) (tree : TreeFacts) (solution : Solution)
-    (is_whole : RefusesNothing files options all tree solution) (turn : LinesInTurn tree options.prefix) (strict : options.strict ≡ true) (passed : refuses_input options (read_of options tree all).input solution ≡ false) where
+    (is_whole : RefusesNothing files options all tree solution) (formed : IsWellFormed tree) (turn : LinesInTurn tree options.prefix) (strict : options.strict ≡ true) (passed : refuses_input options (read_of options tree all).input solution ≡ false) where
   abbrev lines : List Line
   lines = lines_of (streams (names_of options) all)
 
@@ -259,7 +260,8 @@ module _ (files : Files) (options : Options) (all : List (List ℕ)) (tree : Tre
       value_is : options.warn_lost ≡ true → has_prompt f.prompts ≡ true → given ≡ given_of (known solution s)
       value_is asked prompted =
           let (at, by_line) = after.1.1 asked in
-          lost_if last.lines solution s f given at (subst (λ (t : TreeFacts). facts t s ≡ Some f) (sym is_whole.solution_is.tree_is) defined) prompted
+          lost_if last.lines solution s f given at (subst (λ (t : TreeFacts). facts t s ≡ Some f) (sym is_whole.solution_is.tree_is) defined)
+          (subst (λ (t : TreeFacts). Contains t.defined s) (sym is_whole.solution_is.tree_is) (formed.prompted_defined s f defined (some_prompts f.prompts prompted))) prompted
           (ap (λ (q : Places). place_at q (SymbolPlace s.0)) (places_are files options all tree solution is_whole) ∙ ap (λ (q : UserInput). place_at q.places (SymbolPlace s.0)) at_end ∙ after.1.0)
           (ap (λ (q : UserInput). slice_index_or q.lines s.0 None) at_end ∙ by_line) (none_lost asked)
 
@@ -271,8 +273,8 @@ module _ (files : Files) (options : Options) (all : List (List ℕ)) (tree : Tre
         by (Warns line_warning) is = true≢false (sym (taken_here tree prefix turn options.warn_lost here l later (Warns line_warning) is from_here))
         by (Assigns s given) is = λ f defined. ((after s given is f defined).0, value_is s given is f defined)
 
-pub strict_takes_all : WrittenAreWhole → LinesGiveInTurn → StrictTakesAll
-strict_takes_all written turns files options all outcome text is_outcome there strict =
+pub strict_takes_all : TreesAreWellFormed → WrittenAreWhole → LinesGiveInTurn → StrictTakesAll
+strict_takes_all trees written turns files options all outcome text is_outcome there strict =
     let (tree, solution, is_whole, (opened, are, is), passed) = written files options all outcome text is_outcome there in
     let text_is : text ≡ config_text tree options.prefix (solution_view solution) =
     sym (text_if_is options.out _ text (sym (ap (λ (o : Outcome). o.config) is) ∙ there))
@@ -281,6 +283,6 @@ strict_takes_all written turns files options all outcome text is_outcome there s
       solution,
       is_whole,
       text_is,
-      none_outside files options all tree solution is_whole (turns tree options.prefix) strict passed,
-      is_taken_as_written files options all tree solution is_whole (turns tree options.prefix) strict passed,
+      none_outside files options all tree solution is_whole (trees files (root_file options) tree is_whole.accepted.built) (turns tree options.prefix) strict passed,
+      is_taken_as_written files options all tree solution is_whole (trees files (root_file options) tree is_whole.accepted.built) (turns tree options.prefix) strict passed,
     )

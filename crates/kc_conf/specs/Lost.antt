@@ -1,6 +1,6 @@
 -- Trusted: The values that were given and are not the symbols': whole lines, without the line feed (our own).
 use Rattle.std.specs.Prelude.{ℕ, Bool, true, false, if◌then◌else◌, List, [], ◌∷◌, ◌++◌, codes, slice_index_or, Option, Some, None}
-use Rattle.std.specs.List.{flat_map, range_with_len}
+use Rattle.std.specs.List.{flat_map}
 use Rattle.kc_expr.specs.Names.{symbol}
 use Rattle.kc_expr.specs.declared.expression.Kind.{Kind}
 use Rattle.kc_tree.specs.TreeFacts.{Condition, SymbolFacts}
@@ -8,7 +8,6 @@ use Rattle.kc_user.specs.GivenValue.{GivenValue, SymbolPlace, same_given}
 use Rattle.kc_user.specs.Places.{place_at}
 use Rattle.kc_values.specs.Differs.{given_of}
 use Rattle.kc_values.specs.Lookups.{facts, name}
-use Rattle.kc_values.specs.Solution.{symbol_count}
 use Rattle.kc_solve.specs.Solved.{Solution, known}
 use Rattle.kc_dot.specs.Changes.{StreamLocation, location_text, value_text}
 
@@ -40,4 +39,4 @@ module _ (lines : List (Option StreamLocation)) (s : Solution) where
 
   -- In order of first definition.
   abbrev pub lost_lines : List (List ℕ)
-  lost_lines = flat_map lost_at (range_with_len 0 (symbol_count s.tree))
+  lost_lines = flat_map (λ id. lost_at id.0) s.tree.defined

@@ -15,7 +15,9 @@ use kc_dot::laws::{
 };
 use kc_order::{one_named_loop, unordered_have_a_loop};
 use kc_read::laws::{has_one_expansion, opened_are_one_list};
-use kc_values::laws::{accepted_have_one_solution, equations_read_needs, needs_are_defined};
+use kc_values::laws::{
+    accepted_have_one_solution, equations_read_needs, needing_are_defined, needs_are_symbols,
+};
 
 /// The law of the tree: a root file has at most one accepted tree, at most one refusal, and not both. It does nothing.
 pub fn one_answer()
@@ -23,6 +25,7 @@ pub fn one_answer()
 {
     one_tree();
     one_named_loop();
+    unordered_have_a_loop();
 }
 
 /// The law of the outcome: for files, options and the bytes of the streams there is at most one. It does nothing.
@@ -52,6 +55,7 @@ pub fn notes_are_lines()
 pub fn nothing_is_lost()
     ensures { NothingIsLost }
 {
+    trees_are_well_formed();
     written_are_whole();
     lines_give_in_turn();
 }
@@ -64,6 +68,7 @@ pub fn nothing_is_lost()
 pub fn strict_takes_all()
     ensures { StrictTakesAll }
 {
+    trees_are_well_formed();
     written_are_whole();
     lines_give_in_turn();
 }
@@ -118,7 +123,8 @@ pub fn outcome_exists()
     opened_are_one_list();
     accepted_have_one_solution();
     equations_read_needs();
-    needs_are_defined();
+    needs_are_symbols();
+    needing_are_defined();
     unordered_have_a_loop();
     trees_are_well_formed();
     reading_leaves_allowed_places();

@@ -7,7 +7,7 @@ ghost use Rattle.kc_tree.specs.Layouts.{definition_at, facts_of};
 ghost use Rattle.kc_user.specs.GivenValue.{SymbolPlace};
 ghost use Rattle.kc_user.specs.Places.{place_at};
 ghost use Rattle.kc_values.specs.Differs.{given_of};
-ghost use Rattle.kc_values.specs.Solution.{symbol_count};
+ghost use Rattle.kc_values.specs.Solution.{name_count};
 ghost use Rattle.kc_values.specs.User.{given_in};
 ghost use Rattle.kc_dot.specs.ShownView.{given_by, location_of};
 ghost use Rattle.kc_conf.specs.Lost as spec;
@@ -137,7 +137,7 @@ fn lost_into(
     id: SymId,
     lines: &mut Vec<Vec<u8>>,
 ) -> Result<(), AllocError>
-    requires { id.0 < symbol_count solved.now.tree }
+    requires { id.0 < name_count solved.now.tree }
     ensures { OnOk result (map (λ l. l.items) lines.new.items ≡ map (λ l. l.items) lines.old.items ++ spec.lost_at input.now.lines solved.now id.0) }
 {
     solved.is_solution();
@@ -156,7 +156,7 @@ fn lost_into(
     lost_by(alloc, name(tree, id), symbol.kind, at, given, value, lines)
 }
 
-// The lines of all symbols.
+// The lines of all defined symbols.
 fn lost_lines(
     alloc: Global,
     input: &UserInput<'_>,
@@ -165,9 +165,9 @@ fn lost_lines(
     ensures { IfOk result (λ lines. map (λ l. l.items) lines.items ≡ spec.lost_lines input.now.lines solved.now) }
 {
     let mut lines = Vec::new(alloc);
-    let count = solved.tree().symbol_count();
-    for i in 0..count {
-        lost_into(alloc, input, solved, SymId(i), &mut lines)?;
+    let tree = solved.tree();
+    for i in 0..tree.symbol_count() {
+        lost_into(alloc, input, solved, tree.symbol(i), &mut lines)?;
     }
     Ok(lines)
 }

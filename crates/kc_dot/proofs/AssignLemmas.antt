@@ -5,7 +5,6 @@ use Rattle.std.specs.List.{list_any}
 use Rattle.std.proofs.lemmas.Bool.{leb-true, and_parts, not-true, true≢false}
 use Rattle.std.proofs.lemmas.List.{length-append}
 use Rattle.std.proofs.lemmas.List.Elements.{All-append, All-cons}
-use Rattle.std.proofs.lemmas.Option.{slice_get_within}
 use Rattle.std.specs.Prelude.{not}
 use Rattle.kc_text.specs.Lines.{is_line_feed}
 use Rattle.kc_text.specs.Escapes.{escape}
@@ -26,7 +25,7 @@ use Rattle.kc_dot.specs.Prefixes.{is_prefix}
 use Rattle.kc_dot.specs.Reading.{Line, line, is_within, effect}
 use Rattle.kc_dot.proofs.LineLemmas.{HasNoLf, is_within-line}
 use Rattle.kc_dot.proofs.RoundTripLemmas.{string_read_again}
-use Rattle.kc_dot.proofs.ShapeLemmas.{no_line_feed}
+use Rattle.kc_dot.proofs.ShapeLemmas.{no_line_feed, untyped_not}
 use Rattle.kc_dot.proofs.SolutionLemmas.{has_names}
 use Rattle.kc_dot.proofs.SymbolLineLemmas.{no_lf_check, plain_quote, plain_one, set_says, set_no_lf, short_prefix}
 use Rattle.kc_dot.proofs.TextBytes.{int_bytes, hex_bytes, number_plain, number_no_lf, escape_no_lf}
@@ -91,7 +90,7 @@ module _ (tree : TreeFacts) (prefix stream : List ℕ) (is_pre : is_prefix prefi
   line_assigns : (f : SymbolFacts) → slice_get tree.symbols s.0 ≡ Some f → allowed_by f.kind g ≡ true → IsAssigned
   unfolding effect
   line_assigns f at ok =
-      let defined = slice_get_within tree.symbols s.0 f at in
+      let defined = formed.typed_defined s f at (λ untyped. untyped_not f.kind g untyped ok) in
       let named : HasNames tree = has_names tree formed in
       let known = named s defined in
       let (value, is) = sets (name_of tree s) s f.kind g ok in

@@ -18,7 +18,7 @@ use Rattle.kc_values.specs.Differs.{given_of}
 use Rattle.kc_values.specs.GivenLines.{reread_places}
 use Rattle.kc_values.specs.Members.{MembersAreTheirs, MembersAreBools}
 use Rattle.kc_values.specs.Lookups.{choice_at}
-use Rattle.kc_values.specs.Solution.{symbol_count, known_from, user_place, equations}
+use Rattle.kc_values.specs.Solution.{name_count, known_from, user_place, equations}
 use Rattle.kc_values.specs.WrittenSymbols as ls
 use Rattle.kc_values.proofs.FixedLines.{place_cases, place_of_member, Sel}
 use Rattle.kc_values.proofs.Selection.{found}
@@ -36,6 +36,7 @@ use Rattle.kc_dot.proofs.GivesLemmas.{Gives}
 use Rattle.kc_dot.proofs.MinimalLaws.{alone_whole}
 use Rattle.kc_dot.proofs.MinimalTextLemmas.{there, choice_by_place, choice_there, yes_selected}
 use Rattle.kc_dot.proofs.ShapeLemmas.{value_shape}
+use Rattle.kc_dot.proofs.SolutionLemmas.{allowed_defined, mentioned}
 use Rattle.kc_dot.proofs.SymbolLineLemmas.{IsOf, FitsLine, symbol_gives}
 
 -- what is found nowhere is no element
@@ -63,8 +64,8 @@ yes_allowed (TextValue k bytes) e = absurd (true≢false (sym e))
 
 module _ (tree : TreeFacts) (user : UserPlace → Option GivenValue) (V : ℕ → SymbolValue) (formed : IsWellFormed tree) (theirs : MembersAreTheirs tree)
     (bools : MembersAreBools tree) (named_all : HasNames tree) (shows : ShowsEach tree) (texts : OfTitles IsLineText tree)
-    (solves : Solves (symbol_count tree) (equations tree user) V)
-    (fits : (s : SymId) → s.0 < symbol_count tree → ls.written tree (known_from tree V) s ≡ true → FitsLine (V s.0)) (prefix : List ℕ)
+    (solves : Solves (name_count tree) (equations tree user) V)
+    (fits : (s : SymId) → s.0 < name_count tree → ls.written tree (known_from tree V) s ≡ true → FitsLine (V s.0)) (prefix : List ℕ)
     (is_pre : is_prefix prefix ≡ true) (plain : HasPlainTitles tree prefix (valuation_view tree user V)) where
   abbrev K : SymId → SymbolValue
   K = known_from tree V
@@ -87,14 +88,15 @@ module _ (tree : TreeFacts) (user : UserPlace → Option GivenValue) (V : ℕ �
   written_gives : (stream : List ℕ) (s : SymId) → Contains tree.entries (SymbolShown s) → ls.written tree K s ≡ true →
       Gives tree prefix stream (symbol_config tree prefix (valuation_view tree user V) s) (given_to s)
   written_gives stream s (n, at_n, is) w =
-      let lt : s.0 < length tree.symbols = formed.entries_sound n (SymbolShown s) (slice_there n (SymbolShown s) at_n is) in
+      let defined = formed.entries_sound n (SymbolShown s) (slice_there n (SymbolShown s) at_n is) in
+      let lt : s.0 < length tree.symbols = mentioned tree formed s defined in
       let (f, at) = there tree.symbols s.0 lt in
       let value_is : known_from tree V s ≡ V s.0 = rw (lt-ltb s.0 (length tree.symbols) lt) refl in
       let shape : IsOf f.kind (V s.0) = elim (value_shape tree (known_from tree V) s f (user (user_place tree s.0)) at bools) [
         | inl untyped ↦ absurd (true≢false (sym w ∙ ap (ls.written_facts tree K) at ∙ not_written tree K f f.choice (λ c e. bools s f c at e) untyped))
         | inr of ↦ rw (solves s.0 lt) of
       ] in
-      let line = symbol_gives tree prefix stream is_pre formed named_all s f at lt (V s.0) shape (fits s lt w) in
+      let line = symbol_gives tree prefix stream is_pre formed named_all s f at defined (V s.0) shape (fits s lt w) in
       subst (λ k. Gives tree prefix stream (dot_line (prefix ++ name_of tree s) k) (given_to s)) (sym value_is) line
     where
       slice_there : (n : ℕ) (entry : Shown) → n < length tree.entries → get_or tree.entries n entry ≡ entry → slice_get tree.entries n ≡ Some entry
@@ -129,13 +131,19 @@ module _ (tree : TreeFacts) (user : UserPlace → Option GivenValue) (V : ℕ �
   in_shown (EndShown menu) a c = absurd (no_element a c)
   in_shown (CommentShown text when) a c = absurd (no_element a c)
 
+  -- a symbol with a line is defined
+  line_defined : (s : SymId) → has_line s ≡ true → Contains tree.defined s
+  line_defined s pass =
+      let (w, ok) = and_parts (ls.written tree K s) (allowed tree s (given_of (V s.0))) pass in
+      allowed_defined tree formed s (given_of (V s.0)) ok
+
   pub config_holds : Holds tree value_to has_line config_given
   config_holds = record {
     sound = λ a c.
         let (entry, (n, lt, at), mine) = in_flat_map (entry_given tree prefix [] is_pre (valuation_view tree user V) given_to texts plain) tree.entries a c in
         let (s, shown, pass, is) = in_shown entry a mine in
         let same : s ≡ a.symbol = ap (λ (x : Assignment). x.symbol) is in
-        let below : s.0 < length tree.symbols = formed.entries_sound n (SymbolShown s) (slice_get-get_or tree.entries n entry lt ∙ ap Some (at ∙ shown)) in (
+        let below = mentioned tree formed s (formed.entries_sound n (SymbolShown s) (slice_get-get_or tree.entries n entry lt ∙ ap Some (at ∙ shown))) in (
           sym (ap has_line same) ∙ pass,
           sym (ap (λ (x : Assignment). x.given) is) ∙ ap value_to same,
           subst (λ (x : SymId). x.0 < length tree.symbols) same below,
@@ -143,7 +151,7 @@ module _ (tree : TreeFacts) (user : UserPlace → Option GivenValue) (V : ℕ �
     complete = λ s lt pass. (
       assignment_to s,
       to_flat_map (entry_given tree prefix [] is_pre (valuation_view tree user V) given_to texts plain) tree.entries (SymbolShown s) (assignment_to s)
-          (shows s lt) (to_entry s (ls.written tree K s) pass),
+          (shows s (line_defined s pass)) (to_entry s (ls.written tree K s) pass),
       refl,
     );
   }
@@ -151,7 +159,7 @@ module _ (tree : TreeFacts) (user : UserPlace → Option GivenValue) (V : ℕ �
   abbrev pub Reread : Places
   Reread = places_given tree (no_places tree) config_given
 
-  reread_own : (i : ℕ) → i < symbol_count tree → place_at Reread (SymbolPlace i) ≡ reread_places tree V (SymbolPlace i)
+  reread_own : (i : ℕ) → i < name_count tree → place_at Reread (SymbolPlace i) ≡ reread_places tree V (SymbolPlace i)
   reread_own i lt = filled_symbol tree value_to has_line config_given config_holds i lt
 
   abbrev Wrote : SymId → Bool
@@ -194,7 +202,7 @@ module _ (tree : TreeFacts) (user : UserPlace → Option GivenValue) (V : ℕ �
       true≢false (sym wrote ∙ missing Wrote f.members x here member))
 
   -- the places that the written text gives are those that the written lines stand for
-  pub reread_at : (i : ℕ) → i < symbol_count tree → place_at Reread (user_place tree i) ≡ reread_places tree V (user_place tree i)
+  pub reread_at : (i : ℕ) → i < name_count tree → place_at Reread (user_place tree i) ≡ reread_places tree V (user_place tree i)
   reread_at i lt = elim (place_cases tree i) [
     | inl at ↦ rw at (reread_own i lt)
     | inr (c, at) ↦ rw at (reread_found c (choice_at tree c) (find Wrote (members_of (choice_at tree c))) (choice_there tree (symbol i) c formed lt (choice_by_place tree (symbol i) c at)) refl refl)

@@ -11,7 +11,7 @@ use Rattle.kc_values.specs.GivenLines.{reread_places}
 use Rattle.kc_values.specs.Laws.{SolutionsAgree}
 use Rattle.kc_values.specs.Members.{MembersAreTheirs, MembersAreBools}
 use Rattle.kc_values.specs.Needs.{IsAccepted}
-use Rattle.kc_values.specs.Solution.{symbol_count, known_from, user_place, rhs, equations}
+use Rattle.kc_values.specs.Solution.{name_count, known_from, user_place, rhs, equations}
 use Rattle.kc_values.specs.WrittenSymbols.{written}
 use Rattle.kc_dot.specs.Prefixes.{is_prefix}
 use Rattle.kc_dot.specs.Plain.{HasPlainTitles}
@@ -23,22 +23,22 @@ use Rattle.kc_dot.proofs.SymbolLineLemmas.{FitsLine}
 
 module _ (tree : TreeFacts) (user : UserPlace → Option GivenValue) (V : ℕ → SymbolValue) (formed : IsWellFormed tree) (theirs : MembersAreTheirs tree)
     (bools : MembersAreBools tree) (named_all : HasNames tree) (shows : ShowsEach tree) (texts : OfTitles IsLineText tree)
-    (solves : Solves (symbol_count tree) (equations tree user) V)
-    (fits : (s : SymId) → s.0 < symbol_count tree → written tree (known_from tree V) s ≡ true → FitsLine (V s.0)) (prefix : List ℕ)
+    (solves : Solves (name_count tree) (equations tree user) V)
+    (fits : (s : SymId) → s.0 < name_count tree → written tree (known_from tree V) s ≡ true → FitsLine (V s.0)) (prefix : List ℕ)
     (is_pre : is_prefix prefix ≡ true) (plain : HasPlainTitles tree prefix (valuation_view tree user V)) where
   abbrev IsIdempotent : Type 0
-  IsIdempotent = (i : ℕ) → i < symbol_count tree → changes_on_reread tree V i ≡ false
+  IsIdempotent = (i : ℕ) → i < name_count tree → changes_on_reread tree V i ≡ false
 
-  pub idempotent_again : IsAccepted tree → SolutionsAgree → (Solves (symbol_count tree) (equations tree (reread_places tree V)) V ↔ IsIdempotent) → (name : List ℕ) →
+  pub idempotent_again : IsAccepted tree → SolutionsAgree → (Solves (name_count tree) (equations tree (reread_places tree V)) V ↔ IsIdempotent) → (name : List ℕ) →
       let read = read_alone tree prefix name (config_text tree prefix (valuation_view tree user V)) in (read.stopped ≡ None) × (IsOneSolution tree read.input.places V ↔ IsIdempotent)
   idempotent_again accepted agree settled name =
       let (whole, is) = config_read tree user V formed theirs bools named_all shows texts solves fits prefix is_pre plain name in
       let P = Reread tree user V formed theirs bools named_all shows texts solves fits prefix is_pre plain in
-      let same : (i : ℕ) → i < symbol_count tree → place_at P (user_place tree i) ≡ reread_places tree V (user_place tree i) =
+      let same : (i : ℕ) → i < name_count tree → place_at P (user_place tree i) ≡ reread_places tree V (user_place tree i) =
       reread_at tree user V formed theirs bools named_all shows texts solves fits prefix is_pre plain in
-      let there : Solves (symbol_count tree) (equations tree (reread_places tree V)) V → Solves (symbol_count tree) (equations tree (place_at P)) V =
+      let there : Solves (name_count tree) (equations tree (reread_places tree V)) V → Solves (name_count tree) (equations tree (place_at P)) V =
       λ w i lt. w i lt ∙ ap (λ g. rhs tree i g V) (sym (same i lt)) in
-      let back : Solves (symbol_count tree) (equations tree (place_at P)) V → Solves (symbol_count tree) (equations tree (reread_places tree V)) V =
+      let back : Solves (name_count tree) (equations tree (place_at P)) V → Solves (name_count tree) (equations tree (reread_places tree V)) V =
       λ w i lt. w i lt ∙ ap (λ g. rhs tree i g V) (same i lt) in
       let both : IsOneSolution tree P V ↔ IsIdempotent = (
         λ one. settled.0 (back one.solves),

@@ -13,7 +13,7 @@ use Rattle.kc_values.specs.Differs.{differs, default_selection}
 use Rattle.kc_values.specs.GivenLines.{minimal_line}
 use Rattle.kc_values.specs.Laws.{DifferingAreAllowed}
 use Rattle.kc_values.specs.Members.{MembersAreTheirs, MembersAreBools}
-use Rattle.kc_values.specs.Solution.{symbol_count, user_place, rhs, equations}
+use Rattle.kc_values.specs.Solution.{name_count, user_place, rhs, equations}
 use Rattle.kc_tree.specs.Common.{is_symbol_of}
 use Rattle.kc_values.proofs.FixedLines.{place_cases, named, Sel, differs-member}
 use Rattle.kc_dot.specs.Prefixes.{is_prefix}
@@ -38,7 +38,7 @@ alone_whole tree prefix name text given gives =
 
 module _ (tree : TreeFacts) (user : UserPlace → Option GivenValue) (V : ℕ → SymbolValue) (formed : IsWellFormed tree) (theirs : MembersAreTheirs tree)
     (bools : MembersAreBools tree) (named_all : HasNames tree) (allowed_at : AllowedPlaces tree user) (law : DifferingAreAllowed)
-    (solves : Solves (symbol_count tree) (equations tree user) V) (prefix : List ℕ) (is_pre : is_prefix prefix ≡ true) where
+    (solves : Solves (name_count tree) (equations tree user) V) (prefix : List ℕ) (is_pre : is_prefix prefix ≡ true) where
   abbrev Keep : UserPlace → Bool
   Keep = keeps_differing tree user V theirs solves
 
@@ -55,7 +55,7 @@ module _ (tree : TreeFacts) (user : UserPlace → Option GivenValue) (V : ℕ �
       (all_given tree user V formed theirs bools named_all allowed_at law solves prefix is_pre keep)
       (minimal_gives tree user V formed theirs bools named_all allowed_at law solves prefix is_pre keep name)
 
-  place_is : (keep : SymId → Bool) (i : ℕ) → i < symbol_count tree → place_at (Assigned keep) (user_place tree i) ≡ kept (Stays keep) (kept Keep (minimal_line tree user V)) (user_place tree i)
+  place_is : (keep : SymId → Bool) (i : ℕ) → i < name_count tree → place_at (Assigned keep) (user_place tree i) ≡ kept (Stays keep) (kept Keep (minimal_line tree user V)) (user_place tree i)
   place_is keep i lt = left_at tree user V formed theirs bools named_all allowed_at law solves prefix is_pre keep i lt
 
   abbrev all : SymId → Bool
@@ -73,12 +73,12 @@ module _ (tree : TreeFacts) (user : UserPlace → Option GivenValue) (V : ℕ �
   all_kept p = ap (λ b. cond b (kept Keep (minimal_line tree user V) p) None) (all_stay p)
 
   -- the whole file
-  pub gives_back : Restores (symbol_count tree) (user_place tree) (rhs tree) (minimal_line tree user V) V Keep → (name : List ℕ) →
+  pub gives_back : Restores (name_count tree) (user_place tree) (rhs tree) (minimal_line tree user V) V Keep → (name : List ℕ) →
       let read = read_alone tree prefix name (minimal_text tree prefix (valuation_view tree user V)) in (read.stopped ≡ None) × IsOneSolution tree read.input.places V
   unfolding minimal_text
   gives_back restores name =
       let (whole, is) = read_kept all name in
-      let same : (i : ℕ) → i < symbol_count tree → place_at (Assigned all) (user_place tree i) ≡ kept Keep (minimal_line tree user V) (user_place tree i) =
+      let same : (i : ℕ) → i < name_count tree → place_at (Assigned all) (user_place tree i) ≡ kept Keep (minimal_line tree user V) (user_place tree i) =
       λ i lt. place_is all i lt ∙ all_kept (user_place tree i) in (
         whole,
         subst (λ (p : Places). IsOneSolution tree p V) (sym is) (record {
@@ -87,7 +87,7 @@ module _ (tree : TreeFacts) (user : UserPlace → Option GivenValue) (V : ℕ �
         }),
       )
 
-  gone : (keep : SymId → Bool) (s : SymId) → s.0 < symbol_count tree → differs tree user V s.0 ≡ true → keep s ≡ false → Stays keep (user_place tree s.0) ≡ false
+  gone : (keep : SymId → Bool) (s : SymId) → s.0 < name_count tree → differs tree user V s.0 ≡ true → keep s ≡ false → Stays keep (user_place tree s.0) ≡ false
   gone keep s lt other away = elim (place_cases tree s.0) [
     | inl at ↦ ap (Stays keep) at ∙ away
     | inr (c, at) ↦
@@ -96,8 +96,8 @@ module _ (tree : TreeFacts) (user : UserPlace → Option GivenValue) (V : ℕ �
   ]
 
   -- without some of its lines
-  pub none_to_spare : NothingCanGo (symbol_count tree) (user_place tree) (rhs tree) (minimal_line tree user V) V Keep → (name : List ℕ) (keep : SymId → Bool) (s : SymId) →
-      s.0 < symbol_count tree → differs tree user V s.0 ≡ true → keep s ≡ false →
+  pub none_to_spare : NothingCanGo (name_count tree) (user_place tree) (rhs tree) (minimal_line tree user V) V Keep → (name : List ℕ) (keep : SymId → Bool) (s : SymId) →
+      s.0 < name_count tree → differs tree user V s.0 ≡ true → keep s ≡ false →
       let read = read_alone tree prefix name (kept_lines tree prefix (valuation_view tree user V) keep) in
       IsOneLine (symbol_config tree prefix (valuation_view tree user V) s) × (read.stopped ≡ None) × HasOtherSolution tree read.input.places V
   none_to_spare nothing name keep s lt other away =

@@ -5,7 +5,6 @@ use Rattle.std.specs.List.{Contains, flat_map, cons_option}
 use Rattle.std.specs.Option.{option_map, option_and_then}
 use Rattle.std.proofs.lemmas.Bool.{cases_Bool, and_parts, lt-ltb, ltb-true, true≢false}
 use Rattle.std.proofs.lemmas.Option.{slice_get-get_or, slice_get_within}
-use Rattle.std.proofs.lemmas.List.FromFn.{length-map-range_with_len, get_or-map-range_with_len}
 use Rattle.kc_expr.specs.declared.expression.SymId.{SymId}
 use Rattle.kc_expr.specs.declared.expression.Tri.TheVariants.{N, Y}
 use Rattle.kc_expr.specs.Names.{symbol}
@@ -21,7 +20,7 @@ use Rattle.kc_values.specs.Laws.{DifferingAreAllowed}
 use Rattle.kc_values.specs.Members.{MembersAreTheirs, MembersAreBools}
 use Rattle.kc_values.specs.Lookups.{facts, choice_at}
 use Rattle.kc_values.specs.Solution as sol
-use Rattle.kc_values.specs.Solution.{symbol_count, known_from, user_place, equations}
+use Rattle.kc_values.specs.Solution.{name_count, known_from, user_place, equations}
 use Rattle.kc_tree.specs.Common.{is_symbol_of}
 use Rattle.kc_values.proofs.FixedLines.{place_cases, place_of_member, names_itself, named, Sel, member_now, differs-member}
 use Rattle.kc_values.proofs.Selection.{selected_member}
@@ -31,28 +30,18 @@ use Rattle.kc_dot.specs.Reading.{Assignment, choice_of, places_given}
 use Rattle.kc_dot.specs.Reread.{valuation_view, kept_lines}
 use Rattle.kc_dot.specs.HasNames.{HasNames}
 use Rattle.kc_dot.specs.Laws.{IsOneLine}
-use Rattle.kc_dot.specs.Texts.{symbols_of, symbol_config}
+use Rattle.kc_dot.specs.Texts.{symbol_config}
 use Rattle.kc_dot.specs.SymbolLines.{dot_line}
 use Rattle.kc_dot.proofs.FilledLemmas.{Holds, IsCandidate, filled_symbol, filled_member, filled_none, in_flat_map, to_flat_map, contains_here, contains_cases, no_element}
 use Rattle.kc_dot.proofs.GivesLemmas.{Gives, gives_all, gives_nothing}
 use Rattle.kc_dot.proofs.ShapeLemmas.{value_shape, allowed_fits, untyped_not}
+use Rattle.kc_dot.proofs.SolutionLemmas.{allowed_defined, mentioned}
 use Rattle.kc_dot.proofs.SymbolLineLemmas.{FitsLine, IsOf, symbol_gives, symbol_line, own}
 
 -- Symbols by number.
 pub there : {X : Type 0} (xs : List X) (i : ℕ) → i < length xs → (x : X) × (slice_get xs i ≡ Some x)
 there [] i lt = absurd (omega arith)
 there (x ∷ xs) i lt = (get_or (x ∷ xs) i x, slice_get-get_or (x ∷ xs) i x lt)
-
-pub symbols_below : (tree : TreeFacts) (s : SymId) → Contains (symbols_of tree) s → s.0 < length tree.symbols
-symbols_below tree s (i, lt, is) =
-    let n : i < length tree.symbols = omega (arith, lt, length-map-range_with_len symbol 0 (length tree.symbols)) in
-    let e : symbol i ≡ s = sym (get_or-map-range_with_len symbol 0 (length tree.symbols) i i s n (omega arith)) ∙ is in
-    let k : i ≡ s.0 = ap (λ (x : SymId). x.0) e in
-    omega (arith, n, k)
-
-pub symbols_all : (tree : TreeFacts) (s : SymId) → s.0 < length tree.symbols → Contains (symbols_of tree) s
-symbols_all tree s lt =
-    (s.0, omega (arith, lt, length-map-range_with_len symbol 0 (length tree.symbols)), get_or-map-range_with_len symbol 0 (length tree.symbols) s.0 s.0 s lt (omega arith))
 
 -- A symbol's choice and its place.
 place_by_facts : (i c : ℕ) (o : Option SymbolFacts) → option_and_then (λ (f : SymbolFacts). f.choice) o ≡ Some c → sol.user_place_of i o ≡ ChoicePlace c
@@ -85,7 +74,7 @@ yes_if : (b : Bool) → is_yes (given_of (Truth (cond b Y N))) ≡ true → b �
 yes_if true e = refl
 yes_if false e = e
 
-module _ (tree : TreeFacts) (user : UserPlace → Option GivenValue) (V : ℕ → SymbolValue) (theirs : MembersAreTheirs tree) (solves : Solves (symbol_count tree) (equations tree user) V) where
+module _ (tree : TreeFacts) (user : UserPlace → Option GivenValue) (V : ℕ → SymbolValue) (theirs : MembersAreTheirs tree) (solves : Solves (name_count tree) (equations tree user) V) where
   abbrev Selected : ℕ → Option SymId
   Selected c = Sel tree user V solves c
 
@@ -113,11 +102,11 @@ module _ (tree : TreeFacts) (user : UserPlace → Option GivenValue) (V : ℕ �
   differing_member (Some m) = differs tree user V m.0
 
   abbrev pub keeps_differing : UserPlace → Bool
-  keeps_differing (SymbolPlace i) = nat_lt i (symbol_count tree) && (is_own (user_place tree i) && differs tree user V i)
+  keeps_differing (SymbolPlace i) = nat_lt i (name_count tree) && (is_own (user_place tree i) && differs tree user V i)
   keeps_differing (ChoicePlace c) = differing_member (Selected c)
 
-  kept_own : (i : ℕ) → user_place tree i ≡ SymbolPlace i → i < symbol_count tree → keeps_differing (SymbolPlace i) ≡ differs tree user V i
-  kept_own i at lt = rw (lt-ltb i (symbol_count tree) lt, at) refl
+  kept_own : (i : ℕ) → user_place tree i ≡ SymbolPlace i → i < name_count tree → keeps_differing (SymbolPlace i) ≡ differs tree user V i
+  kept_own i at lt = rw (lt-ltb i (name_count tree) lt, at) refl
 
   own_place_is : (i : ℕ) → is_own (user_place tree i) ≡ true → user_place tree i ≡ SymbolPlace i
   own_place_is i e = elim (place_cases tree i) [
@@ -125,7 +114,7 @@ module _ (tree : TreeFacts) (user : UserPlace → Option GivenValue) (V : ℕ �
     | inr (c, at) ↦ let never : false ≡ true = sym (ap is_own at) ∙ e in cc
   ]
 
-  tell_member : (c : ℕ) (r : Option SymId) → Selected c ≡ r → differing_member r ≡ true → (i : ℕ) × (i < symbol_count tree) × (user_place tree i ≡ ChoicePlace c) × (differs tree user V i ≡ true)
+  tell_member : (c : ℕ) (r : Option SymId) → Selected c ≡ r → differing_member r ≡ true → (i : ℕ) × (i < name_count tree) × (user_place tree i ≡ ChoicePlace c) × (differs tree user V i ≡ true)
   tell_member c None sel e = absurd (true≢false (sym e))
   tell_member c (Some m) sel e = let (lt, place, is_y) = selected_yes m c sel in (m.0, lt, place, e)
 
@@ -137,14 +126,14 @@ module _ (tree : TreeFacts) (user : UserPlace → Option GivenValue) (V : ℕ �
   pub tells_differing : TellsDiffering tree user V keeps_differing
   tells_differing = record { differing = telling; every = told_each }
     where
-      telling : (p : UserPlace) → keeps_differing p ≡ true → (i : ℕ) × (i < symbol_count tree) × (user_place tree i ≡ p) × (differs tree user V i ≡ true)
+      telling : (p : UserPlace) → keeps_differing p ≡ true → (i : ℕ) × (i < name_count tree) × (user_place tree i ≡ p) × (differs tree user V i ≡ true)
       telling (SymbolPlace i) e =
-          let (below, rest) = and_parts (nat_lt i (symbol_count tree)) (is_own (user_place tree i) && differs tree user V i) e in
+          let (below, rest) = and_parts (nat_lt i (name_count tree)) (is_own (user_place tree i) && differs tree user V i) e in
           let (its_own, other) = and_parts (is_own (user_place tree i)) (differs tree user V i) rest in
-          (i, ltb-true i (symbol_count tree) below, own_place_is i its_own, other)
+          (i, ltb-true i (name_count tree) below, own_place_is i its_own, other)
       telling (ChoicePlace c) e = tell_member c (Selected c) refl e
 
-      told_each : (i : ℕ) → i < symbol_count tree → differs tree user V i ≡ true → keeps_differing (user_place tree i) ≡ true
+      told_each : (i : ℕ) → i < name_count tree → differs tree user V i ≡ true → keeps_differing (user_place tree i) ≡ true
       told_each i lt e = elim (place_cases tree i) [
         | inl at ↦ ap keeps_differing at ∙ kept_own i at lt ∙ e
         | inr (c, at) ↦ ap keeps_differing at ∙ member_told i c at e
@@ -153,7 +142,7 @@ module _ (tree : TreeFacts) (user : UserPlace → Option GivenValue) (V : ℕ �
 -- Reading the lines of the symbols that differ and that a test keeps.
 module _ (tree : TreeFacts) (user : UserPlace → Option GivenValue) (V : ℕ → SymbolValue) (formed : IsWellFormed tree) (theirs : MembersAreTheirs tree)
     (bools : MembersAreBools tree) (named_all : HasNames tree) (allowed_at : AllowedPlaces tree user) (law : DifferingAreAllowed)
-    (solves : Solves (symbol_count tree) (equations tree user) V) (prefix : List ℕ) (is_pre : is_prefix prefix ≡ true) (keep : SymId → Bool) where
+    (solves : Solves (name_count tree) (equations tree user) V) (prefix : List ℕ) (is_pre : is_prefix prefix ≡ true) (keep : SymId → Bool) where
   abbrev pub value_of_symbol : SymId → GivenValue
   value_of_symbol s = given_of (V s.0)
 
@@ -183,18 +172,26 @@ module _ (tree : TreeFacts) (user : UserPlace → Option GivenValue) (V : ℕ �
   differing_line s lt e =
       let (f, at) = there tree.symbols s.0 lt in
       let (ok, shape, fits) = differing_fits s f at lt e in
+      let defined = allowed_defined tree formed s (given_of (V s.0)) ok in
       subst (λ k. IsOneLine (dot_line (prefix ++ name_of tree s) k)) (sym (told_is s lt))
-      (symbol_line tree prefix [] is_pre formed named_all s f at lt (V s.0) shape fits)
+      (symbol_line tree prefix [] is_pre formed named_all s f at defined (V s.0) shape fits)
 
   differing_gives : (stream : List ℕ) (s : SymId) → s.0 < length tree.symbols → differs tree user V s.0 ≡ true →
       Gives tree prefix stream (symbol_config tree prefix (valuation_view tree user V) s) (assignment_to s ∷ [])
   differing_gives stream s lt e =
       let (f, at) = there tree.symbols s.0 lt in
       let (ok, shape, fits) = differing_fits s f at lt e in
-      let own_is : own tree prefix stream is_pre formed named_all s f at lt (V s.0) ≡ Some (assignment_to s) = rw ok refl in
-      let line = symbol_gives tree prefix stream is_pre formed named_all s f at lt (V s.0) shape fits in
+      let defined = allowed_defined tree formed s (given_of (V s.0)) ok in
+      let own_is : own tree prefix stream is_pre formed named_all s f at defined (V s.0) ≡ Some (assignment_to s) = rw ok refl in
+      let line = symbol_gives tree prefix stream is_pre formed named_all s f at defined (V s.0) shape fits in
       subst (λ k. Gives tree prefix stream (dot_line (prefix ++ name_of tree s) k) (assignment_to s ∷ [])) (sym (told_is s lt))
       (subst (λ o. Gives tree prefix stream (dot_line (prefix ++ name_of tree s) (V s.0)) (cons_option o [])) own_is line)
+
+  -- a symbol that differs is defined
+  differing_defined : (s : SymId) → s.0 < length tree.symbols → passes s ≡ true → Contains tree.defined s
+  differing_defined s lt pass =
+      let (stay, other) = and_parts (keep s) (differs tree user V s.0) pass in
+      allowed_defined tree formed s (given_of (V s.0)) (law tree user V s.0 lt formed allowed_at solves other)
 
   abbrev line_if : Bool → Bool → SymId → List ℕ
   line_if stay other s = cond stay (cond other (symbol_config tree prefix (valuation_view tree user V) s) []) []
@@ -208,12 +205,12 @@ module _ (tree : TreeFacts) (user : UserPlace → Option GivenValue) (V : ℕ �
   gives_if stream s lt true true e = differing_gives stream s lt e
 
   abbrev pub all_given : List Assignment
-  all_given = flat_map (λ s. given_if (keep s) (differs tree user V s.0) s) (symbols_of tree)
+  all_given = flat_map (λ s. given_if (keep s) (differs tree user V s.0) s) tree.defined
 
   pub minimal_gives : (stream : List ℕ) → Gives tree prefix stream (kept_lines tree prefix (valuation_view tree user V) keep) all_given
   minimal_gives stream =
-      gives_all tree prefix stream (λ s. line_if (keep s) (differs tree user V s.0) s) (λ s. given_if (keep s) (differs tree user V s.0) s) (symbols_of tree)
-      (λ s c. gives_if stream s (symbols_below tree s c) (keep s) (differs tree user V s.0) refl)
+      gives_all tree prefix stream (λ s. line_if (keep s) (differs tree user V s.0) s) (λ s. given_if (keep s) (differs tree user V s.0) s) tree.defined
+      (λ s c. gives_if stream s (mentioned tree formed s c) (keep s) (differs tree user V s.0) refl)
 
   in_given : (s : SymId) (a : Assignment) (stay other : Bool) → Contains (given_if stay other s) a → ((stay && other) ≡ true) × (assignment_to s ≡ a)
   in_given s a false other c = absurd (no_element a c)
@@ -228,16 +225,16 @@ module _ (tree : TreeFacts) (user : UserPlace → Option GivenValue) (V : ℕ �
   pub minimal_holds : Holds tree value_of_symbol passes all_given
   minimal_holds = record {
     sound = λ a c.
-        let (s, at, mine) = in_flat_map (λ s. given_if (keep s) (differs tree user V s.0) s) (symbols_of tree) a c in
+        let (s, at, mine) = in_flat_map (λ s. given_if (keep s) (differs tree user V s.0) s) tree.defined a c in
         let (pass, is) = in_given s a (keep s) (differs tree user V s.0) mine in
         let same : s ≡ a.symbol = ap (λ (x : Assignment). x.symbol) is in (
           sym (ap passes same) ∙ pass,
           sym (ap (λ (x : Assignment). x.given) is) ∙ ap value_of_symbol same,
-          subst (λ (x : SymId). x.0 < length tree.symbols) same (symbols_below tree s at),
+          subst (λ (x : SymId). x.0 < length tree.symbols) same (mentioned tree formed s at),
         );
     complete = λ s lt pass. (
       assignment_to s,
-      to_flat_map (λ s. given_if (keep s) (differs tree user V s.0) s) (symbols_of tree) s (assignment_to s) (symbols_all tree s lt) (to_given s (keep s) (differs tree user V s.0) pass),
+      to_flat_map (λ s. given_if (keep s) (differs tree user V s.0) s) tree.defined s (assignment_to s) (differing_defined s lt pass) (to_given s (keep s) (differs tree user V s.0) pass),
       refl,
     );
   }
@@ -261,7 +258,7 @@ module _ (tree : TreeFacts) (user : UserPlace → Option GivenValue) (V : ℕ �
   both_if true b o = refl
   both_if false b o = refl
 
-  left_own : (i : ℕ) → i < symbol_count tree → user_place tree i ≡ SymbolPlace i → Left (SymbolPlace i) ≡ Lines (SymbolPlace i)
+  left_own : (i : ℕ) → i < name_count tree → user_place tree i ≡ SymbolPlace i → Left (SymbolPlace i) ≡ Lines (SymbolPlace i)
   left_own i lt at =
       filled_symbol tree value_of_symbol passes all_given minimal_holds i lt
       ∙ both_if (keep (symbol i)) (differs tree user V i) (Some (given_of (V i)))
@@ -292,7 +289,7 @@ module _ (tree : TreeFacts) (user : UserPlace → Option GivenValue) (V : ℕ �
   ]
 
   -- the places that these lines leave are those that the lines stand for
-  pub left_at : (i : ℕ) → i < symbol_count tree → Left (user_place tree i) ≡ Lines (user_place tree i)
+  pub left_at : (i : ℕ) → i < name_count tree → Left (user_place tree i) ≡ Lines (user_place tree i)
   left_at i lt = elim (place_cases tree i) [
     | inl at ↦ rw at (left_own i lt at)
     | inr (c, at) ↦ rw at (left_member c (Sel tree user V solves c) (choice_there tree (symbol i) c formed lt (choice_by_place tree (symbol i) c at)) refl)

@@ -14,7 +14,7 @@ use Rattle.kc_expr.specs.declared.expression.Kind.TheVariants as kind
 use Rattle.kc_expr.specs.Value.{SymbolValue, Truth, TextValue}
 use Rattle.kc_tree.specs.TreeFacts.{TreeFacts, Shown, SymbolShown, MenuShown, EndShown, CommentShown, IsLineText, IsWellFormed, OfTitles}
 use Rattle.kc_user.specs.GivenValue.{GivenValue, UserPlace}
-use Rattle.kc_values.specs.Solution.{symbol_count, known_from}
+use Rattle.kc_values.specs.Solution.{name_count, known_from}
 use Rattle.kc_dot.specs.Effects.{name_of}
 use Rattle.kc_dot.specs.HasNames.{HasNames}
 use Rattle.kc_dot.specs.Laws.{HasShortLines}
@@ -24,12 +24,12 @@ use Rattle.kc_text.specs.Limits.{one_more}
 use Rattle.kc_dot.specs.Reading.{Line, line, is_within, lines_from}
 use Rattle.kc_dot.specs.Reread.{valuation_view}
 use Rattle.kc_dot.specs.SymbolLines.{dot_line}
-use Rattle.kc_dot.specs.Texts.{config_heading, config_text, title_lines, end_line, end_if, gap, shown_title, symbol_config, symbols_of, end_is_last, entry_text, entries_text, minimal_if, minimal_text}
+use Rattle.kc_dot.specs.Texts.{config_heading, config_text, title_lines, end_line, end_if, gap, shown_title, symbol_config, end_is_last, entry_text, entries_text, minimal_if, minimal_text}
 use Rattle.kc_dot.specs.SolutionView.{SolutionView, is_shown}
 use Rattle.kc_dot.proofs.FilledLemmas.{contains_here, contains_later}
 use Rattle.kc_dot.proofs.LineLemmas.{HasNoLf, lines_from-lf, lines_from-last, is_within-line}
-use Rattle.kc_dot.proofs.MinimalTextLemmas.{there, symbols_below}
-use Rattle.kc_dot.proofs.SolutionLemmas.{has_names}
+use Rattle.kc_dot.proofs.MinimalTextLemmas.{there}
+use Rattle.kc_dot.proofs.SolutionLemmas.{has_names, mentioned}
 use Rattle.kc_dot.proofs.SymbolLineLemmas.{no_lf_check, full_no_lf, short_prefix}
 use Rattle.kc_dot.proofs.TextBytes.{escape_no_lf}
 use Rattle.kc_dot.proofs.ValueTextLemmas.{fits_known, fits_parts, escape_longer}
@@ -212,17 +212,18 @@ module _ (stream : List ℕ) where
       subst (All Within) (sym is) p.short
 
 module _ (tree : TreeFacts) (user : UserPlace → Option GivenValue) (V : ℕ → SymbolValue) (prefix : List ℕ) (is_pre : is_prefix prefix ≡ true)
-    (formed : IsWellFormed tree) (fits : (i : ℕ) → i < symbol_count tree → fits_known (V i) ≡ true) where
-  symbol_short : (stream : List ℕ) (s : SymId) → s.0 < symbol_count tree → Short stream (symbol_config tree prefix (valuation_view tree user V) s)
-  symbol_short stream s lt =
+    (formed : IsWellFormed tree) (fits : (i : ℕ) → i < name_count tree → fits_known (V i) ≡ true) where
+  symbol_short : (stream : List ℕ) (s : SymId) → Contains tree.defined s → Short stream (symbol_config tree prefix (valuation_view tree user V) s)
+  symbol_short stream s defined =
       let named : HasNames tree = has_names tree formed in
+      let lt = mentioned tree formed s defined in
       let (f, at) = there tree.symbols s.0 lt in
-      let few : length prefix ≤ 64 = short_prefix tree prefix stream is_pre formed named s f at lt in
-      let known = named s lt in
+      let few : length prefix ≤ 64 = short_prefix tree prefix stream is_pre formed named s f at defined in
+      let known = named s defined in
       let value_is : known_from tree V s ≡ V s.0 = rw (lt-ltb s.0 (length tree.symbols) lt) refl in
       let most : length (prefix ++ name_of tree s) ≤ 319 = (let n = known.1 in omega (arith, n, few, length-append prefix (name_of tree s))) in
       subst (λ k. Short stream (dot_line (prefix ++ name_of tree s) k)) (sym value_is)
-      (known_short stream (prefix ++ name_of tree s) (full_no_lf tree prefix stream is_pre formed named s f at lt) most (V s.0) (fits s.0 lt))
+      (known_short stream (prefix ++ name_of tree s) (full_no_lf tree prefix stream is_pre formed named s f at defined) most (V s.0) (fits s.0 lt))
 
   pub config_is_short : HasShortLines (config_text tree prefix (valuation_view tree user V))
   config_is_short name =
@@ -232,6 +233,6 @@ module _ (tree : TreeFacts) (user : UserPlace → Option GivenValue) (V : ℕ �
   pub minimal_is_short : HasShortLines (minimal_text tree prefix (valuation_view tree user V))
   unfolding minimal_text
   minimal_is_short name =
-      short_whole name (flat_map (minimal_if tree prefix (valuation_view tree user V)) (symbols_of tree))
-      (short_all name (minimal_if tree prefix (valuation_view tree user V)) (symbols_of tree)
-      (λ s c. short_if name ((valuation_view tree user V).differs s) (symbol_config tree prefix (valuation_view tree user V) s) (symbol_short name s (symbols_below tree s c))))
+      short_whole name (flat_map (minimal_if tree prefix (valuation_view tree user V)) tree.defined)
+      (short_all name (minimal_if tree prefix (valuation_view tree user V)) tree.defined
+      (λ s c. short_if name ((valuation_view tree user V).differs s) (symbol_config tree prefix (valuation_view tree user V) s) (symbol_short name s c)))

@@ -1,11 +1,11 @@
 -- The line of a symbol, read again.
 use Rattle.std.proofs.Common.{◌≡◌, ℕ, ◌+◌, ◌<◌, ◌≤◌, List, [], ◌∷◌, ◌++◌, Bool, true, false, not, length, get_or, cond, refl, sym, ap, ◌∙◌, subst, arith, inl, inr, Option, Some, None, append_assoc, codes}
-use Rattle.std.specs.Prelude.{◌&&◌, All, is_some, nat_le, slice_get}
+use Rattle.std.specs.Prelude.{◌&&◌, All, Contains, is_some, nat_le, slice_get}
 use Rattle.std.specs.List.{list_any, list_all, cons_option, position_or_len}
 use Rattle.std.specs.Str.Lines.{strip_carriage_return}
 use Rattle.std.specs.Cmp.Lexicographic.{same_text}
 use Rattle.std.proofs.lemmas.Bool.{lt-ltb, leb-true, cases_Bool, and_parts, not-true, false_from_ne_true}
-use Rattle.std.proofs.lemmas.Option.{slice_get-get_or}
+use Rattle.std.proofs.lemmas.Option.{slice_get-get_or, slice_get_within}
 use Rattle.std.proofs.lemmas.List.{length-append}
 use Rattle.std.proofs.lemmas.List.Elements.{All-append, All-cons}
 use Rattle.std.proofs.lemmas.List.Folds.{list_any_none}
@@ -106,7 +106,10 @@ plain_one c plain front b is = rw (← last_byte [] front c b is) plain
 
 -- The line of one symbol.
 module _ (tree : TreeFacts) (prefix stream : List ℕ) (is_pre : is_prefix prefix ≡ true) (formed : IsWellFormed tree) (named : HasNames tree) (s : SymId)
-    (f : SymbolFacts) (at : slice_get tree.symbols s.0 ≡ Some f) (defined : s.0 < length tree.symbols) where
+    (f : SymbolFacts) (at : slice_get tree.symbols s.0 ≡ Some f) (defined : Contains tree.defined s) where
+  below : s.0 < length tree.symbols
+  below = slice_get_within tree.symbols s.0 f at
+
   abbrev pub full : List ℕ
   full = prefix ++ name_of tree s
 
@@ -120,13 +123,13 @@ module _ (tree : TreeFacts) (prefix stream : List ℕ) (is_pre : is_prefix prefi
   set_says value plain =
       let n = named s defined in
       let said : meaning_of prefix (strip_carriage_return (full ++ 61 ∷ value)) ≡ Set (name_of tree s) value = set_read_again prefix (name_of tree s) value is_pre n.0 plain in
-      rw (said, named_itself tree s formed defined, at) refl
+      rw (said, named_itself tree s formed below, at) refl
 
   unset_says : effect_of tree (meaning_of prefix (strip_carriage_return ((codes "# " ++ full) ++ codes " is not set"))) ≡ unset_by_kind (name_of tree s) s f.kind
   unset_says =
       let n = named s defined in
       let said : meaning_of prefix (strip_carriage_return ((codes "# " ++ full) ++ codes " is not set")) ≡ Unset (name_of tree s) = unset_read_again prefix (name_of tree s) n.0 in
-      rw (said, named_itself tree s formed defined, at) refl
+      rw (said, named_itself tree s formed below, at) refl
 
   -- the value's own assignment, where it is allowed
   abbrev pub assignment : SymbolValue → Assignment

@@ -4,10 +4,8 @@ use Rattle.std.specs.Prelude.{slice_get}
 use Rattle.std.specs.List.{flat_map}
 use Rattle.std.specs.Option.{option_map}
 use Rattle.std.proofs.lemmas.List.{drop_more, drop_all}
-use Rattle.std.proofs.lemmas.List.FromFn.{length-map-range_with_len, get_or-map-range_with_len}
-use Rattle.std.proofs.lemmas.Option.{get_or_from_slice_get, slice_get_read, slice_get-map}
+use Rattle.std.proofs.lemmas.Option.{get_or_from_slice_get, slice_get-get_or, slice_get_read, slice_get_within, slice_get-map}
 use Rattle.kc_expr.specs.declared.expression.SymId.{SymId}
-use Rattle.kc_expr.specs.Names.{symbol}
 use Rattle.kc_expr.specs.Value.{SymbolValue}
 use Rattle.kc_tree.specs.TreeFacts.{TreeFacts, Shown, SymbolShown, MenuShown, EndShown, CommentShown, IsWellFormed, IsEntrySound}
 use Rattle.kc_tree.specs.Layouts.{IsLayoutOf, shown_of}
@@ -18,7 +16,7 @@ use Rattle.kc_dot.specs.Named.{HasName}
 use Rattle.kc_dot.specs.Effects.{name_of}
 use Rattle.kc_dot.specs.SymbolLines.{dot_line, header_line}
 use Rattle.kc_dot.specs.EntryTexts.{ends_after, entries_after}
-use Rattle.kc_dot.specs.Texts.{symbols_of, header_if, minimal_if, gap, entry_text}
+use Rattle.kc_dot.specs.Texts.{header_if, minimal_if, gap, entry_text}
 use Rattle.kc_dot.specs.SolutionView.{SolutionView}
 
 -- a text grows by the next part of what is still to come
@@ -54,23 +52,22 @@ module _ (tree : TreeFacts) (prefix : List ℕ) (solution : SolutionView) (s : S
 
 -- Symbol by symbol.
 module _ (tree : TreeFacts) (f : SymId → List ℕ) where
-  length-symbols_of : length (symbols_of tree) ≡ length tree.symbols
-  length-symbols_of = length-map-range_with_len symbol 0 (length tree.symbols)
-
-  symbol_at : (i : ℕ) (d : SymId) → i < length tree.symbols → get_or (symbols_of tree) i d ≡ symbol i
-  symbol_at i d lt = get_or-map-range_with_len symbol 0 (length tree.symbols) i i d lt (omega arith)
-
   -- one symbol more
-  pub symbols_next : (i : ℕ) → i < length tree.symbols → flat_map f (drop i (symbols_of tree)) ≡ f (symbol i) ++ flat_map f (drop (i + 1) (symbols_of tree))
-  symbols_next i lt =
-      let within : i < length (symbols_of tree) = rw length-symbols_of lt in
-      rw (drop_more (symbols_of tree) i (symbol i) within, symbol_at i (symbol i) lt) refl
+  pub symbols_next : (i : ℕ) (s : SymId) → slice_get tree.defined i ≡ Some s → flat_map f (drop i tree.defined) ≡ f s ++ flat_map f (drop (i + 1) tree.defined)
+  symbols_next i s at =
+      let within = slice_get_within tree.defined i s at in
+      rw (drop_more tree.defined i s within, get_or_from_slice_get tree.defined i s s at) refl
 
   -- no symbol more
-  pub symbols_end : (n : ℕ) → length tree.symbols ≤ n → flat_map f (drop n (symbols_of tree)) ≡ []
-  symbols_end n all =
-      let within : length (symbols_of tree) ≤ n = rw length-symbols_of all in
-      rw (drop_all n (symbols_of tree) within) refl
+  pub symbols_end : (n : ℕ) → length tree.defined ≤ n → flat_map f (drop n tree.defined) ≡ []
+  symbols_end n all = rw (drop_all n tree.defined all) refl
+
+-- a defined symbol has a name
+pub defined_named : (tree : TreeFacts) → IsWellFormed tree → (i : ℕ) (s : SymId) → slice_get tree.defined i ≡ Some s → s.0 < length tree.names
+defined_named tree formed i s at =
+    let there = formed.defined_there i s (slice_get_within tree.defined i s at) in
+    let same : (get_or tree.defined i s).0 ≡ s.0 = ap (λ (t : SymId). t.0) (get_or_from_slice_get tree.defined i s s at) in
+    omega (arith, there, same, formed.symbols_named)
 
 module _ (tree : TreeFacts) (prefix : List ℕ) (solution : SolutionView) where
   -- the line of a symbol that is written
@@ -95,10 +92,7 @@ module _ (tree : TreeFacts) (prefix : List ℕ) (solution : SolutionView) where
 -- a symbol among the entries is defined, so that it has a name
 module _ (tree : TreeFacts) (formed : IsWellFormed tree) where
   shown_has_name : (i : ℕ) (shown : Shown) → IsEntrySound tree i shown → HasName tree shown
-  shown_has_name i (SymbolShown s) defined =
-      let named : length tree.symbols ≤ length tree.names = formed.symbols_named in
-      let there : s.0 < length tree.symbols = defined in
-      omega arith
+  shown_has_name i (SymbolShown s) (k, lt, is) = defined_named tree formed k s (slice_get-get_or tree.defined k s lt ∙ ap Some is)
   shown_has_name i (MenuShown text when) sound = tt
   shown_has_name i (EndShown menu) sound = tt
   shown_has_name i (CommentShown text when) sound = tt

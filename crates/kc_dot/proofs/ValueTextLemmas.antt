@@ -26,12 +26,12 @@ use Rattle.kc_tree.specs.TreeFacts.{TreeFacts, SymbolFacts, Guarded, HasLineText
 use Rattle.kc_user.specs.GivenValue.{GivenValue, GivenTruth, GivenText, Member, UserPlace, SymbolPlace}
 use Rattle.kc_user.specs.Places.{allowed_by, allowed_for, allowed_text, AllowedPlaces}
 use Rattle.kc_values.specs.declared.numbers.Interval.{Interval}
-use Rattle.kc_values.specs.Laws.{EquationsReadNeeds, NeedsAreDefined}
-use Rattle.kc_values.specs.Lookups.{facts, name, is_defined}
+use Rattle.kc_values.specs.Laws.{EquationsReadNeeds, NeedsAreSymbols}
+use Rattle.kc_values.specs.Lookups.{facts, name, is_mentioned}
 use Rattle.kc_values.specs.Needs.{needs, needs_of, IsAccepted}
 use Rattle.kc_values.specs.Numbers.{number_text, is_within_range, clamped, if_within_range, number_or_zero}
 use Rattle.kc_values.specs.Solution as sol
-use Rattle.kc_values.specs.Solution.{symbol_count, known_from, user_place, equations}
+use Rattle.kc_values.specs.Solution.{name_count, known_from, user_place, equations}
 use Rattle.kc_values.specs.Values as v
 use Rattle.kc_values.specs.Values.{is_n}
 use Rattle.kc_values.specs.WrittenSymbols.{written}
@@ -286,7 +286,7 @@ fails_each p xs x e (n, lt, is) = false_from_ne_true _ (λ t. true≢false (sym 
 
 -- The values of an accepted tree, one round of needs after another.
 module _ (tree : TreeFacts) (user : UserPlace → Option GivenValue) (V : ℕ → SymbolValue) (texts : HasLineTexts tree) (allowed_at : AllowedPlaces tree user)
-    (reads : EquationsReadNeeds) (within : NeedsAreDefined) (solves : Solves (symbol_count tree) (equations tree user) V) where
+    (reads : EquationsReadNeeds) (within : NeedsAreSymbols) (solves : Solves (name_count tree) (equations tree user) V) where
   -- the values that fit, and n in place of the others
   tamed : ℕ → SymbolValue
   tamed i = cond (fits_known (V i)) (V i) (Truth N)
@@ -304,7 +304,7 @@ module _ (tree : TreeFacts) (user : UserPlace → Option GivenValue) (V : ℕ �
   tamed_same i e = rw e refl
 
   seen_fits : (s : SymId) → fits_known (known_from tree tamed s) ≡ true
-  seen_fits s = by (is_defined tree s)
+  seen_fits s = by (is_mentioned tree s)
     where
       by : (b : Bool) → fits_known (cond b (tamed s.0) (TextValue kind.Undefined (name tree s))) ≡ true
       by true = tamed_fits s.0
@@ -315,19 +315,19 @@ module _ (tree : TreeFacts) (user : UserPlace → Option GivenValue) (V : ℕ �
       facts_fits tree (known_from tree tamed) seen_fits (symbol i) (facts tree (symbol i)) (user (user_place tree i)) (name_fits tree (symbol i) texts) (λ f at g c. texts.defaults i f at g c)
       (λ g at e. allowed_at i g (sym (ap user at) ∙ e))
 
-  fits_after : (k i : ℕ) → i < symbol_count tree → unordered_after (needs_in (needs tree)) k i ≡ false → fits_known (V i) ≡ true
+  fits_after : (k i : ℕ) → i < name_count tree → unordered_after (needs_in (needs tree)) k i ≡ false → fits_known (V i) ≡ true
   fits_after zero i lt e = absurd (true≢false e)
   fits_after (suc k) i lt e =
-      let count : length (needs tree) ≡ symbol_count tree = length-map-range_with_len (needs_of tree) 0 (symbol_count tree) in
+      let count : length (needs tree) ≡ name_count tree = length-map-range_with_len (needs_of tree) 0 (name_count tree) in
       let same : equations tree user i V ≡ equations tree user i tamed =
       reads tree user i V tamed (λ t c.
       let below : t < length (needs tree) = within tree i t (omega (arith, lt, count)) c in
       tamed_same t (fits_after k t (omega (arith, below, count)) (fails_each (unordered_after (needs_in (needs tree)) k) (needs_in (needs tree) i) t e c))) in
       ap fits_known (solves i lt ∙ same) ∙ rhs_fits i
 
-  pub values_fit : IsAccepted tree → (i : ℕ) → i < symbol_count tree → fits_known (V i) ≡ true
+  pub values_fit : IsAccepted tree → (i : ℕ) → i < name_count tree → fits_known (V i) ≡ true
   values_fit accepted i lt =
-      let count : length (needs tree) ≡ symbol_count tree = length-map-range_with_len (needs_of tree) 0 (symbol_count tree) in
+      let count : length (needs tree) ≡ name_count tree = length-map-range_with_len (needs_of tree) 0 (name_count tree) in
       fits_after (length (needs tree)) i lt (accepted i (omega (arith, lt, count)))
 
 fits_line : (k : SymbolValue) → fits_known k ≡ true → IsPlainNumber k → FitsLine k
@@ -340,6 +340,6 @@ fits_line (TextValue kind.Int t) e plain = let (none, short) = fits_parts t e in
 fits_line (TextValue kind.Hex t) e plain = let (none, short) = fits_parts t e in let l = escape_longer t in (none, omega arith, plain)
 
 pub values_fit_lines : (tree : TreeFacts) (user : UserPlace → Option GivenValue) (V : ℕ → SymbolValue) → HasLineTexts tree → AllowedPlaces tree user →
-    EquationsReadNeeds → NeedsAreDefined → Solves (symbol_count tree) (equations tree user) V → IsAccepted tree → HasPlainNumbers tree V →
-    (s : SymId) → s.0 < symbol_count tree → written tree (known_from tree V) s ≡ true → FitsLine (V s.0)
+    EquationsReadNeeds → NeedsAreSymbols → Solves (name_count tree) (equations tree user) V → IsAccepted tree → HasPlainNumbers tree V →
+    (s : SymId) → s.0 < name_count tree → written tree (known_from tree V) s ≡ true → FitsLine (V s.0)
 values_fit_lines tree user V texts allowed_at reads within solves accepted plain s lt w = fits_line (V s.0) (values_fit tree user V texts allowed_at reads within solves accepted s.0 lt) (plain s lt w)

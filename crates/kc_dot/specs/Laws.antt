@@ -6,7 +6,7 @@ use Rattle.kc_expr.specs.Value.{SymbolValue}
 use Rattle.kc_tree.specs.TreeFacts.{TreeFacts}
 use Rattle.kc_user.specs.Places.{Places, place_at}
 use Rattle.kc_values.specs.Differs.{differs, changes_on_reread}
-use Rattle.kc_values.specs.Solution.{symbol_count}
+use Rattle.kc_values.specs.Solution.{name_count}
 use Rattle.kc_dot.specs.Plain.{HasPlainNumbers, HasPlainTitles}
 use Rattle.kc_dot.specs.Reading.{is_within, lines_from}
 use Rattle.kc_dot.specs.Reread.{HasOtherSolution, IsOneSolution, kept_lines, read_alone, valuation_view}
@@ -26,7 +26,7 @@ IsOneLine text = (body : List ℕ) × (text ≡ body ++ codes "\n") × HoldsNoLi
 -- What the file has of a symbol that differs is one line; with it left out, and any others, they are not.
 abbrev pub MinimalNeedsEach : TreeFacts → List ℕ → Places → (ℕ → SymbolValue) → Type 0
 MinimalNeedsEach tree prefix places V =
-    (name : List ℕ) (keep : SymId → Bool) (s : SymId) → s.0 < symbol_count tree → differs tree (place_at places) V s.0 ≡ true → keep s ≡ false →
+    (name : List ℕ) (keep : SymId → Bool) (s : SymId) → s.0 < name_count tree → differs tree (place_at places) V s.0 ≡ true → keep s ≡ false →
     let view = valuation_view tree (place_at places) V in
     let read = read_alone tree prefix name (kept_lines tree prefix view keep) in
     IsOneLine (symbol_config tree prefix view s) × (read.stopped ≡ None) × HasOtherSolution tree read.input.places V
@@ -37,7 +37,7 @@ abbrev pub ConfigGivesBack : TreeFacts → List ℕ → Places → (ℕ → Symb
 ConfigGivesBack tree prefix places V =
     HasPlainNumbers tree V → HasPlainTitles tree prefix (valuation_view tree (place_at places) V) → (name : List ℕ) →
     let read = read_alone tree prefix name (config_text tree prefix (valuation_view tree (place_at places) V)) in
-    (read.stopped ≡ None) × (IsOneSolution tree read.input.places V ↔ ((i : ℕ) → i < symbol_count tree → changes_on_reread tree V i ≡ false))
+    (read.stopped ≡ None) × (IsOneSolution tree read.input.places V ↔ ((i : ℕ) → i < name_count tree → changes_on_reread tree V i ≡ false))
 
 -- no line of the text, whatever its name, is too long to be read again
 abbrev pub HasShortLines : List ℕ → Type 0

@@ -6,7 +6,7 @@ use Rattle.kc_expr.specs.declared.expression.Kind.TheVariants as kind
 use Rattle.kc_expr.specs.declared.expression.SymId.{SymId}
 use Rattle.kc_expr.specs.Value.{SymbolValue, Truth, TextValue}
 use Rattle.kc_tree.specs.TreeFacts.{TreeFacts, Shown, SymbolShown, MenuShown, EndShown, CommentShown}
-use Rattle.kc_values.specs.Solution.{known_from, symbol_count}
+use Rattle.kc_values.specs.Solution.{known_from, name_count}
 use Rattle.kc_values.specs.WrittenSymbols.{written}
 use Rattle.kc_dot.specs.DotLine.{Unset, ended_meaning}
 use Rattle.kc_dot.specs.SolutionView.{SolutionView, is_shown}
@@ -51,4 +51,4 @@ IsPlainNumber (TextValue kind.Int text) = EndsPlainly text
 IsPlainNumber (TextValue kind.Hex text) = EndsPlainly text
 
 abbrev pub HasPlainNumbers : TreeFacts → (ℕ → SymbolValue) → Type 0
-HasPlainNumbers tree V = (s : SymId) → s.0 < symbol_count tree → written tree (known_from tree V) s ≡ true → IsPlainNumber (V s.0)
+HasPlainNumbers tree V = (s : SymId) → s.0 < name_count tree → written tree (known_from tree V) s ≡ true → IsPlainNumber (V s.0)

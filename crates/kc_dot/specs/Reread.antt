@@ -8,11 +8,11 @@ use Rattle.kc_user.specs.GivenValue.{GivenValue, UserPlace}
 use Rattle.kc_values.specs.Differs.{differs}
 use Rattle.kc_user.specs.Places.{Places, place_at}
 use Rattle.kc_order.specs.Solution.{Solves, IsOnlySolution}
-use Rattle.kc_values.specs.Solution.{symbol_count, known_from, equations}
+use Rattle.kc_values.specs.Solution.{name_count, known_from, equations}
 use Rattle.kc_values.specs.Values.{condition}
 use Rattle.kc_values.specs.WrittenSymbols.{written}
 use Rattle.kc_dot.specs.Reading.{ReadResult, no_input, reading_of}
-use Rattle.kc_dot.specs.Texts.{minimal_if, symbols_of}
+use Rattle.kc_dot.specs.Texts.{minimal_if}
 use Rattle.kc_dot.specs.SolutionView.{SolutionView}
 
 -- What a valuation answers the writers, as a solution does.
@@ -26,7 +26,7 @@ valuation_view tree user V = record {
 
 -- the minimal file's lines of the symbols that pass the test
 abbrev pub kept_lines : TreeFacts → List ℕ → SolutionView → (SymId → Bool) → List ℕ
-kept_lines tree prefix solution keep = flat_map (λ s. if keep s then minimal_if tree prefix solution s else []) (symbols_of tree)
+kept_lines tree prefix solution keep = flat_map (λ s. if keep s then minimal_if tree prefix solution s else []) tree.defined
 
 -- what reading this text alone gives, from empty places, under this name
 abbrev pub read_alone : TreeFacts → List ℕ → List ℕ → List ℕ → ReadResult
@@ -34,10 +34,10 @@ read_alone tree prefix name text = reading_of tree prefix (no_input false tree) 
 
 -- these values are the one solution under these places
 pub record IsOneSolution (tree : TreeFacts) (places : Places) (V : ℕ → SymbolValue) : Type 0 where
-  pub solves : Solves (symbol_count tree) (equations tree (place_at places)) V
-  pub only : IsOnlySolution (symbol_count tree) (equations tree (place_at places)) V
+  pub solves : Solves (name_count tree) (equations tree (place_at places)) V
+  pub only : IsOnlySolution (name_count tree) (equations tree (place_at places)) V
 
 -- no solution under these places has these values
 abbrev pub HasOtherSolution : TreeFacts → Places → (ℕ → SymbolValue) → Type 0
 HasOtherSolution tree places V =
-    (W : ℕ → SymbolValue) → Solves (symbol_count tree) (equations tree (place_at places)) W → ((i : ℕ) → i < symbol_count tree → W i ≡ V i) → ⊥
+    (W : ℕ → SymbolValue) → Solves (name_count tree) (equations tree (place_at places)) W → ((i : ℕ) → i < name_count tree → W i ≡ V i) → ⊥

@@ -1,17 +1,12 @@
 -- Trusted: The three texts: the .config, the header and the minimal file.
-use Rattle.std.specs.Prelude.{ℕ, ◌++◌, List, [], length, map, take, Bool, true, false, Option, Some, None, is_some, codes, slice_get, if◌then◌else◌}
+use Rattle.std.specs.Prelude.{ℕ, ◌++◌, List, [], take, Bool, true, false, Option, Some, None, is_some, codes, slice_get, if◌then◌else◌}
 use Rattle.std.specs.Option.{option_map_or}
-use Rattle.std.specs.List.{filter, flat_map, enumerate_from, last_or, range_with_len}
+use Rattle.std.specs.List.{filter, flat_map, enumerate_from, last_or}
 use Rattle.kc_expr.specs.declared.expression.SymId.{SymId}
-use Rattle.kc_expr.specs.Names.{symbol}
 use Rattle.kc_tree.specs.TreeFacts.{TreeFacts, Shown, SymbolShown, MenuShown, EndShown, CommentShown}
 use Rattle.kc_dot.specs.Effects.{name_of}
 use Rattle.kc_dot.specs.SymbolLines.{dot_line, header_line}
 use Rattle.kc_dot.specs.SolutionView.{SolutionView, is_shown}
-
--- the symbols in order of their first definition
-abbrev pub symbols_of : TreeFacts → List SymId
-symbols_of tree = map symbol (range_with_len 0 (length tree.symbols))
 
 abbrev pub config_heading : List ℕ → List ℕ
 config_heading title = codes "#\n# Automatically generated file; DO NOT EDIT.\n# " ++ title ++ codes "\n#\n"
@@ -87,13 +82,13 @@ module _ (tree : TreeFacts) (prefix : List ℕ) (solution : SolutionView) where
   abbrev pub header_if : SymId → List ℕ
   header_if s = if solution.written s then symbol_header s else []
 
-  -- the heading, and the header lines of the written symbols
+  -- the heading, and the header lines of the written symbols, in the order of their first definition
   unfoldable pub header_text : List ℕ
-  header_text = header_heading tree.main_menu ++ flat_map header_if (symbols_of tree)
+  header_text = header_heading tree.main_menu ++ flat_map header_if tree.defined
 
   abbrev pub minimal_if : SymId → List ℕ
   minimal_if s = if solution.differs s then symbol_config s else []
 
-  -- the lines of the symbols that differ
+  -- the lines of the symbols that differ, in that order
   unfoldable pub minimal_text : List ℕ
-  minimal_text = flat_map minimal_if (symbols_of tree)
+  minimal_text = flat_map minimal_if tree.defined

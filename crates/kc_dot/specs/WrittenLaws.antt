@@ -8,7 +8,7 @@ use Rattle.kc_tree.specs.TreeFacts.{TreeFacts, IsWellFormed}
 use Rattle.kc_user.specs.GivenValue.{GivenValue, UserPlace}
 use Rattle.kc_user.specs.Places.{ArePlaces, Places, allowed, place_at}
 use Rattle.kc_values.specs.Needs.{IsAccepted}
-use Rattle.kc_values.specs.Solution.{equations, symbol_count}
+use Rattle.kc_values.specs.Solution.{equations, name_count}
 use Rattle.kc_dot.specs.DotLine.{meaning_of}
 use Rattle.kc_dot.specs.Effects.{Assigns, effect_of}
 use Rattle.kc_dot.specs.Laws.{ConfigGivesBack, HasShortLines, MinimalGivesBack, MinimalNeedsEach}
@@ -34,7 +34,7 @@ pub record IsSolutionOf (tree : TreeFacts) (places : Places) (V : ℕ → Symbol
   pub formed : IsWellFormed tree
   pub accepted : IsAccepted tree
   pub held : ArePlaces tree places
-  pub solves : Solves (symbol_count tree) (equations tree (place_at places)) V
+  pub solves : Solves (name_count tree) (equations tree (place_at places)) V
 
 -- No line of the .config or of the minimal file is too long to be read again, whatever the numbers and titles.
 abbrev pub WrittenTextsAreShort : Type 0

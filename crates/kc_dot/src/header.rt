@@ -1,12 +1,12 @@
 //! The writers of the header and of the minimal file.
 ghost use Rattle.std.specs.Prelude.{◌≡◌, ◌<◌, ◌++◌, length, OnOk, OnErr, IfOk, flat_map};
 ghost use Rattle.kc_dot.specs.Laws.{HasShortLines, MinimalGivesBack, MinimalNeedsEach};
-ghost use Rattle.kc_dot.specs.Texts.{header_heading, header_text, minimal_text, header_if, minimal_if, symbols_of};
+ghost use Rattle.kc_dot.specs.Texts.{header_heading, header_text, minimal_text, header_if, minimal_if};
 ghost use Rattle.kc_dot.specs.SolvedView.{solution_view};
 ghost use Rattle.kc_dot.specs.Writing.{Writes};
 ghost use Rattle.kc_solve.specs.Solved.{value_of};
 ghost use Rattle.kc_user.specs.Places.{ArePlaces};
-ghost use Rattle.kc_values.specs.Solution.{symbol_count};
+ghost use Rattle.kc_values.specs.Solution.{name_count};
 
 use crate::batch::put_text;
 use crate::fault::WriteFault;
@@ -46,7 +46,7 @@ fn add_minimal_if(
     file: &mut Vec<u8>,
 ) -> Result<(), AllocError>
     requires named { id.0 < length tree.now.names }
-    requires defined { id.0 < symbol_count solved.now.tree }
+    requires mentioned { id.0 < name_count solved.now.tree }
     ensures line { OnOk result (file.new.items ≡ file.old.items ++ minimal_if tree.now prefix.now (solution_view solved.now) id) }
     ensures some { OnErr result (0 < length (minimal_if tree.now prefix.now (solution_view solved.now) id)) }
 {
@@ -63,7 +63,7 @@ fn add_header_lines(
     prefix: &Prefix,
     file: &mut Vec<u8>,
 ) -> Result<(), AllocError>
-    ensures { OnOk result (file.new.items ≡ file.old.items ++ flat_map (header_if tree.now prefix.now (solution_view solved.now)) (symbols_of tree.now)) }
+    ensures { OnOk result (file.new.items ≡ file.old.items ++ flat_map (header_if tree.now prefix.now (solution_view solved.now)) tree.now.defined) }
 {
     for i in 0..tree.symbol_count() {
         add_header_if(tree, solved, prefix, tree.symbol(i), file)?;

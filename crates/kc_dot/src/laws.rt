@@ -8,7 +8,7 @@ ghost use Rattle.kc_dot.specs.Streams.{ReadingKeepsPlaces, RefusalsKeepPlaces, S
 use kc_user::laws::places_hold_what_is_allowed;
 use kc_values::laws::{
     accepted_have_one_solution, differing_are_allowed, equations_read_needs, idempotent_where,
-    minimal_restores, needs_are_defined,
+    minimal_restores, needs_are_symbols,
 };
 
 /// The bytes of a stream are cut into lines at each line feed, and what is left behind the last one is the last line, where
@@ -98,7 +98,7 @@ pub fn written_texts_are_short()
     ensures { WrittenTextsAreShort }
 {
     equations_read_needs();
-    needs_are_defined();
+    needs_are_symbols();
 }
 
 /// The minimal file gives the values back: with the places that reading it leaves, from empty places, they are the one
@@ -121,7 +121,7 @@ pub fn config_is_idempotent()
 {
     accepted_have_one_solution();
     equations_read_needs();
-    needs_are_defined();
+    needs_are_symbols();
     idempotent_where();
 }
 

@@ -37,9 +37,8 @@ fn choice_of(tree: &Tree, id: SymId) -> Option<ChoiceId>
     ensures choice { option_map (λ choice. choice.0) result ≡ choice_of tree.now id }
     ensures there { IfSome result (λ choice. choice.0 < length tree.now.choices) }
 {
-    if id.0 >= tree.symbol_count() {
-        return None;
-    }
+    // The choice of a member is there: `name_count` says so.
+    let _ = tree.name_count();
     match tree.facts(id) {
         Some(symbol) => symbol.choice,
         None => None,
@@ -69,7 +68,7 @@ fn choose(tree: &Tree, id: SymId, user: &mut User)
 
 // Gives the symbol the value; a member that is made y becomes the user's member of its choice.
 fn assign(tree: &Tree, id: SymId, value: UserValue, user: &mut User)
-    requires defined { id.0 < length tree.now.symbols }
+    requires mentioned { id.0 < length tree.now.symbols }
     requires user { ArePlacesOf tree.now user.old }
     ensures { user.new ≡ places_given tree.now user.old (record { symbol = id; given = given_of_value value } ∷ []) }
 {
@@ -101,7 +100,7 @@ fn set_line<'a>(lines: &mut Vec<Option<InputLine<'a>>>, id: SymId, at: InputLine
 
 // Gives the symbol the value, by this line.
 fn give<'a>(tree: &Tree, at: InputLine<'a>, id: SymId, value: UserValue, input: &mut UserInput<'a>)
-    requires defined { id.0 < length tree.now.symbols }
+    requires mentioned { id.0 < length tree.now.symbols }
     requires user { ArePlacesOf tree.now input.old.places }
     ensures { input.new ≡ input_by tree.now input.old (location_of at.entry) (Assigns id (given_of_value value)) }
 {
@@ -214,12 +213,12 @@ fn warn_again(
     input: &UserInput<'_>,
     told: &mut Vec<u8>,
 ) -> Result<(), AllocError>
-    requires defined { id.0 < length tree.now.symbols }
+    requires mentioned { id.0 < length tree.now.symbols }
     requires user { ArePlacesOf tree.now input.now.places }
     ensures whole { OnOk result (told.new.items ≡ told.old.items ++ effect_text tree.now input.now (location_of at.entry) (Assigns id (given_of_value value.now))) }
     ensures nothing { OnErr result (told.new.items ≡ told.old.items) }
 {
-    if id.0 >= tree.symbol_count() {
+    if id.0 >= tree.name_count() {
         return Ok(());
     }
     match input.user().get(id) {

@@ -40,7 +40,7 @@ fn no_lines<'a>(
     if !keeps_lines {
         return Ok(Vec::new(alloc));
     }
-    empty_places(alloc, tree.symbol_count())
+    empty_places(alloc, tree.name_count())
 }
 
 impl<'a> UserInput<'a> {

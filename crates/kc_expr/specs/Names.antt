@@ -1,5 +1,5 @@
 -- Trusted: Names and their numbers.
-use Rattle.std.specs.Prelude.{ℕ, ◌≡◌, ◌==◌, ◌||◌, Bool, List, [], ◌∷◌, ◌++◌, if◌then◌else◌, length, map, slice_get, bytes_eq, Some}
+use Rattle.std.specs.Prelude.{ℕ, ◌≡◌, ◌==◌, ◌||◌, Bool, List, [], ◌∷◌, ◌++◌, if◌then◌else◌, bytes_eq}
 use Rattle.std.specs.List.{list_any, position_or_len, IsDistinct}
 use Rattle.std.specs.Char.{is_ascii_alphanumeric}
 use Rattle.kc_text.specs.Bytes.{byte}
@@ -44,8 +44,3 @@ IsNumber names name id = (later : List (List ℕ)) → Extends names later → i
 -- no name stands twice
 abbrev pub AreDistinct : List (List ℕ) → Type 0
 AreDistinct = IsDistinct same_name
-
--- the names once each has the number that stands at its own in the list
-pub record IsRenumbered (names : List (List ℕ)) (numbers : List SymId) (new : List (List ℕ)) : Type 0 where
-  pub all : length new ≡ length names
-  pub there : map (λ id. slice_get new id.0) numbers ≡ map Some names

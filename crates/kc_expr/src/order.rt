@@ -1,49 +1,50 @@
 //! Symbols in an order of their own.
 
-ghost use Rattle.std.specs.Prelude.{◌≡◌, ◌<◌, ◌∷◌, ◌++◌, ℕ, [], false, length, IfOk, OnOk, OnErr};
-ghost use Rattle.kc_expr.specs.Names.{symbol};
-ghost use Rattle.kc_expr.specs.Order.{rank_at, has_rank, rank_of, ranked};
+ghost use Rattle.std.specs.Prelude.{◌≡◌, ◌<◌, ◌∷◌, ◌++◌, ℕ, [], false, length, OnOk, OnErr};
+ghost use Rattle.kc_expr.specs.Order.{added, is_marked, stands_in};
 
 use crate::expression::SymId;
 use std::alloc::{AllocError, Global};
 use std::marker::Model;
 
-/// Symbols in the order in which they got their ranks, each once. A contract sees them as the list of the symbols.
+/// Symbols in the order in which they were added, each once. A contract sees them as the list of the symbols.
 #[derive(Drop)]
 pub struct SymbolOrder {
     symbols: Vec<SymId>,
-    ranks: Vec<Option<usize>>,
+    // Whether the symbol of each number stands in the order.
+    marks: Vec<bool>,
 }
 
 impl Model for SymbolOrder {
-    ghost use Rattle.std.specs.Prelude.{◌≡◌, ◌==◌, ℕ, List, position};
-    ghost use Rattle.kc_expr.specs.Order.{rank_at};
+    ghost use Rattle.std.specs.Prelude.{◌≡◌, ◌==◌, ℕ, List};
+    ghost use Rattle.std.specs.List.{list_any};
+    ghost use Rattle.kc_expr.specs.Order.{is_marked};
     ghost use Rattle.kc_expr.specs.declared.expression.SymId.{SymId};
 
     ghost Value = { List SymId };
 
     ghost view = { λ o. o.symbols.items };
 
-    ghost invariant = { λ o. (i : ℕ) → rank_at o.ranks.items i ≡ position (λ s. i == s.0) o.symbols.items };
+    ghost invariant = { λ o. (i : ℕ) → is_marked o.marks.items i ≡ list_any (λ s. i == s.0) o.symbols.items };
 }
 
-// The rank that stands at a place of the list, and past the end none.
-fn rank_at(ranks: &[Option<usize>], i: usize) -> Option<usize>
-    ensures { result ≡ rank_at ranks.now i }
+// Whether there is a mark at a place of the list, past whose end there is none.
+fn is_marked(marks: &[bool], i: usize) -> bool
+    ensures { result ≡ is_marked marks.now i }
 {
-    match ranks.get(i) {
-        Some(rank) => *rank,
-        None => None,
+    match marks.get(i) {
+        Some(mark) => *mark,
+        None => false,
     }
 }
 
 // The list reaches as far as this place, and says the same as before.
-fn reach(ranks: &mut Vec<Option<usize>>, i: usize) -> Result<(), AllocError>
-    ensures reached { OnOk result (i < length ranks.new.items) }
-    ensures same { (k : ℕ) → rank_at ranks.new.items k ≡ rank_at ranks.old.items k }
+fn reach(marks: &mut Vec<bool>, i: usize) -> Result<(), AllocError>
+    ensures reached { OnOk result (i < length marks.new.items) }
+    ensures same { (k : ℕ) → is_marked marks.new.items k ≡ is_marked marks.old.items k }
 {
-    while ranks.len() <= i {
-        ranks.push(None)?;
+    while marks.len() <= i {
+        marks.push(false)?;
     }
     Ok(())
 }
@@ -55,7 +56,7 @@ impl SymbolOrder {
     {
         SymbolOrder {
             symbols: Vec::new(alloc),
-            ranks: Vec::new(alloc),
+            marks: Vec::new(alloc),
         }
     }
 
@@ -66,30 +67,34 @@ impl SymbolOrder {
         self.symbols.len()
     }
 
-    // The symbol, which has no rank, gets the next one.
-    fn append(&mut self, id: SymId) -> Result<SymId, AllocError>
-        requires { has_rank self.old id ≡ false }
-        ensures rank { IfOk result (λ p. p ≡ symbol (length self.old)) }
+    /// The symbols themselves, in their order. Takes no memory.
+    pub fn into_symbols(self) -> Vec<SymId>
+        ensures { result.items ≡ self }
+    {
+        self.symbols
+    }
+
+    // The symbol, which does not stand in the order, is added to it.
+    fn append(&mut self, id: SymId) -> Result<(), AllocError>
+        requires { stands_in self.old id ≡ false }
         ensures order { OnOk result (self.new ≡ self.old ++ id ∷ []) }
         ensures err { OnErr result (self.new ≡ self.old) }
     {
-        reach(&mut self.ranks, id.0)?;
-        let rank = self.symbols.len();
+        reach(&mut self.marks, id.0)?;
         self.symbols.push(id)?;
-        self.ranks[id.0] = Some(rank);
-        Ok(SymId(rank))
+        self.marks[id.0] = true;
+        Ok(())
     }
 
-    /// The symbol's rank in the order, which is the next one where it has none. It stays its rank from then on. The
-    /// only error is to be out of memory, after which the order is as it was.
-    pub fn rank(&mut self, id: SymId) -> Result<SymId, AllocError>
-        ensures rank { IfOk result (λ p. p ≡ symbol (rank_of self.old id)) }
-        ensures order { OnOk result (self.new ≡ ranked self.old id) }
+    /// Adds the symbol, unless it stands in the order. The only error is to be out of memory, after which the order is as
+    /// it was.
+    pub fn add(&mut self, id: SymId) -> Result<(), AllocError>
+        ensures order { OnOk result (self.new ≡ added self.old id) }
         ensures err { OnErr result (self.new ≡ self.old) }
     {
-        match rank_at(&self.ranks, id.0) {
-            Some(rank) => Ok(SymId(rank)),
-            None => self.append(id),
+        if is_marked(&self.marks, id.0) {
+            return Ok(());
         }
+        self.append(id)
     }
 }

@@ -1,16 +1,18 @@
 -- Needs that are alike, and orders of graphs.
-use Rattle.std.proofs.Common.{◌≡◌, ℕ, ◌<◌, ◌≤◌, Bool, true, false, List, [], ◌∷◌, length, get_or, zero, suc, sym, ◌∙◌, ap, refl, inl, inr, arith, take, filter, subst}
+use Rattle.std.proofs.Common.{◌≡◌, ℕ, ◌<◌, ◌≤◌, Bool, true, false, ◌&&◌, eqb, List, length, get_or, zero, suc, sym, ◌∙◌, ap, ap₂}
+use Rattle.std.proofs.Common.{refl, inl, inr, arith, take, subst, Some, find}
 use Rattle.std.specs.List.{Contains, list_any, flat_map, slice_index}
-use Rattle.std.proofs.lemmas.Bool.{cases_Bool, cases_lt}
+use Rattle.std.proofs.lemmas.Bool.{cases_lt}
+use Rattle.std.proofs.lemmas.Bool.Decides.{same_from_decides}
 use Rattle.std.proofs.lemmas.List.{get_or_default, get_or-take, length-take-le}
-use Rattle.std.proofs.lemmas.List.Elements.{All-contains, Contains-get_or, Contains-append_right, Contains-append_cases}
+use Rattle.std.proofs.lemmas.List.Elements.{Contains-get_or}
 use Rattle.std.proofs.lemmas.List.Folds.{list_any_at, Any-from_list_any}
 use Rattle.kc_order.specs.Graph.{Nodes, IsGraph, groups_of, needs_of, stands_for}
-use Rattle.kc_order.specs.Loop.{IsFirstUnordered, IsLeast, IsNext, IsNamedLoop}
+use Rattle.kc_order.specs.Loop.{IsFirstUnordered, IsNext, IsNamedLoop}
 use Rattle.kc_order.specs.Needs.{AreAlike, AreWithin, IsAccepted, needs_in, unordered_after}
 use Rattle.kc_order.specs.Order.{Orders}
+use Rattle.kc_order.proofs.FirstLemmas.{same_found}
 use Rattle.kc_order.proofs.Groups.{contains_flat, group_stands, needs_count, needs_within, one_is, stands_symbol}
-use Rattle.kc_order.proofs.Walks.{kept_from}
 
 -- a test finds something in a list where it finds it in one that holds no more
 any_in : (p q : ℕ → Bool) (xs ys : List ℕ) → ((t : ℕ) → Contains xs t → Contains ys t) → ((t : ℕ) → p t ≡ true → q t ≡ true) → list_any p xs ≡ true → list_any q ys ≡ true
@@ -18,6 +20,9 @@ any_in p q xs ys more same e =
     let a = Any-from_list_any p xs e in
     let c = more a.1 (a.0, a.2, a.3) in
     list_any_at q ys c.0 0 c.1 (ap q (get_or_default ys c.0 0 a.1 c.1 ∙ c.2) ∙ same a.1 a.4)
+
+same_answer : (a b : Bool) → (a ≡ true → b ≡ true) → (b ≡ true → a ≡ true) → a ≡ b
+same_answer a b onward back = same_from_decides {P = a ≡ true} a b ((λ e. e), (λ e. e)) (back, onward)
 
 unordered_onward : (needs other : List (List ℕ)) → AreAlike needs other → (k s : ℕ) → unordered_after (needs_in needs) k s ≡ true → unordered_after (needs_in other) k s ≡ true
 unordered_onward needs other alike zero s e = refl
@@ -30,69 +35,41 @@ turned needs other alike = record { count = sym alike.count; onward = alike.back
 -- the same symbols are unordered after each iteration
 pub unordered_same : (needs other : List (List ℕ)) → AreAlike needs other → (k s : ℕ) → unordered_after (needs_in needs) k s ≡ unordered_after (needs_in other) k s
 unordered_same needs other alike k s =
-    elim (cases_Bool (unordered_after (needs_in needs) k s)) [
-      | inl unordered ↦ unordered ∙ sym (unordered_onward needs other alike k s unordered)
-      | inr free ↦ elim (cases_Bool (unordered_after (needs_in other) k s)) [
-        | inl unordered ↦ unordered_onward other needs (turned needs other alike) k s unordered ∙ sym unordered
-        | inr both ↦ free ∙ sym both
-      ]
-    ]
+    same_answer _ _ (unordered_onward needs other alike k s) (unordered_onward other needs (turned needs other alike) k s)
+
+-- and needed by a symbol
+needed_same : (needs other : List (List ℕ)) → AreAlike needs other → (s t : ℕ) → list_any (eqb t) (needs_in needs s) ≡ list_any (eqb t) (needs_in other s)
+needed_same needs other alike s t =
+    same_answer _ _
+    (any_in (eqb t) (eqb t) (needs_in needs s) (needs_in other s) (alike.onward s) (λ u e. e))
+    (any_in (eqb t) (eqb t) (needs_in other s) (needs_in needs s) (alike.back s) (λ u e. e))
 
 pub accepted_alike : (needs other : List (List ℕ)) → AreAlike needs other → IsAccepted needs → IsAccepted other
 accepted_alike needs other alike is s l =
     subst (λ n. unordered_after (needs_in other) n s ≡ false) alike.count (sym (unordered_same needs other alike (length needs) s) ∙ is s (omega (arith, l, alike.count)))
 
--- what passes is kept
-kept_in : (p : ℕ → Bool) (xs : List ℕ) (t : ℕ) → Contains xs t → p t ≡ true → Contains (filter p xs) t
-kept_in p [] t c e = absurd (omega (arith, c.1))
-kept_in p (x ∷ xs) t c e =
-    elim (Contains-append_cases (x ∷ []) xs t c) [
-      | inl here ↦
-          let same : x ≡ t = one_is x t here in
-          let passes : p x ≡ true = ap p same ∙ e in
-          rw passes (0, omega arith, same)
-      | inr later ↦
-          let rest = kept_in p xs t later e in
-          elim (cases_Bool (p x)) [
-            | inl passes ↦ rw passes (Contains-append_right (x ∷ []) (filter p xs) t rest)
-            | inr fails ↦ rw fails rest
-          ]
-    ]
+module _ (sequence : List ℕ) (needs other : List (List ℕ)) (alike : AreAlike needs other) where
+  first_alike : (t : ℕ) → IsFirstUnordered sequence (length needs) (needs_in needs) t → IsFirstUnordered sequence (length other) (needs_in other) t
+  first_alike t first =
+      subst (λ n. find (unordered_after (needs_in other) n) sequence ≡ Some t) alike.count
+      (sym (same_found _ _ sequence (λ k d l. unordered_same needs other alike (length needs) (get_or sequence k d))) ∙ first)
 
-least_alike : (p q : ℕ → Bool) (xs ys : List ℕ) (t : ℕ) → ((u : ℕ) → p u ≡ q u) → ((u : ℕ) → Contains xs u → Contains ys u) → ((u : ℕ) → Contains ys u → Contains xs u) →
-    IsLeast (filter p xs) t → IsLeast (filter q ys) t
-least_alike p q xs ys t same onward back least =
-    let from = kept_from p xs t least.0 in (
-      kept_in q ys t (onward t from.0) (sym (same t) ∙ from.1),
-      λ k d l.
-          let u = get_or (filter q ys) k d in
-          let there = kept_from q ys u (Contains-get_or (filter q ys) k d l) in
-          All-contains (λ v. t ≤ v) (filter p xs) u least.1 (kept_in p xs u (back u there.0) (same u ∙ there.1)),
-    )
+  next_alike : (s t : ℕ) → IsNext sequence (length needs) (needs_in needs) s t → IsNext sequence (length other) (needs_in other) s t
+  next_alike s t next =
+      subst (λ n. find (λ u. unordered_after (needs_in other) n u && list_any (eqb u) (needs_in other s)) sequence ≡ Some t) alike.count
+      (sym (same_found _ _ sequence (λ k d l.
+      ap₂ (λ a b. a && b) (unordered_same needs other alike (length needs) (get_or sequence k d)) (needed_same needs other alike s (get_or sequence k d)))) ∙ next)
 
-next_alike : (needs other : List (List ℕ)) → AreAlike needs other → (s t : ℕ) → IsNext (length needs) (needs_in needs) s t → IsNext (length other) (needs_in other) s t
-next_alike needs other alike s t next =
-    subst (λ n. IsLeast (filter (unordered_after (needs_in other) n) (needs_in other s)) t) alike.count
-    (least_alike (unordered_after (needs_in needs) (length needs)) (unordered_after (needs_in other) (length needs)) (needs_in needs s) (needs_in other s) t
-    (unordered_same needs other alike (length needs)) (alike.onward s) (alike.back s) next)
-
-first_alike : (needs other : List (List ℕ)) → AreAlike needs other → (t : ℕ) → IsFirstUnordered (length needs) (needs_in needs) t → IsFirstUnordered (length other) (needs_in other) t
-first_alike needs other alike t first = record {
-  below = omega (arith, first.below, alike.count);
-  unordered = subst (λ n. unordered_after (needs_in other) n t ≡ true) alike.count (sym (unordered_same needs other alike (length needs) t) ∙ first.unordered);
-  none_before = λ u b. subst (λ n. unordered_after (needs_in other) n u ≡ false) alike.count (sym (unordered_same needs other alike (length needs) u) ∙ first.none_before u b);
-}
-
-pub loop_alike : (needs other : List (List ℕ)) (loop : List ℕ) → AreAlike needs other → IsNamedLoop (length needs) (needs_in needs) loop → IsNamedLoop (length other) (needs_in other) loop
-loop_alike needs other loop alike named = record {
-  lead = named.lead;
-  some = named.some;
-  walk = record {
-    begins = first_alike needs other alike _ named.walk.begins;
-    goes_on = λ k l. next_alike needs other alike _ _ (named.walk.goes_on k l);
-  };
-  apart = named.apart;
-}
+  pub loop_alike : (loop : List ℕ) → IsNamedLoop sequence (length needs) (needs_in needs) loop → IsNamedLoop sequence (length other) (needs_in other) loop
+  loop_alike loop named = record {
+    lead = named.lead;
+    some = named.some;
+    walk = record {
+      begins = first_alike _ named.walk.begins;
+      goes_on = λ k l. next_alike _ _ (named.walk.goes_on k l);
+    };
+    apart = named.apart;
+  }
 
 pub graph_within : (g : Nodes) → IsGraph g → AreWithin (needs_of g)
 graph_within g is s t l c =

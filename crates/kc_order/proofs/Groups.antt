@@ -4,10 +4,10 @@ use Rattle.std.specs.List.{Contains, flat_map}
 use Rattle.std.proofs.lemmas.Bool.{cases_lt, cases_Bool, lt-ltb, le-ltb, true≢false}
 use Rattle.std.proofs.lemmas.List.{get_or_append_left, get_or_push, length_push, get_or_default, get_or-map, get_or-take, get_or-drop, length-take-le, length-map}
 use Rattle.std.proofs.lemmas.List.Elements.{All-tail, Contains-get_or, Contains-append_left, Contains-append_right, Contains-append_cases}
-use Rattle.std.proofs.lemmas.List.Folds.{list_any_at, Any-from_list_any}
+use Rattle.std.proofs.lemmas.List.Folds.{list_any_at}
 use Rattle.kc_order.specs.Needs.{NeedsBelow, needs_in, unordered_after}
 use Rattle.kc_order.specs.Graph.{Nodes, IsGraph, stands_for, groups_from, groups_of, needs_of}
-use Rattle.kc_order.proofs.Stays.{stays_unordered}
+use Rattle.kc_order.proofs.Stays.{needs_unordered}
 
 -- a graph by its parts, and what its symbols need
 abbrev pub graph : ℕ → List (List ℕ) → Nodes
@@ -157,12 +157,6 @@ module _ (g : Nodes) (is : IsGraph g) where
       let w = contains_flat (stands_for g.symbols (groups_of g)) (needs_in g.rows s) t (subst (λ xs. Contains xs t) (needs_stand s l) c) in
       stands_below w.0 t (is.within s w.0 (omega (arith, l, is.symbols_there)) w.1) w.2
 
-  next_node : (t : ℕ) → t < length g.rows → unordered_after (needs_in g.rows) (length g.rows) t ≡ true →
-      (u : ℕ) × Contains (needs_in g.rows t) u × (unordered_after (needs_in g.rows) (length g.rows) u ≡ true)
-  next_node t b e =
-      let a = Any-from_list_any (unordered_after (needs_in g.rows) (length g.rows)) (needs_in g.rows t) (stays_unordered (length g.rows) (needs_in g.rows) is.within t b e) in
-      (a.1, (a.0, a.2, a.3), a.4)
-
   -- an unordered node stands for a symbol that is unordered among nodes
   unordered_symbol_to : (bound t : ℕ) → t < bound → t < length g.rows → unordered_after (needs_in g.rows) (length g.rows) t ≡ true →
       (v : ℕ) × Contains (stands_for g.symbols (groups_of g) t) v × (v < g.symbols) × (unordered_after (needs_in g.rows) (length g.rows) v ≡ true)
@@ -171,7 +165,7 @@ module _ (g : Nodes) (is : IsGraph g) where
       elim (cases_lt t g.symbols) [
         | inl symbol ↦ (t, subst (λ xs. Contains xs t) (sym (stands_symbol g.symbols (groups_of g) t symbol)) (0, omega arith, refl), symbol, e)
         | inr group ↦
-            let u = next_node t b e in
+            let u = needs_unordered (length g.rows) (needs_in g.rows) t is.within b e in
             let before = is.goes_down t u.0 group b u.1 in
             let v = unordered_symbol_to bound u.0 (omega (arith, before)) (omega (arith, before)) u.2 in
             let there = flat_contains (stands_for g.symbols (groups_of g)) (needs_in g.rows t) u.0 v.0 u.1 v.1 in
@@ -194,7 +188,7 @@ module _ (g : Nodes) (is : IsGraph g) where
   unordered_down zero s l e = refl
   unordered_down (suc k) s l e =
       let in_rows : s < length g.rows = omega (arith, l, is.symbols_there) in
-      let u = next_node s in_rows e in
+      let u = needs_unordered (length g.rows) (needs_in g.rows) s is.within in_rows e in
       let u_below = is.within s u.0 in_rows u.1 in
       let v = unordered_symbol_to (suc u.0) u.0 (omega arith) u_below u.2 in
       let need : Contains (needs_in (needs_of g) s) v.0 =
@@ -216,10 +210,9 @@ module _ (g : Nodes) (is : IsGraph g) where
         | inl symbol ↦
             let same = one_is t v (subst (λ xs. Contains xs v) (stands_symbol g.symbols (groups_of g) t symbol) c) in
             let e' : unordered_after (needs_in (needs_of g)) g.symbols t ≡ true = ap (unordered_after (needs_in (needs_of g)) g.symbols) same ∙ e in
-            let a = Any-from_list_any (unordered_after (needs_in (needs_of g)) g.symbols) (needs_in (needs_of g) t) (stays_unordered g.symbols (needs_in (needs_of g)) needs_within t symbol e') in
-            let need : Contains (needs_in (needs_of g) t) a.1 = (a.0, a.2, a.3) in
-            let w = contains_flat (stands_for g.symbols (groups_of g)) (needs_in g.rows t) a.1 (subst (λ xs. Contains xs a.1) (needs_stand t symbol) need) in
-            any_of k t w.0 w.1 (unordered_up k w.0 a.1 (is.within t w.0 b w.1) w.2 a.4)
+            let u = needs_unordered g.symbols (needs_in (needs_of g)) t needs_within symbol e' in
+            let w = contains_flat (stands_for g.symbols (groups_of g)) (needs_in g.rows t) u.0 (subst (λ xs. Contains xs u.0) (needs_stand t symbol) u.1) in
+            any_of k t w.0 w.1 (unordered_up k w.0 u.0 (is.within t w.0 b w.1) w.2 u.2)
         | inr group ↦
             let w = contains_flat (stands_for g.symbols (groups_of g)) (needs_in g.rows t) v (subst (λ xs. Contains xs v) (group_stands t group b) c) in
             any_of k t w.0 w.1 (unordered_up k w.0 v (is.within t w.0 b w.1) w.2 e)

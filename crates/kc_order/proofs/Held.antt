@@ -1,7 +1,8 @@
 -- Needs that are held in rows.
-use Rattle.std.proofs.Common.{◌≡◌, ℕ, ◌<◌, ◌≤◌, List, [], ◌∷◌, length, get_or, zero, suc, arith, All, subst, sym}
+use Rattle.std.proofs.Common.{◌≡◌, ℕ, ◌<◌, ◌≤◌, List, [], ◌∷◌, length, get_or, zero, suc, arith, All, subst, sym, inl, inr}
+use Rattle.std.proofs.lemmas.Bool.{cases_lt}
 use Rattle.std.specs.List.{Contains}
-use Rattle.std.proofs.lemmas.List.{get_or_default}
+use Rattle.std.proofs.lemmas.List.{get_or_default, get_or_past}
 use Rattle.std.proofs.lemmas.List.Elements.{All-contains, All-tail, Contains-get_or}
 use Rattle.kc_order.specs.Needs.{NeedsBelow, needs_in, AreWithin}
 use Rattle.kc_order.specs.Graph.{Nodes, IsGraph}
@@ -10,6 +11,14 @@ use Rattle.kc_order.specs.Rows.{RowsBelow, NeedSmaller}
 -- row r holds what row r holds
 pub row_is : (rows : List (List ℕ)) (r : ℕ) (d : List ℕ) → r < length rows → needs_in rows r ≡ get_or rows r d
 row_is rows r d h = get_or_default rows r [] d h
+
+-- what needs something has a row
+pub has_row : (rows : List (List ℕ)) (r t : ℕ) → Contains (needs_in rows r) t → r < length rows
+has_row rows r t c =
+    elim (cases_lt r (length rows)) [
+      | inl there ↦ there
+      | inr past ↦ let none = subst (λ row. Contains row t) (get_or_past rows r [] past) c in absurd (omega (arith, none.1))
+    ]
 
 pub row_below : (n : ℕ) (rows : List (List ℕ)) (r t : ℕ) → RowsBelow n rows → Contains (needs_in rows r) t → t < n
 row_below n [] r t below i = absurd (omega (arith, i.1))
@@ -25,6 +34,10 @@ pub rows_below : (rows : List (List ℕ)) → AreWithin rows → RowsBelow (leng
 rows_below rows within r d h k e j =
     let is = row_is rows r d h in
     within r (get_or (get_or rows r d) k e) h (subst (λ xs. Contains xs (get_or (get_or rows r d) k e)) (sym is) (Contains-get_or (get_or rows r d) k e j))
+
+-- the needs of a node are nodes
+pub row_nodes : (rows : List (List ℕ)) (r : ℕ) → AreWithin rows → r < length rows → All (λ t. t < length rows) (needs_in rows r)
+row_nodes rows r within l k d b = within r (get_or (needs_in rows r) k d) l (Contains-get_or (needs_in rows r) k d b)
 
 -- a graph, by its rows
 pub is_graph : (g : Nodes) → g.symbols ≤ length g.rows → RowsBelow (length g.rows) g.rows → NeedSmaller g.symbols g.rows → IsGraph g

@@ -6,6 +6,7 @@ pub mod OneIteration
 pub mod Stays
 pub mod Groups
 pub mod FirstLemmas
+pub mod NodePlaces
 pub mod Alike
 pub mod Walks
 pub mod SearchSteps

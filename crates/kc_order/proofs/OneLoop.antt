@@ -1,40 +1,23 @@
 -- No two loops are named of the same needs.
-use Rattle.std.proofs.Common.{◌≡◌, ℕ, ◌<◌, ◌≤◌, ◌+◌, ◌++◌, ◌≢◌, List, length, get_or, zero, suc, sym, ◌∙◌, ap, inl, inr, arith, subst, take, drop, eqb}
-use Rattle.std.proofs.lemmas.Bool.{cases_lt, both_ways, eqb-false}
+use Rattle.std.proofs.Common.{◌≡◌, ℕ, ◌<◌, ◌+◌, ◌++◌, ◌≢◌, List, length, get_or, zero, suc, sym, ◌∙◌, ap, inl, inr, arith, subst, take, drop, eqb}
+use Rattle.std.proofs.lemmas.Bool.{cases_lt, eqb-false}
+use Rattle.std.proofs.lemmas.Option.{same_Some}
 use Rattle.std.proofs.lemmas.List.{get_or_append_left, get_or-append-add, get_or-take, length-append, length-take-le}
 use Rattle.std.proofs.lemmas.Grind.{same_number_lists}
 use Rattle.std.proofs.Math.Seq.{drop-append_seam}
-use Rattle.std.proofs.lemmas.List.Elements.{All-contains}
 use Rattle.std.proofs.lemmas.Map.Keys.{apart_from_distinct}
 use Rattle.std.specs.List.{IsDistinct}
-use Rattle.kc_order.specs.Needs.{unordered_after}
-use Rattle.kc_order.specs.Loop.{IsLeast, IsFirstUnordered, IsNext, IsUnorderedWalk, IsNamedLoop}
-
-least_is_one : (xs : List ℕ) (t u : ℕ) → IsLeast xs t → IsLeast xs u → t ≡ u
-least_is_one xs t u a b =
-    let le : t ≤ u = All-contains (λ v. t ≤ v) xs u a.1 b.0 in
-    let ge : u ≤ t = All-contains (λ v. u ≤ v) xs t b.1 a.0 in
-    omega arith
-
-first_is_one : (n : ℕ) (needs : ℕ → List ℕ) (t u : ℕ) → IsFirstUnordered n needs t → IsFirstUnordered n needs u → t ≡ u
-first_is_one n needs t u a b =
-    elim (cases_lt t u) [
-      | inl less ↦ absurd (both_ways (unordered_after needs n t) (b.none_before t less) a.unordered)
-      | inr more ↦ elim (cases_lt u t) [
-        | inl less ↦ absurd (both_ways (unordered_after needs n u) (a.none_before u less) b.unordered)
-        | inr same ↦ omega arith
-      ]
-    ]
+use Rattle.kc_order.specs.Loop.{IsNext, IsUnorderedWalk, IsNamedLoop}
 
 -- two walks go the same way as far as both go
-same_steps : (n : ℕ) (needs : ℕ → List ℕ) (walk other : List ℕ) → IsUnorderedWalk n needs walk → IsUnorderedWalk n needs other → (k : ℕ) → k < length walk → k < length other →
-    get_or walk k 0 ≡ get_or other k 0
-same_steps n needs walk other a b zero l m = first_is_one n needs (get_or walk 0 0) (get_or other 0 0) a.begins b.begins
-same_steps n needs walk other a b (suc k) l m =
+same_steps : (sequence : List ℕ) (n : ℕ) (needs : ℕ → List ℕ) (walk other : List ℕ) →
+    IsUnorderedWalk sequence n needs walk → IsUnorderedWalk sequence n needs other → (k : ℕ) → k < length walk → k < length other → get_or walk k 0 ≡ get_or other k 0
+same_steps sequence n needs walk other a b zero l m = same_Some (get_or walk 0 0) (get_or other 0 0) (sym a.begins ∙ b.begins)
+same_steps sequence n needs walk other a b (suc k) l m =
     let e : k + 1 ≡ suc k = omega arith in
-    let before = same_steps n needs walk other a b k (omega arith) (omega arith) in
-    let next = subst (λ s. IsNext n needs s (get_or walk (k + 1) 0)) before (a.goes_on k (omega arith)) in
-    let is = least_is_one _ (get_or walk (k + 1) 0) (get_or other (k + 1) 0) next (b.goes_on k (omega arith)) in
+    let before = same_steps sequence n needs walk other a b k (omega arith) (omega arith) in
+    let next = subst (λ s. IsNext sequence n needs s (get_or walk (k + 1) 0)) before (a.goes_on k (omega arith)) in
+    let is = same_Some (get_or walk (k + 1) 0) (get_or other (k + 1) 0) (sym next ∙ b.goes_on k (omega arith)) in
     subst (λ j. get_or walk j 0 ≡ get_or other j 0) e is
 
 -- the first of what is put behind a list stands where the list ends
@@ -64,7 +47,8 @@ same_place xs apart i j l m e =
       ]
     ]
 
-module _ (n : ℕ) (needs : ℕ → List ℕ) (loop other : List ℕ) (a : IsNamedLoop n needs loop) (b : IsNamedLoop n needs other) where
+module _ (sequence : List ℕ) (n : ℕ) (needs : ℕ → List ℕ) (loop other : List ℕ)
+    (a : IsNamedLoop sequence n needs loop) (b : IsNamedLoop sequence n needs other) where
   -- the walk to the loop's end, and back to its first symbol
   abbrev one : List ℕ
   one = a.lead ++ loop
@@ -73,7 +57,9 @@ module _ (n : ℕ) (needs : ℕ → List ℕ) (loop other : List ℕ) (a : IsNam
   two = b.lead ++ other
 
   alike : (k : ℕ) → k < length one + 1 → k < length two + 1 → get_or (one ++ take 1 loop) k 0 ≡ get_or (two ++ take 1 other) k 0
-  alike k l m = same_steps n needs (one ++ take 1 loop) (two ++ take 1 other) a.walk b.walk k (omega (arith, walk_len a.lead loop a.some)) (omega (arith, walk_len b.lead other b.some))
+  alike k l m =
+      same_steps sequence n needs (one ++ take 1 loop) (two ++ take 1 other) a.walk b.walk k
+      (omega (arith, walk_len a.lead loop a.some)) (omega (arith, walk_len b.lead other b.some))
 
   alike_in : (k : ℕ) → k < length one → k < length two → get_or one k 0 ≡ get_or two k 0
   alike_in k l m = sym (get_or_append_left one (take 1 loop) 0 k l) ∙ alike k (omega arith) (omega arith) ∙ get_or_append_left two (take 1 other) 0 k m
@@ -95,12 +81,13 @@ module _ (n : ℕ) (needs : ℕ → List ℕ) (loop other : List ℕ) (a : IsNam
       (ap (λ xs. get_or xs (length a.lead) 0) (sym ways) ∙ first) in
       sym (drop-append_seam a.lead loop) ∙ ap (λ k. drop k one) leads ∙ ap (drop (length b.lead)) ways ∙ drop-append_seam b.lead other
 
-pub one_loop : (n : ℕ) (needs : ℕ → List ℕ) (loop other : List ℕ) → IsNamedLoop n needs loop → IsNamedLoop n needs other → loop ≡ other
-one_loop n needs loop other a b =
+pub one_loop : (sequence : List ℕ) (n : ℕ) (needs : ℕ → List ℕ) (loop other : List ℕ) →
+    IsNamedLoop sequence n needs loop → IsNamedLoop sequence n needs other → loop ≡ other
+one_loop sequence n needs loop other a b =
     elim (cases_lt (length (a.lead ++ loop)) (length (b.lead ++ other))) [
-      | inl less ↦ absurd (not_shorter n needs loop other a b less)
+      | inl less ↦ absurd (not_shorter sequence n needs loop other a b less)
       | inr more ↦ elim (cases_lt (length (b.lead ++ other)) (length (a.lead ++ loop))) [
-        | inl less ↦ absurd (not_shorter n needs other loop b a less)
-        | inr same ↦ same_loop n needs loop other a b (omega arith)
+        | inl less ↦ absurd (not_shorter sequence n needs other loop b a less)
+        | inr same ↦ same_loop sequence n needs loop other a b (omega arith)
       ]
     ]

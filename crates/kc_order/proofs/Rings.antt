@@ -1,13 +1,15 @@
 -- Paths along needs that come back: cycles.
-use Rattle.std.proofs.Common.{zero, suc, All, true, ◌≡◌, ℕ, ◌<◌, ◌+◌, ◌-◌, ◌++◌, List, length, get_or, sym, ◌∙◌, ap, inl, inr, arith, subst, take, append_assoc}
+use Rattle.std.proofs.Common.{All, true, ◌≡◌, ℕ, ◌<◌, ◌+◌, ◌-◌, ◌++◌, List, length, get_or, sym, ◌∙◌, ap, inl, inr, arith, subst, take, append_assoc}
 use Rattle.std.specs.List.{Contains}
 use Rattle.std.proofs.lemmas.Bool.{cases_lt}
-use Rattle.std.proofs.lemmas.List.{get_or_default, get_or_append_left, get_or-append-add, length-append}
+use Rattle.std.proofs.lemmas.List.{get_or_default, get_or_append_left, get_or-append-add, length-append, length-take-le}
 use Rattle.std.proofs.lemmas.List.Elements.{Contains-get_or}
-use Rattle.kc_order.specs.Needs.{NeedsBelow, unordered_after}
-use Rattle.kc_order.specs.Loop.{IsPath, IsNamedLoop, IsNext, IsUnorderedWalk}
+use Rattle.kc_order.specs.Needs.{needs_in, unordered_after, SomeUnordered}
+use Rattle.kc_order.specs.Loop.{IsPath, IsNamedLoop, IsNext}
+use Rattle.kc_order.proofs.FirstLemmas.{found}
 use Rattle.kc_order.proofs.SearchSteps.{ring_unordered}
-use Rattle.kc_order.proofs.Walks.{kept_from, next_is_unordered}
+use Rattle.kc_order.proofs.Held.{has_row}
+use Rattle.kc_order.proofs.Walks.{next_is}
 
 pub cycle_of : (n : ℕ) (needs : ℕ → List ℕ) (way : List ℕ) → 1 < length way → IsPath needs way → get_or way (length way - 1) 0 ≡ get_or way 0 0 →
     unordered_after needs n (get_or way 0 0) ≡ true
@@ -22,33 +24,37 @@ cycle_of n needs way l goes back =
     ] in
     ring_unordered n needs way after n (get_or way 0 0) (Contains-get_or way 0 0 (omega arith))
 
-pub is_closed : (n : ℕ) (needs : ℕ → List ℕ) (loop : List ℕ) → IsNamedLoop n needs loop → IsPath needs (loop ++ take 1 loop)
-is_closed n needs loop named k l =
+pub is_closed : (sequence : List ℕ) (n : ℕ) (needs : ℕ → List ℕ) (loop : List ℕ) → IsNamedLoop sequence n needs loop → IsPath needs (loop ++ take 1 loop)
+is_closed sequence n needs loop named k l =
     let way = loop ++ take 1 loop in
     let split : named.lead ++ loop ++ take 1 loop ≡ named.lead ++ (loop ++ take 1 loop) = append_assoc named.lead loop (take 1 loop) in
     let whole = named.lead ++ way in
     let at = length named.lead + k in
     let bound : at + 1 < length whole = omega (arith, length-append named.lead way) in
-    let next = subst (λ xs. at + 1 < length xs → IsNext n needs (get_or xs at 0) (get_or xs (at + 1) 0)) split (named.walk.goes_on at) bound in
-    let needed : Contains (needs (get_or whole at 0)) (get_or whole (at + 1) 0) = (kept_from (unordered_after needs n) (needs (get_or whole at 0)) (get_or whole (at + 1) 0) next.0).0 in
+    let next = subst (λ xs. at + 1 < length xs → IsNext sequence n needs (get_or xs at 0) (get_or xs (at + 1) 0)) split (named.walk.goes_on at) bound in
+    let needed : Contains (needs (get_or whole at 0)) (get_or whole (at + 1) 0) = (next_is sequence n needs (get_or whole at 0) (get_or whole (at + 1) 0) next).1 in
     let here : get_or whole at 0 ≡ get_or way k 0 = get_or-append-add named.lead way k 0 in
     let place : at + 1 ≡ length named.lead + (k + 1) = omega arith in
     let there : get_or whole (at + 1) 0 ≡ get_or way (k + 1) 0 = ap (λ i. get_or whole i 0) place ∙ get_or-append-add named.lead way (k + 1) 0 in
     subst (λ x. Contains (needs x) (get_or way (k + 1) 0)) here (subst (λ y. Contains (needs (get_or whole at 0)) y) there needed)
 
--- each symbol of a walk along unordered symbols is a symbol
-walk_within : (n : ℕ) (needs : ℕ → List ℕ) (walk : List ℕ) → NeedsBelow n needs → IsUnorderedWalk n needs walk → (k : ℕ) → k < length walk → get_or walk k 0 < n
-walk_within n needs walk below w zero l = w.begins.below
-walk_within n needs walk below w (suc k) l =
-    let e : k + 1 ≡ suc k = omega arith in
-    subst (λ i. get_or walk i 0 < n) e (next_is_unordered n needs (get_or walk k 0) (get_or walk (k + 1) 0) below (walk_within n needs walk below w k (omega arith)) (w.goes_on k (omega arith))).0
+-- as each symbol of the loop needs the next, it is a symbol
+pub loop_within : (sequence : List ℕ) (needs : List (List ℕ)) (loop : List ℕ) →
+    IsNamedLoop sequence (length needs) (needs_in needs) loop → All (λ s. s < length needs) loop
+loop_within sequence needs loop named k d l =
+    let way = loop ++ take 1 loop in
+    let bound : k + 1 < length way = omega (arith, length-append loop (take 1 loop), length-take-le 1 loop (omega arith)) in
+    let needed = is_closed sequence (length needs) (needs_in needs) loop named k bound in
+    let is : get_or way k 0 ≡ get_or loop k d = get_or_append_left loop (take 1 loop) 0 k l ∙ get_or_default loop k 0 d l in
+    subst (λ s. s < length needs) is (has_row needs (get_or way k 0) (get_or way (k + 1) 0) needed)
 
-pub loop_within : (n : ℕ) (needs : ℕ → List ℕ) (loop : List ℕ) → NeedsBelow n needs → IsNamedLoop n needs loop → All (λ s. s < n) loop
-loop_within n needs loop below named k d l =
-    let front = named.lead ++ loop in
-    let at = length named.lead + k in
-    let inside : at < length front = omega (arith, length-append named.lead loop) in
-    let here = walk_within n needs (front ++ take 1 loop) below named.walk at (omega (arith, length-append front (take 1 loop))) in
-    let is : get_or (front ++ take 1 loop) at 0 ≡ get_or loop k d =
-    get_or_append_left front (take 1 loop) 0 at inside ∙ get_or-append-add named.lead loop k 0 ∙ get_or_default loop k 0 d l in
-    subst (λ s. s < n) is here
+-- where a loop is named, some symbol is unordered
+pub some_unordered : (sequence : List ℕ) (needs : List (List ℕ)) (loop : List ℕ) → IsNamedLoop sequence (length needs) (needs_in needs) loop → SomeUnordered (length needs) (needs_in needs)
+some_unordered sequence needs loop named =
+    let walk : List ℕ = named.lead ++ loop ++ take 1 loop in
+    let first : ℕ = get_or walk 0 0 in
+    let next : ℕ = get_or walk (0 + 1) 0 in
+    let long : 0 + 1 < length walk = omega (arith, named.some, length-append (named.lead ++ loop) (take 1 loop), length-append named.lead loop, length-take-le 1 loop (omega (arith, named.some))) in
+    let needed = next_is sequence (length needs) (needs_in needs) first next (named.walk.goes_on 0 long) in
+    let begins = found (unordered_after (needs_in needs) (length needs)) sequence first named.walk.begins in
+    (first, has_row needs first next needed.1, begins.1)

@@ -1,6 +1,6 @@
 -- What is unordered after as many iterations as there are symbols stays unordered.
 use Rattle.std.proofs.Common.{◌≡◌, ℕ, ◌<◌, ◌≤◌, ◌+◌, Bool, true, cond, List, [], ◌∷◌, get_or, zero, suc, sym, ◌∙◌, ap, refl, inl, inr, arith, All, ◌⊎◌, subst, zero-add}
-use Rattle.std.specs.List.{list_any, count_by, range_with_len}
+use Rattle.std.specs.List.{Contains, list_any, count_by, range_with_len}
 use Rattle.std.proofs.lemmas.Bool.{cases_Bool}
 use Rattle.std.proofs.lemmas.List.Elements.{All-cons, All-tail, Contains-get_or}
 use Rattle.std.proofs.lemmas.List.Folds.{list_any_at, Any-from_list_any}
@@ -94,3 +94,16 @@ stays_unordered n needs below s l e =
           let one = ap (λ (x : ℕ). one_if (unordered_after needs n x)) is ∙ ap one_if e in
           absurd (omega arith)
     ]
+
+pub needs_unordered : (n : ℕ) (needs : ℕ → List ℕ) (s : ℕ) → NeedsBelow n needs → s < n → unordered_after needs n s ≡ true →
+    (t : ℕ) × Contains (needs s) t × (unordered_after needs n t ≡ true)
+needs_unordered n needs s below l e =
+    let a = Any-from_list_any (unordered_after needs n) (needs s) (stays_unordered n needs below s l e) in
+    (a.1, (a.0, a.2, a.3), a.4)
+
+-- what is unordered needs something, also where it is no symbol
+pub needs_some : (n : ℕ) (needs : ℕ → List ℕ) (s : ℕ) → 0 < n → unordered_after needs n s ≡ true → (t : ℕ) × Contains (needs s) t
+needs_some zero needs s l e = absurd (omega arith)
+needs_some (suc k) needs s l e =
+    let a = Any-from_list_any (unordered_after needs k) (needs s) e in
+    (a.1, (a.0, a.2, a.3))

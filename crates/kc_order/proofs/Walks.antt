@@ -1,93 +1,88 @@
 -- The walk along unordered symbols.
-use Rattle.std.proofs.Common.{false, replicate, ◌||◌, get_or-set_same, get_or-set_other, ◌≡◌, ℕ, ◌<◌, ◌≤◌, ◌+◌, Bool, true, false, List, [], ◌∷◌}
-use Rattle.std.proofs.Common.{◌++◌, length, get_or, sym, ◌∙◌, ap, inl, inr, arith, All, take, drop, eqb, filter, ◌≢◌, subst}
+use Rattle.std.proofs.Common.{false, replicate, ◌&&◌, ◌||◌, get_or-set_same, get_or-set_other, ◌≡◌, ℕ, ◌<◌, ◌≤◌, ◌+◌, Bool, true, false, List, [], ◌∷◌}
+use Rattle.std.proofs.Common.{◌++◌, length, get_or, sym, ◌∙◌, ap, inl, inr, arith, All, take, drop, eqb, ◌≢◌, subst}
 use Rattle.std.specs.Cmp.{nat_eq_equiv}
 use Rattle.std.proofs.lemmas.Map.Keys.{IsDistinct-push}
-use Rattle.std.proofs.lemmas.Map.Views.{list_any-from_Contains}
+use Rattle.std.proofs.lemmas.Map.Views.{Contains-from_any, list_any-from_Contains}
 use Rattle.std.proofs.Math.ListN.{set}
 use Rattle.kc_order.proofs.Unique.{fails_each}
 use Rattle.std.proofs.lemmas.Map.Steps.{length-le_from_distinct_below}
 use Rattle.std.proofs.lemmas.List.Folds.{list_any_none, Any-from_list_any}
 use Rattle.std.proofs.lemmas.List.{length-replicate, get_or-replicate, length-set, get_or_append_left, get_or_push, length_push, drop_more, take-append-drop, length-drop}
 use Rattle.std.specs.List.{Contains, list_any, IsDistinct}
-use Rattle.std.proofs.lemmas.Bool.{eqb-false, cases_eq, cases_Bool, ne_eqb, eqb-true, cases_lt}
-use Rattle.std.proofs.lemmas.List.Elements.{Contains-get_or, All-contains, All-filter, filter_passes, All-contains_itself, All-push, Contains-push}
+use Rattle.std.proofs.lemmas.Bool.{and_from, and_parts, eqb-false, cases_eq, ne_eqb, eqb-true, cases_lt}
+use Rattle.std.proofs.lemmas.List.Elements.{Contains-get_or, All-push, Contains-push}
 use Rattle.kc_order.specs.Needs.{NeedsBelow, unordered_after}
 use Rattle.kc_order.specs.Rows.{AreFlags}
 use Rattle.kc_order.specs.Loop.{IsFirstUnordered, IsNext, IsUnorderedWalk, IsNamedLoop}
-use Rattle.kc_order.proofs.Stays.{stays_unordered}
+use Rattle.kc_order.proofs.FirstLemmas.{finds, found}
+use Rattle.kc_order.proofs.Stays.{needs_unordered}
 
-pub kept_from : {X : Type 0} (p : X → Bool) (xs : List X) (x : X) → Contains (filter p xs) x → Contains xs x × (p x ≡ true)
-kept_from p xs x c = (
-  All-contains (Contains xs) (filter p xs) x (All-filter p (Contains xs) xs (All-contains_itself xs)) c,
-  All-contains (λ x. p x ≡ true) (filter p xs) x (filter_passes p xs) c,
-)
+-- what is next is a symbol of the sequence, needed and unordered
+pub next_is : (sequence : List ℕ) (n : ℕ) (needs : ℕ → List ℕ) (s t : ℕ) → IsNext sequence n needs s t →
+    Contains sequence t × Contains (needs s) t × (unordered_after needs n t ≡ true)
+next_is sequence n needs s t next =
+    let is = found (λ u. unordered_after needs n u && list_any (eqb u) (needs s)) sequence t next in
+    let both = and_parts (unordered_after needs n t) (list_any (eqb t) (needs s)) is.1 in
+    (is.0, Contains-from_any eqb-true t (needs s) both.1, both.0)
 
-pub keeps_some : {X : Type 0} (p : X → Bool) (xs : List X) → list_any p xs ≡ true → length (filter p xs) ≡ 0 → ⊥
-keeps_some p [] e h = cc
-keeps_some p (x ∷ xs) e h =
-    elim (cases_Bool (p x)) [
-      | inl t ↦ let h' = rw t at h in absurd (omega arith)
-      | inr f ↦ keeps_some p xs (rw f at e) (rw f at h)
-    ]
-
--- an unordered symbol has a next one
-pub next_is_there : (n : ℕ) (needs : ℕ → List ℕ) (s : ℕ) → NeedsBelow n needs → s < n → unordered_after needs n s ≡ true → length (filter (unordered_after needs n) (needs s)) ≡ 0 → ⊥
-next_is_there n needs s below l e = keeps_some (unordered_after needs n) (needs s) (stays_unordered n needs below s l e)
-
--- the next symbol is an unordered symbol
-pub next_is_unordered : (n : ℕ) (needs : ℕ → List ℕ) (s t : ℕ) → NeedsBelow n needs → s < n → IsNext n needs s t → (t < n) × (unordered_after needs n t ≡ true)
-next_is_unordered n needs s t below l next =
-    let from = kept_from (unordered_after needs n) (needs s) t next.0 in
-    (below s t l from.0, from.1)
+-- an unordered symbol has a next one, if each symbol that needs some symbol stands in the sequence
+pub next_there : (sequence : List ℕ) (n : ℕ) (needs : ℕ → List ℕ) → NeedsBelow n needs → ((s t : ℕ) → Contains (needs s) t → Contains sequence s) →
+    (s : ℕ) → s < n → unordered_after needs n s ≡ true → (t : ℕ) × IsNext sequence n needs s t
+next_there sequence n needs below holds s l e =
+    let (t, c, u) = needs_unordered n needs s below l e in
+    let (v, d, _) = needs_unordered n needs t below (below s t l c) u in
+    finds (λ r. unordered_after needs n r && list_any (eqb r) (needs s)) sequence t (holds t v d)
+    (and_from (unordered_after needs n t) (list_any (eqb t) (needs s)) u (list_any-from_Contains nat_eq_equiv t (needs s) c))
 
 -- a walk that has no symbol twice, and the symbol that comes next
-pub record IsOnTheWay (n : ℕ) (needs : ℕ → List ℕ) (walk : List ℕ) (at : ℕ) : Type 0 where
+pub record IsOnTheWay (sequence : List ℕ) (n : ℕ) (needs : ℕ → List ℕ) (walk : List ℕ) (at : ℕ) : Type 0 where
   pub below : at < n
   pub is_unordered : unordered_after needs n at ≡ true
-  pub walks : IsUnorderedWalk n needs (walk ++ at ∷ [])
+  pub walks : IsUnorderedWalk sequence n needs (walk ++ at ∷ [])
   pub apart : IsDistinct eqb walk
   pub all_below : All (λ t. t < n) walk
 
-pub sets_out : (n : ℕ) (needs : ℕ → List ℕ) (first : ℕ) → IsFirstUnordered n needs first → IsOnTheWay n needs [] first
+pub sets_out : (sequence : List ℕ) (n : ℕ) (needs : ℕ → List ℕ) (first : ℕ) →
+    first < n → IsFirstUnordered sequence n needs first → IsOnTheWay sequence n needs [] first
 unfolding IsDistinct
-sets_out n needs first h = record {
-  below = h.below;
-  is_unordered = h.unordered;
+sets_out sequence n needs first l h = record {
+  below = l;
+  is_unordered = (found (unordered_after needs n) sequence first h).1;
   walks = record { begins = h; goes_on = λ k l. absurd (omega arith) };
   apart = tt;
   all_below = λ k d l. absurd (omega arith);
 }
 
-next_at : (n : ℕ) (needs : ℕ → List ℕ) (xs : List ℕ) (k a b : ℕ) → get_or xs k 0 ≡ a → get_or xs (k + 1) 0 ≡ b → IsNext n needs a b → IsNext n needs (get_or xs k 0) (get_or xs (k + 1) 0)
-next_at n needs xs k a b p q h = subst (λ x. IsNext n needs x (get_or xs (k + 1) 0)) (sym p) (subst (λ y. IsNext n needs a y) (sym q) h)
+next_at : (sequence : List ℕ) (n : ℕ) (needs : ℕ → List ℕ) (xs : List ℕ) (k a b : ℕ) → get_or xs k 0 ≡ a → get_or xs (k + 1) 0 ≡ b →
+    IsNext sequence n needs a b → IsNext sequence n needs (get_or xs k 0) (get_or xs (k + 1) 0)
+next_at sequence n needs xs k a b p q h =
+    subst (λ x. IsNext sequence n needs x (get_or xs (k + 1) 0)) (sym p) (subst (λ y. IsNext sequence n needs a y) (sym q) h)
 
 -- a symbol that is not on the walk yet is put on it
-pub goes_further : (n : ℕ) (needs : ℕ → List ℕ) (walk : List ℕ) (at next : ℕ) → NeedsBelow n needs → IsOnTheWay n needs walk at → All (λ s. s ≢ at) walk → IsNext n needs at next →
-    IsOnTheWay n needs (walk ++ at ∷ []) next
-goes_further n needs walk at next below h new e =
-    let to = next_is_unordered n needs at next below h.below e in
-    record {
-      below = to.0;
-      is_unordered = to.1;
-      walks = record {
-        begins = let l : 0 < length (walk ++ at ∷ []) = omega (arith, length_push walk at) in rw (get_or_append_left (walk ++ at ∷ []) (next ∷ []) 0 0 l) h.walks.begins;
-        goes_on = λ k l.
-            elim (cases_lt (k + 1) (length (walk ++ at ∷ []))) [
-              | inl before ↦
-                  let here = get_or_append_left (walk ++ at ∷ []) (next ∷ []) 0 k (omega arith) in
-                  let there = get_or_append_left (walk ++ at ∷ []) (next ∷ []) 0 (k + 1) before in
-                  next_at n needs (walk ++ at ∷ [] ++ next ∷ []) k _ _ here there (h.walks.goes_on k before)
-              | inr last ↦
-                  let here = get_or_append_left (walk ++ at ∷ []) (next ∷ []) 0 k (omega (arith, length_push (walk ++ at ∷ []) next))
-                  ∙ get_or_push walk at 0 k (omega (arith, length_push walk at, length_push (walk ++ at ∷ []) next)) in
-                  let there = get_or_push (walk ++ at ∷ []) next 0 (k + 1) (omega (arith, length_push (walk ++ at ∷ []) next)) in
-                  next_at n needs (walk ++ at ∷ [] ++ next ∷ []) k _ _ here there e
-            ];
-      };
-      apart = IsDistinct-push nat_eq_equiv walk at h.apart (list_any_none (eqb at) walk (λ k d l. ne_eqb at (get_or walk k d) (λ e. new k d l (sym e))));
-      all_below = All-push (λ t. t < n) walk at h.all_below h.below;
-    }
+pub goes_further : (sequence : List ℕ) (n : ℕ) (needs : ℕ → List ℕ) (walk : List ℕ) (at next : ℕ) →
+    IsOnTheWay sequence n needs walk at → All (λ s. s ≢ at) walk → next < n → IsNext sequence n needs at next → IsOnTheWay sequence n needs (walk ++ at ∷ []) next
+goes_further sequence n needs walk at next h new l e = record {
+  below = l;
+  is_unordered = (next_is sequence n needs at next e).2;
+  walks = record {
+    begins = let l : 0 < length (walk ++ at ∷ []) = omega (arith, length_push walk at) in rw (get_or_append_left (walk ++ at ∷ []) (next ∷ []) 0 0 l) h.walks.begins;
+    goes_on = λ k l.
+        elim (cases_lt (k + 1) (length (walk ++ at ∷ []))) [
+          | inl before ↦
+              let here = get_or_append_left (walk ++ at ∷ []) (next ∷ []) 0 k (omega arith) in
+              let there = get_or_append_left (walk ++ at ∷ []) (next ∷ []) 0 (k + 1) before in
+              next_at sequence n needs (walk ++ at ∷ [] ++ next ∷ []) k _ _ here there (h.walks.goes_on k before)
+          | inr last ↦
+              let here = get_or_append_left (walk ++ at ∷ []) (next ∷ []) 0 k (omega (arith, length_push (walk ++ at ∷ []) next))
+              ∙ get_or_push walk at 0 k (omega (arith, length_push walk at, length_push (walk ++ at ∷ []) next)) in
+              let there = get_or_push (walk ++ at ∷ []) next 0 (k + 1) (omega (arith, length_push (walk ++ at ∷ []) next)) in
+              next_at sequence n needs (walk ++ at ∷ [] ++ next ∷ []) k _ _ here there e
+        ];
+  };
+  apart = IsDistinct-push nat_eq_equiv walk at h.apart (list_any_none (eqb at) walk (λ k d l. ne_eqb at (get_or walk k d) (λ e. new k d l (sym e))));
+  all_below = All-push (λ t. t < n) walk at h.all_below h.below;
+}
 
 -- a walk with no symbol twice has room for one more
 pub has_room : (n : ℕ) (walk : List ℕ) (at : ℕ) → All (λ t. t < n) (walk ++ at ∷ []) → IsDistinct eqb (walk ++ at ∷ []) → length walk + 1 ≤ n
@@ -98,8 +93,9 @@ has_room n walk at below apart =
     omega (arith, length_push walk at)
 
 -- the walk has come back to a place on it
-pub comes_back : (n : ℕ) (needs : ℕ → List ℕ) (walk : List ℕ) (at i : ℕ) → IsOnTheWay n needs walk at → i < length walk → get_or walk i 0 ≡ at → IsNamedLoop n needs (drop i walk)
-comes_back n needs walk at i h l e = record {
+pub comes_back : (sequence : List ℕ) (n : ℕ) (needs : ℕ → List ℕ) (walk : List ℕ) (at i : ℕ) → IsOnTheWay sequence n needs walk at →
+    i < length walk → get_or walk i 0 ≡ at → IsNamedLoop sequence n needs (drop i walk)
+comes_back sequence n needs walk at i h l e = record {
   lead = take i walk;
   some = omega (arith, length-drop i walk);
   walk =

@@ -1,7 +1,9 @@
--- For proofs: The first unordered symbol among several, and among those that groups need.
-use Rattle.std.specs.Prelude.{◌≡◌, ℕ, ◌<◌, Bool, if◌then◌else◌, List, [], ◌∷◌, map, length, Option, Some, None, nat_le, slice_index_or}
+-- For proofs: The place in a sequence of the first unordered symbol among several, and among those that groups need.
+use Rattle.std.specs.Prelude.{◌≡◌, ℕ, ◌<◌, Bool, ◌&&◌, if◌then◌else◌, List, [], ◌∷◌, length, Option, Some, None, nat_le, nat_eq, position, slice_index_or}
+use Rattle.std.specs.List.{list_any}
 use Rattle.kc_order.specs.declared.search.NodeState.{NodeState}
 use Rattle.kc_order.specs.declared.search.NodeState.TheVariants.{New}
+use Rattle.kc_order.specs.Graph.{Nodes, groups_of, needs_of, stands_for}
 use Rattle.kc_order.specs.Needs.{needs_in, unordered_after}
 use Rattle.kc_order.specs.Search.{is_unordered}
 
@@ -11,18 +13,24 @@ lesser_of None o = o
 lesser_of (Some s) None = Some s
 lesser_of (Some s) (Some t) = if nat_le s t then Some s else Some t
 
--- the least of a list that passes a test
-abbrev pub least_in : (ℕ → Bool) → List ℕ → Option ℕ
-least_in test [] = None
-least_in test (s ∷ ss) = lesser_of (if test s then Some s else None) (least_in test ss)
-
 -- a symbol is marked as unordered
 abbrev pub is_unordered_at : List NodeState → ℕ → Bool
 is_unordered_at states s = is_unordered (slice_index_or states s New)
 
--- of each group the first unordered symbol that it needs
-abbrev pub AreFirstByGroup : List NodeState → List (List ℕ) → List (Option ℕ) → Type 0
-AreFirstByGroup states groups first_by_group = first_by_group ≡ map (least_in (is_unordered_at states)) groups
+-- the place of the first of a sequence that passes a test and is one of these
+abbrev pub place_among : (ℕ → Bool) → List ℕ → List ℕ → Option ℕ
+place_among test sequence symbols = position (λ u. test u && list_any (nat_eq u) symbols) sequence
+
+-- each node has its place in the sequence, if it is unordered
+pub record ArePlaces (sequence : List ℕ) (states : List NodeState) (places : List (Option ℕ)) : Type 0 where
+  pub count : length places ≡ length states
+  pub each : (s : ℕ) → s < length states → slice_index_or places s None ≡ place_among (is_unordered_at states) sequence (s ∷ [])
+
+-- each node below a bound has the place of the first unordered symbol that it stands for
+pub record AreFirsts (sequence : List ℕ) (g : Nodes) (bound : ℕ) (firsts : List (Option ℕ)) : Type 0 where
+  pub count : length firsts ≡ length g.rows
+  pub each : (t : ℕ) → t < bound →
+      slice_index_or firsts t None ≡ place_among (unordered_after (needs_in (needs_of g)) g.symbols) sequence (stands_for g.symbols (groups_of g) t)
 
 -- each node is marked as unordered exactly where it is
 pub record TellsUnordered (rows : List (List ℕ)) (states : List NodeState) : Type 0 where

@@ -3,7 +3,7 @@ use Rattle.std.specs.Prelude.{All, ◌≡◌, ◌⊎◌, ℕ, ◌<◌, ◌+◌, 
 use Rattle.std.specs.List.{Contains, flat_map}
 use Rattle.kc_order.specs.Graph.{Nodes, IsGraph, groups_of, needs_of, stands_for}
 use Rattle.kc_order.specs.Needs.{needs_in, unordered_after, AreAlike, AreWithin, IsAccepted, SomeUnordered}
-use Rattle.kc_order.specs.Loop.{IsNamedLoop, IsPath}
+use Rattle.kc_order.specs.Loop.{HoldsNeeding, IsNamedLoop, IsPath}
 use Rattle.kc_order.specs.Order.{Orders}
 use Rattle.kc_order.specs.Solution.{Solves, IsOnlySolution, ReadsNeeds, HasOneSolution, IsUpdate, IsIteration}
 use Rattle.kc_order.specs.Minimal.{equations, Restores, NothingCanGo, KeepsWhatDiffers}
@@ -21,37 +21,44 @@ CyclesAreUnordered =
 -- each symbol of a loop that is named needs the next, and the last the first
 abbrev pub NamedLoopIsClosed : Type 0
 NamedLoopIsClosed =
-    (needs : List (List ℕ)) (loop : List ℕ) → IsNamedLoop (length needs) (needs_in needs) loop → IsPath (needs_in needs) (loop ++ take 1 loop)
+    (sequence : List ℕ) (needs : List (List ℕ)) (loop : List ℕ) → IsNamedLoop sequence (length needs) (needs_in needs) loop →
+    IsPath (needs_in needs) (loop ++ take 1 loop)
 
 -- and is a symbol
 abbrev pub NamedLoopIsWithin : Type 0
 NamedLoopIsWithin =
-    (needs : List (List ℕ)) (loop : List ℕ) → AreWithin needs → IsNamedLoop (length needs) (needs_in needs) loop → All (λ s. s < length needs) loop
+    (sequence : List ℕ) (needs : List (List ℕ)) (loop : List ℕ) → IsNamedLoop sequence (length needs) (needs_in needs) loop →
+    All (λ s. s < length needs) loop
 
--- no two loops are named of the same needs
+-- no two loops are named of the same needs by the same sequence
 abbrev pub OneNamedLoop : Type 0
 OneNamedLoop =
-    (needs : List (List ℕ)) (loop other : List ℕ) →
-    IsNamedLoop (length needs) (needs_in needs) loop → IsNamedLoop (length needs) (needs_in needs) other → loop ≡ other
+    (sequence : List ℕ) (needs : List (List ℕ)) (loop other : List ℕ) →
+    IsNamedLoop sequence (length needs) (needs_in needs) loop → IsNamedLoop sequence (length needs) (needs_in needs) other → loop ≡ other
 
 -- needs are accepted, or some symbol is unordered
 abbrev pub AcceptedOrUnordered : Type 0
 AcceptedOrUnordered = (needs : List (List ℕ)) → IsAccepted needs ⊎ SomeUnordered (length needs) (needs_in needs)
 
--- where some symbol is unordered, a loop is named
+-- where some symbol is unordered, a loop is named, if each symbol that needs some symbol stands in the sequence
 abbrev pub UnorderedHaveALoop : Type 0
 UnorderedHaveALoop =
-    (needs : List (List ℕ)) → AreWithin needs → SomeUnordered (length needs) (needs_in needs) →
-    (loop : List ℕ) × IsNamedLoop (length needs) (needs_in needs) loop
+    (sequence : List ℕ) (needs : List (List ℕ)) → HoldsNeeding sequence needs → AreWithin needs → SomeUnordered (length needs) (needs_in needs) →
+    (loop : List ℕ) × IsNamedLoop sequence (length needs) (needs_in needs) loop
 
--- what is accepted, and which loop is named, is the same of needs that are alike
+-- where a loop is named, some symbol is unordered
+abbrev pub NamedAreUnordered : Type 0
+NamedAreUnordered =
+    (sequence : List ℕ) (needs : List (List ℕ)) (loop : List ℕ) → IsNamedLoop sequence (length needs) (needs_in needs) loop → SomeUnordered (length needs) (needs_in needs)
+
+-- what is accepted, and which loop is named by a sequence, is the same of needs that are alike
 abbrev pub AlikeAreAccepted : Type 0
 AlikeAreAccepted = (needs other : List (List ℕ)) → AreAlike needs other → IsAccepted needs → IsAccepted other
 
 abbrev pub AlikeHaveTheLoop : Type 0
 AlikeHaveTheLoop =
-    (needs other : List (List ℕ)) (loop : List ℕ) → AreAlike needs other →
-    IsNamedLoop (length needs) (needs_in needs) loop → IsNamedLoop (length other) (needs_in other) loop
+    (sequence : List ℕ) (needs other : List (List ℕ)) (loop : List ℕ) → AreAlike needs other →
+    IsNamedLoop sequence (length needs) (needs_in needs) loop → IsNamedLoop sequence (length other) (needs_in other) loop
 
 -- what a graph's symbols need are symbols
 abbrev pub GraphNeedsAreWithin : Type 0

@@ -5,7 +5,7 @@ use Rattle.kc_order.specs.declared.order.NoOrder.TheVariants.{Loop, Memory}
 use Rattle.kc_order.specs.Needs.{needs_in}
 use Rattle.kc_order.specs.Loop.{IsNamedLoop}
 
--- the loop that is named; nothing is said of memory
-abbrev pub IsReason : List (List ℕ) → NoOrder → Type 0
-IsReason needs (Loop symbols) = IsNamedLoop (length needs) (needs_in needs) symbols.items
-IsReason needs Memory = Unit {0}
+-- the loop that is named by this sequence; nothing is said of memory
+abbrev pub IsReason : List ℕ → List (List ℕ) → NoOrder → Type 0
+IsReason sequence needs (Loop symbols) = IsNamedLoop sequence (length needs) (needs_in needs) symbols.items
+IsReason sequence needs Memory = Unit {0}

@@ -1,6 +1,6 @@
 //! What follows of needs, and of equations over them, whatever a value is.
 
-ghost use Rattle.kc_order.specs.Laws.{AlikeAreAccepted, AlikeHaveTheLoop, GraphNeedsAreWithin, SymbolsStandFirst, OrderedAreAccepted, CyclesAreUnordered, NamedLoopIsClosed, NamedLoopIsWithin, OneNamedLoop, UnorderedHaveALoop, AcceptedOrUnordered, AcceptedHaveOneSolution, SolutionsAgree, ComputingSolves, IterationsSolve, MinimalRestores, MinimalHasNothingToSpare};
+ghost use Rattle.kc_order.specs.Laws.{AlikeAreAccepted, AlikeHaveTheLoop, GraphNeedsAreWithin, SymbolsStandFirst, OrderedAreAccepted, CyclesAreUnordered, NamedLoopIsClosed, NamedLoopIsWithin, OneNamedLoop, NamedAreUnordered, UnorderedHaveALoop, AcceptedOrUnordered, AcceptedHaveOneSolution, SolutionsAgree, ComputingSolves, IterationsSolve, MinimalRestores, MinimalHasNothingToSpare};
 
 /// Needs that have an order are accepted.
 pub fn ordered_are_accepted()
@@ -18,24 +18,26 @@ pub fn named_loop_is_closed()
     ensures { NamedLoopIsClosed }
 {}
 
-/// Each symbol of a loop that is named is one of the symbols, where each need is.
+/// Each symbol of a loop that is named is one of the symbols.
 pub fn named_loop_is_within()
     ensures { NamedLoopIsWithin }
 {}
 
-/// No two loops are named of the same needs.
+/// No two loops are named of the same needs by the same sequence, which says which symbol is the first of several.
 pub fn one_named_loop()
     ensures { OneNamedLoop }
 {}
 
-/// Needs are accepted, or some symbol is unordered; and where one is, a loop is named, if each need is a symbol.
+/// Needs are accepted, or some symbol is unordered; and where one is, a loop is named, if each need is a symbol and each symbol
+/// that needs some symbol stands in the sequence. A loop is named nowhere else.
 pub fn unordered_have_a_loop()
     ensures either { AcceptedOrUnordered }
     ensures named { UnorderedHaveALoop }
+    ensures back { NamedAreUnordered }
 {}
 
-/// What is accepted, and which loop is named, is the same of needs that are alike: it does not count in which order a symbol
-/// needs others, nor how often.
+/// What is accepted, and which loop is named by a sequence, is the same of needs that are alike: it does not count in which
+/// order a symbol needs others, nor how often.
 pub fn alike_needs()
     ensures accepted { AlikeAreAccepted }
     ensures named { AlikeHaveTheLoop }

@@ -1,18 +1,17 @@
 //! The loop that is named where some symbol is unordered.
 
-ghost use Rattle.std.specs.Prelude.{◌≡◌, ℕ, List, ◌<◌, ◌≤◌, ◌+◌, ◌≢◌, length, replicate, slice_index, All, IfOk, MatchOption, false, true};
-ghost use Rattle.std.specs.List.{flat_map};
-ghost use Rattle.kc_order.specs.FirstUnordered.{lesser_of, least_in, is_unordered_at, AreFirstByGroup, TellsUnordered};
-ghost use Rattle.kc_order.specs.Graph.{IsGraph, stands_for, groups_of, needs_of};
-ghost use Rattle.kc_order.specs.Loop.{IsFirstUnordered, IsNext, IsNamedLoop};
+ghost use Rattle.std.specs.Prelude.{◌≡◌, ◌<◌, ◌≢◌, length, slice_index, slice_index_or, All, IfOk, MatchOption, true, fold};
+ghost use Rattle.kc_order.specs.FirstUnordered.{lesser_of, ArePlaces, AreFirsts, TellsUnordered};
+ghost use Rattle.kc_order.specs.Graph.{IsGraph, needs_of};
+ghost use Rattle.kc_order.specs.Loop.{HoldsNeeding, IsFirstUnordered, IsNext, IsNamedLoop};
 ghost use Rattle.kc_order.specs.Needs.{needs_in, unordered_after};
 
 use crate::rows::Rows;
 use crate::search::{NodeState, is_unordered};
 use std::alloc::{AllocError, Global};
 
-// The lesser of two symbols, if there are any.
-fn lesser(a: Option<u32>, b: Option<u32>) -> Option<u32>
+// The lesser of two places, if there are any.
+fn lesser(a: Option<usize>, b: Option<usize>) -> Option<usize>
     ensures { result ≡ lesser_of a b }
 {
     match (a, b) {
@@ -22,81 +21,73 @@ fn lesser(a: Option<u32>, b: Option<u32>) -> Option<u32>
     }
 }
 
-// The first unordered symbol that a node stands for: a symbol for itself, a group for what it needs.
-fn unordered_at(
-    node: u32,
-    symbols: usize,
+// The place of each unordered symbol in the sequence, the first where it stands in it twice.
+fn unordered_places(
+    alloc: Global,
+    sequence: &[u32],
     states: &[NodeState],
-    first_by_group: &[Option<u32>],
-) -> Option<u32>
-    requires there { node < symbols + length first_by_group.now }
-    requires symbols { symbols ≤ length states.now }
-    ensures { (groups : List (List ℕ)) → AreFirstByGroup states.now groups first_by_group.now → result ≡ least_in (is_unordered_at states.now) (stands_for symbols groups node) }
+) -> Result<Vec<Option<usize>>, AllocError>
+    requires { All (λ s. s < length states.now) sequence.now }
+    ensures { IfOk result (λ v. ArePlaces sequence.now states.now v.items) }
 {
-    let place = node as usize;
-    if place < symbols {
-        is_unordered(states[place]).then_some(node)
-    } else {
-        first_by_group[place - symbols]
+    let mut places = vec![in alloc; None; states.len()]?;
+    for (place, symbol) in sequence.iter().enumerate() {
+        let symbol = *symbol as usize;
+        let found = is_unordered(states[symbol]).then_some(place);
+        places[symbol] = places[symbol].or(found);
     }
+    Ok(places)
 }
 
-// The first unordered symbol that a row leads to, itself or through groups.
-fn first_in_row(
-    row: &[u32],
-    symbols: usize,
-    states: &[NodeState],
-    first_by_group: &[Option<u32>],
-) -> Option<u32>
-    requires there { All (λ t. t < symbols + length first_by_group.now) row.now }
-    requires symbols { symbols ≤ length states.now }
-    ensures { (groups : List (List ℕ)) → AreFirstByGroup states.now groups first_by_group.now → result ≡ least_in (is_unordered_at states.now) (flat_map (stands_for symbols groups) row.now) }
+// The place of the first unordered symbol that the nodes of a row stand for.
+fn first_in_row(row: &[u32], firsts: &[Option<usize>]) -> Option<usize>
+    requires { All (λ t. t < length firsts.now) row.now }
+    ensures { result ≡ fold (λ first t. lesser_of first (slice_index_or firsts.now t None)) None row.now }
 {
     let mut first = None;
     for node in row {
-        first = lesser(first, unordered_at(*node, symbols, states, first_by_group));
+        first = lesser(first, firsts[*node as usize]);
     }
     first
 }
 
-// The first unordered symbol that each group leads to.
-fn find_first_by_group(
+// The place of the first unordered symbol that each node stands for: a symbol for itself, a group for what it needs.
+fn find_firsts(
     alloc: Global,
     rows: &Rows,
     symbols: usize,
+    sequence: &[u32],
     states: &[NodeState],
-) -> Result<Vec<Option<u32>>, AllocError>
+) -> Result<Vec<Option<usize>>, AllocError>
     requires graph { IsGraph (record { symbols = symbols; rows = rows.now }) }
-    requires states { length states.now ≡ length rows.now }
-    ensures { IfOk result (λ v. AreFirstByGroup states.now (groups_of (record { symbols = symbols; rows = rows.now })) v.items) }
+    requires sequence { All (λ s. s < symbols) sequence.now }
+    requires states { TellsUnordered rows.now states.now }
+    ensures { IfOk result (λ v. AreFirsts sequence.now (record { symbols = symbols; rows = rows.now }) (length rows.now) v.items) }
 {
-    let mut first_by_group = Vec::with_capacity(alloc, rows.count() - symbols)?;
+    let mut firsts = unordered_places(alloc, sequence, states)?;
     for group in symbols..rows.count() {
-        let first = first_in_row(rows.row(group), symbols, states, &first_by_group);
-        first_by_group.push(first)?;
+        firsts[group] = first_in_row(rows.row(group), &firsts);
     }
-    Ok(first_by_group)
+    Ok(firsts)
 }
 
 // The first unordered symbol that an unordered symbol needs.
 fn next_unordered(
     rows: &Rows,
     symbols: usize,
-    states: &[NodeState],
-    first_by_group: &[Option<u32>],
+    sequence: &[u32],
+    firsts: &[Option<usize>],
     symbol: u32,
 ) -> u32
     requires graph { IsGraph (record { symbols = symbols; rows = rows.now }) }
-    requires states { TellsUnordered rows.now states.now }
-    requires first_by_group { AreFirstByGroup states.now (groups_of (record { symbols = symbols; rows = rows.now })) first_by_group.now }
+    requires needing { HoldsNeeding sequence.now (needs_of (record { symbols = symbols; rows = rows.now })) }
+    requires firsts { AreFirsts sequence.now (record { symbols = symbols; rows = rows.now }) (length rows.now) firsts.now }
     requires symbol { symbol < symbols }
     requires is_unordered { unordered_after (needs_in (needs_of (record { symbols = symbols; rows = rows.now }))) symbols symbol ≡ true }
-    ensures next { IsNext symbols (needs_in (needs_of (record { symbols = symbols; rows = rows.now }))) symbol result }
-    ensures below { result < symbols }
-    ensures is_unordered { unordered_after (needs_in (needs_of (record { symbols = symbols; rows = rows.now }))) symbols result ≡ true }
+    ensures { IsNext sequence.now symbols (needs_in (needs_of (record { symbols = symbols; rows = rows.now }))) symbol result }
 {
-    match first_in_row(rows.row(symbol as usize), symbols, states, first_by_group) {
-        Some(next) => next,
+    match first_in_row(rows.row(symbol as usize), firsts) {
+        Some(place) => sequence[place],
         None => unreachable!(),
     }
 }
@@ -108,35 +99,31 @@ fn position_of(walk: &[u32], symbol: u32) -> Option<usize>
     walk.iter().position(|visited| *visited == symbol)
 }
 
-// Whether each symbol was visited: none was.
-fn none_visited(alloc: Global, count: usize) -> Result<Vec<bool>, AllocError>
-    ensures { IfOk result (λ v. v.items ≡ replicate count false) }
-{
-    let visited = vec![in alloc; false; count]?;
-    Ok(visited)
-}
-
-/// The loop that the walk along unordered symbols comes to.
+/// The loop that the walk along unordered symbols comes to, which begins at a place of the sequence.
 pub(crate) fn named_loop(
     alloc: Global,
     rows: &Rows,
     symbols: usize,
+    sequence: &[u32],
     states: &[NodeState],
-    first: u32,
+    first: usize,
 ) -> Result<Vec<u32>, AllocError>
     requires graph { IsGraph (record { symbols = symbols; rows = rows.now }) }
+    requires sequence { All (λ s. s < symbols) sequence.now }
+    requires needing { HoldsNeeding sequence.now (needs_of (record { symbols = symbols; rows = rows.now })) }
     requires states { TellsUnordered rows.now states.now }
-    requires first { IsFirstUnordered symbols (needs_in (needs_of (record { symbols = symbols; rows = rows.now }))) first }
-    ensures { IfOk result (λ v. IsNamedLoop symbols (needs_in (needs_of (record { symbols = symbols; rows = rows.now }))) v.items) }
+    requires there { first < length sequence.now }
+    requires first { IsFirstUnordered sequence.now symbols (needs_in (needs_of (record { symbols = symbols; rows = rows.now }))) (slice_index sequence.now first) }
+    ensures { IfOk result (λ v. IsNamedLoop sequence.now symbols (needs_in (needs_of (record { symbols = symbols; rows = rows.now }))) v.items) }
 {
-    let first_by_group = find_first_by_group(alloc, rows, symbols, states)?;
-    let mut visited = none_visited(alloc, symbols)?;
+    let firsts = find_firsts(alloc, rows, symbols, sequence, states)?;
+    let mut visited = vec![in alloc; false; symbols]?;
     let mut walk = Vec::new(alloc);
-    let mut at = first;
+    let mut at = sequence[first];
     while !visited[at as usize] {
         visited[at as usize] = true;
         walk.push(at)?;
-        at = next_unordered(rows, symbols, states, &first_by_group, at);
+        at = next_unordered(rows, symbols, sequence, &firsts, at);
     }
     match position_of(&walk, at) {
         None => unreachable!(),

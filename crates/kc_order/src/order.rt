@@ -1,8 +1,9 @@
 //! Nodes in order, what each needs before it, or the loop that is named.
 
-ghost use Rattle.std.specs.Prelude.{◌≡◌, ◌<◌, ◌^◌, length, IfOk, IfErr, OnOk};
+ghost use Rattle.std.specs.Prelude.{◌≡◌, ℕ, ◌<◌, ◌^◌, length, All, Contains, IfOk, IfErr, OnOk};
 ghost use Rattle.kc_order.specs.Graph.{IsGraph, needs_of};
-ghost use Rattle.kc_order.specs.Needs.{IsAccepted};
+ghost use Rattle.kc_order.specs.Loop.{HoldsNeeding};
+ghost use Rattle.kc_order.specs.Needs.{needs_in, IsAccepted};
 ghost use Rattle.kc_order.specs.Order.{Orders};
 ghost use Rattle.kc_order.specs.Reason.{IsReason};
 
@@ -60,36 +61,41 @@ impl Order {
 }
 
 // The nodes in order, or the loop that is named.
-fn order_or_loop(alloc: Global, graph: &Graph) -> Result<Vec<u32>, NoOrder>
+fn order_or_loop(alloc: Global, graph: &Graph, sequence: &[u32]) -> Result<Vec<u32>, NoOrder>
     requires graph { IsGraph graph.now }
     requires few { length graph.now.rows < 2 ^ 32 }
+    requires sequence { All (λ s. s < graph.now.symbols) sequence.now }
+    requires needing { HoldsNeeding sequence.now (needs_of graph.now) }
     ensures order { IfOk result (λ v. Orders graph.now.rows v.items) }
-    ensures refused { IfErr result (IsReason (needs_of graph.now)) }
+    ensures refused { IfErr result (IsReason sequence.now (needs_of graph.now)) }
 {
     let Search { states, order, .. } = search_all(alloc, &graph.rows)?;
-    match first_unordered(&states[..graph.symbols]) {
+    match first_unordered(&states, sequence) {
         None => Ok(order),
         Some(first) => {
-            let found = named_loop(alloc, &graph.rows, graph.symbols, &states, first as u32)?;
+            let found = named_loop(alloc, &graph.rows, graph.symbols, sequence, &states, first)?;
             Err(NoOrder::Loop(found))
         }
     }
 }
 
-/// An order for this graph, where no symbol is unordered. The time is linear in the rows as they are held, also where there is
-/// none.
+/// An order for this graph, where no symbol is unordered. The time is linear in the rows as they are held and in the sequence,
+/// also where there is none.
 ///
 /// Answers `Loop` exactly where some symbol is unordered, and `Memory` only when it is out of memory; then nothing is left of
 /// the graph. Which symbols are unordered, and which loop is named, is our own rule, over what symbols need, be it through
 /// groups: a walk from the first unordered symbol always on to the first unordered symbol that the last one needs, and of it
-/// the part from the symbol that it meets twice.
-pub fn order_of(alloc: Global, graph: Graph) -> Result<Order, NoOrder>
+/// the part from the symbol that it meets twice. The first of several symbols is the one that stands first in `sequence`. Each
+/// symbol whose row is not empty must stand in it.
+pub fn order_of(alloc: Global, graph: Graph, sequence: &[u32]) -> Result<Order, NoOrder>
     requires graph { IsGraph graph }
     requires few { length graph.rows < 2 ^ 32 }
+    requires sequence { All (λ s. s < graph.symbols) sequence.now }
+    requires needing { (s : ℕ) → s < graph.symbols → 0 < length (needs_in graph.rows s) → Contains sequence.now s }
     ensures same { IfOk result (λ o. o ≡ graph) }
     ensures accepted { OnOk result (IsAccepted (needs_of graph)) }
-    ensures refused { IfErr result (IsReason (needs_of graph)) }
+    ensures refused { IfErr result (IsReason sequence.now (needs_of graph)) }
 {
-    let nodes = order_or_loop(alloc, &graph)?;
+    let nodes = order_or_loop(alloc, &graph, sequence)?;
     Ok(Order { graph, nodes })
 }

@@ -1,6 +1,7 @@
 //! A depth-first search for an order, with a stack of its own. It goes on past what is unordered, so that it finds all of it.
 
-ghost use Rattle.std.specs.Prelude.{◌≡◌, ℕ, ◌<◌, ◌≤◌, ◌↔◌, length, slice_index, IfOk, IsTrue, MatchOption, OnOk, All, slice_index_or, take, vec_len, replicate, map, ◌≢◌, ◌^◌, ◌++◌, ◌∷◌, [], ◌-◌, true, false};
+ghost use Rattle.std.specs.Prelude.{◌≡◌, ℕ, ◌<◌, ◌≤◌, ◌↔◌, length, slice_index, IfOk, IsTrue, OnOk, All, position, slice_index_or, take, vec_len, replicate, map, ◌≢◌, ◌^◌, ◌++◌, ◌∷◌, [], ◌-◌};
+ghost use Rattle.kc_order.specs.FirstUnordered.{is_unordered_at};
 ghost use Rattle.kc_order.specs.Rows.{RowsBelow};
 ghost use Rattle.kc_order.specs.Search.{IsSound, IsFinished, KeepsVisited, Opens, Closes, GivesUp, work, state_of, is_unordered};
 
@@ -181,10 +182,12 @@ pub(crate) fn is_unordered(mark: NodeState) -> bool
     matches!(mark, NodeState::Unordered)
 }
 
-/// The first of these nodes that is unordered.
-pub(crate) fn first_unordered(states: &[NodeState]) -> Option<usize>
-    ensures { MatchOption result (All (λ m. is_unordered m ≡ false) states.now) (λ i. (i < length states.now)
-        × (is_unordered (slice_index_or states.now i NodeState.New) ≡ true) × ((k : ℕ) → k < i → is_unordered (slice_index_or states.now k NodeState.New) ≡ false)) }
+/// The place of the first node of a sequence that is unordered.
+pub(crate) fn first_unordered(states: &[NodeState], sequence: &[u32]) -> Option<usize>
+    requires { All (λ s. s < length states.now) sequence.now }
+    ensures { result ≡ position (is_unordered_at states.now) sequence.now }
 {
-    states.iter().position(|mark| is_unordered(*mark))
+    sequence
+        .iter()
+        .position(|node| is_unordered(states[*node as usize]))
 }

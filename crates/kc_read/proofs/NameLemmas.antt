@@ -10,9 +10,8 @@ use Rattle.kc_expr.specs.Names.{IsNumber, same_name, same_symbol, number_of, sym
 use Rattle.std.proofs.lemmas.Bool.Decides.{nat_tests}
 use Rattle.kc_read.specs.declared.refusal.Code.TheVariants as code
 use Rattle.kc_read.specs.Lines.{cause}
-use Rattle.kc_expr.specs.Order.{has_rank, rank_of, ranked}
+use Rattle.kc_expr.specs.Order.{added, stands_in}
 use Rattle.kc_expr.proofs.NamesLemmas.{extends_on, same_name-refl}
-use Rattle.kc_expr.proofs.OrderLemmas.{next_rank, rank-some}
 use Rattle.kc_read.specs.Expansion.{names_match}
 use Rattle.kc_read.specs.Progress.{defined_after, defining_cause, ids_match, naming_cause, order_after, symbol_limit_cause}
 use Rattle.kc_read.specs.Expanded.{AreNumbers, IsNamed}
@@ -111,26 +110,17 @@ is_named names (Some i) None h = absurd (let e = h names (extends_none names) in
 is_named names (Some i) (Some m) h = λ later x. let e = h later x in cc
 
 -- The numbers of names, one after another, and those of one more.
-same_place : (names : List (List ℕ)) (ids : List SymId) (ns : List (List ℕ)) (w : List ℕ) (id : SymId) → AreNumbers names ids ns → IsNumber names w id → has_rank ids id ≡ list_any (same_name w) ns
+same_place : (names : List (List ℕ)) (ids : List SymId) (ns : List (List ℕ)) (w : List ℕ) (id : SymId) → AreNumbers names ids ns → IsNumber names w id → stands_in ids id ≡ list_any (same_name w) ns
 same_place names [] [] w id h k = refl
 same_place names [] (n ∷ ns) w id h k = absurd (let e = h names (extends_none names) in cc)
 same_place names (s ∷ ids) [] w id h k = absurd (let e = h names (extends_none names) in cc)
 same_place names (s ∷ ids) (n ∷ ns) w id h k =
     let one : (id.0 == s.0) ≡ same_name w n = ids_same names w n id s k (λ later x. let e = h later x in cc) in
-    let rest : has_rank ids id ≡ list_any (same_name w) ns = same_place names ids ns w id (λ later x. let e = h later x in cc) k in
+    let rest : stands_in ids id ≡ list_any (same_name w) ns = same_place names ids ns w id (λ later x. let e = h later x in cc) k in
     λ j. one j || rest j
 
-pub place_is : (names : List (List ℕ)) (ids : List SymId) (ns : List (List ℕ)) (w : List ℕ) (id : SymId) → AreNumbers names ids ns → IsNumber names w id → rank_of ids id ≡ number_of ns w
-place_is names [] [] w id h k = refl
-place_is names [] (n ∷ ns) w id h k = absurd (let e = h names (extends_none names) in cc)
-place_is names (s ∷ ids) [] w id h k = absurd (let e = h names (extends_none names) in cc)
-place_is names (s ∷ ids) (n ∷ ns) w id h k =
-    let one : (id.0 == s.0) ≡ same_name w n = ids_same names w n id s k (λ later x. let e = h later x in cc) in
-    let rest : rank_of ids id ≡ number_of ns w = place_is names ids ns w id (λ later x. let e = h later x in cc) k in
-    λ j. cond (not (one j)) (1 + rest j) 0
-
 pub numbers_placed : (known names : List (List ℕ)) (ids : List SymId) (ns : List (List ℕ)) (w : List ℕ) (id : SymId) → Extends known names →
-    AreNumbers known ids ns → IsNumber names w id → AreNumbers names (ranked ids id) (mention ns w)
+    AreNumbers known ids ns → IsNumber names w id → AreNumbers names (added ids id) (mention ns w)
 numbers_placed known names ids ns w id e h k later x =
     ap (λ b. cond b ids (ids ++ id ∷ [])) (same_place names ids ns w id (λ l y. h l (extends_on known names l e y)) k)
     ∙ by (list_any (same_name w) ns)
@@ -160,44 +150,17 @@ defining_same known names ids ns None None e h k = refl
 defining_same known names ids ns None (Some n) e h k = absurd k
 defining_same known names ids ns (Some id) None e h k = absurd k
 defining_same known names ids ns (Some id) (Some n) e h k =
-    ap (λ (l : ℕ). cond (nat_lt 65535 l) (Some (cause code.TooManySymbols)) None) (as_many names (ranked ids id) (mention ns n) (numbers_placed known names ids ns n id e h k))
+    ap (λ (l : ℕ). cond (nat_lt 65535 l) (Some (cause code.TooManySymbols)) None) (as_many names (added ids id) (mention ns n) (numbers_placed known names ids ns n id e h k))
 
--- How many symbols have a rank once one more gets one.
-placed_by : (ids : List SymId) (id : SymId) → ((ranked ids id ≡ ids) × (rank_of ids id < length ids)) ⊎ ((length (ranked ids id) ≡ length ids + 1) × (rank_of ids id ≡ length ids))
-placed_by ids id = by (has_rank ids id) refl
-  where
-    by : (b : Bool) → has_rank ids id ≡ b → ((cond b ids (ids ++ id ∷ []) ≡ ids) × (rank_of ids id < length ids)) ⊎
-        ((length (cond b ids (ids ++ id ∷ [])) ≡ length ids + 1) × (rank_of ids id ≡ length ids))
-    by true e = inl (refl, rank-some (same_symbol id) ids e)
-    by false e = inr (omega (arith, length-append ids (id ∷ [])), sym (next_rank ids id e))
-
-count_past : (ids : List SymId) (id : SymId) → 65535 ≤ rank_of ids id → 65535 < length (ranked ids id)
-count_past ids id h = elim (placed_by ids id) [
-  | inl k ↦ rw k.0 (omega (arith, k.1))
-  | inr k ↦ omega (arith, k.0, k.1)
-]
-
-count_within : (ids : List SymId) (id : SymId) → rank_of ids id < 65535 → length ids ≤ 65535 → length (ranked ids id) ≤ 65535
-count_within ids id h l = elim (placed_by ids id) [
-  | inl k ↦ rw k.0 l
-  | inr k ↦ omega (arith, k.0, k.1)
-]
-
-pub too_many : (ids : List SymId) (id rank : SymId) → rank ≡ symbol (rank_of ids id) → 65535 ≤ rank.0 → symbol_limit_cause ids id ≡ Some (cause code.TooManySymbols)
-too_many ids id rank e h =
-    let n : 65535 ≤ rank_of ids id = omega (arith, ap (λ s. s.0) e) in
-    let past : 65535 < length (ranked ids id) = count_past ids id n in
-    let t : nat_lt 65535 (length (ranked ids id)) ≡ true = grind (arith, nat_tests) in
+-- whether one more is one too many
+pub too_many : (ids now : List SymId) (id : SymId) (count : ℕ) → count ≡ length now → now ≡ added ids id → 65535 < count → symbol_limit_cause ids id ≡ Some (cause code.TooManySymbols)
+too_many ids now id count e f h =
+    let long = ap length f in
+    let t : nat_lt 65535 (length (added ids id)) ≡ true = grind (arith, nat_tests) in
     rw t refl
 
-pub not_too_many : (ids : List SymId) (id rank : SymId) → rank ≡ symbol (rank_of ids id) → rank.0 < 65535 → length ids ≤ 65535 → symbol_limit_cause ids id ≡ None
-not_too_many ids id rank e h l =
-    let n : rank_of ids id < 65535 = omega (arith, ap (λ s. s.0) e) in
-    let within : length (ranked ids id) ≤ 65535 = count_within ids id n l in
-    let t : nat_lt 65535 (length (ranked ids id)) ≡ false = grind (arith, nat_tests) in
+pub not_too_many : (ids now : List SymId) (id : SymId) (count : ℕ) → count ≡ length now → now ≡ added ids id → count ≤ 65535 → symbol_limit_cause ids id ≡ None
+not_too_many ids now id count e f h =
+    let long = ap length f in
+    let t : nat_lt 65535 (length (added ids id)) ≡ false = grind (arith, nat_tests) in
     rw t refl
-
-pub still_within : (ids now : List SymId) (id rank : SymId) → rank ≡ symbol (rank_of ids id) → now ≡ ranked ids id → rank.0 < 65535 → length ids ≤ 65535 → length now ≤ 65535
-still_within ids now id rank e f h l =
-    let n : rank_of ids id < 65535 = omega (arith, ap (λ s. s.0) e) in
-    rw f (count_within ids id n l)

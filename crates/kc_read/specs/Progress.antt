@@ -10,7 +10,7 @@ use Rattle.kc_read.specs.Limits.{most_blocks, most_files, most_lines}
 use Rattle.kc_text.specs.Lines.{UnreadLines}
 use Rattle.kc_expr.specs.declared.expression.SymId.{SymId}
 use Rattle.kc_expr.specs.Names.{all_mentioned, mention, same_symbol}
-use Rattle.kc_expr.specs.Order.{ranked}
+use Rattle.kc_expr.specs.Order.{added}
 use Rattle.kc_read.specs.declared.frame.Frame.{Frame}
 use Rattle.kc_read.specs.declared.progress.Progress.{Progress}
 use Rattle.kc_read.specs.declared.refusal.Code.TheVariants as code
@@ -127,10 +127,10 @@ naming_cause ds (Some n) = symbol_cause ds n
 -- the same of the symbols
 abbrev pub order_after : List SymId → Option SymId → List SymId
 order_after ids None = ids
-order_after ids (Some id) = ranked ids id
+order_after ids (Some id) = added ids id
 
 abbrev pub symbol_limit_cause : List SymId → SymId → Option Cause
-symbol_limit_cause ids id = if nat_lt most_symbols (length (ranked ids id)) then Some (cause code.TooManySymbols) else None
+symbol_limit_cause ids id = if nat_lt most_symbols (length (added ids id)) then Some (cause code.TooManySymbols) else None
 
 abbrev pub defining_cause : List SymId → Option SymId → Option Cause
 defining_cause ids None = None

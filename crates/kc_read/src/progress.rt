@@ -2,7 +2,7 @@
 
 ghost use Rattle.std.specs.Prelude.{◌≡◌, IfErr, OnOk, None, Some};
 ghost use Rattle.std.specs.Option.{option_or};
-ghost use Rattle.kc_expr.specs.Order.{ranked};
+ghost use Rattle.kc_expr.specs.Order.{added};
 ghost use Rattle.kc_read.specs.Progress.{defining_cause, ids_match, HasSymbolsWithin, IsRemembered, symbol_limit_cause, KeepsWhenDefining, KeepsWhenMarking};
 ghost use Rattle.kc_read.specs.StatementViews.{statement_view};
 ghost use Rattle.kc_read.specs.LineReads.{IsFault};
@@ -47,15 +47,15 @@ impl Progress {
     // The symbol is defined. The 65,536th is refused.
     fn define(&mut self, id: SymId) -> Result<(), LineFault<'static>>
         requires { HasSymbolsWithin self.old }
-        ensures defined { OnOk result (self.new.defined ≡ ranked self.old.defined id) }
+        ensures defined { OnOk result (self.new.defined ≡ added self.old.defined id) }
         ensures config { OnOk result (self.new.config ≡ Some id) }
         ensures kept { KeepsWhenDefining self.old self.new }
         ensures within { OnOk result (HasSymbolsWithin self.new) }
         ensures allowed { OnOk result (symbol_limit_cause self.old.defined id ≡ None) }
         ensures fault { IfErr result (λ f. IsFault f (λ c. symbol_limit_cause self.old.defined id ≡ Some c)) }
     {
-        let rank = self.defined.rank(id)?;
-        if rank.0 >= MOST_SYMBOLS {
+        self.defined.add(id)?;
+        if self.defined.count() > MOST_SYMBOLS {
             return Err(LineFault {
                 code: Code::TooManySymbols,
                 detail: b"",

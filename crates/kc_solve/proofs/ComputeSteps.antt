@@ -28,7 +28,7 @@ use Rattle.kc_values.specs.Lookups.{choice_at}
 use Rattle.kc_values.specs.Needs.{condition_names, names_of_choice, needs}
 use Rattle.kc_values.specs.Nodes.{choice_number, context_number}
 use Rattle.kc_values.specs.Computed.{AreContextsComputed, rank}
-use Rattle.kc_values.specs.Solution.{symbol_count, equations}
+use Rattle.kc_values.specs.Solution.{name_count, equations}
 use Rattle.kc_values.specs.Table.{known_in}
 use Rattle.kc_values.specs.declared.table.Table.{Table}
 use Rattle.kc_values.specs.declared.table.Value.{Value}
@@ -248,7 +248,7 @@ empty_at {A} n i x e =
 
 -- nothing is computed yet
 pub begins : (tree : TreeFacts) (l : Layout) (given : List (Option UserValue)) (chosen : List (Option SymId)) (nodes : List ℕ) (t : Table) → t.tree.now ≡ tree → t.layout.now ≡ l →
-    IsLayoutOf tree l → IsNodeOrder tree l nodes → t.values.items ≡ replicate (symbol_count tree) None → t.contexts.items ≡ replicate (length l.tables.contexts) None →
+    IsLayoutOf tree l → IsNodeOrder tree l nodes → t.values.items ≡ replicate (name_count tree) None → t.contexts.items ≡ replicate (length l.tables.contexts) None →
     t.selections.items ≡ replicate (length l.tables.choices.items) None → IsComputedTable tree given chosen nodes 0 t
 begins tree l given chosen nodes t same at laid order v c s =
     let to : IsComputedTo tree l given chosen nodes 0 t.values.items t.contexts.items t.selections.items =
@@ -267,8 +267,8 @@ begins tree l given chosen nodes t same at laid order v c s =
 
 -- after all nodes the equations hold
 pub solves : (tree : TreeFacts) (l : Layout) (given : List (Option UserValue)) (chosen : List (Option SymId)) (nodes : List ℕ) (values : List (Option Value)) (contexts : List (Option Tri))
-    (selections : List (Option (Option SymId))) → length values ≡ symbol_count tree → IsComputedTo tree l given chosen nodes (length nodes) values contexts selections →
-    Solves (symbol_count tree) (equations tree (places given chosen)) (valuation tree values)
+    (selections : List (Option (Option SymId))) → length values ≡ name_count tree → IsComputedTo tree l given chosen nodes (length nodes) values contexts selections →
+    Solves (name_count tree) (equations tree (places given chosen)) (valuation tree values)
 solves tree l given chosen nodes values contexts selections count done s lt =
     let n = done.order.is.symbols_there in
     let c = done.order.orders.all_there s (omega (arith, n, done.order.rows.symbols_are, done.value_count)) in

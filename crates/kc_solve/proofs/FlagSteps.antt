@@ -3,6 +3,7 @@ use Rattle.std.proofs.Common.{◌≡◌, ℕ, ◌+◌, ◌<◌, ◌&&◌, not, B
 use Rattle.std.specs.List.{range_with_len}
 use Rattle.std.proofs.lemmas.List.FromFn.{map-range_with_len_more}
 use Rattle.kc_expr.specs.declared.expression.SymId.{SymId}
+use Rattle.kc_expr.specs.declared.expression.Tri.{Tri}
 use Rattle.kc_tree.specs.TreeFacts.{TreeFacts}
 use Rattle.std.specs.Prelude.{slice_get, slice_index_or}
 use Rattle.std.proofs.lemmas.List.FromFn.{get_or-map-range_with_len}
@@ -13,7 +14,7 @@ use Rattle.kc_values.specs.Lookups.{facts, choice_at}
 use Rattle.kc_order.specs.Solution.{Solves}
 use Rattle.std.specs.Option.{is_some}
 use Rattle.kc_user.specs.GivenValue.{UserPlace, SymbolPlace, ChoicePlace, GivenValue}
-use Rattle.kc_values.specs.Solution.{symbol_count, user_place, user_place_by, user_place_of, rhs, equations}
+use Rattle.kc_values.specs.Solution.{name_count, user_place, user_place_by, user_place_of, rhs, equations}
 use Rattle.kc_values.proofs.SameValue.{same_value_itself}
 use Rattle.kc_values.proofs.Uncounted.{uncounted}
 use Rattle.kc_values.specs.Differs.{same_value, selection, default_selection, differs, differs_at}
@@ -21,7 +22,8 @@ use Rattle.kc_tree.specs.Common.{is_symbol_of}
 use Rattle.kc_values.specs.Values.{selected, equation, by_choice, by_kind, is_n, visibility}
 use Rattle.kc_values.specs.WrittenSymbols.{written}
 use Rattle.kc_values.specs.declared.table.Value.{Value}
-use Rattle.kc_solve.specs.Flags.{differs_by, is_written, IsSolvedOwn}
+use Rattle.kc_solve.specs.Answers.{visibility_by}
+use Rattle.kc_solve.specs.Flags.{differs_by, is_written, visibility_at, IsSolvedOwn}
 use Rattle.kc_solve.specs.Kept.{valuation}
 use Rattle.kc_values.specs.Table.{known_in}
 use Rattle.kc_solve.proofs.WarningSteps.{tables_known}
@@ -31,24 +33,30 @@ one_more f i x old new e n h =
     n ∙ ap (λ xs. xs ++ x ∷ []) e ∙ ap (λ y. map f (range_with_len 0 i) ++ y ∷ []) h ∙ sym (map-range_with_len_more f 0 i i (omega arith))
 
 pub one_more_selected : (tree : TreeFacts) (values : List (Option Value)) (U : UserPlace → Option GivenValue) (c : ℕ) (x : Option SymId) (old new : List (Option SymId)) →
-    length values ≡ symbol_count tree → old ≡ map (selection tree U (valuation tree values)) (range_with_len 0 c) → new ≡ old ++ x ∷ [] →
+    length values ≡ name_count tree → old ≡ map (selection tree U (valuation tree values)) (range_with_len 0 c) → new ≡ old ++ x ∷ [] →
     x ≡ selected tree (known_in tree values) (choice_at tree c) (U (ChoicePlace c)) → new ≡ map (selection tree U (valuation tree values)) (range_with_len 0 (c + 1))
 one_more_selected tree values U c x old new l e n h =
     one_more (selection tree U (valuation tree values)) c x old new e n (h ∙ ap (λ k. selected tree k (choice_at tree c) (U (ChoicePlace c))) (tables_known tree values l))
 
 pub one_more_default : (tree : TreeFacts) (values : List (Option Value)) (c : ℕ) (x : Option SymId) (old new : List (Option SymId)) →
-    length values ≡ symbol_count tree → old ≡ map (default_selection tree (valuation tree values)) (range_with_len 0 c) → new ≡ old ++ x ∷ [] →
+    length values ≡ name_count tree → old ≡ map (default_selection tree (valuation tree values)) (range_with_len 0 c) → new ≡ old ++ x ∷ [] →
     x ≡ selected tree (known_in tree values) (choice_at tree c) None → new ≡ map (default_selection tree (valuation tree values)) (range_with_len 0 (c + 1))
 one_more_default tree values c x old new l e n h =
     one_more (default_selection tree (valuation tree values)) c x old new e n (h ∙ ap (λ k. selected tree k (choice_at tree c) None) (tables_known tree values l))
 
-pub one_more_written : (tree : TreeFacts) (values : List (Option Value)) (i : ℕ) (x : Bool) (old new : List Bool) → length values ≡ symbol_count tree →
+pub one_more_visible : (tree : TreeFacts) (values : List (Option Value)) (i : ℕ) (x : Tri) (old new : List Tri) → length values ≡ name_count tree →
+    old ≡ map (visibility_at tree (valuation tree values)) (range_with_len 0 i) → new ≡ old ++ x ∷ [] → x ≡ visibility_by tree (known_in tree values) (facts tree (symbol i)) →
+    new ≡ map (visibility_at tree (valuation tree values)) (range_with_len 0 (i + 1))
+one_more_visible tree values i x old new l e n h =
+    one_more (visibility_at tree (valuation tree values)) i x old new e n (h ∙ ap (λ k. visibility_by tree k (facts tree (symbol i))) (tables_known tree values l))
+
+pub one_more_written : (tree : TreeFacts) (values : List (Option Value)) (i : ℕ) (x : Bool) (old new : List Bool) → length values ≡ name_count tree →
     old ≡ map (is_written tree (valuation tree values)) (range_with_len 0 i) → new ≡ old ++ x ∷ [] → x ≡ written tree (known_in tree values) (symbol i) →
     new ≡ map (is_written tree (valuation tree values)) (range_with_len 0 (i + 1))
 one_more_written tree values i x old new l e n h =
     one_more (is_written tree (valuation tree values)) i x old new e n (h ∙ ap (λ k. written tree k (symbol i)) (tables_known tree values l))
 
-module _ (tree : TreeFacts) (values : List (Option Value)) (full : length values ≡ symbol_count tree) (U : UserPlace → Option GivenValue) (i : ℕ) (f : SymbolFacts)
+module _ (tree : TreeFacts) (values : List (Option Value)) (full : length values ≡ name_count tree) (U : UserPlace → Option GivenValue) (i : ℕ) (f : SymbolFacts)
     (at : slice_get tree.symbols i ≡ Some f) (selections defaults : List (Option SymId))
     (sel : selections ≡ map (selection tree U (valuation tree values)) (range_with_len 0 (length tree.choices)))
     (def : defaults ≡ map (default_selection tree (valuation tree values)) (range_with_len 0 (length tree.choices))) where
@@ -81,7 +89,7 @@ module _ (tree : TreeFacts) (values : List (Option Value)) (full : length values
       new ≡ old ++ x ∷ [] → x ≡ differs_by tree (known_in tree values) (symbol i) f f.choice selections defaults → new ≡ map (differs tree U V) (range_with_len 0 (i + 1))
   one_more_differs below x old new e n h = one_more (differs tree U V) i x old new e n (h ∙ differs_is below)
 
-  solved_by : Solves (symbol_count tree) (equations tree U) V → i < symbol_count tree → (own : Option GivenValue) → own ≡ U (SymbolPlace i) → (c : Option ℕ) → f.choice ≡ c →
+  solved_by : Solves (name_count tree) (equations tree U) V → i < name_count tree → (own : Option GivenValue) → own ≡ U (SymbolPlace i) → (c : Option ℕ) → f.choice ≡ c →
       IsSolvedOwn tree (known_in tree values) (symbol i) f c own
   solved_by solves l own given (Some c) e = tt
   solved_by solves l own given None e =
@@ -94,7 +102,7 @@ module _ (tree : TreeFacts) (values : List (Option Value)) (full : length values
       ∙ ap (λ o. by_choice tree (known_in tree values) (symbol i) f o own) e
 
   -- the value of a symbol outside a choice is what its equation gives
-  pub solved_here : Solves (symbol_count tree) (equations tree U) V → i < symbol_count tree → (own : Option GivenValue) → own ≡ U (SymbolPlace i) →
+  pub solved_here : Solves (name_count tree) (equations tree U) V → i < name_count tree → (own : Option GivenValue) → own ≡ U (SymbolPlace i) →
       IsSolvedOwn tree (known_in tree values) (symbol i) f f.choice own
   solved_here solves l own given = solved_by solves l own given f.choice refl
 

@@ -5,5 +5,6 @@ pub mod UserSteps
 pub mod WarningSteps
 pub mod FlagSteps
 pub mod OrderSteps
+pub mod SequenceSteps
 pub mod SolvedSteps
 pub mod ShownSteps

@@ -21,7 +21,7 @@ use Rattle.kc_expr.specs.Value.{SymbolValue}
 use Rattle.kc_expr.specs.declared.expression.SymId.{SymId}
 use Rattle.kc_user.specs.Places.{Places}
 use Rattle.kc_values.specs.TableFacts.{known_at}
-use Rattle.kc_values.specs.Solution.{symbol_count}
+use Rattle.kc_values.specs.Solution.{name_count}
 use Rattle.kc_values.specs.Values.{condition}
 use Rattle.kc_values.specs.declared.table.Table.{Table}
 use Rattle.kc_solve.specs.Solved.{Solution, known}
@@ -73,7 +73,7 @@ module _ (t : Table) (u : Places) (s : Solution) (e : solution_in t.tree.now u t
   abbrev Row : Option ShownEntry
   Row = slice_get t.layout.now.tables.entries.items index
 
-  pub shown_here : length t.values.items ≡ symbol_count t.tree.now → (title : Title) (x : Tri) → entry_title t.layout.now Row ≡ Some title →
+  pub shown_here : length t.values.items ≡ name_count t.tree.now → (title : Title) (x : Tri) → entry_title t.layout.now Row ≡ Some title →
       x ≡ condition t.tree.now (known_at t) (title_condition t.layout.now.tables title) → x ≡ shown s (slice_get s.tree.entries index)
   shown_here full title x at h =
       let mine = solution_in t.tree.now u t.values.items in

@@ -1,5 +1,5 @@
 -- What a full table tells, as a solution.
-use Rattle.std.proofs.Common.{◌≡◌, ℕ, ◌<◌, ◌≤◌, Bool, false, not, ◌&&◌, cond, List, [], length, Option, Some, None, refl, sym, ◌∙◌, ap, subst, inl, inr, arith}
+use Rattle.std.proofs.Common.{◌≡◌, ℕ, ◌<◌, ◌≤◌, Bool, false, not, ◌&&◌, cond, List, [], length, map, Option, None, refl, sym, ◌∙◌, ap, subst, inl, inr, arith}
 use Rattle.std.specs.Prelude.{slice_index_or}
 use Rattle.std.specs.List.{flat_map, range_with_len}
 use Rattle.std.proofs.lemmas.Bool.{cases_Bool, ltb-false, ltb-true}
@@ -19,16 +19,15 @@ use Rattle.kc_user.specs.GivenValue.{GivenValue, UserPlace, SymbolPlace, ChoiceP
 use Rattle.kc_user.specs.Places.{Places, place_at}
 use Rattle.kc_values.specs.Differs.{differs, differs_at, same_value, selection, default_selection}
 use Rattle.kc_values.specs.Laws.{MinimalRestores, MinimalHasNothingToSpare, IdempotentWhere as Law}
-use Rattle.kc_values.specs.Lookups.{choice_at, is_defined, facts, name, kind_in}
-use Rattle.kc_values.specs.Solution.{equations, rhs, known_from, user_place, symbol_count}
+use Rattle.kc_values.specs.Lookups.{choice_at, is_mentioned, facts, name, kind_in}
+use Rattle.kc_values.specs.Solution.{equations, rhs, known_from, user_place, name_count}
 use Rattle.kc_values.specs.Table.{value_in, tri_in, text_in}
 use Rattle.kc_tree.specs.Common.{is_symbol_of}
-use Rattle.kc_values.specs.Values.{equation, selected, visibility}
+use Rattle.kc_values.specs.Values.{equation, selected}
 use Rattle.kc_values.specs.Warnings.{warnings_of}
 use Rattle.kc_values.specs.WrittenSymbols as writing
 use Rattle.kc_values.specs.declared.table.Value.{Value}
 use Rattle.kc_solve.proofs.WarningSteps.{tables_known}
-use Rattle.kc_solve.specs.Flags.{is_written}
 use Rattle.kc_values.specs.Table.{known_in}
 use Rattle.kc_solve.specs.Answers as solved
 use Rattle.kc_solve.specs.Solved.{IsSolution, Solution, known, value_of, warnings}
@@ -52,15 +51,15 @@ module _ (tree : TreeFacts) (places : Places) (values : List (Option Value)) whe
   abbrev W : ℕ → SymbolValue
   W = value_of (solution_in tree places values)
 
-  same_value_at : (i : ℕ) → i < symbol_count tree → W i ≡ V i
-  same_value_at i l = get_or-map-range_with_len V 0 (symbol_count tree) i i (TextValue Undefined []) l (omega arith)
+  same_value_at : (i : ℕ) → i < name_count tree → W i ≡ V i
+  same_value_at i l = get_or-map-range_with_len V 0 (name_count tree) i i (TextValue Undefined []) l (omega arith)
 
   same_known_at : (s : SymId) → known_from tree W s ≡ known_from tree V s
   same_known_at s =
-      elim (cases_Bool (is_defined tree s)) [
+      elim (cases_Bool (is_mentioned tree s)) [
         | inl t ↦
-            let e = same_value_at s.0 (ltb-true s.0 (symbol_count tree) t) in
-            ap (λ x. cond (is_defined tree s) x (TextValue Undefined (name tree s))) e
+            let e = same_value_at s.0 (ltb-true s.0 (name_count tree) t) in
+            ap (λ x. cond (is_mentioned tree s) x (TextValue Undefined (name tree s))) e
         | inr f ↦
             ap (λ b. cond b (W s.0) (TextValue Undefined (name tree s))) f ∙ sym (ap (λ b. cond b (V s.0) (TextValue Undefined (name tree s))) f)
       ]
@@ -69,51 +68,61 @@ module _ (tree : TreeFacts) (places : Places) (values : List (Option Value)) whe
   same_known = λ i s. same_known_at s i
 
   -- what the table tells is what is known in the solution
-  pub table_tells : length values ≡ symbol_count tree → known_in tree values ≡ known (solution_in tree places values)
+  pub table_tells : length values ≡ name_count tree → known_in tree values ≡ known (solution_in tree places values)
   table_tells full = tables_known tree values full ∙ sym same_known
 
   same_rhs : (i : ℕ) (given : Option GivenValue) → rhs tree i given W ≡ rhs tree i given V
   same_rhs i given = ap (λ k. equation tree k (symbol i) (facts tree (symbol i)) given) same_known
 
-  same_differs : (i : ℕ) (p : UserPlace) → i < symbol_count tree → differs_at tree (place_at places) W i p ≡ differs_at tree (place_at places) V i p
+  same_differs : (i : ℕ) (p : UserPlace) → i < name_count tree → differs_at tree (place_at places) W i p ≡ differs_at tree (place_at places) V i p
   same_differs i (SymbolPlace j) l = ap (λ x. not (same_value x (rhs tree i None W))) (same_value_at i l) ∙ ap (λ x. not (same_value (V i) x)) (same_rhs i None)
   same_differs i (ChoicePlace c) l =
       ap (λ (k : SymId → SymbolValue). is_symbol_of (symbol i) (selected tree k (choice_at tree c) (place_at places (ChoicePlace c))) && not
       (is_symbol_of (symbol i) (selected tree k (choice_at tree c) None))) same_known
 
-  solves_too : Solves (symbol_count tree) (equations tree (place_at places)) V → Solves (symbol_count tree) (equations tree (place_at places)) W
+  solves_too : Solves (name_count tree) (equations tree (place_at places)) V → Solves (name_count tree) (equations tree (place_at places)) W
   solves_too solves s l = same_value_at s l ∙ solves s l ∙ sym (same_rhs s (place_at places (user_place tree s)))
 
-  only_too : IsOnlySolution (symbol_count tree) (equations tree (place_at places)) V → IsOnlySolution (symbol_count tree) (equations tree (place_at places)) W
+  only_too : IsOnlySolution (name_count tree) (equations tree (place_at places)) V → IsOnlySolution (name_count tree) (equations tree (place_at places)) W
   only_too only X solves s l = only X solves s l ∙ sym (same_value_at s l)
 
   -- these three tell what is known
-  tells : length values ≡ symbol_count tree → TellsKnown (solution_in tree places values)
+  tells : length values ≡ name_count tree → TellsKnown (solution_in tree places values)
   tells full id =
       subst (λ (k : SymId → SymbolValue). value_by_kind (kind_in (facts tree id)) (truth_of_value (k id)) (text_of_value (k id)) ≡ k id) (table_tells full)
       (shape (kind_in (facts tree id)) (tri_in (value_in values id)) (text_in (value_in values id) (name tree id)))
 
   -- one thing that the table tells of a symbol, and what it says at a solution that is this one
-  pub told : {X : Type 0} (full : length values ≡ symbol_count tree) (s : Solution) (e : solution_in tree places values ≡ s) (f : TreeFacts → (SymId → SymbolValue) → X) (x : X) →
+  pub told : {X : Type 0} (full : length values ≡ name_count tree) (s : Solution) (e : solution_in tree places values ≡ s) (f : TreeFacts → (SymId → SymbolValue) → X) (x : X) →
       x ≡ f tree (known_in tree values) → x ≡ f s.tree (known s)
   told {X} full s e f x h =
       subst (λ (y : Solution). x ≡ f y.tree (known y)) e (h ∙ ap (f tree) (table_tells full))
 
-  pub visible_is : (full : length values ≡ symbol_count tree) (s : Solution) (e : solution_in tree places values ≡ s) (id : SymId) (f : SymbolFacts) (t : Tri) →
-      Some f ≡ facts tree id → t ≡ visibility tree (known_in tree values) f → t ≡ solved.visibility s id
-  visible_is full s e id f t at h =
-      subst (λ (y : Solution). t ≡ solved.visibility y id) e
-      (h ∙ ap (λ (k : SymId → SymbolValue). visibility tree k f) (table_tells full) ∙ ap (solved.visibility_by (solution_in tree places values)) at)
+  -- what is kept of each symbol, by number: past the last one there are no facts
+  kept_at : {X : Type 0} (f : (SymId → SymbolValue) → Option SymbolFacts → X) (d : X) → f (known_from tree W) None ≡ d → (xs : List X) →
+      xs ≡ map (λ i. f (known_from tree V) (facts tree (symbol i))) (range_with_len 0 (name_count tree)) → (s : SymId) → slice_index_or xs s.0 d ≡ f (known_from tree W) (facts tree s)
+  kept_at f d none xs e s =
+      let at = λ (i : ℕ). f (known_from tree V) (facts tree (symbol i)) in
+      elim (cases_Bool (is_mentioned tree s)) [
+        | inl t ↦
+            let l = ltb-true s.0 (name_count tree) t in
+            ap (λ ys. slice_index_or ys s.0 d) e
+            ∙ get_or-map-range_with_len at 0 (name_count tree) s.0 s.0 d l (omega arith)
+            ∙ ap (λ (k : SymId → SymbolValue). f k (facts tree s)) (sym same_known)
+        | inr o ↦
+            let past = ltb-false s.0 (name_count tree) o in
+            let long = ap length e ∙ length-map-range_with_len at 0 (name_count tree) in
+            get_or_past xs s.0 d (subst (λ n. n ≤ s.0) (sym long) past)
+            ∙ sym none
+            ∙ sym (ap (f (known_from tree W)) (slice_get_past tree.symbols s.0 past))
+      ]
 
-  pub not_visible : (s : Solution) (e : solution_in tree places values ≡ s) (id : SymId) → facts tree id ≡ None → N ≡ solved.visibility s id
-  not_visible s e id none =
-      subst (λ (y : Solution). N ≡ solved.visibility y id) e (sym (ap (solved.visibility_by (solution_in tree places values)) none))
-
-  module _ (selections defaults : List (Option SymId)) (differing written : List Bool) (lines : List (List ℕ)) (is : IsSolved tree places values selections defaults differing written lines) where
+  module _ (selections defaults : List (Option SymId)) (visibilities : List Tri) (differing written : List Bool) (lines : List (List ℕ))
+      (is : IsSolved tree places values selections defaults visibilities differing written lines) where
     pub is_solution : IsSolution (solution_in tree places values)
     is_solution = record {
       places = is.user;
-      count = length-map-range_with_len V 0 (symbol_count tree);
+      count = length-map-range_with_len V 0 (name_count tree);
       solves = solves_too is.solves;
       only = only_too is.only;
     }
@@ -142,35 +151,23 @@ module _ (tree : TreeFacts) (places : Places) (values : List (Option Value)) whe
         ∙ get_or-map-range_with_len (default_selection tree V) 0 (length tree.choices) c c None l (omega arith)
         ∙ ap (λ (k : SymId → SymbolValue). selected tree k (choice_at tree c) None) (sym same_known)
 
-    pub differing_at : (s : SymId) → s.0 < symbol_count tree → slice_index_or differing s.0 false ≡ solved.differs (solution_in tree places values) s
+    pub differing_at : (s : SymId) → s.0 < name_count tree → slice_index_or differing s.0 false ≡ solved.differs (solution_in tree places values) s
     differing_at s l =
         ap (λ xs. slice_index_or xs s.0 false) is.differing_are
-        ∙ get_or-map-range_with_len (differs tree (place_at places) V) 0 (symbol_count tree) s.0 s.0 false l (omega arith)
+        ∙ get_or-map-range_with_len (differs tree (place_at places) V) 0 (name_count tree) s.0 s.0 false l (omega arith)
         ∙ sym (same_differs s.0 (user_place tree s.0) l)
 
-    written_long : length written ≡ symbol_count tree
-    written_long = ap length is.written_are ∙ length-map-range_with_len (is_written tree V) 0 (symbol_count tree)
+    visible_at : (s : SymId) → slice_index_or visibilities s.0 N ≡ solved.visibility (solution_in tree places values) s
+    visible_at = kept_at (solved.visibility_by tree) N refl visibilities is.visibilities_are
 
-    -- a name that is not defined has no facts, and no flag
-    pub written_at : (s : SymId) → slice_index_or written s.0 false ≡ solved.written (solution_in tree places values) s
-    written_at s =
-        elim (cases_Bool (is_defined tree s)) [
-          | inl t ↦
-              let l = ltb-true s.0 (symbol_count tree) t in
-              ap (λ xs. slice_index_or xs s.0 false) is.written_are
-              ∙ get_or-map-range_with_len (is_written tree V) 0 (symbol_count tree) s.0 s.0 false l (omega arith)
-              ∙ ap (λ (k : SymId → SymbolValue). writing.written tree k s) (sym same_known)
-          | inr f ↦
-              let past = ltb-false s.0 (symbol_count tree) f in
-              get_or_past written s.0 false (subst (λ n. n ≤ s.0) (sym written_long) past)
-              ∙ sym (ap (writing.written_facts tree (known_from tree W)) (slice_get_past tree.symbols s.0 past))
-        ]
+    written_at : (s : SymId) → slice_index_or written s.0 false ≡ solved.written (solution_in tree places values) s
+    written_at = kept_at (writing.written_facts tree) false refl written is.written_are
 
     pub lines_too : lines ≡ warnings (solution_in tree places values)
     lines_too =
         is.lines_are
-        ∙ ap (λ (k : SymId → SymbolValue). flat_map (λ i. warnings_of tree k (name tree (symbol i)) (facts tree (symbol i)) (place_at places (SymbolPlace i)))
-        (range_with_len 0 (symbol_count tree))) (sym same_known)
+        ∙ ap (λ (k : SymId → SymbolValue). flat_map (λ (s : SymId). warnings_of tree k (name tree (symbol s.0)) (facts tree (symbol s.0)) (place_at places (SymbolPlace s.0))) tree.defined)
+        (sym same_known)
 
     pub selections_long : length selections ≡ length tree.choices
     selections_long = ap length is.selections_are ∙ length-map-range_with_len (selection tree (place_at places) V) 0 (length tree.choices)
@@ -194,15 +191,18 @@ module _ (tree : TreeFacts) (places : Places) (values : List (Option Value)) whe
       default_is c l =
           subst (λ (x : Solution). slice_index_or defaults c None ≡ solved.default_selection x c) e (default_at c (subst (λ (x : Solution). c < length x.tree.choices) (sym e) l))
 
-      pub differing_is : (i : SymId) → i.0 < symbol_count s.tree → slice_index_or differing i.0 false ≡ solved.differs s i
+      pub differing_is : (i : SymId) → i.0 < name_count s.tree → slice_index_or differing i.0 false ≡ solved.differs s i
       differing_is i l =
-          subst (λ (x : Solution). slice_index_or differing i.0 false ≡ solved.differs x i) e (differing_at i (subst (λ (x : Solution). i.0 < symbol_count x.tree) (sym e) l))
+          subst (λ (x : Solution). slice_index_or differing i.0 false ≡ solved.differs x i) e (differing_at i (subst (λ (x : Solution). i.0 < name_count x.tree) (sym e) l))
+
+      pub visible_is : (i : SymId) → slice_index_or visibilities i.0 N ≡ solved.visibility s i
+      visible_is i = subst (λ (x : Solution). slice_index_or visibilities i.0 N ≡ solved.visibility x i) e (visible_at i)
 
       pub written_is : (i : SymId) → slice_index_or written i.0 false ≡ solved.written s i
       written_is i = subst (λ (x : Solution). slice_index_or written i.0 false ≡ solved.written x i) e (written_at i)
 
 -- a solution is the only one for its tree and places
-pub only_here : (s : Solution) (t : TreeFacts) (u : Places) → IsSolution s → s.tree ≡ t → s.places ≡ u → IsOnlySolution (symbol_count t) (equations t (place_at u)) (value_of s)
+pub only_here : (s : Solution) (t : TreeFacts) (u : Places) → IsSolution s → s.tree ≡ t → s.places ≡ u → IsOnlySolution (name_count t) (equations t (place_at u)) (value_of s)
 only_here s t u is e f =
-    subst (λ (x : TreeFacts). IsOnlySolution (symbol_count x) (equations x (place_at u)) (value_of s)) e
-    (subst (λ (p : Places). IsOnlySolution (symbol_count s.tree) (equations s.tree (place_at p)) (value_of s)) f is.only)
+    subst (λ (x : TreeFacts). IsOnlySolution (name_count x) (equations x (place_at u)) (value_of s)) e
+    (subst (λ (p : Places). IsOnlySolution (name_count s.tree) (equations s.tree (place_at p)) (value_of s)) f is.only)

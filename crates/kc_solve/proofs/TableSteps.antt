@@ -1,19 +1,22 @@
 -- What a table holds: the facts of a row, and one place written.
 use Rattle.std.proofs.Common.{◌≡◌, ℕ, ◌<◌, ◌≤◌, List, [], ◌∷◌, length, Option, Some, None, cond, sym, ◌∙◌, ap, inl, inr, refl, subst, arith, get_or, get_or-set_same, get_or-set_other}
 use Rattle.std.proofs.Math.Logic.{∥∥₁_elim}
+use Rattle.std.proofs.Math.Bridge.{le_prop}
 use Rattle.std.proofs.Math.Nat.{ℕ_set}
 use Rattle.std.specs.Prelude.{slice_index_or, slice_set, slice_get, IfSome}
-use Rattle.std.specs.Coded.{coded_option}
+use Rattle.std.specs.Coded.{coded_list, coded_option}
 use Rattle.std.specs.Borrow.{Bor}
 use Rattle.std.specs.Option.{option_copied, option_map}
-use Rattle.std.specs.List.{AllByRecursion}
+use Rattle.std.specs.List.{All, AllByRecursion}
 use Rattle.std.proofs.lemmas.Bool.{cases_Bool, ltb-false}
 use Rattle.std.proofs.lemmas.List.{get_or_default, get_or_past, length-set}
+use Rattle.std.proofs.lemmas.List.Elements.{All-get_or}
 use Rattle.std.proofs.lemmas.Option.{slice_get_past, slice_get_within}
 use base.Stored.{Coded-set}
 use Rattle.kc_expr.specs.Names.{symbol}
 use Rattle.kc_expr.specs.Value.{SymbolValue, Truth, TextValue, value_by_kind}
 use Rattle.kc_expr.specs.contracts.expression.Kind as kind_row
+use Rattle.kc_expr.specs.contracts.expression.SymId as sym_row
 use Rattle.kc_expr.specs.declared.expression.SymId.{SymId}
 use Rattle.kc_expr.specs.declared.expression.Tri.{Tri}
 use Rattle.kc_expr.specs.declared.expression.Kind.{Kind}
@@ -23,17 +26,17 @@ use Rattle.kc_order.specs.Solution.{IsUpdate}
 use Rattle.kc_tree.specs.Contexts.{mode_view}
 use Rattle.kc_tree.specs.Layouts.{facts_of}
 use Rattle.kc_tree.specs.TreeCode.{symbol_code}
-use Rattle.kc_tree.specs.TreeFacts.{IsWellFormed, SymbolFacts, TreeFacts}
+use Rattle.kc_tree.specs.TreeFacts.{IsMentioned, IsWellFormed, SymbolFacts, TreeFacts}
 use Rattle.kc_tree.specs.declared.rows.ChoiceId.{ChoiceId}
 use Rattle.kc_tree.specs.declared.rows.Symbol.{Symbol}
 use Rattle.kc_tree.proofs.TreeLemmas.{symbols-length, symbols-at}
 use Rattle.kc_user.specs.GivenValue.{GivenValue, SymbolPlace}
 use Rattle.kc_user.specs.declared.value.UserValue.{UserValue}
 use Rattle.kc_values.specs.TableFacts.{IsRowOf, known_at}
-use Rattle.kc_values.specs.Lookups.{is_defined, facts, name, kind_in}
+use Rattle.kc_values.specs.Lookups.{is_mentioned, facts, name, kind_in}
 use Rattle.kc_values.specs.Needs.{names_of}
 use Rattle.kc_values.specs.Selections.{given_for}
-use Rattle.kc_values.specs.Solution.{user_place_by, user_place_of, symbol_count, known_from, user_place, equations}
+use Rattle.kc_values.specs.Solution.{user_place_by, user_place_of, name_count, known_from, user_place, equations}
 use Rattle.kc_values.specs.Table.{value_in, tri_in, text_in, known_value, known_in}
 use Rattle.kc_values.specs.User.{given_in}
 use Rattle.kc_values.specs.Values.{equation, by_choice, by_kind}
@@ -42,7 +45,7 @@ use Rattle.kc_values.specs.declared.table.Value.{Value}
 use Rattle.kc_values.specs.declared.table.Value.TheVariants as value
 use Rattle.kc_values.proofs.ModeLaws.{members_are_bools}
 use Rattle.kc_values.proofs.OnlyNamed.{same_equation}
-use Rattle.kc_solve.specs.Computing.{AreComputedValues}
+use Rattle.kc_solve.specs.Computing.{equation_at, place_value, AreComputedValues}
 use Rattle.kc_solve.specs.PlaceLists.{given_at, places}
 use Rattle.kc_solve.specs.Kept.{valuation}
 
@@ -56,26 +59,33 @@ row_facts t id s e =
     ∥∥₁_elim t.laid (Coded-set (coded_option symbol_code) _ _) (λ laid.
     ap (λ xs. slice_get xs id.0) laid.symbols ∙ symbols-at t.layout.now id.0 ∙ ap (option_map (facts_of t.layout.now id.0)) e)
 
-pub row_none : (t : Table) (id : SymId) → slice_get t.layout.now.symbols.items id.0 ≡ None → facts t.tree.now id ≡ None
-row_none t id e =
-    ∥∥₁_elim t.laid (Coded-set (coded_option symbol_code) _ _) (λ laid.
-    ap (λ xs. slice_get xs id.0) laid.symbols ∙ symbols-at t.layout.now id.0 ∙ ap (option_map (facts_of t.layout.now id.0)) e)
-
 -- as many rows as symbols
-pub row_count : (t : Table) → length t.layout.now.symbols.items ≡ symbol_count t.tree.now
+pub row_count : (t : Table) → length t.layout.now.symbols.items ≡ name_count t.tree.now
 row_count t = ∥∥₁_elim t.laid (ℕ_set _ _) (λ laid. sym (ap length laid.symbols ∙ symbols-length t.layout.now))
+
+-- the defined symbols are those of the layout
+pub defined_are : (t : Table) → t.layout.now.defined.items ≡ t.tree.now.defined
+defined_are t = ∥∥₁_elim t.laid (Coded-set (coded_list sym_row.the_row.coded) _ _) (λ laid. sym laid.defined)
+
+-- each of them has a row
+pub defined_below : (t : Table) (ids : List SymId) (i : ℕ) → ids ≡ t.layout.now.defined.items → i < length ids → (get_or ids i (symbol 0)).0 < length t.layout.now.symbols.items
+defined_below t ids i e l =
+    let there : length t.tree.now.symbols ≡ length t.layout.now.symbols.items = sym (row_count t) in
+    ∥∥₁_elim {P = (get_or ids i (symbol 0)).0 < length t.layout.now.symbols.items} t.formed le_prop (λ formed.
+    subst (λ n. (get_or ids i (symbol 0)).0 < n) there
+    (All-get_or (IsMentioned t.tree.now) ids i (symbol 0) l (subst (All (IsMentioned t.tree.now)) (sym (e ∙ defined_are t)) formed.defined_there)))
 
 -- a member is a bool
 pub member_kind : (t : Table) (s : SymId) (f : SymbolFacts) (c : ℕ) → facts t.tree.now s ≡ Some f → f.choice ≡ Some c → f.kind ≡ IsBool
 member_kind t s f c e h = ∥∥₁_elim t.formed (Coded-set kind_row.the_row.coded _ _) (λ formed. members_are_bools t.tree.now formed s f c e h)
 
 -- what is found of a symbol in a table is what is known of it
-pub known_seen : (tree : TreeFacts) (values : List (Option Value)) → length values ≡ symbol_count tree → (s : SymId) → known_in tree values s ≡ known_from tree (valuation tree values) s
+pub known_seen : (tree : TreeFacts) (values : List (Option Value)) → length values ≡ name_count tree → (s : SymId) → known_in tree values s ≡ known_from tree (valuation tree values) s
 known_seen tree values l s =
-    elim (cases_Bool (is_defined tree s)) [
+    elim (cases_Bool (is_mentioned tree s)) [
       | inl t ↦ sym (ap (λ b. cond b (known_in tree values s) (TextValue Undefined (name tree s))) t)
       | inr f ↦
-          let past : symbol_count tree ≤ s.0 = ltb-false s.0 (symbol_count tree) f in
+          let past : name_count tree ≤ s.0 = ltb-false s.0 (name_count tree) f in
           let no_facts = slice_get_past tree.symbols s.0 past in
           let no_value = get_or_past values s.0 None (omega arith) in
           ap (λ o. value_by_kind (kind_in o) (tri_in (value_in values s)) (text_in (value_in values s) (name tree s))) no_facts
@@ -113,16 +123,20 @@ pub shaped : (tree : TreeFacts) (known : SymId → SymbolValue) (s : SymId) (f :
 shaped tree known s f None user n x bools e = shaped_by_kind tree known s f user n f.kind x e
 shaped tree known s f (Some c) user n x bools e = shaped_bool n f.kind x _ (bools c refl) e
 
+-- a symbol without a type is worth its name, which its empty place says
+pub untyped : (tree : TreeFacts) (known : SymId → SymbolValue) (s : SymId) (f : SymbolFacts) (c : Option ℕ) (user : Option GivenValue) →
+    f.kind ≡ Undefined → ((d : ℕ) → c ≡ Some d → f.kind ≡ IsBool) → place_value f.kind (name tree s) None ≡ by_choice tree known s f c user
+untyped tree known s f None user e bools = ap (λ k. place_value k (name tree s) None) e ∙ sym (ap (λ k. by_kind tree known s f k user) e)
+untyped tree known s f (Some c) user e bools = let b = bools c refl in absurd cc
+
 -- one place written
-pub written_at : (tree : TreeFacts) (values : List (Option Value)) (i : ℕ) (f : SymbolFacts) (x : Value) → i < length values → facts tree (symbol i) ≡ Some f →
-    value_by_kind f.kind (tri_in (Some x)) (text_in (Some x) (name tree (symbol i))) ≡ known_value f.kind x →
-    IsUpdate (valuation tree values) (valuation tree (slice_set values i (Some x))) i (known_value f.kind x)
-written_at tree values i f x l e shape = record {
+pub written_at : (tree : TreeFacts) (values : List (Option Value)) (i : ℕ) (f : SymbolFacts) (x : Option Value) → i < length values → facts tree (symbol i) ≡ Some f →
+    IsUpdate (valuation tree values) (valuation tree (slice_set values i x)) i (place_value f.kind (name tree (symbol i)) x)
+written_at tree values i f x l e = record {
   here =
-      ap (λ o. value_by_kind (kind_in o) (tri_in (value_in (slice_set values i (Some x)) (symbol i))) (text_in (value_in (slice_set values i (Some x)) (symbol i)) (name tree (symbol i)))) e
-      ∙ ap (λ o. value_by_kind f.kind (tri_in o) (text_in o (name tree (symbol i)))) (get_or-set_same values i (Some x) None l)
-      ∙ shape;
-  others = λ t ne. ap (λ o. value_by_kind (kind_in (facts tree (symbol t))) (tri_in o) (text_in o (name tree (symbol t)))) (get_or-set_other values i t (Some x) None ne);
+      ap (λ o. place_value (kind_in o) (name tree (symbol i)) (value_in (slice_set values i x) (symbol i))) e
+      ∙ ap (place_value f.kind (name tree (symbol i))) (get_or-set_same values i x None l);
+  others = λ t ne. ap (place_value (kind_in (facts tree (symbol t))) (name tree (symbol t))) (get_or-set_other values i t x None ne);
 }
 
 pub place_of : (given : List (Option UserValue)) (chosen : List (Option SymId)) (i : ℕ) (choice : Option ChoiceId) →
@@ -130,7 +144,7 @@ pub place_of : (given : List (Option UserValue)) (chosen : List (Option SymId)) 
 place_of given chosen i None = refl
 place_of given chosen i (Some k) = refl
 
-equation_seen : (tree : TreeFacts) (values : List (Option Value)) → length values ≡ symbol_count tree → (s : SymId) (f : Option SymbolFacts) (user : Option GivenValue) →
+equation_seen : (tree : TreeFacts) (values : List (Option Value)) → length values ≡ name_count tree → (s : SymId) (f : Option SymbolFacts) (user : Option GivenValue) →
     equation tree (known_in tree values) s f user ≡ equation tree (known_from tree (valuation tree values)) s f user
 equation_seen tree values l s f user =
     same_equation depends_on_symbols tree (known_in tree values) (known_from tree (valuation tree values)) s f user
@@ -142,21 +156,20 @@ pub place_given : (given : List (Option UserValue)) (i : ℕ) (v : Option UserVa
 place_given given i v None l e o = ap given_at (o ∙ e ∙ get_or_default given i v None l)
 place_given given i v (Some u) l e o = ap given_at (o ∙ e ∙ get_or_default given i v None l)
 
--- a symbol computed: it has the value that its equation gives
-pub computed_value : (t : Table) (id : SymId) (s : Symbol) (given : List (Option UserValue)) (chosen : List (Option SymId)) (x : Value) → IsRowOf t id s →
-    length t.values.items ≡ symbol_count t.tree.now → id.0 < length t.values.items →
-    known_value s.kind x ≡ by_choice t.tree.now (known_at t) id (facts_of t.layout.now id.0 s) (mode_view s.choice) (given_for s.choice (given_at (slice_index_or given id.0 None)) chosen) →
-    AreComputedValues t.tree.now given chosen id t.values.items (slice_set t.values.items id.0 (Some x))
-computed_value t id s given chosen x row count below e =
+-- a symbol computed: its place says what its equation gives
+pub computed_place : (t : Table) (id : SymId) (s : Symbol) (given : List (Option UserValue)) (chosen : List (Option SymId)) (x : Option Value) → IsRowOf t id s →
+    length t.values.items ≡ name_count t.tree.now → id.0 < length t.values.items →
+    place_value s.kind (name t.tree.now id) x ≡ equation_at t id s (given_at (slice_index_or given id.0 None)) chosen →
+    AreComputedValues t.tree.now given chosen id t.values.items (slice_set t.values.items id.0 x)
+computed_place t id s given chosen x row count below e =
     let tree = t.tree.now in
     let values = t.values.items in
     let f = facts_of t.layout.now id.0 s in
     let at = row_facts t id s row in
     let P = places given chosen in
-    let shape = shaped tree (known_at t) id f (mode_view s.choice) _ (name tree id) x (λ d h. member_kind t id f d at h) e in
-    let u = written_at tree values id.0 f x below at shape in
+    let u = written_at tree values id.0 f x below at in
     let at_place : user_place tree id.0 ≡ user_place_by id.0 (mode_view s.choice) = ap (user_place_of id.0) at in
-    let value : known_value f.kind x ≡ equations tree P id.0 (valuation tree values) =
+    let value : place_value f.kind (name tree id) x ≡ equations tree P id.0 (valuation tree values) =
     e
     ∙ ap (by_choice tree (known_at t) id f (mode_view s.choice)) (place_of given chosen id.0 s.choice ∙ ap P (sym at_place))
     ∙ ap (λ o. equation tree (known_in tree values) id o (P (user_place tree id.0))) (sym at)
@@ -165,8 +178,23 @@ computed_value t id s given chosen x row count below e =
     record {
       here = u.here ∙ value;
       others = λ n ne. u.others n.0 ne;
-      count = length-set values id.0 (Some x);
+      count = length-set values id.0 x;
     }
+
+-- a value that the equation gives, in its place
+pub value_placed : (t : Table) (id : SymId) (s : Symbol) (own : Option GivenValue) (chosen : List (Option SymId)) (x : Value) → IsRowOf t id s →
+    known_value s.kind x ≡ equation_at t id s own chosen → place_value s.kind (name t.tree.now id) (Some x) ≡ equation_at t id s own chosen
+value_placed t id s own chosen x row e =
+    let f = facts_of t.layout.now id.0 s in
+    shaped t.tree.now (known_at t) id f (mode_view s.choice) _ (name t.tree.now id) x (λ d h. member_kind t id f d (row_facts t id s row) h) e ∙ e
+
+-- the same of a value
+pub computed_value : (t : Table) (id : SymId) (s : Symbol) (given : List (Option UserValue)) (chosen : List (Option SymId)) (x : Value) → IsRowOf t id s →
+    length t.values.items ≡ name_count t.tree.now → id.0 < length t.values.items →
+    known_value s.kind x ≡ equation_at t id s (given_at (slice_index_or given id.0 None)) chosen →
+    AreComputedValues t.tree.now given chosen id t.values.items (slice_set t.values.items id.0 (Some x))
+computed_value t id s given chosen x row count below e =
+    computed_place t id s given chosen (Some x) row count below (value_placed t id s (given_at (slice_index_or given id.0 None)) chosen x row e)
 
 -- the choice of a symbol is one of the tree's
 pub choice_at_most : (tree : TreeFacts) → IsWellFormed tree → (i : ℕ) (f : SymbolFacts) (c : ℕ) → slice_get tree.symbols i ≡ Some f → f.choice ≡ Some c → c < length tree.choices

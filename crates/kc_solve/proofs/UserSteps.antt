@@ -14,7 +14,7 @@ use Rattle.kc_user.specs.Places.{Places, place_at}
 use Rattle.kc_user.specs.ValueView.{given_of_value}
 use Rattle.kc_user.specs.declared.value.UserValue.{UserValue}
 use Rattle.kc_values.specs.Selections.{member_given}
-use Rattle.kc_values.specs.Solution.{symbol_count, equations, rhs, user_place}
+use Rattle.kc_values.specs.Solution.{name_count, equations, rhs, user_place}
 use Rattle.kc_values.specs.User.{given_in}
 use Rattle.kc_solve.specs.PlaceLists.{given_at, places}
 
@@ -38,6 +38,6 @@ places_same xs ms u e h (SymbolPlace i) = sym (get_or-map given_at xs i None) �
 places_same xs ms u e h (ChoicePlace c) = ap (λ m. member_given m c) h
 
 pub solves_as_shown : (tree : TreeFacts) (xs : List (Option UserValue)) (ms : List (Option SymId)) (u : Places) (V : ℕ → SymbolValue) → map (option_map given_of_value) xs ≡ u.symbols →
-    ms ≡ u.choices → Solves (symbol_count tree) (equations tree (places xs ms)) V → Solves (symbol_count tree) (equations tree (place_at u)) V
+    ms ≡ u.choices → Solves (name_count tree) (equations tree (places xs ms)) V → Solves (name_count tree) (equations tree (place_at u)) V
 solves_as_shown tree xs ms u V e h solves s l =
     solves s l ∙ ap (λ p. rhs tree s p V) (places_same xs ms u (given_mapped xs ∙ e) h (user_place tree s))

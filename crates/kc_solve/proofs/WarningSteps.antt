@@ -1,43 +1,55 @@
--- The warnings of one more symbol.
-use Rattle.std.proofs.Common.{◌≡◌, ℕ, ◌+◌, List, ◌++◌, zero, suc, length, Option, sym, ◌∙◌, ap, arith, append_assoc, append-nil}
+-- The kept visibility of a symbol, and the warnings of one more symbol.
+use Rattle.std.proofs.Common.{◌≡◌, ℕ, ◌+◌, ◌<◌, List, [], ◌++◌, length, map, Option, Some, sym, ◌∙◌, ap, get_or, take, arith}
+use Rattle.std.specs.Prelude.{slice_index_or}
 use Rattle.std.specs.List.{flat_map, range_with_len}
-use Rattle.kc_tree.specs.TreeFacts.{TreeFacts}
+use Rattle.std.proofs.lemmas.List.{flat_map_more, take_more}
+use Rattle.std.proofs.lemmas.List.FromFn.{get_or-map-range_with_len}
 use Rattle.kc_expr.specs.Names.{symbol}
+use Rattle.kc_expr.specs.declared.expression.SymId.{SymId}
+use Rattle.kc_expr.specs.declared.expression.Tri.{Tri}
+use Rattle.kc_expr.specs.declared.expression.Tri.TheVariants.{N}
+use Rattle.kc_tree.specs.TreeFacts.{SymbolFacts, TreeFacts}
 use Rattle.kc_values.specs.Lookups.{facts, name}
 use Rattle.kc_user.specs.GivenValue.{SymbolPlace, GivenValue}
-use Rattle.kc_values.specs.Solution.{symbol_count, known_from}
+use Rattle.kc_values.specs.Solution.{name_count, known_from}
+use Rattle.kc_values.specs.Values.{visibility}
 use Rattle.kc_values.specs.Warnings.{warnings_of, warnings_at}
 use Rattle.kc_values.specs.declared.table.Value.{Value}
+use Rattle.kc_solve.specs.Answers.{visibility_by}
+use Rattle.kc_solve.specs.Flags.{visibility_at}
 use Rattle.kc_solve.specs.Kept.{valuation}
 use Rattle.kc_values.specs.Table.{known_in}
 use Rattle.kc_user.specs.Places.{Places, place_at}
 use Rattle.kc_solve.proofs.TableSteps.{known_seen}
 
 -- what a full table tells of each symbol and name is what its valuation says
-pub tables_known : (tree : TreeFacts) (values : List (Option Value)) → length values ≡ symbol_count tree → known_in tree values ≡ known_from tree (valuation tree values)
+pub tables_known : (tree : TreeFacts) (values : List (Option Value)) → length values ≡ name_count tree → known_in tree values ≡ known_from tree (valuation tree values)
 tables_known tree values l = λ i s. known_seen tree values l s i
 
-flat_range : {X : Type 0} (f : ℕ → List X) (a n : ℕ) → flat_map f (range_with_len a (suc n)) ≡ flat_map f (range_with_len a n) ++ f (a + n)
-flat_range f a zero = append-nil (f a) ∙ ap f (omega arith)
-flat_range f a (suc n) =
-    ap (λ r. f a ++ r) (flat_range f (a + 1) n)
-    ∙ sym (append_assoc (f a) (flat_map f (range_with_len (a + 1) n)) (f (a + 1 + n)))
-    ∙ ap (λ m. (f a ++ flat_map f (range_with_len (a + 1) n)) ++ f m) (omega arith)
+-- the visibility that was kept of a symbol
+pub visibility_found : (tree : TreeFacts) (values : List (Option Value)) (id : SymId) (f : SymbolFacts) (xs : List Tri) → length values ≡ name_count tree → id.0 < name_count tree →
+    facts tree id ≡ Some f → xs ≡ map (visibility_at tree (valuation tree values)) (range_with_len 0 (name_count tree)) → slice_index_or xs id.0 N ≡ visibility tree (known_in tree values) f
+visibility_found tree values id f xs full below at e =
+    ap (λ ys. slice_index_or ys id.0 N) e
+    ∙ get_or-map-range_with_len (visibility_at tree (valuation tree values)) 0 (name_count tree) id.0 id.0 N below (omega arith)
+    ∙ ap (λ k. visibility_by tree k (facts tree id)) (sym (tables_known tree values full))
+    ∙ ap (visibility_by tree (known_in tree values)) at
 
-pub one_more_warned : (tree : TreeFacts) (values : List (Option Value)) (u : Places) (i : ℕ) (own : Option GivenValue) (old new : List (List ℕ)) → length values ≡ symbol_count tree →
-    own ≡ place_at u (SymbolPlace i) → old ≡ flat_map (warnings_at tree (place_at u) (valuation tree values)) (range_with_len 0 i) →
-    new ≡ old ++ warnings_of tree (known_in tree values) (name tree (symbol i)) (facts tree (symbol i)) own →
-    new ≡ flat_map (warnings_at tree (place_at u) (valuation tree values)) (range_with_len 0 (i + 1))
-one_more_warned tree values u i own old new l o e n =
-    let f = warnings_at tree (place_at u) (valuation tree values) in
-    let this : warnings_of tree (known_in tree values) (name tree (symbol i)) (facts tree (symbol i)) own ≡ f i =
-    ap (λ k. warnings_of tree k (name tree (symbol i)) (facts tree (symbol i)) own) (tables_known tree values l)
-    ∙ ap (warnings_of tree (known_from tree (valuation tree values)) (name tree (symbol i)) (facts tree (symbol i))) o
+-- the warnings of the symbol that stands at a place
+pub one_more_warned : (tree : TreeFacts) (values : List (Option Value)) (u : Places) (ids : List SymId) (i : ℕ) (f : SymbolFacts) (own : Option GivenValue) (old new : List (List ℕ)) →
+    length values ≡ name_count tree → i < length ids → facts tree (get_or ids i (symbol 0)) ≡ Some f → own ≡ place_at u (SymbolPlace (get_or ids i (symbol 0)).0) →
+    old ≡ flat_map (λ (s : SymId). warnings_at tree (place_at u) (valuation tree values) s.0) (take i ids) →
+    new ≡ old ++ warnings_of tree (known_in tree values) (name tree (get_or ids i (symbol 0))) (Some f) own →
+    new ≡ flat_map (λ (s : SymId). warnings_at tree (place_at u) (valuation tree values) s.0) (take (i + 1) ids)
+one_more_warned tree values u ids i f own old new full below at given e n =
+    let id : SymId = get_or ids i (symbol 0) in
+    let of_one = λ (s : SymId). warnings_at tree (place_at u) (valuation tree values) s.0 in
+    let this : warnings_of tree (known_in tree values) (name tree id) (Some f) own ≡ of_one id =
+    ap (λ o. warnings_of tree (known_in tree values) (name tree id) o own) (sym at)
+    ∙ ap (λ k. warnings_of tree k (name tree id) (facts tree id) own) (tables_known tree values full)
+    ∙ ap (warnings_of tree (known_from tree (valuation tree values)) (name tree id) (facts tree id)) given
     in
-    let grown : flat_map f (range_with_len 0 (i + 1)) ≡ flat_map f (range_with_len 0 i) ++ f i =
-    let next : i + 1 ≡ suc i = omega arith in
-    let here : 0 + i ≡ i = omega arith in
-    ap (λ m. flat_map f (range_with_len 0 m)) next ∙ flat_range f 0 i ∙ ap (λ m. flat_map f (range_with_len 0 i) ++ f m) here
-    in
-    n ∙ ap (λ x. x ++ warnings_of tree (known_in tree values) (name tree (symbol i)) (facts tree (symbol i)) own) e
-    ∙ ap (λ x. flat_map f (range_with_len 0 i) ++ x) this ∙ sym grown
+    n ∙ ap (λ x. x ++ warnings_of tree (known_in tree values) (name tree id) (Some f) own) e
+    ∙ ap (λ x. flat_map of_one (take i ids) ++ x) this
+    ∙ flat_map_more of_one [] (take i ids) id
+    ∙ ap (flat_map of_one) (sym (take_more ids i (symbol 0) below))

@@ -1,11 +1,11 @@
 -- Trusted: What a solution answers of symbols, conditions, entries and choices.
 use Rattle.std.specs.Prelude.{◌≡◌, ℕ, Bool, List, Option, Some, None}
-use Rattle.kc_expr.specs.Value.{values_by, truth_of_value, text_of_value}
+use Rattle.kc_expr.specs.Value.{SymbolValue, values_by, truth_of_value, text_of_value}
 use Rattle.kc_expr.specs.declared.expression.SymId.{SymId}
 use Rattle.kc_expr.specs.declared.expression.Tri.{Tri}
 use Rattle.kc_expr.specs.declared.expression.Tri.TheVariants.{N, Y}
 use Rattle.kc_expr.specs.declared.expression.Kind.{Kind}
-use Rattle.kc_tree.specs.TreeFacts.{Condition, SymbolFacts, Shown, SymbolShown, MenuShown, EndShown, CommentShown}
+use Rattle.kc_tree.specs.TreeFacts.{Condition, SymbolFacts, TreeFacts, Shown, SymbolShown, MenuShown, EndShown, CommentShown}
 use Rattle.kc_user.specs.Places.{place_at}
 use Rattle.kc_values.specs.Differs as values
 use Rattle.kc_values.specs.Lookups.{facts, kind_in}
@@ -31,13 +31,13 @@ modules_of s = s.tree.modules
 abbrev pub TellsKnown : Solution → Type 0
 TellsKnown s = (id : SymId) → values_by (kind_of s) (tri_of s) (text_of s) id ≡ known s id
 
-abbrev pub visibility_by : Solution → Option SymbolFacts → Tri
-visibility_by s None = N
-visibility_by s (Some f) = value.visibility s.tree (known s) f
+abbrev pub visibility_by : TreeFacts → (SymId → SymbolValue) → Option SymbolFacts → Tri
+visibility_by tree known None = N
+visibility_by tree known (Some f) = value.visibility tree known f
 
 -- the greatest condition of a symbol's prompts (kconfiglib's `visibility`); a name that is not defined has none
 abbrev pub visibility : Solution → SymId → Tri
-visibility s id = visibility_by s (facts s.tree id)
+visibility s id = visibility_by s.tree (known s) (facts s.tree id)
 
 -- what a condition is worth
 abbrev pub truth : Solution → Condition → Tri

@@ -2,6 +2,8 @@
 use Rattle.std.specs.Prelude.{◌≡◌, ◌≢◌, ◌<◌, ℕ, List, length, Option, Some, None, slice_index_or, take}
 use Rattle.std.specs.List.{Contains}
 use Rattle.kc_expr.specs.Names.{symbol}
+use Rattle.kc_expr.specs.Value.{SymbolValue, value_by_kind}
+use Rattle.kc_expr.specs.declared.expression.Kind.{Kind}
 use Rattle.kc_expr.specs.declared.expression.SymId.{SymId}
 use Rattle.kc_expr.specs.declared.expression.Tri.{Tri}
 use Rattle.kc_order.specs.Graph.{Nodes, IsGraph, needs_of}
@@ -12,7 +14,9 @@ use Rattle.kc_solve.specs.Kept.{valuation}
 use Rattle.kc_tree.specs.Contexts.{condition_in}
 use Rattle.kc_tree.specs.Layouts.{IsLayoutOf}
 use Rattle.kc_tree.specs.declared.layout.Layout.{Layout}
+use Rattle.kc_tree.specs.declared.rows.Symbol.{Symbol}
 use Rattle.kc_tree.specs.TreeFacts.{TreeFacts}
+use Rattle.kc_user.specs.GivenValue.{GivenValue}
 use Rattle.kc_user.specs.Places.{member_place}
 use Rattle.kc_user.specs.declared.value.UserValue.{UserValue}
 use Rattle.kc_values.specs.Lookups.{choice_at}
@@ -20,8 +24,10 @@ use Rattle.kc_values.specs.NeedRows.{AreNodeRows}
 use Rattle.kc_values.specs.Needs.{condition_names, names_of_choice, needs}
 use Rattle.kc_values.specs.Nodes.{choice_number, context_number}
 use Rattle.kc_values.specs.Solution.{equations, user_place, rhs}
-use Rattle.kc_values.specs.Table.{known_in}
-use Rattle.kc_values.specs.Values.{selected}
+use Rattle.kc_values.specs.Selections.{given_for}
+use Rattle.kc_values.specs.Table.{known_in, text_in, tri_in}
+use Rattle.kc_values.specs.TableFacts.{facts_in, known_at}
+use Rattle.kc_values.specs.Values.{by_choice, selected}
 use Rattle.kc_values.specs.declared.table.Table.{Table}
 use Rattle.kc_values.specs.declared.table.Value.{Value}
 
@@ -45,6 +51,14 @@ IsUnread t s = IsUnreadIn t.tree.now t.layout.now t.contexts.items t.selections.
 pub record KeepsTree (old new : Table) : Type 0 where
   pub tree : new.tree ≡ old.tree
   pub layout : new.layout ≡ old.layout
+
+-- what a place says of a symbol of a type and a name
+abbrev pub place_value : Kind → List ℕ → Option Value → SymbolValue
+place_value kind name x = value_by_kind kind (tri_in x) (text_in x name)
+
+-- what the equation of a symbol gives under the values of a table, by its row
+abbrev pub equation_at : Table → SymId → Symbol → Option GivenValue → List (Option SymId) → SymbolValue
+equation_at t id row given chosen = by_choice t.tree.now (known_at t) id (facts_in t id row) (facts_in t id row).choice (given_for row.choice given chosen)
 
 -- a symbol has the value that its equation gives, and no other place changes
 pub record AreComputedValues (tree : TreeFacts) (given : List (Option UserValue)) (chosen : List (Option SymId)) (id : SymId) (old new : List (Option Value)) : Type 0 where

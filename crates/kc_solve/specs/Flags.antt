@@ -1,18 +1,23 @@
--- For proofs: Whether a symbol differs, by the selections of the choices, and whether it is written.
+-- For proofs: The visibility of a symbol, whether it differs, by the selections of the choices, and whether it is written.
 use Rattle.std.specs.Prelude.{◌≡◌, ℕ, Bool, not, ◌&&◌, List, map, length, Option, Some, None, slice_index_or}
 use Rattle.std.specs.List.{range_with_len}
 use Rattle.kc_expr.specs.Names.{symbol}
 use Rattle.kc_expr.specs.Value.{SymbolValue}
 use Rattle.kc_expr.specs.declared.expression.SymId.{SymId}
+use Rattle.kc_expr.specs.declared.expression.Tri.{Tri}
+use Rattle.kc_tree.specs.declared.rows.Symbol.{Symbol}
 use Rattle.kc_tree.specs.TreeFacts.{SymbolFacts, TreeFacts}
 use Rattle.kc_user.specs.GivenValue.{GivenValue}
 use Rattle.kc_user.specs.Places.{Places, place_at}
 use Rattle.kc_tree.specs.Common.{is_symbol_of}
 use Rattle.kc_values.specs.Values.{by_kind}
+use Rattle.kc_values.specs.Lookups.{facts}
 use Rattle.kc_values.specs.Differs.{default_selection, differs, same_value, selection}
-use Rattle.kc_values.specs.Solution.{known_from, symbol_count}
+use Rattle.kc_values.specs.Solution.{known_from, name_count}
 use Rattle.kc_values.specs.WrittenSymbols.{written}
+use Rattle.kc_values.specs.TableFacts.{facts_in, known_at}
 use Rattle.kc_values.specs.declared.table.Table.{Table}
+use Rattle.kc_solve.specs.Answers.{visibility_by}
 use Rattle.kc_solve.specs.Kept.{valuation}
 
 abbrev pub differs_by : TreeFacts → (SymId → SymbolValue) → SymId → SymbolFacts → Option ℕ → List (Option SymId) → List (Option SymId) → Bool
@@ -20,10 +25,22 @@ differs_by tree known s f None selections defaults = not (same_value (known s) (
 differs_by tree known s f (Some c) selections defaults =
     is_symbol_of s (slice_index_or selections c None) && not (is_symbol_of s (slice_index_or defaults c None))
 
+-- whether a symbol differs, by its row
+abbrev pub row_differs : Table → SymId → Symbol → List (Option SymId) → List (Option SymId) → Bool
+row_differs t id row selections defaults = differs_by t.tree.now (known_at t) id (facts_in t id row) (facts_in t id row).choice selections defaults
+
 -- the value of a symbol outside a choice is what its equation gives
 abbrev pub IsSolvedOwn : TreeFacts → (SymId → SymbolValue) → SymId → SymbolFacts → Option ℕ → Option GivenValue → Type 0
 IsSolvedOwn tree known s f None given = known s ≡ by_kind tree known s f f.kind given
 IsSolvedOwn tree known s f (Some c) given = Unit {0}
+
+-- the same, by its row
+abbrev pub IsSolvedRow : Table → SymId → Symbol → Option GivenValue → Type 0
+IsSolvedRow t id row given = IsSolvedOwn t.tree.now (known_at t) id (facts_in t id row) (facts_in t id row).choice given
+
+-- the visibility of the symbol of a number, under a valuation
+abbrev pub visibility_at : TreeFacts → (ℕ → SymbolValue) → ℕ → Tri
+visibility_at tree V i = visibility_by tree (known_from tree V) (facts tree (symbol i))
 
 -- whether the symbol of a number has a line in the .config, under a valuation
 abbrev pub is_written : TreeFacts → (ℕ → SymbolValue) → ℕ → Bool
@@ -40,9 +57,12 @@ selected_by t user = map (selection t.tree.now (place_at user) (values_in t)) (r
 abbrev pub selected_by_default : Table → List (Option SymId)
 selected_by_default t = map (default_selection t.tree.now (values_in t)) (range_with_len 0 (length t.tree.now.choices))
 
--- of each symbol whether it differs, and whether it has a line
+-- of each symbol its visibility, whether it differs, and whether it has a line
+abbrev pub visibilities_in : Table → List Tri
+visibilities_in t = map (visibility_at t.tree.now (values_in t)) (range_with_len 0 (name_count t.tree.now))
+
 abbrev pub differing_by : Table → Places → List Bool
-differing_by t user = map (differs t.tree.now (place_at user) (values_in t)) (range_with_len 0 (symbol_count t.tree.now))
+differing_by t user = map (differs t.tree.now (place_at user) (values_in t)) (range_with_len 0 (name_count t.tree.now))
 
 abbrev pub written_in : Table → List Bool
-written_in t = map (is_written t.tree.now (values_in t)) (range_with_len 0 (symbol_count t.tree.now))
+written_in t = map (is_written t.tree.now (values_in t)) (range_with_len 0 (name_count t.tree.now))

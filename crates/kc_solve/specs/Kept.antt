@@ -4,16 +4,19 @@ use Rattle.std.specs.List.{range_with_len}
 use Rattle.kc_expr.specs.Names.{symbol}
 use Rattle.kc_expr.specs.Value.{SymbolValue}
 use Rattle.kc_expr.specs.declared.expression.SymId.{SymId}
+use Rattle.kc_expr.specs.declared.expression.Tri.{Tri}
 use Rattle.kc_order.specs.Solution.{Solves, IsOnlySolution}
 use Rattle.kc_tree.specs.TreeFacts.{TreeFacts}
 use Rattle.kc_user.specs.Places.{ArePlacesOf, Places, place_at}
 use Rattle.kc_values.specs.Differs as values
+use Rattle.kc_values.specs.Lookups.{facts}
 use Rattle.kc_values.specs.Needs.{IsAccepted}
-use Rattle.kc_values.specs.Solution.{equations, known_from, symbol_count}
+use Rattle.kc_values.specs.Solution.{equations, known_from, name_count}
 use Rattle.kc_values.specs.Table.{known_in}
 use Rattle.kc_values.specs.Warnings as warning
 use Rattle.kc_values.specs.WrittenSymbols as writing
 use Rattle.kc_values.specs.declared.table.Value.{Value}
+use Rattle.kc_solve.specs.Answers.{visibility_by}
 use Rattle.kc_solve.specs.Solved.{Solution}
 
 -- the valuation that a table holds, by number
@@ -25,20 +28,21 @@ abbrev pub solution_in : TreeFacts → Places → List (Option Value) → Soluti
 solution_in tree places table = record {
   tree = tree;
   places = places;
-  values = map (valuation tree table) (range_with_len 0 (symbol_count tree));
+  values = map (valuation tree table) (range_with_len 0 (name_count tree));
 }
 
--- What is kept of a solution: the full table, the selections, the default selections, which symbols differ, which are
--- written, the warnings.
+-- What is kept of a solution: the full table, the selections, the default selections, the visibilities, which symbols
+-- differ, which are written, the warnings.
 pub record IsSolved (tree : TreeFacts) (places : Places) (table : List (Option Value)) (selections defaults : List (Option SymId))
-    (differing written : List Bool) (lines : List (List ℕ)) : Type 0 where
+    (visibilities : List Tri) (differing written : List Bool) (lines : List (List ℕ)) : Type 0 where
   pub accepted : IsAccepted tree
   pub user : ArePlacesOf tree places
-  pub full : length table ≡ symbol_count tree
-  pub solves : Solves (symbol_count tree) (equations tree (place_at places)) (valuation tree table)
-  pub only : IsOnlySolution (symbol_count tree) (equations tree (place_at places)) (valuation tree table)
+  pub full : length table ≡ name_count tree
+  pub solves : Solves (name_count tree) (equations tree (place_at places)) (valuation tree table)
+  pub only : IsOnlySolution (name_count tree) (equations tree (place_at places)) (valuation tree table)
   pub selections_are : selections ≡ map (values.selection tree (place_at places) (valuation tree table)) (range_with_len 0 (length tree.choices))
   pub defaults_are : defaults ≡ map (values.default_selection tree (valuation tree table)) (range_with_len 0 (length tree.choices))
-  pub differing_are : differing ≡ map (values.differs tree (place_at places) (valuation tree table)) (range_with_len 0 (symbol_count tree))
-  pub written_are : written ≡ map (λ i. writing.written tree (known_from tree (valuation tree table)) (symbol i)) (range_with_len 0 (symbol_count tree))
+  pub visibilities_are : visibilities ≡ map (λ i. visibility_by tree (known_from tree (valuation tree table)) (facts tree (symbol i))) (range_with_len 0 (name_count tree))
+  pub differing_are : differing ≡ map (values.differs tree (place_at places) (valuation tree table)) (range_with_len 0 (name_count tree))
+  pub written_are : written ≡ map (λ i. writing.written tree (known_from tree (valuation tree table)) (symbol i)) (range_with_len 0 (name_count tree))
   pub lines_are : lines ≡ warning.value_warnings tree (place_at places) (valuation tree table)

@@ -1,5 +1,6 @@
 -- Trusted: Why a tree has no order.
-use Rattle.std.specs.Prelude.{◌≡◌, ◌≢◌, ℕ, List, length, None}
+use Rattle.std.specs.Prelude.{◌≡◌, ◌≢◌, ℕ, List, length, map, None}
+use Rattle.kc_expr.specs.declared.expression.SymId.{SymId}
 use Rattle.kc_order.specs.Needs.{needs_in}
 use Rattle.kc_order.specs.Loop.{IsNamedLoop}
 use Rattle.kc_read.specs.Expansion.{Refused}
@@ -10,10 +11,10 @@ use Rattle.kc_tree.specs.TreeFacts.{TreeFacts}
 use Rattle.kc_values.specs.Needs.{needs}
 use Rattle.kc_solve.specs.LoopText.{loop_text}
 
--- the text of the loop that is named of the tree's needs
+-- the text of the loop that is named of the tree's needs; the first of several symbols is the one that is defined first
 abbrev pub IsLoopText : TreeFacts → List ℕ → Type 0
 IsLoopText tree text =
-    (symbols : List ℕ) × IsNamedLoop (length (needs tree)) (needs_in (needs tree)) symbols × (text ≡ loop_text tree symbols)
+    (symbols : List ℕ) × IsNamedLoop (map (λ (s : SymId). s.0) tree.defined) (length (needs tree)) (needs_in (needs tree)) symbols × (text ≡ loop_text tree symbols)
 
 -- a loop has no location; its text is the detail
 abbrev pub loop_refused : List ℕ → Refused

@@ -6,10 +6,10 @@ use Rattle.kc_expr.specs.declared.expression.Kind.TheVariants.{Undefined}
 use Rattle.kc_order.specs.Solution.{Solves, IsOnlySolution}
 use Rattle.kc_tree.specs.TreeFacts.{TreeFacts}
 use Rattle.kc_user.specs.Places.{ArePlacesOf, Places, place_at}
-use Rattle.kc_values.specs.Solution.{equations, known_from, symbol_count}
+use Rattle.kc_values.specs.Solution.{equations, known_from, name_count}
 use Rattle.kc_values.specs.Warnings as warning
 
--- the tree, the places that the user filled, and what is known of each defined symbol, by number
+-- the tree, the places that the user filled, and what is known of each symbol, by number
 pub record Solution : Type 0 where
   pub tree : TreeFacts
   pub places : Places
@@ -19,16 +19,16 @@ pub record Solution : Type 0 where
 abbrev pub value_of : Solution → ℕ → SymbolValue
 value_of s i = slice_index_or s.values i (TextValue Undefined [])
 
--- what is known of each symbol and name: a name that is not defined is its own text (kconfiglib)
+-- what is known of each symbol; past the last symbol it is an empty name
 abbrev pub known : Solution → SymId → SymbolValue
 known s = known_from s.tree (value_of s)
 
 -- One value for each symbol. The values solve the equations under the places, and no others do.
 pub record IsSolution (s : Solution) : Type 0 where
   pub places : ArePlacesOf s.tree s.places
-  pub count : length s.values ≡ symbol_count s.tree
-  pub solves : Solves (symbol_count s.tree) (equations s.tree (place_at s.places)) (value_of s)
-  pub only : IsOnlySolution (symbol_count s.tree) (equations s.tree (place_at s.places)) (value_of s)
+  pub count : length s.values ≡ name_count s.tree
+  pub solves : Solves (name_count s.tree) (equations s.tree (place_at s.places)) (value_of s)
+  pub only : IsOnlySolution (name_count s.tree) (equations s.tree (place_at s.places)) (value_of s)
 
 -- the warnings of the values
 abbrev pub warnings : Solution → List (List ℕ)

@@ -2,14 +2,16 @@
 
 ghost use Rattle.std.specs.Prelude.{◌≡◌, ◌<◌, length, slice_get, Some, IfOk, OnOk};
 ghost use Rattle.kc_order.specs.Solution.{Solves};
-ghost use Rattle.kc_solve.specs.Computing.{IsComputedSymbol, IsNodeOrder, IsComputedContext, IsComputedSelection, IsUnread};
+ghost use Rattle.kc_solve.specs.Computing.{equation_at, place_value, IsComputedSymbol, IsNodeOrder, IsComputedContext, IsComputedSelection, IsUnread};
 ghost use Rattle.kc_solve.specs.PlaceLists.{places};
 ghost use Rattle.kc_solve.specs.Kept.{valuation};
 ghost use Rattle.kc_tree.specs.Layouts.{IsLayoutOf};
-ghost use Rattle.kc_values.specs.TableFacts.{AreSelected};
-ghost use Rattle.kc_values.specs.Solution.{symbol_count, equations};
+ghost use Rattle.kc_values.specs.Lookups as lookup;
+ghost use Rattle.kc_values.specs.Solution.{name_count, equations};
+ghost use Rattle.kc_values.specs.TableFacts.{AreSelected, IsRowOf};
+ghost use Rattle.kc_values.specs.User.{given_in};
 
-use kc_expr::expression::SymId;
+use kc_expr::expression::{Kind, SymId};
 use kc_tree::layout::Layout;
 use kc_tree::rows::{ChoiceId, ContextId, Symbol};
 use kc_tree::tree::Tree;
@@ -18,10 +20,10 @@ use kc_values::choices::selected_in;
 use kc_values::conditions::context;
 use kc_values::equation::equation;
 use kc_values::nodes::{Node, node_of};
-use kc_values::table::Table;
+use kc_values::table::{Table, Value};
 use std::alloc::{AllocError, Global};
 
-/// The row of a symbol that is defined.
+/// The row of a symbol.
 pub(crate) fn symbol_row(layout: &Layout, id: SymId) -> &Symbol
     requires { id.0 < length layout.now.symbols.items }
     ensures { slice_get layout.now.symbols.items id.0 ≡ Some result.now }
@@ -32,6 +34,27 @@ pub(crate) fn symbol_row(layout: &Layout, id: SymId) -> &Symbol
     }
 }
 
+// The value to keep for a symbol: what its equation gives. A symbol without a type is worth its name. An empty place says the
+// same, so no value is kept for it.
+fn kept_value(
+    alloc: Global,
+    table: &Table<'_>,
+    id: SymId,
+    symbol: &Symbol,
+    given: Option<&UserValue>,
+    chosen: &[Option<SymId>],
+) -> Result<Option<Value>, AllocError>
+    requires row { IsRowOf table.now id symbol.now }
+    requires selected { AreSelected table.now chosen.now }
+    ensures { IfOk result (λ x. place_value symbol.now.kind (lookup.name table.now.tree.now id) x ≡ equation_at table.now id symbol.now (given_in given.entry) chosen.now) }
+{
+    if let Kind::Undefined = symbol.kind {
+        return Ok(None);
+    }
+    let value = equation(alloc, table, id, symbol, given, chosen)?;
+    Ok(Some(value))
+}
+
 // Computes the value of the next symbol.
 fn compute_symbol(
     alloc: Global,
@@ -40,17 +63,17 @@ fn compute_symbol(
     given: &[Option<UserValue>],
     chosen: &[Option<SymId>],
 ) -> Result<(), AllocError>
-    requires defined { id.0 < length table.old.values.items }
+    requires there { id.0 < length table.old.values.items }
     requires given { length given.now ≡ length table.old.values.items }
-    requires full { length table.old.values.items ≡ symbol_count table.old.tree.now }
+    requires full { length table.old.values.items ≡ name_count table.old.tree.now }
     requires selected { AreSelected table.old chosen.now }
     requires unread { IsUnread table.old id.0 }
     ensures { OnOk result (IsComputedSymbol given.now chosen.now id table.old table.new) }
 {
     let symbol = symbol_row(table.layout, id);
     let own = given[id.0].as_ref();
-    let value = equation(alloc, table, id, symbol, own, chosen)?;
-    table.values[id.0] = Some(value);
+    let value = kept_value(alloc, table, id, symbol, own, chosen)?;
+    table.values[id.0] = value;
     Ok(())
 }
 
@@ -85,12 +108,12 @@ pub(crate) fn compute<'t>(
 ) -> Result<Table<'t>, AllocError>
     requires laid { IsLayoutOf tree.now layout.now }
     requires order { IsNodeOrder tree.now layout.now nodes.now }
-    requires given { length given.now ≡ symbol_count tree.now }
+    requires given { length given.now ≡ name_count tree.now }
     requires chosen { length chosen.now ≡ length tree.now.choices }
     ensures tree { IfOk result (λ t. t.tree.now ≡ tree.now) }
-    ensures count { IfOk result (λ t. length t.values.items ≡ symbol_count tree.now) }
+    ensures count { IfOk result (λ t. length t.values.items ≡ name_count tree.now) }
     ensures selected { IfOk result (λ t. AreSelected t chosen.now) }
-    ensures solves { IfOk result (λ t. Solves (symbol_count tree.now) (equations tree.now (places given.now chosen.now)) (valuation tree.now t.values.items)) }
+    ensures solves { IfOk result (λ t. Solves (name_count tree.now) (equations tree.now (places given.now chosen.now)) (valuation tree.now t.values.items)) }
 {
     let mut table = Table::empty(alloc, tree, layout)?;
     for node in nodes {

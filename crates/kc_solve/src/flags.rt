@@ -1,12 +1,13 @@
 //! What each choice selects, and what is said of each symbol, under the values of a full table.
 
 ghost use Rattle.std.specs.Prelude.{◌≡◌, ◌<◌, false, length, map, slice_index_or, None, IfOk, IfSome};
+ghost use Rattle.kc_expr.specs.declared.expression.Tri.TheVariants.{N};
 ghost use Rattle.kc_order.specs.Solution.{Solves};
 ghost use Rattle.kc_solve.specs.Flags as flag;
-ghost use Rattle.kc_solve.specs.Flags.{IsSolvedOwn};
+ghost use Rattle.kc_solve.specs.Flags.{row_differs, visibilities_in, IsSolvedRow};
 ghost use Rattle.kc_user.specs.Places.{ArePlacesOf, member_place, place_at};
 ghost use Rattle.kc_values.specs.Differs as spec;
-ghost use Rattle.kc_values.specs.Solution.{symbol_count, equations};
+ghost use Rattle.kc_values.specs.Solution.{name_count, equations};
 ghost use Rattle.kc_values.specs.Lookups.{choice_at};
 ghost use Rattle.kc_values.specs.TableFacts.{facts_in, known_at, AreSelected, IsRowOf};
 ghost use Rattle.kc_values.specs.User.{given_in};
@@ -66,7 +67,7 @@ pub(crate) fn selections(
     table: &Table,
     user: &User,
 ) -> Result<ChoiceSelections, AllocError>
-    requires full { length table.now.values.items ≡ symbol_count table.now.tree.now }
+    requires full { length table.now.values.items ≡ name_count table.now.tree.now }
     requires user { ArePlacesOf table.now.tree.now user.now }
     requires selected { AreSelected table.now user.now.choices }
     ensures selected { IfOk result (λ s. s.selected.items ≡ flag.selected_by table.now user.now) }
@@ -100,6 +101,16 @@ pub(crate) fn at_symbol(flags: &[bool], id: SymId) -> bool
     id.0 < flags.len() && flags[id.0]
 }
 
+/// The visibility at the place of a symbol, or n where there is none.
+pub(crate) fn visibility_at(visibilities: &[Tri], id: SymId) -> Tri
+    ensures { result ≡ slice_index_or visibilities.now id.0 N }
+{
+    match visibilities.get(id.0) {
+        Some(visibility) => *visibility,
+        None => Tri::N,
+    }
+}
+
 // Whether a symbol differs. One for which nothing counts that was given does not: its value is what its equation gives
 // without it.
 fn symbol_differs(
@@ -116,8 +127,8 @@ fn symbol_differs(
     requires selections { IfSome symbol.now.choice (λ c. c.0 < length selections.now) }
     requires defaults { IfSome symbol.now.choice (λ c. c.0 < length defaults.now) }
     requires visibility { visibility ≡ value.visibility table.now.tree.now (known_at table.now) (facts_in table.now id symbol.now) }
-    requires solved { IsSolvedOwn table.now.tree.now (known_at table.now) id (facts_in table.now id symbol.now) (facts_in table.now id symbol.now).choice (given_in user) }
-    ensures { IfOk result (λ b. b ≡ flag.differs_by table.now.tree.now (known_at table.now) id (facts_in table.now id symbol.now) (facts_in table.now id symbol.now).choice selections.now defaults.now) }
+    requires solved { IsSolvedRow table.now id symbol.now (given_in user) }
+    ensures { IfOk result (λ b. b ≡ row_differs table.now id symbol.now selections.now defaults.now) }
 {
     match symbol.choice {
         Some(choice) => Ok(member_differs(
@@ -138,17 +149,17 @@ fn symbol_differs(
 /// What the values of a full table say of each symbol, by number.
 #[derive(Drop)]
 pub(crate) struct Flags {
+    /// Its visibility.
+    pub visibilities: Vec<Tri>,
     /// Whether it differs: its value is not what its equation gives without what was given for it; a member: it is selected
     /// and is not the default selection.
     pub differing: Vec<bool>,
     /// Whether it has a line in the `.config`.
     pub written: Vec<bool>,
-    /// The warnings of all symbols: whole lines without their end, in the order of the symbols.
-    pub warnings: Vec<Vec<u8>>,
 }
 
 /// What the values of a full table that solves say of the symbols under a user's places of that tree, with the selections
-/// under them. Each symbol is looked at once, and its visibility serves all that asks for it.
+/// under them. The visibility of each symbol is found once, and serves all that asks for it.
 pub(crate) fn flags_of(
     alloc: Global,
     table: &Table,
@@ -156,19 +167,19 @@ pub(crate) fn flags_of(
     selections: &[Option<SymId>],
     defaults: &[Option<SymId>],
 ) -> Result<Flags, AllocError>
-    requires full { length table.now.values.items ≡ symbol_count table.now.tree.now }
+    requires full { length table.now.values.items ≡ name_count table.now.tree.now }
     requires user { ArePlacesOf table.now.tree.now user.now }
-    requires solves { Solves (symbol_count table.now.tree.now) (equations table.now.tree.now (place_at user.now)) (flag.values_in table.now) }
+    requires solves { Solves (name_count table.now.tree.now) (equations table.now.tree.now (place_at user.now)) (flag.values_in table.now) }
     requires selections { selections.now ≡ flag.selected_by table.now user.now }
     requires defaults { defaults.now ≡ flag.selected_by_default table.now }
+    ensures visibilities { IfOk result (λ f. f.visibilities.items ≡ visibilities_in table.now) }
     ensures differing { IfOk result (λ f. f.differing.items ≡ flag.differing_by table.now user.now) }
     ensures written { IfOk result (λ f. f.written.items ≡ flag.written_in table.now) }
-    ensures warnings { IfOk result (λ f. map (λ w. w.items) f.warnings.items ≡ value_warnings table.now.tree.now (place_at user.now) (flag.values_in table.now)) }
 {
-    let count = table.tree.symbol_count();
+    let count = table.tree.name_count();
+    let mut visibilities = Vec::with_capacity(alloc, count)?;
     let mut differing = Vec::with_capacity(alloc, count)?;
     let mut written = Vec::with_capacity(alloc, count)?;
-    let mut warnings = Vec::new(alloc);
     for i in 0..count {
         let id = SymId(i);
         let symbol = symbol_row(table.layout, id);
@@ -177,13 +188,36 @@ pub(crate) fn flags_of(
         let differs = symbol_differs(
             alloc, table, id, symbol, own, visibility, selections, defaults,
         )?;
+        visibilities.push(visibility)?;
         differing.push(differs)?;
         written.push(is_written(table, id, symbol, visibility))?;
-        warnings_into(alloc, table, id, symbol, visibility, own, &mut warnings)?;
     }
     Ok(Flags {
+        visibilities,
         differing,
         written,
-        warnings,
     })
+}
+
+/// The warnings of the defined symbols under the values of a full table and a user's places of that tree: whole lines without
+/// their end, in the order of the symbols' first definitions. The caller owes the visibilities.
+pub(crate) fn warnings_of(
+    alloc: Global,
+    table: &Table,
+    user: &User,
+    visibilities: &[Tri],
+) -> Result<Vec<Vec<u8>>, AllocError>
+    requires full { length table.now.values.items ≡ name_count table.now.tree.now }
+    requires user { ArePlacesOf table.now.tree.now user.now }
+    requires visibilities { visibilities.now ≡ visibilities_in table.now }
+    ensures { IfOk result (λ v. map (λ w. w.items) v.items ≡ value_warnings table.now.tree.now (place_at user.now) (flag.values_in table.now)) }
+{
+    let mut warnings = Vec::new(alloc);
+    for id in table.layout.defined() {
+        let symbol = symbol_row(table.layout, *id);
+        let visibility = visibility_at(visibilities, *id);
+        let own = user.get(*id);
+        warnings_into(alloc, table, *id, symbol, visibility, own, &mut warnings)?;
+    }
+    Ok(warnings)
 }

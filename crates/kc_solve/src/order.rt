@@ -1,6 +1,6 @@
 //! An order of a tree's symbols, or the dependency loop that is named.
 
-ghost use Rattle.std.specs.Prelude.{◌≡◌, ◌≢◌, ◌++◌, length, IfOk, IfErr, OnOk};
+ghost use Rattle.std.specs.Prelude.{◌≡◌, ◌≢◌, ◌<◌, ◌++◌, length, map, All, IfOk, IfErr, OnOk};
 ghost use Rattle.kc_order.specs.Needs.{needs_in, SomeUnordered};
 ghost use Rattle.kc_order.specs.Order.{Orders};
 ghost use Rattle.kc_read.specs.RefusalView.{IsMemory, refusal_view};
@@ -18,7 +18,7 @@ use kc_order::{NoOrder, alike_needs, order_of};
 use kc_read::refusal::{Code, Refusal};
 use kc_tree::layout::Layout;
 use kc_tree::tree::Tree;
-use kc_values::laws::needs_are_defined;
+use kc_values::laws::needs_are_symbols;
 use kc_values::needs::tree_needs;
 use kc_values::table::name;
 use std::alloc::{AllocError, Global};
@@ -48,7 +48,8 @@ impl EvaluationOrder {
     /// `Loop` exactly where some symbol has no place in any order (is unordered): a walk along what is needed goes on for
     /// ever. It has no location, and its detail is the loop that is named: the names of its symbols and its first again,
     /// joined by ` -> `, where the walk goes from the first unordered symbol always on to the first unordered symbol that
-    /// is needed (our own rule). `Memory` where no memory was to be had.
+    /// is needed. The first of several symbols is the one that is defined first (our own rule). `Memory` where no memory was
+    /// to be had.
     pub fn of(alloc: Global, tree: &Tree, layout: &Layout) -> Result<EvaluationOrder, Refusal>
         requires { IsLayoutOf tree.now layout.now }
         ensures same { IfOk result (IsGraphOf tree.now layout.now) }
@@ -128,6 +129,19 @@ fn loop_text(alloc: Global, tree: &Tree, symbols: &[u32]) -> Result<Vec<u8>, All
     Ok(text)
 }
 
+// The numbers of the defined symbols, in the order of their first definitions.
+fn first_numbers(alloc: Global, layout: &Layout) -> Result<Vec<u32>, AllocError>
+    requires { All (λ s. s.0 < length layout.now.symbols.items) layout.now.defined.items }
+    ensures { IfOk result (λ v. v.items ≡ map (λ s. s.0) layout.now.defined.items) }
+{
+    let defined = layout.defined();
+    let mut numbers = Vec::with_capacity(alloc, defined.len())?;
+    for id in defined {
+        numbers.push(id.0 as u32)?;
+    }
+    Ok(numbers)
+}
+
 // An order of the symbols of a tree in which what each needs stands before it. Fails where some symbol is unordered, with
 // the text of the loop that is named, and for being out of memory.
 fn tree_order(alloc: Global, tree: &Tree, layout: &Layout) -> Result<kc_order::Order, LoopFault>
@@ -136,11 +150,12 @@ fn tree_order(alloc: Global, tree: &Tree, layout: &Layout) -> Result<kc_order::O
     ensures accepted { OnOk result (IsAccepted tree.now) }
     ensures refused { IfErr result (NamesTheLoop tree.now) }
 {
-    needs_are_defined();
+    needs_are_symbols();
     alike_needs();
-    let _count = tree.symbol_count();
+    let _count = tree.name_count();
     let all = tree_needs(alloc, tree, layout)?;
-    match order_of(alloc, all) {
+    let sequence = first_numbers(alloc, layout)?;
+    match order_of(alloc, all, &sequence) {
         Ok(order) => Ok(order),
         Err(NoOrder::Loop(symbols)) => {
             let text = loop_text(alloc, tree, &symbols)?;

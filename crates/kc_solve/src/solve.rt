@@ -9,11 +9,11 @@ ghost use Rattle.kc_solve.specs.SolvedLaws.{IsMinimal, IdempotentWhere};
 ghost use Rattle.kc_tree.specs.Layouts.{IsLayoutOf};
 ghost use Rattle.kc_user.specs.Places.{ArePlacesOf, place_at};
 ghost use Rattle.kc_values.specs.Needs.{IsAccepted};
-ghost use Rattle.kc_values.specs.Solution.{symbol_count, equations};
+ghost use Rattle.kc_values.specs.Solution.{name_count, equations};
 ghost use Rattle.kc_values.specs.TableFacts.{AreSelected};
 
 use crate::compute::compute;
-use crate::flags::{ChoiceSelections, Flags, flags_of, selections};
+use crate::flags::{ChoiceSelections, Flags, flags_of, selections, warnings_of};
 use crate::order::EvaluationOrder;
 use crate::solved::Solved;
 use kc_order::{alike_needs, groups_stand_for_symbols, ordered_are_accepted};
@@ -37,10 +37,10 @@ fn full_table<'t>(
     requires user { ArePlacesOf tree.now user.now }
     ensures tree { IfOk result (λ t. t.tree.now ≡ tree.now) }
     ensures accepted { OnOk result (IsAccepted tree.now) }
-    ensures count { IfOk result (λ t. length t.values.items ≡ symbol_count tree.now) }
+    ensures count { IfOk result (λ t. length t.values.items ≡ name_count tree.now) }
     ensures selected { IfOk result (λ t. AreSelected t user.now.choices) }
-    ensures solves { IfOk result (λ t. Solves (symbol_count tree.now) (equations tree.now (place_at user.now)) (valuation tree.now t.values.items)) }
-    ensures only { IfOk result (λ t. IsOnlySolution (symbol_count tree.now) (equations tree.now (place_at user.now)) (valuation tree.now t.values.items)) }
+    ensures solves { IfOk result (λ t. Solves (name_count tree.now) (equations tree.now (place_at user.now)) (valuation tree.now t.values.items)) }
+    ensures only { IfOk result (λ t. IsOnlySolution (name_count tree.now) (equations tree.now (place_at user.now)) (valuation tree.now t.values.items)) }
 {
     accepted_have_one_solution();
     ordered_are_accepted();
@@ -68,23 +68,25 @@ pub fn solve<'a>(
     requires user { ArePlacesOf tree.now user.now }
     ensures tree { IfOk result (λ s. s.tree ≡ tree.now) }
     ensures places { IfOk result (λ s. s.places ≡ user.now) }
-    ensures solves { IfOk result (λ s. Solves (symbol_count tree.now) (equations tree.now (place_at user.now)) (value_of s)) }
-    ensures only { IfOk result (λ s. IsOnlySolution (symbol_count tree.now) (equations tree.now (place_at user.now)) (value_of s)) }
+    ensures solves { IfOk result (λ s. Solves (name_count tree.now) (equations tree.now (place_at user.now)) (value_of s)) }
+    ensures only { IfOk result (λ s. IsOnlySolution (name_count tree.now) (equations tree.now (place_at user.now)) (value_of s)) }
     ensures minimal { IfOk result IsMinimal }
     ensures idempotent { IfOk result IdempotentWhere }
 {
     let table = full_table(alloc, tree, layout, order, user)?;
     let ChoiceSelections { selected, default } = selections(alloc, &table, user)?;
     let Flags {
+        visibilities,
         differing,
         written,
-        warnings,
     } = flags_of(alloc, &table, user, &selected, &default)?;
+    let warnings = warnings_of(alloc, &table, user, &visibilities)?;
     let solved = Solved {
         table,
         user,
         selections: selected,
         default_selections: default,
+        visibilities,
         differing,
         written,
         warnings,

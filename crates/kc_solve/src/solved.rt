@@ -9,9 +9,9 @@ ghost use Rattle.kc_solve.specs.SolvedLaws.{IsMinimal, IdempotentWhere};
 ghost use Rattle.kc_solve.specs.Answers.{TellsKnown};
 ghost use Rattle.kc_solve.specs.Titles.{IsTitleAt};
 ghost use Rattle.kc_values.specs.Needs.{IsAccepted};
-ghost use Rattle.kc_values.specs.Solution.{symbol_count};
+ghost use Rattle.kc_values.specs.Solution.{name_count};
 
-use crate::flags::{at_choice, at_symbol};
+use crate::flags::{at_choice, at_symbol, visibility_at};
 use kc_expr::expression::{Kind, SymId, Tri};
 use kc_expr::values::{Values, tri_text};
 use kc_tree::layout::Layout;
@@ -21,7 +21,7 @@ use kc_user::user::User;
 use kc_values::conditions::title_condition;
 use kc_values::laws::{idempotent_where, minimal_restores};
 use kc_values::table::Table;
-use kc_values::truths::{truth_of, visibility};
+use kc_values::truths::truth_of;
 use std::marker::Model;
 
 /// The one solution of a tree's equations under a user's places, as [`crate::solve::solve`] finds it, with the flags and
@@ -32,6 +32,7 @@ pub struct Solved<'a> {
     pub(crate) user: &'a User,
     pub(crate) selections: Vec<Option<SymId>>,
     pub(crate) default_selections: Vec<Option<SymId>>,
+    pub(crate) visibilities: Vec<Tri>,
     pub(crate) differing: Vec<bool>,
     pub(crate) written: Vec<bool>,
     pub(crate) warnings: Vec<Vec<u8>>,
@@ -49,7 +50,8 @@ impl<'a> Model for Solved<'a> {
 
     ghost view = { λ s. solution_in s.table.tree.now s.user.now s.table.values.items };
 
-    ghost invariant = { λ s. IsSolved s.table.tree.now s.user.now s.table.values.items s.selections.items s.default_selections.items s.differing.items s.written.items (map (λ w. w.items) s.warnings.items) };
+    ghost invariant = { λ s. IsSolved s.table.tree.now s.user.now s.table.values.items s.selections.items s.default_selections.items
+        s.visibilities.items s.differing.items s.written.items (map (λ w. w.items) s.warnings.items) };
 }
 
 impl<'a> Solved<'a> {
@@ -81,8 +83,7 @@ impl<'a> Solved<'a> {
         let _ = &self.table;
     }
 
-    /// What it answers as [`Values`] is what its valuation says of each symbol, and of a name that is not defined its own
-    /// text.
+    /// What it answers as [`Values`] is what its valuation says of each symbol.
     pub fn tells_known(&self)
         ensures { TellsKnown self.now }
     {
@@ -94,7 +95,7 @@ impl<'a> Solved<'a> {
         ensures { IsMinimal self.now }
     {
         minimal_restores();
-        let _count = self.table.tree.symbol_count();
+        let _count = self.table.tree.name_count();
     }
 
     /// With the written values that are allowed as the user's, the values solve again exactly where no symbol outside a
@@ -104,7 +105,7 @@ impl<'a> Solved<'a> {
         ensures { IdempotentWhere self.now }
     {
         idempotent_where();
-        let _count = self.table.tree.symbol_count();
+        let _count = self.table.tree.name_count();
     }
 
     /// When the entry of this number is shown, a menu or comment: the least of what the enclosing blocks and its own lines ask
@@ -126,10 +127,7 @@ impl<'a> Solved<'a> {
     pub fn visibility(&self, id: SymId) -> Tri
         ensures { result ≡ spec.visibility self.now id }
     {
-        match self.table.layout.symbol(id) {
-            Some(symbol) => visibility(&self.table, symbol),
-            None => Tri::N,
-        }
+        visibility_at(&self.visibilities, id)
     }
 
     /// Whether the symbol has a line in the `.config`: it is visible; or, outside a choice, a bool or tristate whose
@@ -163,7 +161,7 @@ impl<'a> Solved<'a> {
     /// gave for it, under the same values of all others; a member: it is selected and is not the default selection (our
     /// own).
     pub fn differs(&self, id: SymId) -> bool
-        requires { id.0 < symbol_count self.now.tree }
+        requires { id.0 < name_count self.now.tree }
         ensures { result ≡ spec.differs self.now id }
     {
         at_symbol(&self.differing, id)

@@ -156,6 +156,7 @@ module _ (l : Layout) where
 -- a layout says what a tree says
 pub record IsLayoutOf (t : TreeFacts) (l : Layout) : Type 0 where
   pub symbols : t.symbols ≡ symbols_in l
+  pub defined : t.defined ≡ l.defined.items
   pub choices : t.choices ≡ choices_in l
   pub entries : t.entries ≡ entries_in l
   pub modules : t.modules ≡ l.modules

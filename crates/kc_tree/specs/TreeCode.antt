@@ -92,20 +92,21 @@ shown_code =
 
 -- the facts of a tree, as pairs in pairs
 abbrev Facts : Type 0
-Facts = (List (List ℕ) × (List SymbolFacts × List ChoiceFacts)) × ((List Shown × List (List ℕ)) × (List ℕ × Option SymId))
+Facts = (List (List ℕ) × ((List SymbolFacts × List SymId) × List ChoiceFacts)) × ((List Shown × List (List ℕ)) × (List ℕ × Option SymId))
 
 abbrev whole_code : Coded Facts
 whole_code =
-    coded× (coded× (coded_list bytes_code) (coded× (coded_list symbol_code) (coded_list choice_code)))
+    coded× (coded× (coded_list bytes_code) (coded× (coded× (coded_list symbol_code) (coded_list sym_code)) (coded_list choice_code)))
     (coded× (coded× (coded_list shown_code) (coded_list bytes_code)) (coded× bytes_code (coded_option sym_code)))
 
 abbrev pub tree_code : Coded TreeFacts
 tree_code =
     code_by Facts whole_code
-    (λ t. ((t.names, (t.symbols, t.choices)), ((t.entries, t.warnings), (t.main_menu, t.modules))))
+    (λ t. ((t.names, ((t.symbols, t.defined), t.choices)), ((t.entries, t.warnings), (t.main_menu, t.modules))))
     (λ p. record {
       names = p.0.0;
-      symbols = p.0.1.0;
+      symbols = p.0.1.0.0;
+      defined = p.0.1.0.1;
       choices = p.0.1.1;
       entries = p.1.0.0;
       warnings = p.1.0.1;

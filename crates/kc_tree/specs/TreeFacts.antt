@@ -1,5 +1,5 @@
 -- Trusted: What a tree says, without where it lies in memory.
-use Rattle.std.specs.Prelude.{◌≡◌, ℕ, true, ◌<◌, ◌≤◌, List, length, Option, Some, None, slice_get, Contains, All}
+use Rattle.std.specs.Prelude.{◌≡◌, ◌≢◌, ℕ, true, ◌<◌, ◌≤◌, List, length, Option, Some, None, slice_get, Contains, All}
 use Rattle.kc_expr.specs.declared.expression.SymId.{SymId}
 use Rattle.kc_expr.specs.declared.expression.Kind.{Kind}
 use Rattle.kc_expr.specs.declared.expression.Kind.TheVariants as kind
@@ -47,11 +47,13 @@ pub data Shown : Type 0 where
   EndShown : ℕ → Shown
   CommentShown : List ℕ → Condition → Shown
 
--- Symbol i is the i-th by first definition: its name is name i, its facts are facts i. The names after those of the
--- symbols are not defined. `modules` is None where the modules symbol is not defined.
+-- Symbol i has name i, and its facts are facts i. A name that is mentioned and not defined is a symbol without a type and
+-- without lines. `defined` are those that are defined, in the order of their first definition. `modules` is None where the
+-- modules symbol is not defined.
 pub record TreeFacts : Type 0 where
   pub names : List (List ℕ)
   pub symbols : List SymbolFacts
+  pub defined : List SymId
   pub choices : List ChoiceFacts
   pub entries : List Shown
   pub warnings : List (List ℕ)
@@ -70,8 +72,9 @@ pub record IsSymbolName (name : List ℕ) : Type 0 where
 abbrev pub IsModeBelow : ℕ → Condition → Type 0
 IsModeBelow n c = (k : ℕ) → c.mode ≡ Some k → k < n
 
-abbrev pub IsDefined : TreeFacts → SymId → Type 0
-IsDefined t s = s.0 < length t.symbols
+-- the tree mentions a symbol of this number
+abbrev pub IsMentioned : TreeFacts → SymId → Type 0
+IsMentioned t s = s.0 < length t.symbols
 
 -- the lines of one symbol name only choices and symbols that there are
 pub record AreLinesSound (t : TreeFacts) (f : SymbolFacts) : Type 0 where
@@ -79,8 +82,8 @@ pub record AreLinesSound (t : TreeFacts) (f : SymbolFacts) : Type 0 where
   pub prompts : All (IsModeBelow (length t.choices)) f.prompts
   pub defaults : All (λ (g : Guarded Form). IsModeBelow (length t.choices) g.when) f.defaults
   pub ranges : All (λ (g : Guarded Bounds). IsModeBelow (length t.choices) g.when) f.ranges
-  pub selectors : All (λ (g : Guarded SymId). IsDefined t g.what × IsModeBelow (length t.choices) g.when) f.selectors
-  pub impliers : All (λ (g : Guarded SymId). IsDefined t g.what × IsModeBelow (length t.choices) g.when) f.impliers
+  pub selectors : All (λ (g : Guarded SymId). IsMentioned t g.what × IsModeBelow (length t.choices) g.when) f.selectors
+  pub impliers : All (λ (g : Guarded SymId). IsMentioned t g.what × IsModeBelow (length t.choices) g.when) f.impliers
 
 -- s is a member of choice k, and is a bool
 abbrev pub IsMemberOf : TreeFacts → ℕ → SymId → Type 0
@@ -98,7 +101,7 @@ IsListed t s f = (k : ℕ) → f.choice ≡ Some k → (c : ChoiceFacts) × (sli
 
 -- an entry at a place names what there is
 abbrev pub IsEntrySound : TreeFacts → ℕ → Shown → Type 0
-IsEntrySound t i (SymbolShown s) = IsDefined t s
+IsEntrySound t i (SymbolShown s) = Contains t.defined s
 IsEntrySound t i (MenuShown text when) = IsModeBelow (length t.choices) when
 IsEntrySound t i (EndShown menu) =
     (menu < i) × ((text : List ℕ) × (when : Condition) × (slice_get t.entries menu ≡ Some (MenuShown text when)))
@@ -137,19 +140,24 @@ pub record HasLineTexts (t : TreeFacts) : Type 0 where
   pub names : (i : ℕ) (name : List ℕ) → slice_get t.names i ≡ Some name → IsLineText name
   pub defaults : (i : ℕ) (f : SymbolFacts) → slice_get t.symbols i ≡ Some f → (g : Guarded Form) → Contains f.defaults g → IsLineForm g.what
 
--- each symbol has an entry
+-- each defined symbol has an entry
 abbrev pub ShowsEach : TreeFacts → Type 0
-ShowsEach t = (s : SymId) → IsDefined t s → Contains t.entries (SymbolShown s)
+ShowsEach t = (s : SymId) → Contains t.defined s → Contains t.entries (SymbolShown s)
 
 pub record IsWellFormed (t : TreeFacts) : Type 0 where
   pub names_differ : (i j : ℕ) (name : List ℕ) → slice_get t.names i ≡ Some name → slice_get t.names j ≡ Some name → i ≡ j
-  pub symbols_named : length t.symbols ≤ length t.names
-  pub names_allowed : (i : ℕ) (name : List ℕ) → i < length t.symbols → slice_get t.names i ≡ Some name → IsSymbolName name
-  pub symbols_few : length t.symbols ≤ most_symbols
+  pub symbols_named : length t.symbols ≡ length t.names
+  pub names_allowed : (s : SymId) (name : List ℕ) → Contains t.defined s → slice_get t.names s.0 ≡ Some name → IsSymbolName name
+  pub symbols_few : length t.defined ≤ most_symbols
+  pub defined_once : (i j : ℕ) (s : SymId) → slice_get t.defined i ≡ Some s → slice_get t.defined j ≡ Some s → i ≡ j
+  pub defined_there : All (IsMentioned t) t.defined
+  -- a symbol with a type or a prompt is defined
+  pub typed_defined : (s : SymId) (f : SymbolFacts) → slice_get t.symbols s.0 ≡ Some f → f.kind ≢ kind.Undefined → Contains t.defined s
+  pub prompted_defined : (s : SymId) (f : SymbolFacts) → slice_get t.symbols s.0 ≡ Some f → 0 < length f.prompts → Contains t.defined s
   pub lines_sound : All (AreLinesSound t) t.symbols
   pub members_listed : (i : ℕ) (f : SymbolFacts) → slice_get t.symbols i ≡ Some f → IsListed t (record { 0 = i }) f
   pub choices_sound : (k : ℕ) (c : ChoiceFacts) → slice_get t.choices k ≡ Some c → IsChoiceSound t k c
   pub entries_sound : (i : ℕ) (e : Shown) → slice_get t.entries i ≡ Some e → IsEntrySound t i e
   pub symbols_shown : ShowsEach t
-  pub modules_defined : (s : SymId) → t.modules ≡ Some s → IsDefined t s
+  pub modules_defined : (s : SymId) → t.modules ≡ Some s → Contains t.defined s
   pub texts : HasLineTexts t

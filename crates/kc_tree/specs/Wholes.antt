@@ -8,6 +8,7 @@ abbrev pub tree_of : List (List ℕ) → TreeParts → TreeFacts
 tree_of names p = record {
   names = names;
   symbols = symbols_in p.layout;
+  defined = p.layout.defined.items;
   choices = choices_in p.layout;
   entries = entries_in p.layout;
   warnings = map (λ w. w.items) p.warnings.items;

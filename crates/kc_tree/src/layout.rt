@@ -42,18 +42,18 @@ impl Tables {
     ghost use Rattle.std.specs.Prelude.{◌≡◌, length, IfOk};
     ghost use Rattle.kc_tree.specs.Empty.{AreEmpty};
 
-    /// Tables without rows, with room for so many symbols. Fails only when it is out of memory.
-    pub fn empty(alloc: Global, count: usize) -> Result<Tables, AllocError>
+    /// Tables without rows, with room for so many symbols among so many names. Fails only when it is out of memory.
+    pub fn empty(alloc: Global, count: usize, names: usize) -> Result<Tables, AllocError>
         ensures empty { IfOk result AreEmpty }
-        ensures selects { IfOk result (λ t. length t.reverses.selects.items ≡ count) }
-        ensures implies { IfOk result (λ t. length t.reverses.implies.items ≡ count) }
+        ensures selects { IfOk result (λ t. length t.reverses.selects.items ≡ names) }
+        ensures implies { IfOk result (λ t. length t.reverses.implies.items ≡ names) }
     {
         Ok(Tables {
             contexts: Contexts::with_room(alloc, count)?,
             definitions: Vec::with_capacity(alloc, count)?,
             defaults: Vec::with_capacity(alloc, count)?,
             ranges: Vec::new(alloc),
-            reverses: Reverses::new(alloc, count)?,
+            reverses: Reverses::new(alloc, names)?,
             choices: Vec::new(alloc),
             titles: Vec::new(alloc),
             entries: Vec::with_capacity(alloc, count)?,
@@ -65,7 +65,10 @@ impl Tables {
 /// enclosing blocks of an entry, and then the entry, ask for; it stands once, however many entries depend on it.
 #[derive(Debug, Drop)]
 pub struct Layout {
+    /// A row for each name, by number.
     pub symbols: Vec<Symbol>,
+    /// The defined symbols, in the order of their first definition.
+    pub defined: Vec<SymId>,
     pub tables: Tables,
     /// The modules symbol, by which a plain `m` of a condition counts, where one is defined.
     pub modules: Option<SymId>,
@@ -93,11 +96,18 @@ fn part<T>(table: &[T], span: RowSpan) -> &[T]
 }
 
 impl Layout {
-    /// The symbols, by number.
+    /// The symbols, by number: one for each name.
     pub fn symbols(&self) -> &[Symbol]
         ensures { result.now ≡ self.now.symbols.items }
     {
         &self.symbols
+    }
+
+    /// The defined symbols, in the order of their first definition.
+    pub fn defined(&self) -> &[SymId]
+        ensures { result.now ≡ self.now.defined.items }
+    {
+        &self.defined
     }
 
     /// The choices, by number.
@@ -114,7 +124,7 @@ impl Layout {
         &self.tables.entries
     }
 
-    /// The row of a symbol; none of a name that is not defined.
+    /// The row of a symbol. That of a name that is not defined has no type, no choice and no definition.
     pub fn symbol(&self, id: SymId) -> Option<&Symbol>
         ensures { option_map (λ s. s.now) result ≡ slice_get self.now.symbols.items id.0 }
     {

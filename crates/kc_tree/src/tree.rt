@@ -15,9 +15,8 @@ use kc_expr::names::Names;
 use std::marker::Model;
 
 /// The symbols, choices and entries of a Kconfig file and of the files that it sources, and the warnings about them.
-/// The symbols are numbered in the order of their first definition, from 0; the numbers from `symbol_count` on are
-/// those of names that are not defined. What a tree holds is the kernel's kconfig-language document's; the numbers are
-/// our own.
+/// The names that they mention are numbered from 0, in the order of their first mention, and a symbol's number is that of
+/// its name. What a tree holds is the kernel's kconfig-language document's; the numbers are our own.
 #[derive(Drop)]
 pub struct Tree {
     names: Names,
@@ -63,19 +62,19 @@ impl Tree {
     /// How many symbols are defined, each counted once: 65,535 at most (the limit is our own; kconfiglib's
     /// `unique_defined_syms` are the same symbols).
     pub fn symbol_count(&self) -> usize
-        ensures count { result ≡ length self.now.symbols }
+        ensures count { result ≡ length self.now.defined }
         ensures formed { IsWellFormed self.now }
     {
-        self.layout.symbols().len()
+        self.layout.defined().len()
     }
 
-    /// The symbol of a number, by which the symbols stand in the order of their first definition, as in kconfiglib's
-    /// `unique_defined_syms`. The caller owes a number below `symbol_count`.
+    /// The defined symbol at a place, in the order of their first definition, as in kconfiglib's `unique_defined_syms`. The
+    /// caller owes a place below `symbol_count`.
     pub fn symbol(&self, i: usize) -> SymId
-        requires { i < length self.now.symbols }
-        ensures { result ≡ symbol i }
+        requires { i < length self.now.defined }
+        ensures { slice_get self.now.defined i ≡ Some result }
     {
-        SymId(i)
+        self.layout.defined()[i]
     }
 
     /// The number of a name that the tree mentions, defined or not; `None` for another name (the numbers are our own;
@@ -89,7 +88,8 @@ impl Tree {
     /// How many names the tree mentions: the symbols' and those that are not defined (our own; they are the names of
     /// kconfiglib's `syms`).
     pub fn name_count(&self) -> usize
-        ensures { result ≡ length self.now.names }
+        ensures count { result ≡ length self.now.names }
+        ensures formed { IsWellFormed self.now }
     {
         self.names.count()
     }
@@ -103,7 +103,8 @@ impl Tree {
         self.names.name(id)
     }
 
-    /// The row of a symbol, with its type and its choice; `None` where the name is not defined (our own).
+    /// The row of a symbol, with its type and its choice, which a name that is not defined has not; `None` past the last
+    /// name (our own).
     pub fn facts(&self, id: SymId) -> Option<&Symbol>
         ensures { IsSymbolRowOf (slice_get self.now.symbols id.0) result }
     {

@@ -11,7 +11,7 @@ use kc_tree::tree::Tree;
 use std::alloc::{AllocError, Global};
 use std::marker::Model;
 
-/// What a user gives for the symbols and choices of a tree: one place for each, empty or filled. Places that get only values
+/// What a user gives for the names and choices of a tree: one place for each, empty or filled. Places that get only values
 /// that `allowed` accepts and members of their choices hold only such ([`crate::laws::places_hold_what_is_allowed`]). (Our
 /// own; the user's values of kconfiglib's documentation.)
 #[derive(Drop)]
@@ -36,7 +36,7 @@ impl User {
     pub fn new(alloc: Global, tree: &Tree) -> Result<User, AllocError>
         ensures { IfOk result (λ user. user ≡ spec.no_places tree.now) }
     {
-        let symbols = empty_places(alloc, tree.symbol_count())?;
+        let symbols = empty_places(alloc, tree.name_count())?;
         let choices = empty_places(alloc, tree.choices().len())?;
         Ok(User { symbols, choices })
     }

@@ -20,7 +20,7 @@ use Rattle.kc_user.specs.GivenValue.{GivenValue, GivenTruth, GivenText, Member, 
 use Rattle.kc_tree.specs.Common.{is_symbol_of}
 use Rattle.kc_values.specs.Values.{is_n}
 use Rattle.kc_values.specs.Solution as sol
-use Rattle.kc_values.specs.Solution.{symbol_count, known_from, rhs, user_place, equations}
+use Rattle.kc_values.specs.Solution.{name_count, known_from, rhs, user_place, equations}
 use Rattle.kc_values.specs.Members.{MembersAreTheirs}
 use Rattle.kc_values.specs.Differs.{same_value, given_of, selection, default_selection, differs, differs_at}
 use Rattle.kc_values.specs.GivenLines.{minimal_line, TellsDiffering}
@@ -172,12 +172,12 @@ own_place p j i (inl e) at = let h : SymbolPlace j ≡ SymbolPlace i = sym e ∙
 own_place p j i (inr e) at = let h : ChoicePlace e.0 ≡ SymbolPlace i = sym e.1 ∙ at in cc
 
 -- Under places and values that solve.
-module _ (tree : TreeFacts) (user : UserPlace → Option GivenValue) (V : ℕ → SymbolValue) (solves : Solves (symbol_count tree) (equations tree user) V) where
+module _ (tree : TreeFacts) (user : UserPlace → Option GivenValue) (V : ℕ → SymbolValue) (solves : Solves (name_count tree) (equations tree user) V) where
   abbrev pub Sel : ℕ → Option SymId
   Sel c = selection tree user V c
 
   -- the value of a member
-  pub member_now : (i c : ℕ) → i < symbol_count tree → user_place tree i ≡ ChoicePlace c → V i ≡ Truth (cond (is_symbol_of (symbol i) (Sel c)) Y N)
+  pub member_now : (i c : ℕ) → i < name_count tree → user_place tree i ≡ ChoicePlace c → V i ≡ Truth (cond (is_symbol_of (symbol i) (Sel c)) Y N)
   member_now i c l d =
       solves i l
       ∙ member_at tree (known_from tree V) i c (user (user_place tree i)) d
@@ -202,7 +202,7 @@ module _ (tree : TreeFacts) (user : UserPlace → Option GivenValue) (V : ℕ �
       both_ways (same_value (V i) (rhs tree i None V)) (not-true (same_value (V i) (rhs tree i None V)) (sym (differs-own i at) ∙ d))
       (sym (ap (same_value (V i)) e) ∙ same_value_itself (V i))
 
-  pub same_without : (i : ℕ) → i < symbol_count tree → user_place tree i ≡ SymbolPlace i → differs tree user V i ≡ false → V i ≡ rhs tree i None V
+  pub same_without : (i : ℕ) → i < name_count tree → user_place tree i ≡ SymbolPlace i → differs tree user V i ≡ false → V i ≡ rhs tree i None V
   same_without i l at d =
       let e = solves i l in
       let same = not-false (same_value (V i) (rhs tree i None V)) (sym (differs-own i at) ∙ d) in
@@ -210,7 +210,7 @@ module _ (tree : TreeFacts) (user : UserPlace → Option GivenValue) (V : ℕ �
       e ∙ same_again tree (known_from tree V) (symbol i) (facts tree (symbol i)) (user (user_place tree i)) None told
 
   -- a value that its own line gives again
-  pub line_fixed_at : (i : ℕ) → i < symbol_count tree → differs tree user V i ≡ true → V i ≡ rhs tree i (minimal_line tree user V (user_place tree i)) V
+  pub line_fixed_at : (i : ℕ) → i < name_count tree → differs tree user V i ≡ true → V i ≡ rhs tree i (minimal_line tree user V (user_place tree i)) V
   line_fixed_at i l t =
       elim (place_cases tree i) [
         | inl at ↦
@@ -227,7 +227,7 @@ module _ (tree : TreeFacts) (user : UserPlace → Option GivenValue) (V : ℕ �
   member_same i c (Some m) d none some = ap (λ x. is_symbol_of (symbol i) x) (sym (named d m (some m refl)))
 
   module _ (theirs : MembersAreTheirs tree) (keep : UserPlace → Bool) (tells : TellsDiffering tree user V keep) where
-    unkept : (i : ℕ) → i < symbol_count tree → keep (user_place tree i) ≡ false → differs tree user V i ≡ false
+    unkept : (i : ℕ) → i < name_count tree → keep (user_place tree i) ≡ false → differs tree user V i ≡ false
     unkept i l f =
         elim (cases_Bool (differs tree user V i)) [
           | inl t ↦ absurd (both_ways (keep (user_place tree i)) f (tells.every i l t))
@@ -245,7 +245,7 @@ module _ (tree : TreeFacts) (user : UserPlace → Option GivenValue) (V : ℕ �
         not-false (is_symbol_of m (default_selection tree V c))
         (sym (ap (λ b. b && not (is_symbol_of m (default_selection tree V c))) sel) ∙ same)
 
-    same_for_member : (i c : ℕ) → i < symbol_count tree → user_place tree i ≡ ChoicePlace c → keep (ChoicePlace c) ≡ false → V i ≡ rhs tree i None V
+    same_for_member : (i c : ℕ) → i < name_count tree → user_place tree i ≡ ChoicePlace c → keep (ChoicePlace c) ≡ false → V i ≡ rhs tree i None V
     same_for_member i c l d f =
         member_now i c l d
         ∙ ap (λ b. Truth (cond b Y N)) (member_same i c (Sel c) (default_selection tree V c)
@@ -253,7 +253,7 @@ module _ (tree : TreeFacts) (user : UserPlace → Option GivenValue) (V : ℕ �
         ∙ sym (member_at tree (known_from tree V) i c None d)
 
     -- a member that differs is y, and without the user's n
-    member_other : (i c : ℕ) → i < symbol_count tree → user_place tree i ≡ ChoicePlace c → differs tree user V i ≡ true → V i ≡ rhs tree i None V → ⊥
+    member_other : (i c : ℕ) → i < name_count tree → user_place tree i ≡ ChoicePlace c → differs tree user V i ≡ true → V i ≡ rhs tree i None V → ⊥
     member_other i c l d t e =
         let both = and_parts (is_symbol_of (symbol i) (Sel c)) (not (is_symbol_of (symbol i) (default_selection tree V c))) (sym (differs-member i c d) ∙ t) in
         let now = member_now i c l d ∙ ap (λ b. Truth (cond b Y N)) both.0 in
@@ -261,7 +261,7 @@ module _ (tree : TreeFacts) (user : UserPlace → Option GivenValue) (V : ℕ �
         let z : Truth Y ≡ Truth N = sym now ∙ e ∙ then_ in
         cc
 
-    pub is_minimal : KeepsWhatDiffers (symbol_count tree) (user_place tree) (rhs tree) (minimal_line tree user V) V keep
+    pub is_minimal : KeepsWhatDiffers (name_count tree) (user_place tree) (rhs tree) (minimal_line tree user V) V keep
     is_minimal = record {
       given = λ i l t. fixed_of i l t;
       same = λ i l f.
@@ -282,7 +282,7 @@ module _ (tree : TreeFacts) (user : UserPlace → Option GivenValue) (V : ℕ �
           );
     }
       where
-        fixed_of : (i : ℕ) → i < symbol_count tree → keep (user_place tree i) ≡ true → V i ≡ rhs tree i (minimal_line tree user V (user_place tree i)) V
+        fixed_of : (i : ℕ) → i < name_count tree → keep (user_place tree i) ≡ true → V i ≡ rhs tree i (minimal_line tree user V (user_place tree i)) V
         fixed_of i l t =
             elim (place_cases tree i) [
               | inl at ↦

@@ -21,7 +21,7 @@ use Rattle.kc_user.specs.Places.{is_m, allowed_truth, allowed_text, allowed_by, 
 use Rattle.kc_tree.specs.Common.{is_symbol_of}
 use Rattle.kc_values.specs.Values.{is_n, upgrade}
 use Rattle.kc_values.specs.Solution as sol
-use Rattle.kc_values.specs.Solution.{symbol_count, known_from, rhs, equations}
+use Rattle.kc_values.specs.Solution.{name_count, known_from, rhs, equations}
 use Rattle.kc_values.specs.WrittenSymbols as ls
 use Rattle.kc_values.specs.WrittenSymbols.{above}
 use Rattle.kc_values.specs.Differs.{given_of, changes_on_reread}
@@ -277,7 +277,7 @@ missing : {X : Type 0} (p : X → Bool) (xs : List X) (y : X) → find p xs ≡ 
 missing p [] y e c = absurd (omega (arith, c.1))
 missing p (x ∷ xs) y e c = missing_at p (p x) x y xs refl (missing p xs y) e c
 
-module _ (tree : TreeFacts) (user : UserPlace → Option GivenValue) (V : ℕ → SymbolValue) (theirs : MembersAreTheirs tree) (solves : Solves (symbol_count tree) (equations tree user) V) where
+module _ (tree : TreeFacts) (user : UserPlace → Option GivenValue) (V : ℕ → SymbolValue) (theirs : MembersAreTheirs tree) (solves : Solves (name_count tree) (equations tree user) V) where
   abbrev K : SymId → SymbolValue
   K = known_from tree V
 
@@ -315,7 +315,7 @@ module _ (tree : TreeFacts) (user : UserPlace → Option GivenValue) (V : ℕ �
       absurd (true≢false (sym (and_from (ls.written tree K m) (is_yes (given_of (V m.0))) w y) ∙ missing Wrote f.members m (sym (ap (λ o. find Wrote (members_of o)) at.1) ∙ d) at.2))
   again_to c r (Some x) e d = found_one c r x (choice_at tree c) refl e d
 
-  one_keeps : AllowedPlaces tree user → (i : ℕ) → i < symbol_count tree → Keeps (V i) (equations tree (reread_places tree V) i V) (changes_on_reread tree V i)
+  one_keeps : AllowedPlaces tree user → (i : ℕ) → i < name_count tree → Keeps (V i) (equations tree (reread_places tree V) i V) (changes_on_reread tree V i)
   one_keeps given i l =
       elim (place_cases tree i) [
         | inl at ↦

@@ -9,6 +9,7 @@ pub mod FixedLines
 pub mod IdempotentLines
 pub mod DifferingLines
 pub mod ModeLaws
+pub mod DefinedNeeds
 pub mod Trees
 pub mod WorkedRows
 pub mod NumberRows

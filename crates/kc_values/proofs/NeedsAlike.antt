@@ -25,7 +25,7 @@ use Rattle.kc_tree.specs.declared.layout.Layout.{Layout}
 use Rattle.kc_tree.specs.declared.rows.Choice.{Choice}
 use Rattle.kc_tree.specs.declared.rows.ChoiceId.{ChoiceId}
 use Rattle.kc_tree.specs.declared.rows.EntryPrompt.{EntryPrompt}
-use Rattle.kc_values.specs.Lookups.{choice_at, facts, is_defined}
+use Rattle.kc_values.specs.Lookups.{choice_at, facts, is_mentioned}
 use Rattle.kc_values.specs.NeedRows as rows
 use Rattle.kc_values.specs.NeedRows.{AreNodeRows, IsContextRow, of_top, of_inner}
 use Rattle.kc_values.specs.MadeRows.{AreChoicesThere}
@@ -53,20 +53,20 @@ module _ (tree : TreeFacts) (l : Layout) (laid : IsLayoutOf tree l) (g : Nodes) 
       ap (stands v) (group_stands g is t (omega (arith, made.symbols_are)) (omega (arith, made.count)))
       ∙ any_flat (λ m. m == v) (stands_for g.symbols (groups_of g)) (needs_in g.rows t)
 
-  -- of names those that are defined
-  of_names : (ss : List SymId) → list_any st (rows.defined l ss) ≡ names tree l v ss
+  -- of names the symbols
+  of_names : (ss : List SymId) → list_any st (rows.numbers l ss) ≡ names tree l v ss
   of_names ss =
-      let defined = λ (s : SymId). nat_lt s.0 (length l.symbols.items) in
-      any_map st (λ (s : SymId). s.0) (filter defined ss)
-      ∙ any_filter (λ (s : SymId). st s.0) defined ss
-      ∙ any_same (λ (s : SymId). defined s && st s.0) (hit tree l v) (λ s. one s.0 (nat_lt s.0 (length l.symbols.items)) refl) ss
+      let there = λ (s : SymId). nat_lt s.0 (length l.symbols.items) in
+      any_map st (λ (s : SymId). s.0) (filter there ss)
+      ∙ any_filter (λ (s : SymId). st s.0) there ss
+      ∙ any_same (λ (s : SymId). there s && st s.0) (hit tree l v) (λ s. one s.0 (nat_lt s.0 (length l.symbols.items)) refl) ss
     where
       one : (k : ℕ) (b : Bool) → nat_lt k (length l.symbols.items) ≡ b → (b && st k) ≡ (b && (k == v))
       one k false e = refl
       one k true e = of_symbol k (ltb-true k (length l.symbols.items) e)
 
-  of_row : (ns : List ℕ) (ss : List SymId) → list_any st (ns ++ rows.defined l ss) ≡ (list_any st ns || names tree l v ss)
-  of_row ns ss = list_any-append st ns (rows.defined l ss) ∙ ap (λ b. list_any st ns || b) (of_names ss)
+  of_row : (ns : List ℕ) (ss : List SymId) → list_any st (ns ++ rows.numbers l ss) ≡ (list_any st ns || names tree l v ss)
+  of_row ns ss = list_any-append st ns (rows.numbers l ss) ∙ ap (λ b. list_any st ns || b) (of_names ss)
 
   -- contexts below a bound stand for what their conditions name
   abbrev pub ContextsStand : ℕ → Type 0
@@ -192,11 +192,11 @@ module _ (tree : TreeFacts) (l : Layout) (laid : IsLayoutOf tree l) (g : Nodes) 
         ∙ any_flat (λ m. m == v) (stands_for g.symbols (groups_of g)) (needs_in g.rows i)
         ∙ symbol_stands i b
 
-  numbers_seen : (ss : List SymId) → stands v (map (λ (s : SymId). s.0) (filter (is_defined tree) ss)) ≡ names tree l v ss
+  numbers_seen : (ss : List SymId) → stands v (map (λ (s : SymId). s.0) (filter (is_mentioned tree) ss)) ≡ names tree l v ss
   numbers_seen ss =
-      any_map (λ m. m == v) (λ (s : SymId). s.0) (filter (is_defined tree) ss)
-      ∙ any_filter (λ (s : SymId). s.0 == v) (is_defined tree) ss
-      ∙ any_same (λ s. is_defined tree s && (s.0 == v)) (hit tree l v) (λ s. ap (λ k. nat_lt s.0 k && (s.0 == v)) (symbols_count tree l laid)) ss
+      any_map (λ m. m == v) (λ (s : SymId). s.0) (filter (is_mentioned tree) ss)
+      ∙ any_filter (λ (s : SymId). s.0 == v) (is_mentioned tree) ss
+      ∙ any_same (λ s. is_mentioned tree s && (s.0 == v)) (hit tree l v) (λ s. ap (λ k. nat_lt s.0 k && (s.0 == v)) (symbols_count tree l laid)) ss
 
   module _ (there : AreChoicesThere l) (i : ℕ) where
     onward : Contains (needs_in (needs_of g) i) v → Contains (needs_in (spec.needs tree) i) v
@@ -204,7 +204,7 @@ module _ (tree : TreeFacts) (l : Layout) (laid : IsLayoutOf tree l) (g : Nodes) 
         elim (cases_lt i (length l.symbols.items)) [
           | inl b ↦
               let ss = spec.names_of tree (facts tree (symbol i)) in
-              let numbers = map (λ (s : SymId). s.0) (filter (is_defined tree) ss) in
+              let numbers = map (λ (s : SymId). s.0) (filter (is_mentioned tree) ss) in
               let seen = numbers_seen ss ∙ sym (graph_needs there i b) ∙ in_stands v (needs_in (needs_of g) i) c in
               subst (λ row. Contains row v) (sym (needs_at tree i)) (stands_in v numbers seen)
           | inr b ↦ absurd (let e = ap length (get_or_past (needs_of g) i [] (omega (arith, needs_count g is, made.symbols_are))) in let h = c.1 in omega (arith, e, h))
@@ -215,7 +215,7 @@ module _ (tree : TreeFacts) (l : Layout) (laid : IsLayoutOf tree l) (g : Nodes) 
         elim (cases_lt i (length l.symbols.items)) [
           | inl b ↦
               let ss = spec.names_of tree (facts tree (symbol i)) in
-              let numbers = map (λ (s : SymId). s.0) (filter (is_defined tree) ss) in
+              let numbers = map (λ (s : SymId). s.0) (filter (is_mentioned tree) ss) in
               let there' = subst (λ row. Contains row v) (needs_at tree i) c in
               stands_in v (needs_in (needs_of g) i) (graph_needs there i b ∙ sym (numbers_seen ss) ∙ in_stands v numbers there')
           | inr b ↦ absurd (let e = ap length (get_or_past (spec.needs tree) i [] (omega (arith, needs_length tree, symbols_count tree l laid))) in let h = c.1 in omega (arith, e, h))

@@ -77,7 +77,7 @@ module _ (l : Layout) (b m : ℕ) (fits : length l.symbols.items + m ≤ b) wher
   prompt_below (Some p) h = context_below p.visible.0 (h p refl)
 
   -- the names are symbols
-  names_below : (ss : List SymId) → none b (rows.defined l ss)
+  names_below : (ss : List SymId) → none b (rows.numbers l ss)
   names_below ss =
       let number = λ (s : SymId). s.0 in
       any_map (far b) number (filter (λ (s : SymId). nat_lt s.0 (length l.symbols.items)) ss)
@@ -98,9 +98,9 @@ module _ (l : Layout) (b m : ℕ) (fits : length l.symbols.items + m ≤ b) wher
   mode_below (Some c) h = let there = h c refl in choice_prompt_below c there.0 there.1
 
   pub asked_below : (c : Context) → c.outer.0 < m → ((k : Choice) → rows.choice_row l c.mode ≡ Some k → (k.within.0 < m) × ((p : EntryPrompt) → k.prompt ≡ Some p → p.visible.0 < m)) →
-      none b (rows.context_row_nodes l c ++ rows.defined l (rows.context_row_names l c))
+      none b (rows.context_row_nodes l c ++ rows.numbers l (rows.context_row_names l c))
   asked_below c outer h =
-      none_both b (rows.context_row_nodes l c) (rows.defined l (rows.context_row_names l c))
+      none_both b (rows.context_row_nodes l c) (rows.numbers l (rows.context_row_names l c))
       (none_both b (rows.context_nodes l c.outer.0) (cond (is_some c.own_condition) [] (rows.mode_nodes l c.mode)) (context_below c.outer.0 outer)
       (none_unless b (is_some c.own_condition) (rows.mode_nodes l c.mode) (mode_below (rows.choice_row l c.mode) h)))
       (names_below (rows.context_row_names l c))
@@ -156,13 +156,13 @@ module _ (l : Layout) (b : ℕ) (fits : length l.symbols.items + length l.tables
   by_choice_below i s None h = kind_below i s s.kind
   by_choice_below i s (Some k) h = ap (λ x. x || false) (near b (choice_number l k.0) (h k refl))
 
-  pub symbol_below : (i : ℕ) (s : Symbol) (ss : List SymId) → ((k : ChoiceId) → s.choice ≡ Some k → choice_number l k.0 < b) → none b (rows.symbol_nodes l i s ++ rows.defined l ss)
-  symbol_below i s ss h = none_both b (rows.symbol_nodes l i s) (rows.defined l ss) (by_choice_below i s s.choice h) (names_below l b (length l.tables.contexts) fits ss)
+  pub symbol_below : (i : ℕ) (s : Symbol) (ss : List SymId) → ((k : ChoiceId) → s.choice ≡ Some k → choice_number l k.0 < b) → none b (rows.symbol_nodes l i s ++ rows.numbers l ss)
+  symbol_below i s ss h = none_both b (rows.symbol_nodes l i s) (rows.numbers l ss) (by_choice_below i s s.choice h) (names_below l b (length l.tables.contexts) fits ss)
 
   pub choice_below : (k : ℕ) (c : Choice) → slice_get l.tables.choices.items k ≡ Some c → none b (rows.choice_row_of l c)
   choice_below k c e =
       let within = l.tables.choices_within k c e in
-      none_both b (rows.choice_nodes l c) (rows.defined l (rows.choice_names l c))
+      none_both b (rows.choice_nodes l c) (rows.numbers l (rows.choice_names l c))
       (none_both b (rows.members_nodes l c.members.items ++ rows.choice_prompt_nodes l c) (rows.choice_defaults_nodes l c)
       (none_both b (rows.members_nodes l c.members.items) (rows.choice_prompt_nodes l c)
       (none_found b (rows.prompts_nodes l) (rows.member_row l) (λ s row f. prompts_below (definition_ids row)) c.members.items)

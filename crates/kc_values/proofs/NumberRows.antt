@@ -5,7 +5,7 @@ use Rattle.std.specs.Fmt.{digits}
 use Rattle.kc_text.specs.Numbers.{natural_of}
 use Rattle.kc_text.specs.declared.tokens.Op.TheVariants.{Gt, Lt, Eq}
 use Rattle.kc_expr.specs.declared.expression.Tri.TheVariants.{N, Y}
-use Rattle.kc_expr.specs.declared.expression.Kind.TheVariants.{Bool as IsBool, Str, Int, Hex}
+use Rattle.kc_expr.specs.declared.expression.Kind.TheVariants.{Undefined, Bool as IsBool, Str, Int, Hex}
 use Rattle.kc_expr.specs.Form.{Form, Related, Negated, Text, Symbol}
 use Rattle.kc_expr.specs.Names.{symbol}
 use Rattle.kc_expr.specs.Value.{SymbolValue, Truth, TextValue}
@@ -76,6 +76,10 @@ hex_over : warned hex_ranged (at_place (Some (GivenText (codes "20")) ∷ [])) (
 unfolding natural_of digits
 hex_over = refl
 
+-- the values of I and of FOO, which is not defined
+abbrev I_and_FOO : List ℕ → List SymbolValue
+I_and_FOO t = TextValue Int t ∷ (TextValue Undefined (codes "FOO") ∷ [])
+
 -- What is no number counts as 0, and is clamped to the nearer bound.
 abbrev below_zero : Form → TreeFacts
 below_zero d =
@@ -83,19 +87,19 @@ below_zero d =
     (record (plain Int (always ∷ []) (line d ∷ [])) { ranges = from_to (Text (codes "-5")) (Text (codes "-2")) ∷ [] } ∷ [])
     [] None
 
-word_clamped : given_by (below_zero (named 1)) nothing (TextValue Int (codes "-2") ∷ []) ≡ TextValue Int (codes "-2") ∷ []
+word_clamped : given_by (below_zero (named 1)) nothing (I_and_FOO (codes "-2")) ≡ I_and_FOO (codes "-2")
 unfolding natural_of digits
 word_clamped = refl
 
-word_warned : warned (below_zero (named 1)) nothing (TextValue Int (codes "-2") ∷ []) ≡ codes "warning K13: default FOO of I is outside -5 to -2, -2 is used" ∷ []
+word_warned : warned (below_zero (named 1)) nothing (I_and_FOO (codes "-2")) ≡ codes "warning K13: default FOO of I is outside -5 to -2, -2 is used" ∷ []
 unfolding natural_of digits
 word_warned = refl
 
-low_clamped : given_by (below_zero (constant (codes "-9"))) nothing (TextValue Int (codes "-5") ∷ []) ≡ TextValue Int (codes "-5") ∷ []
+low_clamped : given_by (below_zero (constant (codes "-9"))) nothing (I_and_FOO (codes "-5")) ≡ I_and_FOO (codes "-5")
 unfolding natural_of digits
 low_clamped = refl
 
-low_warned : warned (below_zero (constant (codes "-9"))) nothing (TextValue Int (codes "-5") ∷ []) ≡ codes "warning K13: default -9 of I is outside -5 to -2, -5 is used" ∷ []
+low_warned : warned (below_zero (constant (codes "-9"))) nothing (I_and_FOO (codes "-5")) ≡ codes "warning K13: default -9 of I is outside -5 to -2, -5 is used" ∷ []
 unfolding natural_of digits
 low_warned = refl
 
@@ -103,20 +107,20 @@ low_warned = refl
 abbrev with_range : List ℕ → List ℕ → SymbolFacts → TreeFacts
 with_range a b f = tree (codes "I" ∷ (codes "FOO" ∷ [])) (record f { ranges = from_to (Text a) (Text b) ∷ [] } ∷ []) [] None
 
-keeps_word : given_by (with_range (codes "-5") (codes "5") (plain Int (always ∷ []) (line (named 1) ∷ []))) nothing (TextValue Int (codes "FOO") ∷ []) ≡ TextValue Int (codes "FOO") ∷ []
+keeps_word : given_by (with_range (codes "-5") (codes "5") (plain Int (always ∷ []) (line (named 1) ∷ []))) nothing (I_and_FOO (codes "FOO")) ≡ I_and_FOO (codes "FOO")
 unfolding natural_of digits
 keeps_word = refl
 
-keeps_empty : given_by (with_range (codes "0") (codes "9") (plain Int (always ∷ []) [])) nothing (TextValue Int [] ∷ []) ≡ TextValue Int [] ∷ []
+keeps_empty : given_by (with_range (codes "0") (codes "9") (plain Int (always ∷ []) [])) nothing (I_and_FOO []) ≡ I_and_FOO []
 unfolding natural_of digits
 keeps_empty = refl
 
 -- A low bound above the high one: below the low goes first.
-turned_low : given_by (with_range (codes "10") (codes "5") (plain Int (always ∷ []) (line (constant (codes "7")) ∷ []))) nothing (TextValue Int (codes "10") ∷ []) ≡ TextValue Int (codes "10") ∷ []
+turned_low : given_by (with_range (codes "10") (codes "5") (plain Int (always ∷ []) (line (constant (codes "7")) ∷ []))) nothing (I_and_FOO (codes "10")) ≡ I_and_FOO (codes "10")
 unfolding natural_of digits
 turned_low = refl
 
-turned_high : given_by (with_range (codes "10") (codes "5") (plain Int (always ∷ []) (line (constant (codes "11")) ∷ []))) nothing (TextValue Int (codes "5") ∷ []) ≡ TextValue Int (codes "5") ∷ []
+turned_high : given_by (with_range (codes "10") (codes "5") (plain Int (always ∷ []) (line (constant (codes "11")) ∷ []))) nothing (I_and_FOO (codes "5")) ≡ I_and_FOO (codes "5")
 unfolding natural_of digits
 turned_high = refl
 
@@ -133,13 +137,13 @@ relations =
     [] None
 
 abbrev relations_V : List SymbolValue
-relations_V = TextValue Int (codes "10") ∷ (TextValue Str (codes "FOO") ∷ (Truth Y ∷ (Truth N ∷ (Truth Y ∷ (Truth Y ∷ [])))))
+relations_V = TextValue Int (codes "10") ∷ (TextValue Str (codes "FOO") ∷ (Truth Y ∷ (Truth N ∷ (Truth Y ∷ (Truth Y ∷ (TextValue Undefined (codes "FOO") ∷ []))))))
 
 relations_values : given_by relations nothing relations_V ≡ relations_V
 unfolding natural_of digits
 relations_values = refl
 
-relations_written : written_now relations nothing relations_V ≡ true ∷ (true ∷ (true ∷ (false ∷ (true ∷ (true ∷ [])))))
+relations_written : written_now relations nothing relations_V ≡ true ∷ (true ∷ (true ∷ (false ∷ (true ∷ (true ∷ (false ∷ []))))))
 unfolding natural_of digits
 relations_written = refl
 

@@ -13,7 +13,7 @@ use Rattle.kc_expr.specs.Value.{SymbolValue, Truth, TextValue, value, text, leas
 use Rattle.kc_tree.specs.TreeFacts.{Condition, Guarded, Bounds, SymbolFacts, ChoiceFacts, TreeFacts}
 use Rattle.kc_expr.specs.Names.{symbol, same_symbol}
 use Rattle.kc_values.specs.declared.numbers.Interval.{Interval}
-use Rattle.kc_values.specs.Lookups.{facts, name, choice_at, is_defined}
+use Rattle.kc_values.specs.Lookups.{facts, name, choice_at, is_mentioned}
 use Rattle.kc_values.specs.Numbers.{number_or_zero}
 use Rattle.kc_values.specs.Values as v
 use Rattle.kc_user.specs.GivenValue.{GivenValue, GivenTruth, GivenText, Member, UserPlace}
@@ -299,10 +299,10 @@ module _ (law : DependsOnSymbols) (tree : TreeFacts) (k l : SymId → SymbolValu
   same_equation s None user h = refl
   same_equation s (Some f) user h = same_by_choice s f f.choice user h
 
--- names that are not defined are known alike
-seen_defined : (b : Bool) (x y u : SymbolValue) → (b ≡ true → x ≡ y) → cond b x u ≡ cond b y u
-seen_defined true x y u h = h refl
-seen_defined false x y u h = refl
+-- past the last symbol all is known alike
+seen_mentioned : (b : Bool) (x y u : SymbolValue) → (b ≡ true → x ≡ y) → cond b x u ≡ cond b y u
+seen_mentioned true x y u h = h refl
+seen_mentioned false x y u h = refl
 
 -- the numbers of what passes
 kept_first : {X : Type 0} (g : X → ℕ) (b : Bool) (x : X) (r : List X) → b ≡ true → Contains (map g (cond b (x ∷ r) r)) (g x)
@@ -315,17 +315,17 @@ kept_more g true x t r c = (suc c.0, omega (arith, c.1), c.2)
 
 module _ (tree : TreeFacts) (V W : ℕ → SymbolValue) where
   abbrev numbers : List SymId → List ℕ
-  numbers all = map (λ (s : SymId). s.0) (filter (is_defined tree) all)
+  numbers all = map (λ (s : SymId). s.0) (filter (is_mentioned tree) all)
 
   seen_alike : (all : List SymId) → ((t : ℕ) → Contains (numbers all) t → V t ≡ W t) → AllByRecursion (λ s. known_from tree V s ≡ known_from tree W s) all
   seen_alike [] h = tt
   seen_alike (s ∷ all) h =
       let number = λ (x : SymId). x.0 in (
-        seen_defined (is_defined tree s) (V s.0) (W s.0) (TextValue Undefined (name tree s)) (λ d. h s.0 (kept_first number (is_defined tree s) s (filter (is_defined tree) all) d)),
-        seen_alike all (λ t i. h t (kept_more number (is_defined tree s) s t (filter (is_defined tree) all) i)),
+        seen_mentioned (is_mentioned tree s) (V s.0) (W s.0) (TextValue Undefined (name tree s)) (λ d. h s.0 (kept_first number (is_mentioned tree s) s (filter (is_mentioned tree) all) d)),
+        seen_alike all (λ t i. h t (kept_more number (is_mentioned tree s) s t (filter (is_mentioned tree) all) i)),
       )
 
-  pub same_seen : (all : List SymId) → ((t : ℕ) → Contains (n.defined_numbers tree all) t → V t ≡ W t) → AllByRecursion (λ s. known_from tree V s ≡ known_from tree W s) all
+  pub same_seen : (all : List SymId) → ((t : ℕ) → Contains (n.mentioned_numbers tree all) t → V t ≡ W t) → AllByRecursion (λ s. known_from tree V s ≡ known_from tree W s) all
   same_seen all h = seen_alike all h
 
 pub reads_needs : DependsOnSymbols → (tree : TreeFacts) (user : UserPlace → Option GivenValue) → ReadsNeeds (needs_of tree) (equations tree user)

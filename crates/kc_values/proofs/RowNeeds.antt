@@ -76,7 +76,7 @@ any_four t n a p q r (x ∷ xs) =
     regroup t n a p q r b c d e = grind arith
 
 module _ (tree : TreeFacts) (l : Layout) (v : ℕ) where
-  -- a name is that of the defined symbol v
+  -- a name is that of the symbol v
   abbrev pub hit : SymId → Bool
   hit s = nat_lt s.0 (length l.symbols.items) && (s.0 == v)
 

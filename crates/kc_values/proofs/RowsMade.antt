@@ -22,7 +22,7 @@ numbers n names = map (λ (s : SymId). s.0) (filter (λ (s : SymId). nat_lt s.0 
 
 -- a row that was empty and holds these
 pub closed : (l : Layout) (n : ℕ) (nodes : List ℕ) (names : List SymId) (old row : NeedRow) → n ≡ length l.symbols.items → IsRow [] [] old → Adds old row nodes names →
-    row_of n row ≡ nodes ++ rows.defined l names
+    row_of n row ≡ nodes ++ rows.numbers l names
 closed l n nodes names old row e empty adds =
     let a : row.nodes.items ≡ nodes = adds.nodes_are ∙ ap (λ x. x ++ nodes) empty.nodes_are in
     let b : row.names.items ≡ names = adds.names_are ∙ ap (λ x. x ++ names) empty.names_are in

@@ -10,11 +10,11 @@ use Rattle.kc_expr.specs.declared.expression.SymId.{SymId}
 use Rattle.kc_order.specs.Needs.{needs_in, AreWithin, NeedsBelow, NothingUnordered, IsAccepted}
 use Rattle.kc_order.specs.Solution.{ReadsNeeds}
 use Rattle.kc_tree.specs.TreeFacts.{TreeFacts}
-use Rattle.kc_values.specs.Lookups.{is_defined}
+use Rattle.kc_values.specs.Lookups.{is_mentioned}
 use Rattle.kc_user.specs.GivenValue.{UserPlace, GivenValue}
-use Rattle.kc_values.specs.Solution.{symbol_count, equations}
+use Rattle.kc_values.specs.Solution.{name_count, equations}
 use Rattle.kc_expr.specs.Names.{same_symbol}
-use Rattle.kc_values.specs.Needs.{needs, needs_of, names_of, defined_numbers}
+use Rattle.kc_values.specs.Needs.{needs, needs_of, names_of, mentioned_numbers}
 use Rattle.kc_values.proofs.Same.{same_symbol-true}
 use Rattle.kc_values.proofs.OnlyNamed.{reads_needs}
 
@@ -24,38 +24,38 @@ within_kept p g false x n t r e here more c = more c
 within_kept p g true x n t r e here more (zero, l, i) = let h : g x < n = here e in rw i at h
 within_kept p g true x n t r e here more (suc m, l, i) = more (m, omega arith, i)
 
-numbers_below : (tree : TreeFacts) (ss : List SymId) (t : ℕ) → Contains (map (λ (s : SymId). s.0) (filter (is_defined tree) ss)) t → t < symbol_count tree
+numbers_below : (tree : TreeFacts) (ss : List SymId) (t : ℕ) → Contains (map (λ (s : SymId). s.0) (filter (is_mentioned tree) ss)) t → t < name_count tree
 numbers_below tree [] t c = absurd (omega (arith, c.1))
 numbers_below tree (s ∷ ss) t c =
-    within_kept (is_defined tree) (λ (x : SymId). x.0) (is_defined tree s) s (symbol_count tree) t (filter (is_defined tree) ss) refl
-    (λ d. ltb-true s.0 (symbol_count tree) d) (numbers_below tree ss t) c
+    within_kept (is_mentioned tree) (λ (x : SymId). x.0) (is_mentioned tree s) s (name_count tree) t (filter (is_mentioned tree) ss) refl
+    (λ d. ltb-true s.0 (name_count tree) d) (numbers_below tree ss t) c
 
-pub defined_below : (tree : TreeFacts) (ss : List SymId) (t : ℕ) → Contains (defined_numbers tree ss) t → t < symbol_count tree
-defined_below tree ss t c = numbers_below tree ss t c
+pub mentioned_below : (tree : TreeFacts) (ss : List SymId) (t : ℕ) → Contains (mentioned_numbers tree ss) t → t < name_count tree
+mentioned_below tree ss t c = numbers_below tree ss t c
 
-pub needs_length : (tree : TreeFacts) → length (needs tree) ≡ symbol_count tree
-needs_length tree = length-map-range_with_len (needs_of tree) 0 (symbol_count tree)
+pub needs_length : (tree : TreeFacts) → length (needs tree) ≡ name_count tree
+needs_length tree = length-map-range_with_len (needs_of tree) 0 (name_count tree)
 
-past_needs : (tree : TreeFacts) (i : ℕ) → symbol_count tree ≤ i → needs_of tree i ≡ []
-past_needs tree i l = ap (λ f. defined_numbers tree (names_of tree f)) (slice_get_past tree.symbols i l)
+past_needs : (tree : TreeFacts) (i : ℕ) → name_count tree ≤ i → needs_of tree i ≡ []
+past_needs tree i l = ap (λ f. mentioned_numbers tree (names_of tree f)) (slice_get_past tree.symbols i l)
 
 -- the row of a symbol is what it needs
 pub needs_at : (tree : TreeFacts) (i : ℕ) → needs_in (needs tree) i ≡ needs_of tree i
 needs_at tree i =
-    elim (cases_lt i (symbol_count tree)) [
+    elim (cases_lt i (name_count tree)) [
       | inr l ↦ get_or_past (needs tree) i [] (omega (arith, needs_length tree)) ∙ sym (past_needs tree i l)
-      | inl l ↦ get_or-map-range_with_len (needs_of tree) 0 (symbol_count tree) i i [] l (omega arith)
+      | inl l ↦ get_or-map-range_with_len (needs_of tree) 0 (name_count tree) i i [] l (omega arith)
     ]
 
 pub needs_within : (tree : TreeFacts) → AreWithin (needs tree)
 needs_within tree s t l c =
-    let d : t < symbol_count tree = defined_below tree _ t (subst (λ row. Contains row t) (needs_at tree s) c) in
+    let d : t < name_count tree = mentioned_below tree _ t (subst (λ row. Contains row t) (needs_at tree s) c) in
     omega (arith, d, needs_length tree)
 
-pub below_count : (tree : TreeFacts) → AreWithin (needs tree) → NeedsBelow (symbol_count tree) (needs_in (needs tree))
+pub below_count : (tree : TreeFacts) → AreWithin (needs tree) → NeedsBelow (name_count tree) (needs_in (needs tree))
 below_count tree within = subst (λ n. NeedsBelow n (needs_in (needs tree))) (needs_length tree) within
 
-pub free_count : (tree : TreeFacts) → IsAccepted (needs tree) → NothingUnordered (symbol_count tree) (needs_in (needs tree))
+pub free_count : (tree : TreeFacts) → IsAccepted (needs tree) → NothingUnordered (name_count tree) (needs_in (needs tree))
 free_count tree free = subst (λ n. NothingUnordered n (needs_in (needs tree))) (needs_length tree) free
 
 pub reads_rows : DependsOnSymbols → (tree : TreeFacts) (user : UserPlace → Option GivenValue) → ReadsNeeds (needs_in (needs tree)) (equations tree user)

@@ -5,7 +5,7 @@ use Rattle.std.specs.List.{range_with_len}
 use Rattle.kc_expr.specs.declared.expression.SymId.{SymId}
 use Rattle.kc_expr.specs.declared.expression.Tri.TheVariants.{N}
 use Rattle.kc_expr.specs.declared.expression.Kind.{Kind}
-use Rattle.kc_expr.specs.declared.expression.Kind.TheVariants.{Bool as IsBool}
+use Rattle.kc_expr.specs.declared.expression.Kind.TheVariants.{Undefined, Bool as IsBool}
 use Rattle.kc_expr.specs.Form.{Form, Leaf, Single, Text, Symbol}
 use Rattle.kc_expr.specs.Names.{symbol}
 use Rattle.kc_expr.specs.Value.{SymbolValue, Truth}
@@ -49,8 +49,28 @@ plain k ps ds = record { kind = k; choice = None; dependencies = always ∷ []; 
 abbrev pub member : List Condition → SymbolFacts
 member ps = record { kind = IsBool; choice = Some 0; dependencies = in_choice [] ∷ []; prompts = ps; defaults = []; ranges = []; selectors = []; impliers = [] }
 
+-- of a name that is mentioned and not defined
+abbrev pub mentioned : SymbolFacts
+mentioned = record (plain Undefined [] []) { dependencies = [] }
+
+-- the first names have these facts, the others are only mentioned
+abbrev pub symbols_for : List (List ℕ) → List SymbolFacts → List SymbolFacts
+symbols_for ns [] = map (λ n. mentioned) ns
+symbols_for [] (f ∷ fs) = []
+symbols_for (n ∷ ns) (f ∷ fs) = f ∷ symbols_for ns fs
+
+-- the first names are defined, in their order
 abbrev pub tree : List (List ℕ) → List SymbolFacts → List ChoiceFacts → Option SymId → TreeFacts
-tree ns ss cs m = record { names = ns; symbols = ss; choices = cs; entries = []; warnings = []; main_menu = []; modules = m }
+tree ns ss cs m = record {
+  names = ns;
+  symbols = symbols_for ns ss;
+  defined = map symbol (range_with_len 0 (length ss));
+  choices = cs;
+  entries = [];
+  warnings = [];
+  main_menu = [];
+  modules = m;
+}
 
 -- nothing was given
 abbrev pub nothing : UserPlace → Option GivenValue

@@ -8,15 +8,15 @@ use Rattle.kc_user.specs.GivenValue.{GivenValue, Member, UserPlace, SymbolPlace,
 use Rattle.kc_user.specs.Places.{allowed, members_of}
 use Rattle.kc_values.specs.Differs.{differs, given_of, selection}
 use Rattle.kc_values.specs.Lookups.{choice_at}
-use Rattle.kc_values.specs.Solution.{symbol_count, known_from, user_place}
+use Rattle.kc_values.specs.Solution.{name_count, known_from, user_place}
 use Rattle.kc_values.specs.WrittenSymbols.{written}
 
 -- Under the user's places and values V.
 module _ (tree : TreeFacts) (user : UserPlace → Option GivenValue) (V : ℕ → SymbolValue) where
   -- a test that tells exactly the places of the symbols that differ
   pub record TellsDiffering (keep : UserPlace → Bool) : Type 0 where
-    pub differing : (p : UserPlace) → keep p ≡ true → (i : ℕ) × (i < symbol_count tree) × (user_place tree i ≡ p) × (differs tree user V i ≡ true)
-    pub every : (i : ℕ) → i < symbol_count tree → differs tree user V i ≡ true → keep (user_place tree i) ≡ true
+    pub differing : (p : UserPlace) → keep p ≡ true → (i : ℕ) × (i < name_count tree) × (user_place tree i ≡ p) × (differs tree user V i ≡ true)
+    pub every : (i : ℕ) → i < name_count tree → differs tree user V i ≡ true → keep (user_place tree i) ≡ true
 
   -- the minimal file's lines: the values, and the selected members
   abbrev pub minimal_line : UserPlace → Option GivenValue

@@ -1,5 +1,5 @@
 -- Trusted: What holds of the equations of a tree.
-use Rattle.std.specs.Prelude.{◌≡◌, ℕ, ◌<◌, ◌↔◌, Option, Some, Bool, true, false, slice_get}
+use Rattle.std.specs.Prelude.{◌≡◌, ℕ, ◌<◌, ◌↔◌, map, Option, Some, Bool, true, false, slice_get}
 use Rattle.std.specs.Option.{option_map}
 use Rattle.kc_expr.specs.Value.{SymbolValue}
 use Rattle.kc_expr.specs.Names.{symbol}
@@ -7,6 +7,7 @@ use Rattle.kc_expr.specs.declared.expression.SymId.{SymId}
 use Rattle.kc_tree.specs.Layouts.{IsLayoutOf, facts_of}
 use Rattle.kc_tree.specs.TreeFacts.{Condition, ChoiceFacts, TreeFacts, IsWellFormed}
 use Rattle.kc_tree.specs.declared.layout.Layout.{Layout}
+use Rattle.kc_order.specs.Loop.{HoldsNeeding}
 use Rattle.kc_order.specs.Needs.{needs_in, AreWithin}
 use Rattle.kc_order.specs.Solution.{Solves, IsOnlySolution, HasOneSolution, ReadsNeeds}
 use Rattle.kc_order.specs.Minimal.{Restores, NothingCanGo}
@@ -15,7 +16,7 @@ use Rattle.kc_user.specs.GivenValue.{GivenValue, UserPlace}
 use Rattle.kc_user.specs.Places.{allowed, AllowedPlaces}
 use Rattle.kc_values.specs.Values.{prompt_value, condition}
 use Rattle.kc_values.specs.Needs.{IsAccepted, needs}
-use Rattle.kc_values.specs.Solution.{symbol_count, equations, rhs, user_place}
+use Rattle.kc_values.specs.Solution.{name_count, equations, rhs, user_place}
 use Rattle.kc_values.specs.Differs.{differs, given_of, changes_on_reread}
 use Rattle.kc_values.specs.GivenLines.{TellsDiffering, minimal_line, reread_places}
 
@@ -23,54 +24,58 @@ use Rattle.kc_values.specs.GivenLines.{TellsDiffering, minimal_line, reread_plac
 abbrev pub EquationsReadNeeds : Type 0
 EquationsReadNeeds = (tree : TreeFacts) (user : UserPlace → Option GivenValue) → ReadsNeeds (needs_in (needs tree)) (equations tree user)
 
--- Each need is the number of a defined symbol.
-abbrev pub NeedsAreDefined : Type 0
-NeedsAreDefined = (tree : TreeFacts) → AreWithin (needs tree)
+-- Each need is the number of a symbol.
+abbrev pub NeedsAreSymbols : Type 0
+NeedsAreSymbols = (tree : TreeFacts) → AreWithin (needs tree)
+
+-- Each symbol that needs one is defined.
+abbrev pub NeedingAreDefined : Type 0
+NeedingAreDefined = (tree : TreeFacts) → IsWellFormed tree → HoldsNeeding (map (λ (s : SymId). s.0) tree.defined) (needs tree)
 
 -- Every accepted tree has one solution, whatever the places.
 abbrev pub AcceptedHaveOneSolution : Type 0
 AcceptedHaveOneSolution =
-    (tree : TreeFacts) (user : UserPlace → Option GivenValue) → IsAccepted tree → HasOneSolution (symbol_count tree) (equations tree user)
+    (tree : TreeFacts) (user : UserPlace → Option GivenValue) → IsAccepted tree → HasOneSolution (name_count tree) (equations tree user)
 
--- Any two solutions agree at every defined symbol.
+-- Any two solutions agree at every symbol.
 abbrev pub SolutionsAgree : Type 0
 SolutionsAgree =
     (tree : TreeFacts) (user : UserPlace → Option GivenValue) → IsAccepted tree →
-    (V : ℕ → SymbolValue) → Solves (symbol_count tree) (equations tree user) V → IsOnlySolution (symbol_count tree) (equations tree user) V
+    (V : ℕ → SymbolValue) → Solves (name_count tree) (equations tree user) V → IsOnlySolution (name_count tree) (equations tree user) V
 
 -- The value of a symbol that differs is a fixed point of its own line: with that line it has it again.
 abbrev pub LinesAreFixed : Type 0
 LinesAreFixed =
-    (tree : TreeFacts) (user : UserPlace → Option GivenValue) (V : ℕ → SymbolValue) (i : ℕ) → i < symbol_count tree →
-    Solves (symbol_count tree) (equations tree user) V → differs tree user V i ≡ true → V i ≡ rhs tree i (minimal_line tree user V (user_place tree i)) V
+    (tree : TreeFacts) (user : UserPlace → Option GivenValue) (V : ℕ → SymbolValue) (i : ℕ) → i < name_count tree →
+    Solves (name_count tree) (equations tree user) V → differs tree user V i ≡ true → V i ≡ rhs tree i (minimal_line tree user V (user_place tree i)) V
 
 -- The lines of the symbols that differ give the values again, and no others.
 abbrev pub MinimalRestores : Type 0
 MinimalRestores =
     (tree : TreeFacts) (user : UserPlace → Option GivenValue) (V : ℕ → SymbolValue) (keep : UserPlace → Bool) →
-    IsAccepted tree → IsWellFormed tree → Solves (symbol_count tree) (equations tree user) V → TellsDiffering tree user V keep →
-    Restores (symbol_count tree) (user_place tree) (rhs tree) (minimal_line tree user V) V keep
+    IsAccepted tree → IsWellFormed tree → Solves (name_count tree) (equations tree user) V → TellsDiffering tree user V keep →
+    Restores (name_count tree) (user_place tree) (rhs tree) (minimal_line tree user V) V keep
 
 -- With any nonempty set of those lines left out, what solves is another valuation.
 abbrev pub MinimalHasNothingToSpare : Type 0
 MinimalHasNothingToSpare =
     (tree : TreeFacts) (user : UserPlace → Option GivenValue) (V : ℕ → SymbolValue) (keep : UserPlace → Bool) →
-    IsWellFormed tree → Solves (symbol_count tree) (equations tree user) V → TellsDiffering tree user V keep →
-    NothingCanGo (symbol_count tree) (user_place tree) (rhs tree) (minimal_line tree user V) V keep
+    IsWellFormed tree → Solves (name_count tree) (equations tree user) V → TellsDiffering tree user V keep →
+    NothingCanGo (name_count tree) (user_place tree) (rhs tree) (minimal_line tree user V) V keep
 
 -- The value of a symbol that differs is one that `allowed` accepts.
 abbrev pub DifferingAreAllowed : Type 0
 DifferingAreAllowed =
-    (tree : TreeFacts) (user : UserPlace → Option GivenValue) (V : ℕ → SymbolValue) (i : ℕ) → i < symbol_count tree →
-    IsWellFormed tree → AllowedPlaces tree user → Solves (symbol_count tree) (equations tree user) V →
+    (tree : TreeFacts) (user : UserPlace → Option GivenValue) (V : ℕ → SymbolValue) (i : ℕ) → i < name_count tree →
+    IsWellFormed tree → AllowedPlaces tree user → Solves (name_count tree) (equations tree user) V →
     differs tree user V i ≡ true → allowed tree (symbol i) (given_of (V i)) ≡ true
 
 -- With the written values as the user's, the values solve again exactly where no symbol changes on rereading.
 abbrev pub IdempotentWhere : Type 0
 IdempotentWhere =
     (tree : TreeFacts) (user : UserPlace → Option GivenValue) (V : ℕ → SymbolValue) →
-    IsWellFormed tree → AllowedPlaces tree user → Solves (symbol_count tree) (equations tree user) V →
-    Solves (symbol_count tree) (equations tree (reread_places tree V)) V ↔ ((i : ℕ) → i < symbol_count tree → changes_on_reread tree V i ≡ false)
+    IsWellFormed tree → AllowedPlaces tree user → Solves (name_count tree) (equations tree user) V →
+    Solves (name_count tree) (equations tree (reread_places tree V)) V ↔ ((i : ℕ) → i < name_count tree → changes_on_reread tree V i ≡ false)
 
 -- Choices don't nest: the prompt of a choice asks for no mode of another, so its mode is y exactly where its prompt is visible.
 abbrev pub ModeIsPromptCondition : Type 0

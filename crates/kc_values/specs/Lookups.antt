@@ -6,14 +6,14 @@ use Rattle.kc_expr.specs.declared.expression.SymId.{SymId}
 use Rattle.kc_tree.specs.Common.{name_by}
 use Rattle.kc_tree.specs.TreeFacts.{SymbolFacts, ChoiceFacts, TreeFacts}
 
--- the defined symbols have the first numbers
-abbrev pub is_defined : TreeFacts → SymId → Bool
-is_defined tree s = nat_lt s.0 (length tree.symbols)
+-- the tree mentions a symbol of this number
+abbrev pub is_mentioned : TreeFacts → SymId → Bool
+is_mentioned tree s = nat_lt s.0 (length tree.symbols)
 
 abbrev pub facts : TreeFacts → SymId → Option SymbolFacts
 facts tree s = slice_get tree.symbols s.0
 
--- the type of what has these facts; a name that is not defined has none
+-- the type that these facts give; none where there are no facts
 abbrev pub kind_in : Option SymbolFacts → Kind
 kind_in None = Undefined
 kind_in (Some f) = f.kind

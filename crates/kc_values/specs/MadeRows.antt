@@ -15,9 +15,9 @@ pub record IsRow (nodes : List ℕ) (names : List SymId) (row : NeedRow) : Type 
 abbrev pub Adds : NeedRow → NeedRow → List ℕ → List SymId → Type 0
 Adds old new nodes names = IsRow (old.nodes.items ++ nodes) (old.names.items ++ names) new
 
--- a row as it stands in the graph: the nodes, and of the names the symbols that are defined
+-- a row as it stands in the graph of so many symbols: the nodes, and the numbers of the symbols among the names
 abbrev pub row_of : ℕ → NeedRow → List ℕ
-row_of defined row = row.nodes.items ++ map (λ (s : SymId). s.0) (filter (λ (s : SymId). nat_lt s.0 defined) row.names.items)
+row_of count row = row.nodes.items ++ map (λ (s : SymId). s.0) (filter (λ (s : SymId). nat_lt s.0 count) row.names.items)
 
 -- the choices of members are there
 abbrev pub AreChoicesThere : Layout → Type 0

@@ -5,13 +5,13 @@ use Rattle.kc_expr.specs.declared.expression.SymId.{SymId}
 use Rattle.kc_expr.specs.declared.expression.Kind.TheVariants.{Bool as IsBool}
 use Rattle.kc_tree.specs.TreeFacts.{ChoiceFacts, SymbolFacts, TreeFacts}
 use Rattle.kc_values.specs.Lookups.{choice_at, facts}
-use Rattle.kc_values.specs.Solution.{symbol_count}
+use Rattle.kc_values.specs.Solution.{name_count}
 
 -- a member of a choice is a symbol of that choice
 abbrev pub MembersAreTheirs : TreeFacts → Type 0
 MembersAreTheirs tree =
     (c : ℕ) (f : ChoiceFacts) (m : SymId) → choice_at tree c ≡ Some f → Contains f.members m →
-    (m.0 < symbol_count tree) × ((g : SymbolFacts) × (facts tree m ≡ Some g) × (g.choice ≡ Some c))
+    (m.0 < name_count tree) × ((g : SymbolFacts) × (facts tree m ≡ Some g) × (g.choice ≡ Some c))
 
 -- a symbol of a choice is a bool
 abbrev pub MembersAreBools : TreeFacts → Type 0

@@ -225,12 +225,13 @@ module _ (l : Layout) where
   abbrev pub choice_names : Choice → List SymId
   choice_names c = members_names c.members.items ++ prompt_names l.modules c.prompt ++ flat_map (choice_default_names l.modules) c.defaults.items
 
-  -- the rows of contexts and choices
-  abbrev pub defined : List SymId → List ℕ
-  defined names = map (λ (s : SymId). s.0) (filter (λ (s : SymId). nat_lt s.0 (length l.symbols.items)) names)
+  -- the numbers of the symbols among names
+  abbrev pub numbers : List SymId → List ℕ
+  numbers names = map (λ (s : SymId). s.0) (filter (λ (s : SymId). nat_lt s.0 (length l.symbols.items)) names)
 
+  -- the rows of choices
   abbrev pub choice_row_of : Choice → List ℕ
-  choice_row_of c = choice_nodes c ++ defined (choice_names c)
+  choice_row_of c = choice_nodes c ++ numbers (choice_names c)
 
   abbrev pub choice_rows : List (List ℕ)
   choice_rows = map choice_row_of l.tables.choices.items
@@ -252,7 +253,7 @@ module _ (tree : TreeFacts) (l : Layout) where
 
   abbrev pub symbol_row : ℕ → Option Symbol → List ℕ
   symbol_row i None = []
-  symbol_row i (Some s) = symbol_nodes l i s ++ defined l (symbol_names i s)
+  symbol_row i (Some s) = symbol_nodes l i s ++ numbers l (symbol_names i s)
 
   abbrev pub symbol_rows : List (List ℕ)
   symbol_rows = map (λ i. symbol_row i (slice_get l.symbols.items i)) (range_with_len 0 (length l.symbols.items))
@@ -261,7 +262,7 @@ module _ (tree : TreeFacts) (l : Layout) where
 -- what the row has
 pub data IsContextRow (l : Layout) (i : ℕ) (row : List ℕ) : Type 0 where
   of_top : condition_in l.tables.contexts i ≡ top → row ≡ [] → IsContextRow l i row
-  of_inner : (c : Context) → IsContextAt l.tables.contexts i c → row ≡ context_row_nodes l c ++ defined l (context_row_names l c) → IsContextRow l i row
+  of_inner : (c : Context) → IsContextAt l.tables.contexts i c → row ≡ context_row_nodes l c ++ numbers l (context_row_names l c) → IsContextRow l i row
 
 -- the rows of the contexts: of each what a context of that number asks for
 abbrev pub AreContextRows : Layout → List (List ℕ) → Type 0

@@ -9,7 +9,7 @@ use Rattle.kc_expr.specs.declared.expression.Kind.TheVariants.{Undefined, Bool a
 use Rattle.kc_order.specs.Needs.{IsAccepted as AreAccepted}
 use Rattle.kc_tree.specs.Common.{listed}
 use Rattle.kc_tree.specs.TreeFacts.{Condition, Guarded, Bounds, SymbolFacts, ChoiceFacts, TreeFacts}
-use Rattle.kc_values.specs.Lookups.{is_defined, facts, choice_at}
+use Rattle.kc_values.specs.Lookups.{is_mentioned, facts, choice_at}
 
 abbrev pub one_name : SymId → List SymId
 one_name s = s ∷ []
@@ -89,13 +89,13 @@ module _ (tree : TreeFacts) where
   names_of None = []
   names_of (Some f) = names_by_choice f f.choice
 
-  -- the numbers of the defined symbols in a list
-  abbrev pub defined_numbers : List SymId → List ℕ
-  defined_numbers ss = map (λ (s : SymId). s.0) (filter (is_defined tree) ss)
+  -- the numbers of the symbols in a list that the tree mentions
+  abbrev pub mentioned_numbers : List SymId → List ℕ
+  mentioned_numbers ss = map (λ (s : SymId). s.0) (filter (is_mentioned tree) ss)
 
-  -- What the symbol of a number needs: the defined symbols among what its equation names.
+  -- What the symbol of a number needs: the symbols that its equation names.
   abbrev pub needs_of : ℕ → List ℕ
-  needs_of i = defined_numbers (names_of (facts tree (symbol i)))
+  needs_of i = mentioned_numbers (names_of (facts tree (symbol i)))
 
   -- The needs of each symbol, by number.
   abbrev pub needs : List (List ℕ)

@@ -5,7 +5,7 @@ use Rattle.kc_expr.specs.Value.{SymbolValue, TextValue}
 use Rattle.kc_expr.specs.declared.expression.SymId.{SymId}
 use Rattle.kc_expr.specs.declared.expression.Kind.TheVariants.{Undefined}
 use Rattle.kc_tree.specs.TreeFacts.{SymbolFacts, TreeFacts}
-use Rattle.kc_values.specs.Lookups.{is_defined, facts, name}
+use Rattle.kc_values.specs.Lookups.{is_mentioned, facts, name}
 use Rattle.kc_user.specs.GivenValue.{GivenValue, UserPlace, SymbolPlace, ChoicePlace}
 use Rattle.kc_values.specs.Values.{equation}
 
@@ -18,12 +18,13 @@ user_place_of i None = SymbolPlace i
 user_place_of i (Some f) = user_place_by i f.choice
 
 module _ (tree : TreeFacts) where
-  abbrev pub symbol_count : ℕ
-  symbol_count = length tree.symbols
+  -- how many symbols there are: each name that the tree mentions is one
+  abbrev pub name_count : ℕ
+  name_count = length tree.symbols
 
-  -- what a valuation says of a symbol: a name that is not defined is its own text (kconfiglib)
+  -- what a valuation says of a symbol; past the last symbol it is an empty name
   abbrev pub known_from : (ℕ → SymbolValue) → SymId → SymbolValue
-  known_from V s = if is_defined tree s then V s.0 else TextValue Undefined (name tree s)
+  known_from V s = if is_mentioned tree s then V s.0 else TextValue Undefined (name tree s)
 
   -- the place that the equation of a symbol reads: a member's is its choice's
   abbrev pub user_place : ℕ → UserPlace

@@ -1,6 +1,6 @@
 -- Trusted: What the values are warned of: whole lines, without the line feed (our own).
 use Rattle.std.specs.Prelude.{ℕ, if◌then◌else◌, List, [], ◌∷◌, ◌++◌, map, codes, Option, Some, None}
-use Rattle.std.specs.List.{flat_map, range_with_len}
+use Rattle.std.specs.List.{flat_map}
 use Rattle.std.specs.declared.alloc.Global.{Global}
 use Rattle.std.specs.declared.vec.Vec.{Vec}
 use Rattle.kc_expr.specs.Form.{Form}
@@ -16,7 +16,7 @@ use Rattle.kc_values.specs.Numbers.{number_text, is_within_range, clamped, if_wi
 use Rattle.kc_user.specs.GivenValue.{GivenValue, UserPlace, SymbolPlace}
 use Rattle.kc_values.specs.Values.{first_met, direct, reverse, visibility, visible_text, single_text, active_range}
 use Rattle.kc_values.specs.WrittenSymbols.{above}
-use Rattle.kc_values.specs.Solution.{known_from, symbol_count}
+use Rattle.kc_values.specs.Solution.{known_from}
 use Rattle.kc_values.specs.declared.numbers.Interval.{Interval}
 
 -- the bytes of lines that are held
@@ -98,4 +98,4 @@ module _ (tree : TreeFacts) (user : UserPlace → Option GivenValue) (V : ℕ �
 
   -- In order of first definition.
   abbrev pub value_warnings : List (List ℕ)
-  value_warnings = flat_map warnings_at (range_with_len 0 (symbol_count tree))
+  value_warnings = flat_map (λ s. warnings_at s.0) tree.defined

@@ -1,4 +1,4 @@
-//! The equation of any defined symbol.
+//! The equation of any symbol.
 
 ghost use Rattle.std.specs.Prelude.{◌≡◌, None, slice_index_or, IfOk};
 ghost use Rattle.kc_tree.specs.Layouts.{facts_of};
@@ -20,8 +20,8 @@ use kc_user::value::UserValue;
 use std::alloc::{AllocError, Global};
 
 /// The value that the equation of a symbol outside a choice gives, by its type (the kernel's kconfig-language document,
-/// "Menu attributes"; kconfiglib's `tri_value` and `str_value`). Without a type it is the symbol's name, as of a name that
-/// is not defined (kconfiglib). Fails only when it is out of memory.
+/// "Menu attributes"; kconfiglib's `tri_value` and `str_value`). Without a type, as of a name that is not defined, it is the
+/// symbol's name (kconfiglib). Fails only when it is out of memory.
 pub fn own_equation(
     alloc: Global,
     table: &Table<'_>,
@@ -63,8 +63,8 @@ fn given_member(users: &[Option<SymId>], choice: ChoiceId) -> Option<SymId>
     }
 }
 
-/// The value that the equation of a defined symbol gives: `user` is what was given for it, `users` what was given for
-/// each choice (the kernel's kconfig-language document; where that is vague, kconfiglib's documented rules). What the table has
+/// The value that the equation of a symbol gives: `user` is what was given for it, `users` what was given for each choice
+/// (the kernel's kconfig-language document; where that is vague, kconfiglib's documented rules). What the table has
 /// computed is not found again. Fails only when it is out of memory.
 pub fn equation(
     alloc: Global,

@@ -1,6 +1,6 @@
 //! What holds of the equations of every tree.
 
-ghost use Rattle.kc_values.specs.Laws.{EquationsReadNeeds, NeedsAreDefined, AcceptedHaveOneSolution, SolutionsAgree, LinesAreFixed, MinimalRestores, MinimalHasNothingToSpare, IdempotentWhere, DifferingAreAllowed, ModeIsPromptCondition, RowsTellFacts};
+ghost use Rattle.kc_values.specs.Laws.{EquationsReadNeeds, NeedsAreSymbols, NeedingAreDefined, AcceptedHaveOneSolution, SolutionsAgree, LinesAreFixed, MinimalRestores, MinimalHasNothingToSpare, IdempotentWhere, DifferingAreAllowed, ModeIsPromptCondition, RowsTellFacts};
 
 use kc_expr::values::value_depends_on_symbols;
 
@@ -12,19 +12,24 @@ pub fn equations_read_needs()
     value_depends_on_symbols();
 }
 
-/// Each need of a symbol is a defined symbol (our own).
-pub fn needs_are_defined()
-    ensures { NeedsAreDefined }
+/// Each need of a symbol is the number of a symbol (our own).
+pub fn needs_are_symbols()
+    ensures { NeedsAreSymbols }
 {}
 
-/// For every accepted tree and whatever the user gave there is a solution, and any two agree at each defined symbol (our own;
+/// Each symbol that needs one is defined (our own).
+pub fn needing_are_defined()
+    ensures { NeedingAreDefined }
+{}
+
+/// For every accepted tree and whatever the user gave there is a solution, and any two agree at each symbol (our own;
 /// the kernel's kconfig-language document asks that dependencies don't recur).
 pub fn accepted_have_one_solution()
     ensures exists { AcceptedHaveOneSolution }
     ensures agree { SolutionsAgree }
 {
     equations_read_needs();
-    needs_are_defined();
+    needs_are_symbols();
 }
 
 /// The line of a symbol that differs gives its value again: with it as what the user gave, and the same values of all others, the
@@ -39,7 +44,7 @@ pub fn minimal_restores()
     ensures nothing_to_spare { MinimalHasNothingToSpare }
 {
     equations_read_needs();
-    needs_are_defined();
+    needs_are_symbols();
 }
 
 /// The written lines that `allowed` accepts give the values again exactly where no symbol changes on rereading: where none
@@ -60,8 +65,8 @@ pub fn choices_stand_alone()
     ensures { ModeIsPromptCondition }
 {}
 
-/// What a tree says of a symbol is what the symbol's row says in any layout of the tree; of a name that is not defined there
-/// is no row, and the tree says nothing (our own).
+/// What a tree says of a symbol is what the symbol's row says in any layout of the tree; past the last symbol there is no row,
+/// and the tree says nothing (our own).
 pub fn rows_tell_facts()
     ensures { RowsTellFacts }
 {}

@@ -338,14 +338,14 @@ fn choice_into(layout: &Layout, choice: &Choice, out: &mut NeedRow) -> Result<()
     choice_defaults_into(layout, choice, out)
 }
 
-// Adds the row as it stands to the graph, and makes it empty: the nodes, and of the names the symbols that are defined.
-fn close_row(defined: usize, row: &mut NeedRow, graph: &mut Graph) -> Result<(), AllocError>
-    requires few { defined < 2 ^ 32 }
-    ensures graph { OnOk result (graph.new ≡ record graph.old { rows = graph.old.rows ++ row_of defined row.old ∷ [] }) }
+// Adds the row as it stands to the graph of so many symbols, and makes it empty: the nodes, and the symbols among the names.
+fn close_row(count: usize, row: &mut NeedRow, graph: &mut Graph) -> Result<(), AllocError>
+    requires few { count < 2 ^ 32 }
+    ensures graph { OnOk result (graph.new ≡ record graph.old { rows = graph.old.rows ++ row_of count row.old ∷ [] }) }
     ensures empty { OnOk result (IsRow [] [] row.new) }
 {
     for name in &row.names {
-        if name.0 < defined {
+        if name.0 < count {
             row.nodes.push(name.0 as u32)?;
         }
     }
@@ -355,7 +355,7 @@ fn close_row(defined: usize, row: &mut NeedRow, graph: &mut Graph) -> Result<(),
     Ok(())
 }
 
-// Adds the nodes of the symbols.
+// Adds the nodes of the symbols. One that is not defined needs nothing.
 fn add_symbols(
     tree: &Tree,
     layout: &Layout,
@@ -367,10 +367,10 @@ fn add_symbols(
     ensures graph { OnOk result (graph.new ≡ record graph.old { rows = graph.old.rows ++ rows.symbol_rows tree.now layout.now }) }
     ensures row { OnOk result (IsRow [] [] row.new) }
 {
-    let defined = layout.symbols().len();
+    let count = layout.symbols().len();
     for (i, symbol) in layout.symbols().iter().enumerate() {
         symbol_into(tree, layout, SymId(i), symbol, row)?;
-        close_row(defined, row, graph)?;
+        close_row(count, row, graph)?;
     }
     Ok(())
 }
@@ -381,12 +381,12 @@ fn add_contexts(layout: &Layout, row: &mut NeedRow, graph: &mut Graph) -> Result
     ensures graph { OnOk result ((contexts : List (List ℕ)) × rows.AreContextRows layout.now contexts × (graph.new ≡ record graph.old { rows = graph.old.rows ++ contexts })) }
     ensures row { OnOk result (IsRow [] [] row.new) }
 {
-    let defined = layout.symbols().len();
+    let count = layout.symbols().len();
     for i in 0..layout.context_count() {
         if let Some(context) = layout.context(ContextId(i as u32)) {
             context_row_into(layout, context, row)?;
         }
-        close_row(defined, row, graph)?;
+        close_row(count, row, graph)?;
     }
     Ok(())
 }
@@ -397,15 +397,15 @@ fn add_choices(layout: &Layout, row: &mut NeedRow, graph: &mut Graph) -> Result<
     ensures graph { OnOk result (graph.new ≡ record graph.old { rows = graph.old.rows ++ rows.choice_rows layout.now }) }
     ensures row { OnOk result (IsRow [] [] row.new) }
 {
-    let defined = layout.symbols().len();
+    let count = layout.symbols().len();
     for choice in layout.choices() {
         choice_into(layout, choice, row)?;
-        close_row(defined, row, graph)?;
+        close_row(count, row, graph)?;
     }
     Ok(())
 }
 
-/// What each symbol of a tree needs: the defined symbols that its equation names (the kernel's kconfig-language document
+/// What each symbol of a tree needs: the symbols that its equation names (the kernel's kconfig-language document
 /// forbids recursive dependencies and does not say which count). What contexts and choices name stands once, in their own nodes,
 /// so that nothing grows with the square of the symbols in a block or of a choice's members (our own). The caller owes the layout
 /// of that tree. Fails only when it is out of memory.

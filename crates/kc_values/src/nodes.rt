@@ -17,7 +17,7 @@ pub enum Node {
     Choice(ChoiceId),
 }
 
-// The number of the first choice: the symbols come first, then the contexts, and then the choices.
+// The number of the first choice: the symbols come first, one for each name, then the contexts, and then the choices.
 fn first_choice(layout: &Layout) -> usize
     ensures { result ≡ spec.first_choice layout.now }
 {

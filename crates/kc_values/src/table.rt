@@ -26,7 +26,7 @@ pub enum Value {
     Text(Vec<u8>),
 }
 
-/// The name of a number, or no byte where the tree has no such name (our own).
+/// The name of a symbol, or no byte where the tree has no such name (our own).
 pub fn name(tree: &Tree, id: SymId) -> &[u8]
     ensures { result.now ≡ lookup.name tree.now id }
 {
@@ -37,10 +37,10 @@ pub fn name(tree: &Tree, id: SymId) -> &[u8]
     }
 }
 
-/// The values of the symbols of a tree, of which some places may still be empty. As `Values` an empty place is n, and
-/// as a text the symbol's name, which is also what a name that is not defined is worth (kconfiglib). Beside them stand the
-/// values of its contexts and the selections of its choices that are computed, so that each is found once, whoever asks for
-/// it; one that is not computed is found anew.
+/// The values of the symbols of a tree: each name that the tree mentions is one. Some places may still be empty. As `Values`
+/// an empty place is n, and as a text the symbol's name, which is also what a symbol without a type is worth (kconfiglib).
+/// Beside them stand the values of its contexts and the selections of its choices that are computed, so that each is found
+/// once, whoever asks for it; one that is not computed is found anew.
 #[derive(Drop)]
 pub struct Table<'t> {
     /// The tree that the symbols are of.
@@ -69,7 +69,7 @@ impl<'t> Table<'t> {
         ensures contexts { IfOk result (λ t. t.contexts.items ≡ replicate (length layout.now.tables.contexts) None) }
         ensures selections { IfOk result (λ t. t.selections.items ≡ replicate (length layout.now.tables.choices.items) None) }
     {
-        let values = empty_places(alloc, tree.symbol_count())?;
+        let values = empty_places(alloc, tree.name_count())?;
         let contexts = vec![in alloc; None; layout.context_count()]?;
         let selections = vec![in alloc; None; layout.choices().len()]?;
         Ok(Table {

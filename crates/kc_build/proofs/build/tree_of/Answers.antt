@@ -3,7 +3,7 @@ use Rattle.kc_read.specs.StatementViews.{line_view}
 use Rattle.kc_tree.specs.Wholes.{tree_of as facts_of}
 use Rattle.kc_build.specs.PartsView.{parts_view}
 use Rattle.kc_build.specs.Trees.{tree_with}
-use Rattle.kc_build.proofs.BuildLemmas.{parts-lines, count-few, refused-memory, lines-apart, lines-below, lines-formed, lines-opened, lines-typed}
+use Rattle.kc_build.proofs.BuildLemmas.{parts-lines, refused-memory, lines-apart, lines-below, lines-define, lines-formed, lines-modules, lines-opened, lines-typed}
 use Rattle.kc_build.proofs.FewLemmas.{listing-few}
 use Rattle.kc_build.proofs.build.tree_of.Goals as goal
 
@@ -30,14 +30,19 @@ build_parts-requires-clause-ends c =
 pub build_parts-requires-clause-defined : goal.build_parts-requires-clause-defined
 build_parts-requires-clause-defined c =
     let (files, root, x) = c.requires in
-    count-few x.0 c.args.listing x.2 files root x.1
+    lines-define x.0 c.args.listing x.2 c.deref.result.now c.deref.ensures.value
+
+pub build_parts-requires-clause-modules : goal.build_parts-requires-clause-modules
+build_parts-requires-clause-modules c =
+    let (files, root, x) = c.requires in
+    lines-modules x.0 c.args.listing x.2 c.deref.result.now c.deref.ensures.value
 
 pub of-requires : goal.of-requires
 of-requires c =
     let (files, root, x) = c.requires in
     let l = c.args.listing in
     let parts = c.in-Ok-outcome.parts in
-    let says : parts_view l.names (Ok parts) ≡ tree_with l.names l.count l.modules (map line_view c.deref.result.now) = (rw c.in-Ok-outcome.is at c.in-Ok.ensures) in
+    let says : parts_view l.names (Ok parts) ≡ tree_with l.names (map line_view c.deref.result.now) = (rw c.in-Ok-outcome.is at c.in-Ok.ensures) in
     lines-formed x.0 l x.2 files root (facts_of l.names parts) x.1 c.are_distinct.ensures
     (parts-lines x.0 l x.2 c.deref.result.now (Ok parts) c.deref.ensures.value says)
 
@@ -45,14 +50,14 @@ pub returns-in-Ok-outcome-clause-built : goal.returns-in-Ok-outcome-clause-built
 returns-in-Ok-outcome-clause-built c = λ files root x.
     let l = c.args.listing in
     let parts = c.in-Ok-outcome.parts in
-    let says : parts_view l.names (Ok parts) ≡ tree_with l.names l.count l.modules (map line_view c.deref.result.now) = (rw c.in-Ok-outcome.is at c.in-Ok.ensures) in
+    let says : parts_view l.names (Ok parts) ≡ tree_with l.names (map line_view c.deref.result.now) = (rw c.in-Ok-outcome.is at c.in-Ok.ensures) in
     (Ok x.0, x.1, ap Ok c.of.ensures ∙ parts-lines x.0 l x.2 c.deref.result.now (Ok parts) c.deref.ensures.value says)
 
 pub returns-in-Err-outcome-clause-refused : goal.returns-in-Err-outcome-clause-refused
 returns-in-Err-outcome-clause-refused c = λ ne files root x.
     let l = c.args.listing in
     let r = c.in-Err-outcome.refusal in
-    let says : parts_view l.names (Err r) ≡ tree_with l.names l.count l.modules (map line_view c.deref.result.now) = (rw c.in-Err-outcome.is at c.in-Ok.ensures) in
+    let says : parts_view l.names (Err r) ≡ tree_with l.names (map line_view c.deref.result.now) = (rw c.in-Err-outcome.is at c.in-Ok.ensures) in
     (Ok x.0, x.1, parts-lines x.0 l x.2 c.deref.result.now (Err r) c.deref.ensures.value says)
 
 pub returns-in-Err-outcome-clause-memory : goal.returns-in-Err-outcome-clause-memory
@@ -60,7 +65,7 @@ returns-in-Err-outcome-clause-memory c =
     let (files, root, x) = c.requires in
     let l = c.args.listing in
     let r = c.in-Err-outcome.refusal in
-    let says : parts_view l.names (Err r) ≡ tree_with l.names l.count l.modules (map line_view c.deref.result.now) = (rw c.in-Err-outcome.is at c.in-Ok.ensures) in
+    let says : parts_view l.names (Err r) ≡ tree_with l.names (map line_view c.deref.result.now) = (rw c.in-Err-outcome.is at c.in-Ok.ensures) in
     refused-memory x.0.lines r (parts-lines x.0 l x.2 c.deref.result.now (Err r) c.deref.ensures.value says)
 
 pub build_parts-requires-clause-few : goal.build_parts-requires-clause-few

@@ -11,7 +11,7 @@ pub value_anew-requires-clause-users : goal.value_anew-requires-clause-users
 value_anew-requires-clause-users c =
     let t = c.args.table.now in
     let s = c.symbol_row-symbol.result.now in
-    choice_below t.tree.now c.symbol_count-count.ensures.formed c.args.id.0 _ (facts_of t.layout.now c.args.id.0 s) s.choice
+    choice_below t.tree.now c.name_count-count.ensures.formed c.args.id.0 _ (facts_of t.layout.now c.args.id.0 s) s.choice
     (row_facts t c.args.id s c.symbol_row-symbol.ensures) refl c.requires.chosen
 
 pub invariant_of-table : goal.invariant_of-table

@@ -4,7 +4,7 @@ use Rattle.std.proofs.lemmas.List.{length-replicate}
 use Rattle.kc_expr.specs.Names.{symbol}
 use Rattle.kc_tree.specs.TreeFacts.{TreeFacts}
 use Rattle.kc_user.specs.Places.{place_at}
-use Rattle.kc_values.specs.Solution.{symbol_count}
+use Rattle.kc_values.specs.Solution.{name_count}
 use Rattle.kc_solve.specs.Computing.{AreComputedValues}
 use Rattle.kc_solve.specs.Kept.{valuation}
 use Rattle.kc_solve.proofs.OrderSteps.{tree_accepted}
@@ -21,7 +21,7 @@ compute_anew-requires-clause-chosen c =
     ap length c.choices-chosen.ensures ∙ c.requires.user.choices ∙ ap (λ (t : TreeFacts). length t.choices) (sym c.loop-i.invariant.tree)
 
 pub compute_anew-requires-clause-full : goal.compute_anew-requires-clause-full
-compute_anew-requires-clause-full c = c.loop-i.invariant.count ∙ ap symbol_count (sym c.loop-i.invariant.tree)
+compute_anew-requires-clause-full c = c.loop-i.invariant.count ∙ ap name_count (sym c.loop-i.invariant.tree)
 
 pub loop-iteration-init : goal.loop-iteration-init
 loop-iteration-init c =

@@ -1,6 +1,17 @@
--- The lines of one symbol more.
-use Rattle.kc_conf.proofs.LostLemmas.{one_more_lost}
+-- The lines of one symbol more, and of all.
+use Rattle.std.proofs.Common.{◌∙◌, ℕ, List, ap, arith}
+use Rattle.std.specs.List.{flat_map}
+use Rattle.kc_expr.specs.declared.expression.SymId.{SymId}
+use Rattle.kc_conf.specs.Lost.{lost_at}
+use Rattle.kc_conf.proofs.LostLemmas.{all_lost, one_more_lost}
 use Rattle.kc_conf.proofs.lost.lost_lines.Goals as goal
 
 pub loop-i-preserved : goal.loop-i-preserved
-loop-i-preserved c = one_more_lost c.args.input.now.lines c.args.solved.now c.loop-i.i _ _ c.loop-i.invariant c.in_ok-lost_into.ensures
+loop-i-preserved c =
+    one_more_lost c.args.input.now.lines c.args.solved.now c.tree-tree.result.now.defined c.loop-i.i c.symbol.result _ _ c.symbol.ensures c.loop-i.invariant c.in_ok-lost_into.ensures
+
+pub returns : goal.returns
+returns c =
+    let at : SymId → List (List ℕ) = λ x. lost_at c.args.input.now.lines c.args.solved.now x.0 in
+    all_lost c.args.input.now.lines c.args.solved.now c.tree-tree.result.now.defined c.loop-i.i _ (omega (arith, c.loop-i-test.false, c.symbol_count-i-end.ensures.count)) c.loop-i.invariant
+    ∙ ap (λ t. flat_map at t.defined) c.tree-tree.ensures

@@ -1,6 +1,6 @@
 use Rattle.std.proofs.Common.{◌≡◌, ◌++◌, drop}
 use Rattle.std.specs.Prelude.{flat_map}
-use Rattle.kc_dot.specs.Texts.{header_if, symbols_of}
+use Rattle.kc_dot.specs.Texts.{header_if}
 use Rattle.kc_dot.specs.SolvedView.{solution_view}
 use Rattle.kc_dot.proofs.header.add_header_lines.Given as goal
 
@@ -8,4 +8,4 @@ use Rattle.kc_dot.proofs.header.add_header_lines.Given as goal
 abbrev pub invariant-loop-i : goal.invariant-loop-i
 invariant-loop-i l =
     let line = header_if l.tree l.prefix (solution_view l.solved) in
-    l.file.items ++ flat_map line (drop l.i (symbols_of l.tree)) ≡ l.fn.file.items ++ flat_map line (symbols_of l.tree)
+    l.file.items ++ flat_map line (drop l.i l.tree.defined) ≡ l.fn.file.items ++ flat_map line l.tree.defined

@@ -1,6 +1,6 @@
 use Rattle.std.proofs.Common.{◌≡◌, ◌++◌, drop}
 use Rattle.std.specs.Prelude.{flat_map}
-use Rattle.kc_dot.specs.Texts.{minimal_if, minimal_text, symbols_of}
+use Rattle.kc_dot.specs.Texts.{minimal_if, minimal_text}
 use Rattle.kc_dot.specs.SolvedView.{solution_view}
 use Rattle.kc_dot.proofs.header.minimal_text.Given as goal
 
@@ -8,4 +8,4 @@ use Rattle.kc_dot.proofs.header.minimal_text.Given as goal
 abbrev pub invariant-loop-i : goal.invariant-loop-i
 invariant-loop-i l =
     let told = solution_view l.solved in
-    l.file.items ++ flat_map (minimal_if l.tree l.prefix told) (drop l.i (symbols_of l.tree)) ≡ minimal_text l.tree l.prefix told
+    l.file.items ++ flat_map (minimal_if l.tree l.prefix told) (drop l.i l.tree.defined) ≡ minimal_text l.tree l.prefix told

@@ -9,7 +9,7 @@ returns-in-Some-clause-choice c = c.in-Some.ensures.2.choice ∙ sym (ap (option
 
 pub returns-in-Some-clause-there : goal.returns-in-Some-clause-there
 returns-in-Some-clause-there c =
-    choice_there c.args.tree.now c.args.id.0 c.in-Some.ensures.0 c.in-Some.symbol.now.choice c.symbol_count.ensures.formed c.in-Some.ensures.1 c.in-Some.ensures.2.choice
+    choice_there c.args.tree.now c.args.id.0 c.in-Some.ensures.0 c.in-Some.symbol.now.choice c.name_count.ensures.formed c.in-Some.ensures.1 c.in-Some.ensures.2.choice
 
 pub returns-in-None-clause-choice : goal.returns-in-None-clause-choice
 returns-in-None-clause-choice c = sym (ap (option_and_then (λ (f : SymbolFacts). f.choice)) c.in-None.ensures)

@@ -1,9 +1,9 @@
 use Rattle.std.proofs.Common.{◌≡◌, ℕ, ◌+◌, ◌-◌, length}
-use Rattle.kc_expr.specs.Order.{rank_at}
+use Rattle.kc_expr.specs.Order.{is_marked}
 use Rattle.kc_expr.proofs.order.reach.Given as goal
 
-abbrev pub invariant-loop-ranks : goal.invariant-loop-ranks
-invariant-loop-ranks l = (k : ℕ) → rank_at l.ranks.items k ≡ rank_at l.fn.ranks.items k
+abbrev pub invariant-loop-marks : goal.invariant-loop-marks
+invariant-loop-marks l = (k : ℕ) → is_marked l.marks.items k ≡ is_marked l.fn.marks.items k
 
-abbrev pub decreases-loop-ranks : goal.decreases-loop-ranks
-decreases-loop-ranks l = l.i + 1 - length l.ranks.items
+abbrev pub decreases-loop-marks : goal.decreases-loop-marks
+decreases-loop-marks l = l.i + 1 - length l.marks.items

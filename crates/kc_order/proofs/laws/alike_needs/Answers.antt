@@ -5,4 +5,4 @@ pub returns-clause-accepted : goal.returns-clause-accepted
 returns-clause-accepted c needs other alike = accepted_alike needs other alike
 
 pub returns-clause-named : goal.returns-clause-named
-returns-clause-named c needs other loop alike = loop_alike needs other loop alike
+returns-clause-named c sequence needs other loop alike = loop_alike sequence needs other alike loop

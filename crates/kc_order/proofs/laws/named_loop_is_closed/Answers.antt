@@ -4,4 +4,4 @@ use Rattle.kc_order.proofs.Rings.{is_closed}
 use Rattle.kc_order.proofs.laws.named_loop_is_closed.Goals as goal
 
 pub returns : goal.returns
-returns c = λ needs loop named. is_closed (length needs) (needs_in needs) loop named
+returns c = λ sequence needs loop named. is_closed sequence (length needs) (needs_in needs) loop named

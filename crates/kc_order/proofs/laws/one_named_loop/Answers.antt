@@ -4,4 +4,4 @@ use Rattle.kc_order.proofs.OneLoop.{one_loop}
 use Rattle.kc_order.proofs.laws.one_named_loop.Goals as goal
 
 pub returns : goal.returns
-returns c = λ needs loop other a b. one_loop (length needs) (needs_in needs) loop other a b
+returns c = λ sequence needs loop other a b. one_loop sequence (length needs) (needs_in needs) loop other a b

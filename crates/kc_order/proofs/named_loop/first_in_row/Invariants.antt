@@ -1,9 +1,6 @@
-use Rattle.std.proofs.Common.{◌≡◌, ℕ, List, take}
-use Rattle.std.specs.List.{flat_map}
-use Rattle.kc_order.specs.FirstUnordered.{least_in, is_unordered_at, AreFirstByGroup}
-use Rattle.kc_order.specs.Graph.{stands_for}
+use Rattle.std.proofs.Common.{◌≡◌, None, fold, get_or, take}
+use Rattle.kc_order.specs.FirstUnordered.{lesser_of}
 use Rattle.kc_order.proofs.named_loop.first_in_row.Given as goal
 
 abbrev pub invariant-loop-node : goal.invariant-loop-node
-invariant-loop-node l =
-    (groups : List (List ℕ)) → AreFirstByGroup l.states groups l.first_by_group → l.first ≡ least_in (is_unordered_at l.states) (flat_map (stands_for l.symbols groups) (take l.node-index l.row))
+invariant-loop-node l = l.first ≡ fold (λ first t. lesser_of first (get_or l.firsts t None)) None (take l.node-index l.row)

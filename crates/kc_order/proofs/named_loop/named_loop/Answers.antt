@@ -1,18 +1,20 @@
-use Rattle.std.proofs.Common.{arith, ap, sym, ◌∙◌, ◌≡◌, true, false, length, eqb, ◌++◌, ◌∷◌, [], subst}
+use Rattle.std.proofs.Common.{arith, ap, sym, ◌∙◌, ◌≡◌, ◌<◌, true, false, length, eqb, ◌++◌, ◌∷◌, [], subst}
 use Rattle.std.proofs.Math.ListN.{set}
 use Rattle.std.specs.List.{list_any}
+use Rattle.std.proofs.lemmas.List.Elements.{All-contains}
 use Rattle.std.proofs.lemmas.List.{length_push, take_rest, get_or_read}
 use Rattle.kc_order.specs.Rows.{AreFlags}
-use Rattle.kc_order.proofs.Groups.{graph, flat, needs_within}
-use Rattle.kc_order.proofs.Walks.{sets_out, goes_further, has_room, comes_back, IsOnTheWay, met_push, not_met, is_met, none_met}
+use Rattle.kc_order.proofs.Groups.{flat}
+use Rattle.kc_order.proofs.Walks.{sets_out, goes_further, has_room, comes_back, IsOnTheWay, met_push, next_is, not_met, is_met, none_met}
 use Rattle.kc_order.proofs.named_loop.named_loop.Goals.{After-index, After-next_unordered-at}
 use Rattle.kc_order.proofs.named_loop.named_loop.Goals as goal
 
 pub loop-visited-init : goal.loop-visited-init
 loop-visited-init c = record {
-  walks = rw c.new-walk.ensures.items (sets_out _ (flat c.args.symbols c.args.rows.now) c.args.first c.requires.first);
+  walks = rw c.new-walk.ensures.items
+      (sets_out c.args.sequence.now _ (flat c.args.symbols c.args.rows.now) _ (c.requires.sequence c.args.first 0 c.requires.there) c.requires.first);
   flags = subst (λ w. AreFlags c.args.symbols (λ s. list_any (eqb s) w) c.in_ok-visited.visited.items) (sym c.new-walk.ensures.items)
-      (none_met c.args.symbols c.in_ok-visited.visited.items c.in_ok-visited.ensures);
+      (none_met c.args.symbols c.in_ok-visited.visited.items (c.in_ok-visited.ensures.items_if_clones_equal (λ y e. e)));
 }
 
 -- what is read tells whether the symbol is on the walk
@@ -24,10 +26,14 @@ on_walk c =
 
 -- the walk after the push, and what comes next
 further : (c : After-next_unordered-at) → list_any (eqb c.loop-visited.at) c.loop-visited.walk.items ≡ false →
-    IsOnTheWay c.args.symbols (flat c.args.symbols c.args.rows.now) (c.loop-visited.walk.items ++ c.loop-visited.at ∷ []) c.next_unordered-at.result
+    IsOnTheWay c.args.sequence.now c.args.symbols (flat c.args.symbols c.args.rows.now)
+    (c.loop-visited.walk.items ++ c.loop-visited.at ∷ []) c.next_unordered-at.result
 further c new =
-    goes_further _ (flat c.args.symbols c.args.rows.now) c.loop-visited.walk.items c.loop-visited.at c.next_unordered-at.result
-    (needs_within (graph c.args.symbols c.args.rows.now) c.requires.graph) c.loop-visited.invariant.walks (not_met c.loop-visited.walk.items c.loop-visited.at new) c.next_unordered-at.ensures.next
+    let next = c.next_unordered-at.result in
+    let there = (next_is c.args.sequence.now c.args.symbols (flat c.args.symbols c.args.rows.now) c.loop-visited.at next c.next_unordered-at.ensures).0 in
+    let below = All-contains (λ s. s < c.args.symbols) c.args.sequence.now next c.requires.sequence there in
+    goes_further c.args.sequence.now _ (flat c.args.symbols c.args.rows.now) c.loop-visited.walk.items c.loop-visited.at next
+    c.loop-visited.invariant.walks (not_met c.loop-visited.walk.items c.loop-visited.at new) below c.next_unordered-at.ensures
 
 pub loop-visited-smaller : goal.loop-visited-smaller
 loop-visited-smaller c =
@@ -56,4 +62,5 @@ pub returns : goal.returns
 returns c =
     let found = rw c.deref-2.ensures.value at c.in-Some.ensures in
     rw (c.in_ok-found-in-Some.ensures.items, c.deref-in-Some.ensures.value, take_rest)
-    (comes_back _ (flat c.args.symbols c.args.rows.now) c.loop-visited.walk.items c.loop-visited.at c.in-Some.start c.loop-visited.invariant.walks found.0 found.1)
+    (comes_back c.args.sequence.now _ (flat c.args.symbols c.args.rows.now) c.loop-visited.walk.items c.loop-visited.at c.in-Some.start
+    c.loop-visited.invariant.walks found.0 found.1)

@@ -7,7 +7,7 @@ use Rattle.kc_order.proofs.named_loop.named_loop.Given as goal
 
 abbrev pub invariant-loop-visited : goal.invariant-loop-visited
 invariant-loop-visited l = record {
-  walks : IsOnTheWay l.symbols (flat l.symbols l.rows) l.walk.items l.at;
+  walks : IsOnTheWay l.sequence l.symbols (flat l.symbols l.rows) l.walk.items l.at;
   flags : AreFlags l.symbols (λ s. list_any (eqb s) l.walk.items) l.visited.items;
 }
 

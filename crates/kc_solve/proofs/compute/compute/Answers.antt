@@ -1,7 +1,7 @@
 use Rattle.std.proofs.Common.{◌≡◌, ◌+◌, ℕ, arith, length, sym, subst, ◌∙◌, ap}
 use Rattle.std.specs.Prelude.{slice_index_or, None}
 use Rattle.kc_tree.specs.TreeFacts.{TreeFacts}
-use Rattle.kc_values.specs.Solution.{symbol_count}
+use Rattle.kc_values.specs.Solution.{name_count}
 use Rattle.kc_solve.specs.Computing.{IsSelection, IsUnreadIn, IsComputedTable, IsComputedTo}
 use Rattle.kc_solve.proofs.ComputeSteps.{begins, choice_next, choice_there, choices_length, context_next, solves, symbol_next, unread}
 use Rattle.kc_solve.proofs.GroupNames.{names_there}
@@ -15,12 +15,12 @@ loop-node-init c =
     let e = c.in_ok-table.ensures in
     begins c.args.tree.now c.args.layout.now c.args.given.now c.args.chosen.now c.args.nodes.now t e.tree e.layout c.requires.laid c.requires.order e.values e.contexts e.selections
 
-pub compute_symbol-requires-clause-defined : goal.compute_symbol-requires-clause-defined
-compute_symbol-requires-clause-defined c = omega (arith, c.in-Symbol.ensures.1, c.loop-node.invariant.1.value_count)
+pub compute_symbol-requires-clause-there : goal.compute_symbol-requires-clause-there
+compute_symbol-requires-clause-there c = omega (arith, c.in-Symbol.ensures.1, c.loop-node.invariant.1.value_count)
 
 pub compute_symbol-requires-clause-given : goal.compute_symbol-requires-clause-given
 compute_symbol-requires-clause-given c =
-    c.requires.given ∙ sym (ap symbol_count c.loop-node.invariant.0) ∙ sym (row_count c.loop-node.table) ∙ sym c.loop-node.invariant.1.value_count
+    c.requires.given ∙ sym (ap name_count c.loop-node.invariant.0) ∙ sym (row_count c.loop-node.table) ∙ sym c.loop-node.invariant.1.value_count
 
 pub compute_symbol-requires-clause-full : goal.compute_symbol-requires-clause-full
 compute_symbol-requires-clause-full c = c.loop-node.invariant.1.value_count ∙ row_count c.loop-node.table
@@ -82,7 +82,7 @@ pub returns-clause-tree : goal.returns-clause-tree
 returns-clause-tree c = c.loop-node.invariant.0
 
 pub returns-clause-count : goal.returns-clause-count
-returns-clause-count c = c.loop-node.invariant.1.value_count ∙ row_count c.loop-node.table ∙ ap symbol_count c.loop-node.invariant.0
+returns-clause-count c = c.loop-node.invariant.1.value_count ∙ row_count c.loop-node.table ∙ ap name_count c.loop-node.invariant.0
 
 pub returns-clause-solves : goal.returns-clause-solves
 returns-clause-solves c =
@@ -91,7 +91,7 @@ returns-clause-solves c =
     let tree = c.args.tree.now in
     let end : c.loop-node.node-index ≡ length c.args.nodes.now = omega arith in
     solves tree t.layout.now c.args.given.now c.args.chosen.now c.args.nodes.now t.values.items t.contexts.items t.selections.items
-    (now.value_count ∙ row_count t ∙ ap symbol_count c.loop-node.invariant.0)
+    (now.value_count ∙ row_count t ∙ ap name_count c.loop-node.invariant.0)
     (subst (λ n. IsComputedTo tree t.layout.now c.args.given.now c.args.chosen.now c.args.nodes.now n t.values.items t.contexts.items t.selections.items) end now)
 
 pub returns-clause-selected : goal.returns-clause-selected

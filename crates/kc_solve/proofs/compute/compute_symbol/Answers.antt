@@ -1,24 +1,20 @@
 use Rattle.std.proofs.Common.{arith, refl, ◌∙◌, ap}
-use Rattle.kc_values.specs.Selections.{given_for}
-use Rattle.kc_values.specs.TableFacts.{known_at}
-use Rattle.kc_values.specs.Values.{by_choice}
-use Rattle.kc_tree.specs.Contexts.{mode_view}
-use Rattle.kc_tree.specs.Layouts.{facts_of}
+use Rattle.kc_solve.specs.Computing.{equation_at}
 use Rattle.kc_solve.proofs.ComputeSteps.{contexts_stay}
-use Rattle.kc_solve.proofs.TableSteps.{computed_value, place_given, row_count}
+use Rattle.kc_solve.proofs.TableSteps.{computed_place, place_given, row_count}
 use Rattle.kc_solve.proofs.compute.compute_symbol.Goals as goal
 
 pub symbol_row-symbol-requires : goal.symbol_row-symbol-requires
-symbol_row-symbol-requires c = omega (arith, c.requires.defined, c.requires.full, row_count c.args.table.now)
+symbol_row-symbol-requires c = omega (arith, c.requires.there, c.requires.full, row_count c.args.table.now)
 
 pub invariant_of-table : goal.invariant_of-table
 invariant_of-table c =
     let t = c.args.table.now in
     let s = c.symbol_row-symbol.result.now in
-    let own = place_given c.args.given.now c.args.id.0 c.index-given-id.result c.as_ref-own.result (omega (arith, c.requires.defined, c.requires.given))
+    let own = place_given c.args.given.now c.args.id.0 c.index-given-id.result c.as_ref-own.result (omega (arith, c.requires.there, c.requires.given))
     c.index-given-id.is c.as_ref-own.ensures.value in
-    let e = c.in_ok-value.ensures ∙ ap (λ g. by_choice t.tree.now (known_at t) c.args.id (facts_of t.layout.now c.args.id.0 s) (mode_view s.choice) (given_for s.choice g c.args.chosen.now)) own in
-    let f = computed_value t c.args.id s c.args.given.now c.args.chosen.now c.in_ok-value.value c.symbol_row-symbol.ensures c.requires.full c.requires.defined e in
+    let e = c.in_ok-value.ensures ∙ ap (λ g. equation_at t c.args.id s g c.args.chosen.now) own in
+    let f = computed_place t c.args.id s c.args.given.now c.args.chosen.now c.in_ok-value.value c.symbol_row-symbol.ensures c.requires.full c.requires.there e in
     record {
       laid = t.laid;
       formed = t.formed;
@@ -29,12 +25,12 @@ pub returns : goal.returns
 returns c =
     let t = c.args.table.now in
     let s = c.symbol_row-symbol.result.now in
-    let own = place_given c.args.given.now c.args.id.0 c.index-given-id.result c.as_ref-own.result (omega (arith, c.requires.defined, c.requires.given))
+    let own = place_given c.args.given.now c.args.id.0 c.index-given-id.result c.as_ref-own.result (omega (arith, c.requires.there, c.requires.given))
     c.index-given-id.is c.as_ref-own.ensures.value in
-    let e = c.in_ok-value.ensures ∙ ap (λ g. by_choice t.tree.now (known_at t) c.args.id (facts_of t.layout.now c.args.id.0 s) (mode_view s.choice) (given_for s.choice g c.args.chosen.now)) own in
+    let e = c.in_ok-value.ensures ∙ ap (λ g. equation_at t c.args.id s g c.args.chosen.now) own in
     record {
       keeps = record { tree = refl; layout = refl };
-      values = computed_value t c.args.id s c.args.given.now c.args.chosen.now c.in_ok-value.value c.symbol_row-symbol.ensures c.requires.full c.requires.defined e;
+      values = computed_place t c.args.id s c.args.given.now c.args.chosen.now c.in_ok-value.value c.symbol_row-symbol.ensures c.requires.full c.requires.there e;
       contexts = refl;
       selections = refl;
     }

@@ -1,19 +1,17 @@
-use Rattle.std.proofs.Common.{◌++◌, map, length, sym, ◌∙◌, ap, refl, arith}
+use Rattle.std.proofs.Common.{length, sym, ◌∙◌, ap, refl, arith}
 use Rattle.std.proofs.lemmas.List.FromFn.{length-map-range_with_len}
 use Rattle.kc_expr.specs.Names.{symbol}
 use Rattle.kc_tree.specs.Layouts.{facts_of}
 use Rattle.kc_user.specs.Places.{place_at}
 use Rattle.kc_values.specs.Differs.{selection, default_selection}
-use Rattle.kc_values.specs.Lookups.{name}
 use Rattle.kc_values.specs.Table.{known_in}
 use Rattle.kc_values.specs.User.{given_in}
-use Rattle.kc_values.specs.Warnings.{warnings_of}
 use Rattle.kc_values.specs.WrittenSymbols.{written_facts}
+use Rattle.kc_solve.specs.Answers.{visibility_by}
 use Rattle.kc_solve.specs.Kept.{valuation}
-use Rattle.kc_solve.proofs.FlagSteps.{one_more_differs, one_more_written, solved_here}
+use Rattle.kc_solve.proofs.FlagSteps.{one_more_differs, one_more_visible, one_more_written, solved_here}
 use Rattle.kc_solve.proofs.TableSteps.{choice_at_most, choice_below, row_count, row_facts}
 use Rattle.kc_solve.proofs.UserSteps.{place_mapped}
-use Rattle.kc_solve.proofs.WarningSteps.{one_more_warned}
 use Rattle.kc_solve.proofs.flags.flags_of.Goals as goal
 
 pub symbol_row-symbol-requires : goal.symbol_row-symbol-requires
@@ -24,7 +22,7 @@ symbol_differs-requires-clause-selections c =
     let t = c.args.table.now.tree.now in
     let s = c.symbol_row-symbol.result.now in
     let f = selection t (place_at c.args.user.now) (valuation t c.args.table.now.values.items) in
-    choice_below t c.symbol_count-count.ensures.formed c.loop-i.i _ (facts_of c.args.table.now.layout.now c.loop-i.i s) s.choice
+    choice_below t c.name_count-count.ensures.formed c.loop-i.i _ (facts_of c.args.table.now.layout.now c.loop-i.i s) s.choice
     (row_facts c.args.table.now (symbol c.loop-i.i) s c.symbol_row-symbol.ensures) refl (ap length c.requires.selections ∙ length-map-range_with_len f 0 (length t.choices))
 
 pub symbol_differs-requires-clause-defaults : goal.symbol_differs-requires-clause-defaults
@@ -32,7 +30,7 @@ symbol_differs-requires-clause-defaults c =
     let t = c.args.table.now.tree.now in
     let s = c.symbol_row-symbol.result.now in
     let f = default_selection t (valuation t c.args.table.now.values.items) in
-    choice_below t c.symbol_count-count.ensures.formed c.loop-i.i _ (facts_of c.args.table.now.layout.now c.loop-i.i s) s.choice
+    choice_below t c.name_count-count.ensures.formed c.loop-i.i _ (facts_of c.args.table.now.layout.now c.loop-i.i s) s.choice
     (row_facts c.args.table.now (symbol c.loop-i.i) s c.symbol_row-symbol.ensures) refl (ap length c.requires.defaults ∙ length-map-range_with_len f 0 (length t.choices))
 
 pub symbol_differs-requires-clause-solved : goal.symbol_differs-requires-clause-solved
@@ -52,12 +50,10 @@ loop-i-preserved c =
     let f = facts_of table.layout.now c.loop-i.i s in
     let at = row_facts table (symbol c.loop-i.i) s c.symbol_row-symbol.ensures in
     let before = c.loop-i.invariant in
-    let differs = one_more_differs t values c.requires.full (place_at c.args.user.now) c.loop-i.i f at c.args.selections.now c.args.defaults.now c.requires.selections c.requires.defaults
-    (λ d e. choice_at_most t c.symbol_count-count.ensures.formed c.loop-i.i f d at e)
-    _ _ _ before.0 c.in_ok-push.ensures.items c.in_ok-differs.ensures
-    in
-    let written = one_more_written t values c.loop-i.i _ _ _ c.requires.full before.1 c.in_ok-push-2.ensures.items (c.written.ensures ∙ ap (written_facts t (known_in t values)) (sym at)) in
-    let warned = one_more_warned t values c.args.user.now c.loop-i.i (given_in c.get-own.result) _ _ c.requires.full (place_mapped c.get-own.result ∙ c.get-own.ensures) before.2
-    (c.in_ok-warnings_into.ensures ∙ ap (λ o. map (λ w. w.items) c.loop-i.warnings.items ++ warnings_of t (known_in t values) (name t (symbol c.loop-i.i)) o (given_in c.get-own.result)) (sym at))
-    in
-    (differs, written, warned)
+    record {
+      visibilities = one_more_visible t values c.loop-i.i _ _ _ c.requires.full before.visibilities c.in_ok-push.ensures.items (c.visibility-visibility.ensures ∙ ap (visibility_by t (known_in t values)) (sym at));
+      differing = one_more_differs t values c.requires.full (place_at c.args.user.now) c.loop-i.i f at c.args.selections.now c.args.defaults.now c.requires.selections c.requires.defaults
+          (λ d e. choice_at_most t c.name_count-count.ensures.formed c.loop-i.i f d at e)
+          _ _ _ before.differing c.in_ok-push-2.ensures.items c.in_ok-differs.ensures;
+      written = one_more_written t values c.loop-i.i _ _ _ c.requires.full before.written c.in_ok-push-3.ensures.items (c.written.ensures ∙ ap (written_facts t (known_in t values)) (sym at));
+    }

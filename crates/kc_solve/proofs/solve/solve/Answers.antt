@@ -3,7 +3,7 @@ use Rattle.kc_order.specs.Solution.{Solves, IsOnlySolution}
 use Rattle.kc_tree.specs.TreeFacts.{TreeFacts}
 use Rattle.kc_user.specs.Places.{ArePlacesOf, place_at}
 use Rattle.kc_values.specs.Needs.{IsAccepted}
-use Rattle.kc_values.specs.Solution.{symbol_count, equations}
+use Rattle.kc_values.specs.Solution.{name_count, equations}
 use Rattle.kc_solve.specs.Kept.{valuation}
 use Rattle.kc_solve.proofs.SolvedSteps.{only_here}
 use Rattle.kc_solve.proofs.solve.solve.Goals as goal
@@ -16,14 +16,15 @@ invariant_of-solved c =
     record {
       accepted = subst IsAccepted e c.in_ok-table.ensures.accepted;
       user = subst (λ (t : TreeFacts). ArePlacesOf t c.args.user.now) e c.requires.user;
-      full = c.in_ok-table.ensures.count ∙ ap symbol_count e;
-      solves = subst (λ (t : TreeFacts). Solves (symbol_count t) (equations t U) (valuation t items)) e c.in_ok-table.ensures.solves;
-      only = subst (λ (t : TreeFacts). IsOnlySolution (symbol_count t) (equations t U) (valuation t items)) e c.in_ok-table.ensures.only;
+      full = c.in_ok-table.ensures.count ∙ ap name_count e;
+      solves = subst (λ (t : TreeFacts). Solves (name_count t) (equations t U) (valuation t items)) e c.in_ok-table.ensures.solves;
+      only = subst (λ (t : TreeFacts). IsOnlySolution (name_count t) (equations t U) (valuation t items)) e c.in_ok-table.ensures.only;
       selections_are = c.in_ok-selected.ensures.selected;
       defaults_are = c.in_ok-selected.ensures.default;
-      differing_are = c.in_ok-differing.ensures.differing;
-      written_are = c.in_ok-differing.ensures.written;
-      lines_are = c.in_ok-differing.ensures.warnings;
+      visibilities_are = c.in_ok-visibilities.ensures.visibilities;
+      differing_are = c.in_ok-visibilities.ensures.differing;
+      written_are = c.in_ok-visibilities.ensures.written;
+      lines_are = c.in_ok-warnings.ensures;
     }
 
 pub returns-clause-only : goal.returns-clause-only

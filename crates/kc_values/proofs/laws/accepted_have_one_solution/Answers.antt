@@ -4,15 +4,15 @@ use Rattle.kc_order.proofs.OneSolution.{exists}
 use Rattle.kc_expr.specs.Value.{Truth}
 use Rattle.kc_expr.specs.declared.expression.Tri.TheVariants.{N}
 use Rattle.kc_values.specs.Needs.{needs}
-use Rattle.kc_values.specs.Solution.{symbol_count, equations}
+use Rattle.kc_values.specs.Solution.{name_count, equations}
 use Rattle.kc_values.proofs.TreeNeeds.{below_count, free_count}
 use Rattle.kc_values.proofs.laws.accepted_have_one_solution.Goals as goal
 
 pub returns-clause-exists : goal.returns-clause-exists
 returns-clause-exists c tree user free =
-    exists (Truth N) (symbol_count tree) (needs_in (needs tree)) (equations tree user) (below_count tree (c.needs_are_defined.ensures tree)) (c.equations_read_needs.ensures tree user)
+    exists (Truth N) (name_count tree) (needs_in (needs tree)) (equations tree user) (below_count tree (c.needs_are_symbols.ensures tree)) (c.equations_read_needs.ensures tree user)
     (free_count tree free)
 
 pub returns-clause-agree : goal.returns-clause-agree
 returns-clause-agree c tree user free V v =
-    only (symbol_count tree) (needs_in (needs tree)) (equations tree user) (below_count tree (c.needs_are_defined.ensures tree)) (c.equations_read_needs.ensures tree user) (free_count tree free) V v
+    only (name_count tree) (needs_in (needs tree)) (equations tree user) (below_count tree (c.needs_are_symbols.ensures tree)) (c.equations_read_needs.ensures tree user) (free_count tree free) V v

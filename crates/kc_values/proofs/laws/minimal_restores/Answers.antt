@@ -1,7 +1,7 @@
 use Rattle.kc_order.specs.Needs.{needs_in}
 use Rattle.kc_order.proofs.MinimalLaws.{restores, nothing_can_go}
 use Rattle.kc_values.specs.Needs.{needs}
-use Rattle.kc_values.specs.Solution.{symbol_count, user_place, rhs}
+use Rattle.kc_values.specs.Solution.{name_count, user_place, rhs}
 use Rattle.kc_values.specs.GivenLines.{minimal_line}
 use Rattle.kc_values.proofs.FixedLines.{is_minimal}
 use Rattle.kc_values.proofs.ModeLaws.{members_are_theirs}
@@ -10,12 +10,12 @@ use Rattle.kc_values.proofs.laws.minimal_restores.Goals as goal
 
 pub returns-clause-restores : goal.returns-clause-restores
 returns-clause-restores c tree user V keep free formed solves tells =
-    restores (symbol_count tree) (needs_in (needs tree)) (user_place tree) (rhs tree) (below_count tree (c.needs_are_defined.ensures tree)) (c.equations_read_needs.ensures tree)
+    restores (name_count tree) (needs_in (needs tree)) (user_place tree) (rhs tree) (below_count tree (c.needs_are_symbols.ensures tree)) (c.equations_read_needs.ensures tree)
     (minimal_line tree user V) V keep (free_count tree free)
     (is_minimal tree user V solves (members_are_theirs tree formed) keep tells)
 
 pub returns-clause-nothing_to_spare : goal.returns-clause-nothing_to_spare
 returns-clause-nothing_to_spare c tree user V keep formed solves tells =
-    nothing_can_go (symbol_count tree) (needs_in (needs tree)) (user_place tree) (rhs tree) (below_count tree (c.needs_are_defined.ensures tree)) (c.equations_read_needs.ensures tree)
+    nothing_can_go (name_count tree) (needs_in (needs tree)) (user_place tree) (rhs tree) (below_count tree (c.needs_are_symbols.ensures tree)) (c.equations_read_needs.ensures tree)
     (minimal_line tree user V) V keep
     (is_minimal tree user V solves (members_are_theirs tree formed) keep tells)

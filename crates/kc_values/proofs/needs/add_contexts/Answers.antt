@@ -8,12 +8,12 @@ use Rattle.kc_values.proofs.needs.add_contexts.Goals.{in-Some+in_ok-context_row_
 pub loop-i-preserved : goal.loop-i-preserved
 loop-i-preserved c =
     let l = c.args.layout.now in
-    let n = length c.symbols-defined.result.now in
+    let n = length c.symbols-count.result.now in
     let row = row_of n c.match-context.row in
     let is : IsContextRow l c.loop-i.i row = elim c.match-context.branch [
       | in-Some+in_ok-context_row_into w ↦
           of_inner w.in-Some.context.now w.in-Some.ensures
-          (closed l n _ _ c.loop-i.row c.match-context.row (ap length c.symbols-defined.ensures) c.loop-i.invariant.1 (rw w.row-is w.in_ok-context_row_into.ensures))
+          (closed l n _ _ c.loop-i.row c.match-context.row (ap length c.symbols-count.ensures) c.loop-i.invariant.1 (rw w.row-is w.in_ok-context_row_into.ensures))
       | in_default w ↦ of_top w.in_default.ensures (ap (row_of n) w.row-is ∙ untouched n c.loop-i.row c.loop-i.invariant.1)
     ] in
     (one_context l c.loop-i.i c.args.graph.now c.loop-i.graph c.close_row.new.graph row c.loop-i.invariant.0 c.in_ok-close_row.ensures.graph is, c.in_ok-close_row.ensures.empty)

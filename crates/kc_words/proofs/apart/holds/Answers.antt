@@ -2,7 +2,7 @@
 use Rattle.std.proofs.Common.{◌∙◌, ap, position}
 use Rattle.std.specs.Option.{is_some}
 use Rattle.kc_expr.specs.Names.{same_name, symbol}
-use Rattle.kc_expr.proofs.OrderLemmas.{position-any}
+use Rattle.kc_words.proofs.PlaceLemmas.{position-any}
 use Rattle.kc_words.specs.Apart.{is_among}
 use Rattle.kc_words.proofs.ApartLemmas.{some-map}
 use Rattle.kc_words.proofs.apart.holds.Goals as goal

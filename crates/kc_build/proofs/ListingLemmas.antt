@@ -1,0 +1,37 @@
+-- The listing of an expanded list.
+use Rattle.std.proofs.Common.{◌≡◌, ℕ, List, [], map, Option, ap, sym, ◌∙◌, codes, position}
+use Rattle.std.specs.Option.{option_map, option_or}
+use Rattle.std.specs.declared.vec.Vec.{Vec}
+use Rattle.std.specs.declared.alloc.Global.{Global}
+use Rattle.kc_expr.specs.declared.expression.SymId.{SymId}
+use Rattle.kc_expr.specs.Names.{number_of, same_name, symbol}
+use Rattle.kc_read.specs.declared.expansion.Expansion.{Expansion}
+use Rattle.kc_read.specs.Blocks.{modules_of}
+use Rattle.kc_read.specs.Expansion.{Log, defined as defined_names}
+use Rattle.kc_read.specs.Expanded.{IsExpansion}
+use Rattle.kc_read.specs.Numbering.{located_numbered, names_of}
+use Rattle.kc_read.specs.Statements.{statements}
+use Rattle.kc_read.proofs.NameLemmas.{extends_none}
+use Rattle.kc_build.specs.Listings.{IsListing}
+use Rattle.kc_build.proofs.NumberingLemmas.{defined_are_numbers, modules_are, named_is, statements_numbered}
+
+-- the name that stands for modules where no line does
+abbrev modules_name : List (List ℕ) → Option SymId
+modules_name names = option_map symbol (position (same_name (codes "MODULES")) names)
+
+pub listing-is : (log : Log) (names : List (List ℕ)) (e : Expansion) → IsExpansion [] names log e → (defined : Vec SymId Global) (modules : Option SymId) →
+    defined.items ≡ e.defined → modules ≡ option_or e.modules (modules_name names) →
+    IsListing log (record { names = names; defined = defined; modules = modules; lines = e.lines })
+listing-is log names e x defined modules d m =
+    let ss = statements log.lines in
+    record {
+      names_are = x.mentions;
+      lines_are = x.lines names (extends_none names) ∙ ap (λ (ns : List (List ℕ)). map (located_numbered (number_of ns)) log.lines) x.mentions;
+      defined_are = d ∙ x.defined_is names (extends_none names) ∙ ap (λ (ns : List (List ℕ)). map (λ n. symbol (number_of ns n)) (defined_names ss)) x.mentions
+          ∙ sym (defined_are_numbers log.lines);
+      modules_is = m
+          ∙ ap (λ (o : Option SymId). option_or o (modules_name names)) (named_is names e.modules (modules_of ss) x.modules_is)
+          ∙ ap (λ (ns : List (List ℕ)). option_or (option_map (λ n. symbol (number_of ns n)) (modules_of ss)) (modules_name ns)) x.mentions
+          ∙ ap (λ (o : Option SymId). option_or o (modules_name (names_of ss)))
+          (sym (modules_are (number_of (names_of ss)) ss) ∙ ap modules_of (sym (statements_numbered (number_of (names_of ss)) log.lines)));
+    }

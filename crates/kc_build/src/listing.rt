@@ -1,0 +1,88 @@
+//! The lines of a root file, and the symbols that they define.
+
+ghost use Rattle.std.specs.Prelude.{◌≡◌, ◌≢◌, IfOk, IfErr, Err, [], Some, codes, position};
+ghost use Rattle.std.specs.Option.{option_map, option_or};
+ghost use Rattle.kc_expr.specs.Names.{same_name, symbol};
+ghost use Rattle.kc_read.specs.Expanded.{IsExpansion};
+ghost use Rattle.kc_read.specs.Expansion.{Log, Expands};
+ghost use Rattle.kc_read.specs.Files.{bytes_in};
+ghost use Rattle.kc_read.specs.OpenedFiles.{AreOpened};
+ghost use Rattle.kc_read.specs.RefusalView.{IsMemory, refusal_view};
+ghost use Rattle.kc_read.specs.declared.refusal.Code.TheVariants.{Memory};
+ghost use Rattle.kc_build.specs.Listings.{IsListing, IsListingOf};
+
+use kc_expr::expression::SymId;
+use kc_expr::names::Names;
+use kc_read::expansion::{Expansion, expand};
+use kc_read::file_map::FileMap;
+use kc_read::refusal::Refusal;
+use kc_read::statement::Line;
+use std::alloc::Global;
+
+/// The lines of a root file.
+#[derive(Drop)]
+pub struct Listing {
+    /// The names that the lines mention, numbered in the order of their first mention.
+    pub names: Names,
+    /// The defined symbols, in the order of their first definition.
+    pub defined: Vec<SymId>,
+    /// The symbol with the first `modules` line, and without such a line the one named `MODULES`, where it is mentioned.
+    pub modules: Option<SymId>,
+    pub lines: Vec<Line>,
+}
+
+/// What reading a root file gives: its listing, and the names of the files that were opened, each once, in the order of
+/// their first opening.
+#[derive(Drop)]
+pub struct RootReading {
+    pub listing: Listing,
+    pub opened: Names,
+}
+
+// The modules symbol: this one, or that of the name `MODULES`, where it is mentioned.
+fn modules_symbol(names: &Names, modules: Option<SymId>) -> Option<SymId>
+    ensures { result ≡ option_or modules (option_map symbol (position (same_name (codes "MODULES")) names.now)) }
+{
+    match modules {
+        Some(id) => Some(id),
+        None => names.find(b"MODULES"),
+    }
+}
+
+// The listing of an expansion.
+fn listing_of(names: Names, expansion: Expansion) -> RootReading
+    requires { (log : Log) × IsExpansion [] names log expansion }
+    ensures listing { (log : Log) → IsExpansion [] names log expansion → IsListing log result.listing }
+    ensures opened { result.opened ≡ expansion.opened }
+{
+    let Expansion {
+        lines,
+        defined,
+        modules,
+        opened,
+    } = expansion;
+    let modules = modules_symbol(&names, modules);
+    RootReading {
+        listing: Listing {
+            names,
+            defined: defined.into_symbols(),
+            modules,
+            lines,
+        },
+        opened,
+    }
+}
+
+/// The lines of a root file, and the files that were opened for them, or its first refusal: E1 to E12 and E16, each at the
+/// first line with a fault, as `expand` of kc_read answers them. The files are not looked at again afterwards. E20, which has
+/// no location and no detail, is being out of memory.
+pub fn read_listing(alloc: Global, map: &FileMap, root: &[u8]) -> Result<RootReading, Refusal>
+    ensures listed { IfOk result (λ r. IsListingOf (bytes_in map.now) root.now r.listing) }
+    ensures opened { IfOk result (λ r. AreOpened (bytes_in map.now) root.now r.opened) }
+    ensures refused { IfErr result (λ r. r.code ≢ Memory → Expands (bytes_in map.now) root.now (Err (refusal_view r))) }
+    ensures memory { IfErr result IsMemory }
+{
+    let mut names = Names::new(alloc);
+    let expansion = expand(alloc, map, root, &mut names)?;
+    Ok(listing_of(names, expansion))
+}
