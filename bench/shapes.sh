@@ -255,6 +255,11 @@ def unknown_names(count):
     return config("A", "bool"), "".join(f"CONFIG_U_{i}=y\n" for i in range(count))
 
 
+def undefined_names(count):
+    """So many symbols that depend on 40 names each, none of which is defined."""
+    return "".join(config(f"S_{i}", "bool", "depends on " + " || ".join(f"U_{i}_{k}" for k in range(40))) for i in range(count))
+
+
 # Each shape with its least size. A tree has at most 65,535 symbols and 1,000,000 lines.
 SHAPES = [
     (loop_beside_a_chain, 16000),
@@ -286,6 +291,7 @@ SHAPES = [
     (long_expressions, 1000),
     (help_texts, 4000),
     (unknown_names, 500000),
+    (undefined_names, 5000),
 ]
 # Those that are refused, for their loop.
 REFUSED = {loop_beside_a_chain, loop_beside_wide_conditions}

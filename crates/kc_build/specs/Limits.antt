@@ -1,4 +1,4 @@
--- Trusted: The limits of a tree (our own).
+-- For proofs: The limits of a tree (our own).
 use Rattle.std.specs.Prelude.{ℕ}
 
 -- the most names that a tree may mention

@@ -85,7 +85,7 @@ impl<'a> Trial<'a> {
     fn value_of_a(&self, tree: &Tree) -> Option<Tri> {
         let id = tree.find(b"A")?;
         match self.user.user().symbols().get(id.0) {
-            Some(Some(UserValue::Tri(value))) => Some(*value),
+            Some(UserValue::Tri(value)) => Some(*value),
             _ => None,
         }
     }

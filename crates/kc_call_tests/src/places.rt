@@ -1,8 +1,9 @@
-//! Which user values a symbol may have (kc_user).
+//! Which user values a symbol may have, and what places hold (kc_user).
 
 use crate::trial::{Claim, is_true_of};
 use kc_expr::expression::{SymId, Tri};
 use kc_tree::tree::Tree;
+use kc_user::sparse::SparseVec;
 use kc_user::value::{UserValue, allowed};
 use std::alloc::{AllocError, Global};
 
@@ -115,4 +116,33 @@ fn the_type_says_what_a_symbol_may_have(rt: HostRuntime) {
     for (name, sample) in SAMPLES {
         assert!(rt; is_true_of(rt.alloc(), TREE, sample), "{name}");
     }
+}
+
+// Whether three places hold these values.
+fn hold(places: &SparseVec<u8>, first: Option<u8>, second: Option<u8>, third: Option<u8>) -> bool {
+    places.get(0).copied() == first
+        && places.get(1).copied() == second
+        && places.get(2).copied() == third
+}
+
+// Whether three places hold what was put there last, and a fourth, which is not there, holds nothing.
+fn hold_the_last(alloc: Global) -> Result<bool, AllocError> {
+    let mut places: SparseVec<u8> = SparseVec::empty(alloc, 3)?;
+    let mut all = hold(&places, None, None, None);
+    places.set(1, Some(7))?;
+    all = all && hold(&places, None, Some(7), None);
+    places.set(2, Some(8))?;
+    places.set(1, Some(9))?;
+    all = all && hold(&places, None, Some(9), Some(8));
+    places.set(1, None)?;
+    places.set(0, Some(6))?;
+    all = all && hold(&places, Some(6), None, Some(8));
+    places.set(1, Some(5))?;
+    all = all && hold(&places, Some(6), Some(5), Some(8));
+    Ok(all && places.len() == 3 && places.get(3).is_none())
+}
+
+#[test]
+fn a_place_holds_what_was_put_there_last(rt: HostRuntime) {
+    assert!(rt; matches!(hold_the_last(rt.alloc()), Ok(true)));
 }

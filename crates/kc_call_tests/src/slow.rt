@@ -24,6 +24,7 @@ use kc_solve::order::EvaluationOrder;
 use kc_tree::layout::Layout;
 use kc_tree::rows::{ChoiceId, Symbol};
 use kc_tree::tree::Tree;
+use kc_user::sparse::SparseVec;
 use kc_user::user::User;
 use kc_user::value::UserValue;
 use kc_values::choices::selected_in;
@@ -58,14 +59,14 @@ fn first_value(alloc: Global, kind: Kind) -> Value
 }
 
 // A table of n and empty texts.
-fn first_values(alloc: Global, tree: &Tree) -> Result<Vec<Option<Value>>, AllocError>
-    ensures { IfOk result (λ v. length v.items ≡ name_count tree.now) }
+fn first_values(alloc: Global, tree: &Tree) -> Result<SparseVec<Value>, AllocError>
+    ensures { IfOk result (λ v. length v ≡ name_count tree.now) }
 {
     let count = tree.name_count();
-    let mut values = Vec::with_capacity(alloc, count)?;
+    let mut values = SparseVec::empty(alloc, count)?;
     for i in 0..count {
         let kind = symbol_row(tree.layout(), SymId(i)).kind;
-        values.push(Some(first_value(alloc, kind)))?;
+        values.set(i, Some(first_value(alloc, kind)))?;
     }
     Ok(values)
 }
@@ -78,7 +79,7 @@ fn first_table<'t>(
 ) -> Result<Table<'t>, AllocError>
     requires { IsLayoutOf tree.now layout.now }
     ensures tree { IfOk result (λ t. t.tree.now ≡ tree.now) }
-    ensures count { IfOk result (λ t. length t.values.items ≡ name_count tree.now) }
+    ensures count { IfOk result (λ t. length t.values ≡ name_count tree.now) }
     ensures unsettled { IfOk result (λ t. t.contexts.items ≡ replicate (length layout.now.tables.contexts) None) }
 {
     let mut table = Table::empty(alloc, tree, layout)?;
@@ -103,7 +104,7 @@ fn value_anew(
     table: &Table,
     id: SymId,
     symbol: &Symbol,
-    given: &[Option<UserValue>],
+    given: &SparseVec<UserValue>,
     chosen: &[Option<SymId>],
 ) -> Result<Value, AllocError>
     requires below { id.0 < length given.now }
@@ -112,7 +113,7 @@ fn value_anew(
         ≡ by_choice table.now.tree.now (known_at table.now) id (facts_of table.now.layout.now id.0 symbol.now) (facts_of table.now.layout.now id.0 symbol.now).choice
         (given_for symbol.now.choice (places given.now chosen.now (SymbolPlace id.0)) chosen.now)) }
 {
-    let own = given[id.0].as_ref();
+    let own = given.get(id.0);
     match symbol.choice {
         Some(choice) => Ok(Value::Truth(member_value(table, id, choice, chosen))),
         None => {
@@ -127,12 +128,12 @@ fn compute_anew(
     alloc: Global,
     table: &mut Table<'_>,
     id: SymId,
-    given: &[Option<UserValue>],
+    given: &SparseVec<UserValue>,
     chosen: &[Option<SymId>],
 ) -> Result<(), AllocError>
-    requires defined { id.0 < length table.old.values.items }
-    requires full { length table.old.values.items ≡ name_count table.old.tree.now }
-    requires given { length given.now ≡ length table.old.values.items }
+    requires defined { id.0 < length table.old.values }
+    requires full { length table.old.values ≡ name_count table.old.tree.now }
+    requires given { length given.now ≡ length table.old.values }
     requires chosen { length chosen.now ≡ length table.old.tree.now.choices }
     requires unsettled { table.old.contexts.items ≡ replicate (length table.old.contexts.items) None }
     ensures { OnOk result (IsComputedSymbol given.now chosen.now id table.old table.new) }
@@ -141,7 +142,7 @@ fn compute_anew(
     let _count = table.tree.name_count();
     let symbol = symbol_row(table.layout, id);
     let value = value_anew(alloc, table, id, symbol, given, chosen)?;
-    table.values[id.0] = Some(value);
+    table.values.set(id.0, Some(value))?;
     Ok(())
 }
 
@@ -161,9 +162,9 @@ pub(crate) fn slow_table<'t>(
     requires user { ArePlacesOf tree.now user.now }
     ensures tree { IfOk result (λ t. t.tree.now ≡ tree.now) }
     ensures accepted { OnOk result (IsAccepted tree.now) }
-    ensures count { IfOk result (λ t. length t.values.items ≡ name_count tree.now) }
-    ensures solves { IfOk result (λ t. Solves (name_count tree.now) (equations tree.now (place_at user.now)) (valuation tree.now t.values.items)) }
-    ensures only { IfOk result (λ t. IsOnlySolution (name_count tree.now) (equations tree.now (place_at user.now)) (valuation tree.now t.values.items)) }
+    ensures count { IfOk result (λ t. length t.values ≡ name_count tree.now) }
+    ensures solves { IfOk result (λ t. Solves (name_count tree.now) (equations tree.now (place_at user.now)) (valuation tree.now t.values)) }
+    ensures only { IfOk result (λ t. IsOnlySolution (name_count tree.now) (equations tree.now (place_at user.now)) (valuation tree.now t.values)) }
 {
     accepted_have_one_solution();
     ordered_are_accepted();

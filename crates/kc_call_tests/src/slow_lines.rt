@@ -17,10 +17,7 @@ use std::alloc::{AllocError, Global};
 
 // What was given for the symbol.
 fn given(user: &User, id: SymId) -> Option<&UserValue> {
-    match user.symbols().get(id.0) {
-        Some(Some(value)) => Some(value),
-        _ => None,
-    }
+    user.symbols().get(id.0)
 }
 
 // The member that was chosen.

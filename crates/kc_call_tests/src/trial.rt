@@ -68,10 +68,7 @@ fn set(tree: &Tree, user: &mut User, name: &[u8], value: UserValue) -> bool
     ensures { ArePlacesOf tree.now user.new }
 {
     match tree.find(name) {
-        Some(id) if id.0 < tree.name_count() => {
-            user.set(id, value);
-            true
-        }
+        Some(id) if id.0 < tree.name_count() => user.set(id, value).is_ok(),
         _ => false,
     }
 }

@@ -51,10 +51,7 @@ fn prefix_of(alloc: Global) -> Result<Prefix, AllocError> {
 
 // What stands in the symbol's place.
 fn given(user: &User, id: SymId) -> Option<&UserValue> {
-    match user.symbols().get(id.0) {
-        Some(place) => place.as_ref(),
-        None => None,
-    }
+    user.symbols().get(id.0)
 }
 
 // The symbol's place is empty, or holds n.

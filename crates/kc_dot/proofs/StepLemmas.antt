@@ -46,21 +46,21 @@ choice_there tree i facts (Some k) formed found is =
     let (c, listed, member) = formed.members_listed i facts found k.0 (sym is) in
     slice_get_within tree.choices k.0 c listed
 
--- the places after an assignment, whose symbol's choice was seen to before
+-- the places after an assignment, whose symbol's choice is seen to after it
 pub assigned : (tree : TreeFacts) (old mid new : Places) (s : SymId) (given : GivenValue) →
-    mid ≡ record { symbols = old.symbols; choices = with_member (is_yes given) (choice_of tree s) s old.choices } →
-    new ≡ record { symbols = slice_set mid.symbols s.0 (Some given); choices = mid.choices } →
+    mid ≡ record { symbols = slice_set old.symbols s.0 (Some given); choices = old.choices } →
+    new ≡ record { symbols = mid.symbols; choices = with_member (is_yes given) (choice_of tree s) s mid.choices } →
     new ≡ places_given tree old (record { symbol = s; given = given } ∷ [])
-assigned tree old mid new s given chosen set =
-    rw (set, chosen) (sym (places_given-one tree old s given))
+assigned tree old mid new s given set chosen =
+    rw (chosen, set) (sym (places_given-one tree old s given))
 
 pub assigned_yes : (tree : TreeFacts) (old mid new : Places) (s : SymId) (given : GivenValue) → is_yes given ≡ true →
-    mid ≡ record { symbols = old.symbols; choices = with_member true (choice_of tree s) s old.choices } →
-    new ≡ record { symbols = slice_set mid.symbols s.0 (Some given); choices = mid.choices } →
+    mid ≡ record { symbols = slice_set old.symbols s.0 (Some given); choices = old.choices } →
+    new ≡ record { symbols = mid.symbols; choices = with_member true (choice_of tree s) s mid.choices } →
     new ≡ places_given tree old (record { symbol = s; given = given } ∷ [])
-assigned_yes tree old mid new s given is_y chosen set = assigned tree old mid new s given (rw is_y chosen) set
+assigned_yes tree old mid new s given is_y set chosen = assigned tree old mid new s given set (rw is_y chosen)
 
-pub assigned_no : (tree : TreeFacts) (old mid new : Places) (s : SymId) (given : GivenValue) → is_yes given ≡ false → mid ≡ old →
-    new ≡ record { symbols = slice_set mid.symbols s.0 (Some given); choices = mid.choices } →
+pub assigned_no : (tree : TreeFacts) (old mid new : Places) (s : SymId) (given : GivenValue) → is_yes given ≡ false →
+    mid ≡ record { symbols = slice_set old.symbols s.0 (Some given); choices = old.choices } → new ≡ mid →
     new ≡ places_given tree old (record { symbol = s; given = given } ∷ [])
-assigned_no tree old mid new s given is_other same set = assigned tree old mid new s given (rw is_other same) set
+assigned_no tree old mid new s given is_other set same = assigned tree old mid new s given set (rw is_other same)

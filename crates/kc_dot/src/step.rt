@@ -67,15 +67,18 @@ fn choose(tree: &Tree, id: SymId, user: &mut User)
 }
 
 // Gives the symbol the value; a member that is made y becomes the user's member of its choice.
-fn assign(tree: &Tree, id: SymId, value: UserValue, user: &mut User)
+fn assign(tree: &Tree, id: SymId, value: UserValue, user: &mut User) -> Result<(), AllocError>
     requires mentioned { id.0 < length tree.now.symbols }
     requires user { ArePlacesOf tree.now user.old }
-    ensures { user.new ≡ places_given tree.now user.old (record { symbol = id; given = given_of_value value } ∷ []) }
+    ensures done { OnOk result (user.new ≡ places_given tree.now user.old (record { symbol = id; given = given_of_value value } ∷ [])) }
+    ensures failed { OnErr result (user.new ≡ user.old) }
 {
-    if is_yes(&value) {
+    let is_selected = is_yes(&value);
+    user.set(id, value)?;
+    if is_selected {
         choose(tree, id, user);
     }
-    user.set(id, value);
+    Ok(())
 }
 
 // Whether a value stands in the place of another.
@@ -99,15 +102,23 @@ fn set_line<'a>(lines: &mut Vec<Option<InputLine<'a>>>, id: SymId, at: InputLine
 }
 
 // Gives the symbol the value, by this line.
-fn give<'a>(tree: &Tree, at: InputLine<'a>, id: SymId, value: UserValue, input: &mut UserInput<'a>)
+fn give<'a>(
+    tree: &Tree,
+    at: InputLine<'a>,
+    id: SymId,
+    value: UserValue,
+    input: &mut UserInput<'a>,
+) -> Result<(), AllocError>
     requires mentioned { id.0 < length tree.now.symbols }
     requires user { ArePlacesOf tree.now input.old.places }
-    ensures { input.new ≡ input_by tree.now input.old (location_of at.entry) (Assigns id (given_of_value value)) }
+    ensures done { OnOk result (input.new ≡ input_by tree.now input.old (location_of at.entry) (Assigns id (given_of_value value))) }
+    ensures failed { OnErr result (input.new ≡ input.old) }
 {
     let is_kept = !is_change(&input.user, id, &value);
+    assign(tree, id, value, &mut input.user)?;
     set_line(&mut input.lines, id, at);
-    assign(tree, id, value, &mut input.user);
     input.all_taken = input.all_taken && is_kept;
+    Ok(())
 }
 
 // Adds the line that tells that the symbol is set again.
@@ -276,9 +287,13 @@ pub(crate) fn read_line<'a>(
             Ok(())
         }
         Effect::Assigns(id, value) => {
+            let before = told.len();
             warn_again(alloc, stream.tree, at, id, &value, user, told)?;
-            give(stream.tree, at, id, value, user);
-            Ok(())
+            let given = give(stream.tree, at, id, value, user);
+            if given.is_err() {
+                told.truncate(before);
+            }
+            given
         }
     }
 }

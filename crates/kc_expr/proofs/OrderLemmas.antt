@@ -5,7 +5,6 @@ use Rattle.std.proofs.Math.ListN.{set}
 use Rattle.std.proofs.lemmas.Bool.{cases_eq, eq-eqb, ne_eqb}
 use Rattle.std.proofs.lemmas.List.Folds.{list_any-append}
 use Rattle.kc_expr.specs.declared.expression.SymId.{SymId}
-use Rattle.kc_expr.specs.Names.{same_symbol}
 use Rattle.kc_expr.specs.Order.{added, is_marked, stands_in}
 
 is_marked-set_same : (xs : List Bool) (i : ℕ) (v : Bool) → i < length xs → is_marked (set xs i v) i ≡ v

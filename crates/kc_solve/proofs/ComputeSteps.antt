@@ -1,7 +1,8 @@
 -- One more node of the table computed, along an order of the nodes of a tree.
-use Rattle.std.proofs.Common.{◌≡◌, ◌≢◌, ◌⊎◌, ℕ, ◌<◌, ◌≤◌, ◌+◌, List, [], ◌∷◌, length, Option, Some, None, sym, ◌∙◌, ap, inl, inr, subst, arith, get_or, take, eqb, flat_map}
+use Rattle.std.proofs.Common.{◌≡◌, ◌≢◌, ◌⊎◌, ℕ, ◌<◌, ◌≤◌, ◌+◌, List, [], ◌∷◌, length, Option, Some, None, sym, ◌∙◌, ap, inl, inr, subst, arith, get_or, take, eqb, flat_map, Result, Ok, Err}
 use Rattle.std.specs.Prelude.{slice_index_or, replicate}
 use Rattle.std.specs.List.{AllByRecursion, Contains}
+use Rattle.std.specs.Result.{OnErr, OnOk}
 use Rattle.std.proofs.lemmas.Bool.{cases_eq, cases_lt, eqb-false}
 use Rattle.std.proofs.lemmas.List.{get_or_past, get_or-take, length-take-le, get_or_default, take_more, get_or-replicate, length-replicate, length-map}
 use Rattle.std.proofs.lemmas.List.Elements.{Contains-get_or, Contains-append_right, Contains-push_cases}
@@ -248,10 +249,10 @@ empty_at {A} n i x e =
 
 -- nothing is computed yet
 pub begins : (tree : TreeFacts) (l : Layout) (given : List (Option UserValue)) (chosen : List (Option SymId)) (nodes : List ℕ) (t : Table) → t.tree.now ≡ tree → t.layout.now ≡ l →
-    IsLayoutOf tree l → IsNodeOrder tree l nodes → t.values.items ≡ replicate (name_count tree) None → t.contexts.items ≡ replicate (length l.tables.contexts) None →
+    IsLayoutOf tree l → IsNodeOrder tree l nodes → t.values ≡ replicate (name_count tree) None → t.contexts.items ≡ replicate (length l.tables.contexts) None →
     t.selections.items ≡ replicate (length l.tables.choices.items) None → IsComputedTable tree given chosen nodes 0 t
 begins tree l given chosen nodes t same at laid order v c s =
-    let to : IsComputedTo tree l given chosen nodes 0 t.values.items t.contexts.items t.selections.items =
+    let to : IsComputedTo tree l given chosen nodes 0 t.values t.contexts.items t.selections.items =
     record {
       laid = laid;
       order = order;
@@ -263,7 +264,7 @@ begins tree l given chosen nodes t same at laid order v c s =
       choices_among = λ i x e. absurd (empty_at (length l.tables.choices.items) i x (sym (ap (λ xs. get_or xs i None) s) ∙ e));
       selected_are = λ i x e. absurd (empty_at (length l.tables.choices.items) i x (sym (ap (λ xs. get_or xs i None) s) ∙ e));
     }
-    in (same, subst (λ m. IsComputedTo tree m given chosen nodes 0 t.values.items t.contexts.items t.selections.items) (sym at) to)
+    in (same, subst (λ m. IsComputedTo tree m given chosen nodes 0 t.values t.contexts.items t.selections.items) (sym at) to)
 
 -- after all nodes the equations hold
 pub solves : (tree : TreeFacts) (l : Layout) (given : List (Option UserValue)) (chosen : List (Option SymId)) (nodes : List ℕ) (values : List (Option Value)) (contexts : List (Option Tri))
@@ -285,6 +286,11 @@ contexts_stay tree l values values' contexts selections id free others right i t
     ∙ ap rank (same_condition depends_on_symbols tree (known_in tree values) (known_in tree values') (condition_in l.tables.contexts i)
     (known_but (known_in tree values) (known_in tree values') id others (condition_names tree (condition_in l.tables.contexts i)) (free.contexts i t e)))
 
+-- what holds of a value that is put and of the one that stood there holds after a call that puts it, or fails
+pub either_way : {A X E : Type 0} (r : Result X E) (P : A → Type 0) (old put new : A) → OnOk r (new ≡ put) → OnErr r (new ≡ old) → P put → P old → P new
+either_way (Ok x) P old put new done failed p q = subst P (sym done) p
+either_way (Err e) P old put new done failed p q = subst P (sym failed) q
+
 -- one more node of a table
 module _ (tree : TreeFacts) (given : List (Option UserValue)) (chosen : List (Option SymId)) (nodes : List ℕ) (k : ℕ) (old new : Table) (now : IsComputedTable tree given chosen nodes k old)
     (b : k < length nodes) where
@@ -295,26 +301,26 @@ module _ (tree : TreeFacts) (given : List (Option UserValue)) (chosen : List (Op
       IsComputedSymbol given chosen id old new → IsComputedTable tree given chosen nodes (k + 1) new
   symbol_next names id at below f =
       let l = old.layout.now in
-      let free = unread tree l given chosen nodes k old.values.items old.contexts.items old.selections.items now.1 b names id.0 at below in
-      let values = subst (λ u. AreComputedValues u given chosen id old.values.items new.values.items) now.0 f.values in
-      let next = symbol_computed tree l given chosen nodes k old.values.items old.contexts.items old.selections.items now.1 b id new.values.items at below free values in
-      let a = subst (λ v. IsNext l new.values.items v.items old.selections.items) (sym f.contexts) next in
-      let c = subst (λ v. IsNext l new.values.items new.contexts.items v.items) (sym f.selections) a in
-      (ap (λ t. t.now) f.keeps.tree ∙ now.0, subst (λ r. IsNext r.now new.values.items new.contexts.items new.selections.items) (sym f.keeps.layout) c)
+      let free = unread tree l given chosen nodes k old.values old.contexts.items old.selections.items now.1 b names id.0 at below in
+      let values = subst (λ u. AreComputedValues u given chosen id old.values new.values) now.0 f.values in
+      let next = symbol_computed tree l given chosen nodes k old.values old.contexts.items old.selections.items now.1 b id new.values at below free values in
+      let a = subst (λ v. IsNext l new.values v.items old.selections.items) (sym f.contexts) next in
+      let c = subst (λ v. IsNext l new.values new.contexts.items v.items) (sym f.selections) a in
+      (ap (λ t. t.now) f.keeps.tree ∙ now.0, subst (λ r. IsNext r.now new.values new.contexts.items new.selections.items) (sym f.keeps.layout) c)
 
   pub context_next : (i : ℕ) → get_or nodes k 0 ≡ context_number old.layout.now i → IsComputedContext i old new → IsComputedTable tree given chosen nodes (k + 1) new
   context_next i at f =
       let l = old.layout.now in
-      let next = context_computed tree l given chosen nodes k old.values.items old.contexts.items old.selections.items now.1 b i new.contexts.items at f.contexts in
-      let a = subst (λ v. IsNext l v.items new.contexts.items old.selections.items) (sym f.values) next in
-      let c = subst (λ v. IsNext l new.values.items new.contexts.items v.items) (sym f.selections) a in
-      (ap (λ t. t.now) f.keeps.tree ∙ now.0, subst (λ r. IsNext r.now new.values.items new.contexts.items new.selections.items) (sym f.keeps.layout) c)
+      let next = context_computed tree l given chosen nodes k old.values old.contexts.items old.selections.items now.1 b i new.contexts.items at f.contexts in
+      let a = subst (λ v. IsNext l v new.contexts.items old.selections.items) (sym f.values) next in
+      let c = subst (λ v. IsNext l new.values new.contexts.items v.items) (sym f.selections) a in
+      (ap (λ t. t.now) f.keeps.tree ∙ now.0, subst (λ r. IsNext r.now new.values new.contexts.items new.selections.items) (sym f.keeps.layout) c)
 
   pub choice_next : (i : ℕ) → get_or nodes k 0 ≡ choice_number old.layout.now i → IsComputedSelection chosen i old new → IsComputedTable tree given chosen nodes (k + 1) new
   choice_next i at f =
       let l = old.layout.now in
-      let here = subst (λ u. IsSelection u old.values.items new.selections.items i (slice_index_or chosen i None)) now.0 f.here in
-      let next = selection_computed tree l given chosen nodes k old.values.items old.contexts.items old.selections.items now.1 b i new.selections.items at here f.selections in
-      let a = subst (λ v. IsNext l v.items old.contexts.items new.selections.items) (sym f.values) next in
-      let c = subst (λ v. IsNext l new.values.items v.items new.selections.items) (sym f.contexts) a in
-      (ap (λ t. t.now) f.keeps.tree ∙ now.0, subst (λ r. IsNext r.now new.values.items new.contexts.items new.selections.items) (sym f.keeps.layout) c)
+      let here = subst (λ u. IsSelection u old.values new.selections.items i (slice_index_or chosen i None)) now.0 f.here in
+      let next = selection_computed tree l given chosen nodes k old.values old.contexts.items old.selections.items now.1 b i new.selections.items at here f.selections in
+      let a = subst (λ v. IsNext l v old.contexts.items new.selections.items) (sym f.values) next in
+      let c = subst (λ v. IsNext l new.values v.items new.selections.items) (sym f.contexts) a in
+      (ap (λ t. t.now) f.keeps.tree ∙ now.0, subst (λ r. IsNext r.now new.values new.contexts.items new.selections.items) (sym f.keeps.layout) c)

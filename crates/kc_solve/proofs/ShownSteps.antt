@@ -69,18 +69,18 @@ pub top_is : (conditions : List Condition) (o : Option (Bor Context)) → IsCont
 top_is conditions None e = e
 top_is conditions (Some c) step = absurd (omega (arith, step.smaller))
 
-module _ (t : Table) (u : Places) (s : Solution) (e : solution_in t.tree.now u t.values.items ≡ s) (index : ℕ) where
+module _ (t : Table) (u : Places) (s : Solution) (e : solution_in t.tree.now u t.values ≡ s) (index : ℕ) where
   abbrev Row : Option ShownEntry
   Row = slice_get t.layout.now.tables.entries.items index
 
-  pub shown_here : length t.values.items ≡ name_count t.tree.now → (title : Title) (x : Tri) → entry_title t.layout.now Row ≡ Some title →
+  pub shown_here : length t.values ≡ name_count t.tree.now → (title : Title) (x : Tri) → entry_title t.layout.now Row ≡ Some title →
       x ≡ condition t.tree.now (known_at t) (title_condition t.layout.now.tables title) → x ≡ shown s (slice_get s.tree.entries index)
   shown_here full title x at h =
-      let mine = solution_in t.tree.now u t.values.items in
-      let told = h ∙ ap (λ (k : SymId → SymbolValue). condition t.tree.now k (title_condition t.layout.now.tables title)) (table_tells t.tree.now u t.values.items full) in
+      let mine = solution_in t.tree.now u t.values in
+      let told = h ∙ ap (λ (k : SymId → SymbolValue). condition t.tree.now k (title_condition t.layout.now.tables title)) (table_tells t.tree.now u t.values full) in
       subst (λ (y : Solution). x ≡ shown y (slice_get y.tree.entries index)) e (shown_at t mine index x refl (shown_title t.layout.now mine Row title x at told))
 
   pub shown_nothing : entry_title t.layout.now Row ≡ None → condition_in t.layout.now.tables.contexts 0 ≡ top → Y ≡ shown s (slice_get s.tree.entries index)
   shown_nothing at h =
-      let mine = solution_in t.tree.now u t.values.items in
+      let mine = solution_in t.tree.now u t.values in
       subst (λ (y : Solution). Y ≡ shown y (slice_get y.tree.entries index)) e (shown_at t mine index Y refl (shown_always t.layout.now mine Row at h))

@@ -9,7 +9,7 @@ use Rattle.std.specs.Borrow.{Bor}
 use Rattle.std.specs.Option.{option_copied, option_map}
 use Rattle.std.specs.List.{All, AllByRecursion}
 use Rattle.std.proofs.lemmas.Bool.{cases_Bool, ltb-false}
-use Rattle.std.proofs.lemmas.List.{get_or_default, get_or_past, length-set}
+use Rattle.std.proofs.lemmas.List.{get_or_past, length-set}
 use Rattle.std.proofs.lemmas.List.Elements.{All-get_or}
 use Rattle.std.proofs.lemmas.Option.{slice_get_past, slice_get_within}
 use base.Stored.{Coded-set}
@@ -151,19 +151,19 @@ equation_seen tree values l s f user =
     (each (λ (t : SymId). known_in tree values t ≡ known_from tree (valuation tree values) t) (known_seen tree values l) (names_of tree f))
 
 -- what was given for a symbol, as it is looked up
-pub place_given : (given : List (Option UserValue)) (i : ℕ) (v : Option UserValue) (own : Option (Bor UserValue)) → i < length given → v ≡ get_or given i v → option_copied own ≡ v →
+pub place_given : (given : List (Option UserValue)) (i : ℕ) (own : Option (Bor UserValue)) → option_copied own ≡ slice_index_or given i None →
     given_in own ≡ given_at (slice_index_or given i None)
-place_given given i v None l e o = ap given_at (o ∙ e ∙ get_or_default given i v None l)
-place_given given i v (Some u) l e o = ap given_at (o ∙ e ∙ get_or_default given i v None l)
+place_given given i None e = ap given_at e
+place_given given i (Some u) e = ap given_at e
 
 -- a symbol computed: its place says what its equation gives
 pub computed_place : (t : Table) (id : SymId) (s : Symbol) (given : List (Option UserValue)) (chosen : List (Option SymId)) (x : Option Value) → IsRowOf t id s →
-    length t.values.items ≡ name_count t.tree.now → id.0 < length t.values.items →
+    length t.values ≡ name_count t.tree.now → id.0 < length t.values →
     place_value s.kind (name t.tree.now id) x ≡ equation_at t id s (given_at (slice_index_or given id.0 None)) chosen →
-    AreComputedValues t.tree.now given chosen id t.values.items (slice_set t.values.items id.0 x)
+    AreComputedValues t.tree.now given chosen id t.values (slice_set t.values id.0 x)
 computed_place t id s given chosen x row count below e =
     let tree = t.tree.now in
-    let values = t.values.items in
+    let values = t.values in
     let f = facts_of t.layout.now id.0 s in
     let at = row_facts t id s row in
     let P = places given chosen in
@@ -190,9 +190,9 @@ value_placed t id s own chosen x row e =
 
 -- the same of a value
 pub computed_value : (t : Table) (id : SymId) (s : Symbol) (given : List (Option UserValue)) (chosen : List (Option SymId)) (x : Value) → IsRowOf t id s →
-    length t.values.items ≡ name_count t.tree.now → id.0 < length t.values.items →
+    length t.values ≡ name_count t.tree.now → id.0 < length t.values →
     known_value s.kind x ≡ equation_at t id s (given_at (slice_index_or given id.0 None)) chosen →
-    AreComputedValues t.tree.now given chosen id t.values.items (slice_set t.values.items id.0 (Some x))
+    AreComputedValues t.tree.now given chosen id t.values (slice_set t.values id.0 (Some x))
 computed_value t id s given chosen x row count below e =
     computed_place t id s given chosen (Some x) row count below (value_placed t id s (given_at (slice_index_or given id.0 None)) chosen x row e)
 

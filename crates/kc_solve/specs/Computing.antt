@@ -68,7 +68,7 @@ pub record AreComputedValues (tree : TreeFacts) (given : List (Option UserValue)
 
 pub record IsComputedSymbol (given : List (Option UserValue)) (chosen : List (Option SymId)) (id : SymId) (old new : Table) : Type 0 where
   pub keeps : KeepsTree old new
-  pub values : AreComputedValues old.tree.now given chosen id old.values.items new.values.items
+  pub values : AreComputedValues old.tree.now given chosen id old.values new.values
   pub contexts : new.contexts ≡ old.contexts
   pub selections : new.selections ≡ old.selections
 
@@ -94,7 +94,7 @@ pub record IsComputedSelection (chosen : List (Option SymId)) (c : ℕ) (old new
   pub keeps : KeepsTree old new
   pub values : new.values ≡ old.values
   pub contexts : new.contexts ≡ old.contexts
-  pub here : IsSelection old.tree.now old.values.items new.selections.items c (slice_index_or chosen c None)
+  pub here : IsSelection old.tree.now old.values new.selections.items c (slice_index_or chosen c None)
   pub selections : OnlyAt c old.selections.items new.selections.items
 
 -- after the first k nodes: each symbol among them has its value, and what is computed is among them
@@ -112,4 +112,4 @@ pub record IsComputedTo (tree : TreeFacts) (layout : Layout) (given : List (Opti
 
 abbrev pub IsComputedTable : TreeFacts → List (Option UserValue) → List (Option SymId) → List ℕ → ℕ → Table → Type 0
 IsComputedTable tree given chosen nodes k t =
-    (t.tree.now ≡ tree) × IsComputedTo tree t.layout.now given chosen nodes k t.values.items t.contexts.items t.selections.items
+    (t.tree.now ≡ tree) × IsComputedTo tree t.layout.now given chosen nodes k t.values t.contexts.items t.selections.items

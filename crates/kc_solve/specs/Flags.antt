@@ -48,7 +48,7 @@ is_written tree V i = written tree (known_from tree V) (symbol i)
 
 -- the valuation that a table holds
 abbrev pub values_in : Table → ℕ → SymbolValue
-values_in t = valuation t.tree.now t.values.items
+values_in t = valuation t.tree.now t.values
 
 -- Of each choice what it selects, with the user's member and without it.
 abbrev pub selected_by : Table → Places → List (Option SymId)

@@ -15,6 +15,7 @@ use kc_expr::expression::{Kind, SymId};
 use kc_tree::layout::Layout;
 use kc_tree::rows::{ChoiceId, ContextId, Symbol};
 use kc_tree::tree::Tree;
+use kc_user::sparse::SparseVec;
 use kc_user::value::UserValue;
 use kc_values::choices::selected_in;
 use kc_values::conditions::context;
@@ -60,20 +61,20 @@ fn compute_symbol(
     alloc: Global,
     table: &mut Table<'_>,
     id: SymId,
-    given: &[Option<UserValue>],
+    given: &SparseVec<UserValue>,
     chosen: &[Option<SymId>],
 ) -> Result<(), AllocError>
-    requires there { id.0 < length table.old.values.items }
-    requires given { length given.now ≡ length table.old.values.items }
-    requires full { length table.old.values.items ≡ name_count table.old.tree.now }
+    requires there { id.0 < length table.old.values }
+    requires given { length given.now ≡ length table.old.values }
+    requires full { length table.old.values ≡ name_count table.old.tree.now }
     requires selected { AreSelected table.old chosen.now }
     requires unread { IsUnread table.old id.0 }
     ensures { OnOk result (IsComputedSymbol given.now chosen.now id table.old table.new) }
 {
     let symbol = symbol_row(table.layout, id);
-    let own = given[id.0].as_ref();
+    let own = given.get(id.0);
     let value = kept_value(alloc, table, id, symbol, own, chosen)?;
-    table.values[id.0] = value;
+    table.values.set(id.0, value)?;
     Ok(())
 }
 
@@ -103,7 +104,7 @@ pub(crate) fn compute<'t>(
     tree: &'t Tree,
     layout: &'t Layout,
     nodes: &[u32],
-    given: &[Option<UserValue>],
+    given: &SparseVec<UserValue>,
     chosen: &[Option<SymId>],
 ) -> Result<Table<'t>, AllocError>
     requires laid { IsLayoutOf tree.now layout.now }
@@ -111,9 +112,9 @@ pub(crate) fn compute<'t>(
     requires given { length given.now ≡ name_count tree.now }
     requires chosen { length chosen.now ≡ length tree.now.choices }
     ensures tree { IfOk result (λ t. t.tree.now ≡ tree.now) }
-    ensures count { IfOk result (λ t. length t.values.items ≡ name_count tree.now) }
+    ensures count { IfOk result (λ t. length t.values ≡ name_count tree.now) }
     ensures selected { IfOk result (λ t. AreSelected t chosen.now) }
-    ensures solves { IfOk result (λ t. Solves (name_count tree.now) (equations tree.now (places given.now chosen.now)) (valuation tree.now t.values.items)) }
+    ensures solves { IfOk result (λ t. Solves (name_count tree.now) (equations tree.now (places given.now chosen.now)) (valuation tree.now t.values)) }
 {
     let mut table = Table::empty(alloc, tree, layout)?;
     for node in nodes {

@@ -67,7 +67,7 @@ pub(crate) fn selections(
     table: &Table,
     user: &User,
 ) -> Result<ChoiceSelections, AllocError>
-    requires full { length table.now.values.items ≡ name_count table.now.tree.now }
+    requires full { length table.now.values ≡ name_count table.now.tree.now }
     requires user { ArePlacesOf table.now.tree.now user.now }
     requires selected { AreSelected table.now user.now.choices }
     ensures selected { IfOk result (λ s. s.selected.items ≡ flag.selected_by table.now user.now) }
@@ -167,7 +167,7 @@ pub(crate) fn flags_of(
     selections: &[Option<SymId>],
     defaults: &[Option<SymId>],
 ) -> Result<Flags, AllocError>
-    requires full { length table.now.values.items ≡ name_count table.now.tree.now }
+    requires full { length table.now.values ≡ name_count table.now.tree.now }
     requires user { ArePlacesOf table.now.tree.now user.now }
     requires solves { Solves (name_count table.now.tree.now) (equations table.now.tree.now (place_at user.now)) (flag.values_in table.now) }
     requires selections { selections.now ≡ flag.selected_by table.now user.now }
@@ -207,7 +207,7 @@ pub(crate) fn warnings_of(
     user: &User,
     visibilities: &[Tri],
 ) -> Result<Vec<Vec<u8>>, AllocError>
-    requires full { length table.now.values.items ≡ name_count table.now.tree.now }
+    requires full { length table.now.values ≡ name_count table.now.tree.now }
     requires user { ArePlacesOf table.now.tree.now user.now }
     requires visibilities { visibilities.now ≡ visibilities_in table.now }
     ensures { IfOk result (λ v. map (λ w. w.items) v.items ≡ value_warnings table.now.tree.now (place_at user.now) (flag.values_in table.now)) }

@@ -37,10 +37,10 @@ fn full_table<'t>(
     requires user { ArePlacesOf tree.now user.now }
     ensures tree { IfOk result (λ t. t.tree.now ≡ tree.now) }
     ensures accepted { OnOk result (IsAccepted tree.now) }
-    ensures count { IfOk result (λ t. length t.values.items ≡ name_count tree.now) }
+    ensures count { IfOk result (λ t. length t.values ≡ name_count tree.now) }
     ensures selected { IfOk result (λ t. AreSelected t user.now.choices) }
-    ensures solves { IfOk result (λ t. Solves (name_count tree.now) (equations tree.now (place_at user.now)) (valuation tree.now t.values.items)) }
-    ensures only { IfOk result (λ t. IsOnlySolution (name_count tree.now) (equations tree.now (place_at user.now)) (valuation tree.now t.values.items)) }
+    ensures solves { IfOk result (λ t. Solves (name_count tree.now) (equations tree.now (place_at user.now)) (valuation tree.now t.values)) }
+    ensures only { IfOk result (λ t. IsOnlySolution (name_count tree.now) (equations tree.now (place_at user.now)) (valuation tree.now t.values)) }
 {
     accepted_have_one_solution();
     ordered_are_accepted();

@@ -48,9 +48,9 @@ impl<'a> Model for Solved<'a> {
 
     ghost coded = { solution_code };
 
-    ghost view = { λ s. solution_in s.table.tree.now s.user.now s.table.values.items };
+    ghost view = { λ s. solution_in s.table.tree.now s.user.now s.table.values };
 
-    ghost invariant = { λ s. IsSolved s.table.tree.now s.user.now s.table.values.items s.selections.items s.default_selections.items
+    ghost invariant = { λ s. IsSolved s.table.tree.now s.user.now s.table.values s.selections.items s.default_selections.items
         s.visibilities.items s.differing.items s.written.items (map (λ w. w.items) s.warnings.items) };
 }
 

@@ -1,9 +1,10 @@
 -- Places that are empty or filled, and the length of an escaped text.
-use Rattle.std.proofs.Common.{◌≡◌, ℕ, ◌+◌, ◌<◌, List, [], ◌∷◌, false, length, map, refl, sym, ap, ◌∙◌, arith, zero, suc, inl, inr, Option, Some, None, replicate, cond, count_by, leb, slice_set, length-append}
+use Rattle.std.proofs.Common.{◌≡◌, ℕ, ◌+◌, ◌<◌, List, [], ◌∷◌, false, length, map, refl, sym, ap, ◌∙◌, arith, zero, suc, inl, inr, Option, Some, None, replicate, cond, count_by, leb, slice_set, length-append, Result, Ok, Err}
 use Rattle.std.proofs.lemmas.Bool.{lt-leb, cases_Bool}
 use Rattle.std.proofs.lemmas.List.{map-set}
 use Rattle.std.proofs.lemmas.List.Sums.{sum_by-cons}
 use Rattle.std.specs.Option.{option_map}
+use Rattle.std.specs.Result.{OnOk, OnErr}
 use Rattle.kc_text.specs.Escapes.{escape, escape_byte, is_escaped}
 use Rattle.kc_expr.specs.declared.expression.SymId.{SymId}
 use Rattle.kc_tree.specs.TreeFacts.{TreeFacts}
@@ -57,3 +58,13 @@ pub quoted_over : (text : List ℕ) (limit : ℕ) → limit < length text → fa
 quoted_over text limit over =
     let long : limit < length (escape text) + 2 = omega (arith, length-escape text) in
     sym (lt-leb (length (escape text) + 2) limit long)
+
+-- what follows where a call succeeds
+pub on_ok : {X E : Type 0} (r : Result X E) (P Q : Type 0) → (P → Q) → OnOk r P → OnOk r Q
+on_ok (Ok x) P Q f p = f p
+on_ok (Err e) P Q f p = p
+
+-- and where it fails
+pub on_err : {X E : Type 0} (r : Result X E) (P Q : Type 0) → (P → Q) → OnErr r P → OnErr r Q
+on_err (Ok x) P Q f p = p
+on_err (Err e) P Q f p = f p

@@ -6,4 +6,4 @@ use Rattle.kc_user.specs.ValueView.{given_of_value}
 use Rattle.kc_user.specs.declared.user.User.TheInside.{Inside}
 
 abbrev pub places_of : Inside → Places
-places_of user = record { symbols = map (option_map given_of_value) user.symbols.items; choices = user.choices.items }
+places_of user = record { symbols = map (option_map given_of_value) user.symbols; choices = user.choices.items }

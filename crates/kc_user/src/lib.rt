@@ -2,5 +2,6 @@
 #![tactic(auto)]
 
 pub mod laws;
+pub mod sparse;
 pub mod user;
 pub mod value;

@@ -1,9 +1,10 @@
 //! The user's places.
-ghost use Rattle.std.specs.Prelude.{◌≡◌, ◌<◌, length, map, slice_set, slice_index_or, Some, None, IfOk, replicate};
+ghost use Rattle.std.specs.Prelude.{◌≡◌, ◌<◌, length, map, slice_set, slice_index_or, Some, None, IfOk, OnErr, OnOk, replicate};
 ghost use Rattle.std.specs.Option.{option_map};
 ghost use Rattle.kc_user.specs.Places as spec;
 ghost use Rattle.kc_user.specs.ValueView.{given_of_value};
 
+use crate::sparse::SparseVec;
 use crate::value::UserValue;
 use kc_expr::expression::SymId;
 use kc_tree::rows::ChoiceId;
@@ -16,7 +17,7 @@ use std::marker::Model;
 /// own; the user's values of kconfiglib's documentation.)
 #[derive(Drop)]
 pub struct User {
-    symbols: Vec<Option<UserValue>>,
+    symbols: SparseVec<UserValue>,
     choices: Vec<Option<SymId>>,
 }
 
@@ -31,23 +32,24 @@ impl Model for User {
 }
 
 impl User {
-    /// The places of a tree, every one empty. Its only error is to be out of memory, which leaves nothing; no other call takes
-    /// memory.
+    /// The places of a tree, every one empty. Its only error is to be out of memory, which leaves nothing.
     pub fn new(alloc: Global, tree: &Tree) -> Result<User, AllocError>
         ensures { IfOk result (λ user. user ≡ spec.no_places tree.now) }
     {
-        let symbols = empty_places(alloc, tree.name_count())?;
+        let symbols = SparseVec::empty(alloc, tree.name_count())?;
         let choices = empty_places(alloc, tree.choices().len())?;
         Ok(User { symbols, choices })
     }
 
     /// Puts the value into the symbol's place, whatever stood there; all other places stay. The laws of the minimal file and
-    /// of a rerun want a value that `allowed` accepts.
-    pub fn set(&mut self, id: SymId, value: UserValue)
+    /// of a rerun want a value that `allowed` accepts. Its only error is to be out of memory, after which every place holds
+    /// what it held.
+    pub fn set(&mut self, id: SymId, value: UserValue) -> Result<(), AllocError>
         requires { id.0 < length self.old.symbols }
-        ensures { self.new ≡ record self.old { symbols = slice_set self.old.symbols id.0 (Some (given_of_value value)) } }
+        ensures done { OnOk result (self.new ≡ record self.old { symbols = slice_set self.old.symbols id.0 (Some (given_of_value value)) }) }
+        ensures failed { OnErr result (self.new ≡ self.old) }
     {
-        self.symbols[id.0] = Some(value);
+        self.symbols.set(id.0, Some(value))
     }
 
     /// Puts the member into the choice's place, whatever stood there; all other places stay. What is no visible member of that
@@ -64,7 +66,7 @@ impl User {
         requires { id.0 < length self.now.symbols }
         ensures { option_map (λ value. given_of_value value.now) result ≡ slice_index_or self.now.symbols id.0 None }
     {
-        self.symbols[id.0].as_ref()
+        self.symbols.get(id.0)
     }
 
     /// The member in the choice's place, if it is filled (kconfiglib's `user_selection`).
@@ -76,7 +78,7 @@ impl User {
     }
 
     /// The symbols' places, by number.
-    pub fn symbols(&self) -> &[Option<UserValue>]
+    pub fn symbols(&self) -> &SparseVec<UserValue>
         ensures { map (option_map given_of_value) result.now ≡ self.now.symbols }
     {
         &self.symbols

@@ -1,5 +1,5 @@
 -- A symbol that needs something is defined.
-use Rattle.std.proofs.Common.{◌≡◌, ℕ, ◌<◌, [], length, map, Option, Some, None, refl, ◌∙◌, ap, subst, arith}
+use Rattle.std.proofs.Common.{◌≡◌, ℕ, [], length, map, Option, Some, None, refl, ◌∙◌, ap, subst, arith}
 use Rattle.std.specs.List.{Contains}
 use Rattle.std.proofs.Math.ListN.{get_or-map}
 use Rattle.std.proofs.lemmas.List.{length-map}

@@ -20,7 +20,7 @@ use Rattle.kc_values.specs.Values.{by_kind, selected}
 
 -- what a table tells of each symbol
 abbrev pub known_at : Table → SymId → SymbolValue
-known_at t = known_in t.tree.now t.values.items
+known_at t = known_in t.tree.now t.values
 
 -- the condition of a context
 abbrev pub condition_at : Table → ℕ → Condition

@@ -14,7 +14,7 @@ use kc_expr::values::Values;
 use kc_tree::layout::Layout;
 use kc_tree::rows::{ChoiceId, ContextId};
 use kc_tree::tree::Tree;
-use kc_user::user::empty_places;
+use kc_user::sparse::SparseVec;
 use std::alloc::{AllocError, Global};
 
 /// The value of a symbol: a truth of a bool or tristate, a text of the others (kconfiglib's `tri_value` and `str_value`).
@@ -48,14 +48,14 @@ pub struct Table<'t> {
     /// How it is laid out.
     pub layout: &'t Layout,
     /// A place for each symbol, by number.
-    pub values: Vec<Option<Value>>,
+    pub values: SparseVec<Value>,
     /// What each context is worth, if that is computed.
     pub contexts: Vec<Option<Tri>>,
     /// What each choice selects, if that is computed; no member can be selected too.
     pub selections: Vec<Option<Option<SymId>>>,
     ghost laid: { ∥ IsLayoutOf tree.now layout.now ∥₁ },
     ghost formed: { ∥ IsWellFormed tree.now ∥₁ },
-    ghost computed: { AreContextsComputed tree.now layout.now values.items contexts.items },
+    ghost computed: { AreContextsComputed tree.now layout.now values contexts.items },
 }
 
 impl<'t> Table<'t> {
@@ -65,11 +65,11 @@ impl<'t> Table<'t> {
         requires { IsLayoutOf tree.now layout.now }
         ensures tree { IfOk result (λ t. t.tree.now ≡ tree.now) }
         ensures layout { IfOk result (λ t. t.layout.now ≡ layout.now) }
-        ensures values { IfOk result (λ t. t.values.items ≡ replicate (length tree.now.symbols) None) }
+        ensures values { IfOk result (λ t. t.values ≡ replicate (length tree.now.symbols) None) }
         ensures contexts { IfOk result (λ t. t.contexts.items ≡ replicate (length layout.now.tables.contexts) None) }
         ensures selections { IfOk result (λ t. t.selections.items ≡ replicate (length layout.now.tables.choices.items) None) }
     {
-        let values = empty_places(alloc, tree.name_count())?;
+        let values = SparseVec::empty(alloc, tree.name_count())?;
         let contexts = vec![in alloc; None; layout.context_count()]?;
         let selections = vec![in alloc; None; layout.choices().len()]?;
         Ok(Table {
@@ -103,19 +103,16 @@ impl<'t> Table<'t> {
 }
 
 /// The value of a symbol, if it is found (our own).
-pub fn value_of(values: &[Option<Value>], id: SymId) -> Option<&Value>
+pub fn value_of(values: &SparseVec<Value>, id: SymId) -> Option<&Value>
     ensures { option_copied result ≡ value_in values.now id }
 {
-    match values.get(id.0) {
-        Some(Some(value)) => Some(value),
-        _ => None,
-    }
+    values.get(id.0)
 }
 
 impl<'t> Values for Table<'t> {
-    ghost tri_of = { λ t s. tri_in (value_in t.values.items s) };
+    ghost tri_of = { λ t s. tri_in (value_in t.values s) };
 
-    ghost text_of = { λ t s. text_in (value_in t.values.items s) (lookup.name t.tree.now s) };
+    ghost text_of = { λ t s. text_in (value_in t.values s) (lookup.name t.tree.now s) };
 
     ghost kind_of = { λ t s. kind_in (lookup.facts t.tree.now s) };
 

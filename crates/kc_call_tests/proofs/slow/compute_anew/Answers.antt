@@ -1,5 +1,6 @@
-use Rattle.std.proofs.Common.{arith, refl}
+use Rattle.std.proofs.Common.{arith, refl, subst, sym}
 use Rattle.kc_tree.specs.Layouts.{facts_of}
+use Rattle.kc_solve.specs.Computing.{AreComputedValues}
 use Rattle.kc_solve.proofs.TableSteps.{choice_below, computed_value, row_count, row_facts}
 use Rattle.kc_call_tests.proofs.SlowSteps.{computed_none}
 use Rattle.kc_call_tests.proofs.slow.compute_anew.Goals as goal
@@ -25,7 +26,9 @@ returns c =
     let s = c.symbol_row-symbol.result.now in
     record {
       keeps = record { tree = refl; layout = refl };
-      values = computed_value t c.args.id s c.args.given.now c.args.chosen.now c.in_ok-value.value c.symbol_row-symbol.ensures c.requires.full c.requires.defined c.in_ok-value.ensures;
+      values =
+          subst (AreComputedValues t.tree.now c.args.given.now c.args.chosen.now c.args.id t.values) (sym c.in_ok-set.ensures.done)
+          (computed_value t c.args.id s c.args.given.now c.args.chosen.now c.in_ok-value.value c.symbol_row-symbol.ensures c.requires.full c.requires.defined c.in_ok-value.ensures);
       contexts = refl;
       selections = refl;
     }

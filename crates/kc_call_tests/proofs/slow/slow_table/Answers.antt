@@ -45,13 +45,13 @@ loop-i-preserved c =
     let f = c.in_ok-compute_anew.ensures in
     let given = c.symbols-given.result.now in
     let chosen = c.choices-chosen.result.now in
-    let values = c.loop-i.table.values.items in
+    let values = c.loop-i.table.values in
     let new = c.compute_anew.new.table in
-    let filled = subst (λ (u : TreeFacts). AreComputedValues u given chosen (symbol c.loop-i.i) values new.values.items) now.tree f.values in
+    let filled = subst (λ (u : TreeFacts). AreComputedValues u given chosen (symbol c.loop-i.i) values new.values) now.tree f.values in
     record {
       tree = ap (λ t. t.now) f.keeps.tree ∙ now.tree;
       count = f.values.count ∙ now.count;
-      hold = computed c.args.tree.now given chosen c.loop-iteration._iteration c.loop-i.i values new.values.items filled now.hold;
+      hold = computed c.args.tree.now given chosen c.loop-iteration._iteration c.loop-i.i values new.values filled now.hold;
       unsettled = subst (λ v. v.items ≡ replicate (length v.items) None) (sym f.contexts) now.unsettled;
     }
 
@@ -61,7 +61,7 @@ loop-iteration-preserved c =
     record {
       tree = now.tree;
       count = now.count;
-      hold = iteration_ended c.args.tree.now c.symbols-given.result.now c.choices-chosen.result.now c.loop-iteration._iteration c.loop-i.i c.loop-i.table.values.items (omega arith) now.hold;
+      hold = iteration_ended c.args.tree.now c.symbols-given.result.now c.choices-chosen.result.now c.loop-iteration._iteration c.loop-i.i c.loop-i.table.values (omega arith) now.hold;
       unsettled = now.unsettled;
     }
 
@@ -73,7 +73,7 @@ returns-clause-solves c =
     let t = c.args.tree.now in
     let given = c.symbols-given.result.now in
     let chosen = c.choices-chosen.result.now in
-    let values = c.loop-iteration.table.values.items in
+    let values = c.loop-iteration.table.values in
     let accepted = tree_accepted t c.args.layout.now c.args.order.now c.nodes-nodes.result.now c.requires.order c.nodes-nodes.ensures in
     solves_as_shown t given chosen c.args.user.now (valuation t values) c.symbols-given.ensures c.choices-chosen.ensures
     (ended t given chosen c.loop-iteration._iteration values (omega arith) accepted c.loop-iteration.invariant.hold)
@@ -83,7 +83,7 @@ returns-clause-only c =
     let t = c.args.tree.now in
     let given = c.symbols-given.result.now in
     let chosen = c.choices-chosen.result.now in
-    let values = c.loop-iteration.table.values.items in
+    let values = c.loop-iteration.table.values in
     let V = valuation t values in
     let accepted = tree_accepted t c.args.layout.now c.args.order.now c.nodes-nodes.result.now c.requires.order c.nodes-nodes.ensures in
     let solves =

@@ -1,4 +1,4 @@
-use Rattle.std.proofs.Common.{◌<◌, ◌≤◌, length, ap, arith, refl}
+use Rattle.std.proofs.Common.{◌≤◌, length, ap, arith, refl}
 use Rattle.kc_tree.specs.TreeFacts.{TreeFacts}
 use Rattle.kc_expr.proofs.NamesLemmas.{on_err}
 use Rattle.kc_dot.specs.Texts.{minimal_if, minimal_text}

@@ -1,15 +1,12 @@
-use Rattle.std.proofs.Common.{◌∙◌, sym}
+use Rattle.std.proofs.Common.{refl, sym}
 use Rattle.kc_user.specs.ValueView.{given_of_value}
-use Rattle.kc_dot.proofs.StepLemmas.{assigned_yes, assigned_no}
+use Rattle.kc_dot.proofs.StepLemmas.{assigned_no, assigned_yes}
 use Rattle.kc_dot.proofs.step.assign.Goals as goal
-use Rattle.kc_dot.proofs.step.assign.Goals.{then-is_yes, else-is_yes}
 
-pub returns : goal.returns
-returns c =
-    let given = given_of_value c.args.value in
-    elim c.if-is_yes.branch [
-      | then-is_yes w ↦
-          assigned_yes c.args.tree.now c.args.user.now c.if-is_yes.user c.set.new.self c.args.id given (sym c.is_yes.ensures ∙ w.if-is_yes.true) (w.user-is ∙ w.choose.ensures) c.set.ensures
-      | else-is_yes w ↦
-          assigned_no c.args.tree.now c.args.user.now c.if-is_yes.user c.set.new.self c.args.id given (sym c.is_yes.ensures ∙ w.if-is_yes.false) w.user-is c.set.ensures
-    ]
+pub returns-then-is_selected-clause-done : goal.returns-then-is_selected-clause-done
+returns-then-is_selected-clause-done c =
+    assigned_yes c.args.tree.now c.args.user.now c.set.new.self c.choose.new.user c.args.id (given_of_value c.args.value) (sym c.if-is_selected.ensures) c.in_ok-set.ensures.done c.choose.ensures
+
+pub returns-else-is_selected-clause-done : goal.returns-else-is_selected-clause-done
+returns-else-is_selected-clause-done c =
+    assigned_no c.args.tree.now c.args.user.now c.set.new.self c.set.new.self c.args.id (given_of_value c.args.value) (sym c.if-is_selected.ensures) c.in_ok-set.ensures.done refl

@@ -28,14 +28,14 @@ compute_symbol-requires-clause-full c = c.loop-node.invariant.1.value_count ∙ 
 pub compute_symbol-requires-clause-selected : goal.compute_symbol-requires-clause-selected
 compute_symbol-requires-clause-selected c =
     let t = c.loop-node.table in
-    subst (λ (u : TreeFacts). (n : ℕ) → IsSelection u t.values.items t.selections.items n (slice_index_or c.args.chosen.now n None)) (sym c.loop-node.invariant.0) c.loop-node.invariant.1.selected_are
+    subst (λ (u : TreeFacts). (n : ℕ) → IsSelection u t.values t.selections.items n (slice_index_or c.args.chosen.now n None)) (sym c.loop-node.invariant.0) c.loop-node.invariant.1.selected_are
 
 pub compute_symbol-requires-clause-unread : goal.compute_symbol-requires-clause-unread
 compute_symbol-requires-clause-unread c =
     let t = c.loop-node.table in
     let now = c.loop-node.invariant.1 in
     subst (λ (u : TreeFacts). IsUnreadIn u t.layout.now t.contexts.items t.selections.items c.in-Symbol.id.0) (sym c.loop-node.invariant.0)
-    (unread c.args.tree.now t.layout.now c.args.given.now c.args.chosen.now c.args.nodes.now c.loop-node.node-index t.values.items t.contexts.items t.selections.items now c.loop-node-test.true
+    (unread c.args.tree.now t.layout.now c.args.given.now c.args.chosen.now c.args.nodes.now c.loop-node.node-index t.values t.contexts.items t.selections.items now c.loop-node-test.true
     (names_there c.args.tree.now t.layout.now now.order.graph now.laid now.order.is now.order.rows) c.in-Symbol.id.0 c.in-Symbol.ensures.0 c.in-Symbol.ensures.1)
 
 pub compute_context-requires : goal.compute_context-requires
@@ -44,14 +44,14 @@ compute_context-requires c = omega (arith, c.in-Context.ensures.1, c.loop-node.i
 pub compute_selection-requires-clause-there : goal.compute_selection-requires-clause-there
 compute_selection-requires-clause-there c =
     let t = c.loop-node.table in
-    choice_there c.args.tree.now t.layout.now c.args.given.now c.args.chosen.now c.args.nodes.now c.loop-node.node-index t.values.items t.contexts.items t.selections.items
+    choice_there c.args.tree.now t.layout.now c.args.given.now c.args.chosen.now c.args.nodes.now c.loop-node.node-index t.values t.contexts.items t.selections.items
     c.loop-node.invariant.1 c.loop-node-test.true c.in-Choice.id.0 c.in-Choice.ensures.0
 
 pub compute_selection-requires-clause-chosen : goal.compute_selection-requires-clause-chosen
 compute_selection-requires-clause-chosen c =
     let t = c.loop-node.table in
     let now = c.loop-node.invariant.1 in
-    let l = choice_there c.args.tree.now t.layout.now c.args.given.now c.args.chosen.now c.args.nodes.now c.loop-node.node-index t.values.items t.contexts.items t.selections.items
+    let l = choice_there c.args.tree.now t.layout.now c.args.given.now c.args.chosen.now c.args.nodes.now c.loop-node.node-index t.values t.contexts.items t.selections.items
     now c.loop-node-test.true c.in-Choice.id.0 c.in-Choice.ensures.0 in
     omega (arith, l, c.requires.chosen, now.choice_count, choices_length c.args.tree.now t.layout.now now.laid)
 
@@ -90,11 +90,11 @@ returns-clause-solves c =
     let now = c.loop-node.invariant.1 in
     let tree = c.args.tree.now in
     let end : c.loop-node.node-index ≡ length c.args.nodes.now = omega arith in
-    solves tree t.layout.now c.args.given.now c.args.chosen.now c.args.nodes.now t.values.items t.contexts.items t.selections.items
+    solves tree t.layout.now c.args.given.now c.args.chosen.now c.args.nodes.now t.values t.contexts.items t.selections.items
     (now.value_count ∙ row_count t ∙ ap name_count c.loop-node.invariant.0)
-    (subst (λ n. IsComputedTo tree t.layout.now c.args.given.now c.args.chosen.now c.args.nodes.now n t.values.items t.contexts.items t.selections.items) end now)
+    (subst (λ n. IsComputedTo tree t.layout.now c.args.given.now c.args.chosen.now c.args.nodes.now n t.values t.contexts.items t.selections.items) end now)
 
 pub returns-clause-selected : goal.returns-clause-selected
 returns-clause-selected c =
     let t = c.loop-node.table in
-    subst (λ (u : TreeFacts). (n : ℕ) → IsSelection u t.values.items t.selections.items n (slice_index_or c.args.chosen.now n None)) (sym c.loop-node.invariant.0) c.loop-node.invariant.1.selected_are
+    subst (λ (u : TreeFacts). (n : ℕ) → IsSelection u t.values t.selections.items n (slice_index_or c.args.chosen.now n None)) (sym c.loop-node.invariant.0) c.loop-node.invariant.1.selected_are

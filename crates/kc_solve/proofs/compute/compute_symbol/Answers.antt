@@ -1,6 +1,7 @@
-use Rattle.std.proofs.Common.{arith, refl, ◌∙◌, ap}
-use Rattle.kc_solve.specs.Computing.{equation_at}
-use Rattle.kc_solve.proofs.ComputeSteps.{contexts_stay}
+use Rattle.std.proofs.Common.{arith, refl, sym, subst, ◌∙◌, ap, slice_set}
+use Rattle.kc_values.specs.Computed.{AreContextsComputed}
+use Rattle.kc_solve.specs.Computing.{AreComputedValues, equation_at}
+use Rattle.kc_solve.proofs.ComputeSteps.{contexts_stay, either_way}
 use Rattle.kc_solve.proofs.TableSteps.{computed_place, place_given, row_count}
 use Rattle.kc_solve.proofs.compute.compute_symbol.Goals as goal
 
@@ -11,26 +12,29 @@ pub invariant_of-table : goal.invariant_of-table
 invariant_of-table c =
     let t = c.args.table.now in
     let s = c.symbol_row-symbol.result.now in
-    let own = place_given c.args.given.now c.args.id.0 c.index-given-id.result c.as_ref-own.result (omega (arith, c.requires.there, c.requires.given))
-    c.index-given-id.is c.as_ref-own.ensures.value in
+    let own = place_given c.args.given.now c.args.id.0 c.get-own.result c.get-own.ensures in
     let e = c.in_ok-value.ensures ∙ ap (λ g. equation_at t c.args.id s g c.args.chosen.now) own in
     let f = computed_place t c.args.id s c.args.given.now c.args.chosen.now c.in_ok-value.value c.symbol_row-symbol.ensures c.requires.full c.requires.there e in
+    let put = slice_set t.values c.args.id.0 c.in_ok-value.value in
+    let kept = contexts_stay t.tree.now t.layout.now t.values put t.contexts.items t.selections.items c.args.id c.requires.unread f.others t.computed in
     record {
       laid = t.laid;
       formed = t.formed;
-      computed = contexts_stay t.tree.now t.layout.now t.values.items _ t.contexts.items t.selections.items c.args.id c.requires.unread f.others t.computed;
+      computed = either_way c.set.result (λ v. AreContextsComputed t.tree.now t.layout.now v t.contexts.items) t.values put c.set.new.self c.set.ensures.done c.set.ensures.failed kept t.computed;
     }
 
 pub returns : goal.returns
 returns c =
     let t = c.args.table.now in
     let s = c.symbol_row-symbol.result.now in
-    let own = place_given c.args.given.now c.args.id.0 c.index-given-id.result c.as_ref-own.result (omega (arith, c.requires.there, c.requires.given))
-    c.index-given-id.is c.as_ref-own.ensures.value in
-    let e = c.in_ok-value.ensures ∙ ap (λ g. equation_at t c.args.id s g c.args.chosen.now) own in
+    let given = c.args.given.now in
+    let chosen = c.args.chosen.now in
+    let own = place_given given c.args.id.0 c.get-own.result c.get-own.ensures in
+    let e = c.in_ok-value.ensures ∙ ap (λ g. equation_at t c.args.id s g chosen) own in
+    let f = computed_place t c.args.id s given chosen c.in_ok-value.value c.symbol_row-symbol.ensures c.requires.full c.requires.there e in
     record {
       keeps = record { tree = refl; layout = refl };
-      values = computed_place t c.args.id s c.args.given.now c.args.chosen.now c.in_ok-value.value c.symbol_row-symbol.ensures c.requires.full c.requires.there e;
+      values = subst (AreComputedValues t.tree.now given chosen c.args.id t.values) (sym c.in_ok-set.ensures.done) f;
       contexts = refl;
       selections = refl;
     }

@@ -21,7 +21,7 @@ pub symbol_differs-requires-clause-selections : goal.symbol_differs-requires-cla
 symbol_differs-requires-clause-selections c =
     let t = c.args.table.now.tree.now in
     let s = c.symbol_row-symbol.result.now in
-    let f = selection t (place_at c.args.user.now) (valuation t c.args.table.now.values.items) in
+    let f = selection t (place_at c.args.user.now) (valuation t c.args.table.now.values) in
     choice_below t c.name_count-count.ensures.formed c.loop-i.i _ (facts_of c.args.table.now.layout.now c.loop-i.i s) s.choice
     (row_facts c.args.table.now (symbol c.loop-i.i) s c.symbol_row-symbol.ensures) refl (ap length c.requires.selections ∙ length-map-range_with_len f 0 (length t.choices))
 
@@ -29,7 +29,7 @@ pub symbol_differs-requires-clause-defaults : goal.symbol_differs-requires-claus
 symbol_differs-requires-clause-defaults c =
     let t = c.args.table.now.tree.now in
     let s = c.symbol_row-symbol.result.now in
-    let f = default_selection t (valuation t c.args.table.now.values.items) in
+    let f = default_selection t (valuation t c.args.table.now.values) in
     choice_below t c.name_count-count.ensures.formed c.loop-i.i _ (facts_of c.args.table.now.layout.now c.loop-i.i s) s.choice
     (row_facts c.args.table.now (symbol c.loop-i.i) s c.symbol_row-symbol.ensures) refl (ap length c.requires.defaults ∙ length-map-range_with_len f 0 (length t.choices))
 
@@ -37,7 +37,7 @@ pub symbol_differs-requires-clause-solved : goal.symbol_differs-requires-clause-
 symbol_differs-requires-clause-solved c =
     let t = c.args.table.now in
     let s = c.symbol_row-symbol.result.now in
-    solved_here t.tree.now t.values.items c.requires.full (place_at c.args.user.now) c.loop-i.i
+    solved_here t.tree.now t.values c.requires.full (place_at c.args.user.now) c.loop-i.i
     (facts_of t.layout.now c.loop-i.i s) (row_facts t (symbol c.loop-i.i) s c.symbol_row-symbol.ensures) c.args.selections.now c.args.defaults.now c.requires.selections c.requires.defaults
     c.requires.solves (omega arith) (given_in c.get-own.result) (place_mapped c.get-own.result ∙ c.get-own.ensures)
 
@@ -45,7 +45,7 @@ pub loop-i-preserved : goal.loop-i-preserved
 loop-i-preserved c =
     let table = c.args.table.now in
     let t = table.tree.now in
-    let values = table.values.items in
+    let values = table.values in
     let s = c.symbol_row-symbol.result.now in
     let f = facts_of table.layout.now c.loop-i.i s in
     let at = row_facts table (symbol c.loop-i.i) s c.symbol_row-symbol.ensures in

@@ -14,7 +14,7 @@ selection-selection-requires c = subst (IsSelected c.args.table.now c.loop-c.c) 
 pub loop-c-preserved : goal.loop-c-preserved
 loop-c-preserved c =
     let t = c.args.table.now.tree.now in
-    let values = c.args.table.now.values.items in
+    let values = c.args.table.now.values in
     record {
       selected = one_more_selected t values (place_at c.args.user.now) c.loop-c.c c.selection-selection.result c.loop-c.selected.items c.push.new.self.items c.requires.full
           c.loop-c.invariant.selected c.in_ok-push.ensures.items

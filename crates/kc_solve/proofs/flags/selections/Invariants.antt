@@ -7,6 +7,6 @@ use Rattle.kc_solve.proofs.flags.selections.Given as goal
 
 abbrev pub invariant-loop-c : goal.invariant-loop-c
 invariant-loop-c l = record {
-  selected : l.selected.items ≡ map (selection l.table.tree.now (place_at l.user) (valuation l.table.tree.now l.table.values.items)) (range_with_len 0 l.c);
-  default : l.default.items ≡ map (default_selection l.table.tree.now (valuation l.table.tree.now l.table.values.items)) (range_with_len 0 l.c);
+  selected : l.selected.items ≡ map (selection l.table.tree.now (place_at l.user) (valuation l.table.tree.now l.table.values)) (range_with_len 0 l.c);
+  default : l.default.items ≡ map (default_selection l.table.tree.now (valuation l.table.tree.now l.table.values)) (range_with_len 0 l.c);
 }

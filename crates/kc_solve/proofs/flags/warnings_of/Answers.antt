@@ -27,7 +27,7 @@ warnings_into-requires c =
     let s = c.symbol_row-symbol.result.now in
     let below = defined_below t c.defined-id-items.result.now c.loop-id.id-index c.defined-id-items.ensures c.loop-id-test.true in
     c.visibility_at-visibility.ensures
-    ∙ visibility_found t.tree.now t.values.items id (facts_of t.layout.now id.0 s) c.args.visibilities.now c.requires.full (omega (arith, below, row_count t))
+    ∙ visibility_found t.tree.now t.values id (facts_of t.layout.now id.0 s) c.args.visibilities.now c.requires.full (omega (arith, below, row_count t))
     (row_facts t id s c.symbol_row-symbol.ensures) c.requires.visibilities
 
 pub loop-id-preserved : goal.loop-id-preserved
@@ -35,7 +35,7 @@ loop-id-preserved c =
     let t = c.args.table.now in
     let id = get_or c.defined-id-items.result.now c.loop-id.id-index (symbol 0) in
     let s = c.symbol_row-symbol.result.now in
-    one_more_warned t.tree.now t.values.items c.args.user.now c.defined-id-items.result.now c.loop-id.id-index (facts_of t.layout.now id.0 s) (given_in c.get-own.result) _ _
+    one_more_warned t.tree.now t.values c.args.user.now c.defined-id-items.result.now c.loop-id.id-index (facts_of t.layout.now id.0 s) (given_in c.get-own.result) _ _
     c.requires.full c.loop-id-test.true (row_facts t id s c.symbol_row-symbol.ensures) (place_mapped c.get-own.result ∙ c.get-own.ensures) c.loop-id.invariant c.in_ok-warnings_into.ensures
 
 pub returns : goal.returns

@@ -22,13 +22,13 @@ pub returns-clause-solves : goal.returns-clause-solves
 returns-clause-solves c =
     let t = c.args.tree.now in
     solves_as_shown t c.symbols-given.result.now c.choices-chosen.result.now c.args.user.now
-    (valuation t c.in_ok-table.table.values.items) c.symbols-given.ensures c.choices-chosen.ensures c.in_ok-table.ensures.solves
+    (valuation t c.in_ok-table.table.values) c.symbols-given.ensures c.choices-chosen.ensures c.in_ok-table.ensures.solves
 
 pub returns-clause-only : goal.returns-clause-only
 returns-clause-only c =
     let t = c.args.tree.now in
     let g = c.args.order.now in
-    let V = valuation t c.in_ok-table.table.values.items in
+    let V = valuation t c.in_ok-table.table.values in
     let accepted = accepted_through g c.requires.order.graph (c.ordered_are_accepted.ensures g.rows c.nodes.result.now c.nodes.ensures) in
     let solves = solves_as_shown t c.symbols-given.result.now c.choices-chosen.result.now c.args.user.now V c.symbols-given.ensures c.choices-chosen.ensures c.in_ok-table.ensures.solves in
     c.accepted_have_one_solution.ensures.agree t (place_at c.args.user.now) (c.alike_needs.ensures.accepted (needs_of g) (needs t) c.requires.order.alike accepted) V solves

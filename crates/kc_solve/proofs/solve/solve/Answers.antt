@@ -10,7 +10,7 @@ use Rattle.kc_solve.proofs.solve.solve.Goals as goal
 
 pub invariant_of-solved : goal.invariant_of-solved
 invariant_of-solved c =
-    let items = c.in_ok-table.table.values.items in
+    let items = c.in_ok-table.table.values in
     let U = place_at c.args.user.now in
     let e = sym c.in_ok-table.ensures.tree in
     record {

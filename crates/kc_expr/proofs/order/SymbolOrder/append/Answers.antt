@@ -1,5 +1,5 @@
 -- What the check left open in `append`.
-use Rattle.std.proofs.Common.{◌∙◌, ◌∷◌, ◌++◌, ◌==◌, [], ap, sym, true}
+use Rattle.std.proofs.Common.{◌∙◌, ◌∷◌, ◌++◌, ◌==◌, [], ap, sym}
 use Rattle.std.specs.List.{list_any}
 use Rattle.kc_expr.proofs.OrderLemmas.{says_added}
 use Rattle.kc_expr.proofs.order.SymbolOrder.append.Goals as goal

@@ -6,4 +6,4 @@ use Rattle.kc_solve.proofs.solved.Solved.value_warnings.Goals as goal
 pub returns : goal.returns
 returns c =
     rw c.deref.ensures.value (subst (λ (s : Solution). map (λ w. w.items) c.self.inside.warnings.items ≡ warnings s) c.self.view_is
-    (lines_too c.self.inside.table.tree.now c.self.inside.user.now c.self.inside.table.values.items _ _ _ _ _ _ c.self.invariant))
+    (lines_too c.self.inside.table.tree.now c.self.inside.user.now c.self.inside.table.values _ _ _ _ _ _ c.self.invariant))
