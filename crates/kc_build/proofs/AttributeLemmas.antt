@@ -7,8 +7,8 @@ use Rattle.std.proofs.lemmas.List.{append-nil, get_or_append_left, get_or_push, 
 use Rattle.kc_expr.specs.declared.expression.SymId.{SymId}
 use Rattle.kc_expr.specs.Form.{Form}
 use Rattle.kc_expr.specs.When.{when_view}
-use Rattle.kc_read.specs.declared.statement.Line.{Line}
-use Rattle.kc_read.specs.StatementViews.{statement_view}
+use Rattle.kc_read.specs.declared.entries.AttributeLine.{AttributeLine}
+use Rattle.kc_read.specs.StatementViews.{attribute_view}
 use Rattle.kc_read.specs.Statements.{Numbered}
 use Rattle.kc_tree.specs.declared.rows.ChoiceDefault.{ChoiceDefault}
 use Rattle.kc_tree.specs.declared.rows.Symbol.{Symbol}
@@ -61,24 +61,24 @@ all_asked c = λ i. record { conjuncts = append-nil c.conjuncts i; mode = c.mode
 
 -- The contexts of an entry: the last one and what is left to ask for is what the whole entry asks for.
 module _ (f : Numbered → Option Form) (old : List Condition) (outer : ℕ) where
-  pub record ContextSoFar (ls : List Line) (i : ℕ) (now : List Condition) (at : ℕ) : Type 0 where
+  pub record ContextSoFar (ls : List AttributeLine) (i : ℕ) (now : List Condition) (at : ℕ) : Type 0 where
     pub grown : IsGrown old now (condition_in old outer).mode i
     pub there : at < length now
     pub condition : with_conjuncts (condition_in now at) (filter_map f (drop i (statements_of ls))) ≡ with_conjuncts (condition_in old outer) (filter_map f (statements_of ls))
 
-  pub context_start : (ls : List Line) → outer < length old → ContextSoFar ls 0 old outer
+  pub context_start : (ls : List AttributeLine) → outer < length old → ContextSoFar ls 0 old outer
   context_start ls h = record { grown = grown_none old (condition_in old outer).mode; there = h; condition = refl }
 
-  pub context_kept : (ls : List Line) (i : ℕ) (x : Line) (now : List Condition) (at : ℕ) → ContextSoFar ls i now at → i < length ls → x ≡ get_or ls i x →
-      f (statement_view x.statement) ≡ None → ContextSoFar ls (i + 1) now at
+  pub context_kept : (ls : List AttributeLine) (i : ℕ) (x : AttributeLine) (now : List Condition) (at : ℕ) → ContextSoFar ls i now at → i < length ls → x ≡ get_or ls i x →
+      f (attribute_view x.attribute) ≡ None → ContextSoFar ls (i + 1) now at
   context_kept ls i x now at a h n e = record {
     grown = grown_more old (condition_in old outer).mode now i (i + 1) (omega arith) a.grown;
     there = a.there;
     condition = let s = a.condition in (rw (statements_from ls i x h n, e) at s);
   }
 
-  pub context_more : (ls : List Line) (i : ℕ) (x : Line) (now new : List Condition) (at next : ℕ) (e : Form) → ContextSoFar ls i now at → i < length ls →
-      x ≡ get_or ls i x → Some e ≡ f (statement_view x.statement) → new ≡ now ++ and_also (condition_in now at) e ∷ [] → next ≡ length now →
+  pub context_more : (ls : List AttributeLine) (i : ℕ) (x : AttributeLine) (now new : List Condition) (at next : ℕ) (e : Form) → ContextSoFar ls i now at → i < length ls →
+      x ≡ get_or ls i x → Some e ≡ f (attribute_view x.attribute) → new ≡ now ++ and_also (condition_in now at) e ∷ [] → next ≡ length now →
       ContextSoFar ls (i + 1) new next
   context_more ls i x now new at next e a h n q p k =
       let s = a.condition in
@@ -92,15 +92,15 @@ module _ (f : Numbered → Option Form) (old : List Condition) (outer : ℕ) whe
         condition = ap (λ c. with_conjuncts c rest) here ∙ more_asked (condition_in now at) e rest ∙ (rw (statements_from ls i x h n, ← q) at s);
       }
 
-  pub context_next : (ls : List Line) (i : ℕ) (x : Line) (now new : List Condition) (at next : ℕ) (o : Option Form) → ContextSoFar ls i now at → i < length ls →
-      x ≡ get_or ls i x → f (statement_view x.statement) ≡ o → IsInside now at o new next → ContextSoFar ls (i + 1) new next
+  pub context_next : (ls : List AttributeLine) (i : ℕ) (x : AttributeLine) (now new : List Condition) (at next : ℕ) (o : Option Form) → ContextSoFar ls i now at → i < length ls →
+      x ≡ get_or ls i x → f (attribute_view x.attribute) ≡ o → IsInside now at o new next → ContextSoFar ls (i + 1) new next
   context_next ls i x now new at next None a h n q p = rw (p.0, p.1) (context_kept ls i x now at a h n q)
   context_next ls i x now new at next (Some e) a h n q p = context_more ls i x now new at next e a h n (sym q) p.0 p.1
 
-  pub context_grown : (ls : List Line) (i : ℕ) (now : List Condition) (at : ℕ) → ContextSoFar ls i now at → i ≤ length ls → IsGrown old now (condition_in old outer).mode (length ls)
+  pub context_grown : (ls : List AttributeLine) (i : ℕ) (now : List Condition) (at : ℕ) → ContextSoFar ls i now at → i ≤ length ls → IsGrown old now (condition_in old outer).mode (length ls)
   context_grown ls i now at a h = grown_more old (condition_in old outer).mode now i (length ls) h a.grown
 
-  pub context_end : (ls : List Line) (i : ℕ) (now : List Condition) (at : ℕ) → ContextSoFar ls i now at → length ls ≤ i →
+  pub context_end : (ls : List AttributeLine) (i : ℕ) (now : List Condition) (at : ℕ) → ContextSoFar ls i now at → length ls ≤ i →
       Stands now at (with_conjuncts (condition_in old outer) (filter_map f (statements_of ls)))
   context_end ls i now at a h =
       let s = a.condition in

@@ -5,14 +5,13 @@ use Rattle.std.specs.List.{slice_get, flat_map}
 use Rattle.std.specs.Option.{is_some}
 use Rattle.std.proofs.lemmas.List.Elements.{All-append, All-head}
 use Rattle.kc_expr.specs.Names.{AreDistinct, number_of}
-use Rattle.kc_read.specs.declared.statement.Line.{Line}
 use Rattle.kc_read.specs.declared.refusal.Code.{Code}
 use Rattle.kc_read.specs.declared.refusal.Code.TheVariants as code
 use Rattle.kc_read.specs.declared.refusal.Refusal.{Refusal}
 use Rattle.kc_read.specs.Expansion.{Expands, Log, OneExpansion, Refused, defined, refused}
 use Rattle.kc_read.specs.Files.{Files}
 use Rattle.kc_read.specs.Numbering.{names_of, numbered_lines}
-use Rattle.kc_read.specs.StatementViews.{line_view}
+use Rattle.kc_read.specs.Entries.{lines_in}
 use Rattle.kc_read.specs.Statements.{Numbered, Located, Named, statements}
 use Rattle.kc_read.specs.RefusalView.{IsMemory, refusal_view}
 use Rattle.kc_build.specs.declared.listing.Listing.{Listing}
@@ -21,7 +20,7 @@ use Rattle.kc_tree.specs.Common.{listed}
 use Rattle.kc_build.specs.SymbolRows.{AreBelow, AreChoicesApart, AreMenusOpened, AreTypesDefined}
 use Rattle.kc_build.specs.Listings.{IsListing}
 use Rattle.kc_build.specs.Facts.{defined_symbols}
-use Rattle.kc_build.specs.Passes.{statements_of}
+use Rattle.kc_build.specs.Passes.{statements_in}
 use Rattle.kc_tree.specs.TreeFacts.{TreeFacts, IsWellFormed}
 use Rattle.kc_tree.specs.declared.layout.TreeParts.{TreeParts}
 use Rattle.kc_build.specs.Trees.{OneTree, facts_with, modules_symbol, tree_of_lines, tree_of_log, tree_with, unless_refused}
@@ -30,7 +29,6 @@ use Rattle.kc_build.proofs.DefinedLemmas.{AreNames, expanded_allowed, expanded_k
 use Rattle.kc_build.proofs.ElementLemmas.{All-flat_map, All-map_each}
 use Rattle.kc_build.proofs.NestLemmas.{choice_alone, menu_closed}
 use Rattle.kc_build.proofs.NumberingLemmas.{numbered_below}
-use Rattle.kc_build.proofs.StatementLemmas.{statements-are}
 use Rattle.kc_build.proofs.ShapeLemmas.{nested}
 use Rattle.kc_build.proofs.WholeLemmas.{IsShaped, shaped, well_formed}
 
@@ -77,41 +75,36 @@ module _ (log : Log) (l : Listing) (h : IsListing log l) where
   abbrev line_statements : List Numbered
   line_statements = map (λ x. x.statement) (numbered_lines log.lines)
 
-  statements_here : (ls : List Line) → ls ≡ l.lines.items → line_statements ≡ statements_of ls
-  statements_here ls same =
-      ap (λ (ps : List (Located Numbered)). map (λ x. x.statement) ps) (sym h.lines_are) ∙ statements-are l.lines.items ∙ ap statements_of (sym same)
+  statements_here : line_statements ≡ statements_in l.entries
+  statements_here = ap statements (sym h.lines_are)
 
-  pub lines-below : (ls : List Line) → ls ≡ l.lines.items → AreBelow (length l.names) (statements_of ls)
-  lines-below ls same =
-      subst (λ (ss : List Numbered). AreBelow (length l.names) ss) (statements_here ls same)
+  pub lines-below : AreBelow (length l.names) (statements_in l.entries)
+  lines-below =
+      subst (λ (ss : List Numbered). AreBelow (length l.names) ss) statements_here
       (subst (λ (ns : List (List ℕ)). AreBelow (length ns) line_statements) (sym h.names_are) (numbered_below log.lines))
 
-  pub lines-define : (ls : List Line) → ls ≡ l.lines.items → l.defined.items ≡ defined_symbols (statements_of ls)
-  lines-define ls same = h.defined_are ∙ ap defined_symbols (statements_here ls same)
+  pub lines-define : l.defined.items ≡ defined_symbols (statements_in l.entries)
+  lines-define = h.defined_are ∙ ap defined_symbols statements_here
 
-  pub lines-modules : (ls : List Line) → ls ≡ l.lines.items → l.modules ≡ modules_symbol l.names (statements_of ls)
-  lines-modules ls same =
-      h.modules_is ∙ ap (modules_symbol (names_of (statements log.lines))) (statements_here ls same)
-      ∙ ap (λ (ns : List (List ℕ)). modules_symbol ns (statements_of ls)) (sym h.names_are)
+  pub lines-modules : l.modules ≡ modules_symbol l.names (statements_in l.entries)
+  lines-modules =
+      h.modules_is ∙ ap (modules_symbol (names_of (statements log.lines))) statements_here
+      ∙ ap (λ (ns : List (List ℕ)). modules_symbol ns (statements_in l.entries)) (sym h.names_are)
 
-  pub lines-apart : (files : Files) (root : List ℕ) → Expands files root (Ok log) → (ls : List Line) → ls ≡ l.lines.items → AreChoicesApart (statements_of ls)
-  lines-apart files root x ls same =
-      subst AreChoicesApart (statements_here ls same) (choice_alone line_statements (nested files root log x))
+  pub lines-apart : (files : Files) (root : List ℕ) → Expands files root (Ok log) → AreChoicesApart (statements_in l.entries)
+  lines-apart files root x = subst AreChoicesApart statements_here (choice_alone line_statements (nested files root log x))
 
-  pub lines-typed : (files : Files) (root : List ℕ) → Expands files root (Ok log) → (ls : List Line) → ls ≡ l.lines.items → AreTypesDefined (statements_of ls)
-  lines-typed files root x ls same =
-      subst AreTypesDefined (statements_here ls same)
-      (numbered_typed (number_of (names_of (statements log.lines))) log.lines (expanded_allowed files root log x))
+  pub lines-typed : (files : Files) (root : List ℕ) → Expands files root (Ok log) → AreTypesDefined (statements_in l.entries)
+  lines-typed files root x =
+      subst AreTypesDefined statements_here (numbered_typed (number_of (names_of (statements log.lines))) log.lines (expanded_allowed files root log x))
 
-  pub lines-opened : (files : Files) (root : List ℕ) → Expands files root (Ok log) → (ls : List Line) → ls ≡ l.lines.items → AreMenusOpened (statements_of ls)
-  lines-opened files root x ls same =
-      subst AreMenusOpened (statements_here ls same) (λ i e. ap is_some (menu_closed line_statements (nested files root log x) i e).1)
+  pub lines-opened : (files : Files) (root : List ℕ) → Expands files root (Ok log) → AreMenusOpened (statements_in l.entries)
+  lines-opened files root x =
+      subst AreMenusOpened statements_here (λ i e. ap is_some (menu_closed line_statements (nested files root log x) i e).1)
 
-  pub parts-lines : (ls : List Line) (s : Result TreeParts Refusal) → ls ≡ l.lines.items →
-      parts_view l.names s ≡ tree_with l.names (map line_view ls) → parts_view l.names s ≡ tree_of_lines log.lines
-  parts-lines ls s same a =
+  pub parts-lines : (s : Result TreeParts Refusal) → parts_view l.names s ≡ tree_with l.names (lines_in l.entries) → parts_view l.names s ≡ tree_of_lines log.lines
+  parts-lines s a =
       a
-      ∙ ap (λ (xs : List Line). tree_with l.names (map line_view xs)) same
       ∙ ap (tree_with l.names) h.lines_are
       ∙ ap (λ (ns : List (List ℕ)). tree_with ns (numbered_lines log.lines)) h.names_are
 

@@ -1,5 +1,5 @@
 -- The scope of the lines, as the first walk keeps it: from one line to the next, and behind an entry.
-use Rattle.std.proofs.Common.{◌≡◌, ℕ, zero, suc, ◌+◌, ◌≤◌, true, if◌then◌else◌, List, [], ◌∷◌, ◌++◌, length, map, filter, Option, Some, None, refl, ap, sym, ◌∙◌, arith, add-one, inl, inr}
+use Rattle.std.proofs.Common.{Box, ◌≡◌, ℕ, zero, suc, ◌+◌, ◌≤◌, true, if◌then◌else◌, List, [], ◌∷◌, ◌++◌, length, map, filter, Option, Some, None, refl, ap, sym, ◌∙◌, arith, add-one, inl, inr}
 use Rattle.std.specs.Prelude.{◌⊎◌}
 use Rattle.std.specs.List.{slice_get, filter_map, cons_option}
 use Rattle.std.specs.Option.{option_map}
@@ -13,9 +13,9 @@ use Rattle.kc_expr.specs.declared.expression.SymId.{SymId}
 use Rattle.kc_read.specs.declared.statement.Block as opener
 use Rattle.kc_read.specs.declared.statement.Block.TheVariants as block
 use Rattle.kc_expr.specs.declared.expression.Expr.{Expr}
-use Rattle.kc_read.specs.declared.statement.Statement.{Statement}
-use Rattle.kc_read.specs.declared.statement.Statement.TheVariants as made
-use Rattle.kc_read.specs.StatementViews.{statement_view}
+use Rattle.kc_read.specs.declared.statement.Head.{Head}
+use Rattle.kc_read.specs.declared.statement.Head.TheVariants as made
+use Rattle.kc_read.specs.StatementViews.{head_view}
 use Rattle.kc_read.specs.Statements.{Numbered, ChoiceLine}
 use Rattle.kc_read.specs.Blocks.{Opens, Closes, NoBracket, bracket, bracket_of, enclosing, is_attribute, last_of, numbers, opened}
 use Rattle.kc_tree.specs.declared.rows.ChoiceId.{ChoiceId}
@@ -161,22 +161,15 @@ pub record IsCloser (s : Numbered) : Type 0 where
 nothing_more : (n : ℕ) → n ≡ n + 0
 nothing_more n = omega arith
 
-pub closer_is : (s : Statement) → (s ≡ made.EndIf) ⊎ ((s ≡ made.EndMenu) ⊎ (s ≡ made.EndChoice)) → IsCloser (statement_view s)
+pub closer_is : (s : Head) → (s ≡ made.EndIf) ⊎ ((s ≡ made.EndMenu) ⊎ (s ≡ made.EndChoice)) → IsCloser (head_view s)
 closer_is s (inl e) = rw e (record { closes = refl; no_choice = λ n. refl; none = nothing_more })
 closer_is s (inr (inl e)) = rw e (record { closes = refl; no_choice = λ n. refl; none = nothing_more })
 closer_is s (inr (inr e)) = rw e (record { closes = refl; no_choice = λ n. refl; none = nothing_more })
 
-pub other_flat : (s : Statement) → ((x : SymId) → s ≡ made.Config x → ⊥) → ((e : Rc Expr Global) → s ≡ made.If e → ⊥) → (s ≡ made.EndIf → ⊥) →
-    ((t : Vec ℕ Global) → s ≡ made.Menu t → ⊥) → (s ≡ made.EndMenu → ⊥) → (s ≡ made.Choice → ⊥) → (s ≡ made.EndChoice → ⊥) → IsFlat (statement_view s)
-other_flat (made.Config x) a b c d e f g = absurd (a x refl)
-other_flat (made.If x) a b c d e f g = absurd (b x refl)
-other_flat made.EndIf a b c d e f g = absurd (c refl)
-other_flat (made.Menu t) a b c d e f g = absurd (d t refl)
-other_flat made.EndMenu a b c d e f g = absurd (e refl)
-other_flat made.Choice a b c d e f g = absurd (f refl)
-other_flat made.EndChoice a b c d e f g = absurd (g refl)
-other_flat _ a b c d e f g = record { flat = refl; no_choice = λ n. refl; none = nothing_more }
+pub other_flat : (s : Head) → ((t : Box (Vec ℕ Global) Global) × (s ≡ made.Comment t)) ⊎ ((t : Box (Vec ℕ Global) Global) × (s ≡ made.MainMenu t)) → IsFlat (head_view s)
+other_flat s (inl e) = rw e.1 (record { flat = refl; no_choice = λ n. refl; none = nothing_more })
+other_flat s (inr e) = rw e.1 (record { flat = refl; no_choice = λ n. refl; none = nothing_more })
 
-pub no_definition : (s : Statement) → ((x : SymId) → s ≡ made.Config x → ⊥) → symbol_of (Some (statement_view s)) ≡ None
+pub no_definition : (s : Head) → ((x : SymId) → s ≡ made.Config x → ⊥) → symbol_of (Some (head_view s)) ≡ None
 no_definition (made.Config x) h = absurd (h x refl)
 no_definition _ h = refl

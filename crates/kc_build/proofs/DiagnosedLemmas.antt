@@ -17,8 +17,6 @@ use Rattle.kc_read.specs.Blocks.{attributes, is_attribute, numbers}
 use Rattle.kc_read.specs.Expansion.{Refused}
 use Rattle.kc_read.specs.Statements.{Numbered, Located, ConfigLine, TypeLine, PromptLine, statements}
 use Rattle.kc_read.specs.RefusalView.{refusal_view}
-use Rattle.kc_read.specs.StatementViews.{line_view, statement_view}
-use Rattle.kc_read.specs.declared.statement.Line.{Line}
 use Rattle.kc_read.specs.declared.refusal.Refusal.{Refusal}
 use Rattle.kc_tree.specs.declared.rows.ChoiceId.{ChoiceId}
 use Rattle.kc_tree.specs.declared.rows.Symbol.{Symbol}
@@ -32,7 +30,6 @@ use Rattle.kc_build.specs.Facts.{prompt_of, choice_of, enclosing_choice, first_o
 use Rattle.kc_build.specs.FirstDefinitions.{is_first_definition_at}
 use Rattle.kc_build.specs.SymbolRows.{AreBelow, AreSymbols, IsEntrySummary, choice_by, kind_by, member_by, line_warnings_in}
 use Rattle.kc_build.specs.WholeListRefusals.{entry_refusal}
-use Rattle.kc_build.specs.Passes.{statements_of}
 use Rattle.kc_build.specs.WalkResult.{IsDiagnosed}
 use Rattle.kc_build.specs.Trees.{unless_refused}
 use Rattle.kc_build.specs.Warnings.{bad_defaults, bad_members, is_bad_default, is_bad_member, whole_list_refusals, line_of, menu_entry_at, menu_entry_before, prompt_before, refused_at, line_warnings, line_warnings_by, warned_at, warnings}
@@ -41,7 +38,6 @@ use Rattle.kc_build.proofs.ListLemmas.{there_in}
 use Rattle.kc_build.proofs.MemberLemmas.{below_or_past, member_is}
 use Rattle.kc_build.proofs.MenuEntryLemmas.{has_prompt, entry_goes_on, entry_here, prompt_begins, prompt_goes_on}
 use Rattle.kc_build.proofs.PlaceLemmas.{filter-next, flat_map-next}
-use Rattle.kc_build.proofs.StatementLemmas.{statements-are}
 
 -- The places below one, of those that are kept among all.
 below_it : (n i : ℕ) → n < i → nat_lt n i ≡ true
@@ -176,8 +172,8 @@ module _ (names : List (List ℕ)) (ls : List (Located Numbered)) where
   statement_read : (i : ℕ) (l : Located Numbered) → slice_get ls i ≡ Some l → slice_get (statements ls) i ≡ Some l.statement
   statement_read i l h = slice_get-map (λ (x : Located Numbered). x.statement) ls i ∙ ap (option_map (λ (x : Located Numbered). x.statement)) h
 
-  refused_one : (c : Code) (i : ℕ) (l : Located Numbered) → slice_get ls i ≡ Some l → refused_at names ls c i ≡ entry_refusal names c (menu_entry_at (statements ls) i) l ∷ []
-  refused_one c i l h = ap (λ (o : Option (Located Numbered)). map (entry_refusal names c (menu_entry_at (statements ls) i)) (listed o)) h
+  refused_one : (c : Code) (i : ℕ) (l : Located Numbered) → slice_get ls i ≡ Some l → refused_at names ls c i ≡ entry_refusal names c (menu_entry_at (statements ls) i) l.file l.line ∷ []
+  refused_one c i l h = ap (λ (o : Option (Located Numbered)). map (λ (x : Located Numbered). entry_refusal names c (menu_entry_at (statements ls) i) x.file x.line) (listed o)) h
 
 -- What is known of a line is what the list says of it, as far as it counts there.
 record IsKnown (ls : List (Located Numbered)) (symbols : List Symbol) (summary : EntrySummary) (prompted : Bool) (i : ℕ) (l : Located Numbered) : Type 0 where
@@ -233,15 +229,15 @@ module _ (names : List (List ℕ)) (ls : List (Located Numbered)) (symbols : Lis
       ap (λ (o : Option Numbered). list_any (is_bad_default (kind_of ss) (menu_entry_at ss i)) (listed o)) read ∙ or_false _
       ∙ sym (ap (λ (g : SymId → Kind). is_bad_default g summary.entry l.statement) kinds
       ∙ ap (λ (o : MenuEntry). is_bad_default (kind_of ss) o l.statement) k.entry) in
-      let refused_by : (c : Code) → refused_at names ls c i ≡ entry_refusal names c summary.entry l ∷ [] = λ c. refused_one names ls c i l k.at
-      ∙ ap (λ (o : MenuEntry). entry_refusal names c o l ∷ []) (sym k.entry) in
+      let refused_by : (c : Code) → refused_at names ls c i ≡ entry_refusal names c summary.entry l.file l.line ∷ [] = λ c. refused_one names ls c i l k.at
+      ∙ ap (λ (o : MenuEntry). entry_refusal names c o l.file l.line ∷ []) (sym k.entry) in
       let line = line_of names l.file l.line in
       let warned : warned_at names ls i (slice_get ls i) ≡ map line (line_warnings ss i l.statement) = ap (warned_at names ls i) k.at in
       record {
         member = found_next (refused_at names ls code.ChoiceMember) (bad_member_at names ls) i member_b d.member
-            (entry_refusal names code.ChoiceMember summary.entry l) member_at (refused_by code.ChoiceMember) f.member;
+            (entry_refusal names code.ChoiceMember summary.entry l.file l.line) member_at (refused_by code.ChoiceMember) f.member;
         default = found_next (refused_at names ls code.BadDefault) (bad_default_at names ls) i default_b d.default
-            (entry_refusal names code.BadDefault summary.entry l) default_at (refused_by code.BadDefault) f.default;
+            (entry_refusal names code.BadDefault summary.entry l.file l.line) default_at (refused_by code.BadDefault) f.default;
         warnings = λ none.
             ap (λ w. w ++ map line (line_warnings_in symbols summary prompted l.statement)) (f.warnings none)
             ∙ ap (λ w. flat_map (λ j. warned_at names ls j (slice_get ls j)) (numbers i) ++ w) (ap (map line) (k.says none) ∙ sym warned)
@@ -364,60 +360,15 @@ module _ (names : List (List ℕ)) (ls : List (Located Numbered)) (symbols : Lis
       (head_asked i head.statement read begins) (line_next names ls symbols below are summary false i head d (head_known i head at is begins) f)
 
   -- one entry more
-  pub entry_diagnosed : (i k : ℕ) (head : Located Numbered) (own : List (Located Numbered)) (old new : Diagnostics) → slice_get ls i ≡ Some head →
-      own ≡ take k (drop (i + 1) ls) → attributes (statements ls) i ≡ map (λ l. l.statement) own → ((is_attribute head.statement ≡ false) ⊎ (i ≡ 0)) →
+  pub entry_diagnosed : (i : ℕ) (head : Located Numbered) (own rest : List (Located Numbered)) (old new : Diagnostics) → slice_get ls i ≡ Some head →
+      drop (i + 1) ls ≡ own ++ rest → attributes (statements ls) i ≡ map (λ l. l.statement) own → ((is_attribute head.statement ≡ false) ⊎ (i ≡ 0)) →
       IsEntrySummary (statements ls) i summary → IsDiagnosed names ls i old → AreLinesDiagnosed names symbols summary head own old new →
       IsDiagnosed names ls (i + 1 + length own) new
-  entry_diagnosed i k head own old new at from are_own begins is old_is looked =
+  entry_diagnosed i head own rest old new at tail are_own begins is old_is looked =
       let within = slice_get_within ls i head at in
-      let tail : drop (i + 1) ls ≡ own ++ drop k (drop (i + 1) ls) = sym (take-append-drop k (drop (i + 1) ls)) ∙ ap (λ l. l ++ drop k (drop (i + 1) ls)) (sym from) in
-      let fits : i + 1 + length own ≤ length ls = omega (arith, ap length tail, length-append own (drop k (drop (i + 1) ls)), length-drop (i + 1) ls) in
+      let fits : i + 1 + length own ≤ length ls = omega (arith, ap length tail, length-append own rest, length-drop (i + 1) ls) in
       diagnosed names ls (i + 1 + length own) new fits (rw looked
-      (entry_next i head own (drop k (drop (i + 1) ls)) (diagnosis_view old) at tail are_own begins is (found names ls i old (omega arith) old_is)))
-
--- The same of lines as the code has them.
-line_read : (lines : List Line) (i : ℕ) (x : Line) → i < length lines → x ≡ get_or lines i x → slice_get (map line_view lines) i ≡ Some (line_view x)
-line_read lines i x h e = slice_get-map line_view lines i ∙ ap (option_map line_view) (slice_get-get_or lines i x h ∙ ap Some (sym e))
-
--- one entry more, of a walk over lines
-pub entry_of_lines : (names : List (List ℕ)) (lines : List Line) (symbols : List Symbol) (summary : EntrySummary) (i k : ℕ) (head : Line) (own : List Line)
-    (old new : Diagnostics) → AreBelow (length symbols) (statements_of lines) → AreSymbols (statements_of lines) symbols → i < length lines →
-    head ≡ get_or lines i head → own ≡ take k (drop (i + 1) lines) → attributes (statements_of lines) i ≡ statements_of own →
-    ((is_attribute (statement_view head.statement) ≡ false) ⊎ (i ≡ 0)) → IsEntrySummary (statements_of lines) i summary →
-    IsDiagnosed names (map line_view lines) i old → AreLinesDiagnosed names symbols summary (line_view head) (map line_view own) old new →
-    IsDiagnosed names (map line_view lines) (i + 1 + length (statements_of own)) new
-entry_of_lines names lines symbols summary i k head own old new below are h at from are_own begins is old_is looked =
-    let ls = map line_view lines in
-    let same : statements_of lines ≡ statements ls = sym (statements-are lines) in
-    let taken : map line_view own ≡ take k (drop (i + 1) ls) = ap (map line_view) from ∙ sym (take-map line_view k (drop (i + 1) lines)) ∙ ap (take k) (sym (drop-map line_view (i + 1) lines)) in
-    let attributes_are : attributes (statements ls) i ≡ statements (map line_view own) =
-    ap (λ (ss : List Numbered). attributes ss i) (sym same) ∙ are_own ∙ sym (statements-are own) in
-    let passed = entry_diagnosed names ls symbols (rw same at below) (rw same at are) summary i k (line_view head) (map line_view own) old new
-    (line_read lines i head h at) taken attributes_are begins (rw same at is) old_is looked in
-    let count : length (map line_view own) ≡ length (statements_of own) = length-map own line_view ∙ sym (length-map own (λ (l : Line). statement_view l.statement)) in
-    rw count at passed
-
--- The line behind an entry begins the next one.
-after_taken : {A : Type 0} (p : A → Bool) (b : Bool) (x y : A) (xs : List A) → p y ≡ b → slice_get (y ∷ xs) (length (take_while p (y ∷ xs))) ≡ Some x →
-    (slice_get xs (length (take_while p xs)) ≡ Some x → p x ≡ false) → p x ≡ false
-after_taken p true x y xs e h ih = ih (rw (take_while-cons p y xs, e) at h)
-after_taken p false x y xs e h ih =
-    let same : y ≡ x = (let q : Some y ≡ Some x = (rw (take_while-cons p y xs, e) at h) in cc) in
-    ap p (sym same) ∙ e
-
-stops_at : {A : Type 0} (p : A → Bool) (xs : List A) (x : A) → slice_get xs (length (take_while p xs)) ≡ Some x → p x ≡ false
-stops_at p [] x h = cc
-stops_at p (y ∷ xs) x h = after_taken p (p y) x y xs refl h (stops_at p xs x)
-
-get-drop : {A : Type 0} (xs : List A) (n k : ℕ) → slice_get (drop n xs) k ≡ slice_get xs (n + k)
-get-drop xs zero k = let e : 0 + k ≡ k = omega arith in rw e refl
-get-drop [] (suc n) k = refl
-get-drop (x ∷ xs) (suc n) k = let e : suc n + k ≡ suc (n + k) = omega arith in rw e (get-drop xs n k)
-
-pub begins_behind : (ss : List Numbered) (i : ℕ) (s : Numbered) → slice_get ss (i + 1 + length (attributes ss i)) ≡ Some s → is_attribute s ≡ false
-begins_behind ss i s h =
-    let there : suc i + length (attributes ss i) ≡ i + 1 + length (attributes ss i) = omega arith in
-    stops_at is_attribute (drop (suc i) ss) s (get-drop ss (suc i) (length (attributes ss i)) ∙ ap (slice_get ss) there ∙ h)
+      (entry_next i head own rest (diagnosis_view old) at tail are_own begins is (found names ls i old (omega arith) old_is)))
 
 -- Behind the last line.
 no_left : {A : Type 0} (xs ys : List A) → xs ++ ys ≡ [] → xs ≡ []

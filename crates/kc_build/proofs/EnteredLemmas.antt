@@ -1,11 +1,10 @@
--- What an entry does to the walk that is no symbol, block or comment: the ends of an `if` and of a choice, a main menu, another
--- line.
+-- What an entry does to the walk that is no symbol, block or comment: the ends of an `if` and of a choice, a main menu.
 use Rattle.std.proofs.Common.{◌≡◌, ℕ, List, [], ◌∷◌, ◌++◌, length, take, Some, None, codes, unwrap_or, refl, ap, sym, ◌∙◌, arith, inl, inr}
 use Rattle.std.specs.Prelude.{◌⊎◌}
 use Rattle.std.specs.List.{filter_map}
-use Rattle.kc_read.specs.declared.statement.Statement.{Statement}
-use Rattle.kc_read.specs.declared.statement.Statement.TheVariants as made
-use Rattle.kc_read.specs.StatementViews.{statement_view}
+use Rattle.kc_read.specs.declared.statement.Head.{Head}
+use Rattle.kc_read.specs.declared.statement.Head.TheVariants as made
+use Rattle.kc_read.specs.StatementViews.{head_view}
 use Rattle.kc_read.specs.Statements.{Numbered, MainMenuLine}
 use Rattle.kc_read.specs.Blocks.{Closes, NoBracket, bracket, last_of}
 use Rattle.kc_tree.specs.declared.rows.Symbol.{Symbol}
@@ -18,49 +17,16 @@ use Rattle.kc_build.proofs.OpenLemmas.{open_passes}
 use Rattle.kc_build.proofs.OpenerLemmas.{AreSame, quiet_passes}
 use Rattle.kc_build.proofs.WalkLemmas.{main_menu_stays}
 
--- A statement that closes a block and is no entry; one that is no bracket and no entry.
+-- A line that closes a block and is no entry.
 pub record IsEnd (s : Numbered) : Type 0 where
   pub closes : bracket s ≡ Closes
   pub symbol : symbol_of (Some s) ≡ None
   pub title : title_of s ≡ None
   pub entry : (ss : List Numbered) (i : ℕ) → shown_at ss i (Some s) ≡ None
 
-pub record IsIdle (s : Numbered) : Type 0 where
-  pub passes : bracket s ≡ NoBracket
-  pub symbol : symbol_of (Some s) ≡ None
-  pub title : title_of s ≡ None
-  pub entry : (ss : List Numbered) (i : ℕ) → shown_at ss i (Some s) ≡ None
-
-pub end_is : (s : Statement) → (s ≡ made.EndIf) ⊎ (s ≡ made.EndChoice) → IsEnd (statement_view s)
+pub end_is : (s : Head) → (s ≡ made.EndIf) ⊎ (s ≡ made.EndChoice) → IsEnd (head_view s)
 end_is s (inl e) = rw e (record { closes = refl; symbol = refl; title = refl; entry = λ ss i. refl })
 end_is s (inr e) = rw e (record { closes = refl; symbol = refl; title = refl; entry = λ ss i. refl })
-
-module _ (s : Statement) where
-  abbrev Not : {X : Type 0} → (X → Statement) → Type 0
-  Not {X} f = (x : X) → s ≡ f x → ⊥
-
-pub idle_is : (s : Statement) → Not s made.Config → Not s made.If → (s ≡ made.EndIf → ⊥) → Not s made.Comment → Not s made.Menu → (s ≡ made.EndMenu → ⊥) → (s ≡ made.Choice → ⊥) →
-    (s ≡ made.EndChoice → ⊥) → Not s made.MainMenu → IsIdle (statement_view s)
-idle_is (made.Config x) a b c d e f g h i = absurd (a x refl)
-idle_is (made.If x) a b c d e f g h i = absurd (b x refl)
-idle_is made.EndIf a b c d e f g h i = absurd (c refl)
-idle_is (made.Comment x) a b c d e f g h i = absurd (d x refl)
-idle_is (made.Menu x) a b c d e f g h i = absurd (e x refl)
-idle_is made.EndMenu a b c d e f g h i = absurd (f refl)
-idle_is made.Choice a b c d e f g h i = absurd (g refl)
-idle_is made.EndChoice a b c d e f g h i = absurd (h refl)
-idle_is (made.MainMenu x) a b c d e f g h i = absurd (i x refl)
-idle_is _ a b c d e f g h i = record { passes = refl; symbol = refl; title = refl; entry = λ ss i. refl }
-
-pub idle_enters : (head : Numbered) (w : EntryWalk) → IsIdle head → (symbols : List Symbol) (own : List Numbered) → Enters symbols head own w w
-idle_enters head w q symbols own ss i a h k =
-    quiet_passes ss symbols i head own h w w k
-    (record { definitions = refl; defaults = refl; ranges = refl; reverses = refl; choices = refl; titles = refl; entries = refl })
-    (record { symbol = q.symbol; choice = rw (h.at, q.passes) refl; entry = q.entry ss i })
-    (extends_equal w.tables.contexts w.tables.contexts refl)
-    (omega arith)
-    (open_passes ss i head h.at w.tables.contexts w.blocks q.passes k.blocks)
-    (k.main_menu ∙ sym (main_menu_stays ss i head own h q.title))
 
 last_snoc : {X : Type 0} (xs : List X) (x : X) → last_of (xs ++ x ∷ []) ≡ Some x
 last_snoc [] x = refl

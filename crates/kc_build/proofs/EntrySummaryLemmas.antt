@@ -5,9 +5,9 @@ use Rattle.std.specs.Option.{option_map}
 use Rattle.std.proofs.lemmas.List.{length-map}
 use Rattle.std.proofs.lemmas.Option.{slice_get_within}
 use Rattle.kc_expr.specs.declared.expression.SymId.{SymId}
-use Rattle.kc_read.specs.declared.statement.Statement.{Statement}
-use Rattle.kc_read.specs.declared.statement.Statement.TheVariants as made
-use Rattle.kc_read.specs.StatementViews.{statement_view}
+use Rattle.kc_read.specs.declared.statement.Head.{Head}
+use Rattle.kc_read.specs.declared.statement.Head.TheVariants as made
+use Rattle.kc_read.specs.StatementViews.{head_view}
 use Rattle.kc_read.specs.Statements.{Numbered, ConfigLine, ChoiceLine}
 use Rattle.kc_read.specs.Blocks.{is_attribute, numbers}
 use Rattle.kc_tree.specs.declared.rows.ChoiceId.{ChoiceId}
@@ -29,8 +29,8 @@ use Rattle.kc_build.proofs.WalkLemmas.{choice_count}
 use Rattle.kc_build.proofs.LayoutLemmas.{length-given}
 
 -- A statement that begins no symbol and no choice.
-pub other_begins : (n : ℕ) (s : Statement) → ((t : SymId) → s ≡ made.Config t → ⊥) → (s ≡ made.Choice → ⊥) →
-    (begun n (statement_view s) ≡ menu_entry.Other) × (symbol_of (Some (statement_view s)) ≡ None)
+pub other_begins : (n : ℕ) (s : Head) → ((t : SymId) → s ≡ made.Config t → ⊥) → (s ≡ made.Choice → ⊥) →
+    (begun n (head_view s) ≡ menu_entry.Other) × (symbol_of (Some (head_view s)) ≡ None)
 other_begins n (made.Config t) a b = absurd (a t refl)
 other_begins n made.Choice a b = absurd (b refl)
 other_begins n _ a b = (refl, refl)

@@ -1,62 +1,119 @@
--- A walk from entry to entry: the line that begins one, the slice of its attributes, and the place behind it.
-use Rattle.std.proofs.Common.{◌≡◌, ℕ, suc, ◌+◌, ◌-◌, ◌<◌, Bool, true, false, if◌then◌else◌, List, [], ◌∷◌, length, take, drop, Some, refl, ap, sym, ◌∙◌, arith, add-one, get_or, inl, inr}
-use Rattle.std.specs.Prelude.{◌⊎◌}
-use Rattle.std.specs.List.{prefix_len, slice_get, take_while}
-use Rattle.std.proofs.lemmas.List.{take-map, drop-map}
-use Rattle.std.proofs.lemmas.List.Folds.{length-prefix_len}
-use Rattle.kc_read.specs.declared.statement.Line.{Line}
-use Rattle.kc_read.specs.StatementViews.{statement_view}
-use Rattle.kc_read.specs.Statements.{Numbered}
+-- A walk from entry to entry: the line that begins one, its attributes, and the place behind it.
+use Rattle.std.proofs.Common.{◌≡◌, ◌≢◌, ℕ, zero, suc, ◌+◌, ◌≤◌, ◌<◌, Bool, true, false, List, [], ◌∷◌, ◌++◌, length, map, take, drop, Some, None, refl, ap, sym, ◌∙◌, subst, arith, add-one, inl, length-append}
+use Rattle.std.specs.List.{slice_get, take_while}
+use Rattle.std.proofs.lemmas.List.{drop-drop, drop-map, length-drop, length-map, map-append}
+use Rattle.std.proofs.lemmas.List.Sums.{take_while-cons}
+use Rattle.kc_read.specs.declared.entries.AttributeLine.{AttributeLine}
+use Rattle.kc_read.specs.declared.entries.Entries.{Entries}
+use Rattle.kc_read.specs.declared.entries.Entry.{Entry}
+use Rattle.kc_read.specs.declared.entries.EntryLines.{EntryLines}
+use Rattle.kc_read.specs.Entries.{BeginsAt, attribute_line, first_line, lines_from, lines_in, lines_of, own_lines}
+use Rattle.kc_read.specs.StatementViews.{attribute_view, head_view}
+use Rattle.kc_read.specs.Statements.{Numbered, Located, statements}
 use Rattle.kc_read.specs.Blocks.{attributes, is_attribute}
-use Rattle.kc_build.specs.Passes.{statements_of}
+use Rattle.kc_read.proofs.HeadLemmas.{attribute_is, no_attribute}
+use Rattle.kc_build.specs.Passes.{statements_in, statements_of}
 use Rattle.kc_build.specs.Walks.{IsHead, index_after}
-use Rattle.kc_build.proofs.EnterLemmas.{get_behind}
-use Rattle.kc_build.proofs.PlaceLemmas.{statement_at}
 
--- A line begins an entry that is no attribute, or is the first.
-abbrev pub Begins : List Numbered → ℕ → Type 0
-Begins ss i = (s : Numbered) → slice_get ss i ≡ Some s → (is_attribute s ≡ false) ⊎ (i ≡ 0)
+-- the lines from a place on are those of the entries from a number on
+pub record IsAt (es : Entries) (i place : ℕ) : Type 0 where
+  pub rest : drop place (lines_in es) ≡ lines_from es i
+  pub within : place ≤ length (lines_in es)
 
-pub first_begins : (ss : List Numbered) → Begins ss 0
-first_begins ss = λ s e. inr refl
+pub at-start : (es : Entries) → IsAt es 0 0
+at-start es = record { rest = refl; within = omega arith }
 
-run_stops : {X : Type 0} (p : X → Bool) (xs : List X) (x : X) → slice_get xs (prefix_len p xs) ≡ Some x → p x ≡ false
-run_stops p [] x h = absurd cc
-run_stops {X} p (y ∷ xs) x h = by (p y) refl (run_stops p xs x) h
-  where
-    by : (b : Bool) → p y ≡ b → (slice_get xs (prefix_len p xs) ≡ Some x → p x ≡ false) → slice_get (y ∷ xs) (if b then 1 + prefix_len p xs else 0) ≡ Some x → p x ≡ false
-    by true e rest q = let n : 1 + prefix_len p xs ≡ suc (prefix_len p xs) = omega arith in rest (rw n at q)
-    by false e rest q = let same : y ≡ x = cc in sym (ap p same) ∙ e
+drop-all : {X : Type 0} (xs : List X) (n : ℕ) → drop n xs ≡ [] → length xs ≤ n
+drop-all [] n e = omega arith
+drop-all (x ∷ xs) zero e = absurd cc
+drop-all (x ∷ xs) (suc n) e = let h = drop-all xs n e in omega arith
 
-module _ (ls : List Line) (i end : ℕ) (counted : end ≡ i + 1 + prefix_len is_attribute (drop (i + 1) (statements_of ls))) where
-  -- the statements of the slice from the line behind the first one to the end
-  abbrev pub own_statements : List Numbered
-  own_statements = statements_of (take (end - (i + 1)) (drop (i + 1) ls))
+-- behind the last entry
+pub at-end : (es : Entries) (i place : ℕ) → IsAt es i place → lines_from es i ≡ [] → place ≡ length (lines_in es)
+at-end es i place h none = let past = drop-all (lines_in es) place (h.rest ∙ none) in let within = h.within in omega arith
 
-  pub own_is : own_statements ≡ attributes (statements_of ls) i
-  own_is =
-      let n : end - (i + 1) ≡ prefix_len is_attribute (drop (i + 1) (statements_of ls)) = omega arith in
-      let view = λ (l : Line). statement_view l.statement in
-      sym (take-map view (end - (i + 1)) (drop (i + 1) ls)) ∙ ap (take (end - (i + 1))) (sym (drop-map view (i + 1) ls))
-      ∙ ap (λ k. take k (drop (i + 1) (statements_of ls))) n ∙ ap (λ k. take_while is_attribute (drop k (statements_of ls))) (add-one i)
+get-dropped : {X : Type 0} (xs : List X) (n : ℕ) (x : X) (ys : List X) → drop n xs ≡ x ∷ ys → slice_get xs n ≡ Some x
+get-dropped [] zero x ys e = cc
+get-dropped [] (suc n) x ys e = cc
+get-dropped (y ∷ xs) zero x ys e = cc
+get-dropped (y ∷ xs) (suc n) x ys e = get-dropped xs n x ys e
+
+drop-dropped : {X : Type 0} (xs : List X) (n : ℕ) (x : X) (ys : List X) → drop n xs ≡ x ∷ ys → drop (n + 1) xs ≡ ys
+drop-dropped xs n x ys e = sym (drop-drop 1 n xs) ∙ ap (drop 1) e
+
+drop-front : {X : Type 0} (xs ys : List X) → drop (length xs) (xs ++ ys) ≡ ys
+drop-front [] ys = refl
+drop-front (x ∷ xs) ys = drop-front xs ys
+
+-- The lines of entries begin with no attribute.
+abbrev StartsApart : List Numbered → Type 0
+StartsApart [] = Unit {0}
+StartsApart (s ∷ ss) = is_attribute s ≡ false
+
+lines-apart : (entries : List Entry) (ls : List AttributeLine) → StartsApart (statements (lines_of entries ls))
+lines-apart [] ls = tt
+lines-apart (e ∷ entries) ls = no_attribute e.head
+
+pub statements-own : (e : Entry) (own : List AttributeLine) → statements (own_lines e own) ≡ statements_of own
+statements-own e [] = refl
+statements-own e (a ∷ own) = ap (λ l. attribute_view a.attribute ∷ l) (statements-own e own)
+
+run-stops : (own : List AttributeLine) (ss : List Numbered) → StartsApart ss → take_while is_attribute (statements_of own ++ ss) ≡ statements_of own
+run-stops [] [] apart = refl
+run-stops [] (s ∷ ss) apart = take_while-cons is_attribute s ss ∙ (rw apart refl)
+run-stops (a ∷ own) ss apart =
+    take_while-cons is_attribute (attribute_view a.attribute) (statements_of own ++ ss)
+    ∙ (rw (attribute_is a.attribute) (ap (λ l. attribute_view a.attribute ∷ l) (run-stops own ss apart)))
+
+module _ (es : Entries) (i place : ℕ) (e : EntryLines) (at : IsAt es i place) (begins : BeginsAt es i e) where
+  abbrev first : Entry
+  first = e.first.now
+
+  abbrev own : List AttributeLine
+  own = e.attributes.now
+
+  pub here : drop place (lines_in es) ≡ first_line first ∷ own_lines first own ++ lines_from es (i + 1)
+  here = at.rest ∙ begins.lines
+
+  pub line-is : slice_get (lines_in es) place ≡ Some (first_line first)
+  line-is = get-dropped (lines_in es) place (first_line first) (own_lines first own ++ lines_from es (i + 1)) here
+
+  pub tail-is : drop (place + 1) (lines_in es) ≡ own_lines first own ++ lines_from es (i + 1)
+  tail-is = drop-dropped (lines_in es) place (first_line first) (own_lines first own ++ lines_from es (i + 1)) here
 
   -- the entry, and the place behind it
-  pub head_is : (x : Line) → i < length ls → x ≡ get_or ls i x → Begins (statements_of ls) i → IsHead (statements_of ls) i (statement_view x.statement) own_statements
-  head_is x h at b =
-      let here = statement_at ls i x h at in
-      record { at = here; attributes_are = sym own_is; begins = b (statement_view x.statement) here }
+  pub attributes-are : attributes (statements_in es) place ≡ statements_of own
+  attributes-are =
+      let rest = lines_from es (i + 1) in
+      let behind : drop (suc place) (statements_in es) ≡ statements_of own ++ statements rest =
+      drop-map (λ l. l.statement) (suc place) (lines_in es) ∙ ap (λ n. statements (drop n (lines_in es))) (sym (add-one place)) ∙ ap statements tail-is
+      ∙ map-append (λ l. l.statement) (own_lines first own) rest ∙ ap (λ l. l ++ statements rest) (statements-own first own) in
+      ap (take_while is_attribute) behind ∙ run-stops own (statements rest) (lines-apart (drop (i + 1) es.entries.items) es.attributes.items)
 
-  pub end_is : end ≡ index_after i own_statements
-  end_is =
-      let size : length own_statements ≡ prefix_len is_attribute (drop (suc i) (statements_of ls)) = ap length own_is ∙ length-prefix_len is_attribute (drop (suc i) (statements_of ls)) in
-      let same : prefix_len is_attribute (drop (i + 1) (statements_of ls)) ≡ prefix_len is_attribute (drop (suc i) (statements_of ls)) =
-      ap (λ k. prefix_len is_attribute (drop k (statements_of ls))) (add-one i) in
-      omega arith
+  pub read-is : slice_get (statements_in es) place ≡ Some (head_view first.head)
+  read-is =
+      get-dropped (statements_in es) place (head_view first.head) (statements (own_lines first own ++ lines_from es (i + 1)))
+      (drop-map (λ l. l.statement) place (lines_in es) ∙ ap statements here)
 
-  -- where the next one begins
-  pub next_begins : Begins (statements_of ls) end
-  next_begins = λ s e. inl (
-      let there : slice_get (drop (i + 1) (statements_of ls)) (prefix_len is_attribute (drop (i + 1) (statements_of ls))) ≡ Some s =
-      get_behind (statements_of ls) (i + 1) (prefix_len is_attribute (drop (i + 1) (statements_of ls)))
-      ∙ ap (slice_get (statements_of ls)) (sym counted) ∙ e in
-      run_stops is_attribute (drop (i + 1) (statements_of ls)) s there)
+  pub head-is : IsHead (statements_in es) place (head_view first.head) (statements_of own)
+  head-is = record { at = read-is; attributes_are = attributes-are; begins = inl (no_attribute first.head) }
+
+  many-own : length (own_lines first own) ≡ length (statements_of own)
+  many-own = sym (length-map (own_lines first own) (λ l. l.statement)) ∙ ap length (statements-own first own)
+
+  pub at-next : IsAt es (i + 1) (index_after place (statements_of own))
+  at-next =
+      let rest = lines_from es (i + 1) in
+      record {
+        rest = ap (λ n. drop n (lines_in es)) (let m = many-own in let f : place + 1 + length (statements_of own) ≡ (place + 1) + length (own_lines first own) = omega arith in f)
+            ∙ sym (drop-drop (length (own_lines first own)) (place + 1) (lines_in es)) ∙ ap (drop (length (own_lines first own))) tail-is ∙ drop-front (own_lines first own) rest;
+        within = omega (
+          arith,
+          many-own,
+          ap length tail-is,
+          length-append (own_lines first own) rest,
+          length-drop (place + 1) (lines_in es),
+          ap length here,
+          length-drop place (lines_in es),
+        );
+      }

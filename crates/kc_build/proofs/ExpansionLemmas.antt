@@ -15,7 +15,7 @@ use Rattle.kc_read.specs.Blocks.{Bracket, Opens, Closes, NoBracket, bracket, las
 use Rattle.kc_read.specs.Expansion.{FileContext, Log, Refused, Rest, Expands, lexemes, bytes_cause, inside, root_context, nothing_read, with_file, refused, is_choice, context_of, with_line, logged, at_end, unclosed, too_long, no_tokens, blank, bad_line, over_limit, statement, bad_source, refused_inside, source}
 use Rattle.kc_read.specs.Progress.{located_blocks, open_blocks_after}
 use Rattle.kc_read.proofs.BlockLemmas.{blocks_of_located, located_blocks_push}
-use Rattle.kc_read.proofs.TurnLemmas.{Turn, Chooses, Leaves, Enables, Stays, turn, SuitsHere, read_suits}
+use Rattle.kc_read.proofs.TurnLemmas.{Turn, Chooses, Leaves, Enables, Adds, Stays, turn, SuitsHere, read_suits}
 use Rattle.kc_read.proofs.ListLemmas.{last_of-append, but_last, but_last-take, but_last-append, map-push}
 
 -- these open blocks are as a line asks
@@ -23,6 +23,7 @@ abbrev pub Suits : List Block → Turn → Type 0
 Suits bs Chooses = list_any is_choice bs ≡ false
 Suits bs (Leaves b) = last_of bs ≡ Some b
 Suits bs Enables = Unit {0}
+Suits bs Adds = Unit {0}
 Suits bs Stays = Unit {0}
 
 -- each line suits the blocks that are open before it
@@ -102,6 +103,7 @@ suits_all : (outer inner : List Block) (t : Turn) (c : LineContext) → c.own �
 suits_all outer inner Chooses c e f h = list_any-append is_choice outer inner ∙ sym f ∙ h
 suits_all outer inner (Leaves b) c e f h = last_of-append outer inner b (sym e ∙ h)
 suits_all outer inner Enables c e f h = tt
+suits_all outer inner Adds c e f h = tt
 suits_all outer inner Stays c e f h = tt
 
 -- a closer closes a block of its own file

@@ -11,7 +11,7 @@ use Rattle.kc_read.specs.Files.{Files}
 use Rattle.kc_read.specs.Limits.{most_files, most_lines}
 use Rattle.kc_read.specs.Lines.{Cause, cause}
 use Rattle.kc_read.specs.Numbering.{number_line}
-use Rattle.kc_read.specs.StatementViews.{line_view}
+use Rattle.kc_read.specs.Entries.{lines_in}
 use Rattle.kc_read.specs.Statements.{Located, Named, statements}
 use Rattle.kc_read.proofs.RestLemmas.{next_less}
 use Rattle.kc_build.specs.declared.listing.Listing.{Listing}
@@ -80,8 +80,8 @@ expansion_few files root log x = by (bytes_cause root 0 (files root)) refl x
     by (Some c) none e = absurd cc
 
 -- the lines of a listing are those of its expanded list
-pub listing-few : (files : Files) (root : List ℕ) (log : Log) (l : Listing) → Expands files root (Ok log) → IsListing log l → length l.lines.items ≤ most_lines
+pub listing-few : (files : Files) (root : List ℕ) (log : Log) (l : Listing) → Expands files root (Ok log) → IsListing log l → length (lines_in l.entries) ≤ most_lines
 listing-few files root log l x h =
-    let n = sym (length-map l.lines.items line_view) ∙ ap length h.lines_are ∙ length-map log.lines (number_line (statements log.lines)) in
+    let n = ap length h.lines_are ∙ length-map log.lines (number_line (statements log.lines)) in
     let few = expansion_few files root log x in
     omega arith

@@ -47,7 +47,6 @@ mod ReadTextLemmas
 mod ReverseLemmas
 mod ScopeLemmas
 mod Rows
-mod StatementLemmas
 mod ScanLemmas
 mod ShapeLemmas
 mod ShownLemmas

@@ -1,13 +1,13 @@
--- The walk over all lines: where it starts, what it needs before each entry, and behind the last line.
+-- The walk over all entries: where it starts, and what it needs before each entry.
 use Rattle.std.proofs.Common.{◌≡◌, ℕ, suc, ◌+◌, ◌-◌, ◌<◌, ◌≤◌, Bool, true, false, if◌then◌else◌, List, [], codes, length, map, reverse, take, drop, Option, Some, None, refl, ap, sym, ◌∙◌, subst, arith, add-one, get_or, inl, length-take, length-drop}
 use Rattle.std.specs.Prelude.{◌⊎◌, slice_index_or}
 use Rattle.std.specs.List.{slice_get, filter_map, take_while, prefix_len}
-use Rattle.std.proofs.lemmas.List.{take-map, drop-map}
+use Rattle.std.proofs.lemmas.List.{length-map}
 use Rattle.std.proofs.lemmas.List.Elements.{All-nil}
 use Rattle.kc_expr.specs.Names.{symbol}
-use Rattle.kc_read.specs.declared.statement.Line.{Line}
-use Rattle.kc_read.specs.Blocks.{attributes, is_attribute}
-use Rattle.kc_read.specs.StatementViews.{line_view, statement_view}
+use Rattle.kc_read.specs.declared.entries.Entries.{Entries}
+use Rattle.kc_read.specs.declared.entries.EntryLines.{EntryLines}
+use Rattle.kc_read.specs.Entries.{BeginsAt, first_line, lines_from, lines_in, own_lines}
 use Rattle.kc_read.specs.Statements.{Numbered, ChoiceLine}
 use Rattle.kc_tree.specs.declared.rows.Reverse.{Reverse}
 use Rattle.kc_tree.specs.declared.rows.ReverseId.{ReverseId}
@@ -23,16 +23,12 @@ use Rattle.kc_build.specs.declared.entries.EntryWalk.{EntryWalk}
 use Rattle.kc_build.specs.Diagnosed.{AreLinesDiagnosed}
 use Rattle.kc_build.specs.Facts.{can_be_target}
 use Rattle.kc_build.specs.SymbolRows.{AreChoicesApart, IsEntrySummary, HasSymbols}
-use Rattle.kc_build.specs.Passes.{statements_of}
+use Rattle.kc_build.specs.Passes.{statements_in, statements_of}
 use Rattle.kc_build.specs.WalkResult.{IsDiagnosed, IsEntryThere, IsTitleThere}
 use Rattle.kc_build.specs.Stacks.{BlockFacts, IsPlainHead, block_view}
-use Rattle.kc_build.specs.Walks.{Enters, IsHead, IsWalk}
-use Rattle.kc_build.proofs.DiagnosedLemmas.{begins_behind, entry_of_lines}
-use Rattle.kc_build.proofs.PlaceLemmas.{length-statements_of, statement_at}
-
--- A line at which an entry begins: it is no attribute, or it is the first line.
-abbrev pub Begins : List Numbered → ℕ → Type 0
-Begins ss i = (s : Numbered) → slice_get ss i ≡ Some s → (is_attribute s ≡ false) ⊎ (i ≡ 0)
+use Rattle.kc_build.specs.Walks.{IsWalk, index_after}
+use Rattle.kc_build.proofs.DiagnosedLemmas.{entry_diagnosed}
+use Rattle.kc_build.proofs.EntryWalkLemmas.{IsAt, head-is, line-is, statements-own, tail-is}
 
 -- The start.
 no_chain : (o : Option ReverseId) → chain_of [] o ≡ []
@@ -102,44 +98,15 @@ plain-head ss symbols i s w apart at walk =
     plain_by s (condition_in w.tables.contexts w.blocks.innermost.within.0).mode (λ e. ap (λ (a : BlockFacts). a.mode) walk.blocks.innermost ∙ apart i (at ∙ ap Some e))
 
 -- One entry more.
-module _ (lines : List Line) (symbols : List Symbol) (i end : ℕ) (head : Line) (h : i < length lines) (at : head ≡ get_or lines i head)
-    (count : end ≡ i + 1 + prefix_len is_attribute (drop (i + 1) (statements_of lines))) (within : end ≤ length lines) (begins : Begins (statements_of lines) i) where
-  abbrev pub own_lines : List Line
-  own_lines = take (end - (i + 1)) (drop (i + 1) lines)
-
-  attributes-are : attributes (statements_of lines) i ≡ statements_of own_lines
-  attributes-are =
-      let view = λ (l : Line). statement_view l.statement in
-      let many : prefix_len is_attribute (drop (i + 1) (statements_of lines)) ≡ end - (i + 1) = omega arith in
-      let behind : drop (suc i) (statements_of lines) ≡ drop (i + 1) (statements_of lines) = (rw add-one refl) in
-      ap (take_while is_attribute) behind ∙ ap (λ k. take k (drop (i + 1) (statements_of lines))) many ∙ ap (take (end - (i + 1))) (drop-map view (i + 1) lines)
-      ∙ take-map view (end - (i + 1)) (drop (i + 1) lines)
-
-  place-is : i + 1 + length (statements_of own_lines) ≡ end
-  place-is =
-      let n : length own_lines ≡ end - (i + 1) = simp (length-take, length-drop) (omega arith) in
-      omega (arith, length-statements_of own_lines, n)
-
-  read : slice_get (statements_of lines) i ≡ Some (statement_view head.statement)
-  read = statement_at lines i head h at
-
-  pub head-is : IsHead (statements_of lines) i (statement_view head.statement) (statements_of own_lines)
-  head-is = record { at = read; attributes_are = attributes-are; begins = begins (statement_view head.statement) read }
-
-  pub begins-next : Begins (statements_of lines) end
-  begins-next s e =
-      let there : i + 1 + length (attributes (statements_of lines) i) ≡ end = ap (λ (l : List Numbered). i + 1 + length l) attributes-are ∙ place-is in
-      inl (begins_behind (statements_of lines) i s (ap (slice_get (statements_of lines)) there ∙ e))
-
-  module _ (whole : HasSymbols (statements_of lines) symbols) where
-    pub walk-next : (old new : EntryWalk) → Enters symbols (statement_view head.statement) (statements_of own_lines) old new →
-        IsWalk (statements_of lines) symbols i old → IsWalk (statements_of lines) symbols end new
-    walk-next old new enters walk =
-        subst (λ k. IsWalk (statements_of lines) symbols k new) place-is (enters (statements_of lines) i whole head-is walk)
-
-    pub diagnosed-next : (names : List (List ℕ)) (place : EntrySummary) (old new : Diagnostics) → IsEntrySummary (statements_of lines) i place →
-        IsDiagnosed names (map line_view lines) i old → AreLinesDiagnosed names symbols place (line_view head) (map line_view own_lines) old new → IsDiagnosed names (map line_view lines) end new
-    diagnosed-next names place old new is old_is looked =
-        subst (λ k. IsDiagnosed names (map line_view lines) k new) place-is
-        (entry_of_lines names lines symbols place i (end - (i + 1)) head own_lines old new whole.below whole.symbols_are h at refl attributes-are
-        (begins (statement_view head.statement) read) is old_is looked)
+module _ (es : Entries) (symbols : List Symbol) (i place : ℕ) (e : EntryLines) (at : IsAt es i place) (begins : BeginsAt es i e) (whole : HasSymbols (statements_in es) symbols) where
+  pub diagnosed-next : (names : List (List ℕ)) (summary : EntrySummary) (old new : Diagnostics) → IsEntrySummary (statements_in es) place summary →
+      IsDiagnosed names (lines_in es) place old → AreLinesDiagnosed names symbols summary (first_line e.first.now) (own_lines e.first.now e.attributes.now) old new →
+      IsDiagnosed names (lines_in es) (index_after place (statements_of e.attributes.now)) new
+  diagnosed-next names summary old new is old_is looked =
+      let own = own_lines e.first.now e.attributes.now in
+      let head = head-is es i place e at begins in
+      let same = statements-own e.first.now e.attributes.now in
+      let many : length own ≡ length (statements_of e.attributes.now) = sym (length-map own (λ l. l.statement)) ∙ ap length same in
+      subst (λ n. IsDiagnosed names (lines_in es) (place + 1 + n) new) many
+      (entry_diagnosed names (lines_in es) symbols whole.below whole.symbols_are summary place (first_line e.first.now) own (lines_from es (i + 1)) old new
+      (line-is es i place e at begins) (tail-is es i place e at begins) (head.attributes_are ∙ sym same) head.begins is old_is looked)

@@ -21,7 +21,7 @@ modules_name names = option_map symbol (position (same_name (codes "MODULES")) n
 
 pub listing-is : (log : Log) (names : List (List ℕ)) (e : Expansion) → IsExpansion [] names log e → (defined : Vec SymId Global) (modules : Option SymId) →
     defined.items ≡ e.defined → modules ≡ option_or e.modules (modules_name names) →
-    IsListing log (record { names = names; defined = defined; modules = modules; lines = e.lines })
+    IsListing log (record { names = names; defined = defined; modules = modules; entries = e.entries })
 listing-is log names e x defined modules d m =
     let ss = statements log.lines in
     record {

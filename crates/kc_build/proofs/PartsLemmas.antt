@@ -2,15 +2,14 @@
 use Rattle.std.proofs.Common.{◌≡◌, ℕ, ◌==◌, Bool, List, [], length, map, Some, None, Ok, Err, codes, if◌then◌else◌, ap, sym, ◌∙◌, subst}
 use Rattle.std.specs.List.{filter_map, list_any}
 use Rattle.std.specs.Option.{option_and_then, option_or, unwrap_or}
-use Rattle.std.proofs.lemmas.List.{length-map}
 use Rattle.std.proofs.Math.Seq.{take-length}
 use Rattle.kc_expr.specs.declared.expression.SymId.{SymId}
 use Rattle.kc_expr.specs.Names.{symbol}
 use Rattle.kc_expr.specs.Order.{stands_in}
-use Rattle.kc_read.specs.declared.statement.Line.{Line}
+use Rattle.kc_read.specs.declared.entries.Entries.{Entries}
 use Rattle.kc_read.specs.Blocks.{attributes, last_of, numbers}
 use Rattle.kc_read.specs.Expansion.{Refused}
-use Rattle.kc_read.specs.StatementViews.{line_view}
+use Rattle.kc_read.specs.Entries.{lines_in}
 use Rattle.kc_read.specs.RefusalView.{refusal_view}
 use Rattle.kc_read.specs.declared.refusal.Refusal.{Refusal}
 use Rattle.kc_read.specs.Statements.{Numbered}
@@ -23,7 +22,7 @@ use Rattle.kc_build.specs.declared.diagnostics.Diagnostics.{Diagnostics}
 use Rattle.kc_build.specs.Before.{choices_before, main_menu_before}
 use Rattle.kc_build.specs.Facts.{StatedDefault, choice_number, defined_symbols, choice_lines, choices, entries, stated_default, is_member, members_of, guarded_symbol, prompt_at, single_symbol, symbol_facts, title_of}
 use Rattle.kc_build.specs.SymbolRows.{AreBelow, AreSymbols, member_by}
-use Rattle.kc_build.specs.Passes.{statements_of}
+use Rattle.kc_build.specs.Passes.{statements_in}
 use Rattle.kc_build.specs.WalkResult.{IsWalkResult, IsDiagnosed}
 use Rattle.kc_build.specs.Trees.{facts_with, modules_symbol, symbol_if, tree_with, unless_refused}
 use Rattle.kc_build.specs.Warnings.{bad_members}
@@ -31,7 +30,6 @@ use Rattle.kc_build.proofs.DiagnosedLemmas.{accepted, refused_tree}
 use Rattle.kc_build.proofs.KindLemmas.{choices_known}
 use Rattle.kc_build.proofs.LayoutLemmas.{symbols-are}
 use Rattle.kc_build.proofs.MemberLemmas.{member_is}
-use Rattle.kc_build.proofs.StatementLemmas.{statements-are}
 use Rattle.kc_build.proofs.WholeLemmas.{none_bad}
 
 -- The choices, where no member is refused.
@@ -59,35 +57,36 @@ module _ (ss : List Numbered) where
 pub main_menu-is : (ss : List Numbered) → main_menu_before ss (length ss) ≡ unwrap_or (last_of (filter_map title_of ss)) (codes "Main menu")
 main_menu-is ss = ap (λ (l : List Numbered). unwrap_or (last_of (filter_map title_of l)) (codes "Main menu")) (take-length ss)
 
-module _ (names : List (List ℕ)) (lines : List Line) (d : Diagnostics) (is : IsDiagnosed names (map line_view lines) (length lines) d) where
-  all_diagnosed : IsDiagnosed names (map line_view lines) (length (map line_view lines)) d
-  all_diagnosed = subst (λ n. IsDiagnosed names (map line_view lines) n d) (sym (length-map lines line_view)) is
-
+module _ (names : List (List ℕ)) (es : Entries) (d : Diagnostics) (is : IsDiagnosed names (lines_in es) (length (lines_in es)) d) where
   -- the first refusal
-  pub refused-is : (r : Refusal) → option_or d.bad_member d.bad_default ≡ Some r → Err (refusal_view r) ≡ tree_with names (map line_view lines)
-  refused-is r e = sym (refused_tree names (map line_view lines) d all_diagnosed r (facts_with names (map line_view lines)) e)
+  pub refused-is : (r : Refusal) → option_or d.bad_member d.bad_default ≡ Some r → Err (refusal_view r) ≡ tree_with names (lines_in es)
+  refused-is r e = sym (refused_tree names (lines_in es) d is r (facts_with names (lines_in es)) e)
 
   -- no refusal, and all that is said
-  pub whole : (p : TreeParts) → AreBelow (length names) (statements_of lines) → length p.layout.symbols.items ≡ length names → AreSymbols (statements_of lines) p.layout.symbols.items →
-      IsWalkResult (statements_of lines) p.layout.symbols.items p.layout.tables p.main_menu.items →
-      d.bad_member ≡ None → d.bad_default ≡ None → p.warnings.items ≡ d.warnings.items → p.layout.defined.items ≡ defined_symbols (statements_of lines) →
-      p.layout.modules ≡ symbol_if (stands_in (defined_symbols (statements_of lines))) (modules_symbol names (statements_of lines)) →
-      Ok (tree_of names p) ≡ tree_with names (map line_view lines)
+  pub whole : (p : TreeParts) → AreBelow (length names) (statements_in es) → length p.layout.symbols.items ≡ length names → AreSymbols (statements_in es) p.layout.symbols.items →
+      IsWalkResult (statements_in es) p.layout.symbols.items p.layout.tables p.main_menu.items →
+      d.bad_member ≡ None → d.bad_default ≡ None → p.warnings.items ≡ d.warnings.items → p.layout.defined.items ≡ defined_symbols (statements_in es) →
+      p.layout.modules ≡ symbol_if (stands_in (defined_symbols (statements_in es))) (modules_symbol names (statements_in es)) →
+      Ok (tree_of names p) ≡ tree_with names (lines_in es)
   whole p below n are said no_member no_default warnings_are defined_are modules_is =
-      let ss = statements_of lines in
-      let a = accepted names (map line_view lines) d all_diagnosed no_member no_default in
-      let same = sym (statements-are lines) in
-      let none : bad_members ss ≡ [] = ap bad_members same ∙ none_bad names (map line_view lines) a.refusals in
+      let ss = statements_in es in
+      let a = accepted names (lines_in es) d is no_member no_default in
+      let none : bad_members ss ≡ [] = none_bad names (lines_in es) a.refusals in
       let below_symbols : AreBelow (length p.layout.symbols.items) ss = subst (λ (k : ℕ). AreBelow k ss) (sym n) below in
       let s = symbols-are ss p.layout are said.definitions said.selectors said.impliers
-      ∙ ap (λ (k : ℕ). map (λ i. symbol_facts ss (symbol i)) (numbers k)) n
-      ∙ ap (λ (l : List Numbered). map (λ i. symbol_facts l (symbol i)) (numbers (length names))) same in
-      let c = said.choices ∙ choices-are ss p.layout.symbols.items below_symbols are none ∙ ap choices same in
-      let e = said.entries ∙ ap entries same in
+      ∙ ap (λ (k : ℕ). map (λ i. symbol_facts ss (symbol i)) (numbers k)) n in
+      let c = said.choices ∙ choices-are ss p.layout.symbols.items below_symbols are none in
       let w = ap (map (λ w. w.items)) warnings_are ∙ a.warnings_are in
-      let m = said.main_menu_is ∙ main_menu-is ss ∙ ap (λ (l : List Numbered). unwrap_or (last_of (filter_map title_of l)) (codes "Main menu")) same in
-      let d = defined_are ∙ ap defined_symbols same in
-      let k = modules_is ∙ ap (λ (l : List Numbered). symbol_if (stands_in (defined_symbols l)) (modules_symbol names l)) same in
-      let facts : tree_of names p ≡ facts_with names (map line_view lines) =
-      λ i. record { names = names; symbols = s i; defined = d i; choices = c i; entries = e i; warnings = w i; main_menu = m i; modules = k i } in
-      ap Ok facts ∙ sym (ap (λ (rs : List Refused). unless_refused rs (facts_with names (map line_view lines))) a.refusals)
+      let m = said.main_menu_is ∙ main_menu-is ss in
+      let facts : tree_of names p ≡ facts_with names (lines_in es) =
+      λ i. record {
+        names = names;
+        symbols = s i;
+        defined = defined_are i;
+        choices = c i;
+        entries = said.entries i;
+        warnings = w i;
+        main_menu = m i;
+        modules = modules_is i;
+      } in
+      ap Ok facts ∙ sym (ap (λ (rs : List Refused). unless_refused rs (facts_with names (lines_in es))) a.refusals)

@@ -6,8 +6,8 @@ use Rattle.std.proofs.lemmas.List.Elements.{filter-append, filter_map-append}
 use Rattle.std.proofs.lemmas.Grind.{flat_map-append}
 use Rattle.std.specs.Prelude.{option_map}
 use Rattle.std.proofs.lemmas.Option.{slice_get-map, slice_get-get_or}
-use Rattle.kc_read.specs.declared.statement.Line.{Line}
-use Rattle.kc_read.specs.StatementViews.{statement_view}
+use Rattle.kc_read.specs.declared.entries.AttributeLine.{AttributeLine}
+use Rattle.kc_read.specs.StatementViews.{attribute_view}
 use Rattle.kc_read.specs.Blocks.{numbers}
 use Rattle.kc_build.specs.Passes.{statements_of}
 use Rattle.kc_build.proofs.BlockLemmas.{numbers_from, numbers-from}
@@ -48,9 +48,9 @@ view_next v f i out new x h e n =
 
 -- The same of lines.
 -- the statement of a line that was read by its place
-pub statement_at : (ls : List Line) (i : ℕ) (x : Line) → i < length ls → x ≡ get_or ls i x → slice_get (statements_of ls) i ≡ Some (statement_view x.statement)
+pub statement_at : (ls : List AttributeLine) (i : ℕ) (x : AttributeLine) → i < length ls → x ≡ get_or ls i x → slice_get (statements_of ls) i ≡ Some (attribute_view x.attribute)
 statement_at ls i x h e =
-    slice_get-map (λ (l : Line). statement_view l.statement) ls i ∙ ap (option_map (λ (l : Line). statement_view l.statement)) (slice_get-get_or ls i x h ∙ ap Some (sym e))
+    slice_get-map (λ (l : AttributeLine). attribute_view l.attribute) ls i ∙ ap (option_map (λ (l : AttributeLine). attribute_view l.attribute)) (slice_get-get_or ls i x h ∙ ap Some (sym e))
 
-pub length-statements_of : (ls : List Line) → length (statements_of ls) ≡ length ls
-length-statements_of ls = length-map ls (λ (l : Line). statement_view l.statement)
+pub length-statements_of : (ls : List AttributeLine) → length (statements_of ls) ≡ length ls
+length-statements_of ls = length-map ls (λ (l : AttributeLine). attribute_view l.attribute)

@@ -16,8 +16,8 @@ use Rattle.kc_expr.specs.declared.expression.Expr.{Expr}
 use Rattle.kc_expr.specs.declared.expression.SymId.{SymId}
 use Rattle.kc_expr.specs.Form.{Form}
 use Rattle.kc_expr.specs.When.{when_view}
-use Rattle.kc_read.specs.declared.statement.Line.{Line}
-use Rattle.kc_read.specs.StatementViews.{statement_view}
+use Rattle.kc_read.specs.declared.entries.AttributeLine.{AttributeLine}
+use Rattle.kc_read.specs.StatementViews.{attribute_view}
 use Rattle.kc_tree.specs.declared.rows.DefinitionId.{DefinitionId}
 use Rattle.kc_tree.specs.declared.rows.Reverse.{Reverse}
 use Rattle.kc_tree.specs.declared.rows.ReverseId.{ReverseId}
@@ -255,7 +255,7 @@ module _ (symbols : List Symbol) (source : DefinitionId) where
   imply_by (Err e) old new s when kind k t l p q = tt
 
   -- Along the lines of a definition.
-  pub record IsAdding (own : List Line) (old : Reverses) (i : ℕ) (new : Reverses) : Type 0 where
+  pub record IsAdding (own : List AttributeLine) (old : Reverses) (i : ℕ) (new : Reverses) : Type 0 where
     pub selects : (s : ℕ) →
         selects_of new s ++ added_lines symbols source reverse_kind.Select s (drop i (statements_of own)) ≡ selects_of old s ++ added_lines symbols source reverse_kind.Select s (statements_of own)
     pub implies : (s : ℕ) →
@@ -265,8 +265,8 @@ module _ (symbols : List Symbol) (source : DefinitionId) where
     pub same : length new.implies.items ≡ length old.implies.items
     pub sources : KeepSources source.0 old.lines.items new.lines.items
 
-  next_lines : (kind : ReverseKind) (s : ℕ) (own : List Line) (i : ℕ) (x : Line) (t : ReverseKind × SymId × Option Form) (now next base : List (ℕ × Option Form)) →
-      i < length own → x ≡ get_or own i x → Some t ≡ target_of (statement_view x.statement) → now ++ added_lines symbols source kind s (drop i (statements_of own)) ≡ base →
+  next_lines : (kind : ReverseKind) (s : ℕ) (own : List AttributeLine) (i : ℕ) (x : AttributeLine) (t : ReverseKind × SymId × Option Form) (now next base : List (ℕ × Option Form)) →
+      i < length own → x ≡ get_or own i x → Some t ≡ target_of (attribute_view x.attribute) → now ++ added_lines symbols source kind s (drop i (statements_of own)) ≡ base →
       next ≡ now ++ added_line symbols source kind s t → next ++ added_lines symbols source kind s (drop (i + 1) (statements_of own)) ≡ base
   next_lines kind s own i x t now next base l at e h n =
       let rest = added_lines symbols source kind s (drop (i + 1) (statements_of own)) in
@@ -274,15 +274,15 @@ module _ (symbols : List Symbol) (source : DefinitionId) where
       let all : added_lines symbols source kind s (drop i (statements_of own)) ≡ line ++ rest = rw (statements_from own i x l at, ← e) (ap (λ k. k ++ rest) (append-nil line)) in
       ap (λ k. k ++ rest) n ∙ append_assoc now line rest ∙ ap (λ k. now ++ k) (sym all) ∙ h
 
-  same_lines : (kind : ReverseKind) (s : ℕ) (own : List Line) (i : ℕ) (x : Line) (now base : List (ℕ × Option Form)) → i < length own → x ≡ get_or own i x →
-      None ≡ target_of (statement_view x.statement) → now ++ added_lines symbols source kind s (drop i (statements_of own)) ≡ base →
+  same_lines : (kind : ReverseKind) (s : ℕ) (own : List AttributeLine) (i : ℕ) (x : AttributeLine) (now base : List (ℕ × Option Form)) → i < length own → x ≡ get_or own i x →
+      None ≡ target_of (attribute_view x.attribute) → now ++ added_lines symbols source kind s (drop i (statements_of own)) ≡ base →
       now ++ added_lines symbols source kind s (drop (i + 1) (statements_of own)) ≡ base
   same_lines kind s own i x now base l at e h =
       let all : added_lines symbols source kind s (drop i (statements_of own)) ≡ added_lines symbols source kind s (drop (i + 1) (statements_of own)) = rw (statements_from own i x l at, ← e) refl in
       ap (λ k. now ++ k) (sym all) ∙ h
 
-  pub adding_none : (own : List Line) (old now : Reverses) (i : ℕ) (x : Line) → IsAdding own old i now → i < length own → x ≡ get_or own i x →
-      None ≡ target_of (statement_view x.statement) → IsAdding own old (i + 1) now
+  pub adding_none : (own : List AttributeLine) (old now : Reverses) (i : ℕ) (x : AttributeLine) → IsAdding own old i now → i < length own → x ≡ get_or own i x →
+      None ≡ target_of (attribute_view x.attribute) → IsAdding own old (i + 1) now
   adding_none own old now i x h l at e = record {
     selects = λ s. same_lines reverse_kind.Select s own i x _ _ l at e (h.selects s);
     implies = λ s. same_lines reverse_kind.Imply s own i x _ _ l at e (h.implies s);
@@ -292,8 +292,8 @@ module _ (symbols : List Symbol) (source : DefinitionId) where
     sources = h.sources;
   }
 
-  pub adding_one : (own : List Line) (old now new : Reverses) (i : ℕ) (x : Line) (t : ReverseKind × SymId × Option Form) → IsAdding own old i now → i < length own →
-      x ≡ get_or own i x → Some t ≡ target_of (statement_view x.statement) → IsAdded symbols source now t new → KeepSources source.0 now.lines.items new.lines.items →
+  pub adding_one : (own : List AttributeLine) (old now new : Reverses) (i : ℕ) (x : AttributeLine) (t : ReverseKind × SymId × Option Form) → IsAdding own old i now → i < length own →
+      x ≡ get_or own i x → Some t ≡ target_of (attribute_view x.attribute) → IsAdded symbols source now t new → KeepSources source.0 now.lines.items new.lines.items →
       IsAdding own old (i + 1) new
   adding_one own old now new i x t h l at e a k = record {
     selects = λ s. next_lines reverse_kind.Select s own i x t _ _ _ l at e (h.selects s) (a.selects s);

@@ -5,8 +5,8 @@ use Rattle.std.specs.Option.{option_map, option_or}
 use Rattle.std.proofs.lemmas.List.{map-append, append-nil, drop-map, length-map, length_push}
 use Rattle.std.proofs.Math.Seq.{take-length}
 use Rattle.std.proofs.lemmas.Option.{slice_get-get_or}
-use Rattle.kc_read.specs.declared.statement.Line.{Line}
-use Rattle.kc_read.specs.StatementViews.{statement_view}
+use Rattle.kc_read.specs.declared.entries.AttributeLine.{AttributeLine}
+use Rattle.kc_read.specs.StatementViews.{attribute_view}
 use Rattle.kc_read.specs.Statements.{Numbered}
 use Rattle.kc_read.specs.Blocks.{last_of, is_attribute}
 use Rattle.kc_tree.specs.Common.{listed}
@@ -23,8 +23,8 @@ pub drop_at : {X : Type 0} (xs : List X) (i : ℕ) (x : X) → i < length xs →
 drop_at xs i x h e = drop-get xs i x (slice_get-get_or xs i x h ∙ ap Some (sym e)) ∙ (rw add-one refl)
 
 -- the statements from a line on
-pub statements_from : (ls : List Line) (i : ℕ) (x : Line) → i < length ls → x ≡ get_or ls i x → drop i (statements_of ls) ≡ statement_view x.statement ∷ drop (i + 1) (statements_of ls)
-statements_from ls i x h e = drop-get (statements_of ls) i (statement_view x.statement) (statement_at ls i x h e) ∙ (rw add-one refl)
+pub statements_from : (ls : List AttributeLine) (i : ℕ) (x : AttributeLine) → i < length ls → x ≡ get_or ls i x → drop i (statements_of ls) ≡ attribute_view x.attribute ∷ drop (i + 1) (statements_of ls)
+statements_from ls i x h e = drop-get (statements_of ls) i (attribute_view x.attribute) (statement_at ls i x h e) ∙ (rw add-one refl)
 
 pub drop_past : {X : Type 0} (xs : List X) (i : ℕ) → length xs ≤ i → drop i xs ≡ []
 drop_past [] zero h = refl
@@ -32,38 +32,8 @@ drop_past [] (suc i) h = refl
 drop_past (x ∷ xs) zero h = absurd (omega arith)
 drop_past (x ∷ xs) (suc i) h = drop_past xs i (omega arith)
 
-pub statements_end : (ls : List Line) (i : ℕ) → length ls ≤ i → drop i (statements_of ls) ≡ []
+pub statements_end : (ls : List AttributeLine) (i : ℕ) → length ls ≤ i → drop i (statements_of ls) ≡ []
 statements_end ls i h = drop_past (statements_of ls) i (omega (arith, length-statements_of ls))
-
--- How many attributes a list begins with.
-abbrev pub RunsTo : List Line → ℕ → Type 0
-RunsTo ls i = i + prefix_len is_attribute (drop i (statements_of ls)) ≡ prefix_len is_attribute (statements_of ls)
-
-pub run_ends : (ls : List Line) (i : ℕ) (x : Line) → RunsTo ls i → i < length ls → x ≡ get_or ls i x → false ≡ is_attribute (statement_view x.statement) →
-    i ≡ prefix_len is_attribute (statements_of ls)
-run_ends ls i x h b at e =
-    let none : prefix_len is_attribute (drop i (statements_of ls)) ≡ 0 = rw (statements_from ls i x b at, ← e) refl in
-    omega arith
-
-pub run_next : (ls : List Line) (i : ℕ) (x : Line) → RunsTo ls i → i < length ls → x ≡ get_or ls i x → true ≡ is_attribute (statement_view x.statement) → RunsTo ls (i + 1)
-run_next ls i x h b at e =
-    let one : prefix_len is_attribute (drop i (statements_of ls)) ≡ 1 + prefix_len is_attribute (drop (i + 1) (statements_of ls)) = rw (statements_from ls i x b at, ← e) refl in
-    omega arith
-
-pub run_all : (ls : List Line) (i : ℕ) → RunsTo ls i → i ≤ length ls → length ls ≤ i → length ls ≡ prefix_len is_attribute (statements_of ls)
-run_all ls i h b e =
-    let none : prefix_len is_attribute (drop i (statements_of ls)) ≡ 0 = rw (statements_end ls i e) refl in
-    omega arith
-
--- the statements behind a line
-statements_behind : (ls : List Line) (i : ℕ) → statements_of (take (length ls - (i + 1)) (drop (i + 1) ls)) ≡ drop (suc i) (statements_of ls)
-statements_behind ls i =
-    let n : length (drop (i + 1) ls) ≡ length ls - (i + 1) = length-drop (i + 1) ls in
-    let rest : take (length ls - (i + 1)) (drop (i + 1) ls) ≡ drop (suc i) ls = (rw n at (take-length (drop (i + 1) ls))) ∙ (rw add-one refl) in
-    ap statements_of rest ∙ sym (drop-map (λ (l : Line). statement_view l.statement) (suc i) ls)
-
-pub count-is : (ls : List Line) (i n : ℕ) → n ≡ prefix_len is_attribute (statements_of (take (length ls - (i + 1)) (drop (i + 1) ls))) → n ≡ prefix_len is_attribute (drop (i + 1) (statements_of ls))
-count-is ls i n e = e ∙ ap (prefix_len is_attribute) (statements_behind ls i) ∙ (rw add-one refl)
 
 -- the last of what there was before and of a list
 abbrev pub last_or : {A : Type 0} → Option A → List A → Option A
@@ -80,27 +50,27 @@ last_or-none (x ∷ xs) = last_or-some x xs
 
 -- A walk that keeps the first, or the last, of what a function gives.
 module _ {A : Type 0} (f : Numbered → Option A) where
-  abbrev pub FirstIs : List Line → ℕ → Type 0
+  abbrev pub FirstIs : List AttributeLine → ℕ → Type 0
   FirstIs ls i = first_of (filter_map f (drop i (statements_of ls))) ≡ first_of (filter_map f (statements_of ls))
 
-  pub first_here : (ls : List Line) (i : ℕ) (x : Line) (o : Option A) → FirstIs ls i → i < length ls → x ≡ get_or ls i x → o ≡ f (statement_view x.statement) →
+  pub first_here : (ls : List AttributeLine) (i : ℕ) (x : AttributeLine) (o : Option A) → FirstIs ls i → i < length ls → x ≡ get_or ls i x → o ≡ f (attribute_view x.attribute) →
       (a : A) → o ≡ Some a → Some a ≡ first_of (filter_map f (statements_of ls))
   first_here ls i x o h b at e a q =
-      let s : f (statement_view x.statement) ≡ Some a = sym e ∙ q in
+      let s : f (attribute_view x.attribute) ≡ Some a = sym e ∙ q in
       sym (sym h ∙ (rw (statements_from ls i x b at, s) refl))
 
-  pub first_later : (ls : List Line) (i : ℕ) (x : Line) (o : Option A) → FirstIs ls i → i < length ls → x ≡ get_or ls i x → o ≡ f (statement_view x.statement) → o ≡ None → FirstIs ls (i + 1)
+  pub first_later : (ls : List AttributeLine) (i : ℕ) (x : AttributeLine) (o : Option A) → FirstIs ls i → i < length ls → x ≡ get_or ls i x → o ≡ f (attribute_view x.attribute) → o ≡ None → FirstIs ls (i + 1)
   first_later ls i x o h b at e q =
-      let s : f (statement_view x.statement) ≡ None = sym e ∙ q in
+      let s : f (attribute_view x.attribute) ≡ None = sym e ∙ q in
       (rw (statements_from ls i x b at, s) at h)
 
-  pub first_none : (ls : List Line) (i : ℕ) → FirstIs ls i → length ls ≤ i → None ≡ first_of (filter_map f (statements_of ls))
+  pub first_none : (ls : List AttributeLine) (i : ℕ) → FirstIs ls i → length ls ≤ i → None ≡ first_of (filter_map f (statements_of ls))
   first_none ls i h b = (rw (statements_end ls i b) at h)
 
-  abbrev pub LastIs : List Line → ℕ → Option A → Type 0
+  abbrev pub LastIs : List AttributeLine → ℕ → Option A → Type 0
   LastIs ls i o = last_or o (filter_map f (drop i (statements_of ls))) ≡ last_of (filter_map f (statements_of ls))
 
-  pub last_start : (ls : List Line) → LastIs ls 0 None
+  pub last_start : (ls : List AttributeLine) → LastIs ls 0 None
   last_start ls = last_or-none (filter_map f (statements_of ls))
 
   or_last : (o now : Option A) (xs : List A) → last_or now (cons_option o xs) ≡ last_or (option_or o now) xs
@@ -112,51 +82,51 @@ module _ {A : Type 0} (f : Numbered → Option A) where
   map-or v None now = refl
   map-or v (Some b) now = refl
 
-  pub last_next : {B : Type 0} (v : B → A) (ls : List Line) (i : ℕ) (x : Line) (found now next : Option B) → LastIs ls i (option_map v now) → i < length ls →
-      x ≡ get_or ls i x → option_map v found ≡ f (statement_view x.statement) → next ≡ option_or found now → LastIs ls (i + 1) (option_map v next)
+  pub last_next : {B : Type 0} (v : B → A) (ls : List AttributeLine) (i : ℕ) (x : AttributeLine) (found now next : Option B) → LastIs ls i (option_map v now) → i < length ls →
+      x ≡ get_or ls i x → option_map v found ≡ f (attribute_view x.attribute) → next ≡ option_or found now → LastIs ls (i + 1) (option_map v next)
   last_next v ls i x found now next h b at e n =
-      let step : option_map v next ≡ option_or (f (statement_view x.statement)) (option_map v now) = ap (option_map v) n ∙ map-or v found now ∙ ap (λ o. option_or o (option_map v now)) e in
-      rw step (sym (or_last (f (statement_view x.statement)) (option_map v now) (filter_map f (drop (i + 1) (statements_of ls)))) ∙ (rw (statements_from ls i x b at) at h))
+      let step : option_map v next ≡ option_or (f (attribute_view x.attribute)) (option_map v now) = ap (option_map v) n ∙ map-or v found now ∙ ap (λ o. option_or o (option_map v now)) e in
+      rw step (sym (or_last (f (attribute_view x.attribute)) (option_map v now) (filter_map f (drop (i + 1) (statements_of ls)))) ∙ (rw (statements_from ls i x b at) at h))
 
-  pub last_end : (ls : List Line) (i : ℕ) (now : Option A) → LastIs ls i now → length ls ≤ i → now ≡ last_of (filter_map f (statements_of ls))
+  pub last_end : (ls : List AttributeLine) (i : ℕ) (now : Option A) → LastIs ls i now → length ls ≤ i → now ≡ last_of (filter_map f (statements_of ls))
   last_end ls i now h b = (rw (statements_end ls i b) at h)
 
   -- A walk that lists what a function gives.
-  abbrev pub ListIs : List Line → ℕ → List A → Type 0
+  abbrev pub ListIs : List AttributeLine → ℕ → List A → Type 0
   ListIs ls i out = out ++ filter_map f (drop i (statements_of ls)) ≡ filter_map f (statements_of ls)
 
-  pub list_none : (ls : List Line) (i : ℕ) (x : Line) (out : List A) → ListIs ls i out → i < length ls → x ≡ get_or ls i x → f (statement_view x.statement) ≡ None → ListIs ls (i + 1) out
+  pub list_none : (ls : List AttributeLine) (i : ℕ) (x : AttributeLine) (out : List A) → ListIs ls i out → i < length ls → x ≡ get_or ls i x → f (attribute_view x.attribute) ≡ None → ListIs ls (i + 1) out
   list_none ls i x out h b at e = (rw (statements_from ls i x b at, e) at h)
 
-  pub list_some : (ls : List Line) (i : ℕ) (x : Line) (out : List A) (a : A) → ListIs ls i out → i < length ls → x ≡ get_or ls i x →
-      f (statement_view x.statement) ≡ Some a → ListIs ls (i + 1) (out ++ a ∷ [])
+  pub list_some : (ls : List AttributeLine) (i : ℕ) (x : AttributeLine) (out : List A) (a : A) → ListIs ls i out → i < length ls → x ≡ get_or ls i x →
+      f (attribute_view x.attribute) ≡ Some a → ListIs ls (i + 1) (out ++ a ∷ [])
   list_some ls i x out a h b at e =
       append_assoc out (a ∷ []) (filter_map f (drop (i + 1) (statements_of ls))) ∙ (rw (statements_from ls i x b at, e) at h)
 
-  pub list_end : (ls : List Line) (i : ℕ) (out : List A) → ListIs ls i out → length ls ≤ i → out ≡ filter_map f (statements_of ls)
+  pub list_end : (ls : List AttributeLine) (i : ℕ) (out : List A) → ListIs ls i out → length ls ≤ i → out ≡ filter_map f (statements_of ls)
   list_end ls i out h b = sym (append-nil out) ∙ (rw (statements_end ls i b) at h)
 
-  pub list_push : {B : Type 0} (v : B → A) (ls : List Line) (i : ℕ) (x : Line) (out new : List B) (b : B) (a : A) → ListIs ls i (map v out) → i < length ls →
-      x ≡ get_or ls i x → Some a ≡ f (statement_view x.statement) → v b ≡ a → new ≡ out ++ b ∷ [] → ListIs ls (i + 1) (map v new)
+  pub list_push : {B : Type 0} (v : B → A) (ls : List AttributeLine) (i : ℕ) (x : AttributeLine) (out new : List B) (b : B) (a : A) → ListIs ls i (map v out) → i < length ls →
+      x ≡ get_or ls i x → Some a ≡ f (attribute_view x.attribute) → v b ≡ a → new ≡ out ++ b ∷ [] → ListIs ls (i + 1) (map v new)
   list_push v ls i x out new b a h n at e same p =
       let made : map v new ≡ map v out ++ a ∷ [] = rw (p, map-append v out (b ∷ []), same) refl in
       rw made (list_some ls i x (map v out) a h n at (sym e))
 
 -- A walk that adds to what there was what a function gives.
 module _ {A : Type 0} (f : Numbered → Option A) (base : List A) where
-  abbrev pub Adds : List Line → ℕ → List A → Type 0
+  abbrev pub Adds : List AttributeLine → ℕ → List A → Type 0
   Adds ls i out = out ++ filter_map f (drop i (statements_of ls)) ≡ base ++ filter_map f (statements_of ls)
 
-  pub adds_none : (ls : List Line) (i : ℕ) (x : Line) (out : List A) → Adds ls i out → i < length ls → x ≡ get_or ls i x → f (statement_view x.statement) ≡ None → Adds ls (i + 1) out
+  pub adds_none : (ls : List AttributeLine) (i : ℕ) (x : AttributeLine) (out : List A) → Adds ls i out → i < length ls → x ≡ get_or ls i x → f (attribute_view x.attribute) ≡ None → Adds ls (i + 1) out
   adds_none ls i x out h b at e = (rw (statements_from ls i x b at, e) at h)
 
-  pub adds_next : (ls : List Line) (i : ℕ) (x : Line) (out new : List A) (o : Option A) → Adds ls i out → i < length ls → x ≡ get_or ls i x →
-      f (statement_view x.statement) ≡ o → new ≡ out ++ listed o → Adds ls (i + 1) new
+  pub adds_next : (ls : List AttributeLine) (i : ℕ) (x : AttributeLine) (out new : List A) (o : Option A) → Adds ls i out → i < length ls → x ≡ get_or ls i x →
+      f (attribute_view x.attribute) ≡ o → new ≡ out ++ listed o → Adds ls (i + 1) new
   adds_next ls i x out new None b h n e p = rw (p, append-nil out) (adds_none ls i x out b h n e)
   adds_next ls i x out new (Some a) b h n e p =
       (rw p (append_assoc out (a ∷ []) (filter_map f (drop (i + 1) (statements_of ls))))) ∙ (rw (statements_from ls i x h n, e) at b)
 
-  pub adds_end : (ls : List Line) (i : ℕ) (out : List A) → Adds ls i out → length ls ≤ i → out ≡ base ++ filter_map f (statements_of ls)
+  pub adds_end : (ls : List AttributeLine) (i : ℕ) (out : List A) → Adds ls i out → length ls ≤ i → out ≡ base ++ filter_map f (statements_of ls)
   adds_end ls i out h b = sym (append-nil out) ∙ (rw (statements_end ls i b) at h)
 
 -- at most one more

@@ -1,10 +1,10 @@
 -- Trusted: The lines of a root file, with their names numbered.
-use Rattle.std.specs.Prelude.{◌≡◌, ℕ, List, Ok, map}
+use Rattle.std.specs.Prelude.{◌≡◌, ℕ, List, Ok}
 use Rattle.kc_read.specs.Expansion.{Log, Expands}
 use Rattle.kc_read.specs.Files.{Files}
 use Rattle.kc_read.specs.Statements.{statements}
 use Rattle.kc_read.specs.Numbering.{names_of, numbered_lines}
-use Rattle.kc_read.specs.StatementViews.{line_view}
+use Rattle.kc_read.specs.Entries.{lines_in}
 use Rattle.kc_build.specs.declared.listing.Listing.{Listing}
 use Rattle.kc_build.specs.Facts.{defined_symbols}
 use Rattle.kc_build.specs.Trees.{modules_symbol}
@@ -12,7 +12,7 @@ use Rattle.kc_build.specs.Trees.{modules_symbol}
 -- the lines of this expanded list, its names, the symbols that it defines and the one that stands for modules
 pub record IsListing (log : Log) (l : Listing) : Type 0 where
   pub names_are : l.names ≡ names_of (statements log.lines)
-  pub lines_are : map line_view l.lines.items ≡ numbered_lines log.lines
+  pub lines_are : lines_in l.entries ≡ numbered_lines log.lines
   pub defined_are : l.defined.items ≡ defined_symbols (statements (numbered_lines log.lines))
   pub modules_is : l.modules ≡ modules_symbol (names_of (statements log.lines)) (statements (numbered_lines log.lines))
 

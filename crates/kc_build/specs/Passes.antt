@@ -8,13 +8,18 @@ use Rattle.kc_build.specs.declared.lines.Target.{Target}
 use Rattle.kc_build.specs.declared.lines.Range.{Range}
 use Rattle.kc_build.specs.declared.lines.ReverseKind.{ReverseKind}
 use Rattle.kc_build.specs.Facts as spec
-use Rattle.kc_read.specs.declared.statement.Line.{Line}
-use Rattle.kc_read.specs.StatementViews.{statement_view}
-use Rattle.kc_read.specs.Statements.{Numbered}
+use Rattle.kc_read.specs.declared.entries.AttributeLine.{AttributeLine}
+use Rattle.kc_read.specs.declared.entries.Entries.{Entries}
+use Rattle.kc_read.specs.Entries.{lines_in}
+use Rattle.kc_read.specs.StatementViews.{attribute_view}
+use Rattle.kc_read.specs.Statements.{Numbered, statements}
 
--- the statements of lines
-abbrev pub statements_of : List Line → List Numbered
-statements_of = map (λ l. statement_view l.statement)
+-- the statements of attributes; those of entries
+abbrev pub statements_of : List AttributeLine → List Numbered
+statements_of = map (λ l. attribute_view l.attribute)
+
+abbrev pub statements_in : Entries → List Numbered
+statements_in es = statements (lines_in es)
 
 abbrev pub stated_default_view : StatedDefault → spec.StatedDefault
 stated_default_view g = record { value = form_of g.value.now.value; when = option_map (λ e. form_of e.now.value) g.when }

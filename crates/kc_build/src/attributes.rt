@@ -1,11 +1,11 @@
 //! The attributes of an entry, and what they say of it.
 
-ghost use Rattle.std.specs.Prelude.{◌≡◌, ◌<◌, ◌≤◌, ◌+◌, ◌++◌, ◌^◌, length, drop, map, option_map, IfOk, OnErr, OnOk};
-ghost use Rattle.std.specs.List.{filter_map, prefix_len};
+ghost use Rattle.std.specs.Prelude.{◌≡◌, ◌<◌, ◌≤◌, ◌+◌, ◌++◌, ◌^◌, length, map, option_map, IfOk, OnErr, OnOk};
+ghost use Rattle.std.specs.List.{filter_map};
 ghost use Rattle.kc_expr.specs.Form.{form_of};
 ghost use Rattle.kc_read.specs.Blocks as blocks;
 ghost use Rattle.kc_expr.specs.When.{when_view};
-ghost use Rattle.kc_read.specs.StatementViews.{input_prompt_view, statement_view};
+ghost use Rattle.kc_read.specs.StatementViews.{attribute_view, input_prompt_view};
 ghost use Rattle.kc_tree.specs.Common.{listed};
 ghost use Rattle.kc_tree.specs.Contexts.{condition_in};
 ghost use Rattle.kc_build.specs.Facts as facts;
@@ -17,13 +17,13 @@ ghost use Rattle.kc_tree.specs.Layouts.{with_conjuncts};
 use crate::blocks::BlockScope;
 use crate::copies::operand_copy;
 use crate::lines::{
-    depends_of, is_attribute, prompt_of, range_of, single_symbol, stated_default, type_of,
-    visible_of,
+    depends_of, prompt_of, range_of, single_symbol, stated_default, type_of, visible_of,
 };
 use crate::symbols::is_member;
 use kc_expr::expression::{Expr, Kind};
+use kc_read::entries::AttributeLine;
 use kc_read::statement;
-use kc_read::statement::{Line, Statement};
+use kc_read::statement::Attribute;
 use kc_tree::contexts::Contexts;
 use kc_tree::rows::{
     ChoiceDefault, ChoiceId, ContextId, EntryPrompt, RowSpan, Symbol, SymbolDefault, SymbolRange,
@@ -31,34 +31,12 @@ use kc_tree::rows::{
 use std::alloc::{AllocError, Global};
 use std::rc::Rc;
 
-// How many attributes lines begin with.
-fn attribute_count(lines: &[Line]) -> usize
-    ensures count { result ≡ prefix_len blocks.is_attribute (statements_of lines.now) }
-    ensures within { result ≤ length lines.now }
-{
-    for (i, line) in lines.iter().enumerate() {
-        if !is_attribute(&line.statement) {
-            return i;
-        }
-    }
-    lines.len()
-}
-
-/// The place behind the entry at a place and its attributes.
-pub(crate) fn entry_end(lines: &[Line], place: usize) -> usize
-    requires { place < length lines.now }
-    ensures count { result ≡ place + 1 + prefix_len blocks.is_attribute (drop (place + 1) (statements_of lines.now)) }
-    ensures within { result ≤ length lines.now }
-{
-    place + 1 + attribute_count(&lines[place + 1..])
-}
-
 /// The first type that attributes give.
-pub(crate) fn first_type(attributes: &[Line]) -> Option<Kind>
+pub(crate) fn first_type(attributes: &[AttributeLine]) -> Option<Kind>
     ensures { result ≡ facts.first_of (filter_map facts.type_of (statements_of attributes.now)) }
 {
     for line in attributes {
-        if let Some(kind) = type_of(&line.statement) {
+        if let Some(kind) = type_of(&line.attribute) {
             return Some(kind);
         }
     }
@@ -66,12 +44,12 @@ pub(crate) fn first_type(attributes: &[Line]) -> Option<Kind>
 }
 
 // The prompt that counts of several: the last.
-fn last_prompt(attributes: &[Line]) -> Option<&statement::Prompt>
+fn last_prompt(attributes: &[AttributeLine]) -> Option<&statement::Prompt>
     ensures { option_map (λ p. input_prompt_view p.now) result ≡ blocks.last_of (filter_map facts.prompt_of (statements_of attributes.now)) }
 {
     let mut last = None;
     for line in attributes {
-        last = prompt_of(&line.statement).or(last);
+        last = prompt_of(&line.attribute).or(last);
     }
     last
 }
@@ -104,7 +82,7 @@ fn entry_prompt(
 
 /// The prompt of an entry, where it has one; `visible` is what the enclosing menus ask of what is visible.
 pub(crate) fn prompt(
-    attributes: &[Line],
+    attributes: &[AttributeLine],
     visible: ContextId,
 ) -> Result<Option<EntryPrompt>, AllocError>
     ensures { IfOk result (λ o. option_map prompt_line o ≡ option_map (λ p. (visible.0, p.when)) (blocks.last_of (filter_map facts.prompt_of (statements_of attributes.now)))) }
@@ -116,7 +94,7 @@ pub(crate) fn prompt(
 pub(crate) fn entry_context(
     contexts: &mut Contexts,
     outer: ContextId,
-    attributes: &[Line],
+    attributes: &[AttributeLine],
 ) -> Result<ContextId, AllocError>
     requires there { outer.0 < length contexts.old }
     requires few { length contexts.old + length attributes.now < 2 ^ 32 }
@@ -125,7 +103,7 @@ pub(crate) fn entry_context(
 {
     let mut at = outer;
     for line in attributes {
-        if let Some(condition) = depends_of(&line.statement) {
+        if let Some(condition) = depends_of(&line.attribute) {
             at = contexts.inside(at, condition.clone()?)?;
         }
     }
@@ -137,7 +115,7 @@ pub(crate) fn entry_context(
 pub(crate) fn visible_context(
     contexts: &mut Contexts,
     outer: ContextId,
-    attributes: &[Line],
+    attributes: &[AttributeLine],
 ) -> Result<ContextId, AllocError>
     requires there { outer.0 < length contexts.old }
     requires few { length contexts.old + length attributes.now < 2 ^ 32 }
@@ -146,7 +124,7 @@ pub(crate) fn visible_context(
 {
     let mut at = outer;
     for line in attributes {
-        if let Some(condition) = visible_of(&line.statement) {
+        if let Some(condition) = visible_of(&line.attribute) {
             at = contexts.inside(at, condition.clone()?)?;
         }
     }
@@ -157,24 +135,24 @@ pub(crate) fn visible_context(
 fn line_context(
     contexts: &mut Contexts,
     outer: ContextId,
-    statement: &Statement,
+    attribute: &Attribute,
 ) -> Result<ContextId, AllocError>
     requires there { outer.0 < length contexts.old }
     requires few { length contexts.old < 2 ^ 32 }
-    ensures made { IfOk result (λ id. IsInside contexts.old outer.0 (facts.depends_form (statement_view statement.now)) contexts.new id.0) }
+    ensures made { IfOk result (λ id. IsInside contexts.old outer.0 (facts.depends_form (attribute_view attribute.now)) contexts.new id.0) }
     ensures unchanged { OnErr result (contexts.new ≡ contexts.old) }
 {
-    match depends_of(statement) {
+    match depends_of(attribute) {
         Some(condition) => contexts.inside(outer, condition.clone()?),
         None => Ok(outer),
     }
 }
 
 // Adds the default of a line, where it has one.
-fn add_default(statement: &Statement, defaults: &mut Vec<SymbolDefault>) -> Result<(), AllocError>
-    ensures { OnOk result (map default_row defaults.new.items ≡ map default_row defaults.old.items ++ listed (default_line (statement_view statement.now))) }
+fn add_default(attribute: &Attribute, defaults: &mut Vec<SymbolDefault>) -> Result<(), AllocError>
+    ensures { OnOk result (map default_row defaults.new.items ≡ map default_row defaults.old.items ++ listed (default_line (attribute_view attribute.now))) }
 {
-    match stated_default(statement) {
+    match stated_default(attribute) {
         Some(stated) => {
             let value = stated.value.clone()?;
             let when = shared_condition(stated.when)?;
@@ -188,12 +166,12 @@ fn add_default(statement: &Statement, defaults: &mut Vec<SymbolDefault>) -> Resu
 // Adds the range of a line, where it has one.
 fn add_range(
     alloc: Global,
-    statement: &Statement,
+    attribute: &Attribute,
     ranges: &mut Vec<SymbolRange>,
 ) -> Result<(), AllocError>
-    ensures { OnOk result (map range_row ranges.new.items ≡ map range_row ranges.old.items ++ listed (range_line (statement_view statement.now))) }
+    ensures { OnOk result (map range_row ranges.new.items ≡ map range_row ranges.old.items ++ listed (range_line (attribute_view attribute.now))) }
 {
-    match range_of(statement) {
+    match range_of(attribute) {
         Some(range) => {
             let low = operand_copy(alloc, range.low)?;
             let high = operand_copy(alloc, range.high)?;
@@ -219,7 +197,7 @@ pub(crate) struct DefinitionParts {
 pub(crate) fn add_attributes(
     alloc: Global,
     outer: BlockScope,
-    attributes: &[Line],
+    attributes: &[AttributeLine],
     contexts: &mut Contexts,
     defaults: &mut Vec<SymbolDefault>,
     ranges: &mut Vec<SymbolRange>,
@@ -243,11 +221,11 @@ pub(crate) fn add_attributes(
     let mut within = outer.within;
     let mut last = None;
     for line in attributes {
-        let statement = &line.statement;
-        within = line_context(contexts, within, statement)?;
-        last = prompt_of(statement).or(last);
-        add_default(statement, defaults)?;
-        add_range(alloc, statement, ranges)?;
+        let attribute = &line.attribute;
+        within = line_context(contexts, within, attribute)?;
+        last = prompt_of(attribute).or(last);
+        add_default(attribute, defaults)?;
+        add_range(alloc, attribute, ranges)?;
     }
     let prompt = entry_prompt(last, outer.visible)?;
     Ok(DefinitionParts {
@@ -269,13 +247,13 @@ pub(crate) fn choice_defaults(
     alloc: Global,
     symbols: &[Symbol],
     choice: ChoiceId,
-    attributes: &[Line],
+    attributes: &[AttributeLine],
 ) -> Result<Vec<ChoiceDefault>, AllocError>
     ensures { IfOk result (λ v. map choice_default_line v.items ≡ filter_map (member_line symbols.now choice.0) (statements_of attributes.now)) }
 {
     let mut defaults = Vec::new(alloc);
     for line in attributes {
-        if let Some(stated) = stated_default(&line.statement) {
+        if let Some(stated) = stated_default(&line.attribute) {
             if let Some(member) = single_symbol(stated.value) {
                 if is_member(symbols, choice, member) {
                     let when = shared_condition(stated.when)?;

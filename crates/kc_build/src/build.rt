@@ -4,13 +4,13 @@ ghost use Rattle.std.specs.Prelude.{◌≡◌, ◌≢◌, ◌<◌, ◌≤◌, �
 ghost use Rattle.kc_expr.specs.Order.{stands_in};
 ghost use Rattle.kc_read.specs.Files.{Files, bytes_in};
 ghost use Rattle.kc_read.specs.RefusalView.{IsMemory, refusal_view};
-ghost use Rattle.kc_read.specs.StatementViews.{line_view};
+ghost use Rattle.kc_read.specs.Entries.{lines_in};
 ghost use Rattle.kc_read.specs.declared.refusal.Code.TheVariants.{Memory};
 ghost use Rattle.kc_build.specs.Facts.{defined_symbols};
 ghost use Rattle.kc_build.specs.Limits.{most_names};
 ghost use Rattle.kc_build.specs.Listings.{IsListingOf};
 ghost use Rattle.kc_build.specs.PartsView.{parts_view};
-ghost use Rattle.kc_build.specs.Passes.{statements_of};
+ghost use Rattle.kc_build.specs.Passes.{statements_in};
 ghost use Rattle.kc_build.specs.SymbolRows.{AreBelow, AreChoicesApart, AreMenusOpened, AreTypesDefined};
 ghost use Rattle.kc_build.specs.Trees.{IsTreeOf, modules_symbol, symbol_if, tree_with};
 
@@ -19,9 +19,9 @@ use crate::listing::{Listing, read_listing};
 use crate::symbols::symbols;
 use kc_expr::expression::SymId;
 use kc_expr::names::Names;
+use kc_read::entries::Entries;
 use kc_read::file_map::FileMap;
 use kc_read::refusal::Refusal;
-use kc_read::statement::Line;
 use kc_tree::layout::{Layout, TreeParts};
 use kc_tree::tree::Tree;
 use std::alloc::{AllocError, Global};
@@ -57,32 +57,32 @@ fn check_names(count: usize) -> Result<(), AllocError>
     }
 }
 
-// What the lines say, which define these symbols, and where `modules` stands for modules, if it is one of them: the first
+// What the entries say, which define these symbols, and where `modules` stands for modules, if it is one of them: the first
 // refusal that the whole list shows, and where there is none all parts of the tree. Its only error is to be out of memory.
 fn build_parts(
     alloc: Global,
     names: &Names,
-    lines: &[Line],
+    entries: &Entries,
     defined: Vec<SymId>,
     modules: Option<SymId>,
 ) -> Result<Result<TreeParts, Refusal>, AllocError>
-    requires below { AreBelow (length names.now) (statements_of lines.now) }
-    requires types { AreTypesDefined (statements_of lines.now) }
-    requires apart { AreChoicesApart (statements_of lines.now) }
-    requires ends { AreMenusOpened (statements_of lines.now) }
-    requires defined { defined.items ≡ defined_symbols (statements_of lines.now) }
-    requires modules { modules ≡ modules_symbol names.now (statements_of lines.now) }
-    requires few { 8 * length lines.now + 8 < 2 ^ 32 }
-    ensures { IfOk result (λ s. parts_view names.now s ≡ tree_with names.now (map line_view lines.now)) }
+    requires below { AreBelow (length names.now) (statements_in entries.now) }
+    requires types { AreTypesDefined (statements_in entries.now) }
+    requires apart { AreChoicesApart (statements_in entries.now) }
+    requires ends { AreMenusOpened (statements_in entries.now) }
+    requires defined { defined.items ≡ defined_symbols (statements_in entries.now) }
+    requires modules { modules ≡ modules_symbol names.now (statements_in entries.now) }
+    requires few { 8 * length (lines_in entries.now) + 8 < 2 ^ 32 }
+    ensures { IfOk result (λ s. parts_view names.now s ≡ tree_with names.now (lines_in entries.now)) }
 {
     let count = names.count();
     check_names(count)?;
-    let symbols = symbols(alloc, lines, count)?;
+    let symbols = symbols(alloc, entries, count)?;
     let WalkResult {
         tables,
         main_menu,
         diagnostics,
-    } = walk_entries(alloc, names, lines, &symbols, defined.len())?;
+    } = walk_entries(alloc, names, entries, &symbols, defined.len())?;
     let modules = if_defined(&defined, modules);
     match diagnostics.into_warnings() {
         Err(refusal) => Ok(Err(refusal)),
@@ -119,9 +119,9 @@ pub fn tree_of(alloc: Global, listing: Listing) -> Result<Tree, Refusal>
         names,
         defined,
         modules,
-        lines,
+        entries,
     } = listing;
-    let outcome = match build_parts(alloc, &names, &lines, defined, modules) {
+    let outcome = match build_parts(alloc, &names, &entries, defined, modules) {
         Ok(outcome) => outcome,
         Err(_) => return Err(Refusal::out_of_memory(alloc)),
     };

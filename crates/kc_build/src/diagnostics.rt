@@ -1,10 +1,11 @@
 //! The warnings about the lines of a tree, and the refusals that the whole list of them shows.
 
-ghost use Rattle.std.specs.Prelude.{◌≡◌, ◌++◌, [], None, map, option_map, IfOk, OnOk, MatchResult, Some};
+ghost use Rattle.std.specs.Prelude.{◌≡◌, ◌++◌, [], None, false, map, option_map, IfOk, OnOk, MatchResult, Some};
 ghost use Rattle.std.specs.List.{list_any};
 ghost use Rattle.std.specs.Option.{option_or};
 ghost use Rattle.kc_expr.specs.Form.{form_of};
-ghost use Rattle.kc_read.specs.StatementViews.{line_view, statement_view};
+ghost use Rattle.kc_read.specs.Entries.{attribute_line, first_line, own_lines};
+ghost use Rattle.kc_read.specs.StatementViews.{attribute_view, head_view};
 ghost use Rattle.kc_read.specs.RefusalView.{refusal_view};
 ghost use Rattle.kc_build.specs.Diagnosed.{IsLineDiagnosed, AreLinesDiagnosed};
 ghost use Rattle.kc_build.specs.Odd as odd;
@@ -19,11 +20,12 @@ use crate::lines::{
     is_single, prompt_of, single_symbol, stated_default, symbol_of, target_of, type_of,
 };
 use crate::symbols::{choice_of, has_text, is_member, kind_of};
-use crate::warning::{Warning, entry_name, line_of};
+use crate::warning::{Place, Warning, entry_name, line_of};
 use kc_expr::expression::{Expr, Kind, SymId};
 use kc_expr::names::Names;
+use kc_read::entries::{Entry, EntryLines};
 use kc_read::refusal::{Code, Refusal};
-use kc_read::statement::{Line, Statement};
+use kc_read::statement::{Attribute, Head};
 use kc_tree::rows::{ChoiceId, Symbol};
 use std::alloc::{AllocError, Global};
 
@@ -74,10 +76,10 @@ fn entry_choice(entry: MenuEntry) -> Option<ChoiceId>
 }
 
 // A type line whose type is not the symbol's.
-fn type_redefined(statement: &Statement, entry: MenuEntry, symbols: &[Symbol]) -> Option<Warning>
-    ensures { listed result ≡ spec.type_redefined (kind_by symbols.now) entry (statement_view statement.now) }
+fn type_redefined(attribute: &Attribute, entry: MenuEntry, symbols: &[Symbol]) -> Option<Warning>
+    ensures { listed result ≡ spec.type_redefined (kind_by symbols.now) entry (attribute_view attribute.now) }
 {
-    match (entry_symbol(entry), type_of(statement)) {
+    match (entry_symbol(entry), type_of(attribute)) {
         (Some(symbol), Some(kind)) => {
             (kind != kind_of(symbols, symbol)).then_some(Warning::TypeRedefined(symbol))
         }
@@ -86,10 +88,10 @@ fn type_redefined(statement: &Statement, entry: MenuEntry, symbols: &[Symbol]) -
 }
 
 // A second prompt in one entry.
-fn prompt_redefined(statement: &Statement, entry: MenuEntry, prompted: bool) -> Option<Warning>
-    ensures { listed result ≡ spec.prompt_redefined entry prompted (statement_view statement.now) }
+fn prompt_redefined(attribute: &Attribute, entry: MenuEntry, prompted: bool) -> Option<Warning>
+    ensures { listed result ≡ spec.prompt_redefined entry prompted (attribute_view attribute.now) }
 {
-    (prompt_of(statement).is_some() && prompted).then_some(Warning::PromptRedefined(entry_symbol(
+    (prompt_of(attribute).is_some() && prompted).then_some(Warning::PromptRedefined(entry_symbol(
         entry,
     )))
 }
@@ -102,10 +104,10 @@ fn has_type(symbol: SymId, symbols: &[Symbol]) -> bool
 }
 
 // The first definition of a symbol without a type.
-fn without_type(statement: &Statement, first: bool, symbols: &[Symbol]) -> Option<Warning>
-    ensures { listed result ≡ spec.without_type (kind_by symbols.now) (choice_by symbols.now) first (statement_view statement.now) }
+fn without_type(head: &Head, first: bool, symbols: &[Symbol]) -> Option<Warning>
+    ensures { listed result ≡ spec.without_type (kind_by symbols.now) (choice_by symbols.now) first (head_view head.now) }
 {
-    match symbol_of(statement) {
+    match symbol_of(head) {
         Some(symbol) => (first && !has_type(symbol, symbols)).then_some(Warning::WithoutType(
             symbol,
         )),
@@ -114,10 +116,10 @@ fn without_type(statement: &Statement, first: bool, symbols: &[Symbol]) -> Optio
 }
 
 // A select or imply of a symbol whose value is a text.
-fn text_target(statement: &Statement, symbols: &[Symbol]) -> Option<Warning>
-    ensures { listed result ≡ spec.text_target (kind_by symbols.now) (statement_view statement.now) }
+fn text_target(attribute: &Attribute, symbols: &[Symbol]) -> Option<Warning>
+    ensures { listed result ≡ spec.text_target (kind_by symbols.now) (attribute_view attribute.now) }
 {
-    match target_of(statement) {
+    match target_of(attribute) {
         Some(target) => has_text(kind_of(symbols, target.symbol)).then_some(Warning::TextTarget(
             target.symbol,
             target.kind,
@@ -127,10 +129,10 @@ fn text_target(statement: &Statement, symbols: &[Symbol]) -> Option<Warning>
 }
 
 // A select or imply of a member of a choice.
-fn member_target(statement: &Statement, symbols: &[Symbol]) -> Option<Warning>
-    ensures { listed result ≡ spec.member_target (choice_by symbols.now) (statement_view statement.now) }
+fn member_target(attribute: &Attribute, symbols: &[Symbol]) -> Option<Warning>
+    ensures { listed result ≡ spec.member_target (choice_by symbols.now) (attribute_view attribute.now) }
 {
-    match target_of(statement) {
+    match target_of(attribute) {
         Some(target) => choice_of(symbols, target.symbol)
             .is_some()
             .then_some(Warning::MemberTarget(target.symbol, target.kind)),
@@ -139,10 +141,10 @@ fn member_target(statement: &Statement, symbols: &[Symbol]) -> Option<Warning>
 }
 
 // The symbol that a default names alone.
-fn default_symbol(statement: &Statement) -> Option<SymId>
-    ensures { result ≡ default_symbol (statement_view statement.now) }
+fn default_symbol(attribute: &Attribute) -> Option<SymId>
+    ensures { result ≡ default_symbol (attribute_view attribute.now) }
 {
-    match stated_default(statement) {
+    match stated_default(attribute) {
         Some(stated) => single_symbol(stated.value),
         None => None,
     }
@@ -150,13 +152,13 @@ fn default_symbol(statement: &Statement) -> Option<SymId>
 
 // A default of a choice that names no member of it.
 fn default_not_member(
-    statement: &Statement,
+    attribute: &Attribute,
     entry: MenuEntry,
     symbols: &[Symbol],
 ) -> Option<Warning>
-    ensures { listed result ≡ spec.default_not_member (member_by symbols.now) entry (statement_view statement.now) }
+    ensures { listed result ≡ spec.default_not_member (member_by symbols.now) entry (attribute_view attribute.now) }
 {
-    match (entry_choice(entry), default_symbol(statement)) {
+    match (entry_choice(entry), default_symbol(attribute)) {
         (Some(choice), Some(symbol)) => {
             (!is_member(symbols, choice, symbol)).then_some(Warning::DefaultNotMember(symbol))
         }
@@ -164,41 +166,40 @@ fn default_not_member(
     }
 }
 
-// What there is to warn of in a line: two things at most.
+// What there is to warn of in an attribute: two things at most.
 fn warnings_of(
-    statement: &Statement,
+    attribute: &Attribute,
     summary: EntrySummary,
     prompted: bool,
     symbols: &[Symbol],
 ) -> (Option<Warning>, Option<Warning>)
-    ensures { listed result.0 ++ listed result.1 ≡ line_warnings_in symbols.now summary prompted (statement_view statement.now) }
+    ensures { listed result.0 ++ listed result.1 ≡ line_warnings_in symbols.now summary prompted (attribute_view attribute.now) }
 {
     let entry = summary.entry;
-    match statement {
-        Statement::Config(_) => (without_type(statement, summary.first, symbols), None),
-        Statement::Type(_, _) => (
-            type_redefined(statement, entry, symbols),
-            prompt_redefined(statement, entry, prompted),
+    match attribute {
+        Attribute::Type(_, _) => (
+            type_redefined(attribute, entry, symbols),
+            prompt_redefined(attribute, entry, prompted),
         ),
-        Statement::Prompt(_) => (prompt_redefined(statement, entry, prompted), None),
-        Statement::Default(_, _) => (default_not_member(statement, entry, symbols), None),
-        Statement::Def(_, _, _) => (
-            type_redefined(statement, entry, symbols),
-            default_not_member(statement, entry, symbols),
+        Attribute::Prompt(_) => (prompt_redefined(attribute, entry, prompted), None),
+        Attribute::Default(_, _) => (default_not_member(attribute, entry, symbols), None),
+        Attribute::Def(_, _, _) => (
+            type_redefined(attribute, entry, symbols),
+            default_not_member(attribute, entry, symbols),
         ),
-        Statement::Select(_, _) | Statement::Imply(_, _) => (
-            text_target(statement, symbols),
-            member_target(statement, symbols),
+        Attribute::Select(_, _) | Attribute::Imply(_, _) => (
+            text_target(attribute, symbols),
+            member_target(attribute, symbols),
         ),
         _ => (None, None),
     }
 }
 
 // A second definition of a member; a definition in a choice whose type is not bool.
-fn is_bad_member(statement: &Statement, summary: EntrySummary, symbols: &[Symbol]) -> bool
-    ensures { result ≡ spec.is_bad_member (kind_by symbols.now) (choice_by symbols.now) summary.first (option_map (λ k. k.0) summary.within_choice) (statement_view statement.now) }
+fn is_bad_member(head: &Head, summary: EntrySummary, symbols: &[Symbol]) -> bool
+    ensures { result ≡ spec.is_bad_member (kind_by symbols.now) (choice_by symbols.now) summary.first (option_map (λ k. k.0) summary.within_choice) (head_view head.now) }
 {
-    match symbol_of(statement) {
+    match symbol_of(head) {
         Some(symbol) => {
             (choice_of(symbols, symbol).is_some() && !summary.first)
                 || (summary.within_choice.is_some() && kind_of(symbols, symbol) != Kind::Bool)
@@ -218,10 +219,10 @@ fn is_text_entry(entry: MenuEntry, symbols: &[Symbol]) -> bool
 }
 
 // A default of such a symbol that is no single operand; one of a choice that is no single name.
-fn is_bad_default(statement: &Statement, entry: MenuEntry, symbols: &[Symbol]) -> bool
-    ensures { result ≡ spec.is_bad_default (kind_by symbols.now) entry (statement_view statement.now) }
+fn is_bad_default(attribute: &Attribute, entry: MenuEntry, symbols: &[Symbol]) -> bool
+    ensures { result ≡ spec.is_bad_default (kind_by symbols.now) entry (attribute_view attribute.now) }
 {
-    match stated_default(statement) {
+    match stated_default(attribute) {
         Some(stated) => {
             (is_text_entry(entry, symbols) && !is_single(stated.value))
                 || (entry_choice(entry).is_some() && single_symbol(stated.value).is_none())
@@ -263,11 +264,11 @@ fn is_odd_target(symbol: SymId, symbols: &[Symbol]) -> bool
 
 // Whether there may be a diagnostic about the line that begins an entry. Of most there is none.
 #[inline(always)]
-fn is_odd_head(statement: &Statement, summary: EntrySummary, symbols: &[Symbol]) -> bool
-    ensures { result ≡ odd.is_odd_head symbols.now summary (statement_view statement.now) }
+fn is_odd_head(head: &Head, summary: EntrySummary, symbols: &[Symbol]) -> bool
+    ensures { result ≡ odd.is_odd_head symbols.now summary (head_view head.now) }
 {
-    match statement {
-        Statement::Config(symbol) => match symbols.get(symbol.0) {
+    match head {
+        Head::Config(symbol) => match symbols.get(symbol.0) {
             Some(found) => {
                 found.choice.is_some()
                     || summary.within_choice.is_some()
@@ -282,25 +283,24 @@ fn is_odd_head(statement: &Statement, summary: EntrySummary, symbols: &[Symbol])
 // Whether there may be a diagnostic about an attribute. Of most there is none.
 #[inline(always)]
 fn is_odd_attribute(
-    statement: &Statement,
+    attribute: &Attribute,
     entry: MenuEntry,
     prompted: bool,
     symbols: &[Symbol],
 ) -> bool
-    ensures { result ≡ odd.is_odd_attribute symbols.now entry prompted (statement_view statement.now) }
+    ensures { result ≡ odd.is_odd_attribute symbols.now entry prompted (attribute_view attribute.now) }
 {
-    match statement {
-        Statement::Type(kind, prompt) => {
+    match attribute {
+        Attribute::Type(kind, prompt) => {
             (prompt.is_some() && prompted) || is_other_type(*kind, entry, symbols)
         }
-        Statement::Prompt(_) => prompted,
-        Statement::Default(value, _) => is_odd_default(value, entry, symbols),
-        Statement::Def(kind, value, _) => {
+        Attribute::Prompt(_) => prompted,
+        Attribute::Default(value, _) => is_odd_default(value, entry, symbols),
+        Attribute::Def(kind, value, _) => {
             is_other_type(*kind, entry, symbols) || is_odd_default(value, entry, symbols)
         }
-        Statement::Select(symbol, _) => is_odd_target(*symbol, symbols),
-        Statement::Imply(symbol, _) => is_odd_target(*symbol, symbols),
-        Statement::Config(_) => true,
+        Attribute::Select(symbol, _) => is_odd_target(*symbol, symbols),
+        Attribute::Imply(symbol, _) => is_odd_target(*symbol, symbols),
         _ => false,
     }
 }
@@ -309,35 +309,46 @@ fn is_odd_attribute(
 fn refusal(
     alloc: Global,
     names: &Names,
-    line: &Line,
+    place: Place<'_>,
     entry: MenuEntry,
     code: Code,
 ) -> Result<Refusal, AllocError>
-    ensures { IfOk result (λ r. refusal_view r ≡ entry_refusal.entry_refusal names.now code entry (line_view line.now)) }
+    ensures { IfOk result (λ r. refusal_view r ≡ entry_refusal.entry_refusal names.now code entry place.entry.file.now place.entry.line) }
 {
-    let file = Vec::from_slice(alloc, &line.file)?;
+    let file = Vec::from_slice(alloc, place.file)?;
     let detail = Vec::from_slice(alloc, entry_name(names, entry_symbol(entry)))?;
     Ok(Refusal {
         code,
-        location: Some((file, line.line)),
+        location: Some((file, place.line)),
         detail,
     })
+}
+
+// A line of an entry.
+fn place_in(entry: &Entry, line: u32) -> Place<'_>
+    ensures file { result.file.now ≡ entry.now.file.value.items }
+    ensures line { result.line ≡ line }
+{
+    Place {
+        file: &entry.file,
+        line,
+    }
 }
 
 // Adds the line of a warning where there is one.
 fn warn(
     alloc: Global,
     names: &Names,
-    line: &Line,
+    place: Place<'_>,
     warning: Option<Warning>,
     out: &mut Vec<Vec<u8>>,
 ) -> Result<(), AllocError>
     ensures { OnOk result (map (λ v. v.items) out.new.items ≡ map (λ v. v.items) out.old.items
-        ++ map (spec.line_of names.now (line_view line.now).file (line_view line.now).line) (listed warning)) }
+        ++ map (spec.line_of names.now place.entry.file.now place.entry.line) (listed warning)) }
 {
     match warning {
         Some(warning) => {
-            let text = line_of(alloc, names, line, warning)?;
+            let text = line_of(alloc, names, place, warning)?;
             out.push(text)?;
             Ok(())
         }
@@ -345,24 +356,25 @@ fn warn(
     }
 }
 
-// Adds what there is to warn of in a line.
-fn warn_line(
+// Adds what there is to warn of in an attribute.
+fn warn_attribute(
     alloc: Global,
     names: &Names,
     symbols: &[Symbol],
     summary: EntrySummary,
     prompted: bool,
-    line: &Line,
+    place: Place<'_>,
+    attribute: &Attribute,
     out: &mut Vec<Vec<u8>>,
 ) -> Result<(), AllocError>
     ensures { OnOk result (map (λ v. v.items) out.new.items ≡ map (λ v. v.items) out.old.items
-        ++ map (spec.line_of names.now (line_view line.now).file (line_view line.now).line) (line_warnings_in symbols.now summary prompted (line_view line.now).statement)) }
+        ++ map (spec.line_of names.now place.entry.file.now place.entry.line) (line_warnings_in symbols.now summary prompted (attribute_view attribute.now))) }
 {
-    match warnings_of(&line.statement, summary, prompted, symbols) {
+    match warnings_of(attribute, summary, prompted, symbols) {
         (None, None) => Ok(()),
         (first, second) => {
-            warn(alloc, names, line, first, out)?;
-            warn(alloc, names, line, second, out)
+            warn(alloc, names, place, first, out)?;
+            warn(alloc, names, place, second, out)
         }
     }
 }
@@ -388,15 +400,16 @@ impl Diagnostics {
         names: &Names,
         symbols: &[Symbol],
         summary: EntrySummary,
-        line: &Line,
+        head: &Entry,
     ) -> Result<(), AllocError>
         ensures member { OnOk result (option_map refusal_view self.new.bad_member
-            ≡ option_or (option_map refusal_view self.old.bad_member) (entry_refusal.bad_member_of names.now symbols.now summary (line_view line.now))) }
+            ≡ option_or (option_map refusal_view self.old.bad_member) (entry_refusal.bad_member_of names.now symbols.now summary (first_line head.now))) }
         ensures default { OnOk result (self.new.bad_default ≡ self.old.bad_default) }
         ensures warnings { OnOk result (self.new.warnings ≡ self.old.warnings) }
     {
-        if self.bad_member.is_none() && is_bad_member(&line.statement, summary, symbols) {
-            let found = refusal(alloc, names, line, summary.entry, Code::ChoiceMember)?;
+        if self.bad_member.is_none() && is_bad_member(&head.head, summary, symbols) {
+            let place = place_in(head, head.line);
+            let found = refusal(alloc, names, place, summary.entry, Code::ChoiceMember)?;
             self.bad_member = Some(found);
         }
         Ok(())
@@ -409,48 +422,70 @@ impl Diagnostics {
         names: &Names,
         symbols: &[Symbol],
         summary: EntrySummary,
-        line: &Line,
+        place: Place<'_>,
+        attribute: &Attribute,
     ) -> Result<(), AllocError>
         ensures default { OnOk result (option_map refusal_view self.new.bad_default
-            ≡ option_or (option_map refusal_view self.old.bad_default) (entry_refusal.bad_default_of names.now symbols.now summary (line_view line.now))) }
+            ≡ option_or (option_map refusal_view self.old.bad_default) (entry_refusal.bad_default_of names.now symbols.now summary (attribute_line place.entry.file.now place.entry.line attribute.now))) }
         ensures member { OnOk result (self.new.bad_member ≡ self.old.bad_member) }
         ensures warnings { OnOk result (self.new.warnings ≡ self.old.warnings) }
     {
-        if self.bad_default.is_none() && is_bad_default(&line.statement, summary.entry, symbols) {
-            let found = refusal(alloc, names, line, summary.entry, Code::BadDefault)?;
+        if self.bad_default.is_none() && is_bad_default(attribute, summary.entry, symbols) {
+            let found = refusal(alloc, names, place, summary.entry, Code::BadDefault)?;
             self.bad_default = Some(found);
         }
         Ok(())
     }
 
-    // Diagnoses a line, where `prompted` says whether a prompt stands before it in its entry. Of most lines there is nothing to
+    // Diagnoses the line that begins an entry.
+    fn diagnose_head(
+        &mut self,
+        alloc: Global,
+        names: &Names,
+        symbols: &[Symbol],
+        summary: EntrySummary,
+        head: &Entry,
+    ) -> Result<(), AllocError>
+        ensures { OnOk result (IsLineDiagnosed names.now symbols.now summary false (first_line head.now) self.old self.new) }
+    {
+        match &head.head {
+            Head::Config(_) => {
+                let warning = without_type(&head.head, summary.first, symbols);
+                let place = place_in(head, head.line);
+                warn(alloc, names, place, warning, &mut self.warnings)?;
+                self.look_for_member(alloc, names, symbols, summary, head)
+            }
+            _ => Ok(()),
+        }
+    }
+
+    // Diagnoses an attribute, where `prompted` says whether a prompt stands before it in its entry. Of most there is nothing to
     // say, whatever the symbols are.
-    fn diagnose_line(
+    fn diagnose_attribute(
         &mut self,
         alloc: Global,
         names: &Names,
         symbols: &[Symbol],
         summary: EntrySummary,
         prompted: bool,
-        line: &Line,
+        place: Place<'_>,
+        attribute: &Attribute,
     ) -> Result<(), AllocError>
-        ensures { OnOk result (IsLineDiagnosed names.now symbols.now summary prompted (line_view line.now) self.old self.new) }
+        ensures { OnOk result (IsLineDiagnosed names.now symbols.now summary prompted (attribute_line place.entry.file.now place.entry.line attribute.now) self.old self.new) }
     {
         let warnings = &mut self.warnings;
-        match &line.statement {
-            Statement::Type(_, _)
-            | Statement::Prompt(_)
-            | Statement::Select(_, _)
-            | Statement::Imply(_, _) => {
-                warn_line(alloc, names, symbols, summary, prompted, line, warnings)
-            }
-            Statement::Config(_) => {
-                warn_line(alloc, names, symbols, summary, prompted, line, warnings)?;
-                self.look_for_member(alloc, names, symbols, summary, line)
-            }
-            Statement::Default(_, _) | Statement::Def(_, _, _) => {
-                warn_line(alloc, names, symbols, summary, prompted, line, warnings)?;
-                self.look_for_default(alloc, names, symbols, summary, line)
+        match attribute {
+            Attribute::Type(_, _)
+            | Attribute::Prompt(_)
+            | Attribute::Select(_, _)
+            | Attribute::Imply(_, _) => warn_attribute(
+                alloc, names, symbols, summary, prompted, place, attribute, warnings,
+            ),
+            Attribute::Default(_, _) | Attribute::Def(_, _, _) => {
+                warn_attribute(
+                    alloc, names, symbols, summary, prompted, place, attribute, warnings,
+                )?;
+                self.look_for_default(alloc, names, symbols, summary, place, attribute)
             }
             _ => Ok(()),
         }
@@ -463,20 +498,24 @@ impl Diagnostics {
         names: &Names,
         symbols: &[Symbol],
         summary: EntrySummary,
-        head: &Line,
-        attributes: &[Line],
+        lines: EntryLines<'_>,
     ) -> Result<(), AllocError>
-        ensures { OnOk result (AreLinesDiagnosed names.now symbols.now summary (line_view head.now) (map line_view attributes.now) self.old self.new) }
+        ensures { OnOk result (AreLinesDiagnosed names.now symbols.now summary (first_line lines.entry.first.now) (own_lines lines.entry.first.now lines.entry.attributes.now) self.old self.new) }
     {
-        if is_odd_head(&head.statement, summary, symbols) {
-            self.diagnose_line(alloc, names, symbols, summary, false, head)?;
+        let first = lines.first;
+        if is_odd_head(&first.head, summary, symbols) {
+            self.diagnose_head(alloc, names, symbols, summary, first)?;
         }
-        let mut prompted = prompt_of(&head.statement).is_some();
-        for line in attributes {
-            if is_odd_attribute(&line.statement, summary.entry, prompted, symbols) {
-                self.diagnose_line(alloc, names, symbols, summary, prompted, line)?;
+        let mut prompted = false;
+        for line in lines.attributes {
+            let attribute = &line.attribute;
+            if is_odd_attribute(attribute, summary.entry, prompted, symbols) {
+                let place = place_in(first, line.line);
+                self.diagnose_attribute(
+                    alloc, names, symbols, summary, prompted, place, attribute,
+                )?;
             }
-            prompted = prompted || prompt_of(&line.statement).is_some();
+            prompted = prompted || prompt_of(attribute).is_some();
         }
         Ok(())
     }

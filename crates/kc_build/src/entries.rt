@@ -1,27 +1,27 @@
-//! The second walk over the lines, entry by entry with the open blocks: all that they say but of symbols alone.
+//! The second walk over the entries, with the open blocks: all that they say but of symbols alone.
 
 ghost use Rattle.std.specs.Prelude.{◌≡◌, ℕ, List, ◌<◌, ◌+◌, ◌*◌, ◌^◌, length, map, IfOk, OnOk};
 ghost use Rattle.kc_expr.specs.Form.{form_of};
-ghost use Rattle.kc_read.specs.StatementViews.{line_view, statement_view};
+ghost use Rattle.kc_read.specs.Entries.{lines_in};
+ghost use Rattle.kc_read.specs.StatementViews.{head_view};
 ghost use Rattle.kc_read.specs.Statements.{Numbered, ConfigLine, IfLine, MenuLine, CommentLine, ChoiceLine, EndMenuLine};
 ghost use Rattle.kc_tree.specs.declared.rows.Symbol.{Symbol};
 ghost use Rattle.kc_build.specs.SymbolRows.{AreBelow, AreChoicesApart, AreMenusOpened, AreSymbols, IsEntrySummary, HasSymbols};
-ghost use Rattle.kc_build.specs.Passes.{statements_of};
+ghost use Rattle.kc_build.specs.Passes.{statements_in, statements_of};
 ghost use Rattle.kc_build.specs.WalkResult.{IsWalkResult, HasHeads, HasRoom, IsDiagnosed, IsSmall};
 ghost use Rattle.kc_build.specs.Stacks.{AreBlocksPlain, AreBlocksVisible, AreBlocksWithin, AreTitlesWithin, IsTopEmpty, IsPlainHead};
 ghost use Rattle.kc_tree.specs.Contexts.{IsPlain, condition_in};
 ghost use Rattle.kc_tree.specs.Layouts.{choice_facts as choice_in};
 
-use crate::attributes::{
-    add_attributes, choice_defaults, entry_context, entry_end, prompt, visible_context,
-};
+use crate::attributes::{add_attributes, choice_defaults, entry_context, prompt, visible_context};
 use crate::blocks::{BlockScope, Blocks, choice_block, if_block};
 use crate::diagnostics::{Diagnostics, EntrySummary, MenuEntry};
 use crate::reverse_lines::add_reverses;
 use crate::symbols::is_first;
 use kc_expr::expression::{Expr, SymId};
 use kc_expr::names::Names;
-use kc_read::statement::{Line, Statement};
+use kc_read::entries::{AttributeLine, Entries};
+use kc_read::statement::Head;
 use kc_tree::layout::Tables;
 use kc_tree::rows::{
     Choice, ChoiceId, ContextId, Definition, DefinitionId, ShownEntry, Symbol, Title, TitleId,
@@ -68,7 +68,7 @@ impl EntryWalk {
         &mut self,
         alloc: Global,
         symbol: SymId,
-        own: &[Line],
+        own: &[AttributeLine],
     ) -> Result<(), AllocError>
         requires { HasRoom (length own.now) self.old.tables }
         ensures { OnOk result (AddsDefinition symbol (statements_of own.now) self.old self.new) }
@@ -98,7 +98,7 @@ impl EntryWalk {
         alloc: Global,
         symbols: &[Symbol],
         symbol: SymId,
-        own: &[Line],
+        own: &[AttributeLine],
     ) -> Result<(), AllocError>
         requires room { HasRoom (length own.now) self.old.tables }
         requires heads { HasHeads symbols.now self.old.tables }
@@ -165,7 +165,12 @@ impl EntryWalk {
     }
 
     // A menu: what it asks for, all that stands in it asks for, too.
-    fn open_menu(&mut self, alloc: Global, text: &[u8], own: &[Line]) -> Result<(), AllocError>
+    fn open_menu(
+        &mut self,
+        alloc: Global,
+        text: &[u8],
+        own: &[AttributeLine],
+    ) -> Result<(), AllocError>
         requires room { HasRoom (length own.now) self.old.tables }
         ensures { OnOk result ((symbols : List Symbol) → Enters symbols (MenuLine text.now) (statements_of own.now) self.old self.new) }
     {
@@ -183,7 +188,12 @@ impl EntryWalk {
     }
 
     // A comment.
-    fn comment(&mut self, alloc: Global, text: &[u8], own: &[Line]) -> Result<(), AllocError>
+    fn comment(
+        &mut self,
+        alloc: Global,
+        text: &[u8],
+        own: &[AttributeLine],
+    ) -> Result<(), AllocError>
         requires room { HasRoom (length own.now) self.old.tables }
         ensures { OnOk result ((symbols : List Symbol) → Enters symbols (CommentLine text.now) (statements_of own.now) self.old self.new) }
     {
@@ -200,7 +210,7 @@ impl EntryWalk {
         &mut self,
         alloc: Global,
         symbols: &[Symbol],
-        own: &[Line],
+        own: &[AttributeLine],
     ) -> Result<(), AllocError>
         requires room { HasRoom (length own.now) self.old.tables }
         requires plain { IsPlain self.old.tables.contexts self.old.blocks.innermost.within.0 }
@@ -249,47 +259,46 @@ impl EntryWalk {
         &mut self,
         alloc: Global,
         symbols: &[Symbol],
-        head: &Statement,
-        own: &[Line],
+        head: &Head,
+        own: &[AttributeLine],
     ) -> Result<(), AllocError>
         requires room { HasRoom (length own.now) self.old.tables }
         requires heads { HasHeads symbols.now self.old.tables }
-        requires plain { IsPlainHead (statement_view head.now) (condition_in self.old.tables.contexts self.old.blocks.innermost.within.0).mode }
-        ensures { OnOk result (Enters symbols.now (statement_view head.now) (statements_of own.now) self.old self.new) }
+        requires plain { IsPlainHead (head_view head.now) (condition_in self.old.tables.contexts self.old.blocks.innermost.within.0).mode }
+        ensures { OnOk result (Enters symbols.now (head_view head.now) (statements_of own.now) self.old self.new) }
     {
         match head {
-            Statement::Config(symbol) => self.define(alloc, symbols, *symbol, own),
-            Statement::If(condition) => self.open_if(condition),
-            Statement::Menu(text) => self.open_menu(alloc, text, own),
-            Statement::Choice => self.open_choice(alloc, symbols, own),
-            Statement::Comment(text) => self.comment(alloc, text, own),
-            Statement::EndMenu => self.close_menu(),
-            Statement::EndIf | Statement::EndChoice => {
+            Head::Config(symbol) => self.define(alloc, symbols, *symbol, own),
+            Head::If(condition) => self.open_if(condition),
+            Head::Menu(text) => self.open_menu(alloc, text, own),
+            Head::Choice => self.open_choice(alloc, symbols, own),
+            Head::Comment(text) => self.comment(alloc, text, own),
+            Head::EndMenu => self.close_menu(),
+            Head::EndIf | Head::EndChoice => {
                 self.blocks.close();
                 Ok(())
             }
-            Statement::MainMenu(text) => {
+            Head::MainMenu(text) => {
                 self.main_menu = Vec::from_slice(alloc, text)?;
                 Ok(())
             }
-            _ => Ok(()),
         }
     }
 
     // The summary of the entry that a statement begins, before the walk goes into it.
-    fn summary_of(&self, symbols: &[Symbol], head: &Statement) -> EntrySummary
+    fn summary_of(&self, symbols: &[Symbol], head: &Head) -> EntrySummary
         requires { length self.now.tables.definitions.items < 2 ^ 32 }
-        ensures { (ss : List Numbered) (i : ℕ) (own : List Numbered) → HasSymbols ss symbols.now → IsHead ss i (statement_view head.now) own
+        ensures { (ss : List Numbered) (i : ℕ) (own : List Numbered) → HasSymbols ss symbols.now → IsHead ss i (head_view head.now) own
             → IsWalk ss symbols.now i self.now → IsEntrySummary ss i result }
     {
         let within_choice = self.tables.contexts.mode(self.blocks.innermost().within);
         match head {
-            Statement::Config(symbol) => EntrySummary {
+            Head::Config(symbol) => EntrySummary {
                 entry: MenuEntry::Symbol(*symbol),
                 first: is_first(symbols, *symbol, self.next_definition()),
                 within_choice,
             },
-            Statement::Choice => EntrySummary {
+            Head::Choice => EntrySummary {
                 entry: MenuEntry::Choice(ChoiceId(self.tables.choices.len())),
                 first: false,
                 within_choice,
@@ -314,22 +323,22 @@ pub(crate) struct WalkResult {
     pub diagnostics: Diagnostics,
 }
 
-/// What the lines say, entry by entry. The symbols are those of the first walk, of which about `count` are defined.
+/// What the entries say, one after another. The symbols are those of the first walk, of which about `count` are defined.
 pub(crate) fn walk_entries(
     alloc: Global,
     names: &Names,
-    lines: &[Line],
+    entries: &Entries,
     symbols: &[Symbol],
     count: usize,
 ) -> Result<WalkResult, AllocError>
-    requires symbols { AreSymbols (statements_of lines.now) symbols.now }
-    requires below { AreBelow (length symbols.now) (statements_of lines.now) }
-    requires apart { AreChoicesApart (statements_of lines.now) }
-    requires ends { AreMenusOpened (statements_of lines.now) }
-    requires few { 4 * length lines.now + 8 < 2 ^ 32 }
-    ensures tables { IfOk result (λ s. IsWalkResult (statements_of lines.now) symbols.now s.tables s.main_menu.items) }
-    ensures small { IfOk result (λ s. IsSmall (length lines.now) s.tables) }
-    ensures diagnosed { IfOk result (λ s. IsDiagnosed names.now (map line_view lines.now) (length lines.now) s.diagnostics) }
+    requires symbols { AreSymbols (statements_in entries.now) symbols.now }
+    requires below { AreBelow (length symbols.now) (statements_in entries.now) }
+    requires apart { AreChoicesApart (statements_in entries.now) }
+    requires ends { AreMenusOpened (statements_in entries.now) }
+    requires few { 4 * length (lines_in entries.now) + 8 < 2 ^ 32 }
+    ensures tables { IfOk result (λ s. IsWalkResult (statements_in entries.now) symbols.now s.tables s.main_menu.items) }
+    ensures small { IfOk result (λ s. IsSmall (length (lines_in entries.now)) s.tables) }
+    ensures diagnosed { IfOk result (λ s. IsDiagnosed names.now (lines_in entries.now) (length (lines_in entries.now)) s.diagnostics) }
 {
     let mut walk = EntryWalk {
         tables: Tables::empty(alloc, count, symbols.len())?,
@@ -337,15 +346,13 @@ pub(crate) fn walk_entries(
         main_menu: Vec::from_slice(alloc, b"Main menu")?,
     };
     let mut diagnostics = Diagnostics::new(alloc);
-    let mut place = 0;
-    'entries: while place < lines.len() {
-        let end = entry_end(lines, place);
-        let head = &lines[place];
-        let own = &lines[place + 1..end];
-        let summary = walk.summary_of(symbols, &head.statement);
-        diagnostics.diagnose_entry(alloc, names, symbols, summary, head, own)?;
-        walk.enter(alloc, symbols, &head.statement, own)?;
-        place = end;
+    let mut at = 0;
+    'entries: while let Some(entry) = entries.entry(at) {
+        let head = &entry.first.head;
+        let summary = walk.summary_of(symbols, head);
+        diagnostics.diagnose_entry(alloc, names, symbols, summary, entry)?;
+        walk.enter(alloc, symbols, head, entry.attributes)?;
+        at += 1;
     }
     let EntryWalk {
         tables,

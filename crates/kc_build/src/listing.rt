@@ -13,10 +13,10 @@ ghost use Rattle.kc_build.specs.Listings.{IsListing, IsListingOf};
 
 use kc_expr::expression::SymId;
 use kc_expr::names::Names;
+use kc_read::entries::Entries;
 use kc_read::expansion::{Expansion, expand};
 use kc_read::file_map::FileMap;
 use kc_read::refusal::Refusal;
-use kc_read::statement::Line;
 use std::alloc::Global;
 
 /// The lines of a root file.
@@ -28,7 +28,7 @@ pub struct Listing {
     pub defined: Vec<SymId>,
     /// The symbol with the first `modules` line, and without such a line the one named `MODULES`, where it is mentioned.
     pub modules: Option<SymId>,
-    pub lines: Vec<Line>,
+    pub entries: Entries,
 }
 
 /// What reading a root file gives: its listing, and the names of the files that were opened, each once, in the order of
@@ -56,7 +56,7 @@ fn listing_of(names: Names, expansion: Expansion) -> RootReading
     ensures opened { result.opened ≡ expansion.opened }
 {
     let Expansion {
-        lines,
+        entries,
         defined,
         modules,
         opened,
@@ -67,7 +67,7 @@ fn listing_of(names: Names, expansion: Expansion) -> RootReading
             names,
             defined: defined.into_symbols(),
             modules,
-            lines,
+            entries,
         },
         opened,
     }

@@ -10,7 +10,7 @@ use crate::attributes::shared_condition;
 use crate::lines::{ReverseKind, Target, target_of};
 use crate::symbols::{choice_of, has_text, kind_of};
 use kc_expr::expression::{Expr, SymId};
-use kc_read::statement::Line;
+use kc_read::entries::AttributeLine;
 use kc_tree::reverses::Reverses;
 use kc_tree::rows::{DefinitionId, Reverse, ReverseId, Symbol};
 use std::alloc::AllocError;
@@ -91,7 +91,7 @@ pub(crate) fn add_reverses(
     reverses: &mut Reverses,
     symbols: &[Symbol],
     source: DefinitionId,
-    attributes: &[Line],
+    attributes: &[AttributeLine],
 ) -> Result<(), AllocError>
     requires count { length reverses.old.selects.items ≡ length symbols.now }
     requires same { length reverses.old.implies.items ≡ length symbols.now }
@@ -100,7 +100,7 @@ pub(crate) fn add_reverses(
     ensures sources { KeepSources source.0 reverses.old.lines.items reverses.new.lines.items }
 {
     for line in attributes {
-        if let Some(target) = target_of(&line.statement) {
+        if let Some(target) = target_of(&line.attribute) {
             add_reverse(reverses, symbols, source, target)?;
         }
     }

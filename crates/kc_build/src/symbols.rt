@@ -1,19 +1,21 @@
-//! The first walk over the lines: of each symbol its type, its choice and its definitions.
+//! The first walk over the entries: of each symbol its type, its choice and its definitions.
 
 ghost use Rattle.std.specs.Prelude.{◌≡◌, ◌<◌, ◌+◌, ◌^◌, length, map, option_map, IfOk, OnOk};
 ghost use Rattle.std.specs.List.{filter_map};
 ghost use Rattle.kc_read.specs.Blocks.{numbers};
-ghost use Rattle.kc_read.specs.StatementViews.{statement_view};
+ghost use Rattle.kc_read.specs.Entries.{lines_in};
+ghost use Rattle.kc_read.specs.StatementViews.{head_view};
 ghost use Rattle.kc_build.specs.Facts as facts;
 ghost use Rattle.kc_build.specs.Facts.{first_of};
 ghost use Rattle.kc_build.specs.SymbolRows as symbol_rows;
 ghost use Rattle.kc_build.specs.SymbolRows.{row_view, AreSymbols, AreTypesDefined};
-ghost use Rattle.kc_build.specs.Passes.{statements_of};
+ghost use Rattle.kc_build.specs.Passes.{statements_in, statements_of};
 ghost use Rattle.kc_build.specs.SymbolWalk.{unknown, first_kind, with_definition, noted, HasFirstIfMore, HaveFirstIfMore, IsPassed, HaveMemberTypes};
 
-use crate::attributes::{entry_end, first_type};
+use crate::attributes::first_type;
 use kc_expr::expression::{Kind, SymId};
-use kc_read::statement::{Line, Statement};
+use kc_read::entries::{AttributeLine, Entries};
+use kc_read::statement::Head;
 use kc_tree::rows::{ChoiceId, DefinitionId, Symbol};
 use std::alloc::{AllocError, Global};
 
@@ -79,7 +81,7 @@ fn note_definition(
     symbols: &mut Vec<Symbol>,
     scope: &ChoiceScope,
     symbol: SymId,
-    own: &[Line],
+    own: &[AttributeLine],
 ) -> Result<(), AllocError>
     requires { HaveFirstIfMore symbols.old.items }
     ensures rows { OnOk result (map row_view symbols.new.items
@@ -93,26 +95,26 @@ fn note_definition(
     Ok(())
 }
 
-// Makes of the scope of a line that of the line after it.
-fn pass(scope: &mut ChoiceScope, statement: &Statement) -> Result<(), AllocError>
+// Makes of the scope of the line that begins an entry that of the line after it.
+fn pass(scope: &mut ChoiceScope, head: &Head) -> Result<(), AllocError>
     requires definitions { scope.old.definitions + 1 < 2 ^ 32 }
     requires choices { scope.old.choices + 1 < 2 ^ 64 }
-    ensures { OnOk result (IsPassed scope.old (statement_view statement.now) scope.new) }
+    ensures { OnOk result (IsPassed scope.old (head_view head.now) scope.new) }
 {
-    match statement {
-        Statement::Config(_) => scope.definitions += 1,
-        Statement::If(_) | Statement::Menu(_) => scope.outside.push(scope.choice)?,
-        Statement::Choice => {
+    match head {
+        Head::Config(_) => scope.definitions += 1,
+        Head::If(_) | Head::Menu(_) => scope.outside.push(scope.choice)?,
+        Head::Choice => {
             scope.outside.push(scope.choice)?;
             scope.choice = Some(ChoiceId(scope.choices));
             scope.choices += 1;
         }
-        Statement::EndIf | Statement::EndMenu | Statement::EndChoice => {
+        Head::EndIf | Head::EndMenu | Head::EndChoice => {
             if let Some(choice) = scope.outside.pop() {
                 scope.choice = choice;
             }
         }
-        _ => {}
+        Head::Comment(_) | Head::MainMenu(_) => {}
     }
     Ok(())
 }
@@ -128,16 +130,16 @@ fn give_member_types(symbols: &mut Vec<Symbol>)
     }
 }
 
-/// What the lines say of the `count` symbols that they mention: their types, their choices and their definitions.
+/// What the entries say of the `count` symbols that they mention: their types, their choices and their definitions.
 pub(crate) fn symbols(
     alloc: Global,
-    lines: &[Line],
+    entries: &Entries,
     count: usize,
 ) -> Result<Vec<Symbol>, AllocError>
-    requires few { length lines.now < 2 ^ 32 }
-    requires types { AreTypesDefined (statements_of lines.now) }
+    requires few { length (lines_in entries.now) < 2 ^ 32 }
+    requires types { AreTypesDefined (statements_in entries.now) }
     ensures count { IfOk result (λ v. length v.items ≡ count) }
-    ensures rows { IfOk result (λ v. AreSymbols (statements_of lines.now) v.items) }
+    ensures rows { IfOk result (λ v. AreSymbols (statements_in entries.now) v.items) }
 {
     let mut symbols = unknown_symbols(alloc, count)?;
     let mut scope = ChoiceScope {
@@ -146,15 +148,14 @@ pub(crate) fn symbols(
         choices: 0,
         definitions: 0,
     };
-    let mut place = 0;
-    'entries: while place < lines.len() {
-        let end = entry_end(lines, place);
-        let statement = &lines[place].statement;
-        if let Statement::Config(symbol) = statement {
-            note_definition(&mut symbols, &scope, *symbol, &lines[place + 1..end])?;
+    let mut at = 0;
+    'entries: while let Some(entry) = entries.entry(at) {
+        let head = &entry.first.head;
+        if let Head::Config(symbol) = head {
+            note_definition(&mut symbols, &scope, *symbol, entry.attributes)?;
         }
-        pass(&mut scope, statement)?;
-        place = end;
+        pass(&mut scope, head)?;
+        at += 1;
     }
     give_member_types(&mut symbols);
     Ok(symbols)

@@ -1,7 +1,6 @@
 //! A warning about a tree, and its text.
 
 ghost use Rattle.std.specs.Prelude.{◌≡◌, ◌++◌, codes, IfOk};
-ghost use Rattle.kc_read.specs.StatementViews.{line_view};
 ghost use Rattle.kc_tree.specs.Common.{name_by};
 ghost use Rattle.kc_build.specs.Warnings as spec;
 
@@ -9,7 +8,6 @@ use crate::lines::ReverseKind;
 use itoa::Buffer;
 use kc_expr::expression::SymId;
 use kc_expr::names::Names;
-use kc_read::statement::Line;
 use std::alloc::{AllocError, Global};
 
 /// What there is to warn of, about a line:
@@ -27,6 +25,13 @@ pub(crate) enum Warning {
     TextTarget(SymId, ReverseKind),
     DefaultNotMember(SymId),
     MemberTarget(SymId, ReverseKind),
+}
+
+/// Where a line stands: its file and its number.
+#[derive(Clone, Copy, Debug)]
+pub(crate) struct Place<'a> {
+    pub file: &'a [u8],
+    pub line: u32,
 }
 
 // The name of a symbol.
@@ -126,20 +131,20 @@ pub(crate) fn text_of(alloc: Global, names: &Names, warning: Warning) -> Result<
     }
 }
 
-/// The whole line of a warning, which names the file and the line that it is about.
+/// The whole line of a warning about a line at this place.
 pub(crate) fn line_of(
     alloc: Global,
     names: &Names,
-    line: &Line,
+    place: Place<'_>,
     warning: Warning,
 ) -> Result<Vec<u8>, AllocError>
-    ensures { IfOk result (λ v. v.items ≡ spec.line_of names.now (line_view line.now).file (line_view line.now).line warning) }
+    ensures { IfOk result (λ v. v.items ≡ spec.line_of names.now place.entry.file.now place.entry.line warning) }
 {
     let text = text_of(alloc, names, warning)?;
     let mut buffer = Buffer::new();
-    let mut whole = Vec::from_slice(alloc, &line.file)?;
+    let mut whole = Vec::from_slice(alloc, place.file)?;
     whole.extend_from_slice(b":")?;
-    whole.extend_from_slice(buffer.format(line.line).as_bytes())?;
+    whole.extend_from_slice(buffer.format(place.line).as_bytes())?;
     whole.extend_from_slice(b": warning ")?;
     whole.extend_from_slice(&text)?;
     Ok(whole)

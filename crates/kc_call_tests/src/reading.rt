@@ -100,7 +100,9 @@ foo $~& =>
 fn outcome_into(alloc: Global, map: &FileMap, names: &mut Names, text: &mut String) {
     match expand(alloc, map, b"Kconfig", names) {
         Ok(expansion) => {
-            let (lines, symbols) = (expansion.lines.len(), expansion.defined.count());
+            let entries = &expansion.entries;
+            let lines = entries.entries.len() + entries.attributes.len();
+            let symbols = expansion.defined.count();
             let _ = write!(text, "{lines} lines, {symbols} symbols");
         }
         Err(refusal) => refusal_into(&refusal, text),

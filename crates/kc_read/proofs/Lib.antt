@@ -1,7 +1,9 @@
 pub mod BlockLemmas
+pub mod EntryLemmas
 pub mod ExpansionThere
 pub mod FileLemmas
 pub mod FrontLemmas
+pub mod HeadLemmas
 pub mod KeywordLemmas
 pub mod LineThere
 pub mod ListLemmas

@@ -12,11 +12,14 @@ use Rattle.kc_read.specs.declared.progress.Progress.{Progress}
 use Rattle.kc_read.specs.declared.refusal.Code.TheVariants as code
 use Rattle.kc_read.specs.declared.refusal.Refusal.{Refusal}
 use Rattle.kc_read.specs.declared.statement.EntryKind.TheVariants as entry
+use Rattle.kc_read.specs.declared.statement.Attribute.{Attribute}
 use Rattle.kc_read.specs.declared.statement.Statement.{Statement}
-use Rattle.kc_read.specs.Blocks.{entry_of, last_no_attribute, last_of}
+use Rattle.kc_read.specs.declared.statement.Statement.TheVariants as made
+use Rattle.kc_read.specs.Blocks.{entry_of, is_attribute, last_no_attribute, last_of}
+use Rattle.kc_read.specs.Entries.{IsLastFile}
 use Rattle.kc_read.specs.Expansion.{FileContext, Log, Rest, refused, context_of, inside, is_help, is_source, lexemes, logged, with_file, source_cause, sourcing_cause, with_line, without_help, NextLine, NextStatement, at_end, unclosed, too_long, no_tokens, blank, bad_line, over_limit, statement, bad_source, refused_inside, source}
 use Rattle.kc_read.specs.Files.{Files}
-use Rattle.kc_read.specs.Lines.{LineContext, Cause, cause, is_config}
+use Rattle.kc_read.specs.Lines.{LineContext, Cause, cause, is_config, is_entry}
 use Rattle.kc_read.specs.Progress.{HasAdvanced, IsNextRead, IsReading, IsStatementRead, IsEnded, IsFileRead, IsOpenAtEnd, IsProgress, IsRestRefusal, IsState, IsTaken, limit_view, open_names}
 use Rattle.kc_read.specs.StatementViews.{statement_view}
 use Rattle.kc_read.specs.LineReads.{IsMade, cause_of}
@@ -28,7 +31,9 @@ use Rattle.kc_read.specs.NextStep as step
 use Rattle.kc_read.proofs.BlockLemmas as blocks
 use Rattle.kc_read.proofs.ListLemmas.{but_last, but_last-append, but_last-take, map-push}
 use Rattle.kc_read.proofs.StateLemmas.{effect_same, entry_push, frame_push, state_taken}
-use Rattle.kc_read.proofs.TurnLemmas.{enables, read_suits}
+use Rattle.kc_read.proofs.HeadLemmas.{attribute_is}
+use Rattle.kc_read.proofs.ShapeLemmas.{made_shape}
+use Rattle.kc_read.proofs.TurnLemmas.{adds, enables, read_suits}
 
 -- A line is taken from what is left of a file.
 pub next_less : (l m : UnreadLines) (ts : List TokenView) (out : Option TextFault) → NextLine l m ts out → length m.lines < length l.lines
@@ -94,18 +99,26 @@ blank_goes files first names a l m own log p f i n = record {
   follows = λ r rest. blank a l m own log r n rest;
 }
 
+-- an attribute belongs to the last entry
+pub last_is : (files : Files) (first : List (List ℕ)) (known names : List (List ℕ)) (a : FileContext) (l m : UnreadLines)
+    (own : List (Located Named)) (log : Log) (f : Frame) (p : Progress) (b : Attribute) (x : Named) → IsState first known a own log p f →
+    IsMade known names (made.Attribute b) x → NextStatement l m (context_of a own log) (Ok x) → IsLastFile p.entries f.file.value.items
+last_is files first known names a l m own log f p b x i is next =
+    let here : is_attribute x ≡ true = sym (ap (λ z. z.1) (made_shape known names (made.Attribute b) x is)) ∙ attribute_is b in
+    subst (IsLastFile p.entries) (sym i.frame.file) (i.goes_on (adds (context_of a own log) x (read_suits (context_of a own log) (lexemes next.tokens) x next.reads) here))
+
 -- a statement that is no `source` line
 pub statement_goes : (files : Files) (first : List (List ℕ)) (known names : List (List ℕ)) (a : FileContext) (l m : UnreadLines)
     (own : List (Located Named)) (log : Log) (f g : Frame) (p q : Progress) (s : Statement) (x : Named) (line : ℕ) → IsState first known a own log p f →
-    IsMade known names s x → NextStatement l m (context_of a own log) (Ok x) → line ≡ l.number → is_source x ≡ false →
+    IsMade known names s x → NextStatement l m (context_of a own log) (Ok x) → line ≡ l.number → is_source (statement_view s) ≡ false →
     IsTaken (statement_view s) line f g p q → limit_view (statement_view s) f p ≡ None → HasAdvanced files first names a l m own log q g
-statement_goes files first known names a l m own log f g p q s x line i made next e src t allowed = record {
+statement_goes files first known names a l m own log f g p q s x line i is next e src t allowed = record {
   own_now = with_line own a line x;
   log_now = logged log a line x;
-  state = state_taken first known names a own log f g p q s x line i made t
+  state = state_taken first known names a own log f g p q s x line i is t
       (enables (context_of a own log) x (read_suits (context_of a own log) (lexemes next.tokens) x next.reads));
   follows = λ r rest.
-      statement a l m own log x r next src (sym (effect_same first known names a own log f p s x i made) ∙ allowed)
+      statement a l m own log x r next (sym (ap (λ z. z.4) (made_shape known names s x is)) ∙ src) (sym (effect_same first known names a own log f p s x i is) ∙ allowed)
       (subst (λ n. Rest files a m (with_line own a n x) (logged log a n x) r) e rest);
 }
 
@@ -114,9 +127,9 @@ pub effect_refused : (files : Files) (first : List (List ℕ)) (known names : Li
     IsState first known a own log p f → IsMade known names s x → NextStatement l m (context_of a own log) (Ok x) → line ≡ l.number →
     file ≡ f.file.value.items → limit_view (statement_view s) f p ≡ Some why → refusal_view r ≡ refused why file line →
     Rest files a l own log (Err (refusal_view r))
-effect_refused files first known names a l m own log f p s x line file why r i made next e g effect v =
+effect_refused files first known names a l m own log f p s x line file why r i is next e g effect v =
     refusal_at files a l own log r why file line v (g ∙ i.frame.file) e
-    (over_limit a l m own log x why next (sym (effect_same first known names a own log f p s x i made) ∙ effect))
+    (over_limit a l m own log x why next (sym (effect_same first known names a own log f p s x i is) ∙ effect))
 
 -- a `source` line
 pub source_refused : (files : Files) (first : List (List ℕ)) (names : List (List ℕ)) (a : FileContext) (l m : UnreadLines)
@@ -141,13 +154,10 @@ inside_refused files first names a l m own log f p name bytes r i next allowed f
 
 -- no entry goes on behind a `source` line
 no_entry : (a : FileContext) (own : List (Located Named)) (n : ℕ) (name : List ℕ) →
-    is_config (entry_of (last_no_attribute (statements (with_line own a n (SourceLine name))))) ≡ true → ⊥
-no_entry a own n name e =
+    entry_of (last_no_attribute (statements (with_line own a n (SourceLine name)))) ≡ entry.Nothing
+no_entry a own n name =
     let opener : Located Named = record { file = a.file; line = n; statement = SourceLine name } in
-    let none : entry_of (last_no_attribute (statements (own ++ opener ∷ []))) ≡ entry.Nothing =
-    ap (λ l. entry_of (last_no_attribute l)) (map-push (λ l. l.statement) own opener) ∙ sym (entry_push (statements own) (SourceLine name)) in
-    let f : is_config entry.Nothing ≡ true = subst (λ k. is_config k ≡ true) none e in
-    cc
+    ap (λ l. entry_of (last_no_attribute l)) (map-push (λ l. l.statement) own opener) ∙ sym (entry_push (statements own) (SourceLine name))
 
 pub source_goes : (files : Files) (first : List (List ℕ)) (known names : List (List ℕ)) (a : FileContext) (l m : UnreadLines)
     (own : List (Located Named)) (log : Log) (f g : Frame) (p q done : Progress) (name bytes : List ℕ) (line : ℕ) → IsState first known a own log p f →
@@ -172,7 +182,8 @@ source_goes files first known names a l m own log f g p q done name bytes line i
     frame = frame_push a own f g (SourceLine name) line i.frame (ap (λ x. x.file) frame_is) (ap (λ x. x.depth) frame_is) (ap (λ x. x.in_choice) frame_is)
         (ap (λ x. x.blocks.items) frame_is) (ap (λ x. x.entry) frame_is);
     files = files_are ∙ i.files;
-    entered = λ e. absurd (no_entry a own line name e);
+    entered = λ e. absurd (let none : is_config entry.Nothing ≡ true = subst (λ k. is_config k ≡ true) (no_entry a own line name) e in cc);
+    goes_on = λ e. absurd (let none : is_entry entry.Nothing ≡ true = subst (λ k. is_entry k ≡ true) (no_entry a own line name) e in cc);
   };
   follows = λ r rest.
       source a l m own log inner.log_now name bytes r next (source_allowed files first known a own log f p name i allowed) found inner.rest

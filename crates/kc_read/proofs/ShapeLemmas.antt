@@ -6,7 +6,6 @@ use Rattle.std.specs.Option.{option_or}
 use Rattle.kc_expr.specs.Names.{symbol, number_of}
 use Rattle.kc_read.specs.declared.statement.EntryKind.{EntryKind}
 use Rattle.kc_read.specs.declared.statement.Statement.{Statement}
-use Rattle.kc_read.specs.declared.statement.Statement.TheVariants as made
 use Rattle.kc_read.specs.Blocks.{Bracket, bracket, is_attribute, is_modules, entry_of, defined_name, open_blocks}
 use Rattle.kc_read.specs.Expansion.{FileContext, Log, defined, limit_cause, nesting_cause, symbol_cause, is_source}
 use Rattle.kc_read.specs.Progress.{naming_cause}
@@ -130,31 +129,3 @@ source_is number t (RangeLine a b w) same = absurd cc
 source_is number t HelpLine same = absurd cc
 source_is number t ModulesLine same = absurd cc
 source_is number t IgnoredLine same = absurd cc
-
-no_source : (s : Statement) → ((t : Vec ℕ Global) → s ≡ made.Source t → ⊥) → is_source (statement_view s) ≡ false
-no_source (made.Config s) h = refl
-no_source (made.If e) h = refl
-no_source made.EndIf h = refl
-no_source (made.Comment t) h = refl
-no_source (made.Source t) h = absurd (h t refl)
-no_source (made.Menu t) h = refl
-no_source made.EndMenu h = refl
-no_source made.Choice h = refl
-no_source made.EndChoice h = refl
-no_source (made.MainMenu t) h = refl
-no_source (made.Type k p) h = refl
-no_source (made.Prompt p) h = refl
-no_source (made.Default v w) h = refl
-no_source (made.Def k v w) h = refl
-no_source (made.Depends e) h = refl
-no_source (made.Visible e) h = refl
-no_source (made.Select s w) h = refl
-no_source (made.Imply s w) h = refl
-no_source (made.Range b w) h = refl
-no_source made.Help h = refl
-no_source made.Modules h = refl
-no_source made.Ignored h = refl
-
-pub made_no_source : (known names : List (List ℕ)) (s : Statement) (x : Named) → IsMade known names s x →
-    ((t : Vec ℕ Global) → s ≡ made.Source t → ⊥) → is_source x ≡ false
-made_no_source known names s x m h = sym (ap (λ z. z.4) (made_shape known names s x m)) ∙ no_source s h

@@ -21,7 +21,8 @@ use Rattle.kc_text.specs.Lines.{unread_lines}
 use Rattle.kc_read.specs.Numbering.{located_numbered}
 use Rattle.kc_read.specs.Progress.{limit_view, IsEntered, IsFrame, IsSourcedFrame, IsProgress, IsState, IsTaken, IsBegun, defined_after, entry_after, ids_match, open_blocks_after}
 use Rattle.kc_read.specs.Expanded.{IsNamed}
-use Rattle.kc_read.specs.StatementViews.{line_view, statement_view}
+use Rattle.kc_read.specs.Entries.{lines_in, IsLastFile}
+use Rattle.kc_read.specs.StatementViews.{statement_view}
 use Rattle.kc_read.specs.LineReads.{IsMade}
 use Rattle.kc_read.specs.Statements.{Numbered, Located, Named, ConfigLine, names_in_statement, statements}
 use Rattle.kc_read.proofs.BlockLemmas.{blocks_of_located, located_blocks_push}
@@ -149,6 +150,7 @@ state_taken first known names a own log f g p q s x n i m t placed = record {
       subst (λ l. is_some (last_of (definitions l)) ≡ true) (sym (map-push (λ l. l.statement) log.lines (ranked a n x)))
       (entered_push (statements own) (statements log.lines) x i.entered
       (subst (λ l. is_config (entry_of (last_no_attribute l)) ≡ true) (map-push (λ l. l.statement) own (ranked a n x)) e));
+  goes_on = λ e. subst (IsLastFile q.entries) i.frame.file t.last;
 }
 
 -- the context of the next line
@@ -176,7 +178,7 @@ state_inside first names a own log f g p q name bytes total_lines i n t c =
     let fr = t.open_files.0 in
     record {
       progress = record {
-        lines = λ later e. ap (λ ls. map line_view ls.items) t.lines ∙ i.progress.lines later e;
+        lines = λ later e. ap lines_in t.entries ∙ i.progress.lines later e;
         mentions = i.progress.mentions;
         total_lines = t.total_lines_is ∙ c ∙ ap (λ k. k + lines_of bytes) i.progress.total_lines;
         opened = t.opened_is ∙ ap (λ ns. mention ns name) i.progress.opened;
@@ -199,6 +201,7 @@ state_inside first names a own log f g p q name bytes total_lines i n t c =
           ap (map (λ f. f.value.items)) t.open_files.2 ∙ map-push (λ f. f.value.items) p.open_files.items fr
           ∙ ap (λ ns. ns ++ fr.value.items ∷ []) i.files ∙ ap (λ w. a.open_files ++ w ∷ []) t.open_files.1;
       entered = λ e. absurd cc;
+      goes_on = λ e. absurd cc;
     }
 
 -- the limit that a statement passes
@@ -221,7 +224,7 @@ pub state_begun : (names : List (List ℕ)) (root bytes : List ℕ) (total_lines
     IsBegun root total_lines f p → total_lines ≡ 0 + lines_of bytes → IsState names names (root_context root) [] (with_file nothing_read root bytes) p f
 state_begun names root bytes total_lines f p b c = record {
   progress = record {
-    lines = λ later e. ap (map line_view) b.lines;
+    lines = λ later e. b.lines;
     mentions = refl;
     total_lines = b.total_lines_is ∙ c;
     opened = b.opened_is;
@@ -239,6 +242,7 @@ state_begun names root bytes total_lines f p b c = record {
   };
   files = b.open_files;
   entered = λ e. absurd cc;
+  goes_on = λ e. absurd cc;
 }
 
 pub expands_read : (files : Files) (root bytes : List ℕ) (r : Result Log Refused) → bytes_cause root 0 (files root) ≡ None → files root ≡ Some bytes →

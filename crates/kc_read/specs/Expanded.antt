@@ -7,7 +7,8 @@ use Rattle.kc_read.specs.declared.expansion.Expansion.{Expansion}
 use Rattle.kc_read.specs.Blocks.{modules_of}
 use Rattle.kc_read.specs.Expansion.{Log, defined}
 use Rattle.kc_read.specs.Numbering.{located_numbered}
-use Rattle.kc_read.specs.StatementViews.{ForLater, line_view}
+use Rattle.kc_read.specs.Entries.{lines_in}
+use Rattle.kc_read.specs.StatementViews.{ForLater}
 use Rattle.kc_read.specs.Statements.{names_in_statement, statements}
 
 -- the number of a name, where there is a name
@@ -23,7 +24,7 @@ AreNumbers names ids ns = ForLater names (λ number. ids ≡ map (λ n. symbol (
 
 -- the expanded list that was read: the names stood at first, and are names now
 pub record IsExpansion (first : List (List ℕ)) (names : List (List ℕ)) (log : Log) (e : Expansion) : Type 0 where
-  pub lines : ForLater names (λ number. map line_view e.lines.items ≡ map (located_numbered number) log.lines)
+  pub lines : ForLater names (λ number. lines_in e.entries ≡ map (located_numbered number) log.lines)
   pub mentions : names ≡ all_mentioned first (flat_map names_in_statement (statements log.lines))
   pub defined_is : AreNumbers names e.defined (defined (statements log.lines))
   pub modules_is : IsNamed names e.modules (modules_of (statements log.lines))

@@ -1,5 +1,7 @@
 -- The definitions that the contracts speak in.
 pub mod Blocks
+pub mod Entries
+pub mod EntryStarts
 pub mod Expansion
 pub mod Files
 pub mod Limits

@@ -20,10 +20,11 @@ use Rattle.kc_read.specs.declared.statement.EntryKind.TheVariants as entry
 use Rattle.kc_read.specs.declared.statement.OpenBlock.{OpenBlock}
 use Rattle.kc_read.specs.Blocks.{Bracket, Opens, Closes, NoBracket, bracket, opened, open_block_indices, last_of, last_no_attribute, entry_of, is_attribute, definitions, modules_of, defined_name, is_modules}
 use Rattle.kc_read.specs.Expansion.{FileContext, Log, Refused, Rest, defined, is_choice, refused, symbol_cause, nesting_cause}
-use Rattle.kc_read.specs.Lines.{LineContext, Cause, cause, is_config}
+use Rattle.kc_read.specs.Lines.{LineContext, Cause, cause, is_config, is_entry}
 use Rattle.kc_read.specs.Files.{Files}
 use Rattle.kc_read.specs.Numbering.{located_numbered}
-use Rattle.kc_read.specs.StatementViews.{ForLater, line_view}
+use Rattle.kc_read.specs.Entries.{lines_in, IsLastFile}
+use Rattle.kc_read.specs.StatementViews.{ForLater}
 use Rattle.kc_read.specs.Statements.{Statement, Named, Numbered, Located, names_in_statement, statements}
 use Rattle.kc_read.specs.RefusalView.{refusal_view}
 use Rattle.kc_read.specs.Expanded.{AreNumbers, IsNamed}
@@ -85,7 +86,7 @@ context_in f p = record {
 
 -- what is remembered of all files: the names stood at first, and are names now
 pub record IsProgress (first : List (List ℕ)) (names : List (List ℕ)) (log : Log) (p : Progress) : Type 0 where
-  pub lines : ForLater names (λ number. map line_view p.lines.items ≡ map (located_numbered number) log.lines)
+  pub lines : ForLater names (λ number. lines_in p.entries ≡ map (located_numbered number) log.lines)
   pub mentions : names ≡ all_mentioned first (flat_map names_in_statement (statements log.lines))
   pub total_lines : p.total_lines ≡ log.total_lines
   pub opened : p.opened ≡ log.opened
@@ -104,6 +105,8 @@ pub record IsState (first : List (List ℕ)) (names : List (List ℕ)) (a : File
   pub files : open_names p ≡ a.open_files
   -- in the entry of a `config` line some symbol is defined
   pub entered : is_config (entry_of (last_no_attribute (statements own))) ≡ true → is_some (last_of (definitions (statements log.lines))) ≡ true
+  -- the entry that goes on is the last one
+  pub goes_on : is_entry (entry_of (last_no_attribute (statements own))) ≡ true → IsLastFile p.entries a.file
 
 -- no more symbols are defined than there may be
 abbrev pub HasSymbolsWithin : Progress → Type 0
@@ -141,7 +144,7 @@ pub record IsRemembered (s : Numbered) (old new : Progress) : Type 0 where
   pub defined_is : new.defined ≡ order_after old.defined (defined_name s)
   pub config : new.config ≡ name_after old.config s
   pub modules_is : new.modules ≡ option_or old.modules (if is_modules s then old.config else None)
-  pub lines : new.lines ≡ old.lines
+  pub entries : new.entries ≡ old.entries
   pub total_lines : new.total_lines ≡ old.total_lines
   pub opened : new.opened ≡ old.opened
   pub open_files : new.open_files ≡ old.open_files
@@ -151,7 +154,8 @@ pub record IsTaken (s : Numbered) (line : ℕ) (f g : Frame) (old new : Progress
   pub defined_is : new.defined ≡ order_after old.defined (defined_name s)
   pub config : new.config ≡ name_after old.config s
   pub modules_is : new.modules ≡ option_or old.modules (if is_modules s then old.config else None)
-  pub lines : map line_view new.lines.items ≡ map line_view old.lines.items ++ record { file = f.file.value.items; line = line; statement = s } ∷ []
+  pub lines : lines_in new.entries ≡ lines_in old.entries ++ record { file = f.file.value.items; line = line; statement = s } ∷ []
+  pub last : IsLastFile new.entries f.file.value.items
   pub total_lines : new.total_lines ≡ old.total_lines
   pub opened : new.opened ≡ old.opened
   pub open_files : new.open_files ≡ old.open_files
@@ -178,7 +182,7 @@ pub record IsEntered (name : List ℕ) (total_lines : ℕ) (old new : Progress) 
   pub open_files : (f : Rc (Vec ℕ Global) Global) × (f.value.items ≡ name) × (new.open_files.items ≡ old.open_files.items ++ f ∷ [])
   pub total_lines_is : new.total_lines ≡ total_lines
   pub opened_is : new.opened ≡ mention old.opened name
-  pub lines : new.lines ≡ old.lines
+  pub entries : new.entries ≡ old.entries
   pub defined_is : new.defined ≡ old.defined
   pub config : new.config ≡ old.config
   pub modules_is : new.modules ≡ old.modules
@@ -230,7 +234,7 @@ pub record IsBegun (root : List ℕ) (total_lines : ℕ) (f : Frame) (p : Progre
   pub in_choice : f.in_choice ≡ false
   pub blocks : f.blocks.items ≡ []
   pub entry : f.entry ≡ entry.Nothing
-  pub lines : p.lines.items ≡ []
+  pub lines : lines_in p.entries ≡ []
   pub total_lines_is : p.total_lines ≡ total_lines
   pub opened_is : p.opened ≡ root ∷ []
   pub defined_is : p.defined ≡ []
@@ -241,10 +245,10 @@ pub record IsBegun (root : List ℕ) (total_lines : ℕ) (f : Frame) (p : Progre
 -- what a `config` line leaves as it was
 abbrev pub KeepsWhenDefining : Progress → Progress → Type 0
 KeepsWhenDefining old new =
-    (new.lines ≡ old.lines) × (new.total_lines ≡ old.total_lines) × (new.modules ≡ old.modules) × (new.opened ≡ old.opened) × (new.open_files ≡ old.open_files)
+    (new.entries ≡ old.entries) × (new.total_lines ≡ old.total_lines) × (new.modules ≡ old.modules) × (new.opened ≡ old.opened) × (new.open_files ≡ old.open_files)
 
 -- what a `modules` line leaves as it was
 abbrev pub KeepsWhenMarking : Progress → Progress → Type 0
 KeepsWhenMarking old new =
-    (new.lines ≡ old.lines) × (new.total_lines ≡ old.total_lines) × (new.defined ≡ old.defined) × (new.config ≡ old.config) × (new.opened ≡ old.opened)
+    (new.entries ≡ old.entries) × (new.total_lines ≡ old.total_lines) × (new.defined ≡ old.defined) × (new.config ≡ old.config) × (new.opened ≡ old.opened)
     × (new.open_files ≡ old.open_files)

@@ -10,25 +10,26 @@ ghost use Rattle.kc_read.specs.Expanded.{IsExpansion};
 ghost use Rattle.kc_read.specs.RefusalView.{IsMemory, refusal_view};
 ghost use Rattle.kc_read.specs.declared.refusal.Code.TheVariants.{Memory};
 
+use crate::entries::Entries;
 use crate::file_map::FileMap;
 use crate::files::{Reader, open, read_file};
 use crate::frame::Frame;
 use crate::progress::Progress;
 use crate::refusal::Refusal;
 use crate::refuse::refuse;
-use crate::statement::{EntryKind, Line, LineFault};
+use crate::statement::{EntryKind, LineFault};
 use kc_expr::expression::SymId;
 use kc_expr::names::Names;
 use kc_expr::order::SymbolOrder;
 use std::alloc::Global;
 use std::rc::Rc;
 
-/// The expanded list of a root file: its lines, the defined symbols in order of their first definition, the symbol
+/// The expanded list of a root file: its entries, the defined symbols in order of their first definition, the symbol
 /// in whose entry the first `modules` line stands, and the names of the files that were opened, each once, in the order of
 /// their first opening.
 #[derive(Drop)]
 pub struct Expansion {
-    pub lines: Vec<Line>,
+    pub entries: Entries,
     pub defined: SymbolOrder,
     pub modules: Option<SymId>,
     pub opened: Names,
@@ -60,7 +61,7 @@ fn begin(
         entry: EntryKind::Nothing,
     };
     let progress = Progress {
-        lines: Vec::new(alloc),
+        entries: Entries::new(alloc),
         total_lines,
         defined: SymbolOrder::new(alloc),
         config: None,
@@ -105,7 +106,7 @@ pub fn expand(
     let reader = Reader { alloc, map };
     read_file(&reader, bytes, frame, &mut progress, names)?;
     Ok(Expansion {
-        lines: progress.lines,
+        entries: progress.entries,
         defined: progress.defined,
         modules: progress.modules,
         opened: progress.opened,

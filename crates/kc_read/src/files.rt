@@ -10,7 +10,9 @@ ghost use Rattle.kc_read.specs.Expansion as spec;
 ghost use Rattle.kc_read.specs.Expansion.{FileContext, Log, NextStatement, sourcing_cause};
 ghost use Rattle.kc_read.specs.Files.{bytes_in};
 ghost use Rattle.kc_read.specs.Progress.{IsBounded, IsEntered, IsSourcedFrame, IsNextRead, IsOpenAtEnd, IsReading, IsShallow, IsState, IsStatementRead, IsTaken, limit_view, open_names};
-ghost use Rattle.kc_read.specs.StatementViews.{statement_view};
+ghost use Rattle.kc_read.specs.Entries.{IsLastFile};
+ghost use Rattle.kc_read.specs.StatementViews.{attribute_view, head_view};
+ghost use Rattle.kc_read.specs.declared.frame.Frame.{Frame};
 ghost use Rattle.kc_read.specs.LineReads.{IsFault, IsMade, cause_of};
 ghost use Rattle.kc_read.specs.Statements.{Located, Named, SourceLine};
 ghost use Rattle.kc_read.specs.RefusalView.{IsMemory, refusal_view};
@@ -21,12 +23,12 @@ use crate::progress::Progress;
 use crate::reader::Position;
 use crate::refusal::{Code, Refusal};
 use crate::refuse::refuse;
-use crate::statement::{EntryKind, Line, LineFault, Statement};
+use crate::statement::{Attribute, EntryKind, Head, LineFault, Statement};
 use crate::step::{Step, next_step};
 use kc_expr::expression::SymId;
 use kc_expr::names::Names;
 use kc_text::{LogicalLines, Token, line_count};
-use std::alloc::Global;
+use std::alloc::{AllocError, Global};
 use std::rc::Rc;
 
 /// The most physical lines that the files of a tree may have, each file counted as often as it is opened (our own limit).
@@ -112,44 +114,54 @@ fn open_source<'a, 'b>(
     open(map, name, progress.total_lines)
 }
 
-// Takes a statement that is no `source` line.
-fn take(
-    statement: Statement,
+// Takes the line that begins an entry.
+fn take_head(
+    head: Head,
     line: u32,
     frame: &mut Frame,
     progress: &mut Progress,
 ) -> Result<(), LineFault<'static>>
     requires shallow { IsShallow frame.old }
     requires bounded { IsBounded progress.old }
-    ensures taken { OnOk result (IsTaken (statement_view statement) line frame.old frame.new progress.old progress.new) }
+    ensures taken { OnOk result (IsTaken (head_view head) line frame.old frame.new progress.old progress.new) }
     ensures shallow { OnOk result (IsShallow frame.new) }
     ensures file { frame.new.file ≡ frame.old.file }
     ensures bounded { OnOk result (IsBounded progress.new) }
-    ensures allowed { OnOk result (limit_view (statement_view statement) frame.old progress.old ≡ None) }
-    ensures fault { IfErr result (λ f. IsFault f (λ c. limit_view (statement_view statement) frame.old progress.old ≡ Some c)) }
+    ensures allowed { OnOk result (limit_view (head_view head) frame.old progress.old ≡ None) }
+    ensures fault { IfErr result (λ f. IsFault f (λ c. limit_view (head_view head) frame.old progress.old ≡ Some c)) }
 {
-    // Each early end drops the statement by a call: `?` would write out the drop of every kind of statement at each.
-    if let Err(fault) = progress.remember(&statement) {
-        drop(statement);
+    // Each early end drops the line by a call: `?` would write out the drop of every kind of line at each.
+    if let Err(fault) = progress.remember(&head) {
+        drop(head);
         return Err(fault);
     }
-    if let Err(fault) = frame.take(&statement, line) {
-        drop(statement);
+    if let Err(fault) = frame.take(&head, line) {
+        drop(head);
         return Err(fault);
     }
     match frame.file.clone() {
-        Ok(file) => Ok(
-            progress.lines.push(Line {
-                file,
-                line,
-                statement,
-            })?,
-        ),
+        Ok(file) => Ok(progress.entries.begin(file, line, head)?),
         Err(error) => {
-            drop(statement);
+            drop(head);
             Err(LineFault::from(error))
         }
     }
+}
+
+// Takes an attribute of the entry that goes on.
+fn take_attribute(
+    attribute: Attribute,
+    line: u32,
+    progress: &mut Progress,
+) -> Result<(), AllocError>
+    requires { IsBounded progress.old }
+    ensures open { progress.new.open_files ≡ progress.old.open_files }
+    ensures taken { OnOk result ((f : Frame) → IsLastFile progress.old.entries f.file.value.items → IsTaken (attribute_view attribute) line f f progress.old progress.new) }
+    ensures bounded { OnOk result (IsBounded progress.new) }
+{
+    progress.remember_attribute(&attribute);
+    progress.entries.add(line, attribute)?;
+    Ok(())
 }
 
 // What is known inside a file that is opened in another one.
@@ -302,9 +314,13 @@ fn read_statement(
 {
     match statement {
         Statement::Source(name) => source(reader, name, line, frame, progress, names),
-        other => match take(other, line, frame, progress) {
+        Statement::Head(head) => match take_head(head, line, frame, progress) {
             Ok(()) => Ok(()),
             Err(fault) => Err(refuse(reader.alloc, fault, &frame.file, line)),
+        },
+        Statement::Attribute(attribute) => match take_attribute(attribute, line, progress) {
+            Ok(()) => Ok(()),
+            Err(_) => Err(Refusal::out_of_memory(reader.alloc)),
         },
     }
 }

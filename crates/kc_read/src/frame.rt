@@ -4,12 +4,12 @@ ghost use Rattle.std.specs.Prelude.{◌≡◌, ◌+◌, ◌||◌, IfErr, OnOk, N
 ghost use Rattle.std.specs.List.{list_any};
 ghost use Rattle.kc_read.specs.Blocks as blocks;
 ghost use Rattle.kc_read.specs.Expansion as expansion;
-ghost use Rattle.kc_read.specs.Progress.{IsShallow, is_closer, open_blocks_after, entry_after};
-ghost use Rattle.kc_read.specs.StatementViews.{statement_view};
+ghost use Rattle.kc_read.specs.Progress.{IsShallow, is_closer, open_blocks_after};
+ghost use Rattle.kc_read.specs.StatementViews.{head_view};
 ghost use Rattle.kc_read.specs.LineReads.{IsFault};
 
 use crate::refusal::Code;
-use crate::statement::{Block, EntryKind, LineFault, OpenBlock, Statement};
+use crate::statement::{Block, EntryKind, Head, LineFault, OpenBlock};
 use std::rc::Rc;
 
 // The most blocks that may be open at once.
@@ -26,44 +26,36 @@ pub(crate) struct Frame {
     pub entry: EntryKind,
 }
 
-// The block that a statement opens.
-fn opened(statement: &Statement) -> Option<Block>
-    ensures { result ≡ blocks.opened (blocks.bracket (statement_view statement.now)) }
+// The block that a line opens.
+fn opened(head: &Head) -> Option<Block>
+    ensures { result ≡ blocks.opened (blocks.bracket (head_view head.now)) }
 {
-    match statement {
-        Statement::If(_) => Some(Block::If),
-        Statement::Menu(_) => Some(Block::Menu),
-        Statement::Choice => Some(Block::Choice),
+    match head {
+        Head::If(_) => Some(Block::If),
+        Head::Menu(_) => Some(Block::Menu),
+        Head::Choice => Some(Block::Choice),
         _ => None,
     }
 }
 
-// Whether a statement closes a block.
-fn is_closer(statement: &Statement) -> bool
-    ensures { result ≡ is_closer (blocks.bracket (statement_view statement.now)) }
+// Whether a line closes a block.
+fn is_closer(head: &Head) -> bool
+    ensures { result ≡ is_closer (blocks.bracket (head_view head.now)) }
 {
-    matches!(
-        statement,
-        Statement::EndIf | Statement::EndMenu | Statement::EndChoice
-    )
+    matches!(head, Head::EndIf | Head::EndMenu | Head::EndChoice)
 }
 
-// The entry after one more statement.
-fn entry_after(entry: EntryKind, statement: &Statement) -> EntryKind
-    ensures { result ≡ entry_after entry (statement_view statement.now) }
+// The entry that a line begins.
+fn entry_of(head: &Head) -> EntryKind
+    ensures { result ≡ blocks.entry_of (Some (head_view head.now)) }
 {
-    match statement {
-        Statement::Config(_) => EntryKind::Config,
-        Statement::Choice => EntryKind::Choice,
-        Statement::Menu(_) => EntryKind::Menu,
-        Statement::Comment(_) => EntryKind::Comment,
-        Statement::If(_)
-        | Statement::EndIf
-        | Statement::Source(_)
-        | Statement::EndMenu
-        | Statement::EndChoice
-        | Statement::MainMenu(_) => EntryKind::Nothing,
-        _ => entry,
+    match head {
+        Head::Config(_) => EntryKind::Config,
+        Head::Choice => EntryKind::Choice,
+        Head::Menu(_) => EntryKind::Menu,
+        Head::Comment(_) => EntryKind::Comment,
+        Head::If(_) | Head::EndIf | Head::EndMenu | Head::EndChoice | Head::MainMenu(_) =>
+            EntryKind::Nothing,
     }
 }
 
@@ -98,21 +90,18 @@ impl Frame {
         self.innermost().map(|opener| opener.block)
     }
 
-    /// Takes a statement: a block is opened or closed, and the entry goes on or ends. The 65th open block is refused.
-    pub(crate) fn take(
-        &mut self,
-        statement: &Statement,
-        line: u32,
-    ) -> Result<(), LineFault<'static>>
+    /// Takes the line that begins an entry: a block is opened or closed, and another entry goes on. The 65th open block is
+    /// refused.
+    pub(crate) fn take(&mut self, head: &Head, line: u32) -> Result<(), LineFault<'static>>
         requires { IsShallow self.old }
-        ensures blocks { OnOk result (self.new.blocks.items ≡ open_blocks_after (blocks.bracket (statement_view statement.now)) line self.old.blocks.items) }
-        ensures entry { OnOk result (self.new.entry ≡ entry_after self.old.entry (statement_view statement.now)) }
+        ensures blocks { OnOk result (self.new.blocks.items ≡ open_blocks_after (blocks.bracket (head_view head.now)) line self.old.blocks.items) }
+        ensures entry { OnOk result (self.new.entry ≡ blocks.entry_of (Some (head_view head.now))) }
         ensures kept { (self.new.file ≡ self.old.file) × (self.new.depth ≡ self.old.depth) × (self.new.in_choice ≡ self.old.in_choice) }
         ensures shallow { IsShallow self.new }
-        ensures allowed { OnOk result (expansion.nesting_cause (self.old.depth + length self.old.blocks.items) (blocks.bracket (statement_view statement.now)) ≡ None) }
-        ensures fault { IfErr result (λ f. IsFault f (λ c. expansion.nesting_cause (self.old.depth + length self.old.blocks.items) (blocks.bracket (statement_view statement.now)) ≡ Some c)) }
+        ensures allowed { OnOk result (expansion.nesting_cause (self.old.depth + length self.old.blocks.items) (blocks.bracket (head_view head.now)) ≡ None) }
+        ensures fault { IfErr result (λ f. IsFault f (λ c. expansion.nesting_cause (self.old.depth + length self.old.blocks.items) (blocks.bracket (head_view head.now)) ≡ Some c)) }
     {
-        if let Some(block) = opened(statement) {
+        if let Some(block) = opened(head) {
             if self.depth + self.blocks.len() >= MOST_BLOCKS {
                 return Err(LineFault {
                     code: Code::TooDeep,
@@ -121,10 +110,10 @@ impl Frame {
             }
             self.blocks.push(OpenBlock { block, line })?;
         }
-        if is_closer(statement) {
+        if is_closer(head) {
             self.blocks.pop();
         }
-        self.entry = entry_after(self.entry, statement);
+        self.entry = entry_of(head);
         Ok(())
     }
 }

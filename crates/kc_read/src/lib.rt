@@ -1,6 +1,7 @@
 //! Reading Kconfig files: the statements of a file and of the files that it sources.
 #![tactic(auto)]
 
+pub mod entries;
 pub mod expansion;
 pub mod file_map;
 mod files;
@@ -22,4 +23,3 @@ pub use file_map::FileMap;
 pub use files::MOST_LINES;
 pub use refusal::{Code, Refusal};
 pub use sources::sources_of;
-pub use statement::Line;

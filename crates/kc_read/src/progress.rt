@@ -4,12 +4,13 @@ ghost use Rattle.std.specs.Prelude.{◌≡◌, IfErr, OnOk, None, Some};
 ghost use Rattle.std.specs.Option.{option_or};
 ghost use Rattle.kc_expr.specs.Order.{added};
 ghost use Rattle.kc_read.specs.Progress.{defining_cause, ids_match, HasSymbolsWithin, IsRemembered, symbol_limit_cause, KeepsWhenDefining, KeepsWhenMarking};
-ghost use Rattle.kc_read.specs.StatementViews.{statement_view};
+ghost use Rattle.kc_read.specs.StatementViews.{attribute_view, head_view};
 ghost use Rattle.kc_read.specs.LineReads.{IsFault};
 ghost use Rattle.kc_read.specs.Blocks.{defined_name};
 
+use crate::entries::Entries;
 use crate::refusal::Code;
-use crate::statement::{Line, LineFault, Statement};
+use crate::statement::{Attribute, Head, LineFault};
 use kc_expr::expression::SymId;
 use kc_expr::names::Names;
 use kc_expr::order::SymbolOrder;
@@ -18,12 +19,12 @@ use std::rc::Rc;
 // The most symbols that may be defined.
 const MOST_SYMBOLS: usize = 65535;
 
-/// What is remembered of all files read so far: their lines, the sum of their physical lines, the defined symbols in
+/// What is remembered of all files read so far: their entries, the sum of their physical lines, the defined symbols in
 /// order of their first definition, the symbol defined last, the symbol of the first `modules` line, the names of all files
 /// that were opened, in the order of their first opening, and the files that are open now, the innermost last.
 #[derive(Drop)]
 pub(crate) struct Progress {
-    pub lines: Vec<Line>,
+    pub entries: Entries,
     pub total_lines: usize,
     pub defined: SymbolOrder,
     pub config: Option<SymId>,
@@ -75,22 +76,27 @@ impl Progress {
         }
     }
 
-    /// Remembers a statement: a config line defines its symbol, of which the 65,536th is refused, and the first `modules`
-    /// line is remembered.
-    pub(crate) fn remember(&mut self, statement: &Statement) -> Result<(), LineFault<'static>>
+    /// Remembers the line that begins an entry: a config line defines its symbol, of which the 65,536th is refused.
+    pub(crate) fn remember(&mut self, head: &Head) -> Result<(), LineFault<'static>>
         requires { HasSymbolsWithin self.old }
-        ensures remembered { OnOk result (IsRemembered (statement_view statement.now) self.old self.new) }
+        ensures remembered { OnOk result (IsRemembered (head_view head.now) self.old self.new) }
         ensures within { OnOk result (HasSymbolsWithin self.new) }
-        ensures allowed { OnOk result (defining_cause self.old.defined (defined_name (statement_view statement.now)) ≡ None) }
-        ensures fault { IfErr result (λ f. IsFault f (λ c. defining_cause self.old.defined (defined_name (statement_view statement.now)) ≡ Some c)) }
+        ensures allowed { OnOk result (defining_cause self.old.defined (defined_name (head_view head.now)) ≡ None) }
+        ensures fault { IfErr result (λ f. IsFault f (λ c. defining_cause self.old.defined (defined_name (head_view head.now)) ≡ Some c)) }
     {
-        match statement {
-            Statement::Config(id) => self.define(*id),
-            Statement::Modules => {
-                self.note_modules();
-                Ok(())
-            }
+        match head {
+            Head::Config(id) => self.define(*id),
             _ => Ok(()),
+        }
+    }
+
+    /// Remembers an attribute: the first `modules` line is remembered.
+    pub(crate) fn remember_attribute(&mut self, attribute: &Attribute)
+        ensures { IsRemembered (attribute_view attribute.now) self.old self.new }
+    {
+        match attribute {
+            Attribute::Modules => self.note_modules(),
+            _ => {}
         }
     }
 }

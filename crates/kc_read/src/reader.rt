@@ -18,7 +18,7 @@ use crate::line_parts::{
 use crate::placement::{left_out, placement_fault};
 use crate::progress::Progress;
 use crate::refusal::Code;
-use crate::statement::{Bounds, Keyword, LineFault, Prompt, Statement};
+use crate::statement::{Attribute, Bounds, Head, Keyword, LineFault, Prompt, Statement};
 use kc_expr::expression::{Kind, SymId};
 use kc_expr::names::Names;
 use kc_text::Token;
@@ -46,7 +46,7 @@ fn config_line<'a>(tokens: &[Token<'a>], names: &mut Names) -> Result<Statement,
         });
     }
     let id = name_number(names, word)?;
-    Ok(Statement::Config(id))
+    Ok(Statement::Head(Head::Config(id)))
 }
 
 fn if_line<'a>(
@@ -59,7 +59,7 @@ fn if_line<'a>(
     ensures names { Extends names.old names.new }
 {
     let when = whole(alloc, tokens, 1, names)?;
-    Ok(Statement::If(when))
+    Ok(Statement::Head(Head::If(when)))
 }
 
 fn comment_line<'a>(alloc: Global, tokens: &[Token<'a>]) -> Result<Statement, LineFault<'a>>
@@ -67,7 +67,7 @@ fn comment_line<'a>(alloc: Global, tokens: &[Token<'a>]) -> Result<Statement, Li
 {
     let text = text_at(alloc, tokens, 1)?;
     end(tokens, 2)?;
-    Ok(Statement::Comment(text))
+    Ok(Statement::Head(Head::Comment(Box::new(alloc, text)?)))
 }
 
 /// The name in a `source` line.
@@ -101,7 +101,7 @@ fn default_line<'a>(
 {
     let (value, after) = front(alloc, tokens, 1, false, names)?;
     let when = condition(alloc, tokens, after, names)?;
-    Ok(Statement::Default(Rc::new(alloc, value)?, when))
+    Ok(Statement::Attribute(Attribute::Default(Rc::new(alloc, value)?, when)))
 }
 
 fn prompt_line<'a>(
@@ -115,7 +115,7 @@ fn prompt_line<'a>(
     // The text is not kept.
     raw_text(tokens, 1)?;
     let when = condition(alloc, tokens, 2, names)?;
-    Ok(Statement::Prompt(Prompt { when }))
+    Ok(Statement::Attribute(Attribute::Prompt(Prompt { when })))
 }
 
 fn depends_line<'a>(
@@ -130,7 +130,7 @@ fn depends_line<'a>(
         return Err(syntax());
     }
     let when = whole(alloc, tokens, 2, names)?;
-    Ok(Statement::Depends(when))
+    Ok(Statement::Attribute(Attribute::Depends(when)))
 }
 
 fn end_line<'a>(tokens: &[Token<'a>], statement: Statement) -> Result<Statement, LineFault<'a>>
@@ -149,7 +149,7 @@ fn choice_line<'a>(tokens: &[Token<'a>]) -> Result<Statement, LineFault<'a>>
 {
     match next(tokens, 1) {
         Some(_) => Err(left_out(b"named choice")),
-        None => Ok(Statement::Choice),
+        None => Ok(Statement::Head(Head::Choice)),
     }
 }
 
@@ -164,7 +164,7 @@ fn select_line<'a>(
     let word = target_at(tokens, 1)?;
     let id = name_number(names, word)?;
     let when = condition(alloc, tokens, 2, names)?;
-    Ok(Statement::Select(id, when))
+    Ok(Statement::Attribute(Attribute::Select(id, when)))
 }
 
 fn range_line<'a>(
@@ -179,7 +179,7 @@ fn range_line<'a>(
     let high = operand_at(alloc, tokens, 2, names)?;
     let when = condition(alloc, tokens, 3, names)?;
     let bounds = Box::new(alloc, Bounds { low, high })?;
-    Ok(Statement::Range(bounds, when))
+    Ok(Statement::Attribute(Attribute::Range(bounds, when)))
 }
 
 fn option_line<'a>(tokens: &[Token<'a>]) -> Result<Statement, LineFault<'a>>
@@ -187,11 +187,11 @@ fn option_line<'a>(tokens: &[Token<'a>]) -> Result<Statement, LineFault<'a>>
 {
     if begins_with(tokens, 1, b"modules") {
         end(tokens, 2)?;
-        return Ok(Statement::Modules);
+        return Ok(Statement::Attribute(Attribute::Modules));
     }
     if begins_with(tokens, 1, b"allnoconfig_y") {
         end(tokens, 2)?;
-        return Ok(Statement::Ignored);
+        return Ok(Statement::Attribute(Attribute::Ignored));
     }
     if begins_with(tokens, 1, b"env") {
         return Err(left_out(b"option env"));
@@ -207,7 +207,7 @@ fn menu_line<'a>(alloc: Global, tokens: &[Token<'a>]) -> Result<Statement, LineF
 {
     let text = text_at(alloc, tokens, 1)?;
     end(tokens, 2)?;
-    Ok(Statement::Menu(text))
+    Ok(Statement::Head(Head::Menu(Box::new(alloc, text)?)))
 }
 
 fn main_menu_line<'a>(alloc: Global, tokens: &[Token<'a>]) -> Result<Statement, LineFault<'a>>
@@ -215,7 +215,7 @@ fn main_menu_line<'a>(alloc: Global, tokens: &[Token<'a>]) -> Result<Statement, 
 {
     let text = text_at(alloc, tokens, 1)?;
     end(tokens, 2)?;
-    Ok(Statement::MainMenu(text))
+    Ok(Statement::Head(Head::MainMenu(Box::new(alloc, text)?)))
 }
 
 fn imply_line<'a>(
@@ -229,7 +229,7 @@ fn imply_line<'a>(
     let word = target_at(tokens, 1)?;
     let id = name_number(names, word)?;
     let when = condition(alloc, tokens, 2, names)?;
-    Ok(Statement::Imply(id, when))
+    Ok(Statement::Attribute(Attribute::Imply(id, when)))
 }
 
 fn visible_line<'a>(
@@ -244,7 +244,7 @@ fn visible_line<'a>(
         return Err(syntax());
     }
     let when = whole(alloc, tokens, 2, names)?;
-    Ok(Statement::Visible(when))
+    Ok(Statement::Attribute(Attribute::Visible(when)))
 }
 
 fn def_line<'a>(
@@ -259,7 +259,7 @@ fn def_line<'a>(
 {
     let (value, after) = front(alloc, tokens, 1, false, names)?;
     let when = condition(alloc, tokens, after, names)?;
-    Ok(Statement::Def(kind, Rc::new(alloc, value)?, when))
+    Ok(Statement::Attribute(Attribute::Def(kind, Rc::new(alloc, value)?, when)))
 }
 
 fn prompted_type<'a>(
@@ -274,7 +274,7 @@ fn prompted_type<'a>(
     // The text is not kept.
     raw_text(tokens, 1)?;
     let when = condition(alloc, tokens, 2, names)?;
-    Ok(Statement::Type(kind, Some(Prompt { when })))
+    Ok(Statement::Attribute(Attribute::Type(kind, Some(Prompt { when }))))
 }
 
 fn type_line<'a>(
@@ -288,7 +288,7 @@ fn type_line<'a>(
 {
     match next(tokens, 1) {
         Some(_) => prompted_type(alloc, tokens, kind, names),
-        None => Ok(Statement::Type(kind, None)),
+        None => Ok(Statement::Attribute(Attribute::Type(kind, None))),
     }
 }
 
@@ -307,13 +307,13 @@ fn rest_of_line<'a>(
     match keyword {
         Keyword::Config => config_line(tokens, names),
         Keyword::If => if_line(alloc, tokens, names),
-        Keyword::EndIf => end_line(tokens, Statement::EndIf),
+        Keyword::EndIf => end_line(tokens, Statement::Head(Head::EndIf)),
         Keyword::Comment => comment_line(alloc, tokens),
         Keyword::Source => source_line(alloc, tokens),
         Keyword::Menu => menu_line(alloc, tokens),
-        Keyword::EndMenu => end_line(tokens, Statement::EndMenu),
+        Keyword::EndMenu => end_line(tokens, Statement::Head(Head::EndMenu)),
         Keyword::Choice => choice_line(tokens),
-        Keyword::EndChoice => end_line(tokens, Statement::EndChoice),
+        Keyword::EndChoice => end_line(tokens, Statement::Head(Head::EndChoice)),
         Keyword::MainMenu => main_menu_line(alloc, tokens),
         Keyword::Type(kind) => type_line(alloc, tokens, kind, names),
         Keyword::Prompt => prompt_line(alloc, tokens, names),
@@ -324,8 +324,8 @@ fn rest_of_line<'a>(
         Keyword::Select => select_line(alloc, tokens, names),
         Keyword::Imply => imply_line(alloc, tokens, names),
         Keyword::Range => range_line(alloc, tokens, names),
-        Keyword::Help => end_line(tokens, Statement::Help),
-        Keyword::Modules => end_line(tokens, Statement::Modules),
+        Keyword::Help => end_line(tokens, Statement::Attribute(Attribute::Help)),
+        Keyword::Modules => end_line(tokens, Statement::Attribute(Attribute::Modules)),
         Keyword::Option => option_line(tokens),
         Keyword::LeftOut => Err(left_out(word)),
     }

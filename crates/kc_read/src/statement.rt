@@ -1,4 +1,4 @@
-//! The statement of a line, and where it stands.
+//! The statement of a line.
 
 ghost use Rattle.std.specs.Prelude.{◌≡◌};
 ghost use Rattle.kc_read.specs.declared.refusal.Code.TheVariants.{Memory};
@@ -23,21 +23,25 @@ pub struct Bounds {
     pub high: Operand,
 }
 
-/// A line's statement (the kernel's kconfig-language document, "Menu entries" and "Menu attributes"). Expressions
-/// and what few lines have are apart, so that a list of lines stays small; a condition is shared with what is made of the
-/// line.
+/// The line that begins an entry, or that opens or closes a block (the kernel's kconfig-language document, "Menu entries").
+/// Texts are boxed, since few entries have one, so that a list of entries stays small.
 #[derive(Debug, Drop)]
-pub enum Statement {
+pub enum Head {
     Config(SymId),
     If(Rc<Expr>),
     EndIf,
-    Comment(Vec<u8>),
-    Source(Vec<u8>),
-    Menu(Vec<u8>),
+    Comment(Box<Vec<u8>>),
+    Menu(Box<Vec<u8>>),
     EndMenu,
     Choice,
     EndChoice,
-    MainMenu(Vec<u8>),
+    MainMenu(Box<Vec<u8>>),
+}
+
+/// A further line of an entry (the kernel's kconfig-language document, "Menu attributes"). Expressions and what few lines have
+/// are apart, so that a list of lines stays small; a condition is shared with what is made of the line.
+#[derive(Debug, Drop)]
+pub enum Attribute {
     Type(Kind, Option<Prompt>),
     Prompt(Prompt),
     Default(Rc<Expr>, Option<Rc<Expr>>),
@@ -52,12 +56,12 @@ pub enum Statement {
     Ignored,
 }
 
-/// A statement and where it stands: its file and the number of its line.
+/// A line's statement: a line of the expanded list, or one that stands for the lines of another file.
 #[derive(Debug, Drop)]
-pub struct Line {
-    pub file: Rc<Vec<u8>>,
-    pub line: u32,
-    pub statement: Statement,
+pub enum Statement {
+    Head(Head),
+    Attribute(Attribute),
+    Source(Vec<u8>),
 }
 
 /// What a first word says (the kernel's kconfig-language document).

@@ -1,7 +1,7 @@
 use Rattle.std.proofs.Common.{◌∙◌, ap, sym, map, refl}
 use Rattle.kc_expr.specs.declared.expression.Expr.{Expr}
 use Rattle.kc_expr.specs.Form.{form_of}
-use Rattle.kc_read.specs.StatementViews.{statement_view}
+use Rattle.kc_read.specs.StatementViews.{attribute_view}
 use Rattle.kc_tree.specs.declared.rows.ChoiceDefault.{ChoiceDefault}
 use Rattle.kc_build.specs.EntryLines.{choice_default_line, member_line}
 use Rattle.kc_build.specs.Facts.{single_symbol}
@@ -20,7 +20,7 @@ loop-line-preserved c =
     let k = c.args.choice.0 in
     let ls = c.args.attributes.now in
     let i = c.loop-line.line-index in
-    let s = statement_view c.line-item.result.statement in
+    let s = attribute_view c.line-item.result.attribute in
     let now = c.loop-line.defaults.items in
     elim c.match-stated_default.branch [
       | in-Some+in-Some-single_symbol+then-is_member+in_ok-when+in_ok-push w ↦

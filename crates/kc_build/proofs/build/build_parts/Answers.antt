@@ -4,14 +4,14 @@ use Rattle.kc_expr.specs.Order.{stands_in}
 use Rattle.kc_build.specs.Facts.{defined_symbols}
 use Rattle.kc_build.specs.Trees.{symbol_if}
 use Rattle.kc_tree.specs.declared.rows.Symbol.{Symbol}
-use Rattle.kc_build.specs.Passes.{statements_of}
+use Rattle.kc_build.specs.Passes.{statements_in}
 use Rattle.kc_build.specs.WalkResult.{IsWalkResult}
 use Rattle.kc_build.proofs.PartsLemmas.{refused-is, whole}
 use Rattle.kc_build.proofs.build.build_parts.Goals as goal
 
 pub returns-in-Err : goal.returns-in-Err
 returns-in-Err c =
-    refused-is c.args.names.now c.args.lines.now c.in_ok-tables.field-0.diagnostics c.in_ok-tables.ensures.diagnosed c.in-Err.refusal c.in-Err.ensures
+    refused-is c.args.names.now c.args.entries.now c.in_ok-tables.field-0.diagnostics c.in_ok-tables.ensures.diagnosed c.in-Err.refusal c.in-Err.ensures
 
 pub returns-in-Ok : goal.returns-in-Ok
 returns-in-Ok c =
@@ -20,12 +20,12 @@ returns-in-Ok c =
     let count = c.in_ok-symbols.ensures.count in
     let small = c.in_ok-tables.ensures.small in
     let few : length symbols.items + length s.tables.contexts + length s.tables.choices.items < 2 ^ 32 = omega (arith, small.contexts, small.choices, c.in_ok-check_names.ensures, count, c.requires.few) in
-    let tables = subst (λ (l : List Symbol). IsWalkResult (statements_of c.args.lines.now) l s.tables s.main_menu.items) c.deref.ensures.value c.in_ok-tables.ensures.tables in
+    let tables = subst (λ (l : List Symbol). IsWalkResult (statements_in c.args.entries.now) l s.tables s.main_menu.items) c.deref.ensures.value c.in_ok-tables.ensures.tables in
     let defined = c.deref-2.ensures.value ∙ c.requires.defined in
     let modules = c.if_defined-modules.ensures
     ∙ ap (λ (l : List SymId). symbol_if (stands_in l) c.args.modules) defined
-    ∙ ap (symbol_if (stands_in (defined_symbols (statements_of c.args.lines.now)))) c.requires.modules in
-    whole c.args.names.now c.args.lines.now s.diagnostics c.in_ok-tables.ensures.diagnosed (record {
+    ∙ ap (symbol_if (stands_in (defined_symbols (statements_in c.args.entries.now)))) c.requires.modules in
+    whole c.args.names.now c.args.entries.now s.diagnostics c.in_ok-tables.ensures.diagnosed (record {
       layout = record { symbols = symbols; defined = c.args.defined; tables = s.tables; modules = c.if_defined-modules.result; few = few };
       warnings = c.in-Ok.warnings;
       main_menu = s.main_menu;

@@ -1,5 +1,5 @@
 use Rattle.std.proofs.Common.{◌≡◌, Ok, Err, ap, ◌∙◌, map, arith}
-use Rattle.kc_read.specs.StatementViews.{line_view}
+use Rattle.kc_read.specs.Entries.{lines_in}
 use Rattle.kc_tree.specs.Wholes.{tree_of as facts_of}
 use Rattle.kc_build.specs.PartsView.{parts_view}
 use Rattle.kc_build.specs.Trees.{tree_with}
@@ -10,63 +10,63 @@ use Rattle.kc_build.proofs.build.tree_of.Goals as goal
 pub build_parts-requires-clause-below : goal.build_parts-requires-clause-below
 build_parts-requires-clause-below c =
     let (files, root, x) = c.requires in
-    lines-below x.0 c.args.listing x.2 c.deref.result.now c.deref.ensures.value
+    lines-below x.0 c.args.listing x.2
 
 pub build_parts-requires-clause-types : goal.build_parts-requires-clause-types
 build_parts-requires-clause-types c =
     let (files, root, x) = c.requires in
-    lines-typed x.0 c.args.listing x.2 files root x.1 c.deref.result.now c.deref.ensures.value
+    lines-typed x.0 c.args.listing x.2 files root x.1
 
 pub build_parts-requires-clause-apart : goal.build_parts-requires-clause-apart
 build_parts-requires-clause-apart c =
     let (files, root, x) = c.requires in
-    lines-apart x.0 c.args.listing x.2 files root x.1 c.deref.result.now c.deref.ensures.value
+    lines-apart x.0 c.args.listing x.2 files root x.1
 
 pub build_parts-requires-clause-ends : goal.build_parts-requires-clause-ends
 build_parts-requires-clause-ends c =
     let (files, root, x) = c.requires in
-    lines-opened x.0 c.args.listing x.2 files root x.1 c.deref.result.now c.deref.ensures.value
+    lines-opened x.0 c.args.listing x.2 files root x.1
 
 pub build_parts-requires-clause-defined : goal.build_parts-requires-clause-defined
 build_parts-requires-clause-defined c =
     let (files, root, x) = c.requires in
-    lines-define x.0 c.args.listing x.2 c.deref.result.now c.deref.ensures.value
+    lines-define x.0 c.args.listing x.2
 
 pub build_parts-requires-clause-modules : goal.build_parts-requires-clause-modules
 build_parts-requires-clause-modules c =
     let (files, root, x) = c.requires in
-    lines-modules x.0 c.args.listing x.2 c.deref.result.now c.deref.ensures.value
+    lines-modules x.0 c.args.listing x.2
 
 pub of-requires : goal.of-requires
 of-requires c =
     let (files, root, x) = c.requires in
     let l = c.args.listing in
     let parts = c.in-Ok-outcome.parts in
-    let says : parts_view l.names (Ok parts) ≡ tree_with l.names (map line_view c.deref.result.now) = (rw c.in-Ok-outcome.is at c.in-Ok.ensures) in
+    let says : parts_view l.names (Ok parts) ≡ tree_with l.names (lines_in l.entries) = (rw c.in-Ok-outcome.is at c.in-Ok.ensures) in
     lines-formed x.0 l x.2 files root (facts_of l.names parts) x.1 c.are_distinct.ensures
-    (parts-lines x.0 l x.2 c.deref.result.now (Ok parts) c.deref.ensures.value says)
+    (parts-lines x.0 l x.2 (Ok parts) says)
 
 pub returns-in-Ok-outcome-clause-built : goal.returns-in-Ok-outcome-clause-built
 returns-in-Ok-outcome-clause-built c = λ files root x.
     let l = c.args.listing in
     let parts = c.in-Ok-outcome.parts in
-    let says : parts_view l.names (Ok parts) ≡ tree_with l.names (map line_view c.deref.result.now) = (rw c.in-Ok-outcome.is at c.in-Ok.ensures) in
-    (Ok x.0, x.1, ap Ok c.of.ensures ∙ parts-lines x.0 l x.2 c.deref.result.now (Ok parts) c.deref.ensures.value says)
+    let says : parts_view l.names (Ok parts) ≡ tree_with l.names (lines_in l.entries) = (rw c.in-Ok-outcome.is at c.in-Ok.ensures) in
+    (Ok x.0, x.1, ap Ok c.of.ensures ∙ parts-lines x.0 l x.2 (Ok parts) says)
 
 pub returns-in-Err-outcome-clause-refused : goal.returns-in-Err-outcome-clause-refused
 returns-in-Err-outcome-clause-refused c = λ ne files root x.
     let l = c.args.listing in
     let r = c.in-Err-outcome.refusal in
-    let says : parts_view l.names (Err r) ≡ tree_with l.names (map line_view c.deref.result.now) = (rw c.in-Err-outcome.is at c.in-Ok.ensures) in
-    (Ok x.0, x.1, parts-lines x.0 l x.2 c.deref.result.now (Err r) c.deref.ensures.value says)
+    let says : parts_view l.names (Err r) ≡ tree_with l.names (lines_in l.entries) = (rw c.in-Err-outcome.is at c.in-Ok.ensures) in
+    (Ok x.0, x.1, parts-lines x.0 l x.2 (Err r) says)
 
 pub returns-in-Err-outcome-clause-memory : goal.returns-in-Err-outcome-clause-memory
 returns-in-Err-outcome-clause-memory c =
     let (files, root, x) = c.requires in
     let l = c.args.listing in
     let r = c.in-Err-outcome.refusal in
-    let says : parts_view l.names (Err r) ≡ tree_with l.names (map line_view c.deref.result.now) = (rw c.in-Err-outcome.is at c.in-Ok.ensures) in
-    refused-memory x.0.lines r (parts-lines x.0 l x.2 c.deref.result.now (Err r) c.deref.ensures.value says)
+    let says : parts_view l.names (Err r) ≡ tree_with l.names (lines_in l.entries) = (rw c.in-Err-outcome.is at c.in-Ok.ensures) in
+    refused-memory x.0.lines r (parts-lines x.0 l x.2 (Err r) says)
 
 pub build_parts-requires-clause-few : goal.build_parts-requires-clause-few
 build_parts-requires-clause-few c =

@@ -4,14 +4,16 @@ use Rattle.kc_text.specs.Lines.{unread_lines}
 use Rattle.kc_read.specs.Expansion.{NextStatement, context_of, inside, with_file}
 use Rattle.kc_read.specs.LineReads.{cause_of}
 use Rattle.kc_read.specs.declared.statement.EntryKind.TheVariants as entry
+use Rattle.kc_read.specs.declared.statement.Statement.TheVariants as made
 use Rattle.kc_read.specs.Files.{bytes_in}
 use Rattle.kc_read.specs.Progress.{context_in, HasAdvanced, IsEnded, IsState}
 use Rattle.kc_read.specs.Statements.{SourceLine, names_in_statement}
 use Rattle.kc_expr.specs.Names.{number_of}
 use Rattle.kc_expr.proofs.NamesLemmas.{extends_on}
 use Rattle.kc_read.proofs.NameLemmas.{extends_none}
-use Rattle.kc_read.proofs.RestLemmas.{blank_goes, effect_refused, end_refused, ended, file_read, file_refused, goes_on, inside_refused, next_less, next_clear, next_passed, no_memory, popped, reading_passed, source_goes, source_refused, statement_goes, statement_passed, step_refused}
-use Rattle.kc_read.proofs.ShapeLemmas.{made_no_source, source_is}
+use Rattle.kc_read.proofs.RestLemmas.{blank_goes, effect_refused, end_refused, ended, file_read, file_refused, goes_on, inside_refused, last_is, next_less, next_clear, next_passed, no_memory, popped, reading_passed, source_goes, source_refused, statement_goes, statement_passed, step_refused}
+use Rattle.kc_read.proofs.HeadLemmas.{is_no_source, no_limit, no_source}
+use Rattle.kc_read.proofs.ShapeLemmas.{source_is}
 use Rattle.kc_read.proofs.StateLemmas.{context_same, state_inside}
 use Rattle.kc_read.proofs.files.+files.Goals as goal
 
@@ -114,27 +116,38 @@ read_next-returns-in_ok-read_statement-in-Next-clause-clear t c = λ more.
     next_clear c.args.lines.now c.next_step.new.lines step.2.tokens None step.2.next
 
 pub read_statement-returns-in-Source-clause-read : goal.read_statement-returns-in-Source-clause-read
-read_statement-returns-in-Source-clause-read t c = λ first known a own log x l m i made next line.
+read_statement-returns-in-Source-clause-read t c = λ first known a own log x l m i is next line.
     let name = c.in-Source.name.items in
-    let view = rw c.in-Source.is at (made.form c.args.names.now (extends_none c.args.names.now)) in
+    let view = rw c.in-Source.is at (is.form c.args.names.now (extends_none c.args.names.now)) in
     let e : x ≡ SourceLine name = source_is (number_of c.args.names.now) name x view in
-    let same : c.args.names.now ≡ known = made.mentions ∙ ap (λ y. all_mentioned known (names_in_statement y)) e in
+    let same : c.args.names.now ≡ known = is.mentions ∙ ap (λ y. all_mentioned known (names_in_statement y)) e in
     c.source.ensures.read first a own log l m (subst (λ ns. IsState first ns a own log c.args.progress.now c.args.frame.now) (sym same) i)
     (subst (λ y. NextStatement l m (context_of a own log) (Ok y)) e next) line
 
 pub read_statement-returns-in-Ok-clause-read : goal.read_statement-returns-in-Ok-clause-read
-read_statement-returns-in-Ok-clause-read t c = λ first known a own log x l m i made next line.
+read_statement-returns-in-Ok-clause-read t c = λ first known a own log x l m i is next line.
     let files = bytes_in c.args.reader.now.map.now in
-    statement_goes files first known c.args.names.now a l m own log c.args.frame.now c.take.new.frame c.args.progress.now c.take.new.progress c.args.statement x c.args.line i made next line
-    (made_no_source known c.args.names.now c.args.statement x made c.in_default.not-Source) c.in-Ok.ensures.taken c.in-Ok.ensures.allowed
+    let head = c.in-Head.head in
+    statement_goes files first known c.args.names.now a l m own log c.args.frame.now c.take_head.new.frame c.args.progress.now c.take_head.new.progress
+    (made.Head head) x c.args.line i (rw c.in-Head.is at is) next line (no_source head) c.in-Ok.ensures.taken c.in-Ok.ensures.allowed
 
 pub read_statement-returns-in-Err-clause-read : goal.read_statement-returns-in-Err-clause-read
-read_statement-returns-in-Err-clause-read t c = λ first known a own log x l m i made next line ne.
+read_statement-returns-in-Err-clause-read t c = λ first known a own log x l m i is next line ne.
     let files = bytes_in c.args.reader.now.map.now in
-    effect_refused files first known c.args.names.now a l m own log c.args.frame.now c.args.progress.now c.args.statement x c.args.line
-    c.deref-in-Err.result.now (cause_of c.in-Err.fault) c.refuse.result i made next line
+    effect_refused files first known c.args.names.now a l m own log c.args.frame.now c.args.progress.now (made.Head c.in-Head.head) x c.args.line
+    c.deref-in-Err.result.now (cause_of c.in-Err.fault) c.refuse.result i (rw c.in-Head.is at is) next line
     (c.deref-in-Err.ensures.value ∙ ap (λ v. v.items) c.deref.ensures ∙ ap (λ r. r.value.items) c.in-Err.ensures.file)
     (c.in-Err.ensures.fault (no_memory c.refuse.result c.in-Err.fault c.deref-in-Err.result.now c.args.line ne c.refuse.ensures.refused)) (c.refuse.ensures.refused ne)
+
+pub read_statement-returns-in-Ok-take_attribute-clause-read : goal.read_statement-returns-in-Ok-take_attribute-clause-read
+read_statement-returns-in-Ok-take_attribute-clause-read t c = λ first known a own log x l m i is next line.
+    let files = bytes_in c.args.reader.now.map.now in
+    let attribute = c.in-Attribute.attribute in
+    let read = rw c.in-Attribute.is at is in
+    statement_goes files first known c.args.names.now a l m own log c.args.frame.now c.args.frame.now c.args.progress.now c.take_attribute.new.progress
+    (made.Attribute attribute) x c.args.line i read next line (is_no_source attribute)
+    (c.in-Ok-take_attribute.ensures.taken c.args.frame.now (last_is files first known c.args.names.now a l m own log c.args.frame.now c.args.progress.now attribute x i read next))
+    (no_limit attribute c.args.frame.now c.args.progress.now)
 
 pub source-returns-in-Err-clause-read : goal.source-returns-in-Err-clause-read
 source-returns-in-Err-clause-read t c = λ first a own log l m i next line ne.

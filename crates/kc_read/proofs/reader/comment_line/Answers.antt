@@ -1,4 +1,6 @@
-use Rattle.std.proofs.Common.{◌∙◌, refl}
+use Rattle.std.proofs.Common.{ℕ, ◌∙◌, ap, refl}
+use Rattle.std.specs.declared.alloc.Global.{Global}
+use Rattle.std.specs.declared.vec.Vec.{Vec}
 use Rattle.kc_read.specs.LineReads.{lexemes_from}
 use Rattle.kc_read.specs.Statements.{CommentLine}
 use Rattle.kc_read.proofs.FrontLemmas.{after_one}
@@ -11,5 +13,5 @@ returns c = λ names.
       CommentLine c.in_ok-text.text.items,
       text_line_ok CommentLine ls c.in_ok-text.text.items c.in_ok-text.ensures.part
           (after_one c.args.tokens.now 1 ∙ c.in_ok-end.ensures.end),
-      record { mentions = refl; form = λ later x. refl },
+      record { mentions = refl; form = λ later x. ap (λ (v : Vec ℕ Global). CommentLine v.items) c.in_ok-new.ensures.ok },
     )

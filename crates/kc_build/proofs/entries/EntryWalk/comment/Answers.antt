@@ -2,7 +2,7 @@
 use Rattle.std.proofs.Common.{refl, ap, ◌∙◌, ◌≡◌, ◌++◌, ◌∷◌, [], length}
 use Rattle.std.specs.List.{filter_map}
 use Rattle.std.proofs.lemmas.List.{length-map}
-use Rattle.kc_read.specs.StatementViews.{statement_view}
+use Rattle.kc_read.specs.StatementViews.{attribute_view}
 use Rattle.kc_tree.specs.Contexts.{condition_in}
 use Rattle.kc_tree.specs.declared.rows.ShownEntry.TheVariants as entry
 use Rattle.kc_build.specs.Facts.{depends_form}
@@ -28,7 +28,7 @@ returns c =
     let old = c.args.self.now in
     let made = c.add_title.new.self in
     let t = c.in_ok-title.ensures.title in
-    let n : length (statements_of c.args.own.now) ≡ length c.args.own.now = length-map c.args.own.now (λ l. statement_view l.statement) in
+    let n : length (statements_of c.args.own.now) ≡ length c.args.own.now = length-map c.args.own.now (λ l. attribute_view l.attribute) in
     let grown : IsGrown old.tables.contexts made.tables.contexts (condition_in old.tables.contexts old.blocks.innermost.within.0).mode (length (statements_of c.args.own.now)) =
     rw (t.contexts, n, ← c.innermost-outer.ensures) c.in_ok-within.ensures.kept in
     let stands : Stands made.tables.contexts c.in_ok-within.within.0

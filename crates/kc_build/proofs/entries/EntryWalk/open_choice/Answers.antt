@@ -3,7 +3,7 @@ use Rattle.std.proofs.Common.{refl, ap, ◌∙◌, arith, is_ok, ◌≡◌, ◌+
 use Rattle.std.specs.List.{filter_map}
 use Rattle.std.specs.Option.{option_map}
 use Rattle.std.proofs.lemmas.List.{length-map, length_push}
-use Rattle.kc_read.specs.StatementViews.{statement_view}
+use Rattle.kc_read.specs.StatementViews.{attribute_view}
 use Rattle.kc_expr.specs.Form.{Form}
 use Rattle.kc_read.specs.Blocks.{last_of}
 use Rattle.kc_read.specs.Statements.{InputPrompt}
@@ -123,7 +123,7 @@ pub returns : goal.returns
 returns c =
     let w = c.args.self.now in
     let middle = c.entry_context.new.contexts in
-    let n : length (statements_of c.args.own.now) ≡ length c.args.own.now = length-map c.args.own.now (λ l. statement_view l.statement) in
+    let n : length (statements_of c.args.own.now) ≡ length c.args.own.now = length-map c.args.own.now (λ l. attribute_view l.attribute) in
     let grown : IsGrown w.tables.contexts middle (condition_in w.tables.contexts w.blocks.innermost.within.0).mode (length (statements_of c.args.own.now)) =
     rw (n, ← c.innermost-outer.ensures) c.in_ok-within.ensures.kept in
     let stands : Stands middle c.in_ok-within.within.0 (with_conjuncts (condition_in w.tables.contexts w.blocks.innermost.within.0) (filter_map depends_form (statements_of c.args.own.now))) =

@@ -1,6 +1,6 @@
 -- The summary of an entry, before the walk goes into it.
 use Rattle.std.proofs.Common.{◌≡◌, ap, sym, ◌∙◌, arith, Some}
-use Rattle.kc_read.specs.StatementViews.{statement_view}
+use Rattle.kc_read.specs.StatementViews.{head_view}
 use Rattle.kc_read.specs.Statements.{ConfigLine, ChoiceLine}
 use Rattle.kc_build.specs.Facts.{choice_number, symbol_of}
 use Rattle.kc_build.specs.Warnings.{begun}
@@ -10,8 +10,8 @@ use Rattle.kc_build.proofs.entries.EntryWalk.summary_of.Goals as goal
 
 pub returns-in-Config : goal.returns-in-Config
 returns-in-Config c = λ ss i own a h w.
-    let head = statement_view c.args.head.now in
-    let says : head ≡ ConfigLine c.in-Config.symbol = ap statement_view c.in-Config.is in
+    let head = head_view c.args.head.now in
+    let says : head ≡ ConfigLine c.in-Config.symbol = ap head_view c.in-Config.is in
     record {
       entry = sym (entry_is ss c.args.symbols.now i head own a h c.args.self.now w ∙ ap (begun (choice_number ss i)) says);
       first = c.is_first.ensures ∙ first_is ss c.args.symbols.now i head own a h c.args.self.now w c.in-Config.symbol c.next_definition.result.0 says c.next_definition.ensures;
@@ -20,8 +20,8 @@ returns-in-Config c = λ ss i own a h w.
 
 pub returns-in-Choice : goal.returns-in-Choice
 returns-in-Choice c = λ ss i own a h w.
-    let head = statement_view c.args.head.now in
-    let says : head ≡ ChoiceLine = ap statement_view c.in-Choice.is in
+    let head = head_view c.args.head.now in
+    let says : head ≡ ChoiceLine = ap head_view c.in-Choice.is in
     let n : c.len.result ≡ choice_number ss i = choice_is ss c.args.symbols.now i head own a h c.args.self.now w c.len.result (let e = c.len.ensures in omega arith) in
     record {
       entry = ap (λ k. menu_entry.Choice (record { 0 = k })) n ∙ sym (entry_is ss c.args.symbols.now i head own a h c.args.self.now w ∙ ap (begun (choice_number ss i)) says);
@@ -31,7 +31,7 @@ returns-in-Choice c = λ ss i own a h w.
 
 pub returns-in_default : goal.returns-in_default
 returns-in_default c = λ ss i own a h w.
-    let head = statement_view c.args.head.now in
+    let head = head_view c.args.head.now in
     let other = other_begins (choice_number ss i) c.args.head.now c.in_default.not-Config c.in_default.not-Choice in
     record {
       entry = sym (entry_is ss c.args.symbols.now i head own a h c.args.self.now w ∙ other.0);
