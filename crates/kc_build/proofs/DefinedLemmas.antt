@@ -17,7 +17,7 @@ use Rattle.kc_read.specs.declared.refusal.Code.TheVariants as code
 use Rattle.kc_read.specs.declared.statement.Keyword.{Keyword}
 use Rattle.kc_read.specs.declared.statement.Keyword.TheVariants as key
 use Rattle.kc_read.specs.Blocks.{definitions, defined_name}
-use Rattle.kc_read.specs.Expansion.{FileContext, Log, Refused, Rest, Expands, bytes_cause, context_of, limit_cause, with_file, nothing_read, refused, root_context, symbol_cause, with_line, defined, lexemes, at_end, unclosed, too_long, no_tokens, blank, bad_line, over_limit, statement, bad_source, refused_inside, source}
+use Rattle.kc_read.specs.Expansion.{FileContext, Log, Refused, Rest, Expands, bytes_cause, context_of, limit_cause, with_file, nothing_read, refused, root_context, symbol_cause, with_line, defined, at_end, unclosed, too_long, no_tokens, blank, bad_line, over_limit, statement, bad_source, refused_inside, source}
 use Rattle.kc_read.specs.Files.{Files}
 use Rattle.kc_read.specs.Lines.{LineContext, After, Cause, ReadsTarget, ReadsType, begins_with, cause, left_out, syntax_cause, ReadsLine, ReadsPlaced, ReadsRest, attribute_words, block_words, left_out_words, type_words, ReadsWhole, ReadsCondition, ReadsValue, ReadsPrompt, choice_line, finish, good_name, in_place, is_good_name, keyword_in, keyword_of, keyword_words, keyword_or_refusal, operand_of, option_line, placement_cause, plain_text, named_target, text_of, word_of, expected}
 use Rattle.kc_read.specs.Progress.{defined_after, naming_cause}
@@ -254,7 +254,7 @@ module _ (files : Files) where
   rest_known (bad_line a l m own log c n) k = tt
   rest_known (over_limit a l m own log s c n e) k = tt
   rest_known (statement a l m own log s r n plain effect rest) k =
-      rest_known rest (known_next a a own log.lines log l.number s refl (line_of (context_of a own log) (lexemes n.tokens) s n.reads) effect k)
+      rest_known rest (known_next a a own log.lines log l.number s refl (line_of (context_of a own log) n.tokens s n.reads) effect k)
   rest_known (bad_source a l m own log name c n e) k = tt
   rest_known (refused_inside a l m own log name bytes e n allowed found inner) k = tt
   rest_known (source a l m own log more name bytes r n allowed found inner rest) k = rest_known rest (rest_known inner k)
@@ -293,7 +293,7 @@ module _ (files : Files) where
   rest_allowed (bad_line a l m own log c n) k = tt
   rest_allowed (over_limit a l m own log s c n e) k = tt
   rest_allowed (statement a l m own log s r n plain effect rest) k =
-      rest_allowed rest (allowed_next log.lines (record { file = a.file; line = l.number; statement = s }) (line_of (context_of a own log) (lexemes n.tokens) s n.reads) k)
+      rest_allowed rest (allowed_next log.lines (record { file = a.file; line = l.number; statement = s }) (line_of (context_of a own log) n.tokens s n.reads) k)
   rest_allowed (bad_source a l m own log name c n e) k = tt
   rest_allowed (refused_inside a l m own log name bytes e n allowed found inner) k = tt
   rest_allowed (source a l m own log more name bytes r n allowed found inner rest) k = rest_allowed rest (rest_allowed inner k)

@@ -12,7 +12,7 @@ use Rattle.kc_read.specs.Files.{Files}
 use Rattle.kc_read.specs.Statements.{Statement, Named, Located, IfLine, EndIfLine, SourceLine, MenuLine, EndMenuLine, ChoiceLine, EndChoiceLine, statements}
 use Rattle.kc_read.specs.Lines.{LineContext, Cause}
 use Rattle.kc_read.specs.Blocks.{Bracket, Opens, Closes, NoBracket, bracket, last_of, open_blocks}
-use Rattle.kc_read.specs.Expansion.{FileContext, Log, Refused, Rest, Expands, lexemes, bytes_cause, inside, root_context, nothing_read, with_file, refused, is_choice, context_of, with_line, logged, at_end, unclosed, too_long, no_tokens, blank, bad_line, over_limit, statement, bad_source, refused_inside, source}
+use Rattle.kc_read.specs.Expansion.{FileContext, Log, Refused, Rest, Expands, bytes_cause, inside, root_context, nothing_read, with_file, refused, is_choice, context_of, with_line, logged, at_end, unclosed, too_long, no_tokens, blank, bad_line, over_limit, statement, bad_source, refused_inside, source}
 use Rattle.kc_read.specs.Progress.{located_blocks, open_blocks_after}
 use Rattle.kc_read.proofs.BlockLemmas.{blocks_of_located, located_blocks_push}
 use Rattle.kc_read.proofs.TurnLemmas.{Turn, Chooses, Leaves, Enables, Adds, Stays, turn, SuitsHere, read_suits}
@@ -155,7 +155,7 @@ rest_leaves (no_tokens a l m own log ts why n) i = tt
 rest_leaves (blank a l m own log r n rest) i = rest_leaves rest i
 rest_leaves (bad_line a l m own log c n) i = tt
 rest_leaves (over_limit a l m own log s c n e) i = tt
-rest_leaves (statement a l m own log s r n e f rest) i = rest_leaves rest (line_stands a own log s l.number i (read_suits (context_of a own log) (lexemes n.tokens) s n.reads))
+rest_leaves (statement a l m own log s r n e f rest) i = rest_leaves rest (line_stands a own log s l.number i (read_suits (context_of a own log) n.tokens s n.reads))
 rest_leaves (bad_source a l m own log name c n e) i = tt
 rest_leaves (refused_inside a l m own log name bytes e n f g inner) i = tt
 rest_leaves (source a l m own log more name bytes r n e f inner rest) i =

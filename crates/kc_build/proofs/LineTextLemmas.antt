@@ -1,5 +1,5 @@
 -- What stands in a line of a Kconfig file: each text of its tokens is one line of at most 8,191 bytes.
-use Rattle.std.proofs.Common.{◌≡◌, ℕ, ◌-◌, ◌≤◌, Bool, true, false, ◌==◌, if◌then◌else◌, List, [], ◌∷◌, ◌++◌, length, take, drop, map, Option, Some, None, refl, sym, subst, arith, length-take, length-drop, length-append}
+use Rattle.std.proofs.Common.{◌≡◌, ℕ, ◌-◌, ◌≤◌, Bool, true, false, ◌==◌, if◌then◌else◌, List, [], ◌∷◌, ◌++◌, length, take, drop, Option, Some, None, refl, sym, subst, arith, length-take, length-drop, length-append}
 use Rattle.std.specs.Prelude.{All}
 use Rattle.std.specs.List.{slice_split, onto_first, slice_index}
 use Rattle.std.specs.Str.Lines.{strip_carriage_return}
@@ -12,7 +12,7 @@ use Rattle.kc_text.specs.Escapes.{unescape}
 use Rattle.kc_text.specs.Help.{after_help, after_text, column, from_other, is_help_line}
 use Rattle.kc_text.specs.Lexemes.{Lexeme, AWord, AQuoted, AnOp, Spells}
 use Rattle.kc_text.specs.Lines.{Physical, UnreadLines, TakesLine, continues, joined_text, lines_of_parts, physical_lines, without_continuation}
-use Rattle.kc_text.specs.Tokens.{TokenView, Cuts, IsCut}
+use Rattle.kc_text.specs.Tokens.{IsCut, ended, stuck, skipped, taken}
 use Rattle.kc_expr.specs.Grammar.{Atom, WordAtom, QuotedAtom, Terminal, Plain, Compares, Bang, Joins, Open, Close, Keyword, Chain, Part, Negation, only, joined, negation, conjunction, bang, group, lone, compare, names_in_atom, if_word, is_tristate_constant, leaf, meaning, meaning_not, meaning_part, op_terminal, plain_form, spell, spell_not, spell_part, terminal_of, names_in_terminal, terminals, names_in_terminals}
 use Rattle.kc_expr.specs.Names.{same_name}
 use Rattle.kc_tree.specs.TreeFacts.{IsLineText, IsLineForm}
@@ -118,12 +118,17 @@ IsLineLexeme (AWord w) = IsLineText w
 IsLineLexeme (AQuoted t) = IsLineText (unescape t)
 IsLineLexeme (AnOp o) = Unit {0}
 
-part_of_line : (line : List ℕ) (k n : ℕ) → IsLineText line → IsLineText (take n (drop k line))
-part_of_line line k n h =
+front_part : (line : List ℕ) (n : ℕ) → IsLineText line → IsLineText (take n line)
+front_part line n h =
     let within = h.within in
-    let a = length-take n (drop k line) in
-    let b = length-drop k line in
-    record { within = omega arith; one_line = All-take (λ b. (b == 10) ≡ false) n (drop k line) (All-drop (λ b. (b == 10) ≡ false) k line h.one_line) }
+    let a = length-take n line in
+    record { within = omega arith; one_line = All-take (λ b. (b == 10) ≡ false) n line h.one_line }
+
+after_part : (line : List ℕ) (n : ℕ) → IsLineText line → IsLineText (drop n line)
+after_part line n h =
+    let within = h.within in
+    let a = length-drop n line in
+    record { within = omega arith; one_line = All-drop (λ b. (b == 10) ≡ false) n line h.one_line }
 
 unescaped : (t : List ℕ) → HasNoLf t → HasNoLf (unescape t)
 unescaped [] h = h
@@ -158,16 +163,12 @@ spelled text (AQuoted t) h (q, quote, inside, dollars, is) =
     record { within = omega arith; one_line = unescaped t one }
 spelled text (AnOp o) h s = tt
 
-cut_by : (line : List ℕ) (p q : ℕ) (ts : List TokenView) → IsLineText line → Cuts line p ts q → All IsLineLexeme (map (λ t. t.lexeme) ts)
-cut_by line p q [] h c = All-nil IsLineLexeme
-cut_by line p q (t ∷ ts) h (blanks, piece, rest) =
-    All-cons IsLineLexeme t.lexeme (map (λ t. t.lexeme) ts)
-    (spelled (take (t.end - t.start) (drop t.start line)) t.lexeme (part_of_line line t.start (t.end - t.start) h) piece.longest.spelled)
-    (cut_by line t.end q ts h rest)
-
 -- the tokens of a line
-pub cut_line : (line : List ℕ) (ts : List TokenView) (out : Option TextFault) → IsLineText line → IsCut line ts out → All IsLineLexeme (map (λ t. t.lexeme) ts)
-cut_line line ts out h (q, within, cuts, goes) = cut_by line 0 q ts h cuts
+pub cut_line : {line : List ℕ} {ts : List Lexeme} {out : Option TextFault} → IsLineText line → IsCut line ts out → All IsLineLexeme ts
+cut_line h (ended e) = All-nil IsLineLexeme
+cut_line h (stuck s) = All-nil IsLineLexeme
+cut_line {line} h (skipped b c) = cut_line (after_part line 1 h) c
+cut_line {line} h (taken {n = n} {x = x} {ts = ts} t c) = All-cons IsLineLexeme x ts (spelled (take n line) x (front_part line n h) t.spelled) (cut_line (after_part line n h) c)
 
 -- The same as the grammar sees them.
 abbrev pub IsLineAtom : Atom → Type 0

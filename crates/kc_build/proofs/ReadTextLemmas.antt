@@ -7,14 +7,13 @@ use Rattle.kc_text.specs.declared.faults.TextFault.{TextFault}
 use Rattle.kc_text.specs.Escapes.{unescape}
 use Rattle.kc_text.specs.Lexemes.{Lexeme, AWord, AQuoted, AnOp}
 use Rattle.kc_text.specs.Lines.{UnreadLines, unread_lines}
-use Rattle.kc_text.specs.Tokens.{TokenView}
 use Rattle.kc_expr.specs.declared.expression.Kind.{Kind}
 use Rattle.kc_expr.specs.Grammar.{Disjunction, Atom, WordAtom, QuotedAtom, names_in_atom, if_word, is_tristate_constant, spell, terminals, names_in}
 use Rattle.kc_expr.specs.Names.{same_name}
 use Rattle.kc_read.specs.declared.refusal.Code.TheVariants as code
 use Rattle.kc_read.specs.declared.statement.Keyword.{Keyword}
 use Rattle.kc_read.specs.declared.statement.Keyword.TheVariants as key
-use Rattle.kc_read.specs.Expansion.{FileContext, Log, Refused, Rest, Expands, NextLine, bytes_cause, context_of, with_file, nothing_read, refused, root_context, with_line, is_help, lexemes, without_help, at_end, unclosed, too_long, no_tokens, blank, bad_line, over_limit, statement, bad_source, refused_inside, source}
+use Rattle.kc_read.specs.Expansion.{FileContext, Log, Refused, Rest, Expands, NextLine, bytes_cause, context_of, with_file, nothing_read, refused, root_context, with_line, is_help, without_help, at_end, unclosed, too_long, no_tokens, blank, bad_line, over_limit, statement, bad_source, refused_inside, source}
 use Rattle.kc_read.specs.Files.{Files}
 use Rattle.kc_read.specs.Lines.{LineContext, After, Cause, Front, IsCondition, IsWhole, ReadsTarget, ReadsType, ReadsLine, ReadsPlaced, ReadsRest, ReadsWhole, ReadsCondition, ReadsTextLine, ReadsValue, ReadsPrompt, StartsExpression, begins_with, choice_line, expected, finish, front, good_name, in_place, is_good_name, keyword_of, keyword_or_refusal, left_out, operand_of, option_line, placement_cause, plain_text, syntax_cause, named_target, text_of, word_of}
 use Rattle.kc_read.specs.Statements.{Statement, InputPrompt, Named, Located, ConfigLine, IfLine, EndIfLine, CommentLine, SourceLine, MenuLine, EndMenuLine, ChoiceLine, EndChoiceLine, MainMenuLine, TypeLine, PromptLine, DefaultLine, DefLine, DependsLine, VisibleLine, SelectLine, ImplyLine, RangeLine, HelpLine, ModulesLine, IgnoredLine, names_in_condition, names_in_statement, value_form, statements}
@@ -228,10 +227,10 @@ after_help_lines : (m : UnreadLines) (b : Bool) → AreOneLine m.lines → AreOn
 after_help_lines m true h = helped m.lines h
 after_help_lines m false h = h
 
-next_line : (l m : UnreadLines) (ts : List TokenView) (out : Option TextFault) → NextLine l m ts out → AreOneLine l.lines → AreInLine (lexemes ts) × AreOneLine m.lines
+next_line : (l m : UnreadLines) (ts : List Lexeme) (out : Option TextFault) → NextLine l m ts out → AreOneLine l.lines → AreInLine ts × AreOneLine m.lines
 next_line l m ts out n h =
     let taken = taken_line l n.middle n.text n.taken h in
-    (cut_line n.text ts out taken.0 n.cut, subst (λ (r : UnreadLines). AreOneLine r.lines) (sym n.left_after) (after_help_lines n.middle (is_help (lexemes ts)) taken.1))
+    (cut_line taken.0 n.cut, subst (λ (r : UnreadLines). AreOneLine r.lines) (sym n.left_after) (after_help_lines n.middle (is_help ts) taken.1))
 
 abbrev AreInLines : List (Located Named) → Type 0
 AreInLines ls = All IsInLines (statements ls)
@@ -255,7 +254,7 @@ module _ (files : Files) where
   rest_lines (over_limit a l m own log s c n e) h k = tt
   rest_lines (statement a l m own log s r n plain effect rest) h k =
       let next = next_line l m n.tokens None n.next h in
-      rest_lines rest next.1 (with_next log.lines a l.number s (line_of (context_of a own log) (lexemes n.tokens) s next.0 n.reads) k)
+      rest_lines rest next.1 (with_next log.lines a l.number s (line_of (context_of a own log) n.tokens s next.0 n.reads) k)
   rest_lines (bad_source a l m own log name c n e) h k = tt
   rest_lines (refused_inside a l m own log name bytes e n allowed found inner) h k = tt
   rest_lines (source a l m own log more name bytes r n allowed found inner rest) h k =

@@ -13,25 +13,45 @@ fn name_of_fault(fault: TextFault) -> &'static str {
     }
 }
 
-// Adds the bytes of a line's tokens, each followed by a blank.
-fn tokens_into(line: &[u8], tokens: &[Token], text: &mut Vec<u8>) -> Result<(), AllocError> {
+fn spelling_of(op: Op) -> &'static [u8] {
+    match op {
+        Op::Eq => b"=",
+        Op::Ne => b"!=",
+        Op::Lt => b"<",
+        Op::Gt => b">",
+        Op::Le => b"<=",
+        Op::Ge => b">=",
+        Op::Not => b"!",
+        Op::And => b"&&",
+        Op::Or => b"||",
+        Op::LParen => b"(",
+        Op::RParen => b")",
+    }
+}
+
+// Adds what the tokens say, each followed by a blank; a quoted text stands in `<` and `>`.
+fn tokens_into(tokens: &[Token], text: &mut Vec<u8>) -> Result<(), AllocError> {
     for token in tokens {
-        let Span { start, end } = token.span;
-        if let Some(bytes) = line.get(start as usize..end as usize) {
-            text.extend_from_slice(bytes)?;
+        match token {
+            Token::Word(word) => text.extend_from_slice(word)?,
+            Token::Quoted(quoted) => {
+                text.push(b'<')?;
+                text.extend_from_slice(quoted)?;
+                text.push(b'>')?;
+            }
+            Token::Op(op) => text.extend_from_slice(spelling_of(*op))?,
         }
         text.push(b' ')?;
     }
     Ok(())
 }
 
-// Whether the line is cut into tokens of these bytes, each followed by a blank.
+// Whether the line is cut into these tokens, each followed by a blank.
 fn is_cut(alloc: Global, line: &[u8], want: &[u8]) -> bool {
     let mut tokens = Vec::new(alloc);
     let mut text = Vec::new(alloc);
-    line.len() <= 8191
-        && lex(line, &mut tokens).is_ok()
-        && tokens_into(line, &tokens, &mut text).is_ok()
+    lex(line, &mut tokens).is_ok()
+        && tokens_into(&tokens, &mut text).is_ok()
         && text.as_slice() == want
 }
 
@@ -39,15 +59,15 @@ fn is_cut(alloc: Global, line: &[u8], want: &[u8]) -> bool {
 const TOKENS: &[(&[u8], &[u8])] = &[
     (
         b"a=b!=c<d>e<=f>=g!h&&i||(j)\"k\"'l'#m",
-        b"a = b != c < d > e <= f >= g ! h && i || ( j ) \"k\" 'l' ",
+        b"a = b != c < d > e <= f >= g ! h && i || ( j ) <k> <l> ",
     ),
     (b"config A", b"config A "),
     (b"AZaz09_-/.", b"AZaz09_-/. "),
-    (b"\t bool\t\"a b\"  ", b"bool \"a b\" "),
+    (b"\t bool\t\"a b\"  ", b"bool <a b> "),
     (b"!==!!", b"!= = ! ! "),
-    (b"\"it's\" 'say \"x\"'", b"\"it's\" 'say \"x\"' "),
-    (b"\"a\\\"b\\\\\" c", b"\"a\\\"b\\\\\" c "),
-    (b"\"\" \"#\" \"\0\r\"", b"\"\" \"#\" \"\0\r\" "),
+    (b"\"it's\" 'say \"x\"'", b"<it's> <say \"x\"> "),
+    (b"\"a\\\"b\\\\\" c", b"<a\\\"b\\\\> c "),
+    (b"\"\" \"#\" \"\0\r\"", b"<> <#> <\0\r> "),
     (b"a#\"$+", b"a "),
     (b" \t ", b""),
     (b"", b""),
@@ -63,9 +83,6 @@ fn each_kind_of_token_is_cut(rt: HostRuntime) {
 // Whether the line cannot be cut, for this reason.
 fn is_not_cut(alloc: Global, line: &[u8], want: &str) -> bool {
     let mut tokens = Vec::new(alloc);
-    if line.len() > 8191 {
-        return false;
-    }
     match lex(line, &mut tokens) {
         Ok(()) => false,
         Err(fault) => name_of_fault(fault) == want,

@@ -1,7 +1,7 @@
 //! The lines of a file and their tokens.
 
 use crate::end::{CallEnd, done, refused};
-use kc_text::{LogicalLines, Span, TextFault, lex};
+use kc_text::{LogicalLines, Op, TextFault, Token, lex};
 use std::alloc::Global;
 
 const FILE: &[u8] = b"config A_NAME_OF_SEVERAL\\\n_LINES\n\tbool\n";
@@ -32,10 +32,7 @@ pub(crate) fn call_lex(alloc: Global) -> CallEnd {
     let mut tokens = Vec::new(alloc);
     match lex(b"default \"x\" if A && !(B || C) # why", &mut tokens) {
         Ok(()) => {
-            let is_last = match tokens.last() {
-                Some(token) => token.span == Span { start: 28, end: 29 },
-                None => false,
-            };
+            let is_last = matches!(tokens.last(), Some(Token::Op(Op::RParen)));
             done(tokens.len() == 11 && is_last)
         }
         Err(fault) => refused(fault == TextFault::Memory && tokens.is_empty()),

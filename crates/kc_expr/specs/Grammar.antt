@@ -60,7 +60,7 @@ terminals = map terminal_of
 
 -- the tokens from a place on, as the grammar has them
 abbrev pub terminals_from : List Token → ℕ → List Terminal
-terminals_from tokens at = map (λ t. terminal_of (lexeme t.kind)) (drop at tokens)
+terminals_from tokens at = map (λ t. terminal_of (lexeme t)) (drop at tokens)
 
 -- A way to derive an expression. `Chain Or` is the rule `or`, `Chain And` the rule `and`: one part or more, joined by the
 -- connective.

@@ -6,7 +6,6 @@ use Rattle.kc_text.specs.declared.tokens.Op.{Op}
 use Rattle.kc_text.specs.declared.tokens.Op.TheVariants as op
 use Rattle.kc_expr.specs.declared.expression.Operand.{Operand}
 use Rattle.kc_text.specs.declared.tokens.Token.{Token}
-use Rattle.kc_text.specs.declared.tokens.TokenKind.{TokenKind}
 use Rattle.kc_text.specs.Lexemes.{lexeme}
 use Rattle.kc_expr.specs.Form.{Form, Leaf, leaf_of}
 use Rattle.kc_expr.specs.Names.{number_of, all_mentioned, Extends}
@@ -143,9 +142,9 @@ FailsChain c TooDeep k ts = Deep {T = Chain c} spell levels Fresh_start k ts
 FailsChain c Memory k ts = HasOperand ts
 
 -- the next token
-abbrev pub IsNext : Option TokenKind → List Token → ℕ → Type 0
+abbrev pub IsNext : Option Token → List Token → ℕ → Type 0
 IsNext None tokens at = terminals_from tokens at ≡ []
-IsNext (Some kind) tokens at = (at < length tokens) × (terminals_from tokens at ≡ terminal_of (lexeme kind) ∷ terminals_from tokens (at + 1))
+IsNext (Some t) tokens at = (at < length tokens) × (terminals_from tokens at ≡ terminal_of (lexeme t) ∷ terminals_from tokens (at + 1))
 
 -- an operand that was read
 abbrev pub starts_plain : List Terminal → Bool

@@ -14,7 +14,7 @@ ghost use Rattle.kc_expr.specs.Names.{Extends};
 use crate::expression::{Expr, Operand, Operands, Tri};
 use crate::names::Names;
 use crate::values::tristate_constant;
-use kc_text::{Op, Token, TokenKind, unescape_into};
+use kc_text::{Op, Token, unescape_into};
 use std::alloc::{AllocError, AllocFailed, Global};
 use thiserror::Error;
 
@@ -122,7 +122,7 @@ fn is_lone(tokens: &[Token], at: usize) -> bool
     ensures { IsLone tokens.now at result }
 {
     match next(tokens, at) {
-        Some(TokenKind::Word(_) | TokenKind::Quoted(_)) => !stands_op(tokens, at + 1),
+        Some(Token::Word(_) | Token::Quoted(_)) => !stands_op(tokens, at + 1),
         _ => false,
     }
 }
@@ -131,7 +131,7 @@ fn is_lone(tokens: &[Token], at: usize) -> bool
 fn stands_op(tokens: &[Token], at: usize) -> bool
     ensures { result ≡ false → StartsNoOp (terminals_from tokens.now at) }
 {
-    matches!(next(tokens, at), Some(TokenKind::Op(_)))
+    matches!(next(tokens, at), Some(Token::Op(_)))
 }
 
 // An operand that is a whole expression, which nearly every one is: read without the way down the grammar.
@@ -335,7 +335,7 @@ fn operand(
     ensures names { Extends names.old names.new }
 {
     match next(tokens, at) {
-        Some(TokenKind::Word(word)) => {
+        Some(Token::Word(word)) => {
             if word == b"if".as_slice() {
                 return Ok(None);
             }
@@ -344,7 +344,7 @@ fn operand(
             }
             Ok(Some(Operand::Sym(names.id(word)?)))
         }
-        Some(TokenKind::Quoted(text)) => {
+        Some(Token::Quoted(text)) => {
             let mut bytes = Vec::new(alloc);
             unescape_into(text, &mut bytes)?;
             Ok(Some(Operand::Const(bytes)))
@@ -358,7 +358,7 @@ fn relation_op(tokens: &[Token], at: usize) -> Option<Op>
     ensures { ReadsRelation result tokens.now at }
 {
     match next(tokens, at) {
-        Some(TokenKind::Op(op @ (Op::Eq | Op::Ne | Op::Lt | Op::Gt | Op::Le | Op::Ge))) => Some(op),
+        Some(Token::Op(op @ (Op::Eq | Op::Ne | Op::Lt | Op::Gt | Op::Le | Op::Ge))) => Some(op),
         _ => None,
     }
 }
@@ -389,17 +389,17 @@ fn is_op(tokens: &[Token], at: usize, op: Op) -> bool
     ensures { IsOp op tokens.now at result }
 {
     match next(tokens, at) {
-        Some(TokenKind::Op(found)) => found == op,
+        Some(Token::Op(found)) => found == op,
         _ => false,
     }
 }
 
 // What the token at a place is.
-fn next<'a>(tokens: &[Token<'a>], at: usize) -> Option<TokenKind<'a>>
+fn next<'a>(tokens: &[Token<'a>], at: usize) -> Option<Token<'a>>
     ensures { IsNext result tokens.now at }
 {
     if at < tokens.len() {
-        Some(tokens[at].kind)
+        Some(tokens[at])
     } else {
         None
     }

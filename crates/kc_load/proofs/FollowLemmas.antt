@@ -12,7 +12,7 @@ use Rattle.kc_text.specs.Lines.{UnreadLines}
 use Rattle.kc_expr.specs.Names.{same_name, mention}
 use Rattle.kc_expr.proofs.NamesLemmas.{same_name-refl}
 use Rattle.kc_read.specs.declared.refusal.Code.TheVariants as code
-use Rattle.kc_read.specs.Expansion.{FileContext, Log, Refused, Rest, NextStatement, bytes_cause, is_source, lexemes, of_file, sourcing_cause, at_end, unclosed, too_long, no_tokens, blank, bad_line, over_limit, statement, bad_source, refused_inside, source, lines_of}
+use Rattle.kc_read.specs.Expansion.{FileContext, Log, Refused, Rest, NextStatement, bytes_cause, is_source, of_file, sourcing_cause, at_end, unclosed, too_long, no_tokens, blank, bad_line, over_limit, statement, bad_source, refused_inside, source, lines_of}
 use Rattle.kc_read.specs.Files.{Files}
 use Rattle.kc_read.specs.Lines.{LineContext, After, Cause, ReadsSource, begins_with, cause, finish, plain_text, text_of}
 use Rattle.kc_read.specs.OpenedFiles.{sourced_files}
@@ -52,8 +52,8 @@ reads_source ts s h =
 
 -- behind a statement that is no `source` line the names are those before it
 names_plain : (l m : UnreadLines) (c : LineContext) (s : Named) (ns : List (List ℕ)) → NextStatement l m c (Ok s) → is_source s ≡ false → SourceNames l ns → SourceNames m ns
-names_plain l m c s ns n plain d = elim (cases_Bool (begins_with (codes "source") (lexemes n.tokens))) [
-  | inl b ↦ absurd (both_ways (is_source s) plain (reads_source (drop 1 (lexemes n.tokens)) s (begins_source c (lexemes n.tokens) (Ok s) b n.reads)))
+names_plain l m c s ns n plain d = elim (cases_Bool (begins_with (codes "source") n.tokens)) [
+  | inl b ↦ absurd (both_ways (is_source s) plain (reads_source (drop 1 n.tokens) s (begins_source c n.tokens (Ok s) b n.reads)))
   | inr b ↦ lines.after_other l m ns (n.tokens, n.next, b) d
 ]
 
@@ -61,8 +61,8 @@ names_plain l m c s ns n plain d = elim (cases_Bool (begins_with (codes "source"
 names_source : (l m : UnreadLines) (c : LineContext) (name : List ℕ) (ns : List (List ℕ)) → NextStatement l m c (Ok (SourceLine name)) → SourceNames l ns →
     (more : List (List ℕ)) × (ns ≡ name ∷ more) × SourceNames m more
 names_source l m c name ns n d =
-    let b = source_begins c (lexemes n.tokens) name n.reads in
-    lines.after_source l m name ns (n.tokens, n.next, b, begins_source c (lexemes n.tokens) (Ok (SourceLine name)) b n.reads) d
+    let b = source_begins c n.tokens name n.reads in
+    lines.after_source l m name ns (n.tokens, n.next, b, begins_source c n.tokens (Ok (SourceLine name)) b n.reads) d
 
 -- ---- A file that may be opened
 

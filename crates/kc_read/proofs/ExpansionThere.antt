@@ -6,7 +6,7 @@ use Rattle.std.proofs.lemmas.List.{length-append}
 use Rattle.std.specs.List.{list_any}
 use Rattle.kc_text.specs.declared.faults.TextFault.{TextFault}
 use Rattle.kc_text.specs.Lines.{UnreadLines, TakesLine, unread_lines, Next, Ended, Taken, TooLong, IsNextLine}
-use Rattle.kc_text.specs.Tokens.{TokenView}
+use Rattle.kc_text.specs.Lexemes.{Lexeme}
 use Rattle.kc_text.proofs.Joins.{one_next_line_law}
 use Rattle.kc_text.proofs.There.{one_cutting_law}
 use Rattle.kc_expr.specs.Names.{same_name}
@@ -14,7 +14,7 @@ use Rattle.kc_read.specs.declared.refusal.Code.TheVariants as code
 use Rattle.kc_read.specs.declared.statement.OpenBlock.{OpenBlock}
 use Rattle.kc_read.specs.Blocks.{last_of}
 use Rattle.kc_read.specs.Existing.{HasOneExpansion}
-use Rattle.kc_read.specs.Expansion.{FileContext, Log, Refused, Rest, NextLine, NextStatement, refused, bytes_cause, context_of, limit_cause, inside, is_help, is_source, lexemes, logged, nothing_read, with_file, root_context, source_cause, sourcing_cause, text_cause, with_line, without_help, at_end, unclosed, too_long, no_tokens, blank, bad_line, over_limit, statement, bad_source, refused_inside, source}
+use Rattle.kc_read.specs.Expansion.{FileContext, Log, Refused, Rest, NextLine, NextStatement, refused, bytes_cause, context_of, limit_cause, inside, is_help, is_source, logged, nothing_read, with_file, root_context, source_cause, sourcing_cause, text_cause, with_line, without_help, at_end, unclosed, too_long, no_tokens, blank, bad_line, over_limit, statement, bad_source, refused_inside, source}
 use Rattle.kc_read.specs.Files.{Files}
 use Rattle.kc_read.specs.Lines.{Cause, cause}
 use Rattle.kc_read.specs.Progress.{located_blocks}
@@ -114,19 +114,19 @@ module _ (files : Files) (a : FileContext) (deeper : (own : List (Located Named)
             let x = source_named s e in
             source_there m x.0 (subst (λ y. NextStatement l m (context_of a own log) (Ok y)) x.1 n) less (source_cause files a log.total_lines x.0) refl
 
-    cut_there : (m : UnreadLines) (ts : List TokenView) (out : Option TextFault) → NextLine l m ts out → RestThere files a l own log
+    cut_there : (m : UnreadLines) (ts : List Lexeme) (out : Option TextFault) → NextLine l m ts out → RestThere files a l own log
     cut_there m ts (Some why) n = (Err (refused (text_cause why) a.file l.number), no_tokens a l m own log ts why n)
     cut_there m [] None n =
         let x = on m own log (next_less l m [] None n) in
         (x.0, blank a l m own log x.0 n x.1)
     cut_there m (t ∷ ts) None n =
-        let s = line_there (context_of a own log) (lexemes (t ∷ ts)) in
+        let s = line_there (context_of a own log) (t ∷ ts) in
         said_there m s.0 (record { tokens = t ∷ ts; some = λ e. absurd cc; next = n; reads = s.1 }) (next_less l m (t ∷ ts) None n)
 
     taken_there : (m : UnreadLines) (text : List ℕ) → TakesLine l m text → RestThere files a l own log
     taken_there m text taken =
         let c = one_cutting_law text in
-        cut_there (cond (is_help (lexemes c.0)) (without_help m) m) c.0 c.1.0 (record { middle = m; text = text; taken = taken; cut = c.1.1; left_after = refl })
+        cut_there (cond (is_help c.0) (without_help m) m) c.0 c.1.0 (record { middle = m; text = text; taken = taken; cut = c.1.1; left_after = refl })
 
     next_there : (next : Next) → IsNextLine l next → RestThere files a l own log
     next_there Ended g = end_there g (located_blocks own) refl

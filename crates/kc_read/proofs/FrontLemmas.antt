@@ -1,7 +1,7 @@
 -- An expression at the front of a line's tokens.
 use Rattle.std.proofs.Common.{◌≡◌, ℕ, zero, suc, ◌+◌, ◌-◌, ◌≤◌, List, [], ◌∷◌, map, drop, refl, sym, ap, ◌∙◌, subst, arith, inl, inr, Bool}
 use Rattle.std.proofs.lemmas.List.{drop-map}
-use Rattle.kc_text.specs.Lexemes.{lexeme}
+use Rattle.kc_text.specs.Lexemes.{lexeme, lexemes}
 use Rattle.kc_text.specs.declared.tokens.Token.{Token}
 use Rattle.kc_expr.specs.declared.parse.ExprFault.{ExprFault}
 use Rattle.kc_expr.specs.declared.parse.ExprFault.TheVariants as expr
@@ -12,9 +12,9 @@ use Rattle.kc_read.specs.declared.statement.LineFault.{LineFault}
 use Rattle.kc_read.specs.Lines.{ExpressionFault}
 use Rattle.kc_read.specs.LineReads.{IsFront, IsFault, lexemes_from, code_of}
 
-terminals-map : (ts : List Token) → map terminal_of (map (λ t. lexeme t.kind) ts) ≡ map (λ t. terminal_of (lexeme t.kind)) ts
+terminals-map : (ts : List Token) → map terminal_of (lexemes ts) ≡ map (λ t. terminal_of (lexeme t)) ts
 terminals-map [] = refl
-terminals-map (t ∷ ts) = ap (λ l. terminal_of (lexeme t.kind) ∷ l) (terminals-map ts)
+terminals-map (t ∷ ts) = ap (λ l. terminal_of (lexeme t) ∷ l) (terminals-map ts)
 
 pub terminals-lexemes_from : (tokens : List Token) (at : ℕ) → terminals (lexemes_from tokens at) ≡ terminals_from tokens at
 terminals-lexemes_from tokens at = terminals-map (drop at tokens)
@@ -32,9 +32,7 @@ drop_twice (suc m) n (x ∷ xs) = let e : suc m + n ≡ suc (m + n) = omega arit
 pub lexemes_later : (tokens : List Token) (at end : ℕ) → at ≤ end → lexemes_from tokens end ≡ drop (end - at) (lexemes_from tokens at)
 lexemes_later tokens at end h =
     let e : at + (end - at) ≡ end = omega arith in
-    ap (λ k. map (λ t. lexeme t.kind) (drop k tokens)) (sym e)
-    ∙ ap (map (λ t. lexeme t.kind)) (sym (drop_twice at (end - at) tokens))
-    ∙ sym (drop-map (λ t. lexeme t.kind) (end - at) (drop at tokens))
+    ap (lexemes_from tokens) (sym e) ∙ ap lexemes (sym (drop_twice at (end - at) tokens)) ∙ sym (drop-map lexeme (end - at) (drop at tokens))
 
 pub is_front : (condition : Bool) (old names : List (List ℕ)) (tokens : List Token) (at end : ℕ) (e : Form) → at ≤ end →
     IsParsed condition (terminals_from tokens at) (terminals_from tokens end) old names e →

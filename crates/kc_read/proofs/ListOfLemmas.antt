@@ -2,8 +2,8 @@
 use Rattle.std.proofs.Common.{◌≡◌, ◌≢◌, ◌⊎◌, inl, inr, ℕ, false, List, [], ◌∷◌, ◌++◌, Some, None, Ok, refl, sym, ap, subst, ◌∙◌}
 use Rattle.std.proofs.lemmas.Bool.{both_ways}
 use Rattle.kc_text.specs.Lines.{UnreadLines, unread_lines}
-use Rattle.kc_text.specs.Tokens.{TokenView}
-use Rattle.kc_read.specs.Expansion.{NextStatement, is_source, lexemes}
+use Rattle.kc_text.specs.Lexemes.{Lexeme}
+use Rattle.kc_read.specs.Expansion.{NextStatement, is_source}
 use Rattle.kc_read.specs.Files.{Files}
 use Rattle.kc_read.specs.Lines.{LineContext, ReadsLine}
 use Rattle.kc_read.specs.Replaced.{Owns, Replaces, OneListOf, located, no_line, no_tokens, one_more, nothing, kept, replaced}
@@ -14,12 +14,12 @@ use Rattle.kc_read.proofs.OneLine.{same_statement}
 -- ---- The statements of a file, by its next line
 
 -- the next line has tokens, which are a statement
-record Begins (file : List ℕ) (l m : UnreadLines) (ts : List TokenView) (own : List (Located Named)) : Type 0 where
+record Begins (file : List ℕ) (l m : UnreadLines) (ts : List Lexeme) (own : List (Located Named)) : Type 0 where
   pub some : ts ≢ []
   pub context : LineContext
   pub first : Named
   pub more : List (Located Named)
-  pub reads : ReadsLine context (lexemes ts) (Ok first)
+  pub reads : ReadsLine context ts (Ok first)
   pub owns : Owns file m more
   pub is : own ≡ located file l.number first ∷ more
 
@@ -49,7 +49,7 @@ same_after_statement : (file : List ℕ) (l m : UnreadLines) (c : LineContext) (
     ((more : List (Located Named)) → Owns file m more → own ≡ more) → Gives file l (Line m n.tokens None) other → located file l.number s ∷ own ≡ other
 same_after_statement file l m c s n own other same (inl x) = absurd (n.some x.0)
 same_after_statement file l m c s n own other same (inr x) =
-    ap (λ t. located file l.number t ∷ own) (same_statement c x.context (lexemes n.tokens) s x.first n.reads x.reads)
+    ap (λ t. located file l.number t ∷ own) (same_statement c x.context n.tokens s x.first n.reads x.reads)
     ∙ ap (λ ls. located file l.number x.first ∷ ls) (same x.more x.owns) ∙ sym x.is
 
 one_own : {file : List ℕ} {l : UnreadLines} {own : List (Located Named)} → Owns file l own → (other : List (Located Named)) → Owns file l other → own ≡ other

@@ -2,12 +2,13 @@
 use Rattle.std.proofs.Common.{◌≡◌, ◌≢◌, ◌⊎◌, inl, inr, ℕ, true, false, cond, List, [], ◌∷◌, ◌++◌, length, map, slice_get, Option, Some, None, MatchOption, Result, Ok, Err, refl, sym, ap, ◌∙◌, subst, arith}
 use Rattle.kc_text.specs.declared.faults.TextFault.{TextFault}
 use Rattle.kc_text.specs.Lines.{UnreadLines, IsTooLong, unread_lines}
-use Rattle.kc_text.specs.Tokens.{TokenView, IsCut}
+use Rattle.kc_text.specs.Lexemes.{Lexeme}
+use Rattle.kc_text.specs.Tokens.{IsCut}
 use Rattle.kc_text.proofs.Joins.{takes_one, takes_less, taken_is_short, too_long_some}
 use Rattle.kc_text.proofs.Once.{same_cutting}
 use Rattle.kc_read.specs.declared.refusal.Code.TheVariants as code
 use Rattle.kc_read.specs.Blocks.{last_of, open_blocks}
-use Rattle.kc_read.specs.Expansion.{FileContext, Log, Refused, Rest, IsUnclosed, NextLine, NextStatement, OneExpansion, refused, bytes_cause, context_of, limit_cause, innermost, inside, is_help, is_source, lexemes, logged, nothing_read, with_file, root_context, source_cause, text_cause, with_line, without_help, at_end, unclosed, too_long, no_tokens, blank, bad_line, over_limit, statement, bad_source, refused_inside, source}
+use Rattle.kc_read.specs.Expansion.{FileContext, Log, Refused, Rest, IsUnclosed, NextLine, NextStatement, OneExpansion, refused, bytes_cause, context_of, limit_cause, innermost, inside, is_help, is_source, logged, nothing_read, with_file, root_context, source_cause, text_cause, with_line, without_help, at_end, unclosed, too_long, no_tokens, blank, bad_line, over_limit, statement, bad_source, refused_inside, source}
 use Rattle.kc_read.specs.Files.{Files}
 use Rattle.kc_read.specs.Lines.{Cause, cause, ReadsLine}
 use Rattle.kc_read.specs.Statements.{Located, Named, SourceLine, statements}
@@ -20,7 +21,7 @@ use Rattle.kc_read.proofs.OneLine.{one_line}
 pub data Turn : Type 0 where
   Ends : Turn
   Long : Turn
-  Line : UnreadLines → List TokenView → Option TextFault → Turn
+  Line : UnreadLines → List Lexeme → Option TextFault → Turn
 
 -- how the rest of a file goes on
 abbrev pub IsTurn : UnreadLines → Turn → Type 0
@@ -28,13 +29,13 @@ IsTurn l Ends = l.lines ≡ []
 IsTurn l Long = IsTooLong l
 IsTurn l (Line m ts out) = NextLine l m ts out
 
-pub one_next : (l m n : UnreadLines) (ts us : List TokenView) (out other : Option TextFault) → NextLine l m ts out → NextLine l n us other → (m ≡ n) × (ts ≡ us) × (out ≡ other)
+pub one_next : (l m n : UnreadLines) (ts us : List Lexeme) (out other : Option TextFault) → NextLine l m ts out → NextLine l n us other → (m ≡ n) × (ts ≡ us) × (out ≡ other)
 one_next l m n ts us out other a b =
     let (middle, text) = takes_one l a.middle b.middle a.text b.text a.taken b.taken in
-    let (tokens, fault) = same_cutting b.text ts us out other (subst (λ t. IsCut t ts out) text a.cut) b.cut in
-    (a.left_after ∙ ap (λ t. cond (is_help (lexemes t)) (without_help a.middle) a.middle) tokens ∙ ap (λ k. cond (is_help (lexemes us)) (without_help k) k) middle ∙ sym b.left_after, tokens, fault)
+    let (tokens, fault) = same_cutting (subst (λ t. IsCut t ts out) text a.cut) b.cut in
+    (a.left_after ∙ ap (λ t. cond (is_help t) (without_help a.middle) a.middle) tokens ∙ ap (λ k. cond (is_help us) (without_help k) k) middle ∙ sym b.left_after, tokens, fault)
 
-ended_or_next : (l m : UnreadLines) (ts : List TokenView) (out : Option TextFault) → l.lines ≡ [] → NextLine l m ts out → ⊥
+ended_or_next : (l m : UnreadLines) (ts : List Lexeme) (out : Option TextFault) → l.lines ≡ [] → NextLine l m ts out → ⊥
 ended_or_next l m ts out e n = let less = takes_less l n.middle n.text n.taken in omega (arith, less, ap length e)
 
 ended_or_long : (l : UnreadLines) → l.lines ≡ [] → IsTooLong l → ⊥
@@ -101,7 +102,7 @@ module _ (files : Files) (a : FileContext) (l : UnreadLines) (own : List (Locate
   Gives Ends r = ((open_blocks (statements own) ≡ []) × (r ≡ Ok log)) ⊎ ((line : ℕ) × IsUnclosed own line × (r ≡ Err (refused (cause code.Block) a.file line)))
   Gives Long r = r ≡ Err (refused (cause code.LineTooLong) a.file l.number)
   Gives (Line m ts (Some why)) r = r ≡ Err (refused (text_cause why) a.file l.number)
-  Gives (Line m ts None) r = ((ts ≡ []) × Rest files a m own log r) ⊎ ((ts ≢ []) × ((s : Result Named Cause) × ReadsLine (context_of a own log) (lexemes ts) s × Says m s r))
+  Gives (Line m ts None) r = ((ts ≡ []) × Rest files a m own log r) ⊎ ((ts ≢ []) × ((s : Result Named Cause) × ReadsLine (context_of a own log) ts s × Says m s r))
 
   -- how the file goes on, and what that gives
   abbrev Goes : Result Log Refused → Type 0
@@ -136,9 +137,9 @@ says : (files : Files) (a : FileContext) (l m : UnreadLines) (own : List (Locate
 says files a l m own log s r n d = by (gives files a l own log r (Line m n.tokens None) n.next d)
   where
     by : ((n.tokens ≡ []) × Rest files a m own log r) ⊎ ((n.tokens ≢ [])
-        × ((t : Result Named Cause) × ReadsLine (context_of a own log) (lexemes n.tokens) t × Says files a l own log m t r)) → Says files a l own log m s r
+        × ((t : Result Named Cause) × ReadsLine (context_of a own log) n.tokens t × Says files a l own log m t r)) → Says files a l own log m s r
     by (inl x) = absurd (n.some x.0)
-    by (inr x) = subst (λ t. Says files a l own log m t r) (one_line (context_of a own log) (lexemes n.tokens) x.1.0 s x.1.1 n.reads) x.1.2
+    by (inr x) = subst (λ t. Says files a l own log m t r) (one_line (context_of a own log) n.tokens x.1.0 s x.1.1 n.reads) x.1.2
 
 -- ---- One outcome
 

@@ -5,10 +5,9 @@ use Rattle.std.proofs.lemmas.Bool.{cases_Bool}
 use Rattle.kc_text.specs.declared.faults.TextFault.{TextFault}
 use Rattle.kc_text.specs.Lexemes.{Lexeme}
 use Rattle.kc_text.specs.Lines.{UnreadLines, TakesLine, unread_lines, Next, Ended, Taken, TooLong, IsNextLine}
-use Rattle.kc_text.specs.Tokens.{TokenView}
 use Rattle.kc_text.proofs.Joins.{one_next_line_law}
 use Rattle.kc_text.proofs.There.{one_cutting_law}
-use Rattle.kc_read.specs.Expansion.{FileContext, Log, Refused, Rest, NextLine, NextStatement, context_of, is_help, lexemes, without_help, at_end, unclosed, too_long, no_tokens, blank, bad_line, over_limit, statement, bad_source, refused_inside, source}
+use Rattle.kc_read.specs.Expansion.{FileContext, Log, Refused, Rest, NextLine, NextStatement, context_of, is_help, without_help, at_end, unclosed, too_long, no_tokens, blank, bad_line, over_limit, statement, bad_source, refused_inside, source}
 use Rattle.kc_read.specs.Files.{Files}
 use Rattle.kc_read.specs.Lines.{LineContext, After, Cause, ReadsSource, begins_with, finish, plain_text, text_of}
 use Rattle.kc_read.specs.OpenedFiles.{sourced_files, IsNamedIn, IsNamedByOne, SourcedFilesAreNamed, HasOneListOfNames}
@@ -20,8 +19,8 @@ use Rattle.kc_read.proofs.SourceLines.{before_other, before_source, one_list}
 use Rattle.kc_read.proofs.SourceLines as lines
 use Rattle.kc_read.proofs.SourceWord.{source_begins, begins_source}
 
-abbrev begins : List TokenView → Bool
-begins ts = begins_with (codes "source") (lexemes ts)
+abbrev begins : List Lexeme → Bool
+begins ts = begins_with (codes "source") ts
 
 -- ---- What a `source` line reads
 
@@ -46,24 +45,24 @@ abbrev NamesThere : UnreadLines → Type 0
 NamesThere l = (names : List (List ℕ)) × SourceNames l names
 
 module _ (l : UnreadLines) (on : (m : UnreadLines) → length m.lines < length l.lines → NamesThere m) where
-  source_names : (m : UnreadLines) (ts : List TokenView) → NextLine l m ts None → begins ts ≡ true → (r : Result Named Cause) → ReadsSource (drop 1 (lexemes ts)) r → NamesThere l
+  source_names : (m : UnreadLines) (ts : List Lexeme) → NextLine l m ts None → begins ts ≡ true → (r : Result Named Cause) → ReadsSource (drop 1 ts) r → NamesThere l
   source_names m ts next b (Err c) reads = ([], lines.bad_source l m ts c next b reads)
   source_names m ts next b (Ok s) reads =
-      let (name, e) = reads_source (drop 1 (lexemes ts)) s reads in
+      let (name, e) = reads_source (drop 1 ts) s reads in
       let (names, d) = on m (next_less l m ts None next) in
-      (name ∷ names, before_source l m name names (ts, next, b, subst (λ x. ReadsSource (drop 1 (lexemes ts)) (Ok x)) e reads) d)
+      (name ∷ names, before_source l m name names (ts, next, b, subst (λ x. ReadsSource (drop 1 ts) (Ok x)) e reads) d)
 
-  cut_names : (m : UnreadLines) (ts : List TokenView) (out : Option TextFault) → NextLine l m ts out → NamesThere l
+  cut_names : (m : UnreadLines) (ts : List Lexeme) (out : Option TextFault) → NextLine l m ts out → NamesThere l
   cut_names m ts (Some why) next = ([], lines.no_tokens l m ts why next)
   cut_names m ts None next = elim (cases_Bool (begins ts)) [
-    | inl b ↦ let r = source_line (drop 1 (lexemes ts)) in source_names m ts next b r.0 r.1
+    | inl b ↦ let r = source_line (drop 1 ts) in source_names m ts next b r.0 r.1
     | inr b ↦ let (names, d) = on m (next_less l m ts None next) in (names, before_other l m names (ts, next, b) d)
   ]
 
   taken_names : (m : UnreadLines) (text : List ℕ) → TakesLine l m text → NamesThere l
   taken_names m text taken =
       let c = one_cutting_law text in
-      cut_names (cond (is_help (lexemes c.0)) (without_help m) m) c.0 c.1.0 (record { middle = m; text = text; taken = taken; cut = c.1.1; left_after = refl })
+      cut_names (cond (is_help c.0) (without_help m) m) c.0 c.1.0 (record { middle = m; text = text; taken = taken; cut = c.1.1; left_after = refl })
 
   next_names : (next : Next) → IsNextLine l next → NamesThere l
   next_names Ended g = ([], lines.at_end l g)
@@ -106,26 +105,26 @@ split_append (y ∷ xs) ys (z ∷ before) after x e =
 -- ---- The law
 
 -- what the next line's file names after it, it names
-named_later : (l m : UnreadLines) (ts : List TokenView) (name : List ℕ) → NextLine l m ts None →
-    (begins ts ≡ true → (s : Named) × ReadsSource (drop 1 (lexemes ts)) (Ok s)) → IsNamedIn m name → IsNamedIn l name
+named_later : (l m : UnreadLines) (ts : List Lexeme) (name : List ℕ) → NextLine l m ts None →
+    (begins ts ≡ true → (s : Named) × ReadsSource (drop 1 ts) (Ok s)) → IsNamedIn m name → IsNamedIn l name
 named_later l m ts name next reads (names, d, has) = elim (cases_Bool (begins ts)) [
   | inl b ↦
       let (s, r) = reads b in
-      let (k, e) = reads_source (drop 1 (lexemes ts)) s r in
-      (k ∷ names, before_source l m k names (ts, next, b, subst (λ x. ReadsSource (drop 1 (lexemes ts)) (Ok x)) e r) d, later name k names has)
+      let (k, e) = reads_source (drop 1 ts) s r in
+      (k ∷ names, before_source l m k names (ts, next, b, subst (λ x. ReadsSource (drop 1 ts) (Ok x)) e r) d, later name k names has)
   | inr b ↦ (names, before_other l m names (ts, next, b) d, has)
 ]
 
 -- also after a statement
 named_after : (l m : UnreadLines) (c : LineContext) (s : Named) (name : List ℕ) → NextStatement l m c (Ok s) → IsNamedIn m name → IsNamedIn l name
-named_after l m c s name n h = named_later l m n.tokens name n.next (λ b. (s, begins_source c (lexemes n.tokens) (Ok s) b n.reads)) h
+named_after l m c s name n h = named_later l m n.tokens name n.next (λ b. (s, begins_source c n.tokens (Ok s) b n.reads)) h
 
 -- a `source` line's file is named
 named_here : (l m : UnreadLines) (c : LineContext) (name : List ℕ) → NextStatement l m c (Ok (SourceLine name)) → IsNamedIn l name
 named_here l m c name n =
-    let b = source_begins c (lexemes n.tokens) name n.reads in
+    let b = source_begins c n.tokens name n.reads in
     let (names, d) = names_there m in
-    (name ∷ names, before_source l m name names (n.tokens, n.next, b, begins_source c (lexemes n.tokens) (Ok (SourceLine name)) b n.reads) d, here name names)
+    (name ∷ names, before_source l m name names (n.tokens, n.next, b, begins_source c n.tokens (Ok (SourceLine name)) b n.reads) d, here name names)
 
 -- named along the rest of the file, or in a file that was opened
 abbrev IsNamed : Files → UnreadLines → List (List ℕ) → List ℕ → Type 0

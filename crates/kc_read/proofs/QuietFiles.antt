@@ -1,19 +1,20 @@
 -- A file in which no line begins with the bytes of `source`, and none ends with a `\`, has no `source` line.
-use Rattle.std.proofs.Common.{◌≡◌, inl, inr, ℕ, suc, ◌+◌, ◌-◌, ◌<◌, Bool, true, false, cond, ◌&&◌, eqb, List, [], ◌∷◌, ◌++◌, length, take, drop, get_or, codes, None, refl, sym, ap, ◌∙◌, subst, append_assoc, append-nil, length-append, length-drop, get_or-drop, drop-cons, ◌≤◌, arith}
-use Rattle.std.specs.Prelude.{Some, IsTrue}
+use Rattle.std.proofs.Common.{◌≡◌, inl, inr, ℕ, zero, suc, ◌+◌, ◌-◌, ◌<◌, Bool, true, false, cond, ◌&&◌, eqb, List, [], ◌∷◌, ◌++◌, length, take, drop, get_or, codes, Option, None, refl, sym, ap, ◌∙◌, subst, append_assoc, append-nil, length-append, length-drop, get_or-drop, drop-cons, ◌≤◌, arith}
+use Rattle.std.specs.Prelude.{Some}
 use Rattle.std.specs.List.{slice_split, join_with_byte}
 use Rattle.std.specs.Str.Lines.{strip_carriage_return}
 use Rattle.std.proofs.lemmas.Bool.{both_ways, cases_Bool, eqb-true}
-use Rattle.std.proofs.lemmas.List.{get_or-take, length-take-le, take-append-drop}
+use Rattle.std.proofs.lemmas.List.{take-append-drop}
 use Rattle.std.proofs.lemmas.List.Splits.{join_with_byte-slice_split}
 use Rattle.std.proofs.Math.Seq.{take-append_seam}
 use Rattle.bstr.specs.Find.{OccursAt, Passes, is_byte}
+use Rattle.kc_text.specs.declared.faults.TextFault.{TextFault}
 use Rattle.kc_text.specs.Help.{after_text, column, from_other, is_help_line}
-use Rattle.kc_text.specs.Lexemes.{Lexeme, AWord, AQuoted, AnOp, Spells, is_blank}
+use Rattle.kc_text.specs.Lexemes.{Lexeme, AWord, AQuoted, AnOp, Spells}
 use Rattle.kc_text.specs.Lines.{IsFirstLine, UnreadLines, Physical, continues, joined_text, unread_lines, lines_of_parts, physical_lines}
-use Rattle.kc_text.specs.Tokens.{AreBlanks, Cuts, TokenView}
+use Rattle.kc_text.specs.Tokens.{IsAtBlank, IsCut, ended as cut_ends, stuck, skipped, taken}
 use Rattle.kc_text.proofs.Physicals.{lf}
-use Rattle.kc_read.specs.Expansion.{NextLine, is_help, lexemes, without_help}
+use Rattle.kc_read.specs.Expansion.{NextLine, is_help, without_help}
 use Rattle.kc_read.specs.Lines.{begins_with}
 use Rattle.kc_read.specs.QuietFiles.{AreAllBlank, BeginsLine, EndsLine, EndsLineBefore, HasNoJoin, HasNoSource, IsQuiet}
 use Rattle.kc_read.specs.Sources.{IsSource, SourceNames, none, here, past}
@@ -165,32 +166,38 @@ first_quiet lines (l ∷ m ∷ more) after s f =
     let all : AreQuiet (l ∷ m ∷ (more ++ after)) = subst AreQuiet f.split s in
     absurd (both_ways (continues l) all.0.0 f.joined.0)
 
-word_first : (text : List ℕ) (n k : ℕ) (x : Lexeme) (xs : List Lexeme) → NoSourceFirst text → AreBlanks text 0 k → Spells (take n (drop k text)) x →
-    begins_with (codes "source") (x ∷ xs) ≡ true → ⊥
-word_first text n k (AWord w) xs q blank spelled b =
-    let word : take n (drop k text) ≡ codes "source" = spelled.0 ∙ same_name_eq w (codes "source") b in
-    let rest : drop k text ≡ codes "source" ++ drop n (drop k text) = sym (take-append-drop n (drop k text)) ∙ ap (λ t. t ++ drop n (drop k text)) word in
-    let whole : text ≡ take k text ++ codes "source" ++ drop n (drop k text) = sym (take-append-drop k text) ∙ ap (λ t. take k text ++ t) rest ∙ sym (append_assoc (take k text) (codes "source") _) in
-    let some : length (drop k text) ≡ 6 + length (drop n (drop k text)) = ap length rest ∙ length-append (codes "source") (drop n (drop k text)) in
-    let long : length (take k text) ≡ k = length-take-le k text (omega (arith, length-drop k text)) in
-    q (take k text) (drop n (drop k text)) whole (λ j lt. subst (λ b. IsTrue (is_blank b)) (sym (get_or-take k text j 0 (omega arith))) (blank.1 j (omega arith) (omega arith)))
-word_first text n k (AQuoted t) xs q blank spelled b = absurd cc
-word_first text n k (AnOp o) xs q blank spelled b = absurd cc
+word_first : (text : List ℕ) (n : ℕ) (x : Lexeme) (xs : List Lexeme) → NoSourceFirst text → Spells (take n text) x → begins_with (codes "source") (x ∷ xs) ≡ true → ⊥
+word_first text n (AWord w) xs q spelled b =
+    let word : take n text ≡ codes "source" = spelled.0 ∙ same_name_eq w (codes "source") b in
+    q [] (drop n text) (sym (take-append-drop n text) ∙ ap (λ t. t ++ drop n text) word) (λ j lt. absurd (omega arith))
+word_first text n (AQuoted t) xs q spelled b = absurd cc
+word_first text n (AnOp o) xs q spelled b = absurd cc
 
-no_source_word : (text : List ℕ) (ts : List TokenView) (q : ℕ) → NoSourceFirst text → Cuts text 0 ts q → begins_with (codes "source") (lexemes ts) ≡ true → ⊥
-no_source_word text [] q s cut b = absurd cc
-no_source_word text (t ∷ ts) q s cut b = word_first text (t.end - t.start) t.start t.lexeme (lexemes ts) s cut.0 cut.1.longest.spelled b
+-- behind a blank
+after_blank : (text : List ℕ) → IsAtBlank text → NoSourceFirst text → NoSourceFirst (drop 1 text)
+after_blank [] b q = absurd cc
+after_blank (c ∷ text) b q = λ blanks after whole all. q (c ∷ blanks) after (ap (λ t. c ∷ t) whole) (all_blank blanks all)
+  where
+    all_blank : (blanks : List ℕ) → AreAllBlank blanks → AreAllBlank (c ∷ blanks)
+    all_blank blanks all zero lt = b
+    all_blank blanks all (suc k) lt = all k (omega arith)
 
-quiet_after : (l m : UnreadLines) (ts : List TokenView) → AreQuiet l.lines → NextLine l m ts None → AreQuiet m.lines
+no_source_word : {text : List ℕ} {ts : List Lexeme} {out : Option TextFault} → NoSourceFirst text → IsCut text ts out → begins_with (codes "source") ts ≡ true → ⊥
+no_source_word q (cut_ends e) b = absurd cc
+no_source_word q (stuck s) b = absurd cc
+no_source_word {text} q (skipped blank c) b = no_source_word (after_blank text blank q) c b
+no_source_word {text} q (taken {n = n} {x = x} {ts = ts} h c) b = word_first text n x ts q h.spelled b
+
+quiet_after : (l m : UnreadLines) (ts : List Lexeme) → AreQuiet l.lines → NextLine l m ts None → AreQuiet m.lines
 quiet_after l m ts s n =
     let after = (first_quiet l.lines n.taken.0 n.middle.lines s n.taken.1).1 in
-    subst (λ (k : UnreadLines). AreQuiet k.lines) (sym n.left_after) (help_quiet (is_help (lexemes ts)) n.middle after)
+    subst (λ (k : UnreadLines). AreQuiet k.lines) (sym n.left_after) (help_quiet (is_help ts) n.middle after)
 
 no_source_line : (l m : UnreadLines) (name : List ℕ) → AreQuiet l.lines → IsSource l m name → ⊥
 no_source_line l m name s line =
     let (ts, next, begins, reads) = line in
     let text = (first_quiet l.lines next.taken.0 next.middle.lines s next.taken.1).0 in
-    no_source_word next.text ts next.cut.0 (subst NoSourceFirst (sym next.taken.2) text) next.cut.2 begins
+    no_source_word (subst NoSourceFirst (sym next.taken.2) text) next.cut begins
 
 nothing_passed : (l m n : UnreadLines) (name : List ℕ) → AreQuiet l.lines → spec.Passes l m → IsSource m n name → ⊥
 nothing_passed l m n name s (here k) line = no_source_line l n name s line

@@ -3,7 +3,7 @@ use Rattle.std.specs.Bool.{⊤}
 use Rattle.std.proofs.Common.{IfErr, IsErrAnd, take, ◌≡◌, ◌≢◌, ℕ, ◌-◌, ◌<◌, Bool, true, false, cond, List, [], ◌∷◌, ◌++◌, length, Option, Some, None, Result, Ok, Err, refl, sym, ap, ◌∙◌, subst, map, arith, append-nil}
 use Rattle.std.proofs.lemmas.Result.{err_from_is_err_and}
 use Rattle.kc_text.specs.Lines.{UnreadLines, unread_lines}
-use Rattle.kc_text.specs.Tokens.{TokenView}
+use Rattle.kc_text.specs.Lexemes.{Lexeme}
 use Rattle.kc_text.specs.declared.faults.TextFault.{TextFault}
 use Rattle.kc_text.proofs.Helps.{after_help-le}
 use Rattle.kc_text.proofs.Joins.{takes_less}
@@ -17,7 +17,7 @@ use Rattle.kc_read.specs.declared.statement.Statement.{Statement}
 use Rattle.kc_read.specs.declared.statement.Statement.TheVariants as made
 use Rattle.kc_read.specs.Blocks.{entry_of, is_attribute, last_no_attribute, last_of}
 use Rattle.kc_read.specs.Entries.{IsLastFile}
-use Rattle.kc_read.specs.Expansion.{FileContext, Log, Rest, refused, context_of, inside, is_help, is_source, lexemes, logged, with_file, source_cause, sourcing_cause, with_line, without_help, NextLine, NextStatement, at_end, unclosed, too_long, no_tokens, blank, bad_line, over_limit, statement, bad_source, refused_inside, source}
+use Rattle.kc_read.specs.Expansion.{FileContext, Log, Rest, refused, context_of, inside, is_help, is_source, logged, with_file, source_cause, sourcing_cause, with_line, without_help, NextLine, NextStatement, at_end, unclosed, too_long, no_tokens, blank, bad_line, over_limit, statement, bad_source, refused_inside, source}
 use Rattle.kc_read.specs.Files.{Files}
 use Rattle.kc_read.specs.Lines.{LineContext, Cause, cause, is_config, is_entry}
 use Rattle.kc_read.specs.Progress.{HasAdvanced, IsNextRead, IsReading, IsStatementRead, IsEnded, IsFileRead, IsOpenAtEnd, IsProgress, IsRestRefusal, IsState, IsTaken, limit_view, open_names}
@@ -36,17 +36,17 @@ use Rattle.kc_read.proofs.ShapeLemmas.{made_shape}
 use Rattle.kc_read.proofs.TurnLemmas.{adds, enables, read_suits}
 
 -- A line is taken from what is left of a file.
-pub next_less : (l m : UnreadLines) (ts : List TokenView) (out : Option TextFault) → NextLine l m ts out → length m.lines < length l.lines
+pub next_less : (l m : UnreadLines) (ts : List Lexeme) (out : Option TextFault) → NextLine l m ts out → length m.lines < length l.lines
 next_less l m ts out n =
     let less : length n.middle.lines < length l.lines = takes_less l n.middle n.text n.taken in
-    by (is_help (lexemes ts)) less n.left_after
+    by (is_help ts) less n.left_after
   where
     by : (b : Bool) → length n.middle.lines < length l.lines → m ≡ cond b (without_help n.middle) n.middle → length m.lines < length l.lines
     by true less e = omega (arith, less, after_help-le n.middle.lines, ap (λ x. length x.lines) e)
     by false less e = omega (arith, less, ap (λ x. length x.lines) e)
 
-pub next_clear : (l m : UnreadLines) (ts : List TokenView) (out : Option TextFault) → NextLine l m ts out → m.refusal ≡ None
-next_clear l m ts out n = by (is_help (lexemes ts)) n.left_after
+pub next_clear : (l m : UnreadLines) (ts : List Lexeme) (out : Option TextFault) → NextLine l m ts out → m.refusal ≡ None
+next_clear l m ts out n = by (is_help ts) n.left_after
   where
     by : (b : Bool) → m ≡ cond b (without_help n.middle) n.middle → m.refusal ≡ None
     by true e = ap (λ x. x.refusal) e ∙ n.taken.5
@@ -105,7 +105,7 @@ pub last_is : (files : Files) (first : List (List ℕ)) (known names : List (Lis
     IsMade known names (made.Attribute b) x → NextStatement l m (context_of a own log) (Ok x) → IsLastFile p.entries f.file.value.items
 last_is files first known names a l m own log f p b x i is next =
     let here : is_attribute x ≡ true = sym (ap (λ z. z.1) (made_shape known names (made.Attribute b) x is)) ∙ attribute_is b in
-    subst (IsLastFile p.entries) (sym i.frame.file) (i.goes_on (adds (context_of a own log) x (read_suits (context_of a own log) (lexemes next.tokens) x next.reads) here))
+    subst (IsLastFile p.entries) (sym i.frame.file) (i.goes_on (adds (context_of a own log) x (read_suits (context_of a own log) next.tokens x next.reads) here))
 
 -- a statement that is no `source` line
 pub statement_goes : (files : Files) (first : List (List ℕ)) (known names : List (List ℕ)) (a : FileContext) (l m : UnreadLines)
@@ -116,7 +116,7 @@ statement_goes files first known names a l m own log f g p q s x line i is next 
   own_now = with_line own a line x;
   log_now = logged log a line x;
   state = state_taken first known names a own log f g p q s x line i is t
-      (enables (context_of a own log) x (read_suits (context_of a own log) (lexemes next.tokens) x next.reads));
+      (enables (context_of a own log) x (read_suits (context_of a own log) next.tokens x next.reads));
   follows = λ r rest.
       statement a l m own log x r next (sym (ap (λ z. z.4) (made_shape known names s x is)) ∙ src) (sym (effect_same first known names a own log f p s x i is) ∙ allowed)
       (subst (λ n. Rest files a m (with_line own a n x) (logged log a n x) r) e rest);

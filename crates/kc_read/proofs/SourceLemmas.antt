@@ -4,15 +4,15 @@ use Rattle.kc_text.specs.declared.faults.TextFault.{TextFault}
 use Rattle.kc_text.specs.declared.faults.TextFault.TheVariants as fault
 use Rattle.kc_text.specs.declared.tokens.Token.{Token}
 use Rattle.kc_text.specs.Lines.{UnreadLines, TakesLine, IsLineFault}
-use Rattle.kc_text.specs.Tokens.{TokenView, IsCut, IsCutting, IsRefused, token_views}
+use Rattle.kc_text.specs.Lexemes.{Lexeme, lexemes}
+use Rattle.kc_text.specs.Tokens.{IsCut, IsCutting, IsRefused}
 use Rattle.kc_read.specs.LineReads.{lexemes_from}
-use Rattle.kc_read.specs.Expansion.{NextLine, is_help, lexemes, without_help}
+use Rattle.kc_read.specs.Expansion.{NextLine, is_help, without_help}
 use Rattle.kc_read.specs.Lines.{Cause, ReadsSource, begins_with}
 use Rattle.kc_read.specs.Sources.{SourceNames}
 use Rattle.kc_read.specs.SourceSteps.{HasMoreLines, IsFound}
 use Rattle.kc_read.specs.Statements.{SourceLine}
 use Rattle.kc_read.proofs.FrontLemmas.{after_one}
-use Rattle.kc_read.proofs.StepLemmas.{lexemes-token_views}
 use Rattle.std.specs.declared.alloc.AllocError.{AllocError}
 use Rattle.kc_read.proofs.ListLemmas.{map-push}
 use Rattle.kc_read.proofs.RestLemmas.{next_clear, next_less}
@@ -36,32 +36,30 @@ line_ends old why clear is ne = by why (cause_none old.refusal (IsLineFault old 
     by fault.BadToken h ne = absurd h
     by fault.Macro h ne = absurd h
 
-refused_line : (old mid : UnreadLines) (text : List ℕ) (ts : List TokenView) (why : TextFault) → TakesLine old mid text → IsCut text ts (Some why) → SourceNames old []
-refused_line old mid text ts why t k = no_tokens old (cond (is_help (lexemes ts)) (without_help mid) mid) ts why (record { middle = mid; text = text; taken = t; cut = k; left_after = refl })
+refused_line : (old mid : UnreadLines) (text : List ℕ) (ts : List Lexeme) (why : TextFault) → TakesLine old mid text → IsCut text ts (Some why) → SourceNames old []
+refused_line old mid text ts why t k = no_tokens old (cond (is_help ts) (without_help mid) mid) ts why (record { middle = mid; text = text; taken = t; cut = k; left_after = refl })
 
 pub cut_ends : (old mid : UnreadLines) (text : List ℕ) (why : TextFault) → TakesLine old mid text → IsRefused text why → why ≢ fault.Memory → SourceNames old []
-cut_ends old mid text fault.Macro t k ne = refused_line old mid text k.0 fault.Macro t k.1
-cut_ends old mid text fault.BadToken t k ne = refused_line old mid text k.0 fault.BadToken t k.1
-cut_ends old mid text (fault.LineTooLong n) t k ne = absurd k
 cut_ends old mid text fault.Memory t k ne = absurd (ne refl)
+cut_ends old mid text why t k ne = refused_line old mid text k.0 why t k.1
 
 -- a line that is taken
-pub taken_line : (old mid new : UnreadLines) (text : List ℕ) (ts : List Token) → TakesLine old mid text → IsCutting text (token_views ts) →
-    new ≡ cond (is_help (lexemes (token_views ts))) (without_help mid) mid → NextLine old new (token_views ts) None
+pub taken_line : (old mid new : UnreadLines) (text : List ℕ) (ts : List Token) → TakesLine old mid text → IsCutting text (lexemes ts) →
+    new ≡ cond (is_help (lexemes ts)) (without_help mid) mid → NextLine old new (lexemes ts) None
 taken_line old mid new text ts t k e = record { middle = mid; text = text; taken = t; cut = k; left_after = e }
 
-pub begins_pieces : (ts : List Token) (b : Bool) → b ≡ begins_with (codes "source") (lexemes_from ts 0) → begins_with (codes "source") (lexemes (token_views ts)) ≡ b
-begins_pieces ts b e = ap (begins_with (codes "source")) (lexemes-token_views ts) ∙ sym e
+pub begins_pieces : (ts : List Token) (b : Bool) → b ≡ begins_with (codes "source") (lexemes_from ts 0) → begins_with (codes "source") (lexemes ts) ≡ b
+begins_pieces ts b e = sym e
 
-rest_pieces : (ts : List Token) → drop 1 (lexemes (token_views ts)) ≡ lexemes_from ts 1
-rest_pieces ts = ap (drop 1) (lexemes-token_views ts) ∙ after_one ts 0
+rest_pieces : (ts : List Token) → drop 1 (lexemes ts) ≡ lexemes_from ts 1
+rest_pieces ts = after_one ts 0
 
-pub source_found : (ts : List Token) (name : List ℕ) → ReadsSource (lexemes_from ts 1) (Ok (SourceLine name)) → ReadsSource (drop 1 (lexemes (token_views ts))) (Ok (SourceLine name))
+pub source_found : (ts : List Token) (name : List ℕ) → ReadsSource (lexemes_from ts 1) (Ok (SourceLine name)) → ReadsSource (drop 1 (lexemes ts)) (Ok (SourceLine name))
 source_found ts name h = subst (λ ls. ReadsSource ls (Ok (SourceLine name))) (sym (rest_pieces ts)) h
 
-pub source_bad : (old new : UnreadLines) (ts : List Token) (c : Cause) → NextLine old new (token_views ts) None →
-    begins_with (codes "source") (lexemes (token_views ts)) ≡ true → ReadsSource (lexemes_from ts 1) (Err c) → SourceNames old []
-source_bad old new ts c n b h = bad_source old new (token_views ts) c n b (subst (λ ls. ReadsSource ls (Err c)) (sym (rest_pieces ts)) h)
+pub source_bad : (old new : UnreadLines) (ts : List Token) (c : Cause) → NextLine old new (lexemes ts) None →
+    begins_with (codes "source") (lexemes ts) ≡ true → ReadsSource (lexemes_from ts 1) (Err c) → SourceNames old []
+source_bad old new ts c n b h = bad_source old new (lexemes ts) c n b (subst (λ ls. ReadsSource ls (Err c)) (sym (rest_pieces ts)) h)
 
 -- The names so far, and those that follow.
 abbrev pub Follows : UnreadLines → UnreadLines → List (List ℕ) → Type 0

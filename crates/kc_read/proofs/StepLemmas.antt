@@ -1,11 +1,11 @@
 -- The next line of a file.
-use Rattle.std.proofs.Common.{◌≡◌, ◌≢◌, ℕ, Bool, true, false, cond, List, [], ◌∷◌, codes, Option, Some, None, Result, Err, refl, sym, ap, ◌∙◌, subst}
+use Rattle.std.proofs.Common.{◌≡◌, ◌≢◌, ℕ, Bool, true, false, cond, List, [], ◌∷◌, codes, Option, Some, None, Result, Err, refl, sym, ap, ◌∙◌}
 use Rattle.std.specs.Prelude.{MatchOption}
 use Rattle.kc_text.specs.declared.faults.TextFault.{TextFault}
 use Rattle.kc_text.specs.declared.faults.TextFault.TheVariants as fault
 use Rattle.kc_text.specs.Lines.{UnreadLines, TakesLine, IsLineFault}
 use Rattle.kc_text.specs.Help.{Drops, after_help}
-use Rattle.kc_text.specs.Tokens.{TokenView, IsCut, IsCutting, IsRefused}
+use Rattle.kc_text.specs.Tokens.{IsCut, IsCutting, IsRefused}
 use Rattle.kc_read.specs.declared.refusal.Refusal.{Refusal}
 use Rattle.kc_read.specs.declared.refusal.Code.TheVariants as code
 use Rattle.kc_read.specs.Statements.{Named}
@@ -13,15 +13,10 @@ use Rattle.kc_read.specs.declared.statement.LineFault.{LineFault}
 use Rattle.kc_read.specs.LineReads.{IsFault, cause_of, lexemes_from}
 use Rattle.kc_read.specs.RefusalView.{refusal_view}
 use Rattle.kc_read.specs.NextStep.{IsStepRefusal, StepFault, too_long, no_tokens, refused_line, long_line}
-use Rattle.kc_text.specs.Lexemes.{Lexeme, lexeme}
-use Rattle.kc_text.specs.Tokens.{token_views}
+use Rattle.kc_text.specs.Lexemes.{Lexeme, lexemes}
 use Rattle.kc_text.specs.declared.tokens.Token.{Token}
 use Rattle.kc_read.specs.Lines.{LineContext, Cause, cause, begins_with, ReadsLine}
-use Rattle.kc_read.specs.Expansion.{lexemes, is_help, without_help, NextStatement, refused, text_cause}
-
-pub lexemes-token_views : (ts : List Token) → lexemes (token_views ts) ≡ lexemes_from ts 0
-lexemes-token_views [] = refl
-lexemes-token_views (t ∷ ts) = ap (λ l. lexeme t.kind ∷ l) (lexemes-token_views ts)
+use Rattle.kc_read.specs.Expansion.{is_help, without_help, NextStatement, refused, text_cause}
 
 pub help_first : (ls : List Lexeme) (b : Bool) → b ≡ begins_with (codes "help") ls → b ≡ true → b ≡ is_help ls
 help_first ls b e t = let h : begins_with (codes "help") ls ≡ true = sym e ∙ t in rw h t
@@ -47,23 +42,15 @@ line_fault file c old why r line a clear cause_is number_is a_is view = by why (
     by fault.BadToken h d e ne = absurd h
     by fault.Macro h d e ne = absurd h
 
-refused_tokens : (c : LineContext) (old mid : UnreadLines) (text : List ℕ) (ts : List TokenView) (why : TextFault) → TakesLine old mid text →
+refused_tokens : (c : LineContext) (old mid : UnreadLines) (text : List ℕ) (ts : List Lexeme) (why : TextFault) → TakesLine old mid text →
     IsCut text ts (Some why) → StepFault c old (text_cause why)
-refused_tokens c old mid text ts why t k = no_tokens (cond (is_help (lexemes ts)) (without_help mid) mid) ts why (record { middle = mid; text = text; taken = t; cut = k; left_after = refl })
+refused_tokens c old mid text ts why t k = no_tokens (cond (is_help ts) (without_help mid) mid) ts why (record { middle = mid; text = text; taken = t; cut = k; left_after = refl })
 
 pub lex_fault : (file : List ℕ) (c : LineContext) (old mid : UnreadLines) (text : List ℕ) (why : TextFault) (r : Refusal) (line : ℕ) (a : Cause) →
     TakesLine old mid text → IsRefused text why → line ≡ old.number → a ≡ text_cause why → (r.code ≢ code.Memory → refusal_view r ≡ refused a file line) →
     IsStepRefusal file c old r
-lex_fault file c old mid text fault.Macro r line a t k d e view ne =
-    (text_cause fault.Macro, refused_tokens c old mid text k.0 fault.Macro t k.1, view_with r a (text_cause fault.Macro) file line old.number e d (view ne))
-lex_fault file c old mid text fault.BadToken r line a t k d e view ne = (
-  text_cause fault.BadToken,
-  refused_tokens c old mid text k.0 fault.BadToken t k.1,
-  view_with r a (text_cause fault.BadToken) file line old.number e d
-      (view ne),
-)
-lex_fault file c old mid text (fault.LineTooLong n) r line a t k d e view ne = absurd k
 lex_fault file c old mid text fault.Memory r line a t k d e view ne = absurd (ne (ap (λ v. v.code) (view ne) ∙ ap (λ x. x.code) e))
+lex_fault file c old mid text why r line a t k d e view ne = (text_cause why, refused_tokens c old mid text k.0 why t k.1, view_with r a (text_cause why) file line old.number e d (view ne))
 
 pub left_help : (ls : List Lexeme) (mid new : UnreadLines) → is_help ls ≡ true → Drops mid new (after_help mid.lines) → new ≡ cond (is_help ls) (without_help mid) mid
 left_help ls mid new t d = rw t (λ i. record { lines = d.lines i; number = d.number i; refusal = d.refusal i })
@@ -72,18 +59,18 @@ pub left_other : (ls : List Lexeme) (mid new : UnreadLines) → is_help ls ≡ f
 left_other ls mid new f e = rw f e
 
 pub next_statement : (c : LineContext) (old mid new : UnreadLines) (text : List ℕ) (ts : List Token) (r : Result Named Cause) → TakesLine old mid text →
-    IsCutting text (token_views ts) → ts ≢ [] → ReadsLine c (lexemes_from ts 0) r → new ≡ cond (is_help (lexemes (token_views ts))) (without_help mid) mid →
+    IsCutting text (lexemes ts) → ts ≢ [] → ReadsLine c (lexemes_from ts 0) r → new ≡ cond (is_help (lexemes ts)) (without_help mid) mid →
     NextStatement old new c r
 next_statement c old mid new text [] r t k some reads e = absurd (some refl)
 next_statement c old mid new text (x ∷ xs) r t k some reads e = record {
-  tokens = token_views (x ∷ xs);
+  tokens = lexemes (x ∷ xs);
   some = λ p. absurd cc;
   next = record { middle = mid; text = text; taken = t; cut = k; left_after = e };
-  reads = subst (λ ls. ReadsLine c ls r) (sym (lexemes-token_views (x ∷ xs))) reads;
+  reads = reads;
 }
 
 pub read_refused : (file : List ℕ) (c : LineContext) (old mid new : UnreadLines) (text : List ℕ) (ts : List Token) (f : LineFault) (r : Refusal) (line : ℕ) →
-    TakesLine old mid text → IsCutting text (token_views ts) → ts ≢ [] → new ≡ cond (is_help (lexemes (token_views ts))) (without_help mid) mid →
+    TakesLine old mid text → IsCutting text (lexemes ts) → ts ≢ [] → new ≡ cond (is_help (lexemes ts)) (without_help mid) mid →
     IsFault f (λ y. ReadsLine c (lexemes_from ts 0) (Err y)) → line ≡ old.number → (r.code ≢ code.Memory → refusal_view r ≡ refused (cause_of f) file line) →
     IsStepRefusal file c old r
 read_refused file c old mid new text ts f r line t k some e h d view ne =

@@ -1,5 +1,5 @@
 -- Trusted: The expanded list: the statements of a file, with those of a sourced file in place of its `source` line.
-use Rattle.std.specs.Prelude.{◌≡◌, ◌≢◌, ℕ, ◌+◌, ◌-◌, List, [], ◌∷◌, ◌++◌, length, map, Bool, true, false, ◌||◌, nat_le, nat_lt, Option, Some, None, Result, Ok, Err, if◌then◌else◌, MatchOption}
+use Rattle.std.specs.Prelude.{◌≡◌, ◌≢◌, ℕ, ◌+◌, ◌-◌, List, [], ◌∷◌, ◌++◌, length, Bool, true, false, ◌||◌, nat_le, nat_lt, Option, Some, None, Result, Ok, Err, if◌then◌else◌, MatchOption}
 use Rattle.std.specs.List.{list_any}
 use Rattle.kc_expr.specs.Limits.{most_symbols}
 use Rattle.kc_read.specs.Limits.{most_blocks, most_files, most_lines}
@@ -8,7 +8,7 @@ use Rattle.kc_text.specs.declared.faults.TextFault.TheVariants as fault
 use Rattle.kc_text.specs.Help.{after_help}
 use Rattle.kc_text.specs.Lexemes.{Lexeme}
 use Rattle.kc_text.specs.Lines.{UnreadLines, TakesLine, IsTooLong, unread_lines, physical_lines, line_number}
-use Rattle.kc_text.specs.Tokens.{TokenView, IsCut}
+use Rattle.kc_text.specs.Tokens.{IsCut}
 use Rattle.kc_expr.specs.Names.{same_name, mention, all_mentioned}
 use Rattle.kc_read.specs.declared.refusal.Code.{Code}
 use Rattle.kc_read.specs.declared.refusal.Code.TheVariants as code
@@ -120,26 +120,23 @@ logged log a n s = record { lines = with_line log.lines a n s; total_lines = log
 abbrev pub without_help : UnreadLines → UnreadLines
 without_help l = record { lines = after_help l.lines; number = line_number (l.number + (length l.lines - length (after_help l.lines))); refusal = l.refusal }
 
-abbrev pub lexemes : List TokenView → List Lexeme
-lexemes = map (λ t. t.lexeme)
-
 abbrev pub is_help : List Lexeme → Bool
 is_help ts = begins_with help_word ts || begins_with old_help_word ts
 
 -- the next logical line is cut into these tokens; m is left after it, help lines aside
-pub record NextLine (l m : UnreadLines) (ts : List TokenView) (out : Option TextFault) : Type 0 where
+pub record NextLine (l m : UnreadLines) (ts : List Lexeme) (out : Option TextFault) : Type 0 where
   pub middle : UnreadLines
   pub text : List ℕ
   pub taken : TakesLine l middle text
   pub cut : IsCut text ts out
-  pub left_after : m ≡ (if is_help (lexemes ts) then without_help middle else middle)
+  pub left_after : m ≡ (if is_help ts then without_help middle else middle)
 
 -- the next line is a statement
 pub record NextStatement (l m : UnreadLines) (c : LineContext) (s : Result Named Cause) : Type 0 where
-  pub tokens : List TokenView
+  pub tokens : List Lexeme
   pub some : tokens ≢ []
   pub next : NextLine l m tokens None
-  pub reads : ReadsLine c (lexemes tokens) s
+  pub reads : ReadsLine c tokens s
 
 abbrev pub is_source : {E L S : Type 0} → Statement E L S → Bool
 is_source (SourceLine t) = true
@@ -169,7 +166,7 @@ pub data Rest (files : Files) : FileContext → UnreadLines → List (Located Na
   unclosed : (a : FileContext) (l : UnreadLines) (own : List (Located Named)) (log : Log) (line : ℕ) → l.lines ≡ [] → IsUnclosed own line →
       Rest files a l own log (Err (refused (cause code.Block) a.file line))
   too_long : (a : FileContext) (l : UnreadLines) (own : List (Located Named)) (log : Log) → IsTooLong l → Rest files a l own log (Err (refused (cause code.LineTooLong) a.file l.number))
-  no_tokens : (a : FileContext) (l m : UnreadLines) (own : List (Located Named)) (log : Log) (ts : List TokenView) (why : TextFault) →
+  no_tokens : (a : FileContext) (l m : UnreadLines) (own : List (Located Named)) (log : Log) (ts : List Lexeme) (why : TextFault) →
       NextLine l m ts (Some why) → Rest files a l own log (Err (refused (text_cause why) a.file l.number))
   blank : (a : FileContext) (l m : UnreadLines) (own : List (Located Named)) (log : Log) (r : Result Log Refused) → NextLine l m [] None → Rest files a m own log r → Rest files a l own log r
   bad_line : (a : FileContext) (l m : UnreadLines) (own : List (Located Named)) (log : Log) (c : Cause) → NextStatement l m (context_of a own log) (Err c) →

@@ -1,12 +1,12 @@
 -- For proofs: What the calls that read a line answer.
-use Rattle.std.specs.Prelude.{◌≡◌, ◌≢◌, ℕ, ◌+◌, ◌<◌, List, [], ◌∷◌, length, map, drop, Bool, true, false, Option, Some, None, Result, Ok, Err, option_map}
+use Rattle.std.specs.Prelude.{◌≡◌, ◌≢◌, ℕ, ◌+◌, ◌<◌, List, [], ◌∷◌, length, drop, Bool, true, false, Option, Some, None, Result, Ok, Err, option_map}
 use Rattle.kc_expr.specs.Form.{Form, Leaf}
 use Rattle.kc_expr.specs.Grammar.{Disjunction, Atom, leaf, meaning_or, names_in, names_in_atom}
 use Rattle.kc_expr.specs.Names.{all_mentioned}
 use Rattle.kc_expr.specs.declared.parse.ExprFault.{ExprFault}
 use Rattle.kc_expr.specs.declared.parse.ExprFault.TheVariants as expr
 use Rattle.kc_text.specs.Escapes.{unescape}
-use Rattle.kc_text.specs.Lexemes.{Lexeme, lexeme}
+use Rattle.kc_text.specs.Lexemes.{Lexeme, lexeme, lexemes}
 use Rattle.kc_text.specs.declared.tokens.Token.{Token}
 use Rattle.kc_read.specs.declared.refusal.Code.{Code}
 use Rattle.kc_read.specs.declared.refusal.Code.TheVariants as code
@@ -14,12 +14,11 @@ use Rattle.kc_read.specs.declared.statement.LineFault.{LineFault}
 use Rattle.kc_read.specs.declared.statement.Statement.{Statement}
 use Rattle.kc_read.specs.Statements.{Named, numbered, names_in_statement, names_in_condition}
 use Rattle.kc_read.specs.Lines.{Cause, front, StartsExpression, IsWhole, IsCondition}
-use Rattle.kc_text.specs.declared.tokens.TokenKind.{TokenKind}
 use Rattle.kc_read.specs.StatementViews.{ForLater, statement_view}
 
 -- the tokens from a place on
 abbrev pub lexemes_from : List Token → ℕ → List Lexeme
-lexemes_from tokens at = map (λ t. lexeme t.kind) (drop at tokens)
+lexemes_from tokens at = lexemes (drop at tokens)
 
 -- what a refusal of a line says, unless memory ran out
 abbrev pub cause_of : LineFault → Cause
@@ -30,9 +29,9 @@ abbrev pub IsFault : LineFault → (Cause → Type 0) → Type 0
 IsFault f P = f.code ≢ code.Memory → P (cause_of f)
 
 -- the token at a place, if there is one
-abbrev pub IsToken : Option TokenKind → List Token → ℕ → Type 0
+abbrev pub IsToken : Option Token → List Token → ℕ → Type 0
 IsToken None tokens at = lexemes_from tokens at ≡ []
-IsToken (Some k) tokens at = (at < length tokens) × (lexemes_from tokens at ≡ lexeme k ∷ lexemes_from tokens (at + 1))
+IsToken (Some t) tokens at = (at < length tokens) × (lexemes_from tokens at ≡ lexeme t ∷ lexemes_from tokens (at + 1))
 
 -- the code of an expression's fault
 abbrev pub code_of : ExprFault → Code

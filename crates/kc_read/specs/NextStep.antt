@@ -10,7 +10,7 @@ use Rattle.kc_read.specs.Lines.{LineContext, Cause, cause}
 use Rattle.kc_read.specs.Expansion.{refused, NextLine, NextStatement, text_cause}
 use Rattle.kc_read.specs.LineReads.{IsMade}
 use Rattle.kc_text.specs.Lines.{IsTooLong}
-use Rattle.kc_text.specs.Tokens.{TokenView}
+use Rattle.kc_text.specs.Lexemes.{Lexeme}
 use Rattle.kc_text.specs.declared.faults.TextFault.{TextFault}
 use Rattle.kc_text.specs.declared.faults.TextFault.TheVariants as fault
 use Rattle.kc_read.specs.RefusalView.{refusal_view}
@@ -31,7 +31,7 @@ IsStep known names c old new (step.Next n s) = (x : Named) × (n ≡ old.number)
 -- the first fault of the line
 pub data StepFault (c : LineContext) (old : UnreadLines) : Cause → Type 0 where
   too_long : IsTooLong old → StepFault c old (cause code.LineTooLong)
-  no_tokens : (new : UnreadLines) (ts : List TokenView) (why : TextFault) → NextLine old new ts (Some why) → StepFault c old (text_cause why)
+  no_tokens : (new : UnreadLines) (ts : List Lexeme) (why : TextFault) → NextLine old new ts (Some why) → StepFault c old (text_cause why)
   refused_line : (new : UnreadLines) (why : Cause) → NextStatement old new c (Err why) → StepFault c old why
 
 abbrev pub IsStepRefusal : List ℕ → LineContext → UnreadLines → Refusal → Type 0

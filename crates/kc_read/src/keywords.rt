@@ -1,36 +1,45 @@
 //! The words that begin a line.
 
 ghost use Rattle.std.specs.Prelude.{◌≡◌};
+ghost use Rattle.kc_expr.specs.Names.{same_name};
 ghost use Rattle.kc_read.specs.Lines as spec;
 
 use crate::statement::Keyword;
 use kc_expr::expression::Kind;
 
+/// Whether two words are the same. Their lengths are compared first: most words differ in them.
+#[inline(always)]
+pub(crate) fn same_word(word: &[u8], other: &[u8]) -> bool
+    ensures { result ≡ same_name word.now other.now }
+{
+    word.len() == other.len() && word == other
+}
+
 // The words that begin statements.
 fn block_word(word: &[u8]) -> Option<Keyword>
     ensures { result ≡ spec.keyword_in spec.block_words word.now }
 {
-    if word == b"config".as_slice() {
+    if same_word(word, b"config") {
         Some(Keyword::Config)
-    } else if word == b"menuconfig".as_slice() {
+    } else if same_word(word, b"menuconfig") {
         Some(Keyword::Config)
-    } else if word == b"if".as_slice() {
+    } else if same_word(word, b"if") {
         Some(Keyword::If)
-    } else if word == b"endif".as_slice() {
+    } else if same_word(word, b"endif") {
         Some(Keyword::EndIf)
-    } else if word == b"comment".as_slice() {
+    } else if same_word(word, b"comment") {
         Some(Keyword::Comment)
-    } else if word == b"source".as_slice() {
+    } else if same_word(word, b"source") {
         Some(Keyword::Source)
-    } else if word == b"menu".as_slice() {
+    } else if same_word(word, b"menu") {
         Some(Keyword::Menu)
-    } else if word == b"endmenu".as_slice() {
+    } else if same_word(word, b"endmenu") {
         Some(Keyword::EndMenu)
-    } else if word == b"choice".as_slice() {
+    } else if same_word(word, b"choice") {
         Some(Keyword::Choice)
-    } else if word == b"endchoice".as_slice() {
+    } else if same_word(word, b"endchoice") {
         Some(Keyword::EndChoice)
-    } else if word == b"mainmenu".as_slice() {
+    } else if same_word(word, b"mainmenu") {
         Some(Keyword::MainMenu)
     } else {
         None
@@ -41,19 +50,19 @@ fn block_word(word: &[u8]) -> Option<Keyword>
 fn type_word(word: &[u8]) -> Option<Keyword>
     ensures { result ≡ spec.keyword_in spec.type_words word.now }
 {
-    if word == b"bool".as_slice() {
+    if same_word(word, b"bool") {
         Some(Keyword::Type(Kind::Bool))
-    } else if word == b"tristate".as_slice() {
+    } else if same_word(word, b"tristate") {
         Some(Keyword::Type(Kind::Tristate))
-    } else if word == b"string".as_slice() {
+    } else if same_word(word, b"string") {
         Some(Keyword::Type(Kind::Str))
-    } else if word == b"int".as_slice() {
+    } else if same_word(word, b"int") {
         Some(Keyword::Type(Kind::Int))
-    } else if word == b"hex".as_slice() {
+    } else if same_word(word, b"hex") {
         Some(Keyword::Type(Kind::Hex))
-    } else if word == b"def_bool".as_slice() {
+    } else if same_word(word, b"def_bool") {
         Some(Keyword::Def(Kind::Bool))
-    } else if word == b"def_tristate".as_slice() {
+    } else if same_word(word, b"def_tristate") {
         Some(Keyword::Def(Kind::Tristate))
     } else {
         None
@@ -64,27 +73,27 @@ fn type_word(word: &[u8]) -> Option<Keyword>
 fn attribute_word(word: &[u8]) -> Option<Keyword>
     ensures { result ≡ spec.keyword_in spec.attribute_words word.now }
 {
-    if word == b"default".as_slice() {
+    if same_word(word, b"default") {
         Some(Keyword::Default)
-    } else if word == b"depends".as_slice() {
+    } else if same_word(word, b"depends") {
         Some(Keyword::Depends)
-    } else if word == b"help".as_slice() {
+    } else if same_word(word, b"help") {
         Some(Keyword::Help)
-    } else if word == b"select".as_slice() {
+    } else if same_word(word, b"select") {
         Some(Keyword::Select)
-    } else if word == b"prompt".as_slice() {
+    } else if same_word(word, b"prompt") {
         Some(Keyword::Prompt)
-    } else if word == b"imply".as_slice() {
+    } else if same_word(word, b"imply") {
         Some(Keyword::Imply)
-    } else if word == b"range".as_slice() {
+    } else if same_word(word, b"range") {
         Some(Keyword::Range)
-    } else if word == b"visible".as_slice() {
+    } else if same_word(word, b"visible") {
         Some(Keyword::Visible)
-    } else if word == b"modules".as_slice() {
+    } else if same_word(word, b"modules") {
         Some(Keyword::Modules)
-    } else if word == b"option".as_slice() {
+    } else if same_word(word, b"option") {
         Some(Keyword::Option)
-    } else if word == b"---help---".as_slice() {
+    } else if same_word(word, b"---help---") {
         Some(Keyword::Help)
     } else {
         None
@@ -95,23 +104,23 @@ fn attribute_word(word: &[u8]) -> Option<Keyword>
 fn left_out_word(word: &[u8]) -> Option<Keyword>
     ensures { result ≡ spec.keyword_in spec.left_out_words word.now }
 {
-    if word == b"rsource".as_slice() {
+    if same_word(word, b"rsource") {
         Some(Keyword::LeftOut)
-    } else if word == b"osource".as_slice() {
+    } else if same_word(word, b"osource") {
         Some(Keyword::LeftOut)
-    } else if word == b"orsource".as_slice() {
+    } else if same_word(word, b"orsource") {
         Some(Keyword::LeftOut)
-    } else if word == b"boolean".as_slice() {
+    } else if same_word(word, b"boolean") {
         Some(Keyword::LeftOut)
-    } else if word == b"def_int".as_slice() {
+    } else if same_word(word, b"def_int") {
         Some(Keyword::LeftOut)
-    } else if word == b"def_hex".as_slice() {
+    } else if same_word(word, b"def_hex") {
         Some(Keyword::LeftOut)
-    } else if word == b"def_string".as_slice() {
+    } else if same_word(word, b"def_string") {
         Some(Keyword::LeftOut)
-    } else if word == b"transitional".as_slice() {
+    } else if same_word(word, b"transitional") {
         Some(Keyword::LeftOut)
-    } else if word == b"optional".as_slice() {
+    } else if same_word(word, b"optional") {
         Some(Keyword::LeftOut)
     } else {
         None

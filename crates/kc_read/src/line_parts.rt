@@ -10,13 +10,14 @@ ghost use Rattle.kc_read.specs.Lines.{syntax_cause, IsMore, ExpressionFault, Who
 ghost use Rattle.kc_expr.specs.When.{when_view};
 ghost use Rattle.kc_read.specs.LineReads.{IsToken, IsFault, IsPart, IsFront, IsWholeForm, IsConditionForm, IsOperand, cause_of, code_of, unquoted_text, lexemes_from};
 
+use crate::keywords::same_word;
 use crate::refusal::Code;
 use crate::statement::LineFault;
 use kc_expr::expression::{Expr, Operand, SymId};
 use kc_expr::names::{Names, are_name_bytes};
 use kc_expr::parse::{ExprFault, parse};
 use kc_expr::values::tristate_constant;
-use kc_text::{Token, TokenKind, unescape_into};
+use kc_text::{Token, unescape_into};
 use std::alloc::Global;
 use std::rc::Rc;
 
@@ -24,23 +25,24 @@ use std::rc::Rc;
 const LONGEST_NAME: usize = 255;
 
 /// The token at a place, if there is one.
-pub(crate) fn next<'a>(tokens: &[Token<'a>], at: usize) -> Option<TokenKind<'a>>
+pub(crate) fn next<'a>(tokens: &[Token<'a>], at: usize) -> Option<Token<'a>>
     ensures { IsToken result tokens.now at }
 {
     if at < tokens.len() {
-        Some(tokens[at].kind)
+        Some(tokens[at])
     } else {
         None
     }
 }
 
 /// Whether this word stands at a place.
+#[inline(always)]
 pub(crate) fn begins_with(tokens: &[Token], at: usize, word: &[u8]) -> bool
     ensures word { result ≡ spec.begins_with word.now (lexemes_from tokens.now at) }
     ensures within { IsTrue result → at < length tokens.now }
 {
     match next(tokens, at) {
-        Some(TokenKind::Word(found)) => found == word,
+        Some(Token::Word(found)) => same_word(found, word),
         _ => false,
     }
 }
@@ -49,7 +51,7 @@ pub(crate) fn begins_with(tokens: &[Token], at: usize, word: &[u8]) -> bool
 pub(crate) fn is_if(word: &[u8]) -> bool
     ensures { result ≡ same_name word.now if_word }
 {
-    word == b"if".as_slice()
+    same_word(word, b"if")
 }
 
 /// The words n, m and y.
@@ -86,7 +88,7 @@ pub(crate) fn word_at<'a>(tokens: &[Token<'a>], at: usize) -> Result<&'a [u8], L
     ensures within { OnOk result (at < length tokens.now) }
 {
     match next(tokens, at) {
-        Some(TokenKind::Word(word)) => Ok(word),
+        Some(Token::Word(word)) => Ok(word),
         _ => Err(syntax()),
     }
 }
@@ -100,13 +102,13 @@ pub(crate) fn raw_text<'a>(
     ensures within { OnOk result (at < length tokens.now) }
 {
     match next(tokens, at) {
-        Some(TokenKind::Word(word)) => {
+        Some(Token::Word(word)) => {
             if is_if(word) {
                 return Err(syntax());
             }
             Ok((word, false))
         }
-        Some(TokenKind::Quoted(text)) => Ok((text, true)),
+        Some(Token::Quoted(text)) => Ok((text, true)),
         _ => Err(syntax()),
     }
 }
@@ -135,7 +137,7 @@ pub(crate) fn target_at<'a>(tokens: &[Token<'a>], at: usize) -> Result<&'a [u8],
     ensures within { OnOk result (at < length tokens.now) }
 {
     match next(tokens, at) {
-        Some(TokenKind::Word(word)) => {
+        Some(Token::Word(word)) => {
             if word == b"if".as_slice() || tristate_constant(word).is_some() {
                 Err(syntax())
             } else {
@@ -245,7 +247,7 @@ pub(crate) fn operand_at<'a>(
     ensures names { Extends names.old names.new }
 {
     match next(tokens, at) {
-        Some(TokenKind::Word(word)) => {
+        Some(Token::Word(word)) => {
             if is_if(word) {
                 return Err(syntax());
             }
@@ -255,7 +257,7 @@ pub(crate) fn operand_at<'a>(
             let id = name_number(names, word)?;
             Ok(Operand::Sym(id))
         }
-        Some(TokenKind::Quoted(text)) => {
+        Some(Token::Quoted(text)) => {
             let mut bytes = Vec::new(alloc);
             unescape_into(text, &mut bytes)?;
             Ok(Operand::Const(bytes))

@@ -1,7 +1,6 @@
 //! The files that a file names in its `source` lines.
 
 ghost use Rattle.std.specs.Prelude.{◌≡◌, ◌≢◌, ◌<◌, ◌≤◌, IfOk, OnErr, length, map, None, false, true};
-ghost use Rattle.kc_text.specs.Limits.{longest_line};
 ghost use Rattle.kc_text.specs.Lines.{UnreadLines, TakesLine, unread_lines};
 ghost use Rattle.kc_text.specs.declared.faults.TextFault.TheVariants.{Memory};
 ghost use Rattle.kc_read.specs.declared.sources.NextSource.TheVariants.{Nothing};
@@ -45,8 +44,7 @@ fn source_of_line<'l>(
     tokens: &mut Vec<Token<'l>>,
     lines: &mut LogicalLines,
 ) -> Result<NextSource, AllocError>
-    requires clear { lines.old.refusal ≡ None }
-    requires short { length line.now ≤ longest_line }
+    requires { lines.old.refusal ≡ None }
     // Whatever the lines were before.
     ensures { IfOk result (λ f. (before : UnreadLines) → TakesLine before lines.old line.now → IsFound before lines.new f) }
 {

@@ -1,11 +1,10 @@
 //! The next line of a file.
 
 ghost use Rattle.std.specs.Prelude.{◌≡◌, ◌≤◌, [], length, IfOk, IfErr, None};
-ghost use Rattle.kc_text.specs.Limits.{longest_line};
 ghost use Rattle.kc_expr.specs.Names.{Extends};
 ghost use Rattle.kc_text.specs.Lines.{UnreadLines, TakesLine};
-ghost use Rattle.kc_text.specs.Tokens.{token_views};
-ghost use Rattle.kc_read.specs.Expansion.{is_help, lexemes, text_cause};
+ghost use Rattle.kc_text.specs.Lexemes.{lexemes};
+ghost use Rattle.kc_read.specs.Expansion.{is_help, text_cause};
 ghost use Rattle.kc_read.specs.LineReads.{cause_of};
 ghost use Rattle.kc_read.specs.Progress.{context_in};
 ghost use Rattle.kc_read.specs.RefusalView.{IsMemory};
@@ -65,7 +64,7 @@ pub(crate) fn token_list<'a>(alloc: Global, line: &[u8]) -> Result<Vec<Token<'a>
 
 /// Whether a help text follows.
 pub(crate) fn begins_help(tokens: &[Token]) -> bool
-    ensures { result ≡ is_help (lexemes (token_views tokens.now)) }
+    ensures { result ≡ is_help (lexemes tokens.now) }
 {
     begins_with(tokens, 0, b"help") || begins_with(tokens, 0, b"---help---")
 }
@@ -79,8 +78,7 @@ fn step_of_line<'l>(
     lines: &mut LogicalLines,
     names: &mut Names,
 ) -> Result<Step, Refusal>
-    requires clear { lines.old.refusal ≡ None }
-    requires short { length line.now ≤ longest_line }
+    requires { lines.old.refusal ≡ None }
     // Whatever the lines were before.
     ensures step { IfOk result (λ s. (before : UnreadLines) → number ≡ before.number → TakesLine before lines.old line.now
         → IsStep names.old names.new (context_in position.now.frame.now position.now.progress.now) before lines.new s) }

@@ -1,20 +1,21 @@
 -- Each line is cut, or refused.
-use Rattle.std.proofs.Common.{◌≡◌, ◌≢◌, ℕ, zero, suc, ◌+◌, ◌-◌, ◌<◌, ◌≤◌, ◌⊎◌, List, [], ◌∷◌, Bool, true, false, length, take, drop, get_or, Option, Some, None, sym, refl, ap, ◌∙◌, inl, inr, arith, get_or-drop, length-drop, add-zero}
+use Rattle.std.proofs.Common.{◌≡◌, ◌≢◌, ℕ, zero, suc, ◌+◌, ◌-◌, ◌<◌, ◌≤◌, ◌⊎◌, List, [], ◌∷◌, Bool, true, false, length, take, drop, get_or, Option, Some, None, sym, refl, ap, ◌∙◌, inl, inr, arith, length-drop}
 use Rattle.std.specs.Prelude.{All, IsTrue}
-use Rattle.std.proofs.lemmas.Bool.{cases_eq, cases_lt}
+use Rattle.std.proofs.lemmas.Bool.{both_ways, cases_eq, cases_lt}
+use Rattle.std.specs.Str.{bytes_eq}
 use Rattle.std.proofs.lemmas.List.{length-take-le, take_all}
 use Rattle.std.proofs.lemmas.List.Elements.{All-cons}
+use Rattle.std.proofs.lemmas.Slice.Eq.{bytes_eq-Decides}
 use Rattle.kc_text.specs.declared.faults.TextFault.{TextFault}
 use Rattle.kc_text.specs.declared.faults.TextFault.TheVariants as faults
 use Rattle.kc_text.specs.declared.tokens.Op.{Op}
 use Rattle.kc_text.specs.declared.tokens.Op.TheVariants as ops
 use Rattle.kc_text.specs.Lexemes.{is_blank, is_word_byte, IsQuote, IsQuotedBody, op_text, Lexeme, AWord, AQuoted, AnOp}
-use Rattle.kc_text.specs.Tokens.{TokenView, AreBlanks, IsEnd, IsLongest, HasNoToken, IsReason, Cuts, IsCutEnd, IsCut, OneCutting}
+use Rattle.kc_text.specs.Tokens.{IsEnd, IsLongest, HasNoToken, IsReason, CannotBeCut, IsCut, ended, stuck, skipped, taken, OneCutting}
 use Rattle.kc_text.specs.LexerParts.{IsLongestOp, HasNoOp, IsQuoteFault}
 use Rattle.kc_text.proofs.Quoted.{IsScanned, scanned_none, scanned_plain, scanned_taken, holds_dollar, holds_dollar_taken, no_end, no_end_taken, no_dollar_last}
-use Rattle.kc_text.proofs.Spelled.{apart, word_token_more, quoted_token, quoted_fault, op_token, no_token, no_macro_here}
-use Rattle.kc_text.proofs.Cutting.{blanks_none, blanks_join, longest_some}
-use Rattle.kc_text.proofs.Once.{one_way}
+use Rattle.kc_text.proofs.Spelled.{apart, word_token_more, quoted_token, quoted_fault, op_token, no_token, no_macro_here, op_length, spelled_nonempty}
+use Rattle.kc_text.proofs.Once.{op_of, op_back, same_cutting}
 
 -- ---- a word
 
@@ -88,138 +89,46 @@ module _ (q : ℕ) (body : List ℕ) (iq : IsQuote q) where
 
 -- ---- a sign
 
-abbrev Two : ℕ → ℕ → Type 0
-Two a c = (o : Op) × (op_text o ≡ a ∷ c ∷ [])
+-- the sign that is spelled so, or there is none: it can only be that of the first two bytes
+find_op : (text : List ℕ) → ((o : Op) × (op_text o ≡ text)) ⊎ ((o : Op) → op_text o ≢ text)
+find_op text = by (bytes_eq (op_text candidate) text) refl
+  where
+    candidate : Op
+    candidate = op_of (get_or text 0 0) (get_or text 1 0)
 
-abbrev One : ℕ → Type 0
-One a = (o : Op) × (op_text o ≡ a ∷ [])
+    other : op_text candidate ≢ text → (o : Op) → op_text o ≢ text
+    other ne o e = ne (ap op_text (ap (λ (t : List ℕ). op_of (get_or t 0 0) (get_or t 1 0)) (sym e) ∙ op_back o) ∙ e)
 
-no_two : (a c : ℕ) → (c ≡ 61 → (a ≢ 33) × (a ≢ 60) × (a ≢ 62)) → (a ≡ 38 → c ≢ 38) → (a ≡ 124 → c ≢ 124) → (o : Op) → op_text o ≡ a ∷ c ∷ [] → ⊥
-no_two a c eq and or ops.Eq e = absurd cc
-no_two a c eq and or ops.Ne e = let f : c ≡ 61 = cc in let g : a ≡ 33 = cc in (eq f).0 g
-no_two a c eq and or ops.Lt e = absurd cc
-no_two a c eq and or ops.Gt e = absurd cc
-no_two a c eq and or ops.Le e = let f : c ≡ 61 = cc in let g : a ≡ 60 = cc in (eq f).1 g
-no_two a c eq and or ops.Ge e = let f : c ≡ 61 = cc in let g : a ≡ 62 = cc in (eq f).2 g
-no_two a c eq and or ops.Not e = absurd cc
-no_two a c eq and or ops.And e = let f : c ≡ 38 = cc in let g : a ≡ 38 = cc in and g f
-no_two a c eq and or ops.Or e = let f : c ≡ 124 = cc in let g : a ≡ 124 = cc in or g f
-no_two a c eq and or ops.LParen e = absurd cc
-no_two a c eq and or ops.RParen e = absurd cc
+    by : (b : Bool) → bytes_eq (op_text candidate) text ≡ b → ((o : Op) × (op_text o ≡ text)) ⊎ ((o : Op) → op_text o ≢ text)
+    by true e = inl (candidate, (bytes_eq-Decides (op_text candidate) text).0 e)
+    by false e = inr (other (λ same. both_ways _ e ((bytes_eq-Decides (op_text candidate) text).1 same)))
 
-find_two : (a c : ℕ) → Two a c ⊎ ((o : Op) → op_text o ≡ a ∷ c ∷ [] → ⊥)
-find_two a c = elim (cases_eq c 61) [
-  | inl e ↦ elim (cases_eq a 33) [
-    | inl f ↦ inl (ops.Ne, rw (e, f) refl)
-    | inr n33 ↦ elim (cases_eq a 60) [
-      | inl f ↦ inl (ops.Le, rw (e, f) refl)
-      | inr n60 ↦ elim (cases_eq a 62) [
-        | inl f ↦ inl (ops.Ge, rw (e, f) refl)
-        | inr n62 ↦ inr (no_two a c (λ h. (n33, n60, n62)) (λ h k. absurd (omega arith)) (λ h k. absurd (omega arith)))
-      ]
-    ]
-  ]
-  | inr ne ↦ elim (cases_eq a 38) [
-    | inl f ↦ elim (cases_eq c 38) [
-      | inl e ↦ inl (ops.And, rw (e, f) refl)
-      | inr n38 ↦ inr (no_two a c (λ h. absurd (ne h)) (λ h. n38) (λ h k. absurd (omega arith)))
-    ]
-    | inr n38 ↦ elim (cases_eq a 124) [
-      | inl f ↦ elim (cases_eq c 124) [
-        | inl e ↦ inl (ops.Or, rw (e, f) refl)
-        | inr n124 ↦ inr (no_two a c (λ h. absurd (ne h)) (λ h k. n38 h) (λ h. n124))
-      ]
-      | inr n124 ↦ inr (no_two a c (λ h. absurd (ne h)) (λ h k. n38 h) (λ h k. n124 h))
-    ]
-  ]
-]
-
-no_one : (a : ℕ) → a ≢ 61 → a ≢ 60 → a ≢ 62 → a ≢ 33 → a ≢ 40 → a ≢ 41 → (o : Op) → op_text o ≡ a ∷ [] → ⊥
-no_one a eq lt gt not left right ops.Eq e = let f : a ≡ 61 = cc in eq f
-no_one a eq lt gt not left right ops.Ne e = absurd cc
-no_one a eq lt gt not left right ops.Lt e = let f : a ≡ 60 = cc in lt f
-no_one a eq lt gt not left right ops.Gt e = let f : a ≡ 62 = cc in gt f
-no_one a eq lt gt not left right ops.Le e = absurd cc
-no_one a eq lt gt not left right ops.Ge e = absurd cc
-no_one a eq lt gt not left right ops.Not e = let f : a ≡ 33 = cc in not f
-no_one a eq lt gt not left right ops.And e = absurd cc
-no_one a eq lt gt not left right ops.Or e = absurd cc
-no_one a eq lt gt not left right ops.LParen e = let f : a ≡ 40 = cc in left f
-no_one a eq lt gt not left right ops.RParen e = let f : a ≡ 41 = cc in right f
-
-find_one : (a : ℕ) → One a ⊎ ((o : Op) → op_text o ≡ a ∷ [] → ⊥)
-find_one a = elim (cases_eq a 61) [
-  | inl e ↦ inl (ops.Eq, rw e refl)
-  | inr n61 ↦ elim (cases_eq a 60) [
-    | inl e ↦ inl (ops.Lt, rw e refl)
-    | inr n60 ↦ elim (cases_eq a 62) [
-      | inl e ↦ inl (ops.Gt, rw e refl)
-      | inr n62 ↦ elim (cases_eq a 33) [
-        | inl e ↦ inl (ops.Not, rw e refl)
-        | inr n33 ↦ elim (cases_eq a 40) [
-          | inl e ↦ inl (ops.LParen, rw e refl)
-          | inr n40 ↦ elim (cases_eq a 41) [
-            | inl e ↦ inl (ops.RParen, rw e refl)
-            | inr n41 ↦ inr (no_one a n61 n60 n62 n33 n40 n41)
-          ]
-        ]
-      ]
-    ]
-  ]
-]
-
-short : (o : Op) → length (op_text o) ≤ 2
-short ops.Eq = omega arith
-short ops.Ne = omega arith
-short ops.Lt = omega arith
-short ops.Gt = omega arith
-short ops.Le = omega arith
-short ops.Ge = omega arith
-short ops.Not = omega arith
-short ops.And = omega arith
-short ops.Or = omega arith
-short ops.LParen = omega arith
-short ops.RParen = omega arith
-
-some : (o : Op) → 0 < length (op_text o)
-some ops.Eq = omega arith
-some ops.Ne = omega arith
-some ops.Lt = omega arith
-some ops.Gt = omega arith
-some ops.Le = omega arith
-some ops.Ge = omega arith
-some ops.Not = omega arith
-some ops.And = omega arith
-some ops.Or = omega arith
-some ops.LParen = omega arith
-some ops.RParen = omega arith
-
-taken : (rest : List ℕ) (m : ℕ) (p : Op) → m ≤ length rest → take m rest ≡ op_text p → m ≡ length (op_text p)
-taken rest m p le s = sym (length-take-le m rest le) ∙ ap length s
+sign_length : (rest : List ℕ) (m : ℕ) (p : Op) → m ≤ length rest → take m rest ≡ op_text p → m ≡ length (op_text p)
+sign_length rest m p le s = sym (length-take-le m rest le) ∙ ap length s
 
 abbrev SignOrNot : List ℕ → Type 0
 SignOrNot rest = ((n : ℕ) × ((o : Op) × IsLongestOp rest n o)) ⊎ HasNoOp rest
 
 -- a front of two bytes or more, where none of two spells a sign
 no_longer : (b c : ℕ) (more : List ℕ) → ((o : Op) → op_text o ≡ b ∷ c ∷ [] → ⊥) → (m : ℕ) (p : Op) → m ≤ length (b ∷ c ∷ more) → take m (b ∷ c ∷ more) ≡ op_text p → m ≡ 1
-no_longer b c more none zero p le s = absurd (omega (arith, taken (b ∷ c ∷ more) 0 p le s, some p))
+no_longer b c more none zero p le s = absurd (omega (arith, sign_length (b ∷ c ∷ more) 0 p le s, (op_length p).0))
 no_longer b c more none (suc zero) p le s = refl
 no_longer b c more none (suc (suc zero)) p le s = absurd (none p (sym s))
-no_longer b c more none (suc (suc (suc m))) p le s = absurd (omega (arith, taken (b ∷ c ∷ more) (suc (suc (suc m))) p le s, short p))
+no_longer b c more none (suc (suc (suc m))) p le s = absurd (omega (arith, sign_length (b ∷ c ∷ more) (suc (suc (suc m))) p le s, (op_length p).1))
 
 lone : (b : ℕ) → ((o : Op) → op_text o ≡ b ∷ [] → ⊥) → (m : ℕ) (p : Op) → m ≤ 1 → take m (b ∷ []) ≡ op_text p → ⊥
-lone b none zero p le s = absurd (omega (arith, taken (b ∷ []) 0 p le s, some p))
+lone b none zero p le s = absurd (omega (arith, sign_length (b ∷ []) 0 p le s, (op_length p).0))
 lone b none (suc zero) p le s = none p (sym s)
 lone b none (suc (suc m)) p le s = absurd (omega arith)
 
 sign_or_not : (b : ℕ) (body : List ℕ) → SignOrNot (b ∷ body)
-sign_or_not b [] = elim (find_one b) [
+sign_or_not b [] = elim (find_op (b ∷ [])) [
   | inl (o, e) ↦ inl (1, (o, record { fits = omega arith; spelled = sym e; longest = λ m p le s. le }))
   | inr none ↦ inr (λ m p le s. lone b none m p le s)
 ]
-sign_or_not b (c ∷ more) = elim (find_two b c) [
-  | inl (o, e) ↦ inl (2, (o, record { fits = omega arith; spelled = sym e; longest = λ m p le s. omega (arith, taken (b ∷ c ∷ more) m p le s, short p) }))
-  | inr none2 ↦ elim (find_one b) [
+sign_or_not b (c ∷ more) = elim (find_op (b ∷ c ∷ [])) [
+  | inl (o, e) ↦ inl (2, (o, record { fits = omega arith; spelled = sym e; longest = λ m p le s. omega (arith, sign_length (b ∷ c ∷ more) m p le s, (op_length p).1) }))
+  | inr none2 ↦ elim (find_op (b ∷ [])) [
     | inl (o, e) ↦ inl (1, (o, record { fits = omega arith; spelled = sym e; longest = λ m p le s. omega (arith, no_longer b c more none2 m p le s) }))
     | inr none1 ↦ inr (λ m p le s. none1 p (sym (ap (λ k. take k (b ∷ c ∷ more)) (sym (no_longer b c more none2 m p le s)) ∙ s)))
   ]
@@ -261,86 +170,46 @@ token_or_not b body = by (is_word_byte b) refl
       ]
     ]
 
-token_here : (rest : List ℕ) → 0 < length rest → TokenOrNot rest
-token_here [] lt = absurd (omega arith)
-token_here (b ∷ body) lt = token_or_not b body
-
 -- ---- a line
 
--- what comes of cutting a line from a place on
-record CutFrom (line : List ℕ) (p : ℕ) : Type 0 where
-  pub tokens : List TokenView
-  pub out : Option TextFault
-  pub end : ℕ
-  pub within : end ≤ length line
-  pub cuts : Cuts line p tokens end
-  pub goes_out : IsCutEnd (drop end line) out
-
-blank_before : (line : List ℕ) (p : ℕ) (ts : List TokenView) (q : ℕ) → is_blank (get_or line p 0) ≡ true → Cuts line (p + 1) ts q → Cuts line p ts q
-blank_before line p ts q e c = by ts c
+-- a place that cannot be cut
+pub cannot_be_cut : (rest : List ℕ) (fault : TextFault) → 0 < length rest → is_blank (get_or rest 0 0) ≡ false → get_or rest 0 0 ≢ 35 → HasNoToken rest → IsReason rest fault → CannotBeCut rest fault
+cannot_be_cut rest fault some no_blank no_comment none reason = record { not_end = no_end; not_blank = λ b. both_ways _ no_blank b; no_token = none; reason = reason }
   where
-    one : AreBlanks line p (p + 1)
-    one = (omega arith, λ k le lt. let same : k ≡ p = omega arith in rw same e)
+    no_end : IsEnd rest → ⊥
+    no_end (inl z) = omega arith
+    no_end (inr c) = no_comment c
 
-    by : (us : List TokenView) → Cuts line (p + 1) us q → Cuts line p us q
-    by [] d = blanks_join line p (p + 1) q one d
-    by (u ∷ us) d = (blanks_join line p (p + 1) u.start one d.0, d.1, d.2)
+-- what comes of cutting a line
+abbrev pub Cut : List ℕ → Type 0
+Cut line = (ts : List Lexeme) × (out : Option TextFault) × IsCut line ts out
 
-module _ (line : List ℕ) where
-  ended_at : (p : ℕ) → p ≤ length line → length line ≤ p → CutFrom line p
-  ended_at p le ge = record { tokens = []; out = None; end = p; within = le; cuts = blanks_none line p; goes_out = inl (length-drop p line ∙ omega arith) }
+-- a token takes at least one byte
+longest_some : (rest : List ℕ) (n : ℕ) (x : Lexeme) → IsLongest rest n x → 0 < n
+longest_some rest zero x h = absurd (omega (arith, spelled_nonempty [] x h.spelled))
+longest_some rest (suc n) x h = omega arith
 
-  stuck_at : (p : ℕ) → p < length line → is_blank (get_or line p 0) ≡ false → get_or line p 0 ≢ 35 → HasNoToken (drop p line) → (f : TextFault) → IsReason (drop p line) f → CutFrom line p
-  stuck_at p lt no_blank no_comment none f why = record {
-    tokens = [];
-    out = Some f;
-    end = p;
-    within = omega arith;
-    cuts = blanks_none line p;
-    goes_out = (record { not_end = no_end; not_blank = rw (get_or-drop, add-zero) no_blank; no_token = none }, why);
-  }
-    where
-      no_end : IsEnd (drop p line) → ⊥
-      no_end (inl z) = absurd (omega (arith, length-drop p line))
-      no_end (inr d) = no_comment (rw (get_or-drop, add-zero) at d)
-
-  piece_before : (p n : ℕ) (x : Lexeme) → IsLongest (drop p line) n x → CutFrom line (p + n) → CutFrom line p
-  piece_before p n x h r =
-      let e : p + n - p ≡ n = omega arith in
-      record {
-        tokens = record { start = p; end = p + n; lexeme = x } ∷ r.tokens;
-        out = r.out;
-        end = r.end;
-        within = r.within;
-        cuts = (blanks_none line p, record { order = omega arith; longest = rw e h }, r.cuts);
-        goes_out = r.goes_out;
-      }
-
-  cut_from : (fuel p : ℕ) → length line - p ≤ fuel → p ≤ length line → CutFrom line p
-  cut_from zero p few le = ended_at p le (omega arith)
-  cut_from (suc fuel) p few le = elim (cases_lt p (length line)) [
-    | inr ge ↦ ended_at p le ge
-    | inl lt ↦ by lt (λ k more fits. cut_from fuel k (omega arith) fits) (is_blank (get_or line p 0)) refl
-  ]
-    where
-      by : p < length line → ((k : ℕ) → p < k → k ≤ length line → CutFrom line k) → (b : Bool) → is_blank (get_or line p 0) ≡ b → CutFrom line p
-      by lt next true e =
-          let r = next (p + 1) (omega arith) (omega arith) in
-          record { tokens = r.tokens; out = r.out; end = r.end; within = r.within; cuts = blank_before line p r.tokens r.end e r.cuts; goes_out = r.goes_out }
-      by lt next false e = elim (cases_eq (get_or line p 0) 35) [
-        | inl c ↦ record { tokens = []; out = None; end = p; within = le; cuts = blanks_none line p; goes_out = inr (rw (get_or-drop, add-zero) c) }
-        | inr no_comment ↦ elim (token_here (drop p line) (omega (arith, length-drop p line))) [
-          | inr (none, (f, why)) ↦ stuck_at p lt e no_comment none f why
-          | inl (n, (x, h)) ↦
-              let fits = h.fits in
-              let more = longest_some (drop p line) n x h in
-              let len = length-drop p line in
-              piece_before p n x h (next (p + n) (omega arith) (omega arith))
-        ]
+-- a line that is not empty, where what is left after a byte or more is cut
+cut_more : (b : ℕ) (body : List ℕ) → ((n : ℕ) → 0 < n → Cut (drop n (b ∷ body))) → Cut (b ∷ body)
+cut_more b body after = by (is_blank b) refl
+  where
+    by : (w : Bool) → is_blank b ≡ w → Cut (b ∷ body)
+    by true e = let (ts, out, c) = after 1 (omega arith) in (ts, out, skipped e c)
+    by false e = elim (cases_eq b 35) [
+      | inl c ↦ ([], None, ended (inr c))
+      | inr no_comment ↦ elim (token_or_not b body) [
+        | inl (n, (x, h)) ↦ let (ts, out, c) = after n (longest_some (b ∷ body) n x h) in (x ∷ ts, out, taken h c)
+        | inr (none, (f, why)) ↦ ([], Some f, stuck (cannot_be_cut (b ∷ body) f (omega arith) e no_comment none why))
       ]
+    ]
+
+cut_from : (fuel : ℕ) (line : List ℕ) → length line ≤ fuel → Cut line
+cut_from fuel [] few = ([], None, ended (inl refl))
+cut_from zero (b ∷ body) few = absurd (omega arith)
+cut_from (suc fuel) (b ∷ body) few = cut_more b body (λ n some. cut_from fuel (drop n (b ∷ body)) (omega (arith, length-drop n (b ∷ body))))
+
+pub cut_there : (line : List ℕ) → Cut line
+cut_there line = cut_from (length line) line (omega arith)
 
 pub one_cutting_law : OneCutting
-one_cutting_law line =
-    let r = cut_from line (length line) 0 (omega arith) (omega arith) in
-    let cut : IsCut line r.tokens r.out = (r.end, r.within, r.cuts, r.goes_out) in
-    (r.tokens, (r.out, cut, λ us other b. one_way line 0 r.tokens us r.end b.0 r.out other r.cuts r.goes_out b.2 b.3))
+one_cutting_law line = let (ts, out, c) = cut_there line in (ts, (out, c, λ us other d. same_cutting c d))

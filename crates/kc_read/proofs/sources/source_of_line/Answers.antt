@@ -1,6 +1,6 @@
 use Rattle.std.proofs.Common.{◌≡◌, ◌∙◌, cond, sym}
-use Rattle.kc_text.specs.Tokens.{token_views}
-use Rattle.kc_read.specs.Expansion.{is_help, lexemes, without_help}
+use Rattle.kc_text.specs.Lexemes.{lexemes}
+use Rattle.kc_read.specs.Expansion.{is_help, without_help}
 use Rattle.kc_read.specs.LineReads.{cause_of}
 use Rattle.kc_read.proofs.SourceLemmas.{SaysSource, begins_pieces, cut_ends, ended_found, source_bad, source_found, taken_line}
 use Rattle.kc_read.proofs.StepLemmas.{left_help, left_other}
@@ -18,41 +18,41 @@ pub returns-then-not-begins_with : goal.returns-then-not-begins_with
 returns-then-not-begins_with c = λ before taken.
     let mid = c.args.lines.now in
     let ts = c.lex.new.out.items in
-    let ls = lexemes (token_views ts) in
+    let ls = lexemes ts in
     let first = rw c.deref.ensures.value at c.begins_help.ensures in
     let left : c.if-begins_help.lines ≡ cond (is_help ls) (without_help mid) mid =
     elim c.if-begins_help.branch [
-      | then-begins_help w ↦ left_help ls mid _ (sym first ∙ w.if-begins_help.true) (rw w.lines-is (w.skip_help.ensures.dropped c.requires.clear))
+      | then-begins_help w ↦ left_help ls mid _ (sym first ∙ w.if-begins_help.true) (rw w.lines-is (w.skip_help.ensures.dropped c.requires))
       | else-begins_help w ↦ left_other ls mid _ (sym first ∙ w.if-begins_help.false) w.lines-is
     ] in
     let line = taken_line before mid c.if-begins_help.lines c.args.line.now ts taken c.in-Ok.ensures.cut left in
     let begins = begins_pieces ts c.begins_with.result (rw c.deref-2.ensures.value at c.begins_with.ensures.word) in
-    (token_views ts, line, begins ∙ c.if-not-begins_with.true)
+    (lexemes ts, line, begins ∙ c.if-not-begins_with.true)
 
 pub returns-in-Ok-source_name : goal.returns-in-Ok-source_name
 returns-in-Ok-source_name c = λ before taken.
     let mid = c.args.lines.now in
     let ts = c.lex.new.out.items in
-    let ls = lexemes (token_views ts) in
+    let ls = lexemes ts in
     let first = rw c.deref.ensures.value at c.begins_help.ensures in
     let left : c.if-begins_help.lines ≡ cond (is_help ls) (without_help mid) mid =
     elim c.if-begins_help.branch [
-      | then-begins_help w ↦ left_help ls mid _ (sym first ∙ w.if-begins_help.true) (rw w.lines-is (w.skip_help.ensures.dropped c.requires.clear))
+      | then-begins_help w ↦ left_help ls mid _ (sym first ∙ w.if-begins_help.true) (rw w.lines-is (w.skip_help.ensures.dropped c.requires))
       | else-begins_help w ↦ left_other ls mid _ (sym first ∙ w.if-begins_help.false) w.lines-is
     ] in
     let line = taken_line before mid c.if-begins_help.lines c.args.line.now ts taken c.in-Ok.ensures.cut left in
     let begins = begins_pieces ts c.begins_with.result (rw c.deref-2.ensures.value at c.begins_with.ensures.word) in
-    (token_views ts, line, begins ∙ c.if-not-begins_with.false, source_found ts c.in-Ok-source_name.name.items (rw c.deref-3.ensures.value at c.in-Ok-source_name.ensures.name))
+    (lexemes ts, line, begins ∙ c.if-not-begins_with.false, source_found ts c.in-Ok-source_name.name.items (rw c.deref-3.ensures.value at c.in-Ok-source_name.ensures.name))
 
 pub returns-in_default : goal.returns-in_default
 returns-in_default c = λ before taken.
     let mid = c.args.lines.now in
     let ts = c.lex.new.out.items in
-    let ls = lexemes (token_views ts) in
+    let ls = lexemes ts in
     let first = rw c.deref.ensures.value at c.begins_help.ensures in
     let left : c.if-begins_help.lines ≡ cond (is_help ls) (without_help mid) mid =
     elim c.if-begins_help.branch [
-      | then-begins_help w ↦ left_help ls mid _ (sym first ∙ w.if-begins_help.true) (rw w.lines-is (w.skip_help.ensures.dropped c.requires.clear))
+      | then-begins_help w ↦ left_help ls mid _ (sym first ∙ w.if-begins_help.true) (rw w.lines-is (w.skip_help.ensures.dropped c.requires))
       | else-begins_help w ↦ left_other ls mid _ (sym first ∙ w.if-begins_help.false) w.lines-is
     ] in
     let line = taken_line before mid c.if-begins_help.lines c.args.line.now ts taken c.in-Ok.ensures.cut left in

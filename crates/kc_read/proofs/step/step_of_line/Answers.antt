@@ -4,8 +4,8 @@ use Rattle.kc_read.specs.LineReads.{cause_of}
 use Rattle.kc_read.specs.Progress.{context_in}
 use Rattle.kc_read.proofs.step.step_of_line.Goals as goal
 use Rattle.kc_read.proofs.step.step_of_line.Goals.{then-begins_help, else-begins_help}
-use Rattle.kc_read.specs.Expansion.{lexemes, is_help, without_help}
-use Rattle.kc_text.specs.Tokens.{token_views}
+use Rattle.kc_read.specs.Expansion.{is_help, without_help}
+use Rattle.kc_text.specs.Lexemes.{lexemes}
 
 pub returns-in-Err-clause-refused : goal.returns-in-Err-clause-refused
 returns-in-Err-clause-refused c = λ before same taken.
@@ -19,11 +19,11 @@ returns-in-Ok-read_line-clause-step c = λ before same taken.
     let read = rw c.deref-3.ensures.value at c.in-Ok-read_line.ensures.read in
     let mid = c.args.lines.now in
     let ts = c.lex.new.out.items in
-    let ls = lexemes (token_views ts) in
+    let ls = lexemes ts in
     let first = rw c.deref-2.ensures.value at c.begins_help.ensures in
     let left : c.if-begins_help.lines ≡ cond (is_help ls) (without_help mid) mid =
     elim c.if-begins_help.branch [
-      | then-begins_help w ↦ left_help ls mid _ (sym first ∙ w.if-begins_help.true) (rw w.lines-is (w.skip_help.ensures.dropped c.requires.clear))
+      | then-begins_help w ↦ left_help ls mid _ (sym first ∙ w.if-begins_help.true) (rw w.lines-is (w.skip_help.ensures.dropped c.requires))
       | else-begins_help w ↦ left_other ls mid _ (sym first ∙ w.if-begins_help.false) w.lines-is
     ] in (
       read.0,
@@ -38,11 +38,11 @@ returns-in-Err-read_line-clause-refused c = λ before same taken.
     let read = rw c.deref-3.ensures.value at c.in-Err-read_line.ensures.read in
     let mid = c.args.lines.now in
     let ts = c.lex.new.out.items in
-    let ls = lexemes (token_views ts) in
+    let ls = lexemes ts in
     let first = rw c.deref-2.ensures.value at c.begins_help.ensures in
     let left : c.if-begins_help.lines ≡ cond (is_help ls) (without_help mid) mid =
     elim c.if-begins_help.branch [
-      | then-begins_help w ↦ left_help ls mid _ (sym first ∙ w.if-begins_help.true) (rw w.lines-is (w.skip_help.ensures.dropped c.requires.clear))
+      | then-begins_help w ↦ left_help ls mid _ (sym first ∙ w.if-begins_help.true) (rw w.lines-is (w.skip_help.ensures.dropped c.requires))
       | else-begins_help w ↦ left_other ls mid _ (sym first ∙ w.if-begins_help.false) w.lines-is
     ] in
     read_refused c.args.position.now.frame.now.file.value.items (context_in c.args.position.now.frame.now c.args.position.now.progress.now)
