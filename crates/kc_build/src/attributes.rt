@@ -164,17 +164,13 @@ fn add_default(attribute: &Attribute, defaults: &mut Vec<SymbolDefault>) -> Resu
 }
 
 // Adds the range of a line, where it has one.
-fn add_range(
-    alloc: Global,
-    attribute: &Attribute,
-    ranges: &mut Vec<SymbolRange>,
-) -> Result<(), AllocError>
+fn add_range(attribute: &Attribute, ranges: &mut Vec<SymbolRange>) -> Result<(), AllocError>
     ensures { OnOk result (map range_row ranges.new.items ≡ map range_row ranges.old.items ++ listed (range_line (attribute_view attribute.now))) }
 {
     match range_of(attribute) {
         Some(range) => {
-            let low = operand_copy(alloc, range.low)?;
-            let high = operand_copy(alloc, range.high)?;
+            let low = operand_copy(range.low)?;
+            let high = operand_copy(range.high)?;
             let when = shared_condition(range.when)?;
             ranges.push(SymbolRange { low, high, when })?;
             Ok(())
@@ -195,7 +191,6 @@ pub(crate) struct DefinitionParts {
 
 /// Adds the contexts, the defaults and the ranges of a symbol's entry in a block to those of the tree, in one pass.
 pub(crate) fn add_attributes(
-    alloc: Global,
     outer: BlockScope,
     attributes: &[AttributeLine],
     contexts: &mut Contexts,
@@ -225,7 +220,7 @@ pub(crate) fn add_attributes(
         within = line_context(contexts, within, attribute)?;
         last = prompt_of(attribute).or(last);
         add_default(attribute, defaults)?;
-        add_range(alloc, attribute, ranges)?;
+        add_range(attribute, ranges)?;
     }
     let prompt = entry_prompt(last, outer.visible)?;
     Ok(DefinitionParts {

@@ -4,14 +4,14 @@ ghost use Rattle.std.specs.Prelude.{◌≡◌, IfOk};
 ghost use Rattle.kc_expr.specs.Form.{leaf_of};
 
 use kc_expr::expression::Operand;
-use std::alloc::{AllocError, Global};
+use std::alloc::AllocError;
 
-/// An operand of its own.
-pub(crate) fn operand_copy(alloc: Global, operand: &Operand) -> Result<Operand, AllocError>
+/// An operand that shares its text, if it has one.
+pub(crate) fn operand_copy(operand: &Operand) -> Result<Operand, AllocError>
     ensures { IfOk result (λ c. leaf_of c ≡ leaf_of operand.now) }
 {
     match operand {
-        Operand::Const(bytes) => Ok(Operand::Const(Vec::from_slice(alloc, bytes)?)),
+        Operand::Const(text) => Ok(Operand::Const(text.clone()?)),
         Operand::TristateConstant(t) => Ok(Operand::TristateConstant(*t)),
         Operand::Sym(s) => Ok(Operand::Sym(*s)),
     }

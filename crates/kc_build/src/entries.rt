@@ -64,18 +64,12 @@ impl EntryWalk {
     }
 
     // A definition of a symbol: what its entry depends on, its prompt, its defaults and its ranges.
-    fn add_definition(
-        &mut self,
-        alloc: Global,
-        symbol: SymId,
-        own: &[AttributeLine],
-    ) -> Result<(), AllocError>
+    fn add_definition(&mut self, symbol: SymId, own: &[AttributeLine]) -> Result<(), AllocError>
         requires { HasRoom (length own.now) self.old.tables }
         ensures { OnOk result (AddsDefinition symbol (statements_of own.now) self.old self.new) }
     {
         let outer = self.blocks.innermost();
         let parts = add_attributes(
-            alloc,
             outer,
             own,
             &mut self.tables.contexts,
@@ -95,7 +89,6 @@ impl EntryWalk {
     // A `config` entry.
     fn define(
         &mut self,
-        alloc: Global,
         symbols: &[Symbol],
         symbol: SymId,
         own: &[AttributeLine],
@@ -105,7 +98,7 @@ impl EntryWalk {
         ensures { OnOk result (Enters symbols.now (ConfigLine symbol) (statements_of own.now) self.old self.new) }
     {
         let id = self.next_definition();
-        self.add_definition(alloc, symbol, own)?;
+        self.add_definition(symbol, own)?;
         add_reverses(&mut self.tables.reverses, symbols, id, own)?;
         if is_first(symbols, symbol, id) {
             self.tables.entries.push(ShownEntry::Symbol(symbol))?;
@@ -268,7 +261,7 @@ impl EntryWalk {
         ensures { OnOk result (Enters symbols.now (head_view head.now) (statements_of own.now) self.old self.new) }
     {
         match head {
-            Head::Config(symbol) => self.define(alloc, symbols, *symbol, own),
+            Head::Config(symbol) => self.define(symbols, *symbol, own),
             Head::If(condition) => self.open_if(condition),
             Head::Menu(text) => self.open_menu(alloc, text, own),
             Head::Choice => self.open_choice(alloc, symbols, own),

@@ -161,7 +161,8 @@ pub(crate) fn single_symbol(value: &Expr) -> Option<SymId>
 {
     match value {
         Expr::One(Operand::Sym(s)) => Some(*s),
-        _ => None,
+        Expr::One(_) | Expr::Rel(..) | Expr::Not(_) | Expr::Module | Expr::All(_) | Expr::Any(_) =>
+            None,
     }
 }
 
@@ -171,6 +172,6 @@ pub(crate) fn is_single(value: &Expr) -> bool
 {
     match value {
         Expr::One(_) => true,
-        _ => false,
+        Expr::Rel(..) | Expr::Not(_) | Expr::Module | Expr::All(_) | Expr::Any(_) => false,
     }
 }

@@ -1,11 +1,11 @@
 -- Symbols in an order, and the marks that say which.
-use Rattle.std.proofs.Common.{◌≡◌, ◌≢◌, ℕ, zero, suc, ◌<◌, ◌==◌, ◌||◌, Bool, true, false, cond, List, [], ◌∷◌, ◌++◌, length, inl, inr, refl, ap, sym, ◌∙◌, arith}
+use Rattle.std.proofs.Common.{◌≡◌, ◌≢◌, ℕ, zero, suc, ◌<◌, ◌==◌, ◌||◌, Bool, true, false, List, [], ◌∷◌, ◌++◌, length, inl, inr, refl, ap, sym, ◌∙◌, arith}
 use Rattle.std.specs.List.{list_any}
 use Rattle.std.proofs.Math.ListN.{set}
 use Rattle.std.proofs.lemmas.Bool.{cases_eq, eq-eqb, ne_eqb}
 use Rattle.std.proofs.lemmas.List.Folds.{list_any-append}
 use Rattle.kc_expr.specs.declared.expression.SymId.{SymId}
-use Rattle.kc_expr.specs.Order.{added, is_marked, stands_in}
+use Rattle.kc_expr.specs.Order.{is_marked}
 
 is_marked-set_same : (xs : List Bool) (i : ℕ) (v : Bool) → i < length xs → is_marked (set xs i v) i ≡ v
 is_marked-set_same [] i v h = absurd (omega (arith, h))
@@ -22,12 +22,6 @@ is_marked-set_other (x ∷ xs) (suc i) (suc k) v h = is_marked-set_other xs i k 
 -- what the marks of an order say
 abbrev pub Says : List SymId → List Bool → Type 0
 Says ids marks = (i : ℕ) → is_marked marks i ≡ list_any (λ s. i == s.0) ids
-
-pub added_known : (ids : List SymId) (id : SymId) → stands_in ids id ≡ true → added ids id ≡ ids
-added_known ids id h = ap (λ b. cond b ids (ids ++ id ∷ [])) h
-
-pub added_new : (ids : List SymId) (id : SymId) → stands_in ids id ≡ false → added ids id ≡ ids ++ id ∷ []
-added_new ids id h = ap (λ b. cond b ids (ids ++ id ∷ [])) h
 
 either_true : (a : Bool) → (a || (true || false)) ≡ true
 either_true true = refl

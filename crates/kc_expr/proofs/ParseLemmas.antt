@@ -2,31 +2,20 @@
 use Rattle.std.proofs.Common.{◌≡◌, ◌≢◌, ℕ, suc, ◌+◌, ◌-◌, ◌≤◌, ◌<◌, false, List, [], ◌∷◌, ◌++◌, map, length, Result, IfErr, IsErrAnd, refl, sym, ap, ◌∙◌, subst, append_assoc, append-nil, arith, Bool}
 use Rattle.std.proofs.lemmas.Bool.{false≢true}
 use Rattle.std.proofs.lemmas.Result.{err_from_is_err_and}
-use Rattle.std.specs.declared.vec.Vec.{Vec}
-use Rattle.std.specs.declared.alloc.Global.{Global}
-use Rattle.kc_expr.specs.declared.expression.SymId.{SymId}
 use Rattle.kc_text.specs.declared.tokens.Op.{Op}
-use Rattle.kc_expr.specs.declared.expression.Operand.{Operand}
-use Rattle.kc_expr.specs.declared.expression.Operand.TheVariants.{Sym}
-use Rattle.kc_expr.specs.declared.expression.Expr.{Expr, All, One}
+use Rattle.kc_expr.specs.declared.expression.Expr.{Expr}
 use Rattle.kc_text.specs.declared.tokens.Token.{Token}
 use Rattle.kc_expr.specs.declared.parse.ExprFault.{ExprFault}
-use Rattle.kc_expr.specs.Form.{Form, forms, form_of, leaf_of, Leaf, Symbol, Single, Related, Negated, Every, NoForms, MoreForms}
+use Rattle.kc_expr.specs.Form.{Form, forms, form_of, Leaf, Related, Negated}
 use Rattle.kc_expr.specs.Names.{number_of, all_mentioned, Extends}
 use Rattle.kc_expr.specs.declared.parse.Connective.{Connective}
 use Rattle.kc_expr.specs.declared.parse.Connective.TheVariants.{And, Or}
 use Rattle.kc_expr.specs.Grammar.{Atom, Terminal, Plain, Compares, Bang, Joins, Open, Close, Keyword, Chain, only, negation, conjunction, bang, group, lone, compare, spell, spell_part, spell_not, levels, levels_not, leaf, plain_form, names_in_atom, names_in_terminals, connected, meaning_part, parts, terminals_from}
 use Rattle.kc_expr.specs.Scan.{want, right}
 use Rattle.kc_expr.specs.Reading.{starts_compares, starts_joins, starts_close, starts_plain, starts_bang, starts_open, Refuses, Broken, Deep, Any_start, ParsedNot, ParsedPart, ParsedChain, FailsNot, FailsPart, FailsChain}
-use Rattle.kc_expr.proofs.FormLemmas.{form_of-All}
 use Rattle.kc_expr.proofs.NamesLemmas.{extends_on, mentioned_on, mentioned_extends, names_in_terminals-append, names_in_terminals-closed}
 use Rattle.kc_expr.proofs.PushLemmas.{push, spell-push, levels-push, lone-push, parts-push, meaning-push}
 use Rattle.kc_expr.proofs.ReadingLemmas.{no_operand, no_right, unclosed, deep_bang_now, deep_group_now, fails_bang, fails_group, fails_next}
-
--- two parts in a `Vec`
-pub form_of_two : (v : Vec Expr Global) (o : Operand) (m : SymId) → v.items ≡ One o ∷ (One (Sym m) ∷ []) →
-    form_of (All v) ≡ Every (MoreForms (Single (leaf_of o)) (MoreForms (Single (Symbol m)) NoForms))
-form_of_two v o m h = form_of-All v ∙ ap (λ es. Every (forms (map form_of es))) h
 
 refuses_want : (limit cur base : ℕ) (stack : List ℕ) (ts : List Terminal) → starts_plain ts ≡ false → starts_bang ts ≡ false → starts_open ts ≡ false → Refuses limit (want cur base stack) ts
 refuses_want limit cur base stack [] p b o = tt
@@ -85,9 +74,6 @@ parsed_compare condition ts rest old now names a b r l m e first second is js k 
       let q = js later x in
       ap (λ y. Related r y m) p ∙ ap (λ y. Related r (leaf (number_of later) a) y) q;
 }
-
-pub two_pushed : {X : Type 0} (us vs ws : List X) (x y : X) → us ≡ [] → vs ≡ us ++ x ∷ [] → ws ≡ vs ++ y ∷ [] → ws ≡ x ∷ (y ∷ [])
-two_pushed us vs ws x y e f g = g ∙ ap (λ l. l ++ y ∷ []) (f ∙ ap (λ l. l ++ x ∷ []) e)
 
 -- The parts that were read so far, where a connective stands at a place that joins another to them.
 pub record Parts (c : Connective) (condition : Bool) (k : ℕ) (tokens : List Token) (at place : ℕ) (old names : List (List ℕ)) (es : List Expr) : Type 0 where

@@ -16,6 +16,7 @@ use crate::names::Names;
 use crate::values::tristate_constant;
 use kc_text::{Op, Token, unescape_into};
 use std::alloc::{AllocError, AllocFailed, Global};
+use std::rc::Rc;
 use thiserror::Error;
 
 /// Why there is no expression.
@@ -197,7 +198,7 @@ fn chain(
         )?;
         parts.push(next)?;
         if !is_joined(tokens, end, connective) {
-            return Ok((connected(connective, parts), end));
+            return Ok((connected(connective, Box::new(alloc, parts)?), end));
         }
         place = end;
     }
@@ -347,7 +348,7 @@ fn operand(
         Some(Token::Quoted(text)) => {
             let mut bytes = Vec::new(alloc);
             unescape_into(text, &mut bytes)?;
-            Ok(Some(Operand::Const(bytes)))
+            Ok(Some(Operand::Const(Rc::new(alloc, bytes)?)))
         }
         _ => Ok(None),
     }
@@ -375,8 +376,8 @@ fn is_joined(tokens: &[Token], at: usize, connective: Connective) -> bool
 
 // Two parts or more, joined.
 #[tactic(auto, using(crate::proofs::FormLemmas::chain_forms))]
-fn connected(connective: Connective, parts: Vec<Expr>) -> Expr
-    ensures { form_of result ≡ spec.connected connective (forms (map form_of parts.items)) }
+fn connected(connective: Connective, parts: Box<Vec<Expr>>) -> Expr
+    ensures { form_of result ≡ spec.connected connective (forms (map form_of parts.value.items)) }
 {
     match connective {
         Connective::And => Expr::All(parts),

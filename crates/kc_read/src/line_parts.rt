@@ -260,7 +260,7 @@ pub(crate) fn operand_at<'a>(
         Some(Token::Quoted(text)) => {
             let mut bytes = Vec::new(alloc);
             unescape_into(text, &mut bytes)?;
-            Ok(Operand::Const(bytes))
+            Ok(Operand::Const(Rc::new(alloc, bytes)?))
         }
         _ => Err(syntax()),
     }

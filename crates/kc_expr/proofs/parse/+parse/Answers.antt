@@ -1,9 +1,11 @@
 -- What the check left open in the cycle of `parse`.
-use Rattle.std.proofs.Common.{ℕ, ◌≤◌, ◌+◌, ◌∙◌, ap, ◌++◌, ◌∷◌, [], length, arith}
+use Rattle.std.proofs.Common.{ℕ, ◌≤◌, ◌+◌, ◌∙◌, ap, ◌++◌, ◌∷◌, [], length, map, arith}
 use Rattle.std.proofs.lemmas.Result.{IfOk-weaker}
+use Rattle.std.specs.declared.alloc.Global.{Global}
+use Rattle.std.specs.declared.vec.Vec.{Vec}
 use Rattle.kc_expr.specs.declared.expression.Expr.{Expr}
-use Rattle.kc_expr.specs.Form.{form_of}
-use Rattle.kc_expr.specs.Grammar.{terminals_from, spell, spell_not, spell_part, Bang}
+use Rattle.kc_expr.specs.Form.{form_of, forms}
+use Rattle.kc_expr.specs.Grammar.{connected, terminals_from, spell, spell_not, spell_part, Bang}
 use Rattle.kc_expr.proofs.ParseLemmas.{fault_passed, deep_bang_at, deep_group_at, fails_bang_at, fails_group_at, parsed_bang, unclosed_at, parsed_group, parsed_negation, parsed_conjunction, parsed_only, parts_one, parts_next, parsed_last, fails_after}
 use Rattle.kc_expr.specs.declared.parse.ExprFault.TheVariants.{Memory}
 use Rattle.kc_expr.specs.Reading.{FailsNot, ParsedNot}
@@ -51,7 +53,7 @@ pub chain-returns-then-not-is_joined-2-clause-parsed : goal.chain-returns-then-n
 chain-returns-then-not-is_joined-2-clause-parsed t c =
     parsed_last c.args.connective c.args.condition c.args.levels c.args.tokens.now c.args.at c.loop-parts.place c.in_ok-next.end c.args.names.now
     c.loop-parts.names c.part-in-loop-parts.new.names c.loop-parts.parts.items c.push-in-loop-parts.new.self.items c.in_ok-next.next
-    (form_of c.connected.result) c.connected.ensures c.loop-parts.invariant.parts c.in_ok-next.ensures.names c.in_ok-push-2.ensures.items
+    (form_of c.connected.result) (c.connected.ensures ∙ ap (λ (v : Vec Expr Global). connected c.args.connective (forms (map form_of v.items))) c.in_ok-new.ensures.ok) c.loop-parts.invariant.parts c.in_ok-next.ensures.names c.in_ok-push-2.ensures.items
     c.in_ok-next.ensures.parsed c.if-not-is_joined-2.ensures
 
 pub negation-returns-in_err-operand-clause-fails : goal.negation-returns-in_err-operand-clause-fails
@@ -109,6 +111,11 @@ negation-returns-in_err-new-clause-fails t c =
     let p = c.in_ok-operand.ensures.parsed in
     fault_passed c.from_residual-in_err-new.result _ Memory c.from_residual-in_err-new.ensures.1
     (operand_on _ (Bang ∷ []) _ c.if-is_op.ensures.1 (operand_in _ (spell_not p.tree) _ p.whole (not_operand p.tree)))
+
+pub chain-returns-in_err-new-clause-fails : goal.chain-returns-in_err-new-clause-fails
+chain-returns-in_err-new-clause-fails t c =
+    let p = c.loop-parts.invariant.parts in
+    fault_passed c.from_residual-in_err-new.result _ Memory c.from_residual-in_err-new.ensures.1 (operand_in _ (spell p.tree) _ p.whole (chain_operand p.tree))
 
 pub chain-returns-in_err-push-clause-fails : goal.chain-returns-in_err-push-clause-fails
 chain-returns-in_err-push-clause-fails t c =

@@ -1,6 +1,8 @@
 -- What the check left open in `symbols_into`.
 use Rattle.std.proofs.Common.{◌≡◌, Option, ℕ, zero, suc, ◌<◌, List, [], ◌∷◌, ◌++◌, ◌∙◌, length, get_or, take, refl, ap, sym, ⊎_elim, append-nil, append_assoc, length-append, add-one, arith}
 use Rattle.std.proofs.lemmas.Result.{err_from_is_err_and, on_err_weaker}
+use Rattle.std.specs.declared.alloc.Global.{Global}
+use Rattle.std.specs.declared.vec.Vec.{Vec}
 use Rattle.kc_expr.specs.declared.expression.Expr.{Expr}
 use Rattle.kc_expr.specs.declared.expression.Operands.{Operands}
 use Rattle.kc_expr.specs.declared.expression.SymId.{SymId}
@@ -34,10 +36,10 @@ returns-in_ok-symbol_into-in-Rel-clause-err t c =
 
 pub loop-part-init : goal.loop-part-init
 loop-part-init t c =
-    let items = ap (symbols_of_all c.args.modules) (sym c.deref-part-items.ensures.value) in
+    let items = ap (symbols_of_all c.args.modules) (sym (c.deref-part-items.ensures.value ∙ ap (λ (v : Vec Expr Global). v.items) c.deref-in-All.ensures)) in
     record {
       so_far = simp append-nil;
-      all = ⊎_elim (λ h. ap (λ e. symbols c.args.modules (form_of e)) h ∙ symbols-All _ _ ∙ items) (λ h. ap (λ e. symbols c.args.modules (form_of e)) h ∙ symbols-Any _ _ ∙ items) c.in-All.is;
+      all = ⊎_elim (λ h. ap (λ e. symbols c.args.modules (form_of e)) h ∙ symbols-All c.args.modules c.in-All.parts ∙ items) (λ h. ap (λ e. symbols c.args.modules (form_of e)) h ∙ symbols-Any c.args.modules c.in-All.parts ∙ items) c.in-All.is;
     }
 
 pub loop-part-preserved : goal.loop-part-preserved

@@ -1,5 +1,7 @@
-use Rattle.std.proofs.Common.{◌∙◌, ap, sym}
+use Rattle.std.proofs.Common.{◌∙◌, ℕ, ap, sym}
 use Rattle.std.specs.Prelude.{is_some}
+use Rattle.std.specs.declared.alloc.Global.{Global}
+use Rattle.std.specs.declared.vec.Vec.{Vec}
 use Rattle.kc_read.specs.LineReads.{lexemes_from}
 use Rattle.kc_read.proofs.PartLemmas.{operand_constant, operand_name, operand_quoted}
 use Rattle.kc_read.proofs.line_parts.operand_at.Goals as goal
@@ -15,7 +17,8 @@ returns-in_ok-id-in-Some-Word-clause-operand c =
     (rw c.in-Some-Word.field-0-is at c.in-Some-Word.ensures).1 (sym c.is_if.ensures ∙ c.if-is_if.false)
     (sym (ap is_some c.in_default-tristate_constant.ensures)) c.in_ok-id-in-Some-Word.ensures.number c.in_ok-id-in-Some-Word.ensures.mentions
 
-pub returns-in_ok-unescape_into-in-Some-Quoted-clause-operand : goal.returns-in_ok-unescape_into-in-Some-Quoted-clause-operand
-returns-in_ok-unescape_into-in-Some-Quoted-clause-operand c =
-    operand_quoted (lexemes_from c.args.tokens.now c.args.at) _ c.in-Some-Quoted.text.now c.unescape_into.new.out.items c.args.names.now
-    (rw c.in-Some-Quoted.field-0-is at c.in-Some-Quoted.ensures).1 (rw c.new-bytes.ensures.items at c.in_ok-unescape_into-in-Some-Quoted.ensures.ok)
+pub returns-in_ok-new-in-Some-Quoted-clause-operand : goal.returns-in_ok-new-in-Some-Quoted-clause-operand
+returns-in_ok-new-in-Some-Quoted-clause-operand c =
+    operand_quoted (lexemes_from c.args.tokens.now c.args.at) _ c.in-Some-Quoted.text.now c.in_ok-new-in-Some-Quoted.field-0.value.items c.args.names.now
+    (rw c.in-Some-Quoted.field-0-is at c.in-Some-Quoted.ensures).1
+    (ap (λ (v : Vec ℕ Global). v.items) c.in_ok-new-in-Some-Quoted.ensures.ok ∙ rw c.new-bytes.ensures.items at c.in_ok-unescape_into-in-Some-Quoted.ensures.ok)
