@@ -4,7 +4,6 @@ use Rattle.std.specs.Prelude.{◌⊎◌}
 use Rattle.std.specs.List.{slice_get, filter_map, cons_option}
 use Rattle.std.specs.Option.{option_map}
 use Rattle.std.specs.declared.alloc.Global.{Global}
-use Rattle.std.specs.declared.rc.Rc.{Rc}
 use Rattle.std.specs.declared.vec.Vec.{Vec}
 use Rattle.std.proofs.lemmas.List.{append-nil, length_push, map-append}
 use Rattle.std.proofs.lemmas.List.Sums.{count_by-le-length}
@@ -12,7 +11,6 @@ use Rattle.std.proofs.lemmas.Option.{slice_get_within}
 use Rattle.kc_expr.specs.declared.expression.SymId.{SymId}
 use Rattle.kc_read.specs.declared.statement.Block as opener
 use Rattle.kc_read.specs.declared.statement.Block.TheVariants as block
-use Rattle.kc_expr.specs.declared.expression.Expr.{Expr}
 use Rattle.kc_read.specs.declared.statement.Head.{Head}
 use Rattle.kc_read.specs.declared.statement.Head.TheVariants as made
 use Rattle.kc_read.specs.StatementViews.{head_view}

@@ -6,7 +6,7 @@ use Rattle.kc_read.specs.declared.statement.Head.{Head}
 use Rattle.kc_read.specs.declared.statement.Head.TheVariants as made
 use Rattle.kc_read.specs.StatementViews.{head_view}
 use Rattle.kc_read.specs.Statements.{Numbered, MainMenuLine}
-use Rattle.kc_read.specs.Blocks.{Closes, NoBracket, bracket, last_of}
+use Rattle.kc_read.specs.Blocks.{Closes, bracket, last_of}
 use Rattle.kc_tree.specs.declared.rows.Symbol.{Symbol}
 use Rattle.kc_build.specs.Facts.{shown_at, symbol_of, title_of}
 use Rattle.kc_build.specs.Walks.{Enters}
@@ -15,7 +15,6 @@ use Rattle.kc_build.proofs.CloserLemmas.{extends_equal}
 use Rattle.kc_build.proofs.EnterLemmas.{titles_passed}
 use Rattle.kc_build.proofs.OpenLemmas.{open_passes}
 use Rattle.kc_build.proofs.OpenerLemmas.{AreSame, quiet_passes}
-use Rattle.kc_build.proofs.WalkLemmas.{main_menu_stays}
 
 -- A line that closes a block and is no entry.
 pub record IsEnd (s : Numbered) : Type 0 where

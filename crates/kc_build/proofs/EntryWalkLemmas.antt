@@ -1,5 +1,5 @@
 -- A walk from entry to entry: the line that begins one, its attributes, and the place behind it.
-use Rattle.std.proofs.Common.{◌≡◌, ◌≢◌, ℕ, zero, suc, ◌+◌, ◌≤◌, ◌<◌, Bool, true, false, List, [], ◌∷◌, ◌++◌, length, map, take, drop, Some, None, refl, ap, sym, ◌∙◌, subst, arith, add-one, inl, length-append}
+use Rattle.std.proofs.Common.{◌≡◌, ℕ, zero, suc, ◌+◌, ◌≤◌, false, List, [], ◌∷◌, ◌++◌, length, drop, Some, refl, ap, sym, ◌∙◌, arith, add-one, inl, length-append}
 use Rattle.std.specs.List.{slice_get, take_while}
 use Rattle.std.proofs.lemmas.List.{drop-drop, drop-map, length-drop, length-map, map-append}
 use Rattle.std.proofs.lemmas.List.Sums.{take_while-cons}
@@ -7,9 +7,9 @@ use Rattle.kc_read.specs.declared.entries.AttributeLine.{AttributeLine}
 use Rattle.kc_read.specs.declared.entries.Entries.{Entries}
 use Rattle.kc_read.specs.declared.entries.Entry.{Entry}
 use Rattle.kc_read.specs.declared.entries.EntryLines.{EntryLines}
-use Rattle.kc_read.specs.Entries.{BeginsAt, attribute_line, first_line, lines_from, lines_in, lines_of, own_lines}
+use Rattle.kc_read.specs.Entries.{BeginsAt, first_line, lines_from, lines_in, lines_of, own_lines}
 use Rattle.kc_read.specs.StatementViews.{attribute_view, head_view}
-use Rattle.kc_read.specs.Statements.{Numbered, Located, statements}
+use Rattle.kc_read.specs.Statements.{Numbered, statements}
 use Rattle.kc_read.specs.Blocks.{attributes, is_attribute}
 use Rattle.kc_read.proofs.HeadLemmas.{attribute_is, no_attribute}
 use Rattle.kc_build.specs.Passes.{statements_in, statements_of}

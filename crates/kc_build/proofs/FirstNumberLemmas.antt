@@ -11,7 +11,7 @@ use Rattle.kc_read.specs.Blocks.{numbers}
 use Rattle.kc_read.specs.Statements.{Numbered}
 use Rattle.kc_tree.specs.declared.rows.DefinitionId.{DefinitionId}
 use Rattle.kc_tree.specs.declared.rows.Symbol.{Symbol}
-use Rattle.kc_tree.specs.Spans.{more_of}
+use Rattle.kc_tree.specs.Spans.{definition_ids}
 use Rattle.kc_tree.specs.Common.{is_symbol_of, listed}
 use Rattle.kc_build.specs.Facts.{definitions_of, is_first_definition, symbol_at}
 use Rattle.kc_build.specs.SymbolRows.{AreSymbols, SymbolRow, definition_number, first_by, row_of, row_view}
@@ -116,10 +116,9 @@ module _ (ss : List Numbered) where
     begins_first = by_front (passing defines i) refl ∙ sym (first-is ss i s (omega arith))
 
 -- By the rows of the symbols.
-first_id : (n : ℕ) (first : Option DefinitionId) (more : List DefinitionId) →
-    list_any (λ (d : DefinitionId). d.0 == n) (listed first) ≡ begins n (map (λ (d : DefinitionId). d.0) (listed first ++ more_of first more))
-first_id n None more = refl
-first_id n (Some d) more = or_false (d.0 == n)
+first_id : (n : ℕ) (ids : List DefinitionId) → list_any (λ (d : DefinitionId). d.0 == n) (listed (slice_get ids 0)) ≡ begins n (map (λ (d : DefinitionId). d.0) ids)
+first_id n [] = refl
+first_id n (d ∷ more) = or_false (d.0 == n)
   where
     or_false : (b : Bool) → (b || false) ≡ b
     or_false true = refl
@@ -129,9 +128,9 @@ abbrev row_begins : ℕ → Option SymbolRow → Bool
 row_begins n None = false
 row_begins n (Some r) = begins n r.definitions
 
-first_of_row : (n : ℕ) (o : Option Symbol) → list_any (λ (d : DefinitionId). d.0 == n) (listed (option_and_then (λ (f : Symbol). f.first) o)) ≡ row_begins n (option_map row_view o)
+first_of_row : (n : ℕ) (o : Option Symbol) → list_any (λ (d : DefinitionId). d.0 == n) (listed (option_and_then (λ (f : Symbol). slice_get (definition_ids f) 0) o)) ≡ row_begins n (option_map row_view o)
 first_of_row n None = refl
-first_of_row n (Some f) = first_id n f.first f.more.items
+first_of_row n (Some f) = first_id n (definition_ids f)
 
 pub first_by_number : (ss : List Numbered) (symbols : List Symbol) (s : SymId) (i : ℕ) → AreSymbols ss symbols → s.0 < length symbols → symbol_at ss i ≡ Some s → i < length ss →
     first_by symbols s (definition_number ss i) ≡ is_first_definition ss i s

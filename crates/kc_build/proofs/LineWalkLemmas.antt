@@ -1,7 +1,7 @@
 -- The walk over all entries: where it starts, and what it needs before each entry.
-use Rattle.std.proofs.Common.{◌≡◌, ℕ, suc, ◌+◌, ◌-◌, ◌<◌, ◌≤◌, Bool, true, false, if◌then◌else◌, List, [], codes, length, map, reverse, take, drop, Option, Some, None, refl, ap, sym, ◌∙◌, subst, arith, add-one, get_or, inl, length-take, length-drop}
-use Rattle.std.specs.Prelude.{◌⊎◌, slice_index_or}
-use Rattle.std.specs.List.{slice_get, filter_map, take_while, prefix_len}
+use Rattle.std.proofs.Common.{◌≡◌, ℕ, ◌+◌, ◌<◌, Bool, true, false, if◌then◌else◌, List, [], codes, length, map, reverse, Option, Some, None, refl, ap, sym, ◌∙◌, subst, arith}
+use Rattle.std.specs.Prelude.{slice_index_or}
+use Rattle.std.specs.List.{slice_get, filter_map}
 use Rattle.std.proofs.lemmas.List.{length-map}
 use Rattle.std.proofs.lemmas.List.Elements.{All-nil}
 use Rattle.kc_expr.specs.Names.{symbol}

@@ -20,7 +20,7 @@ use Rattle.kc_tree.specs.Wholes.{tree_of}
 use Rattle.kc_tree.specs.Common.{listed}
 use Rattle.kc_build.specs.declared.diagnostics.Diagnostics.{Diagnostics}
 use Rattle.kc_build.specs.Before.{choices_before, main_menu_before}
-use Rattle.kc_build.specs.Facts.{StatedDefault, choice_number, defined_symbols, choice_lines, choices, entries, stated_default, is_member, members_of, guarded_symbol, prompt_at, single_symbol, symbol_facts, title_of}
+use Rattle.kc_build.specs.Facts.{StatedDefault, choice_number, defined_symbols, choice_lines, choices, stated_default, is_member, members_of, guarded_symbol, prompt_at, single_symbol, symbol_facts, title_of}
 use Rattle.kc_build.specs.SymbolRows.{AreBelow, AreSymbols, member_by}
 use Rattle.kc_build.specs.Passes.{statements_in}
 use Rattle.kc_build.specs.WalkResult.{IsWalkResult, IsDiagnosed}

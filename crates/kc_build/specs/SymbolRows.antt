@@ -87,7 +87,7 @@ can_be_target symbols s = nat_lt s.0 (length symbols) && (is_none (choice_by sym
 
 -- the first definition of a symbol has this number, by the same
 abbrev pub first_by : List Symbol → SymId → ℕ → Bool
-first_by symbols s n = list_any (λ (d : DefinitionId). d.0 == n) (listed (option_and_then (λ (f : Symbol). f.first) (slice_get symbols s.0)))
+first_by symbols s n = list_any (λ (d : DefinitionId). d.0 == n) (listed (option_and_then (λ (f : Symbol). slice_get (definition_ids f) 0) (slice_get symbols s.0)))
 
 -- the summary of the entry at a place
 pub record IsEntrySummary (ss : List Numbered) (i : ℕ) (p : EntrySummary) : Type 0 where

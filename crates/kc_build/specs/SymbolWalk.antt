@@ -1,5 +1,5 @@
 -- For proofs: The first walk, entry by entry.
-use Rattle.std.specs.Prelude.{◌≡◌, ℕ, ◌+◌, List, [], ◌∷◌, ◌++◌, All, map, if◌then◌else◌, is_some, Option, Some, None, slice_get, unwrap_or}
+use Rattle.std.specs.Prelude.{◌≡◌, ℕ, ◌+◌, List, [], ◌∷◌, ◌++◌, map, if◌then◌else◌, is_some, Option, Some, None, slice_get, unwrap_or}
 use Rattle.std.specs.Option.{option_or}
 use Rattle.kc_expr.specs.declared.expression.Kind.{Kind}
 use Rattle.kc_expr.specs.declared.expression.Kind.TheVariants as kind
@@ -7,18 +7,10 @@ use Rattle.kc_expr.specs.declared.expression.SymId.{SymId}
 use Rattle.kc_read.specs.Blocks.{enclosing}
 use Rattle.kc_read.specs.Statements.{Numbered}
 use Rattle.kc_tree.specs.Contexts.{mode_view}
-use Rattle.kc_tree.specs.declared.rows.Symbol.{Symbol}
 use Rattle.kc_build.specs.declared.symbols.ChoiceScope.{ChoiceScope}
 use Rattle.kc_build.specs.Facts.{choice_number, enclosing_choice}
 use Rattle.kc_build.specs.SymbolRows.{SymbolRow, definition_number}
 use Rattle.kc_build.specs.Passes.{changed}
-
--- a symbol without a first definition has no more
-abbrev pub HasFirstIfMore : Symbol → Type 0
-HasFirstIfMore s = s.first ≡ None → s.more.items ≡ []
-
-abbrev pub HaveFirstIfMore : List Symbol → Type 0
-HaveFirstIfMore = All HasFirstIfMore
 
 -- a symbol of which nothing is known
 abbrev pub unknown : SymbolRow

@@ -66,6 +66,7 @@ pub record HasRoom (n : ℕ) (t : Tables) : Type 0 where
   pub ranges : length t.ranges.items + n < 2 ^ 32
   pub lines : length t.reverses.lines.items + n < 2 ^ 32
   pub titles : length t.titles.items + 1 < 2 ^ 32
+  pub choices : length t.choices.items + 1 < 2 ^ 32
   pub entries : length t.entries.items + 1 < 2 ^ 32
 
 -- a last line of each kind, or none, for each symbol

@@ -426,7 +426,8 @@ impl Diagnostics {
         attribute: &Attribute,
     ) -> Result<(), AllocError>
         ensures default { OnOk result (option_map refusal_view self.new.bad_default
-            ≡ option_or (option_map refusal_view self.old.bad_default) (entry_refusal.bad_default_of names.now symbols.now summary (attribute_line place.entry.file.now place.entry.line attribute.now))) }
+            ≡ option_or (option_map refusal_view self.old.bad_default)
+            (entry_refusal.bad_default_of names.now symbols.now summary (attribute_line place.entry.file.now place.entry.line attribute.now))) }
         ensures member { OnOk result (self.new.bad_member ≡ self.old.bad_member) }
         ensures warnings { OnOk result (self.new.warnings ≡ self.old.warnings) }
     {

@@ -55,6 +55,14 @@ impl EntryWalk {
         DefinitionId(self.tables.definitions.len() as u32)
     }
 
+    // The number of the next choice.
+    fn next_choice(&self) -> ChoiceId
+        requires { length self.now.tables.choices.items < 2 ^ 32 }
+        ensures { result.0 ≡ length self.now.tables.choices.items }
+    {
+        ChoiceId(self.tables.choices.len() as u32)
+    }
+
     // How many entries there are, which is the place of the next one.
     fn next_entry(&self) -> u32
         requires { length self.now.tables.entries.items < 2 ^ 32 }
@@ -114,8 +122,9 @@ impl EntryWalk {
     {
         let outer = self.blocks.innermost();
         if let Some(choice) = self.tables.contexts.mode(outer.within) {
-            if choice.0 < self.tables.choices.len() {
-                self.tables.choices[choice.0].members.push(symbol)?;
+            let place = choice.0 as usize;
+            if place < self.tables.choices.len() {
+                self.tables.choices[place].members.push(symbol)?;
             }
         }
         Ok(())
@@ -210,7 +219,7 @@ impl EntryWalk {
         ensures { OnOk result (Enters symbols.now ChoiceLine (statements_of own.now) self.old self.new) }
     {
         let entry = self.next_entry();
-        let id = ChoiceId(self.tables.choices.len());
+        let id = self.next_choice();
         let outer = self.blocks.innermost();
         let within = entry_context(&mut self.tables.contexts, outer.within, own)?;
         let prompt = prompt(own, outer.visible)?;
@@ -280,7 +289,8 @@ impl EntryWalk {
 
     // The summary of the entry that a statement begins, before the walk goes into it.
     fn summary_of(&self, symbols: &[Symbol], head: &Head) -> EntrySummary
-        requires { length self.now.tables.definitions.items < 2 ^ 32 }
+        requires definitions { length self.now.tables.definitions.items < 2 ^ 32 }
+        requires choices { length self.now.tables.choices.items < 2 ^ 32 }
         ensures { (ss : List Numbered) (i : ℕ) (own : List Numbered) → HasSymbols ss symbols.now → IsHead ss i (head_view head.now) own
             → IsWalk ss symbols.now i self.now → IsEntrySummary ss i result }
     {
@@ -292,7 +302,7 @@ impl EntryWalk {
                 within_choice,
             },
             Head::Choice => EntrySummary {
-                entry: MenuEntry::Choice(ChoiceId(self.tables.choices.len())),
+                entry: MenuEntry::Choice(self.next_choice()),
                 first: false,
                 within_choice,
             },

@@ -10,12 +10,14 @@ ghost use Rattle.kc_build.specs.Facts.{first_of};
 ghost use Rattle.kc_build.specs.SymbolRows as symbol_rows;
 ghost use Rattle.kc_build.specs.SymbolRows.{row_view, AreSymbols, AreTypesDefined};
 ghost use Rattle.kc_build.specs.Passes.{statements_in, statements_of};
-ghost use Rattle.kc_build.specs.SymbolWalk.{unknown, first_kind, with_definition, noted, HasFirstIfMore, HaveFirstIfMore, IsPassed, HaveMemberTypes};
+ghost use Rattle.kc_build.specs.SymbolWalk.{unknown, first_kind, with_definition, noted, IsPassed, HaveMemberTypes};
 
 use crate::attributes::first_type;
 use kc_expr::expression::{Kind, SymId};
 use kc_read::entries::{AttributeLine, Entries};
 use kc_read::statement::Head;
+use kc_tree::definitions::SymbolDefinitions;
+use kc_tree::maybe_choice::MaybeChoice;
 use kc_tree::rows::{ChoiceId, DefinitionId, Symbol};
 use std::alloc::{AllocError, Global};
 
@@ -25,22 +27,20 @@ use std::alloc::{AllocError, Global};
 struct ChoiceScope {
     choice: Option<ChoiceId>,
     outside: Vec<Option<ChoiceId>>,
-    choices: usize,
+    choices: u32,
     definitions: u32,
 }
 
 // Symbols of which nothing is known yet.
 fn unknown_symbols(alloc: Global, count: usize) -> Result<Vec<Symbol>, AllocError>
-    ensures rows { IfOk result (λ v. map row_view v.items ≡ map (λ _. unknown) (numbers count)) }
-    ensures first { IfOk result (λ v. HaveFirstIfMore v.items) }
+    ensures { IfOk result (λ v. map row_view v.items ≡ map (λ _. unknown) (numbers count)) }
 {
     let mut symbols = Vec::with_capacity(alloc, count)?;
     for _ in 0..count {
         symbols.push(Symbol {
             kind: Kind::Undefined,
-            choice: None,
-            first: None,
-            more: Vec::new(alloc),
+            choice: MaybeChoice::empty(),
+            definitions: SymbolDefinitions::Empty,
         })?;
     }
     Ok(symbols)
@@ -58,39 +58,34 @@ fn first_kind(kind: Kind, found: Option<Kind>) -> Kind
 
 // Adds a definition to a symbol: its type and its choice count where none was found before.
 fn add_definition(
+    alloc: Global,
     symbol: &mut Symbol,
     id: DefinitionId,
     kind: Option<Kind>,
     choice: Option<ChoiceId>,
 ) -> Result<(), AllocError>
-    requires { HasFirstIfMore symbol.old }
-    ensures row { OnOk result (row_view symbol.new ≡ with_definition id.0 kind (option_map (λ k. k.0) choice) (row_view symbol.old)) }
-    ensures first { OnOk result (HasFirstIfMore symbol.new) }
+    ensures { OnOk result (row_view symbol.new ≡ with_definition id.0 kind (option_map (λ k. k.0) choice) (row_view symbol.old)) }
 {
     symbol.kind = first_kind(symbol.kind, kind);
-    symbol.choice = symbol.choice.or(choice);
-    match symbol.first {
-        None => symbol.first = Some(id),
-        Some(_) => symbol.more.push(id)?,
-    }
-    Ok(())
+    symbol.choice = MaybeChoice::of(symbol.choice.get().or(choice))?;
+    symbol.definitions.push(alloc, id)
 }
 
 // Adds the definition with these attributes to its symbol, where that is one of the list.
 fn note_definition(
+    alloc: Global,
     symbols: &mut Vec<Symbol>,
     scope: &ChoiceScope,
     symbol: SymId,
     own: &[AttributeLine],
 ) -> Result<(), AllocError>
-    requires { HaveFirstIfMore symbols.old.items }
-    ensures rows { OnOk result (map row_view symbols.new.items
+    ensures { OnOk result (map row_view symbols.new.items
         ≡ noted scope.now.definitions (first_of (filter_map facts.type_of (statements_of own.now))) (option_map (λ k. k.0) scope.now.choice) symbol (map row_view symbols.old.items)) }
-    ensures first { OnOk result (HaveFirstIfMore symbols.new.items) }
 {
     if symbol.0 < symbols.len() {
         let id = DefinitionId(scope.definitions);
-        add_definition(&mut symbols[symbol.0], id, first_type(own), scope.choice)?;
+        let kind = first_type(own);
+        add_definition(alloc, &mut symbols[symbol.0], id, kind, scope.choice)?;
     }
     Ok(())
 }
@@ -98,7 +93,7 @@ fn note_definition(
 // Makes of the scope of the line that begins an entry that of the line after it.
 fn pass(scope: &mut ChoiceScope, head: &Head) -> Result<(), AllocError>
     requires definitions { scope.old.definitions + 1 < 2 ^ 32 }
-    requires choices { scope.old.choices + 1 < 2 ^ 64 }
+    requires choices { scope.old.choices + 1 < 2 ^ 32 }
     ensures { OnOk result (IsPassed scope.old (head_view head.now) scope.new) }
 {
     match head {
@@ -152,7 +147,7 @@ pub(crate) fn symbols(
     'entries: while let Some(entry) = entries.entry(at) {
         let head = &entry.first.head;
         if let Head::Config(symbol) = head {
-            note_definition(&mut symbols, &scope, *symbol, entry.attributes)?;
+            note_definition(alloc, &mut symbols, &scope, *symbol, entry.attributes)?;
         }
         pass(&mut scope, head)?;
         at += 1;
@@ -176,7 +171,7 @@ pub(crate) fn choice_of(symbols: &[Symbol], symbol: SymId) -> Option<ChoiceId>
     ensures { option_map (λ k. k.0) result ≡ symbol_rows.choice_by symbols.now symbol }
 {
     match symbols.get(symbol.0) {
-        Some(found) => found.choice,
+        Some(found) => found.choice.get(),
         None => None,
     }
 }
@@ -196,7 +191,7 @@ pub(crate) fn is_first(symbols: &[Symbol], symbol: SymId, id: DefinitionId) -> b
     ensures { result ≡ symbol_rows.first_by symbols.now symbol id.0 }
 {
     match symbols.get(symbol.0) {
-        Some(found) => found.first == Some(id),
+        Some(found) => found.definitions.get(0) == Some(id),
         None => false,
     }
 }

@@ -92,7 +92,7 @@ fn member_value(table: &Table, id: SymId, choice: ChoiceId, chosen: &[Option<Sym
     requires { choice.0 < length chosen.now }
     ensures { result ≡ member_equation table.now.tree.now (known_at table.now) id choice.0 (member_given chosen.now choice.0) }
 {
-    match selected_in(table, choice, chosen[choice.0]) {
+    match selected_in(table, choice, chosen[choice.0 as usize]) {
         Some(member) if member.0 == id.0 => Tri::Y,
         _ => Tri::N,
     }
@@ -114,7 +114,7 @@ fn value_anew(
         (given_for symbol.now.choice (places given.now chosen.now (SymbolPlace id.0)) chosen.now)) }
 {
     let own = given.get(id.0);
-    match symbol.choice {
+    match symbol.choice.get() {
         Some(choice) => Ok(Value::Truth(member_value(table, id, choice, chosen))),
         None => {
             let value = own_equation(alloc, table, id, symbol, own)?;

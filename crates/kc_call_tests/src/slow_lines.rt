@@ -22,7 +22,7 @@ fn given(user: &User, id: SymId) -> Option<&UserValue> {
 
 // The member that was chosen.
 fn chosen(user: &User, choice: ChoiceId) -> Option<SymId> {
-    match user.choices().get(choice.0) {
+    match user.choices().get(choice.0 as usize) {
         Some(Some(member)) => Some(*member),
         _ => None,
     }
@@ -45,7 +45,7 @@ fn differs(
     id: SymId,
     symbol: &Symbol,
 ) -> Result<bool, AllocError> {
-    if let Some(choice) = symbol.choice {
+    if let Some(choice) = symbol.choice.get() {
         let selection = selected_in(table, choice, chosen(user, choice));
         let default = selected_in(table, choice, None);
         return Ok(member_differs(selection, default, id));
@@ -101,7 +101,7 @@ pub(crate) fn lines_into(
         symbol_line(alloc, table, user, *id, out, lines)?;
     }
     for c in 0..choice_count(table.tree) {
-        let choice = ChoiceId(c);
+        let choice = ChoiceId(c as u32);
         let selection = selected_in(table, choice, chosen(user, choice));
         let default = selected_in(table, choice, None);
         choice_into(table.tree, selection, default, out)?;

@@ -22,7 +22,7 @@ fn symbol_line(solved: &Solved<'_>, id: SymId, out: &mut Vec<u8>) -> Result<(), 
 
 // The line of a choice.
 fn choice_line(solved: &Solved<'_>, choice: ChoiceId, out: &mut Vec<u8>) -> Result<(), AllocError> {
-    if choice.0 >= choice_count(solved.tree()) {
+    if choice.0 as usize >= choice_count(solved.tree()) {
         return Ok(());
     }
     let selection = solved.selection(choice);
@@ -36,7 +36,7 @@ pub(crate) fn lines_into(solved: &Solved<'_>, out: &mut Vec<u8>) -> Result<(), A
         symbol_line(solved, *id, out)?;
     }
     for c in 0..choice_count(solved.tree()) {
-        choice_line(solved, ChoiceId(c), out)?;
+        choice_line(solved, ChoiceId(c as u32), out)?;
     }
     warnings_into(solved.value_warnings(), out)
 }

@@ -40,7 +40,7 @@ fn choice_of(tree: &Tree, id: SymId) -> Option<ChoiceId>
     // The choice of a member is there: `name_count` says so.
     let _ = tree.name_count();
     match tree.facts(id) {
-        Some(symbol) => symbol.choice,
+        Some(symbol) => symbol.choice.get(),
         None => None,
     }
 }

@@ -1,4 +1,4 @@
--- For proofs: Where the attributes of entries begin.
+-- Trusted: Where the attributes of entries begin.
 use Rattle.std.specs.Prelude.{ℕ, ◌≤◌, List, [], ◌∷◌}
 use denote.Struct.Props.{props}
 use Rattle.kc_read.specs.declared.entries.Entry.{Entry}

@@ -93,8 +93,9 @@ fn compute_selection(table: &mut Table<'_>, id: ChoiceId, chosen: &[Option<SymId
     requires chosen { id.0 < length chosen.now }
     ensures { IsComputedSelection chosen.now id.0 table.old table.new }
 {
-    let selection = selected_in(table, id, chosen[id.0]);
-    table.selections[id.0] = Some(selection);
+    let place = id.0 as usize;
+    let selection = selected_in(table, id, chosen[place]);
+    table.selections[place] = Some(selection);
 }
 
 /// The values of a tree's symbols, computed along an order of them and of the contexts and choices between them, each once:

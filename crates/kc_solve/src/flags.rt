@@ -77,7 +77,7 @@ pub(crate) fn selections(
     let mut selected = Vec::with_capacity(alloc, count)?;
     let mut default = Vec::with_capacity(alloc, count)?;
     for c in 0..count {
-        let choice = ChoiceId(c);
+        let choice = ChoiceId(c as u32);
         let given = user.selected(choice);
         let selection = selection(table, choice, given);
         selected.push(selection)?;
@@ -91,7 +91,7 @@ pub(crate) fn at_choice(selections: &[Option<SymId>], choice: ChoiceId) -> Optio
     requires { choice.0 < length selections.now }
     ensures { result ≡ slice_index_or selections.now choice.0 None }
 {
-    selections[choice.0]
+    selections[choice.0 as usize]
 }
 
 /// The flag at the place of a symbol, or false where there is none.
@@ -130,7 +130,7 @@ fn symbol_differs(
     requires solved { IsSolvedRow table.now id symbol.now (given_in user) }
     ensures { IfOk result (λ b. b ≡ row_differs table.now id symbol.now selections.now defaults.now) }
 {
-    match symbol.choice {
+    match symbol.choice.get() {
         Some(choice) => Ok(member_differs(
             at_choice(selections, choice),
             at_choice(defaults, choice),

@@ -3,6 +3,7 @@ pub mod Contexts
 pub mod Empty
 pub mod RowFacts
 pub mod Layouts
+pub mod MaybeChoices
 pub mod Spans
 pub mod Soundness
 pub mod TreeCode

@@ -4,6 +4,7 @@ ghost use Rattle.std.specs.Prelude.{◌≡◌, ◌<◌, ◌-◌, ◌^◌, ◌++�
 ghost use Rattle.kc_expr.specs.Form.{form_of};
 ghost use Rattle.kc_tree.specs.Contexts.{IsPlain, top, condition_in, and_also, in_choice, mode_view, IsContext};
 
+use crate::maybe_choice::MaybeChoice;
 use crate::rows::{ChoiceId, Context, ContextId};
 use kc_expr::expression::Expr;
 use std::alloc::{AllocError, Global};
@@ -72,7 +73,7 @@ impl Contexts {
         ensures { mode_view result ≡ (condition_in self.now id.0).mode }
     {
         match context_in(&self.inner, id) {
-            Some(context) => context.mode,
+            Some(context) => context.mode.get(),
             None => None,
         }
     }
@@ -85,11 +86,11 @@ impl Contexts {
         ensures number { IfOk result (λ id. id.0 ≡ length self.old) }
         ensures unchanged { OnErr result (self.new ≡ self.old) }
     {
-        let mode = self.mode(outer);
+        let mode = MaybeChoice::of(self.mode(outer))?;
         self.inner.push(Context {
             outer,
-            own_condition: Some(condition),
             mode,
+            own_condition: Some(condition),
         })?;
         Ok(ContextId(self.inner.len() as u32))
     }
@@ -107,10 +108,11 @@ impl Contexts {
         ensures number { IfOk result (λ id. id.0 ≡ length self.old) }
         ensures unchanged { OnErr result (self.new ≡ self.old) }
     {
+        let mode = MaybeChoice::of(Some(choice))?;
         self.inner.push(Context {
             outer,
+            mode,
             own_condition: None,
-            mode: Some(choice),
         })?;
         Ok(ContextId(self.inner.len() as u32))
     }

@@ -135,7 +135,7 @@ impl Layout {
     pub fn choice(&self, id: ChoiceId) -> Option<&Choice>
         ensures { option_map (λ c. c.now) result ≡ slice_get self.now.tables.choices.items id.0 }
     {
-        self.tables.choices.get(id.0)
+        self.tables.choices.get(id.0 as usize)
     }
 
     /// How many contexts there are, with the top.
@@ -226,25 +226,13 @@ impl Symbol {
     pub fn definition_count(&self) -> usize
         ensures { result ≡ length (definition_ids self.now) }
     {
-        match self.first {
-            Some(_) => self.more.len() + 1,
-            None => 0,
-        }
+        self.definitions.count()
     }
 
     /// A definition by its number among those of the symbol, in the order of the lines.
     pub fn definition(&self, i: usize) -> Option<DefinitionId>
         ensures { result ≡ slice_get (definition_ids self.now) i }
     {
-        match self.first {
-            None => None,
-            Some(first) => {
-                if i == 0 {
-                    Some(first)
-                } else {
-                    self.more.get(i - 1).copied()
-                }
-            }
-        }
+        self.definitions.get(i)
     }
 }

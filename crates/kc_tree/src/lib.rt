@@ -2,7 +2,9 @@
 #![tactic(auto)]
 
 pub mod contexts;
+pub mod definitions;
 pub mod layout;
+pub mod maybe_choice;
 pub mod reverses;
 pub mod rows;
 pub mod tree;

@@ -1,13 +1,15 @@
 //! What a tree is made of: contexts, definitions, symbols, choices and entries, each in one table. What the lines of a Kconfig
 //! file say of them is the kernel's kconfig-language document's; where it is silent, kconfiglib's documentation decides.
 
+use crate::definitions::SymbolDefinitions;
+use crate::maybe_choice::MaybeChoice;
 use kc_expr::expression::{Expr, Kind, Operand, SymId};
 use std::rc::Rc;
 
 /// The number of a choice: its place among the tree's choices, in the order in which they open. The numbers are our
 /// own.
 #[derive(Clone, Copy, PartialEq, Eq, Debug)]
-pub struct ChoiceId(pub usize);
+pub struct ChoiceId(pub u32);
 
 /// The number of a context: 0 is the top of the tree, where nothing is asked for. The numbers are our own.
 #[derive(Clone, Copy, PartialEq, Eq, Debug)]
@@ -31,8 +33,8 @@ pub struct TitleId(pub u32);
 #[derive(Debug, Drop)]
 pub struct Context {
     pub outer: ContextId,
+    pub mode: MaybeChoice,
     pub own_condition: Option<Rc<Expr>>,
-    pub mode: Option<ChoiceId>,
 }
 
 /// A prompt: the context of what the enclosing menus ask of what is visible, and its own `if` (the kernel's
@@ -87,13 +89,12 @@ pub struct Reverse {
 }
 
 /// What a tree says of one symbol: the first type that a line gives it, and bool for a choice's member without one; the
-/// choice that it is a member of; and its definitions in the order of the lines, the first apart, since few have more.
+/// choice that it is a member of; and its definitions.
 #[derive(Debug, Drop)]
 pub struct Symbol {
     pub kind: Kind,
-    pub choice: Option<ChoiceId>,
-    pub first: Option<DefinitionId>,
-    pub more: Vec<DefinitionId>,
+    pub choice: MaybeChoice,
+    pub definitions: SymbolDefinitions,
 }
 
 /// A choice's default that names a member, and its own `if`.

@@ -58,7 +58,7 @@ impl User {
         requires { choice.0 < length self.old.choices }
         ensures { self.new ≡ record self.old { choices = slice_set self.old.choices choice.0 (Some member) } }
     {
-        self.choices[choice.0] = Some(member);
+        self.choices[choice.0 as usize] = Some(member);
     }
 
     /// What stands in the symbol's place, if it is filled (kconfiglib's `user_value`).
@@ -74,7 +74,7 @@ impl User {
         requires { choice.0 < length self.now.choices }
         ensures { result ≡ slice_index_or self.now.choices choice.0 None }
     {
-        self.choices[choice.0]
+        self.choices[choice.0 as usize]
     }
 
     /// The symbols' places, by number.

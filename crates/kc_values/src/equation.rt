@@ -57,7 +57,7 @@ pub fn own_equation(
 fn given_member(users: &[Option<SymId>], choice: ChoiceId) -> Option<SymId>
     ensures { result ≡ slice_index_or users.now choice.0 None }
 {
-    match users.get(choice.0) {
+    match users.get(choice.0 as usize) {
         Some(given) => *given,
         None => None,
     }
@@ -79,7 +79,7 @@ pub fn equation(
         ≡ spec.by_choice table.now.tree.now (known_at table.now) id (facts_of table.now.layout.now id.0 symbol.now) (facts_of table.now.layout.now id.0 symbol.now).choice
         (given_for symbol.now.choice (given_in user.entry) users.now)) }
 {
-    match symbol.choice {
+    match symbol.choice.get() {
         Some(choice) => {
             let given = given_member(users, choice);
             Ok(Value::Truth(member_equation(table, id, choice, given)))

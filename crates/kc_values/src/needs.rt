@@ -109,7 +109,7 @@ fn context_row_into(layout: &Layout, context: &Context, out: &mut NeedRow) -> Re
     context_into(layout, context.outer, out)?;
     match &context.own_condition {
         Some(e) => symbols_into(e, layout.modules, &mut out.names),
-        None => mode_into(layout, context.mode, out),
+        None => mode_into(layout, context.mode.get(), out),
     }
 }
 
@@ -292,7 +292,7 @@ fn symbol_into(
     requires choice { IfSome symbol.now.choice (λ c. c.0 < length layout.now.tables.choices.items) }
     ensures { OnOk result (Adds out.old out.new (rows.symbol_nodes layout.now id.0 symbol.now) (rows.symbol_names tree.now layout.now id.0 symbol.now)) }
 {
-    if let Some(choice) = symbol.choice {
+    if let Some(choice) = symbol.choice.get() {
         out.nodes.push(choice_number(layout, choice))?;
         return Ok(());
     }

@@ -44,7 +44,7 @@ pub fn choice_number(layout: &Layout, id: ChoiceId) -> u32
     requires { id.0 < length layout.now.tables.choices.items }
     ensures { result ≡ spec.choice_number layout.now id.0 }
 {
-    (first_choice(layout) + id.0) as u32
+    first_choice(layout) as u32 + id.0
 }
 
 /// The node with a number.
@@ -58,6 +58,6 @@ pub fn node_of(layout: &Layout, number: u32) -> Node
     } else if place < first_choice(layout) {
         Node::Context(ContextId((place - symbols) as u32))
     } else {
-        Node::Choice(ChoiceId(place - first_choice(layout)))
+        Node::Choice(ChoiceId((place - first_choice(layout)) as u32))
     }
 }

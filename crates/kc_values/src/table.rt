@@ -95,7 +95,7 @@ impl<'t> Table<'t> {
     pub(crate) fn computed_selection(&self, id: ChoiceId) -> Option<Option<SymId>>
         ensures { result ≡ slice_index_or self.now.selections.items id.0 None }
     {
-        match self.selections.get(id.0) {
+        match self.selections.get(id.0 as usize) {
             Some(computed) => *computed,
             None => None,
         }

@@ -51,7 +51,7 @@ pub fn written(table: &Table<'_>, id: SymId, symbol: &Symbol, visibility: Tri) -
     requires { visibility ≡ value.visibility table.now.tree.now (known_at table.now) (facts_of table.now.layout.now id.0 symbol.now) }
     ensures { result ≡ spec.written_facts table.now.tree.now (known_at table.now) (Some (facts_of table.now.layout.now id.0 symbol.now)) }
 {
-    match symbol.choice {
+    match symbol.choice.get() {
         Some(_) => !is_n(visibility),
         None => own_is_written(table, id, symbol, visibility),
     }

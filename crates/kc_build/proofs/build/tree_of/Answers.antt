@@ -1,4 +1,4 @@
-use Rattle.std.proofs.Common.{◌≡◌, Ok, Err, ap, ◌∙◌, map, arith}
+use Rattle.std.proofs.Common.{◌≡◌, Ok, Err, ap, ◌∙◌, arith}
 use Rattle.kc_read.specs.Entries.{lines_in}
 use Rattle.kc_tree.specs.Wholes.{tree_of as facts_of}
 use Rattle.kc_build.specs.PartsView.{parts_view}

@@ -1,4 +1,4 @@
-use Rattle.std.proofs.Common.{◌≡◌, ◌+◌, ◌≤◌, length, inr, refl, sym, ◌∙◌, subst, arith}
+use Rattle.std.proofs.Common.{◌+◌, ◌≤◌, length, sym, ◌∙◌, subst, arith}
 use Rattle.std.proofs.lemmas.List.{length-map}
 use Rattle.kc_read.specs.Entries.{lines_in}
 use Rattle.kc_build.specs.SymbolRows.{HasSymbols}
@@ -38,6 +38,7 @@ enter-requires-clause-room c =
       lines = (let a = s.lines in omega arith);
       titles = (let a = s.titles in omega arith);
       entries = (let a = s.entries in omega arith);
+      choices = (let a = s.choices in omega arith);
     }
 
 pub enter-requires-clause-plain : goal.enter-requires-clause-plain

@@ -10,18 +10,18 @@ use Rattle.kc_build.specs.SymbolWalk.{with_definition}
 use Rattle.kc_build.proofs.TableLemmas.{set_changed, unchanged_past}
 use Rattle.kc_build.proofs.symbols.note_definition.Goals as goal
 
-pub returns-in_ok-add_definition-clause-rows : goal.returns-in_ok-add_definition-clause-rows
-returns-in_ok-add_definition-clause-rows c =
+pub returns-in_ok-add_definition : goal.returns-in_ok-add_definition
+returns-in_ok-add_definition c =
     let scope = c.args.scope.now in
     let choice = option_map (λ (k : ChoiceId). k.0) scope.choice in
     let found = first_of (filter_map type_of (statements_of c.args.own.now)) in
     set_changed row_view (with_definition scope.definitions found choice)
     c.args.symbols.now.items c.args.symbol.0 c.index_mut.result.now c.add_definition.new.symbol (omega (arith, c.args.symbols.now.ok))
-    c.index_mut.ensures.value (c.in_ok-add_definition.ensures.row
-    ∙ ap (λ (o : Option Kind). with_definition scope.definitions o choice (row_view c.index_mut.result.now)) c.first_type.ensures)
+    c.index_mut.ensures.value (c.in_ok-add_definition.ensures
+    ∙ ap (λ (o : Option Kind). with_definition scope.definitions o choice (row_view c.index_mut.result.now)) c.first_type-kind.ensures)
 
-pub returns-else-symbol-len-clause-rows : goal.returns-else-symbol-len-clause-rows
-returns-else-symbol-len-clause-rows c =
+pub returns-else-symbol-len : goal.returns-else-symbol-len
+returns-else-symbol-len c =
     let scope = c.args.scope.now in
     let choice = option_map (λ (k : ChoiceId). k.0) scope.choice in
     let found = first_of (filter_map type_of (statements_of c.args.own.now)) in

@@ -1,4 +1,4 @@
-use Rattle.std.proofs.Common.{◌≡◌, ◌<◌, map, length, refl, ap, sym, ◌∙◌, arith, Some, None, Option, List}
+use Rattle.std.proofs.Common.{◌≡◌, ◌<◌, map, length, refl, ap, sym, ◌∙◌, arith, Some, None, Option}
 use Rattle.std.specs.List.{filter_map}
 use Rattle.std.specs.declared.alloc.Global.{Global}
 use Rattle.std.specs.declared.vec.Vec.{Vec}
@@ -13,7 +13,7 @@ use Rattle.kc_tree.specs.declared.rows.Symbol.{Symbol}
 use Rattle.kc_build.specs.Facts.{enclosing_choice, first_of, symbol_at, symbol_of, type_of}
 use Rattle.kc_build.specs.SymbolRows.{definition_number, row_of, row_view}
 use Rattle.kc_build.specs.Passes.{changed, statements_in, statements_of}
-use Rattle.kc_build.specs.SymbolWalk.{HaveFirstIfMore, with_definition}
+use Rattle.kc_build.specs.SymbolWalk.{with_definition}
 use Rattle.kc_build.specs.Walks.{index_after}
 use Rattle.kc_build.proofs.EntryWalkLemmas.{at-end, at-next, attributes-are, head-is, line-is}
 use Rattle.kc_build.proofs.ChoiceScopeLemmas.{few_choices, few_definitions, no_definition, scope_behind}
@@ -56,27 +56,25 @@ entries-preserved c =
     let old = c.entries.symbols.items in
     let now = map row_view old in
     let found : Option SymId → Vec Symbol Global → Type 0 =
-    λ o v. (map row_view v.items ≡ changed (with_definition (definition_number ss i) (entry_type ss i) (enclosing_choice ss i)) o now)
-    × HaveFirstIfMore v.items in
+    λ o v. map row_view v.items ≡ changed (with_definition (definition_number ss i) (entry_type ss i) (enclosing_choice ss i)) o now in
     let made : (o : Option SymId) × (symbol_at ss i ≡ o) × found o c.match-head.symbols = elim c.match-head.branch [
       | in-Config+in_ok-note_definition v ↦
           let t = v.in-Config.symbol in
           let named : symbol_at ss i ≡ Some t = ap symbol_of head.at ∙ ap (λ (y : Head). symbol_of (Some (head_view y))) v.in-Config.is in
-          let by = v.in_ok-note_definition.ensures.rows ∙ ap
+          let by = v.in_ok-note_definition.ensures ∙ ap
           (λ n. changed (with_definition n (first_of (filter_map type_of own)) (mode_view c.entries.scope.choice)) (Some t) now)
           w.scope.definitions ∙ ap
           (λ l. changed (with_definition (definition_number ss i) (first_of (filter_map type_of l))
           (mode_view c.entries.scope.choice)) (Some t) now) (sym (attributes-are es c.entries.at i e w.at begins))
           ∙ ap (λ k. changed (with_definition (definition_number ss i) (entry_type ss i) k) (Some t) now) w.scope.choice in
-          (Some t, named, rw v.symbols-is (by, v.in_ok-note_definition.ensures.first))
-      | in_default-head v ↦ (None, ap symbol_of head.at ∙ no_definition x v.in_default-head.not-Config, rw v.symbols-is (refl, w.first))
+          (Some t, named, rw v.symbols-is by)
+      | in_default-head v ↦ (None, ap symbol_of head.at ∙ no_definition x v.in_default-head.not-Config, rw v.symbols-is refl)
     ] in
     record {
       place = index_after i own;
       at = at-next es c.entries.at i e w.at begins;
-      rows = rows_next ss c.requires.types i c.args.count now (map row_view c.match-head.symbols.items) made.0 w.rows made.1 made.2.0
+      rows = rows_next ss c.requires.types i c.args.count now (map row_view c.match-head.symbols.items) made.0 w.rows made.1 made.2
           ∙ rows_behind ss i s own c.args.count head;
-      first = made.2.1;
       scope = scope;
     }
 

@@ -14,4 +14,4 @@ returns-else-can_count c =
     let own = given_in c.args.user in
     does_not_differ t.tree.now (known_at t) c.args.id (facts_of t.layout.now c.args.id.0 c.args.symbol.now) own c.args.selections.now c.args.defaults.now
     (ap (λ v. is_some own && not (is_n v)) (sym c.requires.visibility) ∙ sym c.can_count.ensures ∙ c.if-can_count.false)
-    _ (ap mode_view c.in-None.is) c.requires.solved
+    _ (ap mode_view (sym c.in-None.ensures)) c.requires.solved

@@ -10,13 +10,13 @@ use Rattle.kc_build.proofs.entries.EntryWalk.add_member.Goals as goal
 pub invariant_of-self : goal.invariant_of-self
 invariant_of-self c =
     let w = c.args.self.now in
-    let l : c.in-Some.choice.0 < length w.tables.choices.items = (let a = c.if-choice-len.true in let b = c.len.ensures in omega (arith, w.tables.choices.ok.0)) in
+    let l : c.in-Some.choice.0 < length w.tables.choices.items = (let a = c.if-place-len.true in let b = c.len.ensures in omega (arith, w.tables.choices.ok.0)) in
     keeping_member w c.in-Some.choice.0 _ c.index_mut.result.now l c.index_mut.ensures.value refl refl
 
 pub returns-in_ok-push-clause-choices : goal.returns-in_ok-push-clause-choices
 returns-in_ok-push-clause-choices c =
     let w = c.args.self.now in
-    let l : c.in-Some.choice.0 < length w.tables.choices.items = (let a = c.if-choice-len.true in let b = c.len.ensures in omega (arith, w.tables.choices.ok.0)) in
+    let l : c.in-Some.choice.0 < length w.tables.choices.items = (let a = c.if-place-len.true in let b = c.len.ensures in omega (arith, w.tables.choices.ok.0)) in
     let mode : Some c.in-Some.choice.0 ≡ (condition_in w.tables.contexts w.blocks.innermost.within.0).mode = c.in-Some.ensures
     ∙ ap (λ (b : BlockScope). (condition_in w.tables.contexts b.within.0).mode) c.innermost-outer.ensures in
     let e = c.in_ok-push.ensures.items in

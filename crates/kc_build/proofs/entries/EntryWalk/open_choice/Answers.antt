@@ -81,8 +81,8 @@ invariant_of-self-3 c =
     ∙ length_push w.tables.choices.items (record { within = c.in_ok-within.within; prompt = c.in_ok-prompt.prompt; defaults = c.in_ok-defaults.defaults; members = c.new.result }) in
     keeping c.choice_block.new.contexts w.tables.definitions.items c.push.new.self.items w.tables.titles.items
     (kept_block c.choice_block.result middle c.choice_block.new.contexts
-    (condition_in middle c.innermost-outer.result.within.0) c.len.result w.tables.definitions.items c.push.new.self.items w.tables.titles.items c.choice_block.ensures.added
-    c.choice_block.ensures.unchanged (titles_carry w.tables.contexts middle f w.tables.titles.items w.titles) (let e = c.len.ensures in omega arith)
+    (condition_in middle c.innermost-outer.result.within.0) c.next_choice-id.result.0 w.tables.definitions.items c.push.new.self.items w.tables.titles.items c.choice_block.ensures.added
+    c.choice_block.ensures.unchanged (titles_carry w.tables.contexts middle f w.tables.titles.items w.titles) (let e = c.next_choice-id.ensures in omega arith)
     (kept_row w c.innermost-outer.result c.entry_context.new.contexts (length c.args.own.now) (is_ok c.push.result)
     (record { within = c.in_ok-within.within; prompt = c.in_ok-prompt.prompt; defaults = c.in_ok-defaults.defaults; members = c.new.result }) c.push.new.self.items
     (filter_map depends_form (statements_of c.args.own.now))
@@ -95,7 +95,7 @@ invariant_of-self-in-Break-branch-5 c =
     let middle = c.entry_context.new.contexts in
     let f = carries_entry w c.innermost-outer.result middle (length c.args.own.now) c.innermost-outer.ensures c.entry_context.ensures.kept in
     let g = extends_block c.choice_block.result middle c.choice_block.new.contexts
-    (in_choice (condition_in middle c.innermost-outer.result.within.0) c.len.result) c.choice_block.ensures.added c.choice_block.ensures.unchanged in
+    (in_choice (condition_in middle c.innermost-outer.result.within.0) c.next_choice-id.result.0) c.choice_block.ensures.added c.choice_block.ensures.unchanged in
     held_fields c.choice_block.new.contexts w.blocks w.tables.titles.items (held_extends middle c.choice_block.new.contexts w.blocks w.tables.titles.items g (held_walk w middle f))
 
 pub invariant_of-self-4 : goal.invariant_of-self-4
@@ -104,12 +104,12 @@ invariant_of-self-4 c =
     let middle = c.entry_context.new.contexts in
     let new = c.choice_block.new.contexts in
     let f = carries_entry w c.innermost-outer.result middle (length c.args.own.now) c.innermost-outer.ensures c.entry_context.ensures.kept in
-    let g = extends_push middle new (in_choice (condition_in middle c.innermost-outer.result.within.0) c.len.result) c.in_ok-block.ensures.added in
+    let g = extends_push middle new (in_choice (condition_in middle c.innermost-outer.result.within.0) c.next_choice-id.result.0) c.in_ok-block.ensures.added in
     let v = further w.tables.contexts middle f w.blocks.innermost.visible.0 (w.visible 0 w.blocks.innermost refl) in
     let p = plain_carries w.tables.contexts middle f w.blocks.innermost.visible.0 (w.visible 0 w.blocks.innermost refl) (w.plain 0 w.blocks.innermost refl) in
     let visible : c.in_ok-block.block.visible ≡ w.blocks.innermost.visible = c.in_ok-block.ensures.visible ∙ ap (λ (b : BlockScope). b.visible) c.innermost-outer.ensures in
     let n : length new ≡ length middle + 1 = ap length c.in_ok-block.ensures.added
-    ∙ length_push middle (in_choice (condition_in middle c.innermost-outer.result.within.0) c.len.result) in
+    ∙ length_push middle (in_choice (condition_in middle c.innermost-outer.result.within.0) c.next_choice-id.result.0) in
     let within = c.in_ok-block.ensures.within in
     held_fields new c.open.new.self w.tables.titles.items
     (held_opens new w.blocks c.open.new.self w.tables.titles.items
@@ -129,7 +129,7 @@ returns c =
     let stands : Stands middle c.in_ok-within.within.0 (with_conjuncts (condition_in w.tables.contexts w.blocks.innermost.within.0) (filter_map depends_form (statements_of c.args.own.now))) =
     rw (← c.innermost-outer.ensures) c.in_ok-within.ensures.made in
     let visible : c.in_ok-block.block.visible ≡ w.blocks.innermost.visible = c.in_ok-block.ensures.visible ∙ ap (λ (b : BlockScope). b.visible) c.innermost-outer.ensures in
-    let added : c.choice_block.new.contexts ≡ middle ++ in_choice (condition_in middle w.blocks.innermost.within.0) c.len.result ∷ [] =
+    let added : c.choice_block.new.contexts ≡ middle ++ in_choice (condition_in middle w.blocks.innermost.within.0) c.next_choice-id.result.0 ∷ [] =
     rw (← c.innermost-outer.ensures) c.in_ok-block.ensures.added in
     let asked : option_map prompt_line c.in_ok-prompt.prompt ≡
     option_map (λ (p : InputPrompt Form). (w.blocks.innermost.visible.0, p.when)) (last_of (filter_map prompt_of (statements_of c.args.own.now))) =
@@ -138,6 +138,6 @@ returns c =
     (λ inner outside. choice_enters c.args.symbols.now (statements_of c.args.own.now) w _
     (record { definitions = refl; defaults = refl; ranges = refl; reverses = refl; titles = refl; entries = refl; main_menu = refl })
     middle (record { within = c.in_ok-within.within; prompt = c.in_ok-prompt.prompt; defaults = c.in_ok-defaults.defaults; members = c.new.result }) c.in_ok-block.block
-    c.next_entry-entry.result c.len.result
-    grown stands added (let e = c.len.ensures in omega arith) c.in_ok-push.ensures.items asked c.in_ok-defaults.ensures c.new.ensures.items c.in_ok-block.ensures.within visible
+    c.next_entry-entry.result c.next_choice-id.result.0
+    grown stands added c.next_choice-id.ensures c.in_ok-push.ensures.items asked c.in_ok-defaults.ensures c.new.ensures.items c.in_ok-block.ensures.within visible
     c.in_ok-block.ensures.entry c.next_entry-entry.ensures inner outside)

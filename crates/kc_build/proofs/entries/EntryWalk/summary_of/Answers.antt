@@ -1,5 +1,5 @@
 -- The summary of an entry, before the walk goes into it.
-use Rattle.std.proofs.Common.{◌≡◌, ap, sym, ◌∙◌, arith, Some}
+use Rattle.std.proofs.Common.{◌≡◌, ap, sym, ◌∙◌, Some}
 use Rattle.kc_read.specs.StatementViews.{head_view}
 use Rattle.kc_read.specs.Statements.{ConfigLine, ChoiceLine}
 use Rattle.kc_build.specs.Facts.{choice_number, symbol_of}
@@ -22,7 +22,7 @@ pub returns-in-Choice : goal.returns-in-Choice
 returns-in-Choice c = λ ss i own a h w.
     let head = head_view c.args.head.now in
     let says : head ≡ ChoiceLine = ap head_view c.in-Choice.is in
-    let n : c.len.result ≡ choice_number ss i = choice_is ss c.args.symbols.now i head own a h c.args.self.now w c.len.result (let e = c.len.ensures in omega arith) in
+    let n : c.next_choice.result.0 ≡ choice_number ss i = choice_is ss c.args.symbols.now i head own a h c.args.self.now w c.next_choice.result.0 c.next_choice.ensures in
     record {
       entry = ap (λ k. menu_entry.Choice (record { 0 = k })) n ∙ sym (entry_is ss c.args.symbols.now i head own a h c.args.self.now w ∙ ap (begun (choice_number ss i)) says);
       first = not_first ss c.args.symbols.now i head own a h c.args.self.now w (ap (λ s. symbol_of (Some s)) says);

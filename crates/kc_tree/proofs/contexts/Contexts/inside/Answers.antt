@@ -25,13 +25,13 @@ invariant_of-self-2 c =
     let all = conditions-length items in
     let view : length (conditions_of items) ≡ length c.args.self.now = ap length c.self.view_is in
     let outer : c.args.outer.0 ≤ length items = omega (arith, all, view, c.requires.there) in
-    let mode : mode_view c.mode-mode.result ≡ (condition_in (conditions_of items) c.args.outer.0).mode = rw (c.self.view_is) c.mode-mode.ensures in
+    let mode : mode_view c.in_ok-mode.mode ≡ (condition_in (conditions_of items) c.args.outer.0).mode = rw (c.self.view_is) (ap mode_view c.in_ok-mode.ensures ∙ c.mode.ensures) in
     rw (c.in_ok-push.ensures.items) (nested-push items _ c.self.invariant.0 outer, modes-push items _ c.self.invariant.1 (λ f w. mode) (λ (no : Some _ ≡ None). absurd cc))
 
 pub returns-clause-added : goal.returns-clause-added
 returns-clause-added c =
     let items = c.self.inside.inner.items in
     let table = conditions_of items in
-    let mode : mode_view c.mode-mode.result ≡ (condition_in table c.args.outer.0).mode = rw (c.self.view_is) c.mode-mode.ensures in
+    let mode : mode_view c.in_ok-mode.mode ≡ (condition_in table c.args.outer.0).mode = rw (c.self.view_is) (ap mode_view c.in_ok-mode.ensures ∙ c.mode.ensures) in
     let more : Option ℕ → List Condition = λ m. table ++ record { conjuncts = (condition_in table c.args.outer.0).conjuncts ++ form_of c.args.condition.value ∷ []; mode = m } ∷ [] in
     rw (c.in_ok-push.ensures.items, ← c.self.view_is) (from-snoc (top ∷ []) items _ ∙ ap more mode)

@@ -1,6 +1,7 @@
-use Rattle.std.proofs.Common.{◌≡◌, ◌≤◌, ◌++◌, ◌∷◌, [], length, ap, ◌∙◌, arith, Some, None}
+use Rattle.std.proofs.Common.{◌≡◌, ◌≤◌, ◌++◌, ◌∷◌, [], length, ap, ◌∙◌, arith, Some, None, Option}
 use Rattle.std.proofs.lemmas.List.{append-nil}
-use Rattle.kc_tree.specs.Contexts.{top, condition_in, conditions_of, IsPlain}
+use Rattle.kc_tree.specs.Contexts.{top, condition_in, conditions_of, mode_view, IsPlain}
+use Rattle.kc_tree.specs.declared.rows.ChoiceId.{ChoiceId}
 use Rattle.kc_tree.proofs.ContextLemmas.{from-snoc, conditions-length, nested-push, modes-push}
 use Rattle.kc_tree.proofs.contexts.Contexts.inside_choice.Goals as goal
 
@@ -32,4 +33,5 @@ returns-clause-added c =
     let items = c.self.inside.inner.items in
     let table = conditions_of items in
     rw (c.in_ok-push.ensures.items, ← c.self.view_is)
-    (from-snoc (top ∷ []) items _ ∙ ap (λ p. table ++ record { conjuncts = p; mode = Some c.args.choice.0 } ∷ []) (append-nil (condition_in table c.args.outer.0).conjuncts))
+    (from-snoc (top ∷ []) items _ ∙ ap (λ p. table ++ record { conjuncts = p; mode = mode_view c.in_ok-mode.mode } ∷ []) (append-nil (condition_in table c.args.outer.0).conjuncts)
+    ∙ ap (λ (o : Option ChoiceId). table ++ record { conjuncts = (condition_in table c.args.outer.0).conjuncts; mode = mode_view o } ∷ []) c.in_ok-mode.ensures)
