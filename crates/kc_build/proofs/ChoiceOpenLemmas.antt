@@ -19,7 +19,7 @@ use Rattle.kc_tree.specs.declared.rows.Definition.{Definition}
 use Rattle.kc_tree.specs.declared.rows.EntryPrompt.{EntryPrompt}
 use Rattle.kc_tree.specs.declared.rows.Symbol.{Symbol}
 use Rattle.kc_tree.specs.declared.rows.Title.{Title}
-use Rattle.kc_tree.specs.Contexts.{IsPlain, condition_in, in_choice, top}
+use Rattle.kc_tree.specs.Contexts.{HasNoMode, condition_in, in_choice, top}
 use Rattle.kc_tree.specs.Layouts.{choice_default_view, choice_facts as choice_in, prompt_view, with_when, with_conjuncts}
 use Rattle.kc_tree.specs.TreeFacts.{Condition, ChoiceFacts, Guarded}
 use Rattle.kc_tree.specs.Common.{listed}
@@ -36,7 +36,7 @@ use Rattle.kc_build.specs.declared.blocks.BlockScope.{BlockScope}
 use Rattle.kc_build.specs.declared.entries.EntryWalk.{EntryWalk}
 use Rattle.kc_build.proofs.CloserLemmas.{extends_equal, no_fewer}
 use Rattle.kc_build.proofs.DefineLemmas.{by_asked, prompt_by_line, line_prompt, prompt_visible}
-use Rattle.kc_build.proofs.GrownLemmas.{AreKept, Extends, carries_grown, choice_extends, further, get_front, get_pushed_if, grown_push, kept_by, kept_carries, map_alike, open_extends, plain_carries, plain_extends, pushed}
+use Rattle.kc_build.proofs.GrownLemmas.{AreKept, Extends, carries_grown, choice_extends, further, get_front, get_pushed_if, grown_push, kept_by, kept_carries, map_alike, open_extends, plain_carries, modeless_extends, pushed}
 use Rattle.kc_build.proofs.HeldLemmas.{carries_entry}
 use Rattle.kc_build.proofs.ListLemmas.{count_next}
 use Rattle.kc_build.proofs.OpenLemmas.{open_opens}
@@ -46,8 +46,8 @@ use Rattle.kc_build.proofs.WalkLemmas.{choice_count, choice_passed, entry_count,
 
 -- What the tables keep with one choice more.
 module _ (conditions : List Condition) (ds : List Definition) (cs new : List Choice) (ts : List Title) (b : Bool) (c : Choice) (added : new ≡ pushed b cs c)
-    (k : AreKept conditions ds cs ts) (there : c.within.0 < length conditions) (plain : IsPlain conditions c.within.0)
-    (seen : (p : EntryPrompt) → c.prompt ≡ Some p → p.visible.0 < length conditions) (shown : (p : EntryPrompt) → c.prompt ≡ Some p → IsPlain conditions p.visible.0) where
+    (k : AreKept conditions ds cs ts) (there : c.within.0 < length conditions) (modeless : HasNoMode conditions c.within.0)
+    (seen : (p : EntryPrompt) → c.prompt ≡ Some p → p.visible.0 < length conditions) (shown : (p : EntryPrompt) → c.prompt ≡ Some p → HasNoMode conditions p.visible.0) where
   by_row : (P : Choice → Type 0) → ((n : ℕ) (x : Choice) → slice_get cs n ≡ Some x → P x) → P c → (n : ℕ) (x : Choice) → slice_get new n ≡ Some x → P x
   by_row P old here n x at = one (get_pushed_if b cs new c n x added at)
     where
@@ -73,14 +73,14 @@ module _ (conditions : List Condition) (ds : List Definition) (cs new : List Cho
   kept_choice = record {
     within = k.within;
     prompts_within = k.prompts_within;
-    prompts_plain = k.prompts_plain;
+    prompts_modeless = k.prompts_modeless;
     choices_within = by_row (λ (x : Choice). x.within.0 < length conditions) k.choices_within there;
-    choices_plain = by_row (λ (x : Choice). IsPlain conditions x.within.0) k.choices_plain plain;
+    choices_modeless = by_row (λ (x : Choice). HasNoMode conditions x.within.0) k.choices_modeless modeless;
     choice_prompts_within = λ n x p at e. by_row (λ (x : Choice). (p : EntryPrompt) → x.prompt ≡ Some p → p.visible.0 < length conditions)
         (λ n x at p e. k.choice_prompts_within n x p at e) seen n x at p e;
-    choice_prompts_plain = λ n x p at e. by_row (λ (x : Choice). (p : EntryPrompt) → x.prompt ≡ Some p → IsPlain conditions p.visible.0)
-        (λ n x at p e. k.choice_prompts_plain n x p at e) shown n x at p e;
-    titles_plain = k.titles_plain;
+    choice_prompts_modeless = λ n x p at e. by_row (λ (x : Choice). (p : EntryPrompt) → x.prompt ≡ Some p → HasNoMode conditions p.visible.0)
+        (λ n x at p e. k.choice_prompts_modeless n x p at e) shown n x at p e;
+    titles_modeless = k.titles_modeless;
     modes_below = λ i n e. (let l = longer in let m = k.modes_below i n e in omega arith);
     modes_behind = λ i n x e at. k.modes_behind i n x e (earlier n x (k.modes_below i n e) at);
     mode_prompts_behind = λ i n x p e at q. k.mode_prompts_behind i n x p e (earlier n x (k.modes_below i n e) at) q;
@@ -138,12 +138,12 @@ module _ (conditions new : List Condition) (x : Condition) (k : ℕ) (added : ne
     kept_in_choice = record {
       within = λ i d e. on d.within.0 (h.within i d e);
       prompts_within = λ i d p e q. on p.visible.0 (h.prompts_within i d p e q);
-      prompts_plain = λ i d p e q. plain_extends conditions new g p.visible.0 (h.prompts_within i d p e q) (h.prompts_plain i d p e q);
+      prompts_modeless = λ i d p e q. modeless_extends conditions new g p.visible.0 (h.prompts_within i d p e q) (h.prompts_modeless i d p e q);
       choices_within = λ i c e. on c.within.0 (h.choices_within i c e);
-      choices_plain = λ i c e. plain_extends conditions new g c.within.0 (h.choices_within i c e) (h.choices_plain i c e);
+      choices_modeless = λ i c e. modeless_extends conditions new g c.within.0 (h.choices_within i c e) (h.choices_modeless i c e);
       choice_prompts_within = λ i c p e q. on p.visible.0 (h.choice_prompts_within i c p e q);
-      choice_prompts_plain = λ i c p e q. plain_extends conditions new g p.visible.0 (h.choice_prompts_within i c p e q) (h.choice_prompts_plain i c p e q);
-      titles_plain = λ i t e. plain_extends conditions new g t.visible.0 (w i t e) (h.titles_plain i t e);
+      choice_prompts_modeless = λ i c p e q. modeless_extends conditions new g p.visible.0 (h.choice_prompts_within i c p e q) (h.choice_prompts_modeless i c p e q);
+      titles_modeless = λ i t e. modeless_extends conditions new g t.visible.0 (w i t e) (h.titles_modeless i t e);
       modes_below = λ i n e. below i n (counts i n e);
       modes_behind = λ i n c e at. behind i n c (counts i n e) at;
       mode_prompts_behind = λ i n c p e at q. prompt_behind i n c p (counts i n e) at q;
@@ -244,7 +244,7 @@ pub record IsRest (old new : EntryWalk) : Type 0 where
   pub definitions : new.tables.definitions ≡ old.tables.definitions
   pub defaults : new.tables.defaults ≡ old.tables.defaults
   pub ranges : new.tables.ranges ≡ old.tables.ranges
-  pub reverses : new.tables.reverses ≡ old.tables.reverses
+  pub selector_rows : new.tables.selector_rows ≡ old.tables.selector_rows
   pub titles : new.tables.titles ≡ old.tables.titles
   pub entries : new.tables.entries ≡ old.tables.entries
   pub main_menu : new.main_menu ≡ old.main_menu
@@ -324,7 +324,7 @@ module _ (symbols : List Symbol) (own : List Numbered) (old new : EntryWalk) (re
         definitions = rest.definitions;
         defaults = rest.defaults;
         ranges = rest.ranges;
-        reverses = rest.reverses;
+        selector_rows = rest.selector_rows;
         blocks = open_opens ss i ChoiceLine h.at block.Choice new.tables.contexts old.blocks new.blocks refl
             (open_extends ss i o new.tables.contexts old.blocks g old.within old.visible w.blocks) inside outside;
         choices = choices;
@@ -345,21 +345,21 @@ module _ (symbols : List Symbol) (own : List Numbered) (old new : EntryWalk) (re
 -- The tables with the row of a choice that was made in the innermost block.
 pub kept_row : (w : EntryWalk) (b : BlockScope) (middle : List Condition) (n : ℕ) (r : Bool) (row : Choice) (new : List Choice) (fs : List Form) (x : Option (InputPrompt Form)) →
     b ≡ w.blocks.innermost → IsGrown w.tables.contexts middle (condition_in w.tables.contexts b.within.0).mode n →
-    Stands middle row.within.0 (with_conjuncts (condition_in w.tables.contexts b.within.0) fs) → IsPlain w.tables.contexts w.blocks.innermost.within.0 →
+    Stands middle row.within.0 (with_conjuncts (condition_in w.tables.contexts b.within.0) fs) → HasNoMode w.tables.contexts w.blocks.innermost.within.0 →
     option_map prompt_line row.prompt ≡ option_map (λ (p : InputPrompt Form). (b.visible.0, p.when)) x → new ≡ pushed r w.tables.choices.items row →
     AreKept middle w.tables.definitions.items new w.tables.titles.items
-kept_row w b middle n r row new fs x e grown stands plain asked added =
+kept_row w b middle n r row new fs x e grown stands modeless asked added =
     let f = carries_entry w b middle n e grown in
-    let row_plain : IsPlain middle row.within.0 = ap (λ (c : Condition). is_some c.mode) stands.is
-    ∙ ap (λ (y : BlockScope). is_some (condition_in w.tables.contexts y.within.0).mode) e ∙ plain in
+    let row_modeless : HasNoMode middle row.within.0 = ap (λ (c : Condition). is_some c.mode) stands.is
+    ∙ ap (λ (y : BlockScope). is_some (condition_in w.tables.contexts y.within.0).mode) e ∙ modeless in
     let there : b.visible.0 < length middle = rw e (further w.tables.contexts middle f w.blocks.innermost.visible.0 (w.visible 0 w.blocks.innermost refl)) in
-    let shown : IsPlain middle b.visible.0 =
-    rw e (plain_carries w.tables.contexts middle f w.blocks.innermost.visible.0 (w.visible 0 w.blocks.innermost refl) (w.plain 0 w.blocks.innermost refl)) in
+    let shown : HasNoMode middle b.visible.0 =
+    rw e (plain_carries w.tables.contexts middle f w.blocks.innermost.visible.0 (w.visible 0 w.blocks.innermost refl) (w.modeless 0 w.blocks.innermost refl)) in
     kept_choice middle w.tables.definitions.items w.tables.choices.items new w.tables.titles.items r row added
     (kept_carries w.tables.contexts middle f w.tables.definitions.items w.tables.choices.items w.tables.titles.items w.titles (kept_by w.tables))
-    stands.there row_plain
+    stands.there row_modeless
     (λ p q. subst (λ (v : ℕ). v < length middle) (sym (prompt_visible row.prompt b.visible.0 x asked p q)) there)
-    (λ p q. subst (IsPlain middle) (sym (prompt_visible row.prompt b.visible.0 x asked p q)) shown)
+    (λ p q. subst (HasNoMode middle) (sym (prompt_visible row.prompt b.visible.0 x asked p q)) shown)
 
 -- The context of its members, where there was memory for it.
 pub extends_block : {T E : Type 0} (r : Result T E) (middle new : List Condition) (c : Condition) → OnOk r (new ≡ middle ++ c ∷ []) → OnErr r (new ≡ middle) → Extends middle new

@@ -93,7 +93,7 @@ end_enters old new r contexts titles entries closed symbols own ss i a h w =
       definitions = r.definitions;
       defaults = r.defaults;
       ranges = r.ranges;
-      reverses = r.reverses;
+      selector_rows = r.selector_rows;
       blocks = open_closes ss i EndMenuLine h.at new.tables.contexts old.blocks new.blocks refl
           (subst (λ (l : List Condition). AreOpen ss i l old.blocks) (sym contexts) w.blocks) closed;
       choices = choices_say_same ss i EndMenuLine own h symbols old new g r.choices ∙ w.choices ∙ sym (no_choice_passed ss i EndMenuLine own h refl symbols other);

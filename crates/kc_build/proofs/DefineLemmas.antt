@@ -18,11 +18,11 @@ use Rattle.kc_tree.specs.declared.rows.ContextId.{ContextId}
 use Rattle.kc_tree.specs.declared.rows.Definition.{Definition}
 use Rattle.kc_tree.specs.declared.rows.ShownEntry.{ShownEntry}
 use Rattle.kc_tree.specs.declared.rows.EntryPrompt.{EntryPrompt}
-use Rattle.kc_tree.specs.declared.rows.Reverse.{Reverse}
+use Rattle.kc_tree.specs.declared.rows.Selector.{Selector}
 use Rattle.kc_tree.specs.declared.rows.RowSpan.{RowSpan}
 use Rattle.kc_tree.specs.declared.rows.Title.{Title}
-use Rattle.kc_tree.specs.declared.reverses.Reverses.{Reverses}
-use Rattle.kc_tree.specs.Contexts.{IsPlain, condition_in}
+use Rattle.kc_tree.specs.declared.selector_rows.SelectorRows.{SelectorRows}
+use Rattle.kc_tree.specs.Contexts.{HasNoMode, condition_in}
 use Rattle.kc_tree.specs.Layouts.{definition_facts, prompt_view, default_view, range_view, with_conjuncts, with_when}
 use Rattle.kc_tree.specs.Spans.{slice_of}
 use Rattle.kc_tree.specs.TreeFacts.{Condition}
@@ -32,7 +32,7 @@ use Rattle.kc_build.specs.EntryLines.{default_line, default_row, prompt_line, ra
 use Rattle.kc_build.specs.Facts.{prompt_of, depends_form}
 use Rattle.kc_build.specs.Growth.{IsGrown, Stands}
 use Rattle.kc_build.specs.WalkResult.{AreRowsThere, IsEntryThere, IsSpanBelow, IsTitleThere}
-use Rattle.kc_build.specs.ReverseRows.{HaveSources}
+use Rattle.kc_build.specs.SelectorRows.{HaveSources}
 use Rattle.kc_build.specs.Stacks as stacks
 use Rattle.kc_build.specs.Stacks.{block_view}
 use Rattle.kc_build.specs.WalkSteps.{AddsDefinition, dependency_in, made_definition, made_prompt}
@@ -113,11 +113,11 @@ module _ (w : EntryWalk) (new : List Condition) (g : Carries w.tables.contexts n
       let m = g.longer in
       omega arith
 
-  plain_by : (i : ℕ) (x : Definition) (p : EntryPrompt) → x.prompt ≡ Some p → (slice_get w.tables.definitions.items i ≡ Some x) ⊎ (d ≡ x) → IsPlain new p.visible.0
-  plain_by i x p e (inl a) = kept.prompts_plain i x p a e
+  plain_by : (i : ℕ) (x : Definition) (p : EntryPrompt) → x.prompt ≡ Some p → (slice_get w.tables.definitions.items i ≡ Some x) ⊎ (d ≡ x) → HasNoMode new p.visible.0
+  plain_by i x p e (inl a) = kept.prompts_modeless i x p a e
   plain_by i x p e (inr a) =
       let n : p.visible.0 ≡ w.blocks.innermost.visible.0 = q p (ap (λ (y : Definition). y.prompt) a ∙ e) in
-      subst (IsPlain new) (sym n) (plain_carries w.tables.contexts new g w.blocks.innermost.visible.0 visible_there (w.plain 0 w.blocks.innermost refl))
+      subst (HasNoMode new) (sym n) (plain_carries w.tables.contexts new g w.blocks.innermost.visible.0 visible_there (w.modeless 0 w.blocks.innermost refl))
 
   pub keeping_definition : (b : Bool) (ds : List Definition) → ds ≡ pushed b w.tables.definitions.items d →
       Keeping new ds w.tables.choices.items w.tables.titles.items × Holding new w.tables.titles.items w.blocks
@@ -126,12 +126,12 @@ module _ (w : EntryWalk) (new : List Condition) (g : Carries w.tables.contexts n
         (record {
           within = λ i x at. within_by i x (get_pushed_if b w.tables.definitions.items ds d i x e at);
           prompts_within = λ i x p at r. prompt_by i x p r (get_pushed_if b w.tables.definitions.items ds d i x e at);
-          prompts_plain = λ i x p at r. plain_by i x p r (get_pushed_if b w.tables.definitions.items ds d i x e at);
+          prompts_modeless = λ i x p at r. plain_by i x p r (get_pushed_if b w.tables.definitions.items ds d i x e at);
           choices_within = kept.choices_within;
-          choices_plain = kept.choices_plain;
+          choices_modeless = kept.choices_modeless;
           choice_prompts_within = kept.choice_prompts_within;
-          choice_prompts_plain = kept.choice_prompts_plain;
-          titles_plain = kept.titles_plain;
+          choice_prompts_modeless = kept.choice_prompts_modeless;
+          titles_modeless = kept.titles_modeless;
           modes_below = kept.modes_below;
           modes_behind = kept.modes_behind;
           mode_prompts_behind = kept.mode_prompts_behind;
@@ -152,7 +152,7 @@ pub record IsMade (symbol : SymId) (own : List Numbered) (old new : EntryWalk) (
   pub ranges : map range_row new.tables.ranges.items ≡ map range_row old.tables.ranges.items ++ filter_map range_line own
   pub ranges_start : d.ranges.start ≡ length old.tables.ranges.items
   pub ranges_end : d.ranges.end ≡ length new.tables.ranges.items
-  pub reverses : new.tables.reverses ≡ old.tables.reverses
+  pub selector_rows : new.tables.selector_rows ≡ old.tables.selector_rows
   pub choices : new.tables.choices ≡ old.tables.choices
   pub titles : new.tables.titles ≡ old.tables.titles
   pub entries : new.tables.entries ≡ old.tables.entries
@@ -251,12 +251,12 @@ module _ (symbol : SymId) (own : List Numbered) (old new : EntryWalk) (d : Defin
   definition_in i x at =
       get_pushed old.tables.definitions.items d i x (sym (ap (λ (l : List Definition). slice_get l i) m.pushed_is) ∙ at)
 
-  sources_stay : AreRowsThere old.tables → HaveSources (length new.tables.definitions.items) new.tables.reverses.lines.items
+  sources_stay : AreRowsThere old.tables → HaveSources (length new.tables.definitions.items) new.tables.selector_rows.lines.items
   sources_stay rows =
       let n : length new.tables.definitions.items ≡ length old.tables.definitions.items + 1 = ap length m.pushed_is ∙ length_push old.tables.definitions.items d in
-      let more = All-weaker (λ (r : Reverse). r.source.0 < length old.tables.definitions.items) (λ (r : Reverse). r.source.0 < length new.tables.definitions.items)
-      (λ r h. omega arith) old.tables.reverses.lines.items rows.sources in
-      subst (λ (r : Reverses). HaveSources (length new.tables.definitions.items) r.lines.items) (sym m.reverses) more
+      let more = All-weaker (λ (r : Selector). r.source.0 < length old.tables.definitions.items) (λ (r : Selector). r.source.0 < length new.tables.definitions.items)
+      (λ r h. omega arith) old.tables.selector_rows.lines.items rows.sources in
+      subst (λ (r : SelectorRows). HaveSources (length new.tables.definitions.items) r.lines.items) (sym m.selector_rows) more
 
   rows_there : AreRowsThere old.tables → AreRowsThere new.tables
   rows_there rows = record {
@@ -276,7 +276,7 @@ module _ (symbol : SymId) (own : List Numbered) (old new : EntryWalk) (d : Defin
     rows = rows_there;
     defaults = (let n = more_defaults in let f = fewer default_line own in omega arith);
     ranges = (let n = more_ranges in let f = fewer range_line own in omega arith);
-    reverses = m.reverses;
+    selector_rows = m.selector_rows;
     choices = m.choices;
     titles = m.titles;
     entries = m.entries;
@@ -327,12 +327,12 @@ keeping_member w k x y h is v p =
           (record {
             within = kept.within;
             prompts_within = kept.prompts_within;
-            prompts_plain = kept.prompts_plain;
+            prompts_modeless = kept.prompts_modeless;
             choices_within = λ i c e. (let r = same_rows cs k x y h at v p i c e in subst (λ (o : ContextId). o.0 < length w.tables.contexts) r.2 (kept.choices_within i r.0 r.1));
-            choices_plain = λ i c e. (let r = same_rows cs k x y h at v p i c e in subst (λ (o : ContextId). IsPlain w.tables.contexts o.0) r.2 (kept.choices_plain i r.0 r.1));
+            choices_modeless = λ i c e. (let r = same_rows cs k x y h at v p i c e in subst (λ (o : ContextId). HasNoMode w.tables.contexts o.0) r.2 (kept.choices_modeless i r.0 r.1));
             choice_prompts_within = λ i c q e f. (let r = same_rows cs k x y h at v p i c e in kept.choice_prompts_within i r.0 q r.1 (r.3 ∙ f));
-            choice_prompts_plain = λ i c q e f. (let r = same_rows cs k x y h at v p i c e in kept.choice_prompts_plain i r.0 q r.1 (r.3 ∙ f));
-            titles_plain = kept.titles_plain;
+            choice_prompts_modeless = λ i c q e f. (let r = same_rows cs k x y h at v p i c e in kept.choice_prompts_modeless i r.0 q r.1 (r.3 ∙ f));
+            titles_modeless = kept.titles_modeless;
             modes_below = λ i n e. (let l = kept.modes_below i n e in omega (arith, length-set cs k x));
             modes_behind = λ i n c e f. (let r = same_rows cs k x y h at v p n c f in subst (λ (o : ContextId). o.0 < i) r.2 (kept.modes_behind i n r.0 e r.1));
             mode_prompts_behind = λ i n c q e f t. (let r = same_rows cs k x y h at v p n c f in kept.mode_prompts_behind i n r.0 q e r.1 (r.3 ∙ t));

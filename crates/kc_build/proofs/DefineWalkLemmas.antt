@@ -17,7 +17,7 @@ use Rattle.kc_tree.specs.declared.rows.Definition.{Definition}
 use Rattle.kc_tree.specs.declared.rows.DefinitionId.{DefinitionId}
 use Rattle.kc_tree.specs.declared.rows.ShownEntry.{ShownEntry}
 use Rattle.kc_tree.specs.declared.rows.ShownEntry.TheVariants as entry
-use Rattle.kc_tree.specs.declared.rows.Reverse.{Reverse}
+use Rattle.kc_tree.specs.declared.rows.Selector.{Selector}
 use Rattle.kc_tree.specs.declared.rows.Symbol.{Symbol}
 use Rattle.kc_tree.specs.declared.rows.SymbolDefault.{SymbolDefault}
 use Rattle.kc_tree.specs.declared.rows.SymbolRange.{SymbolRange}
@@ -26,14 +26,14 @@ use Rattle.kc_tree.specs.Layouts.{DefinitionFacts, choice_default_view, choice_f
 use Rattle.kc_tree.specs.Spans.{slice_of}
 use Rattle.kc_tree.specs.TreeFacts.{ChoiceFacts, Condition, Guarded, SymbolShown}
 use Rattle.kc_build.specs.declared.entries.EntryWalk.{EntryWalk}
-use Rattle.kc_build.specs.declared.lines.ReverseKind.TheVariants as reverse_kind
+use Rattle.kc_build.specs.declared.lines.SelectOrImply.TheVariants as select_or_imply
 use Rattle.kc_build.specs.Before.{choices_before, definition_facts_at, definitions_before, entries_before, impliers_before, selectors_before}
 use Rattle.kc_build.specs.EntryLines.{default_line, range_line}
 use Rattle.kc_build.specs.Facts as facts
 use Rattle.kc_build.specs.Facts.{StatedDefault, enclosing_choice, defaults_at, dependency, stated_default, imply_of, is_first_definition, naming_at, guarded_range, select_of, symbol_at, symbol_of}
 use Rattle.kc_build.specs.SymbolRows.{HasSymbols, can_be_target, definition_number, first_by}
 use Rattle.kc_build.specs.Passes.{change}
-use Rattle.kc_build.specs.ReverseRows.{AreAdded, HaveSources, KeepSources, added_lines, selects_of, implies_of}
+use Rattle.kc_build.specs.SelectorRows.{AreAdded, HaveSources, KeepSources, added_lines, selects_of, implies_of}
 use Rattle.kc_build.specs.WalkResult.{AreRowsThere, HasHeads, IsEntryThere, IsSmall, IsSpanBelow, IsTitleThere}
 use Rattle.kc_build.specs.Stacks.{AreOpen, BlockFacts, block_facts_at, block_view}
 use Rattle.kc_build.specs.Walks.{IsHead, IsWalk, index_after}
@@ -105,8 +105,8 @@ same_choices t u c d = λ i. map (choice_by_contexts (c i)) ((d i).items)
 pub record Defines (symbols : List Symbol) (symbol : SymId) (own : List Numbered) (source : DefinitionId) (old made last new : EntryWalk) : Type 0 where
   pub number : source.0 ≡ length old.tables.definitions.items
   pub added : AddsDefinition symbol own old made
-  pub reverses : AreAdded symbols source made.tables.reverses own last.tables.reverses
-  pub sources : KeepSources source.0 made.tables.reverses.lines.items last.tables.reverses.lines.items
+  pub selector_rows : AreAdded symbols source made.tables.selector_rows own last.tables.selector_rows
+  pub sources : KeepSources source.0 made.tables.selector_rows.lines.items last.tables.selector_rows.lines.items
   pub contexts : last.tables.contexts ≡ made.tables.contexts
   pub definitions : last.tables.definitions ≡ made.tables.definitions
   pub defaults : last.tables.defaults ≡ made.tables.defaults
@@ -176,8 +176,8 @@ module _ (ss : List Numbered) (symbols : List Symbol) (i : ℕ) (s : SymId) (own
       m.number ∙ sym count ∙ ap length w.definitions ∙ length-given (symbol_at ss) (definition_facts_at ss) (numbers i)
 
   -- Reverse dependencies.
-  lines_made : new.tables.reverses ≡ last.tables.reverses
-  lines_made = m.others.reverses
+  lines_made : new.tables.selector_rows ≡ last.tables.selector_rows
+  lines_made = m.others.selector_rows
 
   can : (k : ℕ) → k < length symbols → can_be_target symbols (symbol k) ≡ facts.can_be_target ss (symbol k)
   can k l = target_known ss symbols (symbol k) whole.below whole.symbols_are l
@@ -208,37 +208,37 @@ module _ (ss : List Numbered) (symbols : List Symbol) (i : ℕ) (s : SymId) (own
       ∙ join test (flat_map (naming_at ss line) (numbers i)) (naming_at ss line i)
       ∙ ap (λ l. if test then l else []) (sym (names_passed ss i (ConfigLine s) own h line))
 
-  old_sources : HaveSources (length before) old.tables.reverses.lines.items
-  old_sources = subst (λ n. HaveSources n old.tables.reverses.lines.items) (sym count) w.rows.sources
+  old_sources : HaveSources (length before) old.tables.selector_rows.lines.items
+  old_sources = subst (λ n. HaveSources n old.tables.selector_rows.lines.items) (sym count) w.rows.sources
 
   number_before : source.0 ≡ length before
   number_before = m.number ∙ sym count
 
-  rows_made : (k : ℕ) → selects_of new.tables.reverses k ≡ selects_of old.tables.reverses k ++ added_lines symbols source reverse_kind.Select k own
+  rows_made : (k : ℕ) → selects_of new.tables.selector_rows k ≡ selects_of old.tables.selector_rows k ++ added_lines symbols source select_or_imply.Select k own
   rows_made k =
-      ap (λ r. selects_of r k) lines_made ∙ m.reverses.selects k ∙ ap (λ r. selects_of r k ++ added_lines symbols source reverse_kind.Select k own) m.added.reverses
+      ap (λ r. selects_of r k) lines_made ∙ m.selector_rows.selects k ∙ ap (λ r. selects_of r k ++ added_lines symbols source select_or_imply.Select k own) m.added.selector_rows
 
-  imply_rows_made : (k : ℕ) → implies_of new.tables.reverses k ≡ implies_of old.tables.reverses k ++ added_lines symbols source reverse_kind.Imply k own
+  imply_rows_made : (k : ℕ) → implies_of new.tables.selector_rows k ≡ implies_of old.tables.selector_rows k ++ added_lines symbols source select_or_imply.Imply k own
   imply_rows_made k =
-      ap (λ r. implies_of r k) lines_made ∙ m.reverses.implies k ∙ ap (λ r. implies_of r k ++ added_lines symbols source reverse_kind.Imply k own) m.added.reverses
+      ap (λ r. implies_of r k) lines_made ∙ m.selector_rows.implies k ∙ ap (λ r. implies_of r k ++ added_lines symbols source select_or_imply.Imply k own) m.added.selector_rows
 
   selectors_now : (k : ℕ) → k < length symbols → selectors_at new.tables k ≡ selectors_before ss after (symbol k)
   selectors_now k l =
       selectors_by_rows new.tables k
-      ∙ ap (λ ds. filter_map (named_in ds) (selects_of new.tables.reverses k)) definitions_made
-      ∙ names_now k (select_of (symbol k)) (selects_of old.tables.reverses k) (selects_of new.tables.reverses k) (added_lines symbols source reverse_kind.Select k own) (rows_made k)
-      (rows_low (length before) old.tables.reverses.lines.items _ old_sources)
+      ∙ ap (λ ds. filter_map (named_in ds) (selects_of new.tables.selector_rows k)) definitions_made
+      ∙ names_now k (select_of (symbol k)) (selects_of old.tables.selector_rows k) (selects_of new.tables.selector_rows k) (added_lines symbols source select_or_imply.Select k own) (rows_made k)
+      (rows_low (length before) old.tables.selector_rows.lines.items _ old_sources)
       (sym (selectors_by_rows old.tables k) ∙ w.selectors k l)
-      (added_named symbols source before here number_before k (facts.can_be_target ss (symbol k)) (can k l) reverse_kind.Select own)
+      (added_named symbols source before here number_before k (facts.can_be_target ss (symbol k)) (can k l) select_or_imply.Select own)
 
   impliers_now : (k : ℕ) → k < length symbols → impliers_at new.tables k ≡ impliers_before ss after (symbol k)
   impliers_now k l =
       impliers_by_rows new.tables k
-      ∙ ap (λ ds. filter_map (named_in ds) (implies_of new.tables.reverses k)) definitions_made
-      ∙ names_now k (imply_of (symbol k)) (implies_of old.tables.reverses k) (implies_of new.tables.reverses k) (added_lines symbols source reverse_kind.Imply k own) (imply_rows_made k)
-      (rows_low (length before) old.tables.reverses.lines.items _ old_sources)
+      ∙ ap (λ ds. filter_map (named_in ds) (implies_of new.tables.selector_rows k)) definitions_made
+      ∙ names_now k (imply_of (symbol k)) (implies_of old.tables.selector_rows k) (implies_of new.tables.selector_rows k) (added_lines symbols source select_or_imply.Imply k own) (imply_rows_made k)
+      (rows_low (length before) old.tables.selector_rows.lines.items _ old_sources)
       (sym (impliers_by_rows old.tables k) ∙ w.impliers k l)
-      (added_named symbols source before here number_before k (facts.can_be_target ss (symbol k)) (can k l) reverse_kind.Imply own)
+      (added_named symbols source before here number_before k (facts.can_be_target ss (symbol k)) (can k l) select_or_imply.Imply own)
 
   -- Choices.
   mode_is : (condition_in last.tables.contexts last.blocks.innermost.within.0).mode ≡ enclosing_choice ss i
@@ -321,13 +321,13 @@ module _ (ss : List Numbered) (symbols : List Symbol) (i : ℕ) (s : SymId) (own
   in_made : (k : ℕ) (d : Definition) → slice_get new.tables.definitions.items k ≡ Some d → slice_get made.tables.definitions.items k ≡ Some d
   in_made k d e = sym (ap (λ v. slice_get v.items k) definitions_same) ∙ e
 
-  sources_now : HaveSources (length new.tables.definitions.items) new.tables.reverses.lines.items
+  sources_now : HaveSources (length new.tables.definitions.items) new.tables.selector_rows.lines.items
   sources_now =
       let n = length new.tables.definitions.items in
       let l : source.0 < n = (let a = m.number in let b = more_definitions in omega arith) in
-      let more : HaveSources n old.tables.reverses.lines.items = All-weaker (λ (r : Reverse). r.source.0 < length old.tables.definitions.items)
-      (λ (r : Reverse). r.source.0 < n) (λ r k. (let b = more_definitions in omega arith)) old.tables.reverses.lines.items w.rows.sources in
-      subst (λ r. HaveSources n r.lines.items) (sym lines_made) (m.sources n l (subst (λ r. HaveSources n r.lines.items) (sym m.added.reverses) more))
+      let more : HaveSources n old.tables.selector_rows.lines.items = All-weaker (λ (r : Selector). r.source.0 < length old.tables.definitions.items)
+      (λ (r : Selector). r.source.0 < n) (λ r k. (let b = more_definitions in omega arith)) old.tables.selector_rows.lines.items w.rows.sources in
+      subst (λ r. HaveSources n r.lines.items) (sym lines_made) (m.sources n l (subst (λ r. HaveSources n r.lines.items) (sym m.added.selector_rows) more))
 
   rows_now : AreRowsThere new.tables
   rows_now = record {
@@ -368,9 +368,9 @@ module _ (ss : List Numbered) (symbols : List Symbol) (i : ℕ) (s : SymId) (own
         ap (λ v. length v.items) (m.others.defaults ∙ m.defaults) in omega arith);
     ranges = (let a = w.small.ranges in let b = m.added.ranges in let c : length new.tables.ranges.items ≡ length made.tables.ranges.items =
         ap (λ v. length v.items) (m.others.ranges ∙ m.ranges) in omega arith);
-    lines = (let a = w.small.lines in let b = m.reverses.few in let c : length new.tables.reverses.lines.items ≡ length last.tables.reverses.lines.items =
-        ap (λ r. length r.lines.items) lines_made in let d : length made.tables.reverses.lines.items ≡ length old.tables.reverses.lines.items =
-        ap (λ r. length r.lines.items) m.added.reverses in omega arith);
+    lines = (let a = w.small.lines in let b = m.selector_rows.few in let c : length new.tables.selector_rows.lines.items ≡ length last.tables.selector_rows.lines.items =
+        ap (λ r. length r.lines.items) lines_made in let d : length made.tables.selector_rows.lines.items ≡ length old.tables.selector_rows.lines.items =
+        ap (λ r. length r.lines.items) m.added.selector_rows in omega arith);
     titles = (let a = w.small.titles in let e = ap length (titles_same ∙ append-nil old.tables.titles.items) in omega arith);
     entries = (let a = w.small.entries in let b = more_by in let c = few_more (is_first_definition ss i s) in omega arith);
     choices = (let a = w.small.choices in let b = choices_many in omega arith);
@@ -378,8 +378,8 @@ module _ (ss : List Numbered) (symbols : List Symbol) (i : ℕ) (s : SymId) (own
 
   heads_now : HasHeads symbols new.tables
   heads_now = record {
-    selects = ap (λ r. length r.selects.items) lines_made ∙ m.reverses.count ∙ ap (λ r. length r.selects.items) m.added.reverses ∙ w.heads.selects;
-    implies = ap (λ r. length r.implies.items) lines_made ∙ m.reverses.same ∙ ap (λ r. length r.implies.items) m.added.reverses ∙ w.heads.implies;
+    selects = ap (λ r. length r.selects.items) lines_made ∙ m.selector_rows.count ∙ ap (λ r. length r.selects.items) m.added.selector_rows ∙ w.heads.selects;
+    implies = ap (λ r. length r.implies.items) lines_made ∙ m.selector_rows.same ∙ ap (λ r. length r.implies.items) m.added.selector_rows ∙ w.heads.implies;
   }
 
   blocks_same : new.blocks ≡ old.blocks

@@ -10,8 +10,8 @@ use Rattle.kc_text.specs.Lexemes.{Lexeme}
 use Rattle.kc_text.specs.Lines.{UnreadLines, unread_lines}
 use Rattle.kc_expr.specs.Names.{all_mentioned, mention, same_name}
 use Rattle.kc_expr.specs.Grammar.{Disjunction, if_word}
-use Rattle.kc_expr.specs.declared.expression.Kind.{Kind}
-use Rattle.kc_expr.specs.declared.expression.Kind.TheVariants as kind
+use Rattle.kc_expr.specs.declared.expression.SymbolType.{SymbolType}
+use Rattle.kc_expr.specs.declared.expression.SymbolType.TheVariants as symbol_type
 use Rattle.kc_expr.proofs.NamesLemmas.{all_mentioned-append}
 use Rattle.kc_read.specs.declared.refusal.Code.TheVariants as code
 use Rattle.kc_read.specs.declared.statement.Keyword.{Keyword}
@@ -23,7 +23,7 @@ use Rattle.kc_read.specs.Lines.{LineContext, After, Cause, ReadsTarget, ReadsTyp
 use Rattle.kc_read.specs.Progress.{defined_after, naming_cause}
 use Rattle.kc_read.specs.Numbering.{located_numbered}
 use Rattle.kc_read.specs.Statements.{InputPrompt, Named, Located, numbered, ConfigLine, IfLine, EndIfLine, CommentLine, SourceLine, MenuLine, EndMenuLine, ChoiceLine, EndChoiceLine, MainMenuLine, TypeLine, PromptLine, DefaultLine, DefLine, DependsLine, VisibleLine, SelectLine, ImplyLine, RangeLine, HelpLine, ModulesLine, IgnoredLine, statements}
-use Rattle.kc_build.specs.Facts.{type_of}
+use Rattle.kc_build.specs.Facts.{stated_type}
 use Rattle.kc_build.specs.SymbolRows.{AreTypesDefined}
 use Rattle.kc_build.proofs.ElementLemmas.{get_snoc}
 
@@ -33,8 +33,8 @@ Allows None = Unit {0}
 Allows (Some n) = is_good_name n ≡ true
 
 -- and gives a type
-abbrev pub IsGiven : Kind → Type 0
-IsGiven k = k ≡ kind.Undefined → ⊥
+abbrev pub IsGiven : SymbolType → Type 0
+IsGiven k = k ≡ symbol_type.Undefined → ⊥
 
 abbrev pub IsAllowed : Named → Type 0
 IsAllowed (ConfigLine n) = is_good_name n ≡ true
@@ -137,7 +137,7 @@ asked make ts s a h =
     after (text_of ts) (λ t. ReadsCondition (λ w. make (record { text = t; when = w })) (drop 1 ts)) s h
     (λ t e. condition (λ w. make (record { text = t; when = w })) (drop 1 ts) s (λ w. a (record { text = t; when = w })) e)
 
-typed : (k : Kind) (ts : List Lexeme) (s : Named) → IsGiven k → ReadsType k ts (Ok s) → IsAllowed s
+typed : (k : SymbolType) (ts : List Lexeme) (s : Named) → IsGiven k → ReadsType k ts (Ok s) → IsAllowed s
 typed k ts s g (inl h) = same_allowed s (TypeLine k None) (let e : ◌≡◌ {A = Result Named Cause} (Ok s) (Ok (TypeLine k None)) = h.1 in let same : s ≡ TypeLine k None = cc in same) g
 typed k ts s g (inr h) = asked (λ p. TypeLine k (Some p)) ts s (λ p. g) h.1
 
@@ -253,7 +253,7 @@ module _ (files : Files) where
   rest_known (blank a l m own log r n rest) k = rest_known rest k
   rest_known (bad_line a l m own log c n) k = tt
   rest_known (over_limit a l m own log s c n e) k = tt
-  rest_known (statement a l m own log s r n plain effect rest) k =
+  rest_known (statement a l m own log s r n modeless effect rest) k =
       rest_known rest (known_next a a own log.lines log l.number s refl (line_of (context_of a own log) n.tokens s n.reads) effect k)
   rest_known (bad_source a l m own log name c n e) k = tt
   rest_known (refused_inside a l m own log name bytes e n allowed found inner) k = tt
@@ -292,7 +292,7 @@ module _ (files : Files) where
   rest_allowed (blank a l m own log r n rest) k = rest_allowed rest k
   rest_allowed (bad_line a l m own log c n) k = tt
   rest_allowed (over_limit a l m own log s c n e) k = tt
-  rest_allowed (statement a l m own log s r n plain effect rest) k =
+  rest_allowed (statement a l m own log s r n modeless effect rest) k =
       rest_allowed rest (allowed_next log.lines (record { file = a.file; line = l.number; statement = s }) (line_of (context_of a own log) n.tokens s n.reads) k)
   rest_allowed (bad_source a l m own log name c n e) k = tt
   rest_allowed (refused_inside a l m own log name bytes e n allowed found inner) k = tt
@@ -310,13 +310,13 @@ module _ (files : Files) where
 
 -- The same of numbered lines.
 module _ (number : List ℕ → ℕ) where
-  untyped_not : (s : Named) → IsAllowed s → type_of (numbered number s) ≡ Some kind.Undefined → ⊥
-  untyped_not (TypeLine k p) a e = a (let same : k ≡ kind.Undefined = cc in same)
-  untyped_not (DefLine k v w) a e = a (let same : k ≡ kind.Undefined = cc in same)
+  untyped_not : (s : Named) → IsAllowed s → stated_type (numbered number s) ≡ Some symbol_type.Undefined → ⊥
+  untyped_not (TypeLine k p) a e = a (let same : k ≡ symbol_type.Undefined = cc in same)
+  untyped_not (DefLine k v w) a e = a (let same : k ≡ symbol_type.Undefined = cc in same)
   untyped_not _ a e = absurd cc
 
   pub numbered_typed : (ls : List (Located Named)) → ((i : ℕ) (l : Located Named) → slice_get ls i ≡ Some l → IsAllowed l.statement) →
       AreTypesDefined (map (λ l. l.statement) (map (located_numbered number) ls))
   numbered_typed [] h i s e t = absurd cc
-  numbered_typed (l ∷ ls) h zero s e t = untyped_not l.statement (h zero l refl) (ap type_of (let same : numbered number l.statement ≡ s = cc in same) ∙ t)
+  numbered_typed (l ∷ ls) h zero s e t = untyped_not l.statement (h zero l refl) (ap stated_type (let same : numbered number l.statement ≡ s = cc in same) ∙ t)
   numbered_typed (l ∷ ls) h (suc i) s e t = numbered_typed ls (λ j. h (suc j)) i s e t

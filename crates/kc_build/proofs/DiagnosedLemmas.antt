@@ -10,7 +10,7 @@ use Rattle.std.proofs.lemmas.List.{append-nil, length-map, length-append, length
 use Rattle.std.proofs.lemmas.List.Elements.{filter-append, All-nil, All-cons, All-head, All-tail, All-same}
 use Rattle.std.proofs.lemmas.List.Sums.{take_while-cons}
 use Rattle.kc_expr.specs.declared.expression.SymId.{SymId}
-use Rattle.kc_expr.specs.declared.expression.Kind.{Kind}
+use Rattle.kc_expr.specs.declared.expression.SymbolType.{SymbolType}
 use Rattle.kc_read.specs.declared.refusal.Code.{Code}
 use Rattle.kc_read.specs.declared.refusal.Code.TheVariants as code
 use Rattle.kc_read.specs.Blocks.{attributes, is_attribute, numbers}
@@ -26,14 +26,14 @@ use Rattle.kc_build.specs.declared.diagnostics.Diagnostics.{Diagnostics}
 use Rattle.kc_build.specs.declared.diagnostics.EntrySummary.{EntrySummary}
 use Rattle.kc_build.specs.declared.diagnostics.MenuEntry.{MenuEntry}
 use Rattle.kc_build.specs.Diagnosed.{Diagnosis, AreLinesDiagnosed, lines_diagnosed, diagnosis_view, line_diagnosed}
-use Rattle.kc_build.specs.Facts.{prompt_of, choice_of, enclosing_choice, first_of, is_member, kind_of}
+use Rattle.kc_build.specs.Facts.{prompt_of, choice_of, enclosing_choice, first_of, is_member, type_of}
 use Rattle.kc_build.specs.FirstDefinitions.{is_first_definition_at}
-use Rattle.kc_build.specs.SymbolRows.{AreBelow, AreSymbols, IsEntrySummary, choice_by, kind_by, member_by, line_warnings_in}
+use Rattle.kc_build.specs.SymbolRows.{AreBelow, AreSymbols, IsEntrySummary, choice_by, type_by, member_by, line_warnings_in}
 use Rattle.kc_build.specs.WholeListRefusals.{entry_refusal}
 use Rattle.kc_build.specs.WalkResult.{IsDiagnosed}
 use Rattle.kc_build.specs.Trees.{unless_refused}
 use Rattle.kc_build.specs.Warnings.{bad_defaults, bad_members, is_bad_default, is_bad_member, whole_list_refusals, line_of, menu_entry_at, menu_entry_before, prompt_before, refused_at, line_warnings, line_warnings_by, warned_at, warnings}
-use Rattle.kc_build.proofs.KindLemmas.{choices_known, kinds_known}
+use Rattle.kc_build.proofs.TypeLemmas.{choices_known, types_known}
 use Rattle.kc_build.proofs.ListLemmas.{there_in}
 use Rattle.kc_build.proofs.MemberLemmas.{below_or_past, member_is}
 use Rattle.kc_build.proofs.MenuEntryLemmas.{has_prompt, entry_goes_on, entry_here, prompt_begins, prompt_goes_on}
@@ -110,27 +110,27 @@ no_prompt (TypeLine k p) h = cc
 no_prompt (PromptLine p) h = cc
 no_prompt _ h = refl
 
-module _ (kinds : SymId → Kind) (choices : SymId → Option ℕ) (members : ℕ → SymId → Bool) (o : MenuEntry) where
-  first_unread : (s : Numbered) (before first other : Bool) → is_attribute s ≡ true → line_warnings_by kinds choices members o before first s ≡ line_warnings_by kinds choices members o before other s
+module _ (types : SymId → SymbolType) (choices : SymId → Option ℕ) (members : ℕ → SymId → Bool) (o : MenuEntry) where
+  first_unread : (s : Numbered) (before first other : Bool) → is_attribute s ≡ true → line_warnings_by types choices members o before first s ≡ line_warnings_by types choices members o before other s
   first_unread (ConfigLine t) before first other h = cc
   first_unread _ before first other h = refl
 
-  before_unread : (s : Numbered) (before other first : Bool) → is_attribute s ≡ false → line_warnings_by kinds choices members o before first s ≡ line_warnings_by kinds choices members o other first s
+  before_unread : (s : Numbered) (before other first : Bool) → is_attribute s ≡ false → line_warnings_by types choices members o before first s ≡ line_warnings_by types choices members o other first s
   before_unread (TypeLine k p) before other first h = cc
   before_unread (PromptLine p) before other first h = cc
   before_unread _ before other first h = refl
 
-  no_member : (s : Numbered) (first : Bool) (within_choice : Option ℕ) → is_attribute s ≡ true → is_bad_member kinds choices first within_choice s ≡ false
+  no_member : (s : Numbered) (first : Bool) (within_choice : Option ℕ) → is_attribute s ≡ true → is_bad_member types choices first within_choice s ≡ false
   no_member (ConfigLine t) first within_choice h = cc
   no_member _ first within_choice h = refl
 
 module _ (names : List (List ℕ)) (ls : List (Located Numbered)) where
   abbrev pub bad_member_at : ℕ → Bool
-  bad_member_at i = list_any (is_bad_member (kind_of (statements ls)) (choice_of (statements ls))
+  bad_member_at i = list_any (is_bad_member (type_of (statements ls)) (choice_of (statements ls))
       (is_first_definition_at (statements ls) i) (enclosing_choice (statements ls) i)) (listed (slice_get (statements ls) i))
 
   abbrev pub bad_default_at : ℕ → Bool
-  bad_default_at i = list_any (is_bad_default (kind_of (statements ls)) (menu_entry_at (statements ls) i)) (listed (slice_get (statements ls) i))
+  bad_default_at i = list_any (is_bad_default (type_of (statements ls)) (menu_entry_at (statements ls) i)) (listed (slice_get (statements ls) i))
 
   -- the same as `IsDiagnosed`, by the places below one
   record Found (i : ℕ) (d : Diagnosis) : Type 0 where
@@ -179,15 +179,15 @@ module _ (names : List (List ℕ)) (ls : List (Located Numbered)) where
 record IsKnown (ls : List (Located Numbered)) (symbols : List Symbol) (summary : EntrySummary) (prompted : Bool) (i : ℕ) (l : Located Numbered) : Type 0 where
   at : slice_get ls i ≡ Some l
   entry : summary.entry ≡ menu_entry_at (statements ls) i
-  member : is_bad_member (kind_by symbols) (choice_by symbols) summary.first (option_map (λ (k : ChoiceId). k.0) summary.within_choice)
-      l.statement ≡ is_bad_member (kind_of (statements ls)) (choice_of (statements ls)) (is_first_definition_at (statements ls) i)
+  member : is_bad_member (type_by symbols) (choice_by symbols) summary.first (option_map (λ (k : ChoiceId). k.0) summary.within_choice)
+      l.statement ≡ is_bad_member (type_of (statements ls)) (choice_of (statements ls)) (is_first_definition_at (statements ls) i)
       (enclosing_choice (statements ls) i) l.statement
   says : bad_members (statements ls) ≡ [] → line_warnings_in symbols summary prompted l.statement ≡ line_warnings (statements ls) i l.statement
 
 module _ (names : List (List ℕ)) (ls : List (Located Numbered)) (symbols : List Symbol) (below : AreBelow (length symbols) (statements ls))
     (are : AreSymbols (statements ls) symbols) where
-  kinds : kind_by symbols ≡ kind_of (statements ls)
-  kinds = kinds_known (statements ls) symbols below are
+  types : type_by symbols ≡ type_of (statements ls)
+  types = types_known (statements ls) symbols below are
 
   choices : choice_by symbols ≡ choice_of (statements ls)
   choices = choices_known (statements ls) symbols below are
@@ -200,19 +200,19 @@ module _ (names : List (List ℕ)) (ls : List (Located Numbered)) (symbols : Lis
 
   -- with the first walk's knowledge in place of that of the list
   warnings_known : (o : MenuEntry) (before first : Bool) (s : Numbered) → bad_members (statements ls) ≡ [] →
-      line_warnings_by (kind_by symbols) (choice_by symbols) (member_by symbols) o before first s ≡ line_warnings_by (kind_of (statements ls))
+      line_warnings_by (type_by symbols) (choice_by symbols) (member_by symbols) o before first s ≡ line_warnings_by (type_of (statements ls))
       (choice_of (statements ls)) (is_member (statements ls)) o before first s
   warnings_known o before first s none =
-      ap (λ (f : SymId → Kind). line_warnings_by f (choice_by symbols) (member_by symbols) o before first s) kinds
-      ∙ ap (λ (f : SymId → Option ℕ). line_warnings_by (kind_of (statements ls)) f (member_by symbols) o before first s) choices
-      ∙ ap (λ (f : ℕ → SymId → Bool). line_warnings_by (kind_of (statements ls)) (choice_of (statements ls)) f o before first s) (members none)
+      ap (λ (f : SymId → SymbolType). line_warnings_by f (choice_by symbols) (member_by symbols) o before first s) types
+      ∙ ap (λ (f : SymId → Option ℕ). line_warnings_by (type_of (statements ls)) f (member_by symbols) o before first s) choices
+      ∙ ap (λ (f : ℕ → SymId → Bool). line_warnings_by (type_of (statements ls)) (choice_of (statements ls)) f o before first s) (members none)
 
   known_member : (first : Bool) (within_choice : Option ℕ) (s : Numbered) →
-      is_bad_member (kind_by symbols) (choice_by symbols) first within_choice s ≡ is_bad_member (kind_of (statements ls))
+      is_bad_member (type_by symbols) (choice_by symbols) first within_choice s ≡ is_bad_member (type_of (statements ls))
       (choice_of (statements ls)) first within_choice s
   known_member first within_choice s =
-      ap (λ (f : SymId → Kind). is_bad_member f (choice_by symbols) first within_choice s) kinds
-      ∙ ap (λ (f : SymId → Option ℕ). is_bad_member (kind_of (statements ls)) f first within_choice s) choices
+      ap (λ (f : SymId → SymbolType). is_bad_member f (choice_by symbols) first within_choice s) types
+      ∙ ap (λ (f : SymId → Option ℕ). is_bad_member (type_of (statements ls)) f first within_choice s) choices
 
   -- one line more
   line_next : (summary : EntrySummary) (prompted : Bool) (i : ℕ) (l : Located Numbered) (d : Diagnosis) → IsKnown ls symbols summary prompted i l →
@@ -220,15 +220,15 @@ module _ (names : List (List ℕ)) (ls : List (Located Numbered)) (symbols : Lis
   line_next summary prompted i l d k f =
       let ss = statements ls in
       let read = statement_read names ls i l k.at in
-      let member_b = is_bad_member (kind_by symbols) (choice_by symbols) summary.first (option_map (λ (c : ChoiceId). c.0) summary.within_choice) l.statement in
+      let member_b = is_bad_member (type_by symbols) (choice_by symbols) summary.first (option_map (λ (c : ChoiceId). c.0) summary.within_choice) l.statement in
       let member_at : bad_member_at names ls i ≡ member_b =
-      ap (λ (o : Option Numbered). list_any (is_bad_member (kind_of ss) (choice_of ss) (is_first_definition_at ss i) (enclosing_choice ss i))
+      ap (λ (o : Option Numbered). list_any (is_bad_member (type_of ss) (choice_of ss) (is_first_definition_at ss i) (enclosing_choice ss i))
       (listed o)) read ∙ or_false _ ∙ sym k.member in
-      let default_b = is_bad_default (kind_by symbols) summary.entry l.statement in
+      let default_b = is_bad_default (type_by symbols) summary.entry l.statement in
       let default_at : bad_default_at names ls i ≡ default_b =
-      ap (λ (o : Option Numbered). list_any (is_bad_default (kind_of ss) (menu_entry_at ss i)) (listed o)) read ∙ or_false _
-      ∙ sym (ap (λ (g : SymId → Kind). is_bad_default g summary.entry l.statement) kinds
-      ∙ ap (λ (o : MenuEntry). is_bad_default (kind_of ss) o l.statement) k.entry) in
+      ap (λ (o : Option Numbered). list_any (is_bad_default (type_of ss) (menu_entry_at ss i)) (listed o)) read ∙ or_false _
+      ∙ sym (ap (λ (g : SymId → SymbolType). is_bad_default g summary.entry l.statement) types
+      ∙ ap (λ (o : MenuEntry). is_bad_default (type_of ss) o l.statement) k.entry) in
       let refused_by : (c : Code) → refused_at names ls c i ≡ entry_refusal names c summary.entry l.file l.line ∷ [] = λ c. refused_one names ls c i l k.at
       ∙ ap (λ (o : MenuEntry). entry_refusal names c o l.file l.line ∷ []) (sym k.entry) in
       let line = line_of names l.file l.line in
@@ -274,14 +274,14 @@ module _ (names : List (List ℕ)) (ls : List (Located Numbered)) (symbols : Lis
       record {
         at = at;
         entry = entry;
-        member = no_member (kind_by symbols) (choice_by symbols) (member_by symbols) summary.entry l.statement summary.first
+        member = no_member (type_by symbols) (choice_by symbols) (member_by symbols) summary.entry l.statement summary.first
             (option_map (λ (k : ChoiceId). k.0) summary.within_choice) a
-            ∙ sym (no_member (kind_of ss) (choice_of ss) (member_by symbols) summary.entry l.statement (is_first_definition_at ss i) (enclosing_choice ss i) a);
+            ∙ sym (no_member (type_of ss) (choice_of ss) (member_by symbols) summary.entry l.statement (is_first_definition_at ss i) (enclosing_choice ss i) a);
         says = λ none.
             warnings_known names ls symbols below are summary.entry prompted summary.first l.statement none
-            ∙ first_unread (kind_of ss) (choice_of ss) (is_member ss) summary.entry l.statement prompted summary.first (is_first_definition_at ss i) a
-            ∙ ap (λ (b : Bool). line_warnings_by (kind_of ss) (choice_of ss) (is_member ss) summary.entry b (is_first_definition_at ss i) l.statement) p
-            ∙ ap (λ (o : MenuEntry). line_warnings_by (kind_of ss) (choice_of ss) (is_member ss) o (prompt_before ss i) (is_first_definition_at ss i) l.statement) entry;
+            ∙ first_unread (type_of ss) (choice_of ss) (is_member ss) summary.entry l.statement prompted summary.first (is_first_definition_at ss i) a
+            ∙ ap (λ (b : Bool). line_warnings_by (type_of ss) (choice_of ss) (is_member ss) summary.entry b (is_first_definition_at ss i) l.statement) p
+            ∙ ap (λ (o : MenuEntry). line_warnings_by (type_of ss) (choice_of ss) (is_member ss) o (prompt_before ss i) (is_first_definition_at ss i) l.statement) entry;
       }
 
   attributes_next : (own : List (Located Numbered)) (rest : List (Located Numbered)) (i : ℕ) (prompted : Bool) (d : Diagnosis) → drop i ls ≡ own ++ rest →
@@ -316,22 +316,22 @@ module _ (names : List (List ℕ)) (ls : List (Located Numbered)) (symbols : Lis
     entry = is.entry;
     member =
         known_member names ls symbols below are summary.first (option_map (λ (k : ChoiceId). k.0) summary.within_choice) l.statement
-        ∙ ap (λ (b : Bool). is_bad_member (kind_of (statements ls)) (choice_of (statements ls)) b (option_map (λ (k : ChoiceId). k.0) summary.within_choice) l.statement) is.first
-        ∙ ap (λ (r : Option ℕ). is_bad_member (kind_of (statements ls)) (choice_of (statements ls))
+        ∙ ap (λ (b : Bool). is_bad_member (type_of (statements ls)) (choice_of (statements ls)) b (option_map (λ (k : ChoiceId). k.0) summary.within_choice) l.statement) is.first
+        ∙ ap (λ (r : Option ℕ). is_bad_member (type_of (statements ls)) (choice_of (statements ls))
         (is_first_definition_at (statements ls) i) r l.statement) is.within_choice;
     says = λ none.
         warnings_known names ls symbols below are summary.entry false summary.first l.statement none
-        ∙ ap (λ (b : Bool). line_warnings_by (kind_of (statements ls)) (choice_of (statements ls)) (is_member (statements ls)) summary.entry false b l.statement) is.first
-        ∙ ap (λ (o : MenuEntry). line_warnings_by (kind_of (statements ls)) (choice_of (statements ls)) (is_member (statements ls))
+        ∙ ap (λ (b : Bool). line_warnings_by (type_of (statements ls)) (choice_of (statements ls)) (is_member (statements ls)) summary.entry false b l.statement) is.first
+        ∙ ap (λ (o : MenuEntry). line_warnings_by (type_of (statements ls)) (choice_of (statements ls)) (is_member (statements ls))
         o false (is_first_definition_at (statements ls) i) l.statement) is.entry
         ∙ unread begins;
   }
     where
       unread : ((is_attribute l.statement ≡ false) ⊎ (i ≡ 0)) →
-          line_warnings_by (kind_of (statements ls)) (choice_of (statements ls)) (is_member (statements ls))
+          line_warnings_by (type_of (statements ls)) (choice_of (statements ls)) (is_member (statements ls))
           (menu_entry_at (statements ls) i) false (is_first_definition_at (statements ls) i) l.statement ≡ line_warnings
           (statements ls) i l.statement
-      unread (inl a) = before_unread (kind_of (statements ls)) (choice_of (statements ls)) (is_member (statements ls))
+      unread (inl a) = before_unread (type_of (statements ls)) (choice_of (statements ls)) (is_member (statements ls))
           (menu_entry_at (statements ls) i) l.statement false (prompt_before (statements ls) i)
           (is_first_definition_at (statements ls) i) a
       unread (inr z) = rw z refl

@@ -42,14 +42,14 @@ module _ (ss : List Numbered) (symbols : List Symbol) (i : ℕ) (head : Numbered
   attribute_begins n ChoiceLine e = absurd cc
   attribute_begins n _ e = refl
 
-  by_kind : (b : Bool) → is_attribute head ≡ b → ((is_attribute head ≡ false) ⊎ (i ≡ 0)) → menu_entry_at ss i ≡ begun (choice_number ss i) head
-  by_kind false e q = sym (entry_here ss i) ∙ entry_begins ss i head h.at e
-  by_kind true e (inl f) = absurd cc
-  by_kind true e (inr z) =
+  by_type : (b : Bool) → is_attribute head ≡ b → ((is_attribute head ≡ false) ⊎ (i ≡ 0)) → menu_entry_at ss i ≡ begun (choice_number ss i) head
+  by_type false e q = sym (entry_here ss i) ∙ entry_begins ss i head h.at e
+  by_type true e (inl f) = absurd cc
+  by_type true e (inr z) =
       sym (entry_here ss i) ∙ entry_goes_on ss i head h.at e ∙ ap (λ (n : ℕ). menu_entry_before ss n) z ∙ sym (attribute_begins (choice_number ss i) head e)
 
   pub entry_is : menu_entry_at ss i ≡ begun (choice_number ss i) head
-  entry_is = by_kind (is_attribute head) refl h.begins
+  entry_is = by_type (is_attribute head) refl h.begins
 
   -- the choice that the entry stands in
   pub within_choice_is : (b : BlockScope) (o : Option ChoiceId) → b ≡ w.blocks.innermost → mode_view o ≡ (condition_in w.tables.contexts b.within.0).mode →

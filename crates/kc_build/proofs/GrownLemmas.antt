@@ -17,23 +17,23 @@ use Rattle.kc_tree.specs.declared.rows.DefinitionId.{DefinitionId}
 use Rattle.kc_tree.specs.declared.rows.ShownEntry.{ShownEntry}
 use Rattle.kc_tree.specs.declared.rows.ShownEntry.TheVariants as entry
 use Rattle.kc_tree.specs.declared.rows.EntryPrompt.{EntryPrompt}
-use Rattle.kc_tree.specs.declared.rows.Reverse.{Reverse}
-use Rattle.kc_tree.specs.declared.rows.ReverseId.{ReverseId}
+use Rattle.kc_tree.specs.declared.rows.Selector.{Selector}
+use Rattle.kc_tree.specs.declared.rows.SelectorId.{SelectorId}
 use Rattle.kc_tree.specs.declared.rows.RowSpan.{RowSpan}
 use Rattle.kc_tree.specs.declared.rows.SymbolDefault.{SymbolDefault}
 use Rattle.kc_tree.specs.declared.rows.SymbolRange.{SymbolRange}
 use Rattle.kc_tree.specs.declared.rows.Title.{Title}
-use Rattle.kc_tree.specs.declared.reverses.Reverses.{Reverses}
+use Rattle.kc_tree.specs.declared.selector_rows.SelectorRows.{SelectorRows}
 use Rattle.kc_tree.specs.Chains.{chain_of, chains_of}
-use Rattle.kc_tree.specs.Contexts.{IsPlain, and_also, condition_in, top}
-use Rattle.kc_tree.specs.Layouts.{DefinitionFacts, with_when, prompt_view, default_view, range_view, choice_default_view, definition_facts, definition_at, reverse_facts, reverse_at, reverses_from, selectors_at, impliers_at, choice_facts, title_condition, title_text, shown_when, shown_of}
+use Rattle.kc_tree.specs.Contexts.{HasNoMode, and_also, condition_in, top}
+use Rattle.kc_tree.specs.Layouts.{DefinitionFacts, with_when, prompt_view, default_view, range_view, choice_default_view, definition_facts, definition_at, selector_facts, selector_at, selectors_from, selectors_at, impliers_at, choice_facts, title_condition, title_text, shown_when, shown_of}
 use Rattle.kc_tree.specs.Spans.{slice_of}
-use Rattle.kc_tree.specs.Soundness.{AreChoicePromptsPlain, AreChoicePromptsWithin, AreChoicesPlain, AreChoicesWithin, AreModePromptsBehind, AreModesBehind, AreModesBelow, ArePromptsPlain, ArePromptsWithin, AreTitlesPlain, AreContextsThere}
+use Rattle.kc_tree.specs.Soundness.{AreChoicePromptsModeless, AreChoicePromptsWithin, AreChoicesModeless, AreChoicesWithin, AreModePromptsBehind, AreModesBehind, AreModesBelow, ArePromptsModeless, ArePromptsWithin, AreTitlesModeless, AreContextsThere}
 use Rattle.kc_tree.specs.TreeFacts.{Condition, Guarded, Bounds, MenuShown, CommentShown}
 use Rattle.kc_build.specs.EntryLines.{default_row, range_row}
 use Rattle.kc_build.specs.Growth.{IsGrown}
 use Rattle.kc_build.specs.WalkResult.{AreRowsThere, IsEntryThere, IsSpanBelow, IsTitleThere}
-use Rattle.kc_build.specs.Stacks.{AreBlocksPlain, AreBlocksVisible, AreBlocksWithin, AreOpen, AreTitlesWithin, IsTopEmpty, block_view}
+use Rattle.kc_build.specs.Stacks.{AreBlocksModeless, AreBlocksVisible, AreBlocksWithin, AreOpen, AreTitlesWithin, IsTopEmpty, block_view}
 use Rattle.kc_build.specs.declared.blocks.BlockScope.{BlockScope}
 use Rattle.kc_build.specs.declared.blocks.Blocks.{Blocks}
 use Rattle.kc_build.specs.declared.entries.EntryWalk.{EntryWalk}
@@ -134,12 +134,12 @@ carries_push cs new j f h e =
 pub record AreKept (conditions : List Condition) (ds : List Definition) (cs : List Choice) (ts : List Title) : Type 0 where
   pub within : AreContextsThere conditions ds
   pub prompts_within : ArePromptsWithin conditions ds
-  pub prompts_plain : ArePromptsPlain conditions ds
+  pub prompts_modeless : ArePromptsModeless conditions ds
   pub choices_within : AreChoicesWithin conditions cs
-  pub choices_plain : AreChoicesPlain conditions cs
+  pub choices_modeless : AreChoicesModeless conditions cs
   pub choice_prompts_within : AreChoicePromptsWithin conditions cs
-  pub choice_prompts_plain : AreChoicePromptsPlain conditions cs
-  pub titles_plain : AreTitlesPlain conditions ts
+  pub choice_prompts_modeless : AreChoicePromptsModeless conditions cs
+  pub titles_modeless : AreTitlesModeless conditions ts
   pub modes_below : AreModesBelow conditions (length cs)
   pub modes_behind : AreModesBehind conditions cs
   pub mode_prompts_behind : AreModePromptsBehind conditions cs
@@ -148,20 +148,20 @@ pub kept_by : (t : Tables) → AreKept t.contexts t.definitions.items t.choices.
 kept_by t = record {
   within = t.within;
   prompts_within = t.prompts_within;
-  prompts_plain = t.prompts_plain;
+  prompts_modeless = t.prompts_modeless;
   choices_within = t.choices_within;
-  choices_plain = t.choices_plain;
+  choices_modeless = t.choices_modeless;
   choice_prompts_within = t.choice_prompts_within;
-  choice_prompts_plain = t.choice_prompts_plain;
-  titles_plain = t.titles_plain;
+  choice_prompts_modeless = t.choice_prompts_modeless;
+  titles_modeless = t.titles_modeless;
   modes_below = t.modes_below;
   modes_behind = t.modes_behind;
   mode_prompts_behind = t.mode_prompts_behind;
 }
 
 module _ (old new : List Condition) (g : Extends old new) where
-  pub plain_extends : (v : ℕ) → v < length old → IsPlain old v → IsPlain new v
-  plain_extends v h p = ap (λ (c : Condition). is_some c.mode) (g.keeps v h) ∙ p
+  pub modeless_extends : (v : ℕ) → v < length old → HasNoMode old v → HasNoMode new v
+  modeless_extends v h p = ap (λ (c : Condition). is_some c.mode) (g.keeps v h) ∙ p
 
   pub further_extends : (n : ℕ) → n < length old → n < length new
   further_extends n h = let l = g.longer in omega arith
@@ -175,8 +175,8 @@ module _ (old new : List Condition) (g : Extends old new) where
   visible_extends : (blocks : Blocks) → AreBlocksVisible old blocks → AreBlocksVisible new blocks
   visible_extends blocks h = λ j b e. further_extends b.visible.0 (h j b e)
 
-  blocks_plain_extend : (blocks : Blocks) → AreBlocksVisible old blocks → AreBlocksPlain old blocks → AreBlocksPlain new blocks
-  blocks_plain_extend blocks w h = λ j b e. plain_extends b.visible.0 (w j b e) (h j b e)
+  blocks_modeless_extend : (blocks : Blocks) → AreBlocksVisible old blocks → AreBlocksModeless old blocks → AreBlocksModeless new blocks
+  blocks_modeless_extend blocks w h = λ j b e. modeless_extends b.visible.0 (w j b e) (h j b e)
 
   -- A block says the same.
   pub block_alike : (b : BlockScope) → b.within.0 < length old → b.visible.0 < length old → block_view new b ≡ block_view old b
@@ -186,8 +186,8 @@ module _ (old new : List Condition) (g : Extends old new) where
       λ i. record { conjuncts = (within i).conjuncts; visible = (visible i).conjuncts; mode = (within i).mode; entry = b.entry }
 
 module _ (old new : List Condition) (g : Carries old new) where
-  pub plain_carries : (v : ℕ) → v < length old → IsPlain old v → IsPlain new v
-  plain_carries = plain_extends old new (extends old new g)
+  pub plain_carries : (v : ℕ) → v < length old → HasNoMode old v → HasNoMode new v
+  plain_carries = modeless_extends old new (extends old new g)
 
   pub further : (n : ℕ) → n < length old → n < length new
   further = further_extends old new (extends old new g)
@@ -199,12 +199,12 @@ module _ (old new : List Condition) (g : Carries old new) where
   kept_carries ds cs ts w k = record {
     within = λ i d e. further d.within.0 (k.within i d e);
     prompts_within = λ i d p e q. further p.visible.0 (k.prompts_within i d p e q);
-    prompts_plain = λ i d p e q. plain_carries p.visible.0 (k.prompts_within i d p e q) (k.prompts_plain i d p e q);
+    prompts_modeless = λ i d p e q. plain_carries p.visible.0 (k.prompts_within i d p e q) (k.prompts_modeless i d p e q);
     choices_within = λ i c e. further c.within.0 (k.choices_within i c e);
-    choices_plain = λ i c e. plain_carries c.within.0 (k.choices_within i c e) (k.choices_plain i c e);
+    choices_modeless = λ i c e. plain_carries c.within.0 (k.choices_within i c e) (k.choices_modeless i c e);
     choice_prompts_within = λ i c p e q. further p.visible.0 (k.choice_prompts_within i c p e q);
-    choice_prompts_plain = λ i c p e q. plain_carries p.visible.0 (k.choice_prompts_within i c p e q) (k.choice_prompts_plain i c p e q);
-    titles_plain = λ i t e. plain_carries t.visible.0 (w i t e) (k.titles_plain i t e);
+    choice_prompts_modeless = λ i c p e q. plain_carries p.visible.0 (k.choice_prompts_within i c p e q) (k.choice_prompts_modeless i c p e q);
+    titles_modeless = λ i t e. plain_carries t.visible.0 (w i t e) (k.titles_modeless i t e);
     modes_below = λ i n e. (let m = g.modes i n e in k.modes_below m.0 n m.2);
     modes_behind = λ i n c e q. (let m = g.modes i n e in let l = m.1 in let b = k.modes_behind m.0 n c m.2 q in omega arith);
     mode_prompts_behind = λ i n c p e q r. (let m = g.modes i n e in let l = m.1 in let b = k.mode_prompts_behind m.0 n c p m.2 q r in omega arith);
@@ -368,7 +368,7 @@ module _ (old new : Tables) where
     shown_carries = shown_extends (extends old.contexts new.contexts g)
 
   -- What selects and implies a symbol: where the lines are the same, and the definitions that they stand in say the same.
-  at_source : ((id : DefinitionId) → definition_at new id ≡ definition_at old id) → (o : Option Reverse) → option_and_then (reverse_facts new) o ≡ option_and_then (reverse_facts old) o
+  at_source : ((id : DefinitionId) → definition_at new id ≡ definition_at old id) → (o : Option Selector) → option_and_then (selector_facts new) o ≡ option_and_then (selector_facts old) o
   at_source h None = refl
   at_source h (Some r) = ap (option_map (λ (d : DefinitionFacts). record { what = d.symbol; when = with_when d.dependency (when_view r.when) })) (h r.source)
 
@@ -383,23 +383,23 @@ module _ (old new : Tables) where
   definition_at_same e h id =
       ap (λ (l : List Definition). option_map (definition_facts new) (slice_get l id.0)) e ∙ definition_same h id.0 (slice_get old.definitions.items id.0) refl
 
-  module _ (lines : new.reverses ≡ old.reverses) (same : new.definitions.items ≡ old.definitions.items) (say : SaySame) where
-    reverse_same : (i : ℕ) → reverse_at new i ≡ reverse_at old i
-    reverse_same i =
-        ap (λ (r : Reverses). option_and_then (reverse_facts new) (slice_get r.lines.items i)) lines ∙ at_source (definition_at_same same say) (slice_get old.reverses.lines.items i)
+  module _ (lines : new.selector_rows ≡ old.selector_rows) (same : new.definitions.items ≡ old.definitions.items) (say : SaySame) where
+    selector_same : (i : ℕ) → selector_at new i ≡ selector_at old i
+    selector_same i =
+        ap (λ (r : SelectorRows). option_and_then (selector_facts new) (slice_get r.lines.items i)) lines ∙ at_source (definition_at_same same say) (slice_get old.selector_rows.lines.items i)
 
-    reverses_same : (last : Option ReverseId) → reverses_from new last ≡ reverses_from old last
-    reverses_same last =
-        ap (λ (r : Reverses). filter_map (reverse_at new) (chain_of (chains_of r.lines.items) last)) lines
-        ∙ filter_map_alike (reverse_at new) (reverse_at old) (chain_of (chains_of old.reverses.lines.items) last) reverse_same
+    selector_rows_same : (last : Option SelectorId) → selectors_from new last ≡ selectors_from old last
+    selector_rows_same last =
+        ap (λ (r : SelectorRows). filter_map (selector_at new) (chain_of (chains_of r.lines.items) last)) lines
+        ∙ filter_map_alike (selector_at new) (selector_at old) (chain_of (chains_of old.selector_rows.lines.items) last) selector_same
 
     pub selectors_same : (s : ℕ) → selectors_at new s ≡ selectors_at old s
     selectors_same s =
-        ap (λ (r : Reverses). reverse (reverses_from new (get_or r.selects.items s None))) lines ∙ ap reverse (reverses_same (get_or old.reverses.selects.items s None))
+        ap (λ (r : SelectorRows). reverse (selectors_from new (get_or r.selects.items s None))) lines ∙ ap reverse (selector_rows_same (get_or old.selector_rows.selects.items s None))
 
     pub impliers_same : (s : ℕ) → impliers_at new s ≡ impliers_at old s
     impliers_same s =
-        ap (λ (r : Reverses). reverse (reverses_from new (get_or r.implies.items s None))) lines ∙ ap reverse (reverses_same (get_or old.reverses.implies.items s None))
+        ap (λ (r : SelectorRows). reverse (selectors_from new (get_or r.implies.items s None))) lines ∙ ap reverse (selector_rows_same (get_or old.selector_rows.implies.items s None))
 
 -- Rows that are there stay there.
 pub titles_stay : (old new : List Condition) (ts : List Title) → length old ≤ length new → All (IsTitleThere old) ts → All (IsTitleThere new) ts
@@ -430,24 +430,24 @@ open_carries ss i old new blocks g = open_extends ss i old new blocks (extends o
 -- What a walk keeps of its contexts, blocks and titles.
 pub record AreHeld (conditions : List Condition) (blocks : Blocks) (ts : List Title) : Type 0 where
   pub top_is_empty : IsTopEmpty conditions
-  pub top_plain : IsPlain conditions 0
+  pub top_has_no_mode : HasNoMode conditions 0
   pub within : AreBlocksWithin conditions blocks
   pub visible : AreBlocksVisible conditions blocks
-  pub plain : AreBlocksPlain conditions blocks
+  pub modeless : AreBlocksModeless conditions blocks
   pub titles : AreTitlesWithin conditions ts
 
 pub held_by : (w : EntryWalk) → AreHeld w.tables.contexts w.blocks w.tables.titles.items
-held_by w = record { top_is_empty = w.top_is_empty; top_plain = w.top_plain; within = w.within; visible = w.visible; plain = w.plain; titles = w.titles }
+held_by w = record { top_is_empty = w.top_is_empty; top_has_no_mode = w.top_has_no_mode; within = w.within; visible = w.visible; modeless = w.modeless; titles = w.titles }
 
 pub held_extends : (old new : List Condition) (blocks : Blocks) (ts : List Title) → Extends old new → AreHeld old blocks ts → AreHeld new blocks ts
 held_extends old new blocks ts g h =
     let some : 0 < length old = (let w = h.within 0 blocks.innermost refl in omega arith) in
     record {
       top_is_empty = ap (λ (c : Condition). length c.conjuncts) (g.keeps 0 some) ∙ h.top_is_empty;
-      top_plain = plain_extends old new g 0 some h.top_plain;
+      top_has_no_mode = modeless_extends old new g 0 some h.top_has_no_mode;
       within = within_extends old new g blocks h.within;
       visible = visible_extends old new g blocks h.visible;
-      plain = blocks_plain_extend old new g blocks h.visible h.plain;
+      modeless = blocks_modeless_extend old new g blocks h.visible h.modeless;
       titles = titles_extend old new g ts h.titles;
     }
 
@@ -458,9 +458,9 @@ held_carries old new blocks ts g = held_extends old new blocks ts (extends old n
 abbrev pub Keeping : List Condition → List Definition → List Choice → List Title → Type 0
 Keeping conditions ds cs ts =
     AreContextsThere conditions ds × (ArePromptsWithin conditions ds ×
-    (ArePromptsPlain conditions ds × (AreChoicesWithin conditions cs ×
-    (AreChoicesPlain conditions cs × (AreChoicePromptsWithin conditions cs ×
-    (AreChoicePromptsPlain conditions cs × (AreTitlesPlain conditions ts ×
+    (ArePromptsModeless conditions ds × (AreChoicesWithin conditions cs ×
+    (AreChoicesModeless conditions cs × (AreChoicePromptsWithin conditions cs ×
+    (AreChoicePromptsModeless conditions cs × (AreTitlesModeless conditions ts ×
     (AreModesBelow conditions (length cs) × (AreModesBehind conditions cs × (AreModePromptsBehind conditions cs × Unit {0}))))))))))
 
 pub keeping : (conditions : List Condition) (ds : List Definition) (cs : List Choice) (ts : List Title) → AreKept conditions ds cs ts → Keeping conditions ds cs ts
@@ -469,20 +469,20 @@ keeping conditions ds cs ts k = (
   (
     k.prompts_within,
     (
-      k.prompts_plain,
-      (k.choices_within, (k.choices_plain, (k.choice_prompts_within, (k.choice_prompts_plain, (k.titles_plain, (k.modes_below, (k.modes_behind, (k.mode_prompts_behind, tt)))))))),
+      k.prompts_modeless,
+      (k.choices_within, (k.choices_modeless, (k.choice_prompts_within, (k.choice_prompts_modeless, (k.titles_modeless, (k.modes_below, (k.modes_behind, (k.mode_prompts_behind, tt)))))))),
     ),
   ),
 )
 
 abbrev pub Holding : List Condition → List Title → Blocks → Type 0
 Holding conditions ts blocks =
-    IsTopEmpty conditions × (IsPlain conditions 0 ×
-    (AreBlocksWithin conditions blocks × (AreBlocksVisible conditions blocks × (AreBlocksPlain conditions blocks × (AreTitlesWithin conditions ts × Unit {0})))))
+    IsTopEmpty conditions × (HasNoMode conditions 0 ×
+    (AreBlocksWithin conditions blocks × (AreBlocksVisible conditions blocks × (AreBlocksModeless conditions blocks × (AreTitlesWithin conditions ts × Unit {0})))))
 
 pub holding : (conditions : List Condition) (ts : List Title) (blocks : Blocks) → AreHeld conditions blocks ts → Holding conditions ts blocks
 holding conditions ts blocks h =
-    (h.top_is_empty, (h.top_plain, (h.within, (h.visible, (h.plain, (h.titles, tt))))))
+    (h.top_is_empty, (h.top_has_no_mode, (h.within, (h.visible, (h.modeless, (h.titles, tt))))))
 
 -- The same with more contexts.
 pub keeping_carries : (w : EntryWalk) (new : List Condition) → Carries w.tables.contexts new → Keeping new w.tables.definitions.items w.tables.choices.items w.tables.titles.items
@@ -504,7 +504,7 @@ get_pushed_if {X} false xs new y i x e h = inl (sym (ap (λ (l : List X). slice_
 
 -- a title more, which is shown under a context that is there and in which no mode counts
 pub keeping_title : (w : EntryWalk) (b : Bool) (t : Title) (new : List Title) → new ≡ pushed b w.tables.titles.items t → t.visible.0 < length w.tables.contexts →
-    IsPlain w.tables.contexts t.visible.0 → Keeping w.tables.contexts w.tables.definitions.items w.tables.choices.items new × Holding w.tables.contexts new w.blocks
+    HasNoMode w.tables.contexts t.visible.0 → Keeping w.tables.contexts w.tables.definitions.items w.tables.choices.items new × Holding w.tables.contexts new w.blocks
 keeping_title w b t new e v p =
     let k = kept_by w.tables in
     let h = held_by w in (
@@ -512,12 +512,12 @@ keeping_title w b t new e v p =
           (record {
             within = k.within;
             prompts_within = k.prompts_within;
-            prompts_plain = k.prompts_plain;
+            prompts_modeless = k.prompts_modeless;
             choices_within = k.choices_within;
-            choices_plain = k.choices_plain;
+            choices_modeless = k.choices_modeless;
             choice_prompts_within = k.choice_prompts_within;
-            choice_prompts_plain = k.choice_prompts_plain;
-            titles_plain = λ i x at. plain_by i x (get_pushed_if b w.tables.titles.items new t i x e at);
+            choice_prompts_modeless = k.choice_prompts_modeless;
+            titles_modeless = λ i x at. plain_by i x (get_pushed_if b w.tables.titles.items new t i x e at);
             modes_below = k.modes_below;
             modes_behind = k.modes_behind;
             mode_prompts_behind = k.mode_prompts_behind;
@@ -525,18 +525,18 @@ keeping_title w b t new e v p =
       holding w.tables.contexts new w.blocks
           (record {
             top_is_empty = h.top_is_empty;
-            top_plain = h.top_plain;
+            top_has_no_mode = h.top_has_no_mode;
             within = h.within;
             visible = h.visible;
-            plain = h.plain;
+            modeless = h.modeless;
             titles =
                 λ i x at. within_by i x (get_pushed_if b w.tables.titles.items new t i x e at);
           }),
     )
   where
-    plain_by : (i : ℕ) (x : Title) → (slice_get w.tables.titles.items i ≡ Some x) ⊎ (t ≡ x) → IsPlain w.tables.contexts x.visible.0
-    plain_by i x (inl a) = w.tables.titles_plain i x a
-    plain_by i x (inr a) = subst (λ (y : Title). IsPlain w.tables.contexts y.visible.0) a p
+    plain_by : (i : ℕ) (x : Title) → (slice_get w.tables.titles.items i ≡ Some x) ⊎ (t ≡ x) → HasNoMode w.tables.contexts x.visible.0
+    plain_by i x (inl a) = w.tables.titles_modeless i x a
+    plain_by i x (inr a) = subst (λ (y : Title). HasNoMode w.tables.contexts y.visible.0) a p
 
     within_by : (i : ℕ) (x : Title) → (slice_get w.tables.titles.items i ≡ Some x) ⊎ (t ≡ x) → x.visible.0 < length w.tables.contexts
     within_by i x (inl a) = w.titles i x a

@@ -8,10 +8,10 @@ use Rattle.std.specs.Result.{OnOk, OnErr}
 use Rattle.std.specs.Prelude.{Result}
 use Rattle.kc_expr.specs.Form.{Form}
 use Rattle.kc_tree.specs.declared.rows.Title.{Title}
-use Rattle.kc_tree.specs.Contexts.{IsPlain, and_also, condition_in}
+use Rattle.kc_tree.specs.Contexts.{HasNoMode, and_also, condition_in}
 use Rattle.kc_tree.specs.TreeFacts.{Condition}
 use Rattle.kc_build.specs.Growth.{IsGrown, Stands}
-use Rattle.kc_build.specs.Stacks.{AreBlocksPlain, AreBlocksVisible, AreBlocksWithin, AreTitlesWithin, IsTopEmpty, IsClosed, open_scopes}
+use Rattle.kc_build.specs.Stacks.{AreBlocksModeless, AreBlocksVisible, AreBlocksWithin, AreTitlesWithin, IsTopEmpty, IsClosed, open_scopes}
 use Rattle.kc_build.specs.declared.blocks.BlockScope.{BlockScope}
 use Rattle.kc_build.specs.declared.blocks.Blocks.{Blocks}
 use Rattle.kc_build.specs.declared.entries.EntryWalk.{EntryWalk}
@@ -74,23 +74,23 @@ module _ (P : BlockScope → Type 0) (old new : Blocks) (h : OfEach P old) where
 module _ (conditions : List Condition) (old new : Blocks) (ts : List Title) (h : AreHeld conditions old ts) where
   pub held_opens : {T E : Type 0} (r : Result T E) (block : BlockScope) → OnOk r (new.innermost ≡ block) → OnOk r (new.outside.items ≡ old.outside.items ++ old.innermost ∷ []) →
       OnErr r (open_scopes new ≡ open_scopes old) → block.within.0 < length conditions → block.visible.0 < length conditions →
-      IsPlain conditions block.visible.0 → AreHeld conditions new ts
-  held_opens r block inner outer e within visible plain = record {
+      HasNoMode conditions block.visible.0 → AreHeld conditions new ts
+  held_opens r block inner outer e within visible modeless = record {
     top_is_empty = h.top_is_empty;
-    top_plain = h.top_plain;
+    top_has_no_mode = h.top_has_no_mode;
     within = each_opens (λ (b : BlockScope). b.within.0 < length conditions) old new h.within r block inner outer e within;
     visible = each_opens (λ (b : BlockScope). b.visible.0 < length conditions) old new h.visible r block inner outer e visible;
-    plain = each_opens (λ (b : BlockScope). IsPlain conditions b.visible.0) old new h.plain r block inner outer e plain;
+    modeless = each_opens (λ (b : BlockScope). HasNoMode conditions b.visible.0) old new h.modeless r block inner outer e modeless;
     titles = h.titles;
   }
 
   pub held_closes : IsClosed old new → AreHeld conditions new ts
   held_closes c = record {
     top_is_empty = h.top_is_empty;
-    top_plain = h.top_plain;
+    top_has_no_mode = h.top_has_no_mode;
     within = each_closes (λ (b : BlockScope). b.within.0 < length conditions) old new h.within c;
     visible = each_closes (λ (b : BlockScope). b.visible.0 < length conditions) old new h.visible c;
-    plain = each_closes (λ (b : BlockScope). IsPlain conditions b.visible.0) old new h.plain c;
+    modeless = each_closes (λ (b : BlockScope). HasNoMode conditions b.visible.0) old new h.modeless c;
     titles = h.titles;
   }
 
@@ -108,12 +108,12 @@ carries_visible w b middle new n e f g =
     carries_grown middle new (condition_in middle b.visible.0).mode n b.visible.0 there refl g
 
 -- What is asked of what is visible in an entry stays plain.
-pub plain_visible : (w : EntryWalk) (b : BlockScope) (middle new : List Condition) (id n : ℕ) (fs : List Form) → b ≡ w.blocks.innermost → Carries w.tables.contexts middle →
-    Stands new id (with_conjuncts (condition_in middle b.visible.0) fs) → IsPlain new id
-plain_visible w b middle new id n fs e f s =
+pub modeless_visible : (w : EntryWalk) (b : BlockScope) (middle new : List Condition) (id n : ℕ) (fs : List Form) → b ≡ w.blocks.innermost → Carries w.tables.contexts middle →
+    Stands new id (with_conjuncts (condition_in middle b.visible.0) fs) → HasNoMode new id
+modeless_visible w b middle new id n fs e f s =
     ap (λ (c : Condition). is_some c.mode) s.is
     ∙ ap (λ (x : BlockScope). is_some (condition_in middle x.visible.0).mode) e
-    ∙ plain_carries w.tables.contexts middle f w.blocks.innermost.visible.0 (w.visible 0 w.blocks.innermost refl) (w.plain 0 w.blocks.innermost refl)
+    ∙ plain_carries w.tables.contexts middle f w.blocks.innermost.visible.0 (w.visible 0 w.blocks.innermost refl) (w.modeless 0 w.blocks.innermost refl)
 
 -- A walk with more contexts.
 pub held_walk : (w : EntryWalk) (new : List Condition) → Carries w.tables.contexts new → AreHeld new w.blocks w.tables.titles.items
@@ -127,11 +127,11 @@ keeping_both w new g = (keeping_carries w new g, holding new w.tables.titles.ite
 pub held_fields : (conditions : List Condition) (blocks : Blocks) (ts : List Title) → AreHeld conditions blocks ts →
     record {
       top_is_empty : IsTopEmpty conditions;
-      top_plain : IsPlain conditions 0;
+      top_has_no_mode : HasNoMode conditions 0;
       within : AreBlocksWithin conditions blocks;
       visible : AreBlocksVisible conditions blocks;
-      plain : AreBlocksPlain conditions blocks;
+      modeless : AreBlocksModeless conditions blocks;
       titles : AreTitlesWithin conditions ts;
     }
 held_fields conditions blocks ts h =
-    record { top_is_empty = h.top_is_empty; top_plain = h.top_plain; within = h.within; visible = h.visible; plain = h.plain; titles = h.titles }
+    record { top_is_empty = h.top_is_empty; top_has_no_mode = h.top_has_no_mode; within = h.within; visible = h.visible; modeless = h.modeless; titles = h.titles }

@@ -21,7 +21,7 @@ use Rattle.kc_tree.specs.Contexts.{mode_view}
 use Rattle.kc_tree.specs.Spans.{definition_ids}
 use Rattle.kc_tree.specs.Common.{is_symbol_of}
 use Rattle.kc_build.specs.Before.{definition_facts_at, definition_line, definitions_before}
-use Rattle.kc_build.specs.Facts.{choice_of, definitions_of, impliers_of, kind_of, selectors_of, symbol_at, symbol_facts}
+use Rattle.kc_build.specs.Facts.{choice_of, definitions_of, impliers_of, type_of, selectors_of, symbol_at, symbol_facts}
 use Rattle.kc_build.specs.SymbolRows.{AreSymbols, SymbolRow, definition_number, row_of, row_view}
 use Rattle.kc_build.proofs.BlockLemmas.{numbers_from, numbers-from}
 use Rattle.kc_build.proofs.ElementLemmas.{same_is}
@@ -129,7 +129,7 @@ module _ (ss : List Numbered) where
   found_all s = found_to s (length ss) (omega arith)
 
   -- the facts of a symbol by its definitions
-  facts_are : (s : SymId) → facts_by (kind_of ss s) (choice_of ss s) (map (λ j. definition_facts_at ss j s) (definitions_of ss s)) (selectors_of ss s) (impliers_of ss s) ≡ symbol_facts ss s
+  facts_are : (s : SymId) → facts_by (type_of ss s) (choice_of ss s) (map (λ j. definition_facts_at ss j s) (definitions_of ss s)) (selectors_of ss s) (impliers_of ss s) ≡ symbol_facts ss s
   facts_are s =
       let at = λ (j : ℕ). definition_facts_at ss j s in
       let ds = definitions_of ss s in
@@ -138,7 +138,7 @@ module _ (ss : List Numbered) where
       let v = flat_map-map (λ (f : DefinitionFacts). f.defaults) at ds in
       let r = flat_map-map (λ (f : DefinitionFacts). f.ranges) at ds in
       λ i. record {
-        kind = kind_of ss s;
+        symbol_type = type_of ss s;
         choice = choice_of ss s;
         dependencies = d i;
         prompts = p i;
@@ -164,14 +164,14 @@ module _ (ss : List Numbered) (t : Tables) (definitions_are : map (layouts.defin
       ∙ found_all ss s
 
   row_facts : (i : ℕ) (s : Symbol) → row_view s ≡ row_of ss i → selectors_at t i ≡ selectors_of ss (symbol i) → impliers_at t i ≡ impliers_of ss (symbol i) →
-      facts_by s.kind (mode_view s.choice) (filter_map (layouts.definition_at t) (definition_ids s)) (selectors_at t i) (impliers_at t i) ≡ symbol_facts ss (symbol i)
+      facts_by s.symbol_type (mode_view s.choice) (filter_map (layouts.definition_at t) (definition_ids s)) (selectors_at t i) (impliers_at t i) ≡ symbol_facts ss (symbol i)
   row_facts i s e a b =
-      let k = ap (λ (r : SymbolRow). r.kind) e in
+      let k = ap (λ (r : SymbolRow). r.symbol_type) e in
       let c = ap (λ (r : SymbolRow). r.choice) e in
       let d = row_definitions (symbol i) (definition_ids s) (ap (λ (r : SymbolRow). r.definitions) e) in
-      let now = facts_by s.kind (mode_view s.choice) (filter_map (layouts.definition_at t) (definition_ids s)) (selectors_at t i) (impliers_at t i) in
+      let now = facts_by s.symbol_type (mode_view s.choice) (filter_map (layouts.definition_at t) (definition_ids s)) (selectors_at t i) (impliers_at t i) in
       let defined = map (λ j. definition_facts_at ss j (symbol i)) (definitions_of ss (symbol i)) in
-      let said : now ≡ facts_by (kind_of ss (symbol i)) (choice_of ss (symbol i)) defined (selectors_of ss (symbol i)) (impliers_of ss (symbol i)) =
+      let said : now ≡ facts_by (type_of ss (symbol i)) (choice_of ss (symbol i)) defined (selectors_of ss (symbol i)) (impliers_of ss (symbol i)) =
       λ j. facts_by (k j) (c j) (d j) (a j) (b j) in
       said ∙ facts_are ss (symbol i)
 

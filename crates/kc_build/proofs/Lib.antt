@@ -23,7 +23,7 @@ mod FirstNumberLemmas
 mod FormedLemmas
 mod GrownLemmas
 mod HeldLemmas
-mod KindLemmas
+mod TypeLemmas
 mod LayoutLemmas
 mod LineTextLemmas
 mod LineWalkLemmas
@@ -44,7 +44,7 @@ mod OpenLemmas
 mod OpenerLemmas
 mod PlaceLemmas
 mod ReadTextLemmas
-mod ReverseLemmas
+mod SelectorLemmas
 mod ScopeLemmas
 mod Rows
 mod ScanLemmas

@@ -13,7 +13,7 @@ use Rattle.kc_text.specs.Help.{after_help, after_text, column, from_other, is_he
 use Rattle.kc_text.specs.Lexemes.{Lexeme, AWord, AQuoted, AnOp, Spells}
 use Rattle.kc_text.specs.Lines.{Physical, UnreadLines, TakesLine, continues, joined_text, lines_of_parts, physical_lines, without_continuation}
 use Rattle.kc_text.specs.Tokens.{IsCut, ended, stuck, skipped, taken}
-use Rattle.kc_expr.specs.Grammar.{Atom, WordAtom, QuotedAtom, Terminal, Plain, Compares, Bang, Joins, Open, Close, Keyword, Chain, Part, Negation, only, joined, negation, conjunction, bang, group, lone, compare, names_in_atom, if_word, is_tristate_constant, leaf, meaning, meaning_not, meaning_part, op_terminal, plain_form, spell, spell_not, spell_part, terminal_of, names_in_terminal, terminals, names_in_terminals}
+use Rattle.kc_expr.specs.Grammar.{Atom, WordAtom, QuotedAtom, Terminal, Plain, Compares, Bang, Joins, Open, Close, Keyword, Chain, Part, Negation, only, joined, negation, conjunction, bang, group, lone, compare, names_in_atom, if_word, is_tristate_constant, leaf, meaning, meaning_not, meaning_part, op_terminal, lone_form, spell, spell_not, spell_part, terminal_of, names_in_terminal, terminals, names_in_terminals}
 use Rattle.kc_expr.specs.Names.{same_name}
 use Rattle.kc_tree.specs.TreeFacts.{IsLineText, IsLineForm}
 
@@ -233,11 +233,11 @@ word_lines [] h = All-nil IsLineText
 word_lines (t ∷ ts) h = All-append IsLineText (names_in_terminal t) (names_in_terminals ts) (mentioned_by t (All-head IsLineTerminal t ts h)) (word_lines ts (All-tail IsLineTerminal t ts h))
 
 -- Their value: a constant that stands alone is one of their texts.
-leaf_by : (number : List ℕ → ℕ) (w : List ℕ) (b : Bool) → is_tristate_constant w ≡ b → IsLineText w → IsLineForm (plain_form false (leaf number (WordAtom w)))
+leaf_by : (number : List ℕ → ℕ) (w : List ℕ) (b : Bool) → is_tristate_constant w ≡ b → IsLineText w → IsLineForm (lone_form false (leaf number (WordAtom w)))
 leaf_by number w true e h = rw e h
 leaf_by number w false e h = rw e tt
 
-leaf_line : (number : List ℕ → ℕ) (a : Atom) → IsLineAtom a → IsLineForm (plain_form false (leaf number a))
+leaf_line : (number : List ℕ → ℕ) (a : Atom) → IsLineAtom a → IsLineForm (lone_form false (leaf number a))
 leaf_line number (WordAtom w) h = leaf_by number w (is_tristate_constant w) refl h
 leaf_line number (QuotedAtom t) h = h
 

@@ -9,13 +9,13 @@ use Rattle.kc_read.specs.declared.entries.Entries.{Entries}
 use Rattle.kc_read.specs.declared.entries.EntryLines.{EntryLines}
 use Rattle.kc_read.specs.Entries.{BeginsAt, first_line, lines_from, lines_in, own_lines}
 use Rattle.kc_read.specs.Statements.{Numbered, ChoiceLine}
-use Rattle.kc_tree.specs.declared.rows.Reverse.{Reverse}
-use Rattle.kc_tree.specs.declared.rows.ReverseId.{ReverseId}
+use Rattle.kc_tree.specs.declared.rows.Selector.{Selector}
+use Rattle.kc_tree.specs.declared.rows.SelectorId.{SelectorId}
 use Rattle.kc_tree.specs.declared.rows.Symbol.{Symbol}
 use Rattle.kc_tree.specs.Chains.{chain_of, chains_of}
 use Rattle.kc_tree.specs.Contexts.{condition_in}
 use Rattle.kc_tree.specs.Empty.{AreEmpty}
-use Rattle.kc_tree.specs.Layouts.{choice_facts as choice_in, definition_facts, impliers_at, reverse_at, reverses_from, selectors_at, shown_of}
+use Rattle.kc_tree.specs.Layouts.{choice_facts as choice_in, definition_facts, impliers_at, selector_at, selectors_from, selectors_at, shown_of}
 use Rattle.kc_tree.specs.TreeFacts.{Condition}
 use Rattle.kc_build.specs.declared.diagnostics.Diagnostics.{Diagnostics}
 use Rattle.kc_build.specs.declared.diagnostics.EntrySummary.{EntrySummary}
@@ -25,33 +25,33 @@ use Rattle.kc_build.specs.Facts.{can_be_target}
 use Rattle.kc_build.specs.SymbolRows.{AreChoicesApart, IsEntrySummary, HasSymbols}
 use Rattle.kc_build.specs.Passes.{statements_in, statements_of}
 use Rattle.kc_build.specs.WalkResult.{IsDiagnosed, IsEntryThere, IsTitleThere}
-use Rattle.kc_build.specs.Stacks.{BlockFacts, IsPlainHead, block_view}
+use Rattle.kc_build.specs.Stacks.{BlockFacts, IsModelessHead, block_view}
 use Rattle.kc_build.specs.Walks.{IsWalk, index_after}
 use Rattle.kc_build.proofs.DiagnosedLemmas.{entry_diagnosed}
 use Rattle.kc_build.proofs.EntryWalkLemmas.{IsAt, head-is, line-is, statements-own, tail-is}
 
 -- The start.
-no_chain : (o : Option ReverseId) → chain_of [] o ≡ []
+no_chain : (o : Option SelectorId) → chain_of [] o ≡ []
 no_chain None = refl
 no_chain (Some id) = refl
 
 module _ (ss : List Numbered) (symbols : List Symbol) (w : EntryWalk) (empty : AreEmpty w.tables) where
-  none_from : (o : Option ReverseId) → reverses_from w.tables o ≡ []
+  none_from : (o : Option SelectorId) → selectors_from w.tables o ≡ []
   none_from o =
-      ap (λ (l : List Reverse). filter_map (reverse_at w.tables) (chain_of (chains_of l) o)) empty.lines ∙ ap (filter_map (reverse_at w.tables)) (no_chain o)
+      ap (λ (l : List Selector). filter_map (selector_at w.tables) (chain_of (chains_of l) o)) empty.lines ∙ ap (filter_map (selector_at w.tables)) (no_chain o)
 
   no_selectors : (s : ℕ) → selectors_at w.tables s ≡ []
-  no_selectors s = ap reverse (none_from (slice_index_or w.tables.reverses.selects.items s None))
+  no_selectors s = ap reverse (none_from (slice_index_or w.tables.selector_rows.selects.items s None))
 
   no_impliers : (s : ℕ) → impliers_at w.tables s ≡ []
-  no_impliers s = ap reverse (none_from (slice_index_or w.tables.reverses.implies.items s None))
+  no_impliers s = ap reverse (none_from (slice_index_or w.tables.selector_rows.implies.items s None))
 
   if_none : {A : Type 0} (b : Bool) → ◌≡◌ {A = List A} (if b then [] else []) []
   if_none true = refl
   if_none false = refl
 
   pub walk-starts : w.blocks.innermost ≡ record { within = record { 0 = 0 }; visible = record { 0 = 0 }; entry = None } → w.blocks.outside.items ≡ [] →
-      w.main_menu.items ≡ codes "Main menu" → length w.tables.reverses.selects.items ≡ length symbols → length w.tables.reverses.implies.items ≡ length symbols → IsWalk ss symbols 0 w
+      w.main_menu.items ≡ codes "Main menu" → length w.tables.selector_rows.selects.items ≡ length symbols → length w.tables.selector_rows.implies.items ≡ length symbols → IsWalk ss symbols 0 w
   walk-starts innermost outside menu selects implies = record {
     blocks = record {
       innermost = ap (block_view w.tables.contexts) innermost
@@ -68,7 +68,7 @@ module _ (ss : List Numbered) (symbols : List Symbol) (w : EntryWalk) (empty : A
     rows = record {
       defaults = λ i d h. absurd (none_there empty.definitions i d h);
       ranges = λ i d h. absurd (none_there empty.definitions i d h);
-      sources = rw empty.lines (All-nil (λ (r : Reverse). r.source.0 < length w.tables.definitions.items));
+      sources = rw empty.lines (All-nil (λ (r : Selector). r.source.0 < length w.tables.definitions.items));
       titles = rw empty.titles (All-nil (IsTitleThere w.tables.contexts));
       entries = rw empty.entries (All-nil (IsEntryThere (length w.tables.titles.items) 0));
     };
@@ -88,13 +88,13 @@ module _ (ss : List Numbered) (symbols : List Symbol) (w : EntryWalk) (empty : A
       none_there e i x h = let none : None ≡ Some x = sym (ap (λ l. slice_get l i) e) ∙ h in cc
 
 -- A choice begins where no mode counts.
-plain_by : (s : Numbered) (mode : Option ℕ) → (s ≡ ChoiceLine → mode ≡ None) → IsPlainHead s mode
+plain_by : (s : Numbered) (mode : Option ℕ) → (s ≡ ChoiceLine → mode ≡ None) → IsModelessHead s mode
 plain_by ChoiceLine mode h = h refl
 plain_by _ mode h = tt
 
-pub plain-head : (ss : List Numbered) (symbols : List Symbol) (i : ℕ) (s : Numbered) (w : EntryWalk) → AreChoicesApart ss → slice_get ss i ≡ Some s → IsWalk ss symbols i w →
-    IsPlainHead s (condition_in w.tables.contexts w.blocks.innermost.within.0).mode
-plain-head ss symbols i s w apart at walk =
+pub modeless-head : (ss : List Numbered) (symbols : List Symbol) (i : ℕ) (s : Numbered) (w : EntryWalk) → AreChoicesApart ss → slice_get ss i ≡ Some s → IsWalk ss symbols i w →
+    IsModelessHead s (condition_in w.tables.contexts w.blocks.innermost.within.0).mode
+modeless-head ss symbols i s w apart at walk =
     plain_by s (condition_in w.tables.contexts w.blocks.innermost.within.0).mode (λ e. ap (λ (a : BlockFacts). a.mode) walk.blocks.innermost ∙ apart i (at ∙ ap Some e))
 
 -- One entry more.

@@ -10,7 +10,7 @@ use Rattle.kc_read.specs.Statements.{Numbered}
 use Rattle.kc_read.specs.Blocks.{numbers}
 use Rattle.kc_expr.specs.Names.{same_symbol}
 use Rattle.kc_tree.specs.Common.{is_symbol_of, listed}
-use Rattle.kc_build.specs.Facts.{is_first_definition, symbol_at, symbol_of, first_of, enclosing_choice, choice_of, kind_of, is_member, is_member_index, definitions_of, indices}
+use Rattle.kc_build.specs.Facts.{is_first_definition, symbol_at, symbol_of, first_of, enclosing_choice, choice_of, type_of, is_member, is_member_index, definitions_of, indices}
 use Rattle.kc_build.specs.FirstDefinitions.{is_first_definition_at, first_of_symbol}
 use Rattle.kc_build.specs.Warnings.{is_bad_member, bad_members}
 use Rattle.kc_build.proofs.BlockLemmas.{there}
@@ -119,12 +119,12 @@ module _ (ss : List Numbered) (t : SymId) where
       same_number a b h = eqb-true a b h
 
   pub bad_at : (i : ℕ) (s : Numbered) → bad_members ss ≡ [] → i < length ss → slice_get ss i ≡ Some s →
-      is_bad_member (kind_of ss) (choice_of ss) (is_first_definition_at ss i) (enclosing_choice ss i) s ≡ false
+      is_bad_member (type_of ss) (choice_of ss) (is_first_definition_at ss i) (enclosing_choice ss i) s ≡ false
   bad_at i s none l h =
-      let q = λ (j : ℕ). list_any (is_bad_member (kind_of ss) (choice_of ss) (is_first_definition_at ss j) (enclosing_choice ss j)) (listed (slice_get ss j)) in
+      let q = λ (j : ℕ). list_any (is_bad_member (type_of ss) (choice_of ss) (is_first_definition_at ss j) (enclosing_choice ss j)) (listed (slice_get ss j)) in
       let nothing = passes_none q (length ss) i none l in
-      or_none (is_bad_member (kind_of ss) (choice_of ss) (is_first_definition_at ss i) (enclosing_choice ss i) s)
-      (sym (ap (λ (o : Option Numbered). list_any (is_bad_member (kind_of ss) (choice_of ss) (is_first_definition_at ss i) (enclosing_choice ss i))
+      or_none (is_bad_member (type_of ss) (choice_of ss) (is_first_definition_at ss i) (enclosing_choice ss i) s)
+      (sym (ap (λ (o : Option Numbered). list_any (is_bad_member (type_of ss) (choice_of ss) (is_first_definition_at ss i) (enclosing_choice ss i))
       (listed o)) h) ∙ nothing)
 
   -- a definition of a member is its first
@@ -138,7 +138,7 @@ module _ (ss : List Numbered) (t : SymId) where
       ap (is_first_definition ss i) (sym one) ∙ sym (ap (first_of_symbol ss i) e) ∙ first
 
   first_by : (i : ℕ) (s : Numbered) (o : Option SymId) → slice_get ss i ≡ Some s → symbol_at ss i ≡ o →
-      is_bad_member (kind_of ss) (choice_of ss) (is_first_definition_at ss i) (enclosing_choice ss i) s ≡ false → is_some (choice_of ss t) ≡ true →
+      is_bad_member (type_of ss) (choice_of ss) (is_first_definition_at ss i) (enclosing_choice ss i) s ≡ false → is_some (choice_of ss t) ≡ true →
       defines i ≡ true → is_first_definition ss i t ≡ true
   first_by i s None h e bad member d = let no : defines i ≡ false = (rw e refl) in cc
   first_by i s (Some u) h e bad member d =

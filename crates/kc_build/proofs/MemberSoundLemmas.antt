@@ -7,8 +7,8 @@ use Rattle.std.proofs.lemmas.Bool.{eq-eqb, eqb-true}
 use Rattle.std.proofs.lemmas.List.Folds.{list_any-append}
 use Rattle.std.proofs.lemmas.Option.{slice_get_within, slice_get-map, slice_get-get_or}
 use Rattle.kc_expr.specs.declared.expression.SymId.{SymId}
-use Rattle.kc_expr.specs.declared.expression.Kind.{Kind}
-use Rattle.kc_expr.specs.declared.expression.Kind.TheVariants as kind
+use Rattle.kc_expr.specs.declared.expression.SymbolType.{SymbolType}
+use Rattle.kc_expr.specs.declared.expression.SymbolType.TheVariants as symbol_type
 use Rattle.kc_expr.specs.Form.{Form}
 use Rattle.kc_expr.specs.Names.{symbol, same_symbol}
 use Rattle.kc_read.specs.declared.statement.Block.TheVariants as block
@@ -16,7 +16,7 @@ use Rattle.kc_read.specs.Blocks.{numbers, attributes}
 use Rattle.kc_read.specs.Statements.{Numbered, Located}
 use Rattle.kc_tree.specs.TreeFacts.{Guarded, SymbolFacts, ChoiceFacts, TreeFacts, IsMemberOf, IsChoiceSound, IsListed}
 use Rattle.kc_tree.specs.Common.{listed}
-use Rattle.kc_build.specs.Facts.{StatedDefault, choice_facts, choice_number, choice_of, choice_lines, enclosing_choice, choices, definitions_of, first_of, stated_default, is_member, is_member_index, kind_of, member_default, members_of, guarded_symbol, of_block, indices, same_kind, single_symbol, symbol_at, symbol_facts, symbol_of}
+use Rattle.kc_build.specs.Facts.{StatedDefault, choice_facts, choice_number, choice_of, choice_lines, enclosing_choice, choices, definitions_of, first_of, stated_default, is_member, is_member_index, type_of, member_default, members_of, guarded_symbol, of_block, indices, same_type, single_symbol, symbol_at, symbol_facts, symbol_of}
 use Rattle.kc_build.specs.FirstDefinitions.{is_first_definition_at}
 use Rattle.kc_build.specs.SymbolRows.{AreBelow}
 use Rattle.kc_build.specs.Warnings.{bad_members, is_bad_member}
@@ -42,13 +42,13 @@ any_at q zero i l h = absurd (omega arith)
 any_at q (suc n) i l h =
     list_any-append q (numbers n) (n ∷ []) ∙ any_last q n i (below_or_past i n) l h (λ below. any_at q n i below h)
 
-is_bool : (k : Kind) → same_kind k kind.Bool ≡ true → k ≡ kind.Bool
-is_bool kind.Bool h = refl
-is_bool kind.Undefined h = absurd cc
-is_bool kind.Tristate h = absurd cc
-is_bool kind.Str h = absurd cc
-is_bool kind.Int h = absurd cc
-is_bool kind.Hex h = absurd cc
+is_bool : (k : SymbolType) → same_type k symbol_type.Bool ≡ true → k ≡ symbol_type.Bool
+is_bool symbol_type.Bool h = refl
+is_bool symbol_type.Undefined h = absurd cc
+is_bool symbol_type.Tristate h = absurd cc
+is_bool symbol_type.Str h = absurd cc
+is_bool symbol_type.Int h = absurd cc
+is_bool symbol_type.Hex h = absurd cc
 
 and_parts : (a b : Bool) → (a && b) ≡ true → (a ≡ true) × (b ≡ true)
 and_parts true true h = (refl, refl)
@@ -97,17 +97,17 @@ module _ (ss : List Numbered) (none : bad_members ss ≡ []) where
   member_choice k i s m h =
       number_listed k (choice_of ss s) (sym (member_is ss s none k) ∙ member_there k i s m h)
 
-  member_kind : (k i : ℕ) (s : SymId) → is_member_index ss k i ≡ true → symbol_at ss i ≡ Some s → kind_of ss s ≡ kind.Bool
-  member_kind k i s m h =
+  type_of_member : (k i : ℕ) (s : SymId) → is_member_index ss k i ≡ true → symbol_at ss i ≡ Some s → type_of ss s ≡ symbol_type.Bool
+  type_of_member k i s m h =
       let x = symbol_within i s (slice_get ss i) refl h in
       let l : i < length ss = slice_get_within ss i x.0 x.1 in
       let outside : enclosing_choice ss i ≡ Some k = number_listed k (enclosing_choice ss i) (and_parts (is_some (symbol_at ss i)) (list_any (λ j. j == k) (listed (enclosing_choice ss i))) m).1 in
-      let fine : is_bad_member (kind_of ss) (choice_of ss) (is_first_definition_at ss i) (enclosing_choice ss i) x.0 ≡ false = bad_at ss s i x.0 none l x.1 in
-      let plain : list_any (λ t. (is_some (choice_of ss t) && not (is_first_definition_at ss i)) ||
-      (is_some (enclosing_choice ss i) && not (same_kind (kind_of ss t) kind.Bool))) (listed (Some s)) ≡ false =
+      let fine : is_bad_member (type_of ss) (choice_of ss) (is_first_definition_at ss i) (enclosing_choice ss i) x.0 ≡ false = bad_at ss s i x.0 none l x.1 in
+      let modeless : list_any (λ t. (is_some (choice_of ss t) && not (is_first_definition_at ss i)) ||
+      (is_some (enclosing_choice ss i) && not (same_type (type_of ss t) symbol_type.Bool))) (listed (Some s)) ≡ false =
       ap (λ (o : Option SymId). list_any (λ t. (is_some (choice_of ss t) && not (is_first_definition_at ss i)) ||
-      (is_some (enclosing_choice ss i) && not (same_kind (kind_of ss t) kind.Bool))) (listed o)) (sym x.2) ∙ fine in
-      is_bool (kind_of ss s) (not_bad (is_some (choice_of ss s) && not (is_first_definition_at ss i)) (is_some (enclosing_choice ss i)) (same_kind (kind_of ss s) kind.Bool) plain (ap is_some outside))
+      (is_some (enclosing_choice ss i) && not (same_type (type_of ss t) symbol_type.Bool))) (listed o)) (sym x.2) ∙ fine in
+      is_bool (type_of ss s) (not_bad (is_some (choice_of ss s) && not (is_first_definition_at ss i)) (is_some (enclosing_choice ss i)) (same_type (type_of ss s) symbol_type.Bool) modeless (ap is_some outside))
 
   -- where choice k stands
   record IsChoicePlace (k : ℕ) (c : ChoiceFacts) : Type 0 where
@@ -181,7 +181,7 @@ module _ (names : List (List ℕ)) (ls : List (Located Numbered)) where
           symbol_facts line_statements (symbol s.0),
           facts_at names ls s.0 (below i s h),
           member_choice line_statements none k i s m h,
-          member_kind line_statements none k i s m h,
+          type_of_member line_statements none k i s m h,
         )) (indices line_statements)
 
     listed_by : (i k : ℕ) (f g : SymbolFacts) → Some g ≡ Some f → g.choice ≡ choice_of line_statements (symbol i) → f.choice ≡ Some k → (c : ChoiceFacts)

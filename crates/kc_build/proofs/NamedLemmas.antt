@@ -6,7 +6,7 @@ use Rattle.std.proofs.lemmas.Bool.{eqb-true, lt-ltb}
 use Rattle.std.proofs.lemmas.List.{append-nil, reverse-append}
 use Rattle.std.proofs.lemmas.List.Elements.{All-cons, All-head, All-nil, All-push, All-tail, filter_map-append}
 use Rattle.std.proofs.lemmas.Option.{slice_get-map}
-use Rattle.kc_expr.specs.declared.expression.Kind.{Kind}
+use Rattle.kc_expr.specs.declared.expression.SymbolType.{SymbolType}
 use Rattle.kc_expr.specs.declared.expression.SymId.{SymId}
 use Rattle.kc_expr.specs.Form.{Form}
 use Rattle.kc_expr.specs.Names.{symbol}
@@ -15,22 +15,22 @@ use Rattle.kc_read.specs.Blocks.{attributes}
 use Rattle.kc_read.specs.Statements.{Numbered, SelectLine, ImplyLine}
 use Rattle.kc_tree.specs.declared.layout.Tables.{Tables}
 use Rattle.kc_tree.specs.declared.rows.DefinitionId.{DefinitionId}
-use Rattle.kc_tree.specs.declared.rows.Reverse.{Reverse}
-use Rattle.kc_tree.specs.declared.rows.ReverseId.{ReverseId}
+use Rattle.kc_tree.specs.declared.rows.Selector.{Selector}
+use Rattle.kc_tree.specs.declared.rows.SelectorId.{SelectorId}
 use Rattle.kc_tree.specs.declared.rows.Symbol.{Symbol}
 use Rattle.kc_tree.specs.Chains.{chain_of, chains_of}
-use Rattle.kc_tree.specs.Layouts.{DefinitionFacts, definition_facts, impliers_at, reverse_at, reverse_facts, selectors_at, with_when}
+use Rattle.kc_tree.specs.Layouts.{DefinitionFacts, definition_facts, impliers_at, selector_at, selector_facts, selectors_at, with_when}
 use Rattle.kc_tree.specs.TreeFacts.{Guarded}
 use Rattle.kc_tree.specs.Common.{listed}
-use Rattle.kc_build.specs.declared.lines.ReverseKind.{ReverseKind}
-use Rattle.kc_build.specs.declared.lines.ReverseKind.TheVariants as reverse_kind
+use Rattle.kc_build.specs.declared.lines.SelectOrImply.{SelectOrImply}
+use Rattle.kc_build.specs.declared.lines.SelectOrImply.TheVariants as select_or_imply
 use Rattle.kc_build.specs.Facts as facts
 use Rattle.kc_build.specs.Facts.{imply_of, guarded_symbol, naming_at, select_of, symbol_at}
-use Rattle.kc_build.specs.SymbolRows.{AreSymbols, AreBelow, can_be_target, choice_by, kind_by}
-use Rattle.kc_build.specs.ReverseRows.{HaveSources, added_line, added_lines, implies_of, reverse_row, rows_to, selects_of}
+use Rattle.kc_build.specs.SymbolRows.{AreSymbols, AreBelow, can_be_target, choice_by, type_by}
+use Rattle.kc_build.specs.SelectorRows.{HaveSources, added_line, added_lines, implies_of, selector_row, rows_to, selects_of}
 use Rattle.kc_build.specs.Targets.{target_of}
 use Rattle.kc_build.proofs.GrownLemmas.{filter_map_alike, get_front, get_last}
-use Rattle.kc_build.proofs.KindLemmas.{choices_known, kinds_known}
+use Rattle.kc_build.proofs.TypeLemmas.{choices_known, types_known}
 use Rattle.kc_build.proofs.WalkLemmas.{all_at}
 
 -- Lists.
@@ -69,39 +69,39 @@ module _ (t : Tables) where
   abbrev defined : List DefinitionFacts
   defined = map (definition_facts t) t.definitions.items
 
-  by_row : (o : Option Reverse) → option_and_then (reverse_facts t) o ≡ option_and_then (named_in defined) (option_map reverse_row o)
+  by_row : (o : Option Selector) → option_and_then (selector_facts t) o ≡ option_and_then (named_in defined) (option_map selector_row o)
   by_row None = refl
   by_row (Some r) =
       ap (option_map (λ (d : DefinitionFacts). record { what = d.symbol; when = with_when d.dependency (when_view r.when) })) (sym (slice_get-map (definition_facts t) t.definitions.items r.source.0))
 
-  from_rows : (last : Option ReverseId) → reverse (filter_map (reverse_at t) (chain_of (chains_of t.reverses.lines.items) last)) ≡ filter_map (named_in defined) (rows_to t.reverses.lines.items last)
+  from_rows : (last : Option SelectorId) → reverse (filter_map (selector_at t) (chain_of (chains_of t.selector_rows.lines.items) last)) ≡ filter_map (named_in defined) (rows_to t.selector_rows.lines.items last)
   from_rows last =
-      let chain = chain_of (chains_of t.reverses.lines.items) last in
-      let row = λ (i : ℕ). option_map reverse_row (slice_get t.reverses.lines.items i) in
-      ap reverse (filter_map_alike (reverse_at t) (λ i. option_and_then (named_in defined) (row i)) chain (λ i. by_row (slice_get t.reverses.lines.items i))
+      let chain = chain_of (chains_of t.selector_rows.lines.items) last in
+      let row = λ (i : ℕ). option_map selector_row (slice_get t.selector_rows.lines.items i) in
+      ap reverse (filter_map_alike (selector_at t) (λ i. option_and_then (named_in defined) (row i)) chain (λ i. by_row (slice_get t.selector_rows.lines.items i))
       ∙ and_then-filter row (named_in defined) chain)
       ∙ sym (filter_map-reverse (named_in defined) (filter_map row chain))
 
-  pub selectors_by_rows : (s : ℕ) → selectors_at t s ≡ filter_map (named_in defined) (selects_of t.reverses s)
-  selectors_by_rows s = from_rows (get_or t.reverses.selects.items s None)
+  pub selectors_by_rows : (s : ℕ) → selectors_at t s ≡ filter_map (named_in defined) (selects_of t.selector_rows s)
+  selectors_by_rows s = from_rows (get_or t.selector_rows.selects.items s None)
 
-  pub impliers_by_rows : (s : ℕ) → impliers_at t s ≡ filter_map (named_in defined) (implies_of t.reverses s)
-  impliers_by_rows s = from_rows (get_or t.reverses.implies.items s None)
+  pub impliers_by_rows : (s : ℕ) → impliers_at t s ≡ filter_map (named_in defined) (implies_of t.selector_rows s)
+  impliers_by_rows s = from_rows (get_or t.selector_rows.implies.items s None)
 
 -- Rows of definitions below a number.
 abbrev AreLow : ℕ → List (ℕ × Option Form) → Type 0
 AreLow n = All (λ (x : ℕ × Option Form). x.0 < n)
 
-chain_low : (n : ℕ) (lines : List Reverse) → HaveSources n lines → (chain : List ℕ) → AreLow n (filter_map (λ i. option_map reverse_row (slice_get lines i)) chain)
+chain_low : (n : ℕ) (lines : List Selector) → HaveSources n lines → (chain : List ℕ) → AreLow n (filter_map (λ i. option_map selector_row (slice_get lines i)) chain)
 chain_low n lines h [] = All-nil (λ (x : ℕ × Option Form). x.0 < n)
 chain_low n lines h (i ∷ chain) = by (slice_get lines i) refl (chain_low n lines h chain)
   where
-    by : (o : Option Reverse) → slice_get lines i ≡ o → AreLow n (filter_map (λ j. option_map reverse_row (slice_get lines j)) chain) →
-        AreLow n (cons_option (option_map reverse_row o) (filter_map (λ j. option_map reverse_row (slice_get lines j)) chain))
+    by : (o : Option Selector) → slice_get lines i ≡ o → AreLow n (filter_map (λ j. option_map selector_row (slice_get lines j)) chain) →
+        AreLow n (cons_option (option_map selector_row o) (filter_map (λ j. option_map selector_row (slice_get lines j)) chain))
     by None e rest = rest
-    by (Some r) e rest = All-cons (λ (x : ℕ × Option Form). x.0 < n) (reverse_row r) _ (all_at (λ (q : Reverse). q.source.0 < n) lines i r h e) rest
+    by (Some r) e rest = All-cons (λ (x : ℕ × Option Form). x.0 < n) (selector_row r) _ (all_at (λ (q : Selector). q.source.0 < n) lines i r h e) rest
 
-pub rows_low : (n : ℕ) (lines : List Reverse) (last : Option ReverseId) → HaveSources n lines → AreLow n (rows_to lines last)
+pub rows_low : (n : ℕ) (lines : List Selector) (last : Option SelectorId) → HaveSources n lines → AreLow n (rows_to lines last)
 rows_low n lines last h =
     all-reverse (λ (x : ℕ × Option Form). x.0 < n) _ (chain_low n lines h (chain_of (chains_of lines) last))
 
@@ -116,9 +116,9 @@ named_more ds d (x ∷ rows) h =
     rw (same, rest) refl
 
 -- What a definition adds.
-abbrev pub stated_default : ReverseKind → ℕ → Numbered → Option (Option Form)
-stated_default reverse_kind.Select s = select_of (symbol s)
-stated_default reverse_kind.Imply s = imply_of (symbol s)
+abbrev pub stated_default : SelectOrImply → ℕ → Numbered → Option (Option Form)
+stated_default select_or_imply.Select s = select_of (symbol s)
+stated_default select_or_imply.Imply s = imply_of (symbol s)
 
 if_nil : {A : Type 0} (b : Bool) → ◌≡◌ {A = List A} (if b then [] else []) []
 if_nil true = refl
@@ -148,11 +148,11 @@ module _ (symbols : List Symbol) (source : DefinitionId) (ds : List DefinitionFa
       by_can false = refl
   by_name t w false e = sym (if_nil can)
 
-  by_line : (kind : ReverseKind) (x : Numbered) → filter_map (named_in (ds ++ d ∷ [])) (flat_map (added_line symbols source kind s) (listed (target_of x))) ≡ one (stated_default kind s x)
-  by_line reverse_kind.Select (SelectLine t w) = by_name t w (t.0 == s) refl
-  by_line reverse_kind.Imply (ImplyLine t w) = by_name t w (t.0 == s) refl
-  by_line reverse_kind.Select _ = sym (if_nil can)
-  by_line reverse_kind.Imply _ = sym (if_nil can)
+  by_line : (symbol_type : SelectOrImply) (x : Numbered) → filter_map (named_in (ds ++ d ∷ [])) (flat_map (added_line symbols source symbol_type s) (listed (target_of x))) ≡ one (stated_default symbol_type s x)
+  by_line select_or_imply.Select (SelectLine t w) = by_name t w (t.0 == s) refl
+  by_line select_or_imply.Imply (ImplyLine t w) = by_name t w (t.0 == s) refl
+  by_line select_or_imply.Select _ = sym (if_nil can)
+  by_line select_or_imply.Imply _ = sym (if_nil can)
 
   abbrev all : List (Option Form) → List (Guarded SymId)
   all ws = if can then map named ws else []
@@ -166,13 +166,13 @@ module _ (symbols : List Symbol) (source : DefinitionId) (ds : List DefinitionFa
       by false None = refl
       by false (Some w) = refl
 
-  pub added_named : (kind : ReverseKind) (own : List Numbered) → filter_map (named_in (ds ++ d ∷ [])) (added_lines symbols source kind s own) ≡ all (filter_map (stated_default kind s) own)
-  added_named kind [] = sym (if_nil can)
-  added_named kind (x ∷ own) =
-      filter_map-append (named_in (ds ++ d ∷ [])) (flat_map (added_line symbols source kind s) (listed (target_of x))) (added_lines symbols source kind s own)
-      ∙ ap (λ l. l ++ filter_map (named_in (ds ++ d ∷ [])) (added_lines symbols source kind s own)) (by_line kind x)
-      ∙ ap (λ l. one (stated_default kind s x) ++ l) (added_named kind own)
-      ∙ one_more (stated_default kind s x) (filter_map (stated_default kind s) own)
+  pub added_named : (symbol_type : SelectOrImply) (own : List Numbered) → filter_map (named_in (ds ++ d ∷ [])) (added_lines symbols source symbol_type s own) ≡ all (filter_map (stated_default symbol_type s) own)
+  added_named symbol_type [] = sym (if_nil can)
+  added_named symbol_type (x ∷ own) =
+      filter_map-append (named_in (ds ++ d ∷ [])) (flat_map (added_line symbols source symbol_type s) (listed (target_of x))) (added_lines symbols source symbol_type s own)
+      ∙ ap (λ l. l ++ filter_map (named_in (ds ++ d ∷ [])) (added_lines symbols source symbol_type s own)) (by_line symbol_type x)
+      ∙ ap (λ l. one (stated_default symbol_type s x) ++ l) (added_named symbol_type own)
+      ∙ one_more (stated_default symbol_type s x) (filter_map (stated_default symbol_type s) own)
 
 -- the lines of a definition that name a symbol, as the list has them
 pub naming_is : (ss : List Numbered) (line : Numbered → Option (Option Form)) (i : ℕ) (t : SymId) → symbol_at ss i ≡ Some t →
@@ -184,8 +184,8 @@ pub target_known : (ss : List Numbered) (symbols : List Symbol) (s : SymId) → 
     can_be_target symbols s ≡ facts.can_be_target ss s
 target_known ss symbols s below are l =
     let there = lt-ltb s.0 (length symbols) l in
-    let kinds = kinds_known ss symbols below are in
+    let types = types_known ss symbols below are in
     let choices = choices_known ss symbols below are in
-    ap (λ (b : Bool). b && (is_none (choice_by symbols s) && facts.is_selectable (kind_by symbols s))) there
-    ∙ ap (λ (f : SymId → Option ℕ). is_none (f s) && facts.is_selectable (kind_by symbols s)) choices
-    ∙ ap (λ (f : SymId → Kind). is_none (facts.choice_of ss s) && facts.is_selectable (f s)) kinds
+    ap (λ (b : Bool). b && (is_none (choice_by symbols s) && facts.is_selectable (type_by symbols s))) there
+    ∙ ap (λ (f : SymId → Option ℕ). is_none (f s) && facts.is_selectable (type_by symbols s)) choices
+    ∙ ap (λ (f : SymId → SymbolType). is_none (facts.choice_of ss s) && facts.is_selectable (f s)) types

@@ -9,7 +9,7 @@ use Rattle.std.proofs.lemmas.Map.Keys.{IsDistinct-push}
 use Rattle.std.proofs.lemmas.Option.{slice_get_within}
 use Rattle.kc_expr.specs.declared.expression.SymId.{SymId}
 use Rattle.kc_expr.specs.Names.{AreDistinct, IsNumber, Extends, same_name, number_of, symbol, mention, all_mentioned}
-use Rattle.kc_expr.specs.Order.{added}
+use Rattle.kc_expr.specs.DistinctSymbols.{added}
 use Rattle.kc_expr.proofs.NamesLemmas.{all_mentioned_extends, number_later, same_name-refl}
 use Rattle.kc_read.specs.Blocks.{definitions, defined_name, is_modules, last_of, modules_of}
 use Rattle.kc_read.specs.Expansion.{defined}

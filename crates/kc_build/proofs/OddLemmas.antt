@@ -3,8 +3,8 @@ use Rattle.std.proofs.Common.{◌≡◌, ℕ, Bool, true, false, ◌||◌, ◌&&
 use Rattle.std.specs.Option.{option_map, option_or, is_some}
 use Rattle.std.specs.Prelude.{not}
 use Rattle.std.proofs.lemmas.List.{append-nil}
-use Rattle.kc_expr.specs.declared.expression.Kind.{Kind}
-use Rattle.kc_expr.specs.declared.expression.Kind.TheVariants as kind
+use Rattle.kc_expr.specs.declared.expression.SymbolType.{SymbolType}
+use Rattle.kc_expr.specs.declared.expression.SymbolType.TheVariants as symbol_type
 use Rattle.kc_expr.specs.declared.expression.SymId.{SymId}
 use Rattle.kc_expr.specs.Form.{Form}
 use Rattle.kc_read.specs.declared.refusal.Code.TheVariants as code
@@ -15,9 +15,9 @@ use Rattle.kc_build.specs.declared.diagnostics.EntrySummary.{EntrySummary}
 use Rattle.kc_build.specs.declared.diagnostics.MenuEntry.{MenuEntry}
 use Rattle.kc_build.specs.declared.diagnostics.MenuEntry.TheVariants as menu_entry
 use Rattle.kc_build.specs.Diagnosed.{Diagnosis, line_diagnosed}
-use Rattle.kc_build.specs.Facts.{same_kind, has_text}
+use Rattle.kc_build.specs.Facts.{same_type, has_text}
 use Rattle.kc_build.specs.Odd.{is_odd_attribute, is_odd_default, is_odd_head, is_other_type}
-use Rattle.kc_build.specs.SymbolRows.{choice_by, kind_by, member_by}
+use Rattle.kc_build.specs.SymbolRows.{choice_by, type_by, member_by}
 use Rattle.kc_build.specs.Warnings.{has_type, is_bad_default, is_bad_member, line_of, line_warnings_by}
 use Rattle.kc_build.specs.WholeListRefusals.{entry_refusal}
 
@@ -43,14 +43,14 @@ none_within (Some k) h = absurd cc
 
 -- nothing is to be said of a line
 record IsQuiet (symbols : List Symbol) (o : MenuEntry) (prompted first : Bool) (within_choice : Option ℕ) (s : Numbered) : Type 0 where
-  warnings : line_warnings_by (kind_by symbols) (choice_by symbols) (member_by symbols) o prompted first s ≡ []
-  member : is_bad_member (kind_by symbols) (choice_by symbols) first within_choice s ≡ false
-  default : is_bad_default (kind_by symbols) o s ≡ false
+  warnings : line_warnings_by (type_by symbols) (choice_by symbols) (member_by symbols) o prompted first s ≡ []
+  member : is_bad_member (type_by symbols) (choice_by symbols) first within_choice s ≡ false
+  default : is_bad_default (type_by symbols) o s ≡ false
 
 module _ (symbols : List Symbol) (prompted first : Bool) (within_choice : Option ℕ) where
-  quiet_type : (o : MenuEntry) (k : Kind) (p : Option (InputPrompt Form)) → (is_some p && prompted) ≡ false → is_other_type symbols o k ≡ false →
+  quiet_type : (o : MenuEntry) (k : SymbolType) (p : Option (InputPrompt Form)) → (is_some p && prompted) ≡ false → is_other_type symbols o k ≡ false →
       IsQuiet symbols o prompted first within_choice (TypeLine k p)
-  quiet_type (menu_entry.Symbol t) k p a b = let b : not (same_kind k (kind_by symbols t)) ≡ false = left_false _ false b in record { warnings = rw (a, b) refl; member = refl; default = refl }
+  quiet_type (menu_entry.Symbol t) k p a b = let b : not (same_type k (type_by symbols t)) ≡ false = left_false _ false b in record { warnings = rw (a, b) refl; member = refl; default = refl }
   quiet_type (menu_entry.Choice c) k p a b = record { warnings = rw a refl; member = refl; default = refl }
   quiet_type menu_entry.Other k p a b = record { warnings = rw a refl; member = refl; default = refl }
 
@@ -64,21 +64,21 @@ module _ (symbols : List Symbol) (prompted first : Bool) (within_choice : Option
   quiet_default (menu_entry.Choice c) v w a = absurd cc
   quiet_default menu_entry.Other v w a = record { warnings = refl; member = refl; default = refl }
 
-  quiet_def : (o : MenuEntry) (k : Kind) (v : Form) (w : Option Form) → is_other_type symbols o k ≡ false → is_odd_default symbols o v ≡ false →
+  quiet_def : (o : MenuEntry) (k : SymbolType) (v : Form) (w : Option Form) → is_other_type symbols o k ≡ false → is_odd_default symbols o v ≡ false →
       IsQuiet symbols o prompted first within_choice (DefLine k v w)
   quiet_def (menu_entry.Symbol t) k v w b a =
-      let b : not (same_kind k (kind_by symbols t)) ≡ false = left_false _ false b in
+      let b : not (same_type k (type_by symbols t)) ≡ false = left_false _ false b in
       record { warnings = rw b refl; member = refl; default = rw a refl }
   quiet_def (menu_entry.Choice c) k v w b a = absurd cc
   quiet_def menu_entry.Other k v w b a = record { warnings = refl; member = refl; default = refl }
 
-  quiet_select : (o : MenuEntry) (t : SymId) (w : Option Form) → is_some (choice_by symbols t) ≡ false → has_text (kind_by symbols t) ≡ false →
+  quiet_select : (o : MenuEntry) (t : SymId) (w : Option Form) → is_some (choice_by symbols t) ≡ false → has_text (type_by symbols t) ≡ false →
       IsQuiet symbols o prompted first within_choice (SelectLine t w)
   quiet_select (menu_entry.Symbol u) t w a b = record { warnings = rw (a, b) refl; member = refl; default = refl }
   quiet_select (menu_entry.Choice c) t w a b = record { warnings = rw (a, b) refl; member = refl; default = refl }
   quiet_select menu_entry.Other t w a b = record { warnings = rw (a, b) refl; member = refl; default = refl }
 
-  quiet_imply : (o : MenuEntry) (t : SymId) (w : Option Form) → is_some (choice_by symbols t) ≡ false → has_text (kind_by symbols t) ≡ false →
+  quiet_imply : (o : MenuEntry) (t : SymId) (w : Option Form) → is_some (choice_by symbols t) ≡ false → has_text (type_by symbols t) ≡ false →
       IsQuiet symbols o prompted first within_choice (ImplyLine t w)
   quiet_imply (menu_entry.Symbol u) t w a b = record { warnings = rw (a, b) refl; member = refl; default = refl }
   quiet_imply (menu_entry.Choice c) t w a b = record { warnings = rw (a, b) refl; member = refl; default = refl }
@@ -96,16 +96,16 @@ module _ (symbols : List Symbol) (prompted first : Bool) (within_choice : Option
   quiet_attribute (menu_entry.Choice c) _ h = record { warnings = refl; member = refl; default = refl }
   quiet_attribute menu_entry.Other _ h = record { warnings = refl; member = refl; default = refl }
 
-  quiet_config : (o : MenuEntry) (t : SymId) → is_some (choice_by symbols t) ≡ false → is_some within_choice ≡ false → same_kind (kind_by symbols t) kind.Undefined ≡ false →
+  quiet_config : (o : MenuEntry) (t : SymId) → is_some (choice_by symbols t) ≡ false → is_some within_choice ≡ false → same_type (type_by symbols t) symbol_type.Undefined ≡ false →
       IsQuiet symbols o prompted first within_choice (ConfigLine t)
   quiet_config o t a b e =
-      let typed : has_type (kind_by symbols t) (choice_by symbols t) ≡ true = rw (a, e) refl in
-      let none : (first && not (has_type (kind_by symbols t) (choice_by symbols t))) ≡ false = rw typed (and_false first) in
-      let member : is_bad_member (kind_by symbols) (choice_by symbols) first within_choice (ConfigLine t) ≡ false = rw (a, b) refl in
+      let typed : has_type (type_by symbols t) (choice_by symbols t) ≡ true = rw (a, e) refl in
+      let none : (first && not (has_type (type_by symbols t) (choice_by symbols t))) ≡ false = rw typed (and_false first) in
+      let member : is_bad_member (type_by symbols) (choice_by symbols) first within_choice (ConfigLine t) ≡ false = rw (a, b) refl in
       by o none member
     where
-      by : (o : MenuEntry) → (first && not (has_type (kind_by symbols t) (choice_by symbols t))) ≡ false →
-          is_bad_member (kind_by symbols) (choice_by symbols) first within_choice (ConfigLine t) ≡ false → IsQuiet symbols o prompted first within_choice (ConfigLine t)
+      by : (o : MenuEntry) → (first && not (has_type (type_by symbols t) (choice_by symbols t))) ≡ false →
+          is_bad_member (type_by symbols) (choice_by symbols) first within_choice (ConfigLine t) ≡ false → IsQuiet symbols o prompted first within_choice (ConfigLine t)
       by (menu_entry.Symbol u) n m = record { warnings = rw n refl; member = m; default = refl }
       by (menu_entry.Choice c) n m = record { warnings = rw n refl; member = m; default = refl }
       by menu_entry.Other n m = record { warnings = rw n refl; member = m; default = refl }

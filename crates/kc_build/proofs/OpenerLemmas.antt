@@ -26,7 +26,7 @@ pub record AreSame (old new : EntryWalk) : Type 0 where
   pub definitions : new.tables.definitions ≡ old.tables.definitions
   pub defaults : new.tables.defaults ≡ old.tables.defaults
   pub ranges : new.tables.ranges ≡ old.tables.ranges
-  pub reverses : new.tables.reverses ≡ old.tables.reverses
+  pub selector_rows : new.tables.selector_rows ≡ old.tables.selector_rows
   pub choices : new.tables.choices ≡ old.tables.choices
   pub titles : new.tables.titles ≡ old.tables.titles
   pub entries : new.tables.entries ≡ old.tables.entries
@@ -49,7 +49,7 @@ module _ (ss : List Numbered) (symbols : List Symbol) (i : ℕ) (head : Numbered
         definitions = s.definitions;
         defaults = s.defaults;
         ranges = s.ranges;
-        reverses = s.reverses;
+        selector_rows = s.selector_rows;
         blocks = blocks;
         choices = choices_say_same ss i head own h symbols old new g s.choices ∙ w.choices ∙ sym (no_choice_passed ss i head own h q.symbol symbols q.choice);
         few_choices = (let e : length new.tables.choices.items ≡ length old.tables.choices.items = ap (λ v. length v.items) s.choices in omega arith);

@@ -5,7 +5,7 @@ use Rattle.std.specs.Option.{option_and_then, option_or, unwrap_or}
 use Rattle.std.proofs.Math.Seq.{take-length}
 use Rattle.kc_expr.specs.declared.expression.SymId.{SymId}
 use Rattle.kc_expr.specs.Names.{symbol}
-use Rattle.kc_expr.specs.Order.{stands_in}
+use Rattle.kc_expr.specs.DistinctSymbols.{stands_in}
 use Rattle.kc_read.specs.declared.entries.Entries.{Entries}
 use Rattle.kc_read.specs.Blocks.{attributes, last_of, numbers}
 use Rattle.kc_read.specs.Expansion.{Refused}
@@ -27,7 +27,7 @@ use Rattle.kc_build.specs.WalkResult.{IsWalkResult, IsDiagnosed}
 use Rattle.kc_build.specs.Trees.{facts_with, modules_symbol, symbol_if, tree_with, unless_refused}
 use Rattle.kc_build.specs.Warnings.{bad_members}
 use Rattle.kc_build.proofs.DiagnosedLemmas.{accepted, refused_tree}
-use Rattle.kc_build.proofs.KindLemmas.{choices_known}
+use Rattle.kc_build.proofs.TypeLemmas.{choices_known}
 use Rattle.kc_build.proofs.LayoutLemmas.{symbols-are}
 use Rattle.kc_build.proofs.MemberLemmas.{member_is}
 use Rattle.kc_build.proofs.WholeLemmas.{none_bad}

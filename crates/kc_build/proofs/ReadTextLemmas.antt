@@ -7,7 +7,7 @@ use Rattle.kc_text.specs.declared.faults.TextFault.{TextFault}
 use Rattle.kc_text.specs.Escapes.{unescape}
 use Rattle.kc_text.specs.Lexemes.{Lexeme, AWord, AQuoted, AnOp}
 use Rattle.kc_text.specs.Lines.{UnreadLines, unread_lines}
-use Rattle.kc_expr.specs.declared.expression.Kind.{Kind}
+use Rattle.kc_expr.specs.declared.expression.SymbolType.{SymbolType}
 use Rattle.kc_expr.specs.Grammar.{Disjunction, Atom, WordAtom, QuotedAtom, names_in_atom, if_word, is_tristate_constant, spell, terminals, names_in}
 use Rattle.kc_expr.specs.Names.{same_name}
 use Rattle.kc_read.specs.declared.refusal.Code.TheVariants as code
@@ -141,7 +141,7 @@ asked make ts s l k h =
     after (text_of ts) (λ t. ReadsCondition (λ w. make (record { text = t; when = w })) (drop 1 ts)) s (IsInLines s) h
     (λ t e f. condition (λ w. make (record { text = t; when = w })) (drop 1 ts) s (All-drop IsLineLexeme 1 ts l) (λ w n. k (record { text = t; when = w }) n) f)
 
-typed : (k : Kind) (ts : List Lexeme) (s : Named) → AreInLine ts → ReadsType k ts (Ok s) → IsInLines s
+typed : (k : SymbolType) (ts : List Lexeme) (s : Named) → AreInLine ts → ReadsType k ts (Ok s) → IsInLines s
 typed k ts s l (inl h) =
     same_lines s (TypeLine k None) (let e : ◌≡◌ {A = Result Named Cause} (Ok s) (Ok (TypeLine k None)) = h.1 in let same : s ≡ TypeLine k None = cc in same) (without_names (TypeLine k None) tt refl)
 typed k ts s l (inr h) = asked (λ p. TypeLine k (Some p)) ts s l (λ p n. record { texts = tt; names = n }) h.1
@@ -252,7 +252,7 @@ module _ (files : Files) where
   rest_lines (blank a l m own log r n rest) h k = rest_lines rest (next_line l m [] None n h).1 k
   rest_lines (bad_line a l m own log c n) h k = tt
   rest_lines (over_limit a l m own log s c n e) h k = tt
-  rest_lines (statement a l m own log s r n plain effect rest) h k =
+  rest_lines (statement a l m own log s r n modeless effect rest) h k =
       let next = next_line l m n.tokens None n.next h in
       rest_lines rest next.1 (with_next log.lines a l.number s (line_of (context_of a own log) n.tokens s next.0 n.reads) k)
   rest_lines (bad_source a l m own log name c n e) h k = tt

@@ -3,9 +3,9 @@ use Rattle.std.proofs.Common.{◌≡◌, ℕ, suc, List, [], ◌∷◌, ◌++◌
 use Rattle.std.specs.Fmt.{digits}
 use Rattle.kc_text.specs.declared.tokens.Op.TheVariants as op
 use Rattle.kc_expr.specs.declared.expression.SymId.{SymId}
-use Rattle.kc_expr.specs.declared.expression.Kind.{Kind}
-use Rattle.kc_expr.specs.declared.expression.Kind.TheVariants as kind
-use Rattle.kc_expr.specs.Form.{Form, Text, Symbol, Single, Related, Negated, PlainM, Every, NoForms, MoreForms}
+use Rattle.kc_expr.specs.declared.expression.SymbolType.{SymbolType}
+use Rattle.kc_expr.specs.declared.expression.SymbolType.TheVariants as symbol_type
+use Rattle.kc_expr.specs.Form.{Form, Text, Symbol, Single, Related, Negated, LoneM, Every, NoForms, MoreForms}
 use Rattle.kc_expr.specs.Grammar.{Disjunction, Negation, WordAtom, QuotedAtom, only, joined, negation, conjunction, bang, group, lone, compare}
 use Rattle.kc_expr.specs.Names.{symbol}
 use Rattle.kc_read.specs.declared.refusal.Code.{Code}
@@ -32,7 +32,7 @@ abbrev asked : List ℕ → Option Disjunction → InputPrompt Disjunction
 asked t w = record { text = t; when = w }
 
 abbrev bool_line : List ℕ → Named
-bool_line t = TypeLine kind.Bool (Some (asked t None))
+bool_line t = TypeLine symbol_type.Bool (Some (asked t None))
 
 abbrev lines_from : ℕ → List Named → List (Located Named)
 lines_from n [] = []
@@ -62,9 +62,9 @@ choice_default = ChoiceLine ∷ PromptLine (asked (codes "c") None) ∷ DefaultL
 choice_default_tree : tree_of_lines (in_root choice_default) ≡ Ok (record {
   names = codes "B" ∷ codes "A" ∷ codes "C" ∷ [];
   symbols =
-      record { kind = kind.Bool; choice = Some 0; dependencies = cond [] (Some 0) ∷ []; prompts = cond [] (Some 0) ∷ []; defaults = []; ranges = []; selectors = []; impliers = [] }
-      ∷ record { kind = kind.Bool; choice = Some 0; dependencies = cond [] (Some 0) ∷ []; prompts = cond [] (Some 0) ∷ []; defaults = []; ranges = []; selectors = []; impliers = [] }
-      ∷ record { kind = kind.Bool; choice = Some 0; dependencies = cond [] (Some 0) ∷ []; prompts = cond [] (Some 0) ∷ []; defaults = []; ranges = []; selectors = []; impliers = [] }
+      record { symbol_type = symbol_type.Bool; choice = Some 0; dependencies = cond [] (Some 0) ∷ []; prompts = cond [] (Some 0) ∷ []; defaults = []; ranges = []; selectors = []; impliers = [] }
+      ∷ record { symbol_type = symbol_type.Bool; choice = Some 0; dependencies = cond [] (Some 0) ∷ []; prompts = cond [] (Some 0) ∷ []; defaults = []; ranges = []; selectors = []; impliers = [] }
+      ∷ record { symbol_type = symbol_type.Bool; choice = Some 0; dependencies = cond [] (Some 0) ∷ []; prompts = cond [] (Some 0) ∷ []; defaults = []; ranges = []; selectors = []; impliers = [] }
       ∷ [];
   defined = symbol 1 ∷ symbol 0 ∷ symbol 2 ∷ [];
   choices = record { prompt = Some (cond [] None); defaults = record { what = symbol 0; when = cond [] None } ∷ []; members = symbol 1 ∷ symbol 0 ∷ symbol 2 ∷ [] } ∷ [];
@@ -75,8 +75,8 @@ choice_default_tree : tree_of_lines (in_root choice_default) ≡ Ok (record {
 })
 choice_default_tree = refl
 
-abbrev fact : Kind → Option ℕ → List Condition → List Condition → List (Guarded Form) → List (Guarded SymId) → SymbolFacts
-fact k c ds ps vs ns = record { kind = k; choice = c; dependencies = ds; prompts = ps; defaults = vs; ranges = []; selectors = ns; impliers = [] }
+abbrev fact : SymbolType → Option ℕ → List Condition → List Condition → List (Guarded Form) → List (Guarded SymId) → SymbolFacts
+fact k c ds ps vs ns = record { symbol_type = k; choice = c; dependencies = ds; prompts = ps; defaults = vs; ranges = []; selectors = ns; impliers = [] }
 
 abbrev given : Form → Condition → Guarded Form
 given v c = record { what = v; when = c }
@@ -102,10 +102,10 @@ member_dependency = ConfigLine (codes "D") ∷ bool_line (codes "d") ∷ ChoiceL
 member_dependency_tree : tree_of_lines (in_root member_dependency) ≡ Ok (record {
   names = codes "D" ∷ codes "B" ∷ codes "A" ∷ codes "C" ∷ [];
   symbols =
-      fact kind.Bool None (always ∷ []) (always ∷ []) [] []
-      ∷ fact kind.Bool (Some 0) (mode_0 ∷ []) (mode_0 ∷ []) [] []
-      ∷ fact kind.Bool (Some 0) (mode_0 ∷ []) (mode_0 ∷ []) [] []
-      ∷ fact kind.Bool (Some 0) (cond (sym 0 ∷ []) (Some 0) ∷ []) (cond (sym 0 ∷ []) (Some 0) ∷ []) [] []
+      fact symbol_type.Bool None (always ∷ []) (always ∷ []) [] []
+      ∷ fact symbol_type.Bool (Some 0) (mode_0 ∷ []) (mode_0 ∷ []) [] []
+      ∷ fact symbol_type.Bool (Some 0) (mode_0 ∷ []) (mode_0 ∷ []) [] []
+      ∷ fact symbol_type.Bool (Some 0) (cond (sym 0 ∷ []) (Some 0) ∷ []) (cond (sym 0 ∷ []) (Some 0) ∷ []) [] []
       ∷ [];
   defined = symbol 0 ∷ symbol 2 ∷ symbol 1 ∷ symbol 3 ∷ [];
   choices = record { prompt = Some always; defaults = by 1 always ∷ []; members = symbol 2 ∷ symbol 1 ∷ symbol 3 ∷ [] } ∷ [];
@@ -118,16 +118,16 @@ member_dependency_tree = refl
 
 -- `visible if` counts for prompts, and not for defaults, dependencies or comments
 abbrev hidden_menu : List Named
-hidden_menu = ConfigLine (codes "A") ∷ DefLine kind.Bool (word (codes "y")) None ∷ SelectLine (codes "B") None ∷ MenuLine (codes "hidden") ∷
+hidden_menu = ConfigLine (codes "A") ∷ DefLine symbol_type.Bool (word (codes "y")) None ∷ SelectLine (codes "B") None ∷ MenuLine (codes "hidden") ∷
     VisibleLine (word (codes "n")) ∷ ConfigLine (codes "B") ∷ bool_line (codes "b") ∷ ConfigLine (codes "C") ∷ bool_line (codes "c") ∷
     DefaultLine (word (codes "y")) None ∷ EndMenuLine ∷ CommentLine (codes "end") ∷ []
 
 hidden_menu_tree : tree_of_lines (in_root hidden_menu) ≡ Ok (record {
   names = codes "A" ∷ codes "B" ∷ codes "C" ∷ [];
   symbols =
-      fact kind.Bool None (always ∷ []) [] (given (txt (codes "y")) always ∷ []) []
-      ∷ fact kind.Bool None (always ∷ []) (cond (txt (codes "n") ∷ []) None ∷ []) [] (by 0 always ∷ [])
-      ∷ fact kind.Bool None (always ∷ []) (cond (txt (codes "n") ∷ []) None ∷ []) (given (txt (codes "y")) always ∷ []) []
+      fact symbol_type.Bool None (always ∷ []) [] (given (txt (codes "y")) always ∷ []) []
+      ∷ fact symbol_type.Bool None (always ∷ []) (cond (txt (codes "n") ∷ []) None ∷ []) [] (by 0 always ∷ [])
+      ∷ fact symbol_type.Bool None (always ∷ []) (cond (txt (codes "n") ∷ []) None ∷ []) (given (txt (codes "y")) always ∷ []) []
       ∷ [];
   defined = symbol 0 ∷ symbol 1 ∷ symbol 2 ∷ [];
   choices = [];
@@ -146,7 +146,7 @@ nested_menus = MainMenuLine (codes "Demo") ∷ MenuLine (codes "one") ∷ MenuLi
 
 nested_menus_tree : tree_of_lines (in_root nested_menus) ≡ Ok (record {
   names = codes "A" ∷ codes "B" ∷ [];
-  symbols = fact kind.Bool None (always ∷ []) (always ∷ []) [] [] ∷ fact kind.Bool None (always ∷ []) (always ∷ []) [] [] ∷ [];
+  symbols = fact symbol_type.Bool None (always ∷ []) (always ∷ []) [] [] ∷ fact symbol_type.Bool None (always ∷ []) (always ∷ []) [] [] ∷ [];
   defined = symbol 0 ∷ symbol 1 ∷ [];
   choices = [];
   entries = MenuShown (codes "one") always ∷ MenuShown (codes "two") always ∷ SymbolShown (symbol 0) ∷ EndShown 1 ∷ EndShown 0 ∷ SymbolShown (symbol 1) ∷
@@ -168,7 +168,7 @@ sourced_twice = at (codes "Kconfig") 1 (ConfigLine (codes "X")) ∷ at (codes "K
 
 sourced_twice_tree : tree_of_lines sourced_twice ≡ Ok (record {
   names = codes "X" ∷ codes "Z" ∷ [];
-  symbols = fact kind.Bool None (always ∷ []) (always ∷ []) [] [] ∷ fact kind.Bool None (always ∷ cond (sym 0 ∷ []) None ∷ []) (always ∷ cond (sym 0 ∷ []) None ∷ []) [] [] ∷ [];
+  symbols = fact symbol_type.Bool None (always ∷ []) (always ∷ []) [] [] ∷ fact symbol_type.Bool None (always ∷ cond (sym 0 ∷ []) None ∷ []) (always ∷ cond (sym 0 ∷ []) None ∷ []) [] [] ∷ [];
   defined = symbol 0 ∷ symbol 1 ∷ [];
   choices = [];
   entries = SymbolShown (symbol 0) ∷ SymbolShown (symbol 1) ∷ [];
@@ -185,8 +185,8 @@ second_definition = ConfigLine (codes "A") ∷ bool_line (codes "a") ∷ MenuLin
 
 second_definition_tree : tree_of_lines (in_root second_definition) ≡ Ok (record {
   names = codes "A" ∷ codes "B" ∷ [];
-  symbols = fact kind.Bool None (always ∷ []) (always ∷ []) [] [] ∷
-      fact kind.Bool None (cond (sym 0 ∷ []) None ∷ always ∷ []) (cond (sym 0 ∷ []) None ∷ always ∷ []) (given (txt (codes "y")) always ∷ []) [] ∷ [];
+  symbols = fact symbol_type.Bool None (always ∷ []) (always ∷ []) [] [] ∷
+      fact symbol_type.Bool None (cond (sym 0 ∷ []) None ∷ always ∷ []) (cond (sym 0 ∷ []) None ∷ always ∷ []) (given (txt (codes "y")) always ∷ []) [] ∷ [];
   defined = symbol 0 ∷ symbol 1 ∷ [];
   choices = [];
   entries = SymbolShown (symbol 0) ∷ MenuShown (codes "m") (cond (sym 0 ∷ []) None) ∷ SymbolShown (symbol 1) ∷ EndShown 1 ∷ [];
@@ -198,9 +198,9 @@ second_definition_tree = refl
 
 -- seven warnings
 abbrev lines_without_effect : List Named
-lines_without_effect = ConfigLine (codes "A") ∷ bool_line (codes "a") ∷ TypeLine kind.Str (Some (asked (codes "s") None)) ∷ ConfigLine (codes "B") ∷
-    ConfigLine (codes "C") ∷ DefLine kind.Bool (word (codes "y")) None ∷ SelectLine (codes "D") None ∷ ImplyLine (codes "D") None ∷ SelectLine (codes "E") None
-    ∷ ConfigLine (codes "D") ∷ TypeLine kind.Int (Some (asked (codes "d") None)) ∷ ChoiceLine ∷ PromptLine (asked (codes "ch") None) ∷
+lines_without_effect = ConfigLine (codes "A") ∷ bool_line (codes "a") ∷ TypeLine symbol_type.Str (Some (asked (codes "s") None)) ∷ ConfigLine (codes "B") ∷
+    ConfigLine (codes "C") ∷ DefLine symbol_type.Bool (word (codes "y")) None ∷ SelectLine (codes "D") None ∷ ImplyLine (codes "D") None ∷ SelectLine (codes "E") None
+    ∷ ConfigLine (codes "D") ∷ TypeLine symbol_type.Int (Some (asked (codes "d") None)) ∷ ChoiceLine ∷ PromptLine (asked (codes "ch") None) ∷
     DefaultLine (word (codes "C")) None ∷ ConfigLine (codes "E") ∷ bool_line (codes "e") ∷ EndChoiceLine ∷ []
 
 lines_without_effect_warnings : warnings (names_of lines_without_effect) (numbered_lines (in_root lines_without_effect)) ≡
@@ -219,11 +219,11 @@ lines_without_effect_not_refused : whole_list_refusals (names_of lines_without_e
 lines_without_effect_not_refused = refl
 
 lines_without_effect_facts : (facts_of_lines lines_without_effect (numbered_lines (in_root lines_without_effect))).symbols ≡
-    fact kind.Bool None (always ∷ []) (always ∷ []) [] []
-    ∷ fact kind.Undefined None (always ∷ []) [] [] []
-    ∷ fact kind.Bool None (always ∷ []) [] (given (txt (codes "y")) always ∷ []) []
-    ∷ fact kind.Int None (always ∷ []) (always ∷ []) [] []
-    ∷ fact kind.Bool (Some 0) (mode_0 ∷ []) (mode_0 ∷ []) [] []
+    fact symbol_type.Bool None (always ∷ []) (always ∷ []) [] []
+    ∷ fact symbol_type.Undefined None (always ∷ []) [] [] []
+    ∷ fact symbol_type.Bool None (always ∷ []) [] (given (txt (codes "y")) always ∷ []) []
+    ∷ fact symbol_type.Int None (always ∷ []) (always ∷ []) [] []
+    ∷ fact symbol_type.Bool (Some 0) (mode_0 ∷ []) (mode_0 ∷ []) [] []
     ∷ []
 lines_without_effect_facts = refl
 
@@ -235,12 +235,12 @@ lines_without_effect_choices = refl
 -- a modules symbol of another name
 abbrev modules_line : List Named
 modules_line = ConfigLine (codes "LKM") ∷ bool_line (codes "l") ∷ DefaultLine (word (codes "y")) None ∷ ModulesLine ∷ ConfigLine (codes "A") ∷
-    TypeLine kind.Tristate (Some (asked (codes "a") None)) ∷ DefaultLine (word (codes "m")) None ∷ []
+    TypeLine symbol_type.Tristate (Some (asked (codes "a") None)) ∷ DefaultLine (word (codes "m")) None ∷ []
 
 modules_line_tree : tree_of_lines (in_root modules_line) ≡ Ok (record {
   names = codes "LKM" ∷ codes "A" ∷ [];
-  symbols = fact kind.Bool None (always ∷ []) (always ∷ []) (given (txt (codes "y")) always ∷ []) [] ∷
-      fact kind.Tristate None (always ∷ []) (always ∷ []) (given (txt (codes "m")) always ∷ []) [] ∷ [];
+  symbols = fact symbol_type.Bool None (always ∷ []) (always ∷ []) (given (txt (codes "y")) always ∷ []) [] ∷
+      fact symbol_type.Tristate None (always ∷ []) (always ∷ []) (given (txt (codes "m")) always ∷ []) [] ∷ [];
   defined = symbol 0 ∷ symbol 1 ∷ [];
   choices = [];
   entries = SymbolShown (symbol 0) ∷ SymbolShown (symbol 1) ∷ [];
@@ -252,7 +252,7 @@ modules_line_tree = refl
 
 -- the two with a symbol named MODULES after them
 abbrev modules_line_and_name : List Named
-modules_line_and_name = modules_line ++ ConfigLine modules_word ∷ DefLine kind.Bool (word (codes "y")) None ∷ []
+modules_line_and_name = modules_line ++ ConfigLine modules_word ∷ DefLine symbol_type.Bool (word (codes "y")) None ∷ []
 
 modules_line_and_name_modules : (facts_of_lines modules_line_and_name (numbered_lines (in_root modules_line_and_name))).modules ≡ Some (symbol 0)
 modules_line_and_name_modules = refl
@@ -260,11 +260,11 @@ modules_line_and_name_modules = refl
 -- a prompt's condition in a choice
 abbrev member_prompt_condition : List Named
 member_prompt_condition = ChoiceLine ∷ PromptLine (asked (codes "c") None) ∷ ConfigLine (codes "A") ∷
-    TypeLine kind.Bool (Some (asked (codes "a") (Some (word (codes "B"))))) ∷ ConfigLine (codes "B") ∷ bool_line (codes "b") ∷ EndChoiceLine ∷ []
+    TypeLine symbol_type.Bool (Some (asked (codes "a") (Some (word (codes "B"))))) ∷ ConfigLine (codes "B") ∷ bool_line (codes "b") ∷ EndChoiceLine ∷ []
 
 member_prompt_condition_tree : tree_of_lines (in_root member_prompt_condition) ≡ Ok (record {
   names = codes "A" ∷ codes "B" ∷ [];
-  symbols = fact kind.Bool (Some 0) (mode_0 ∷ []) (cond (sym 1 ∷ []) (Some 0) ∷ []) [] [] ∷ fact kind.Bool (Some 0) (mode_0 ∷ []) (mode_0 ∷ []) [] [] ∷ [];
+  symbols = fact symbol_type.Bool (Some 0) (mode_0 ∷ []) (cond (sym 1 ∷ []) (Some 0) ∷ []) [] [] ∷ fact symbol_type.Bool (Some 0) (mode_0 ∷ []) (mode_0 ∷ []) [] [] ∷ [];
   defined = symbol 0 ∷ symbol 1 ∷ [];
   choices = record { prompt = Some always; defaults = []; members = symbol 0 ∷ symbol 1 ∷ [] } ∷ [];
   entries = SymbolShown (symbol 0) ∷ SymbolShown (symbol 1) ∷ [];
@@ -295,23 +295,23 @@ choice_prompt_condition_choices : choices (numbered_of choice_prompt_condition) 
 choice_prompt_condition_choices = refl
 
 tristate_member_refused : tree_of_lines (in_root (ChoiceLine ∷ PromptLine (asked (codes "c") None) ∷ ConfigLine (codes "A") ∷
-    TypeLine kind.Tristate (Some (asked (codes "a") None)) ∷ EndChoiceLine ∷ [])) ≡ Err
+    TypeLine symbol_type.Tristate (Some (asked (codes "a") None)) ∷ EndChoiceLine ∷ [])) ≡ Err
     (refused (record { code = code.ChoiceMember; detail = codes "A" }) (codes "Kconfig") 3)
 tristate_member_refused = refl
 
-string_default_refused : tree_of_lines (in_root (ConfigLine (codes "S") ∷ TypeLine kind.Str (Some (asked (codes "s") None)) ∷
+string_default_refused : tree_of_lines (in_root (ConfigLine (codes "S") ∷ TypeLine symbol_type.Str (Some (asked (codes "s") None)) ∷
     DefaultLine (both (codes "A") (codes "B")) None ∷ [])) ≡ Err (refused (record { code = code.BadDefault; detail = codes "S" }) (codes "Kconfig") 3)
 string_default_refused = refl
 
 -- a range, and a default that is no symbol
 abbrev ranged_int : List Named
-ranged_int = ConfigLine (codes "I") ∷ TypeLine kind.Int (Some (asked (codes "i") None)) ∷ RangeLine (WordAtom (codes "-5")) (WordAtom (codes "-2")) None ∷ DefaultLine (word (codes "FOO")) None ∷ []
+ranged_int = ConfigLine (codes "I") ∷ TypeLine symbol_type.Int (Some (asked (codes "i") None)) ∷ RangeLine (WordAtom (codes "-5")) (WordAtom (codes "-2")) None ∷ DefaultLine (word (codes "FOO")) None ∷ []
 
 ranged_int_names : names_of ranged_int ≡ codes "I" ∷ codes "-5" ∷ codes "-2" ∷ codes "FOO" ∷ []
 ranged_int_names = refl
 
 ranged_int_facts : facts_at ranged_int 0 ≡ record {
-  kind = kind.Int;
+  symbol_type = symbol_type.Int;
   choice = None;
   dependencies = always ∷ [];
   prompts = always ∷ [];
@@ -326,13 +326,13 @@ ranged_int_facts = refl
 
 -- an imply and a dependency on a later symbol
 abbrev implied_symbol : List Named
-implied_symbol = ConfigLine modules_word ∷ DefLine kind.Bool (word (codes "y")) None ∷ ConfigLine (codes "FOO") ∷
-    TypeLine kind.Tristate (Some (asked (codes "foo") None)) ∷ DefaultLine (word (codes "y")) None ∷ ImplyLine (codes "BAZ") None ∷ ConfigLine (codes "BAR") ∷
-    TypeLine kind.Tristate (Some (asked (codes "bar") None)) ∷ DefaultLine (word (codes "m")) None ∷ ConfigLine (codes "BAZ") ∷
-    TypeLine kind.Tristate (Some (asked (codes "baz") None)) ∷ DependsLine (word (codes "BAR")) ∷ []
+implied_symbol = ConfigLine modules_word ∷ DefLine symbol_type.Bool (word (codes "y")) None ∷ ConfigLine (codes "FOO") ∷
+    TypeLine symbol_type.Tristate (Some (asked (codes "foo") None)) ∷ DefaultLine (word (codes "y")) None ∷ ImplyLine (codes "BAZ") None ∷ ConfigLine (codes "BAR") ∷
+    TypeLine symbol_type.Tristate (Some (asked (codes "bar") None)) ∷ DefaultLine (word (codes "m")) None ∷ ConfigLine (codes "BAZ") ∷
+    TypeLine symbol_type.Tristate (Some (asked (codes "baz") None)) ∷ DependsLine (word (codes "BAR")) ∷ []
 
 implied_symbol_target : facts_at implied_symbol 2 ≡ record {
-  kind = kind.Tristate;
+  symbol_type = symbol_type.Tristate;
   choice = None;
   dependencies = cond (sym 3 ∷ []) None ∷ [];
   prompts = cond (sym 3 ∷ []) None ∷ [];
@@ -344,7 +344,7 @@ implied_symbol_target : facts_at implied_symbol 2 ≡ record {
 }
 implied_symbol_target = refl
 
-implied_symbol_dependency : facts_at implied_symbol 3 ≡ fact kind.Tristate None (always ∷ []) (always ∷ []) (given (txt (codes "m")) always ∷ []) []
+implied_symbol_dependency : facts_at implied_symbol 3 ≡ fact symbol_type.Tristate None (always ∷ []) (always ∷ []) (given (txt (codes "m")) always ∷ []) []
 implied_symbol_dependency = refl
 
 implied_symbol_modules : (facts_of_lines implied_symbol (numbered_lines (in_root implied_symbol))).modules ≡ Some (symbol 0)
@@ -352,41 +352,41 @@ implied_symbol_modules = refl
 
 -- a select, and a prompt with a condition
 abbrev selected_symbol : List Named
-selected_symbol = ConfigLine modules_word ∷ DefLine kind.Bool (word (codes "y")) None ∷ ConfigLine (codes "T") ∷ TypeLine kind.Tristate None ∷
+selected_symbol = ConfigLine modules_word ∷ DefLine symbol_type.Bool (word (codes "y")) None ∷ ConfigLine (codes "T") ∷ TypeLine symbol_type.Tristate None ∷
     DefaultLine (word (codes "m")) None ∷ SelectLine (codes "A") None ∷ ConfigLine (codes "A") ∷
-    TypeLine kind.Tristate (Some (asked (codes "a") (Some (word (codes "T"))))) ∷ DefaultLine (word (codes "y")) None ∷ []
+    TypeLine symbol_type.Tristate (Some (asked (codes "a") (Some (word (codes "T"))))) ∷ DefaultLine (word (codes "y")) None ∷ []
 
-selected_symbol_facts : facts_at selected_symbol 2 ≡ fact kind.Tristate None (always ∷ []) (cond (sym 1 ∷ []) None ∷ []) (given (txt (codes "y")) always ∷ []) (by 1 always ∷ [])
+selected_symbol_facts : facts_at selected_symbol 2 ≡ fact symbol_type.Tristate None (always ∷ []) (cond (sym 1 ∷ []) None ∷ []) (given (txt (codes "y")) always ∷ []) (by 1 always ∷ [])
 selected_symbol_facts = refl
 
 -- a plain m of a condition, where no modules symbol is defined
-abbrev plain_m : List Named
-plain_m = ConfigLine (codes "A") ∷ bool_line (codes "a") ∷ DependsLine (word (codes "m")) ∷ []
+abbrev lone_m : List Named
+lone_m = ConfigLine (codes "A") ∷ bool_line (codes "a") ∷ DependsLine (word (codes "m")) ∷ []
 
-plain_m_names : names_of plain_m ≡ codes "A" ∷ []
-plain_m_names = refl
+lone_m_names : names_of lone_m ≡ codes "A" ∷ []
+lone_m_names = refl
 
-plain_m_facts : facts_at plain_m 0 ≡ fact kind.Bool None (cond (PlainM ∷ []) None ∷ []) (cond (PlainM ∷ []) None ∷ []) [] []
-plain_m_facts = refl
+lone_m_facts : facts_at lone_m 0 ≡ fact symbol_type.Bool None (cond (LoneM ∷ []) None ∷ []) (cond (LoneM ∷ []) None ∷ []) [] []
+lone_m_facts = refl
 
-plain_m_modules : (facts_of_lines plain_m (numbered_lines (in_root plain_m))).modules ≡ None
-plain_m_modules = refl
+lone_m_modules : (facts_of_lines lone_m (numbered_lines (in_root lone_m))).modules ≡ None
+lone_m_modules = refl
 
 -- the modules symbol is defined after its use
 modules_line_afterwards : facts_at (ConfigLine (codes "A") ∷ bool_line (codes "a") ∷ DependsLine (word (codes "m")) ∷ ConfigLine (codes "LKM") ∷ bool_line (codes "l") ∷
-    ModulesLine ∷ []) 0 ≡ fact kind.Bool None (cond (PlainM ∷ []) None ∷ []) (cond (PlainM ∷ []) None ∷ []) [] []
+    ModulesLine ∷ []) 0 ≡ fact symbol_type.Bool None (cond (LoneM ∷ []) None ∷ []) (cond (LoneM ∷ []) None ∷ []) [] []
 modules_line_afterwards = refl
 
 -- each `depends on` line of an entry is a part of its condition
 two_dependencies : facts_at (ConfigLine (codes "A") ∷ bool_line (codes "a") ∷ DependsLine (word (codes "B")) ∷ DependsLine (word (codes "C")) ∷ [])
-    0 ≡ fact kind.Bool None (cond (sym 1 ∷ sym 2 ∷ []) None ∷ []) (cond (sym 1 ∷ sym 2 ∷ []) None ∷ []) [] []
+    0 ≡ fact symbol_type.Bool None (cond (sym 1 ∷ sym 2 ∷ []) None ∷ []) (cond (sym 1 ∷ sym 2 ∷ []) None ∷ []) [] []
 two_dependencies = refl
 
 -- so is each `visible if` line of a menu; a menu in a menu is shown by its own and those that enclose it; a comment by neither
 abbrev menus : List Named
 menus = MenuLine (codes "o") ∷ VisibleLine (word (codes "A")) ∷ VisibleLine (word (codes "B")) ∷ DependsLine (word (codes "C")) ∷ MenuLine (codes "i") ∷
     VisibleLine (word (codes "D")) ∷ CommentLine (codes "t") ∷ DependsLine (word (codes "E")) ∷ IfLine (word (codes "F")) ∷ ConfigLine (codes "X") ∷
-    TypeLine kind.Bool (Some (asked (codes "x") (Some (word (codes "G"))))) ∷ DefaultLine (word (codes "y")) (Some (word (codes "H"))) ∷ EndIfLine ∷ EndMenuLine
+    TypeLine symbol_type.Bool (Some (asked (codes "x") (Some (word (codes "G"))))) ∷ DefaultLine (word (codes "y")) (Some (word (codes "H"))) ∷ EndIfLine ∷ EndMenuLine
     ∷ EndMenuLine ∷ []
 
 menus_names : names_of menus ≡ codes "A" ∷ codes "B" ∷ codes "C" ∷ codes "D" ∷ codes "E" ∷ codes "F" ∷ codes "X" ∷ codes "G" ∷ codes "H" ∷ []
@@ -397,17 +397,17 @@ menus_entries : entries (numbered_of menus) ≡ MenuShown (codes "o") (cond (sym
     ∷ EndShown 1 ∷ EndShown 0 ∷ []
 menus_entries = refl
 
-menus_facts : facts_at menus 6 ≡ fact kind.Bool None (cond (sym 2 ∷ sym 5 ∷ []) None ∷ []) (cond (sym 2 ∷ sym 5 ∷ sym 0 ∷ sym 1 ∷ sym 3 ∷ sym 7 ∷ []) None ∷ [])
+menus_facts : facts_at menus 6 ≡ fact symbol_type.Bool None (cond (sym 2 ∷ sym 5 ∷ []) None ∷ []) (cond (sym 2 ∷ sym 5 ∷ sym 0 ∷ sym 1 ∷ sym 3 ∷ sym 7 ∷ []) None ∷ [])
     (given (txt (codes "y")) (cond (sym 2 ∷ sym 5 ∷ sym 8 ∷ []) None) ∷ []) []
 menus_facts = refl
 
 -- the last of several prompts of one entry counts
 abbrev prompts : List Named
-prompts = ConfigLine (codes "A") ∷ TypeLine kind.Bool (Some (asked (codes "a") (Some (word (codes "X"))))) ∷
+prompts = ConfigLine (codes "A") ∷ TypeLine symbol_type.Bool (Some (asked (codes "a") (Some (word (codes "X"))))) ∷
     PromptLine (asked (codes "b") (Some (word (codes "Y")))) ∷ PromptLine (asked (codes "c") None) ∷ ConfigLine (codes "A") ∷
     PromptLine (asked (codes "d") (Some (word (codes "Z")))) ∷ []
 
-prompts_facts : facts_at prompts 0 ≡ fact kind.Bool None (always ∷ always ∷ []) (always ∷ cond (sym 3 ∷ []) None ∷ []) [] []
+prompts_facts : facts_at prompts 0 ≡ fact symbol_type.Bool None (always ∷ always ∷ []) (always ∷ cond (sym 3 ∷ []) None ∷ []) [] []
 prompts_facts = refl
 
 prompts_warnings : warnings_of prompts ≡ codes "Kconfig:3: warning K2: prompt of A redefined, the last is kept" ∷ codes "Kconfig:4: warning K2: prompt of A redefined, the last is kept" ∷ []
@@ -429,22 +429,22 @@ choice_prompts_choices : choices (numbered_of choice_prompts)
 choice_prompts_choices = refl
 
 -- a member without a type is bool, and has no K3
-choice_prompts_facts : facts_at choice_prompts 1 ≡ fact kind.Bool (Some 0) (mode_0 ∷ []) [] [] []
+choice_prompts_facts : facts_at choice_prompts 1 ≡ fact symbol_type.Bool (Some 0) (mode_0 ∷ []) [] [] []
 choice_prompts_facts = refl
 
 -- two choices, an `if` that encloses a member; a member that selects; a member is no target
 abbrev two_choices : List Named
 two_choices = ChoiceLine ∷ ConfigLine (codes "A") ∷ SelectLine (codes "D") None ∷ EndChoiceLine ∷ IfLine (word (codes "X")) ∷ ChoiceLine ∷
     PromptLine (asked (codes "c") None) ∷ IfLine (word (codes "Y")) ∷ ConfigLine (codes "B") ∷ ImplyLine (codes "A") None ∷ EndIfLine ∷ EndChoiceLine ∷
-    EndIfLine ∷ ConfigLine (codes "D") ∷ TypeLine kind.Bool None ∷ []
+    EndIfLine ∷ ConfigLine (codes "D") ∷ TypeLine symbol_type.Bool None ∷ []
 
-two_choices_b : facts_at two_choices 4 ≡ fact kind.Bool (Some 1) (cond (sym 2 ∷ sym 3 ∷ []) (Some 1) ∷ []) [] [] []
+two_choices_b : facts_at two_choices 4 ≡ fact symbol_type.Bool (Some 1) (cond (sym 2 ∷ sym 3 ∷ []) (Some 1) ∷ []) [] [] []
 two_choices_b = refl
 
-two_choices_a : facts_at two_choices 0 ≡ fact kind.Bool (Some 0) (mode_0 ∷ []) [] [] []
+two_choices_a : facts_at two_choices 0 ≡ fact symbol_type.Bool (Some 0) (mode_0 ∷ []) [] [] []
 two_choices_a = refl
 
-two_choices_d : facts_at two_choices 1 ≡ fact kind.Bool None (always ∷ []) [] [] (by 0 mode_0 ∷ [])
+two_choices_d : facts_at two_choices 1 ≡ fact symbol_type.Bool None (always ∷ []) [] [] (by 0 mode_0 ∷ [])
 two_choices_d = refl
 
 two_choices_choices : choices (numbered_of two_choices) ≡ record { prompt = None; defaults = []; members = symbol 0 ∷ [] } ∷
@@ -456,12 +456,12 @@ unfolding digits
 two_choices_warnings = refl
 
 -- a select of a name that is not defined has no effect and no warning
-undefined_target : warnings_of (ConfigLine (codes "A") ∷ TypeLine kind.Bool None ∷ SelectLine (codes "Q") None ∷ []) ≡ []
+undefined_target : warnings_of (ConfigLine (codes "A") ∷ TypeLine symbol_type.Bool None ∷ SelectLine (codes "Q") None ∷ []) ≡ []
 undefined_target = refl
 
 -- E13 comes before E14, whichever line is the first
 abbrev refused_twice : List Named
-refused_twice = ConfigLine (codes "S") ∷ TypeLine kind.Str None ∷ DefaultLine (both (codes "A") (codes "B")) None ∷ ChoiceLine ∷ PromptLine (asked (codes "c") None) ∷
+refused_twice = ConfigLine (codes "S") ∷ TypeLine symbol_type.Str None ∷ DefaultLine (both (codes "A") (codes "B")) None ∷ ChoiceLine ∷ PromptLine (asked (codes "c") None) ∷
     DefaultLine (word (codes "n")) None ∷ ConfigLine (codes "A") ∷ bool_line (codes "a") ∷ EndChoiceLine ∷ ConfigLine (codes "A") ∷ []
 
 abbrev at_line : Code → List ℕ → ℕ → Refused
@@ -487,30 +487,30 @@ choice_defaults : refusals (ChoiceLine ∷ DefaultLine (grouped (codes "A")) Non
 choice_defaults = refl
 
 -- a def_bool of a symbol whose first type is string
-compound_default : refusals (ConfigLine (codes "S") ∷ DefLine kind.Bool (both (codes "A") (codes "B")) None ∷ ConfigLine (codes "T") ∷ TypeLine kind.Hex None ∷
-    DefLine kind.Bool (both (codes "A") (codes "B")) None ∷ []) ≡ at_line code.BadDefault (codes "T") 5 ∷ []
+compound_default : refusals (ConfigLine (codes "S") ∷ DefLine symbol_type.Bool (both (codes "A") (codes "B")) None ∷ ConfigLine (codes "T") ∷ TypeLine symbol_type.Hex None ∷
+    DefLine symbol_type.Bool (both (codes "A") (codes "B")) None ∷ []) ≡ at_line code.BadDefault (codes "T") 5 ∷ []
 compound_default = refl
 
 -- m is m in a default's value, also where it is one of several parts, and with the modules symbol in its condition
-m_in_default : facts_at (ConfigLine (codes "A") ∷ TypeLine kind.Tristate None ∷ DefaultLine (both (codes "m") (codes "B")) (Some (word (codes "m"))) ∷ [])
-    0 ≡ fact kind.Tristate None (always ∷ []) [] (given (Every (MoreForms (txt (codes "m")) (MoreForms (sym 1) NoForms))) (cond (PlainM ∷ []) None) ∷ []) []
+m_in_default : facts_at (ConfigLine (codes "A") ∷ TypeLine symbol_type.Tristate None ∷ DefaultLine (both (codes "m") (codes "B")) (Some (word (codes "m"))) ∷ [])
+    0 ≡ fact symbol_type.Tristate None (always ∷ []) [] (given (Every (MoreForms (txt (codes "m")) (MoreForms (sym 1) NoForms))) (cond (LoneM ∷ []) None) ∷ []) []
 m_in_default = refl
 
 -- a side of a relation is m alone; `!` takes the whole relation
 m_in_relation : facts_at (ConfigLine (codes "A") ∷ DependsLine (whole (bang (compare op.Eq (WordAtom (codes "B")) (WordAtom (codes "m"))))) ∷ [])
-    0 ≡ fact kind.Undefined None (cond (Negated (Related op.Eq (Symbol (symbol 1)) (Text (codes "m"))) ∷ []) None ∷ []) [] [] []
+    0 ≡ fact symbol_type.Undefined None (cond (Negated (Related op.Eq (Symbol (symbol 1)) (Text (codes "m"))) ∷ []) None ∷ []) [] [] []
 m_in_relation = refl
 
 -- A second prompt is counted within one definition alone.
 abbrev again : List Named
-again = ConfigLine (codes "A") ∷ bool_line (codes "a") ∷ ConfigLine (codes "B") ∷ TypeLine kind.Int None ∷ ConfigLine (codes "A") ∷ TypeLine kind.Tristate (Some (asked (codes "b") None)) ∷ []
+again = ConfigLine (codes "A") ∷ bool_line (codes "a") ∷ ConfigLine (codes "B") ∷ TypeLine symbol_type.Int None ∷ ConfigLine (codes "A") ∷ TypeLine symbol_type.Tristate (Some (asked (codes "b") None)) ∷ []
 
 again_warnings : warnings_of again ≡ codes "Kconfig:6: warning K1: type of A redefined, the first is kept" ∷ []
 unfolding digits
 again_warnings = refl
 
 -- a type of a later definition is the symbol's; the first `config` line has no K3 then
-type_line_afterwards : warnings_of (ConfigLine (codes "A") ∷ ConfigLine (codes "B") ∷ ConfigLine (codes "A") ∷ TypeLine kind.Str None ∷ SelectLine (codes "A") None ∷
+type_line_afterwards : warnings_of (ConfigLine (codes "A") ∷ ConfigLine (codes "B") ∷ ConfigLine (codes "A") ∷ TypeLine symbol_type.Str None ∷ SelectLine (codes "A") None ∷
     ConfigLine (codes "B") ∷ []) ≡ codes "Kconfig:2: warning K3: B has no type" ∷
     codes "Kconfig:5: warning K4: A is not bool or tristate, the select has no effect" ∷ []
 unfolding digits
@@ -519,7 +519,7 @@ type_line_afterwards = refl
 -- warnings name the file of their line
 abbrev two_files : List (Located Named)
 two_files = at (codes "Kconfig") 1 (ConfigLine (codes "A")) ∷ at (codes "Kconfig") 2 (bool_line (codes "a")) ∷ at (codes "b") 344 (ConfigLine (codes "A")) ∷
-    at (codes "b") 345 (TypeLine kind.Str None) ∷ []
+    at (codes "b") 345 (TypeLine symbol_type.Str None) ∷ []
 
 two_files_warnings : warnings (names_of (statements two_files)) (numbered_lines two_files) ≡ codes "b:345: warning K1: type of A redefined, the first is kept" ∷ []
 unfolding digits
@@ -533,11 +533,11 @@ unfolding digits
 outside_default = refl
 
 -- A member that is defined outside first, with a type that is not bool: the second line alone is refused.
-outside_first : refusals (ConfigLine (codes "A") ∷ TypeLine kind.Tristate None ∷ ChoiceLine ∷ ConfigLine (codes "A") ∷ EndChoiceLine ∷ []) ≡ at_line code.ChoiceMember (codes "A") 4 ∷ []
+outside_first : refusals (ConfigLine (codes "A") ∷ TypeLine symbol_type.Tristate None ∷ ChoiceLine ∷ ConfigLine (codes "A") ∷ EndChoiceLine ∷ []) ≡ at_line code.ChoiceMember (codes "A") 4 ∷ []
 outside_first = refl
 
 -- one that gets such a type outside later: both lines
-outside_later : refusals (ChoiceLine ∷ ConfigLine (codes "A") ∷ EndChoiceLine ∷ ConfigLine (codes "A") ∷ TypeLine kind.Tristate None ∷ [])
+outside_later : refusals (ChoiceLine ∷ ConfigLine (codes "A") ∷ EndChoiceLine ∷ ConfigLine (codes "A") ∷ TypeLine symbol_type.Tristate None ∷ [])
     ≡ at_line code.ChoiceMember (codes "A") 2 ∷ at_line code.ChoiceMember (codes "A") 4 ∷ []
 outside_later = refl
 
@@ -546,21 +546,21 @@ main_menus : (facts_of_lines (MainMenuLine (codes "a") ∷ MainMenuLine (codes "
 main_menus = refl
 
 -- The bytes of a quoted operand: what a `\` takes away stands for itself.
-escaped_operand : facts_at (ConfigLine (codes "S") ∷ TypeLine kind.Str None ∷ DefaultLine (whole (lone (QuotedAtom (97 ∷ 92 ∷ 34 ∷ [])))) None ∷ [])
-    0 ≡ fact kind.Str None (always ∷ []) [] (given (txt (97 ∷ 34 ∷ [])) always ∷ []) []
+escaped_operand : facts_at (ConfigLine (codes "S") ∷ TypeLine symbol_type.Str None ∷ DefaultLine (whole (lone (QuotedAtom (97 ∷ 92 ∷ 34 ∷ [])))) None ∷ [])
+    0 ≡ fact symbol_type.Str None (always ∷ []) [] (given (txt (97 ∷ 34 ∷ [])) always ∷ []) []
 escaped_operand = refl
 
 -- Relations: a number is a name too; a quoted text is none.
 abbrev relations : List Named
-relations = ConfigLine (codes "I") ∷ TypeLine kind.Int None ∷ DefaultLine (word (codes "10")) None ∷ ConfigLine (codes "A") ∷
-    DefLine kind.Bool (whole (compare op.Gt (WordAtom (codes "I")) (WordAtom (codes "9")))) None ∷ ConfigLine (codes "B") ∷
-    DefLine kind.Bool (whole (compare op.Lt (QuotedAtom (codes "10")) (QuotedAtom (codes "9")))) None ∷ []
+relations = ConfigLine (codes "I") ∷ TypeLine symbol_type.Int None ∷ DefaultLine (word (codes "10")) None ∷ ConfigLine (codes "A") ∷
+    DefLine symbol_type.Bool (whole (compare op.Gt (WordAtom (codes "I")) (WordAtom (codes "9")))) None ∷ ConfigLine (codes "B") ∷
+    DefLine symbol_type.Bool (whole (compare op.Lt (QuotedAtom (codes "10")) (QuotedAtom (codes "9")))) None ∷ []
 
 relations_names : names_of relations ≡ codes "I" ∷ codes "10" ∷ codes "A" ∷ codes "9" ∷ codes "B" ∷ []
 relations_names = refl
 
-relations_symbols : facts_at relations 2 ≡ fact kind.Bool None (always ∷ []) [] (given (Related op.Gt (Symbol (symbol 0)) (Symbol (symbol 3))) always ∷ []) []
+relations_symbols : facts_at relations 2 ≡ fact symbol_type.Bool None (always ∷ []) [] (given (Related op.Gt (Symbol (symbol 0)) (Symbol (symbol 3))) always ∷ []) []
 relations_symbols = refl
 
-relations_quoted : facts_at relations 4 ≡ fact kind.Bool None (always ∷ []) [] (given (Related op.Lt (Text (codes "10")) (Text (codes "9"))) always ∷ []) []
+relations_quoted : facts_at relations 4 ≡ fact symbol_type.Bool None (always ∷ []) [] (given (Related op.Lt (Text (codes "10")) (Text (codes "9"))) always ∷ []) []
 relations_quoted = refl

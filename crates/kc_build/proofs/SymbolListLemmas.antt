@@ -8,14 +8,14 @@ use Rattle.std.proofs.lemmas.List.Folds.{list_any-append}
 use Rattle.std.proofs.lemmas.List.Elements.{filter_passes, All-head}
 use Rattle.std.proofs.lemmas.Option.{slice_get-get_or}
 use Rattle.kc_expr.specs.declared.expression.SymId.{SymId}
-use Rattle.kc_expr.specs.declared.expression.Kind.{Kind}
-use Rattle.kc_expr.specs.declared.expression.Kind.TheVariants as kind
+use Rattle.kc_expr.specs.declared.expression.SymbolType.{SymbolType}
+use Rattle.kc_expr.specs.declared.expression.SymbolType.TheVariants as symbol_type
 use Rattle.kc_expr.specs.Names.{same_symbol}
-use Rattle.kc_expr.specs.Order.{added, stands_in}
+use Rattle.kc_expr.specs.DistinctSymbols.{added, stands_in}
 use Rattle.kc_read.specs.Blocks.{attributes, definitions, defined_name}
 use Rattle.kc_read.specs.Statements.{Numbered, ConfigLine}
 use Rattle.kc_tree.specs.Common.{is_symbol_of}
-use Rattle.kc_build.specs.Facts.{all_added, defined_symbols, definitions_of, enclosing_choice, first_of, indices, kind_of, prompt_at, symbol_at, symbol_of, type_of}
+use Rattle.kc_build.specs.Facts.{all_added, defined_symbols, definitions_of, enclosing_choice, first_of, indices, type_of, prompt_at, symbol_at, symbol_of, stated_type}
 use Rattle.kc_build.proofs.ElementLemmas.{found_is, get_snoc, same_is}
 
 -- A symbol stands in a list.
@@ -150,21 +150,21 @@ config_symbol (Some t) s h = ap Some (same_is s t h)
 
 module _ (ss : List Numbered) (s : SymId) where
   -- its type, where it is defined at these places
-  abbrev kind_by : List ℕ → Kind
-  kind_by places =
-      unwrap_or (first_of (filter_map type_of (flat_map (attributes ss) places)))
-      (cond (is_some (first_of (filter_map (enclosing_choice ss) places))) kind.Bool kind.Undefined)
+  abbrev type_by : List ℕ → SymbolType
+  type_by places =
+      unwrap_or (first_of (filter_map stated_type (flat_map (attributes ss) places)))
+      (cond (is_some (first_of (filter_map (enclosing_choice ss) places))) symbol_type.Bool symbol_type.Undefined)
 
   placed : (p : ℕ) (places : List ℕ) → definitions_of ss s ≡ p ∷ places → Contains (defined_symbols ss) s
   placed p places e =
       let all = subst (λ (ps : List ℕ). All (λ (i : ℕ). is_symbol_of s (symbol_at ss i) ≡ true) ps) e (filter_passes (λ (i : ℕ). is_symbol_of s (symbol_at ss i)) (indices ss)) in
       line_defined ss p s (config_symbol (symbol_at ss p) s (All-head (λ (i : ℕ). is_symbol_of s (symbol_at ss i) ≡ true) p places all))
 
-  typed_by : (places : List ℕ) → definitions_of ss s ≡ places → kind_by places ≢ kind.Undefined → Contains (defined_symbols ss) s
+  typed_by : (places : List ℕ) → definitions_of ss s ≡ places → type_by places ≢ symbol_type.Undefined → Contains (defined_symbols ss) s
   typed_by [] e h = absurd (h refl)
   typed_by (p ∷ places) e h = placed p places e
 
-  pub typed_is_defined : kind_of ss s ≢ kind.Undefined → Contains (defined_symbols ss) s
+  pub typed_is_defined : type_of ss s ≢ symbol_type.Undefined → Contains (defined_symbols ss) s
   typed_is_defined h = typed_by (definitions_of ss s) refl h
 
   prompted_by : (places : List ℕ) → definitions_of ss s ≡ places → 0 < length (filter_map (prompt_at ss) places) → Contains (defined_symbols ss) s

@@ -4,8 +4,8 @@ use Rattle.std.specs.List.{slice_get, filter_map, flat_map, cons_option, prefix_
 use Rattle.std.specs.Option.{is_some, option_or, unwrap_or}
 use Rattle.std.proofs.lemmas.List.{length-map, map-append}
 use Rattle.std.proofs.lemmas.List.Elements.{filter_map-append}
-use Rattle.kc_expr.specs.declared.expression.Kind.{Kind}
-use Rattle.kc_expr.specs.declared.expression.Kind.TheVariants as kind
+use Rattle.kc_expr.specs.declared.expression.SymbolType.{SymbolType}
+use Rattle.kc_expr.specs.declared.expression.SymbolType.TheVariants as symbol_type
 use Rattle.kc_expr.specs.declared.expression.SymId.{SymId}
 use Rattle.kc_expr.specs.Names.{symbol}
 use Rattle.kc_read.specs.Blocks.{attributes, is_attribute, numbers}
@@ -13,10 +13,10 @@ use Rattle.kc_read.specs.Statements.{Numbered}
 use Rattle.kc_tree.specs.declared.rows.ChoiceId.{ChoiceId}
 use Rattle.kc_tree.specs.declared.rows.Symbol.{Symbol}
 use Rattle.kc_tree.specs.Common.{is_symbol_of}
-use Rattle.kc_build.specs.Facts.{choice_of, enclosing_choice, definitions_of, first_of, symbol_at, symbol_of, type_of}
+use Rattle.kc_build.specs.Facts.{choice_of, enclosing_choice, definitions_of, first_of, symbol_at, symbol_of, stated_type}
 use Rattle.kc_build.specs.SymbolRows.{AreSymbols, AreTypesDefined, SymbolRow, definition_number, row_of, row_view}
 use Rattle.kc_build.specs.Passes.{change, changed}
-use Rattle.kc_build.specs.SymbolWalk.{first_kind, with_member_type, unknown, with_definition}
+use Rattle.kc_build.specs.SymbolWalk.{first_given_type, with_member_type, unknown, with_definition}
 use Rattle.kc_build.proofs.EnterLemmas.{attribute_symbol, get_behind, over}
 use Rattle.kc_build.proofs.PlaceLemmas.{length-map_numbers}
 use Rattle.kc_build.proofs.TableLemmas.{defined_before, defined_next, not_defined, same_numbers}
@@ -42,27 +42,27 @@ first_found {A} f g (x ∷ xs) =
     ∙ sym (first_cons (more x) (filter_map more xs))
 
 -- Types that stand for none.
-abbrev IsNot : Option Kind → Type 0
-IsNot o = o ≡ Some kind.Undefined → ⊥
+abbrev IsNot : Option SymbolType → Type 0
+IsNot o = o ≡ Some symbol_type.Undefined → ⊥
 
-next_type : (k : Option Kind) (o : Option Kind) → IsNot o → first_kind (unwrap_or o kind.Undefined) k ≡ unwrap_or (option_or o k) kind.Undefined
+next_type : (k : Option SymbolType) (o : Option SymbolType) → IsNot o → first_given_type (unwrap_or o symbol_type.Undefined) k ≡ unwrap_or (option_or o k) symbol_type.Undefined
 next_type k None n = refl
-next_type k (Some kind.Undefined) n = absurd (n refl)
-next_type k (Some kind.Bool) n = refl
-next_type k (Some kind.Tristate) n = refl
-next_type k (Some kind.Str) n = refl
-next_type k (Some kind.Int) n = refl
-next_type k (Some kind.Hex) n = refl
+next_type k (Some symbol_type.Undefined) n = absurd (n refl)
+next_type k (Some symbol_type.Bool) n = refl
+next_type k (Some symbol_type.Tristate) n = refl
+next_type k (Some symbol_type.Str) n = refl
+next_type k (Some symbol_type.Int) n = refl
+next_type k (Some symbol_type.Hex) n = refl
 
-type_with_member : (b : Bool) (o : Option Kind) → IsNot o → first_kind (unwrap_or o kind.Undefined) (if b then Some kind.Bool else None) ≡ unwrap_or o (if b then kind.Bool else kind.Undefined)
+type_with_member : (b : Bool) (o : Option SymbolType) → IsNot o → first_given_type (unwrap_or o symbol_type.Undefined) (if b then Some symbol_type.Bool else None) ≡ unwrap_or o (if b then symbol_type.Bool else symbol_type.Undefined)
 type_with_member true None n = refl
 type_with_member false None n = refl
-type_with_member b (Some kind.Undefined) n = absurd (n refl)
-type_with_member b (Some kind.Bool) n = refl
-type_with_member b (Some kind.Tristate) n = refl
-type_with_member b (Some kind.Str) n = refl
-type_with_member b (Some kind.Int) n = refl
-type_with_member b (Some kind.Hex) n = refl
+type_with_member b (Some symbol_type.Undefined) n = absurd (n refl)
+type_with_member b (Some symbol_type.Bool) n = refl
+type_with_member b (Some symbol_type.Tristate) n = refl
+type_with_member b (Some symbol_type.Str) n = refl
+type_with_member b (Some symbol_type.Int) n = refl
+type_with_member b (Some symbol_type.Hex) n = refl
 
 taken_at : {X : Type 0} (p : X → Bool) (xs : List X) (i : ℕ) (x : X) → slice_get (take_while p xs) i ≡ Some x → slice_get xs i ≡ Some x
 taken_at {X} p xs i x h = within (prefix_len p xs) xs i h
@@ -73,23 +73,23 @@ taken_at {X} p xs i x h = within (prefix_len p xs) xs i h
     within (suc n) (y ∷ ys) zero h = h
     within (suc n) (y ∷ ys) (suc i) h = within n ys i h
 
-no_first : {A : Type 0} (f : A → Option Kind) (xs : List A) → ((i : ℕ) (x : A) → slice_get xs i ≡ Some x → IsNot (f x)) → IsNot (first_of (filter_map f xs))
+no_first : {A : Type 0} (f : A → Option SymbolType) (xs : List A) → ((i : ℕ) (x : A) → slice_get xs i ≡ Some x → IsNot (f x)) → IsNot (first_of (filter_map f xs))
 no_first f [] h = λ e. cc
 no_first f (x ∷ xs) h = by (f x) refl (no_first f xs (λ i. h (suc i)))
   where
-    by : (o : Option Kind) → f x ≡ o → IsNot (first_of (filter_map f xs)) → IsNot (first_of (cons_option o (filter_map f xs)))
+    by : (o : Option SymbolType) → f x ≡ o → IsNot (first_of (filter_map f xs)) → IsNot (first_of (cons_option o (filter_map f xs)))
     by None e rest = rest
     by (Some k) e rest = λ q. h 0 x refl (e ∙ q)
 
 module _ (ss : List Numbered) where
   -- the first type that the entry at a place gives
-  abbrev pub entry_type : ℕ → Option Kind
-  entry_type j = first_of (filter_map type_of (attributes ss j))
+  abbrev pub entry_type : ℕ → Option SymbolType
+  entry_type j = first_of (filter_map stated_type (attributes ss j))
 
   -- what definitions at these places say of a symbol, and those before a place
   abbrev pub row_by : List ℕ → SymbolRow
   row_by ds = record {
-    kind = unwrap_or (first_of (filter_map entry_type ds)) kind.Undefined;
+    symbol_type = unwrap_or (first_of (filter_map entry_type ds)) symbol_type.Undefined;
     choice = first_of (filter_map (enclosing_choice ss) ds);
     definitions = map (definition_number ss) ds;
   }
@@ -110,7 +110,7 @@ module _ (ss : List Numbered) where
   module _ (typed : AreTypesDefined ss) where
     entry_typed : (j : ℕ) → IsNot (entry_type j)
     entry_typed j =
-        no_first type_of (attributes ss j) (λ i x at. typed (suc j + i) x (sym (get_behind ss (suc j) i) ∙ taken_at is_attribute (drop (suc j) ss) i x at))
+        no_first stated_type (attributes ss j) (λ i x at. typed (suc j + i) x (sym (get_behind ss (suc j) i) ∙ taken_at is_attribute (drop (suc j) ss) i x at))
 
     all_typed : (ds : List ℕ) → IsNot (first_of (filter_map entry_type ds))
     all_typed ds = no_first entry_type ds (λ i j at. entry_typed j)
@@ -118,10 +118,10 @@ module _ (ss : List Numbered) where
     -- one definition more
     row_next : (ds : List ℕ) (i : ℕ) → with_definition (definition_number ss i) (entry_type i) (enclosing_choice ss i) (row_by ds) ≡ row_by (ds ++ i ∷ [])
     row_next ds i =
-        let type = next_type (entry_type i) (first_of (filter_map entry_type ds)) (all_typed ds) ∙ ap (λ o. unwrap_or o kind.Undefined) (first_more entry_type) in
+        let type = next_type (entry_type i) (first_of (filter_map entry_type ds)) (all_typed ds) ∙ ap (λ o. unwrap_or o symbol_type.Undefined) (first_more entry_type) in
         let choice = first_more (enclosing_choice ss) in
         let numbers = sym (map-append (definition_number ss) ds (i ∷ [])) in
-        λ k. record { kind = type k; choice = choice k; definitions = numbers k }
+        λ k. record { symbol_type = type k; choice = choice k; definitions = numbers k }
       where
         single : {A : Type 0} (o : Option A) → o ≡ first_of (cons_option o [])
         single None = refl
@@ -141,9 +141,9 @@ module _ (ss : List Numbered) where
     row_with_member_type s =
         let ds = definitions_of ss (symbol s) in
         let type = type_with_member (is_some (choice_of ss (symbol s))) (first_of (filter_map entry_type ds)) (all_typed ds)
-        ∙ ap (λ o. unwrap_or o (if is_some (choice_of ss (symbol s)) then kind.Bool else kind.Undefined)) (sym (first_found type_of (attributes ss) ds))
+        ∙ ap (λ o. unwrap_or o (if is_some (choice_of ss (symbol s)) then symbol_type.Bool else symbol_type.Undefined)) (sym (first_found stated_type (attributes ss) ds))
         in
-        λ k. record { kind = type k; choice = choice_of ss (symbol s); definitions = map (definition_number ss) ds }
+        λ k. record { symbol_type = type k; choice = choice_of ss (symbol s); definitions = map (definition_number ss) ds }
 
     rows_with_member_types : (ns : List ℕ) → map with_member_type (map (row_before (length ss)) ns) ≡ map (row_of ss) ns
     rows_with_member_types [] = refl
@@ -192,31 +192,31 @@ module _ {A : Type 0} (g : A → A) where
 
 -- A symbol with the type of a member without one.
 module _ (x : Symbol) where
-  member_type : (o : Option ChoiceId) → true ≡ is_some o → (if is_some (mode_view o) then Some kind.Bool else None) ≡ Some kind.Bool
+  member_type : (o : Option ChoiceId) → true ≡ is_some o → (if is_some (mode_view o) then Some symbol_type.Bool else None) ≡ Some symbol_type.Bool
   member_type None h = absurd cc
   member_type (Some k) h = refl
 
-  no_type : (o : Option ChoiceId) → false ≡ is_some o → (if is_some (mode_view o) then Some kind.Bool else None) ≡ None
+  no_type : (o : Option ChoiceId) → false ≡ is_some o → (if is_some (mode_view o) then Some symbol_type.Bool else None) ≡ None
   no_type None h = refl
   no_type (Some k) h = absurd cc
 
-  kind_stays : (k : Kind) → first_kind k None ≡ k
-  kind_stays kind.Undefined = refl
-  kind_stays kind.Bool = refl
-  kind_stays kind.Tristate = refl
-  kind_stays kind.Str = refl
-  kind_stays kind.Int = refl
-  kind_stays kind.Hex = refl
+  type_stays : (k : SymbolType) → first_given_type k None ≡ k
+  type_stays symbol_type.Undefined = refl
+  type_stays symbol_type.Bool = refl
+  type_stays symbol_type.Tristate = refl
+  type_stays symbol_type.Str = refl
+  type_stays symbol_type.Int = refl
+  type_stays symbol_type.Hex = refl
 
-  pub member_gets_type : (k : Kind) → true ≡ is_some x.choice → k ≡ first_kind x.kind (Some kind.Bool) → row_view (record x { kind = k }) ≡ with_member_type (row_view x)
+  pub member_gets_type : (k : SymbolType) → true ≡ is_some x.choice → k ≡ first_given_type x.symbol_type (Some symbol_type.Bool) → row_view (record x { symbol_type = k }) ≡ with_member_type (row_view x)
   member_gets_type k h e =
-      let type = e ∙ ap (first_kind x.kind) (sym (member_type x.choice h)) in
-      λ i. record (row_view x) { kind = type i }
+      let type = e ∙ ap (first_given_type x.symbol_type) (sym (member_type x.choice h)) in
+      λ i. record (row_view x) { symbol_type = type i }
 
   pub other_keeps_type : false ≡ is_some x.choice → with_member_type (row_view x) ≡ row_view x
   other_keeps_type h =
-      let type = ap (first_kind x.kind) (no_type x.choice h) ∙ kind_stays x.kind in
-      λ i. record (row_view x) { kind = type i }
+      let type = ap (first_given_type x.symbol_type) (no_type x.choice h) ∙ type_stays x.symbol_type in
+      λ i. record (row_view x) { symbol_type = type i }
 
 -- what stands at a place does not depend on what stands past the end
 pub same_item : {A : Type 0} (xs : List A) (i : ℕ) (a b : A) → i < length xs → a ≡ get_or xs i a → b ≡ get_or xs i b → a ≡ b

@@ -61,7 +61,7 @@ pub record AreRest (old new : EntryWalk) : Type 0 where
   pub definitions : new.tables.definitions ≡ old.tables.definitions
   pub defaults : new.tables.defaults ≡ old.tables.defaults
   pub ranges : new.tables.ranges ≡ old.tables.ranges
-  pub reverses : new.tables.reverses ≡ old.tables.reverses
+  pub selector_rows : new.tables.selector_rows ≡ old.tables.selector_rows
   pub choices : new.tables.choices ≡ old.tables.choices
   pub main_menu : new.main_menu ≡ old.main_menu
 
@@ -86,7 +86,7 @@ module _ (ss : List Numbered) (symbols : List Symbol) (i : ℕ) (head : Numbered
         definitions = r.definitions;
         defaults = r.defaults;
         ranges = r.ranges;
-        reverses = r.reverses;
+        selector_rows = r.selector_rows;
         blocks = blocks;
         choices = choices_say_same ss i head own h symbols old new g r.choices ∙ w.choices ∙ sym (no_choice_passed ss i head own h q.symbol symbols q.choice);
         few_choices = (let e : length new.tables.choices.items ≡ length old.tables.choices.items = ap (λ v. length v.items) r.choices in omega arith);

@@ -16,13 +16,13 @@ use Rattle.kc_tree.specs.declared.rows.Definition.{Definition}
 use Rattle.kc_tree.specs.declared.rows.ShownEntry.{ShownEntry}
 use Rattle.kc_tree.specs.declared.rows.Symbol.{Symbol}
 use Rattle.kc_tree.specs.declared.rows.Title.{Title}
-use Rattle.kc_tree.specs.declared.reverses.Reverses.{Reverses}
+use Rattle.kc_tree.specs.declared.selector_rows.SelectorRows.{SelectorRows}
 use Rattle.kc_tree.specs.Layouts.{choice_facts as choice_in, definition_facts, shown_of}
 use Rattle.kc_tree.specs.TreeFacts.{Guarded, Shown, SymbolShown, EndShown}
 use Rattle.kc_build.specs.Before.{choice_before, choices_before, definitions_before, entries_before, impliers_before, main_menu_before, members_before, selectors_before}
 use Rattle.kc_build.specs.Facts.{can_be_target, choice_number, shown_at, shown_number, imply_of, shows_entry, is_first_definition, naming_at, of_block, enclosing_block, select_of, symbol_at, symbol_of, title_of}
 use Rattle.kc_build.specs.SymbolRows.{AreMenusOpened}
-use Rattle.kc_build.specs.ReverseRows.{HaveSources}
+use Rattle.kc_build.specs.SelectorRows.{HaveSources}
 use Rattle.kc_build.specs.WalkResult.{AreRowsThere, IsEntryThere, IsSmall, IsSpanBelow, IsTitleThere}
 use Rattle.kc_build.specs.Stacks.{AreOpen}
 use Rattle.kc_build.specs.Walks.{IsHead, IsWalk, index_after}
@@ -148,7 +148,7 @@ module _ (ss : List Numbered) (i : ℕ) (head : Numbered) (own : List Numbered) 
       pub definitions : new.tables.definitions ≡ old.tables.definitions
       pub defaults : new.tables.defaults ≡ old.tables.defaults
       pub ranges : new.tables.ranges ≡ old.tables.ranges
-      pub reverses : new.tables.reverses ≡ old.tables.reverses
+      pub selector_rows : new.tables.selector_rows ≡ old.tables.selector_rows
       pub blocks : AreOpen ss (suc i) new.tables.contexts new.blocks
       pub choices : map (choice_in new.tables) new.tables.choices.items ≡ choices_before ss symbols (index_after i own)
       pub few_choices : length new.tables.choices.items ≤ length old.tables.choices.items + 1
@@ -199,8 +199,8 @@ module _ (ss : List Numbered) (i : ℕ) (head : Numbered) (own : List Numbered) 
             (w.rows.defaults k d (sym (ap (λ (l : List Definition). slice_get l k) same_definitions) ∙ e));
         ranges = λ k d e. subst (λ (n : ℕ). IsSpanBelow n d.ranges) (sym (ap (λ v. length v.items) p.ranges))
             (w.rows.ranges k d (sym (ap (λ (l : List Definition). slice_get l k) same_definitions) ∙ e));
-        sources = subst (λ (n : ℕ). HaveSources n new.tables.reverses.lines.items) (sym (ap length same_definitions))
-            (subst (λ (r : Reverses). HaveSources (length old.tables.definitions.items) r.lines.items) (sym p.reverses) w.rows.sources);
+        sources = subst (λ (n : ℕ). HaveSources n new.tables.selector_rows.lines.items) (sym (ap length same_definitions))
+            (subst (λ (r : SelectorRows). HaveSources (length old.tables.definitions.items) r.lines.items) (sym p.selector_rows) w.rows.sources);
         titles = subst (All (IsTitleThere new.tables.contexts)) (sym p.titles)
             (All-append (IsTitleThere new.tables.contexts) old.tables.titles.items p.titles_more
             (titles_stay old.tables.contexts new.tables.contexts old.tables.titles.items p.contexts.longer w.rows.titles) p.titles_there);
@@ -216,8 +216,8 @@ module _ (ss : List Numbered) (i : ℕ) (head : Numbered) (own : List Numbered) 
         definitions = (let a = w.small.definitions in let b = ap length same_definitions in omega arith);
         defaults = (let a = w.small.defaults in let b : length new.tables.defaults.items ≡ length old.tables.defaults.items = ap (λ v. length v.items) p.defaults in omega arith);
         ranges = (let a = w.small.ranges in let b : length new.tables.ranges.items ≡ length old.tables.ranges.items = ap (λ v. length v.items) p.ranges in omega arith);
-        lines = (let a = w.small.lines in let b : length new.tables.reverses.lines.items ≡ length old.tables.reverses.lines.items =
-            ap (λ (r : Reverses). length r.lines.items) p.reverses in omega arith);
+        lines = (let a = w.small.lines in let b : length new.tables.selector_rows.lines.items ≡ length old.tables.selector_rows.lines.items =
+            ap (λ (r : SelectorRows). length r.lines.items) p.selector_rows in omega arith);
         titles = (let a = w.small.titles in let b = more_titles in let c = p.few_titles in omega arith);
         entries = (let a = w.small.entries in let b = more_entries in let c = p.few_entries in omega arith);
         choices = (let a = w.small.choices in let b = p.few_choices in omega arith);
@@ -227,15 +227,15 @@ module _ (ss : List Numbered) (i : ℕ) (head : Numbered) (own : List Numbered) 
       walk_passes = record {
         blocks = open_moves ss (suc i) after new.tables.contexts new.blocks (enclosing_passed ss i head own h) p.blocks;
         definitions = definitions_now;
-        selectors = λ s l. selectors_same old.tables new.tables p.reverses same_definitions say_same s ∙ w.selectors s l ∙ sym (selectors_stay none (symbol s));
-        impliers = λ s l. impliers_same old.tables new.tables p.reverses same_definitions say_same s ∙ w.impliers s l ∙ sym (impliers_stay none (symbol s));
+        selectors = λ s l. selectors_same old.tables new.tables p.selector_rows same_definitions say_same s ∙ w.selectors s l ∙ sym (selectors_stay none (symbol s));
+        impliers = λ s l. impliers_same old.tables new.tables p.selector_rows same_definitions say_same s ∙ w.impliers s l ∙ sym (impliers_stay none (symbol s));
         choices = p.choices;
         entries = entries_now;
         main_menu = p.main_menu;
         heads = record {
-          selects = ap (λ (r : Reverses). length r.selects.items) p.reverses
+          selects = ap (λ (r : SelectorRows). length r.selects.items) p.selector_rows
               ∙ w.heads.selects;
-          implies = ap (λ (r : Reverses). length r.implies.items) p.reverses ∙ w.heads.implies;
+          implies = ap (λ (r : SelectorRows). length r.implies.items) p.selector_rows ∙ w.heads.implies;
         };
         rows = rows_now;
         small = small_now;

@@ -8,10 +8,10 @@ use Rattle.std.proofs.lemmas.List.Elements.{All-nil, All-cons, All-head, All-fro
 use Rattle.std.proofs.lemmas.Option.{slice_get-map, slice_get_within}
 use Rattle.kc_expr.specs.declared.expression.SymId.{SymId}
 use Rattle.kc_expr.specs.Names.{AreDistinct, number_of, same_name, symbol}
-use Rattle.kc_expr.specs.Order.{stands_in}
+use Rattle.kc_expr.specs.DistinctSymbols.{stands_in}
 use Rattle.kc_expr.specs.Grammar.{if_word, is_tristate_constant}
 use Rattle.kc_expr.proofs.NamesLemmas.{same_name-refl}
-use Rattle.kc_expr.specs.declared.expression.Kind.TheVariants as kind
+use Rattle.kc_expr.specs.declared.expression.SymbolType.TheVariants as symbol_type
 use Rattle.kc_read.specs.declared.refusal.Code.{Code}
 use Rattle.kc_read.specs.declared.refusal.Code.TheVariants as code
 use Rattle.kc_read.specs.declared.statement.Block.TheVariants as block
@@ -25,7 +25,7 @@ use Rattle.kc_read.proofs.NameLemmas.{known_at}
 use Rattle.kc_read.specs.Statements.{Named, Numbered, Located, statements}
 use Rattle.kc_tree.specs.TreeFacts.{Condition, EndShown, MenuShown, SymbolFacts, TreeFacts, IsMentioned, IsSymbolName, IsWellFormed}
 use Rattle.kc_tree.specs.Common.{listed}
-use Rattle.kc_build.specs.Facts.{entries, enclosing_choice, choice_of, kind_of, of_block, symbol_facts, indices}
+use Rattle.kc_build.specs.Facts.{entries, enclosing_choice, choice_of, type_of, of_block, symbol_facts, indices}
 use Rattle.kc_build.specs.Trees.{facts_with, modules_symbol, symbol_if}
 use Rattle.kc_build.specs.FirstDefinitions.{is_first_definition_at}
 use Rattle.kc_build.specs.Warnings.{bad_members, bad_defaults, is_bad_member, entry_name, whole_list_refusals, menu_entry_at, entry_symbol, refused_at}
@@ -102,7 +102,7 @@ module _ (names : List (List ℕ)) (ls : List (Located Numbered)) where
   numbered = map (λ l. l.statement) ls
 
   abbrev bad_at : ℕ → Option Numbered → Bool
-  bad_at i o = list_any (is_bad_member (kind_of numbered) (choice_of numbered) (is_first_definition_at numbered i) (enclosing_choice numbered i)) (listed o)
+  bad_at i o = list_any (is_bad_member (type_of numbered) (choice_of numbered) (is_first_definition_at numbered i) (enclosing_choice numbered i)) (listed o)
 
   not_refused : (c : Code) (i : ℕ) → bad_at i (slice_get numbered i) ≡ true → refused_at names ls c i ≡ [] → ⊥
   not_refused c i h n =
@@ -186,8 +186,8 @@ module _ (ls : List (Located Named)) where
       let within : s.0 < length names = (let l = slice_get_within whole.symbols s.0 f h in let n = count_is in omega arith) in
       (let e = sym (facts_at names (numbered_lines ls) s.0 within) ∙ h in cc)
 
-  typed : (s : SymId) (f : SymbolFacts) → slice_get whole.symbols s.0 ≡ Some f → f.kind ≢ kind.Undefined → Contains whole.defined s
-  typed s f h k = typed_is_defined line_statements s (λ e. k (sym (ap (λ (g : SymbolFacts). g.kind) (facts_are s f h)) ∙ e))
+  typed : (s : SymId) (f : SymbolFacts) → slice_get whole.symbols s.0 ≡ Some f → f.symbol_type ≢ symbol_type.Undefined → Contains whole.defined s
+  typed s f h k = typed_is_defined line_statements s (λ e. k (sym (ap (λ (g : SymbolFacts). g.symbol_type) (facts_are s f h)) ∙ e))
 
   prompted : (s : SymId) (f : SymbolFacts) → slice_get whole.symbols s.0 ≡ Some f → 0 < length f.prompts → Contains whole.defined s
   prompted s f h l = prompted_is_defined line_statements s (let n = ap (λ (g : SymbolFacts). length g.prompts) (facts_are s f h) in omega (arith, n, l))

@@ -3,26 +3,26 @@ use Rattle.std.specs.Prelude.{ℕ, List, [], ◌∷◌, ◌++◌, length, take, 
 use Rattle.std.specs.Option.{option_and_then}
 use Rattle.std.specs.List.{filter_map, flat_map, list_any}
 use Rattle.kc_expr.specs.declared.expression.SymId.{SymId}
-use Rattle.kc_expr.specs.declared.expression.Kind.{Kind}
-use Rattle.kc_expr.specs.declared.expression.Kind.TheVariants as kind
+use Rattle.kc_expr.specs.declared.expression.SymbolType.{SymbolType}
+use Rattle.kc_expr.specs.declared.expression.SymbolType.TheVariants as symbol_type
 use Rattle.kc_expr.specs.Form.{Form, Symbol, Single}
 use Rattle.kc_read.specs.declared.statement.Block.{Block}
 use Rattle.kc_read.specs.declared.statement.Block.TheVariants as block
 use Rattle.kc_read.specs.Statements.{Numbered, InputPrompt, ConfigLine, IfLine, CommentLine, MenuLine, EndMenuLine, MainMenuLine, TypeLine, PromptLine, DefaultLine, DefLine, DependsLine, VisibleLine, SelectLine, ImplyLine, RangeLine}
 use Rattle.kc_expr.specs.Names.{same_symbol}
-use Rattle.kc_expr.specs.Order.{added}
+use Rattle.kc_expr.specs.DistinctSymbols.{added}
 use Rattle.kc_tree.specs.Common.{listed, is_symbol_of}
 use Rattle.kc_tree.specs.TreeFacts.{Condition, Guarded, Bounds, SymbolFacts, ChoiceFacts, Shown, SymbolShown, MenuShown, EndShown, CommentShown}
 use Rattle.kc_read.specs.Blocks.{numbers, last_of, enclosing, attributes, definitions, bracket_at, opened}
 
-abbrev pub same_kind : Kind → Kind → Bool
-same_kind kind.Undefined kind.Undefined = true
-same_kind kind.Bool kind.Bool = true
-same_kind kind.Tristate kind.Tristate = true
-same_kind kind.Str kind.Str = true
-same_kind kind.Int kind.Int = true
-same_kind kind.Hex kind.Hex = true
-same_kind _ _ = false
+abbrev pub same_type : SymbolType → SymbolType → Bool
+same_type symbol_type.Undefined symbol_type.Undefined = true
+same_type symbol_type.Bool symbol_type.Bool = true
+same_type symbol_type.Tristate symbol_type.Tristate = true
+same_type symbol_type.Str symbol_type.Str = true
+same_type symbol_type.Int symbol_type.Int = true
+same_type symbol_type.Hex symbol_type.Hex = true
+same_type _ _ = false
 
 abbrev pub first_of : {A : Type 0} → List A → Option A
 first_of xs = slice_get xs 0
@@ -36,10 +36,10 @@ abbrev pub visible_form : Numbered → Option Form
 visible_form (VisibleLine e) = Some e
 visible_form _ = None
 
-abbrev pub type_of : Numbered → Option Kind
-type_of (TypeLine k p) = Some k
-type_of (DefLine k v w) = Some k
-type_of _ = None
+abbrev pub stated_type : Numbered → Option SymbolType
+stated_type (TypeLine k p) = Some k
+stated_type (DefLine k v w) = Some k
+stated_type _ = None
 
 abbrev pub prompt_of : Numbered → Option (InputPrompt Form)
 prompt_of (TypeLine k p) = p
@@ -93,16 +93,16 @@ if_condition (Some (IfLine e)) = e ∷ []
 if_condition _ = []
 
 -- a select or an imply of a symbol of this type has an effect
-abbrev pub is_selectable : Kind → Bool
-is_selectable kind.Undefined = true
-is_selectable kind.Bool = true
-is_selectable kind.Tristate = true
-is_selectable kind.Str = false
-is_selectable kind.Int = false
-is_selectable kind.Hex = false
+abbrev pub is_selectable : SymbolType → Bool
+is_selectable symbol_type.Undefined = true
+is_selectable symbol_type.Bool = true
+is_selectable symbol_type.Tristate = true
+is_selectable symbol_type.Str = false
+is_selectable symbol_type.Int = false
+is_selectable symbol_type.Hex = false
 
 -- a type whose value is a text
-abbrev pub has_text : Kind → Bool
+abbrev pub has_text : SymbolType → Bool
 has_text k = if is_selectable k then false else true
 
 -- the condition of a line that selects t; that implies t
@@ -196,11 +196,11 @@ module _ (ss : List Numbered) where
   choice_of s = first_of (filter_map enclosing_choice (definitions_of s))
 
   -- its first type, and Bool for a member without one
-  abbrev pub kind_of : SymId → Kind
-  kind_of s = unwrap_or (first_of (filter_map type_of (attributes_of s))) (if is_some (choice_of s) then kind.Bool else kind.Undefined)
+  abbrev pub type_of : SymId → SymbolType
+  type_of s = unwrap_or (first_of (filter_map stated_type (attributes_of s))) (if is_some (choice_of s) then symbol_type.Bool else symbol_type.Undefined)
 
   abbrev pub can_be_target : SymId → Bool
-  can_be_target t = is_none (choice_of t) && is_selectable (kind_of t)
+  can_be_target t = is_none (choice_of t) && is_selectable (type_of t)
 
   abbrev pub guarded_symbol : ℕ → SymId → Option Form → Guarded SymId
   guarded_symbol i s w = record { what = s; when = line_condition i w }
@@ -217,7 +217,7 @@ module _ (ss : List Numbered) where
 
   abbrev pub symbol_facts : SymId → SymbolFacts
   symbol_facts s = record {
-    kind = kind_of s;
+    symbol_type = type_of s;
     choice = choice_of s;
     dependencies = map dependency (definitions_of s);
     prompts = filter_map prompt_at (definitions_of s);

@@ -11,7 +11,7 @@ pub mod Limits
 pub mod Listings
 pub mod Odd
 pub mod Passes
-pub mod ReverseRows
+pub mod SelectorRows
 pub mod Scopes
 pub mod WalkResult
 pub mod Stacks

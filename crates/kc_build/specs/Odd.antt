@@ -1,8 +1,8 @@
 -- For proofs: Lines about which there may be a diagnostic, by a test that costs little.
 use Rattle.std.specs.Prelude.{List, ◌||◌, ◌&&◌, Bool, true, false, is_some, not}
 use Rattle.std.specs.List.{list_any}
-use Rattle.kc_expr.specs.declared.expression.Kind.{Kind}
-use Rattle.kc_expr.specs.declared.expression.Kind.TheVariants as kind
+use Rattle.kc_expr.specs.declared.expression.SymbolType.{SymbolType}
+use Rattle.kc_expr.specs.declared.expression.SymbolType.TheVariants as symbol_type
 use Rattle.kc_expr.specs.declared.expression.SymId.{SymId}
 use Rattle.kc_expr.specs.Form.{Form}
 use Rattle.kc_read.specs.Statements.{Numbered, ConfigLine, TypeLine, PromptLine, DefaultLine, DefLine, SelectLine, ImplyLine}
@@ -10,22 +10,22 @@ use Rattle.kc_tree.specs.Common.{listed}
 use Rattle.kc_tree.specs.declared.rows.Symbol.{Symbol}
 use Rattle.kc_build.specs.declared.diagnostics.EntrySummary.{EntrySummary}
 use Rattle.kc_build.specs.declared.diagnostics.MenuEntry.{MenuEntry}
-use Rattle.kc_build.specs.Facts.{has_text, is_single, same_kind}
-use Rattle.kc_build.specs.SymbolRows.{choice_by, kind_by}
+use Rattle.kc_build.specs.Facts.{has_text, is_single, same_type}
+use Rattle.kc_build.specs.SymbolRows.{choice_by, type_by}
 use Rattle.kc_build.specs.Warnings.{entry_choice, entry_symbol}
 
 module _ (symbols : List Symbol) where
-  abbrev pub is_other_type : MenuEntry → Kind → Bool
-  is_other_type o k = list_any (λ t. not (same_kind k (kind_by symbols t))) (listed (entry_symbol o))
+  abbrev pub is_other_type : MenuEntry → SymbolType → Bool
+  is_other_type o k = list_any (λ t. not (same_type k (type_by symbols t))) (listed (entry_symbol o))
 
   abbrev pub is_odd_default : MenuEntry → Form → Bool
-  is_odd_default o v = is_some (entry_choice o) || (list_any (λ t. has_text (kind_by symbols t)) (listed (entry_symbol o)) && not (is_single v))
+  is_odd_default o v = is_some (entry_choice o) || (list_any (λ t. has_text (type_by symbols t)) (listed (entry_symbol o)) && not (is_single v))
 
   abbrev pub is_odd_target : SymId → Bool
-  is_odd_target t = is_some (choice_by symbols t) || has_text (kind_by symbols t)
+  is_odd_target t = is_some (choice_by symbols t) || has_text (type_by symbols t)
 
   abbrev pub is_odd_head : EntrySummary → Numbered → Bool
-  is_odd_head p (ConfigLine t) = is_some (choice_by symbols t) || (is_some p.within_choice || same_kind (kind_by symbols t) kind.Undefined)
+  is_odd_head p (ConfigLine t) = is_some (choice_by symbols t) || (is_some p.within_choice || same_type (type_by symbols t) symbol_type.Undefined)
   is_odd_head p _ = true
 
   abbrev pub is_odd_attribute : MenuEntry → Bool → Numbered → Bool

@@ -6,7 +6,7 @@ use Rattle.kc_expr.specs.Form.{Form, Leaf, form_of, leaf_of}
 use Rattle.kc_build.specs.declared.lines.StatedDefault.{StatedDefault}
 use Rattle.kc_build.specs.declared.lines.Target.{Target}
 use Rattle.kc_build.specs.declared.lines.Range.{Range}
-use Rattle.kc_build.specs.declared.lines.ReverseKind.{ReverseKind}
+use Rattle.kc_build.specs.declared.lines.SelectOrImply.{SelectOrImply}
 use Rattle.kc_build.specs.Facts as spec
 use Rattle.kc_read.specs.declared.entries.AttributeLine.{AttributeLine}
 use Rattle.kc_read.specs.declared.entries.Entries.{Entries}
@@ -25,8 +25,8 @@ abbrev pub stated_default_view : StatedDefault → spec.StatedDefault
 stated_default_view g = record { value = form_of g.value.now.value; when = option_map (λ e. form_of e.now.value) g.when }
 
 -- a line that selects or implies: which, whom, when
-abbrev pub target_view : Target → ReverseKind × SymId × Option Form
-target_view t = (t.kind, t.symbol, option_map (λ e. form_of e.now.value) t.when)
+abbrev pub target_view : Target → SelectOrImply × SymId × Option Form
+target_view t = (t.word, t.symbol, option_map (λ e. form_of e.now.value) t.when)
 
 abbrev pub range_view : Range → Leaf × Leaf × Option Form
 range_view r = (leaf_of r.low.now, leaf_of r.high.now, option_map (λ e. form_of e.now.value) r.when)

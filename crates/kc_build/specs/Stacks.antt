@@ -4,7 +4,7 @@ use Rattle.std.specs.Option.{option_map}
 use Rattle.kc_expr.specs.Form.{Form}
 use Rattle.kc_read.specs.Blocks.{enclosing}
 use Rattle.kc_read.specs.Statements.{Numbered, ChoiceLine}
-use Rattle.kc_tree.specs.Contexts.{IsPlain, condition_in}
+use Rattle.kc_tree.specs.Contexts.{HasNoMode, condition_in}
 use Rattle.kc_build.specs.Facts.{shown_number, enclosing_block}
 use Rattle.kc_build.specs.Scopes.{scope_at}
 use Rattle.kc_tree.specs.TreeFacts.{Condition}
@@ -58,8 +58,8 @@ AreBlocksWithin conditions blocks = (j : ℕ) (b : BlockScope) → slice_get (op
 abbrev pub AreBlocksVisible : List Condition → Blocks → Type 0
 AreBlocksVisible conditions blocks = (j : ℕ) (b : BlockScope) → slice_get (open_scopes blocks) j ≡ Some b → b.visible.0 < length conditions
 
-abbrev pub AreBlocksPlain : List Condition → Blocks → Type 0
-AreBlocksPlain conditions blocks = (j : ℕ) (b : BlockScope) → slice_get (open_scopes blocks) j ≡ Some b → IsPlain conditions b.visible.0
+abbrev pub AreBlocksModeless : List Condition → Blocks → Type 0
+AreBlocksModeless conditions blocks = (j : ℕ) (b : BlockScope) → slice_get (open_scopes blocks) j ≡ Some b → HasNoMode conditions b.visible.0
 
 -- what the enclosing menus of a title ask of what is visible is there
 abbrev pub AreTitlesWithin : List Condition → List Title → Type 0
@@ -70,6 +70,6 @@ abbrev pub IsTopEmpty : List Condition → Type 0
 IsTopEmpty conditions = length (condition_in conditions 0).conjuncts ≡ 0
 
 -- a choice begins where no mode counts
-abbrev pub IsPlainHead : Numbered → Option ℕ → Type 0
-IsPlainHead ChoiceLine mode = mode ≡ None
-IsPlainHead _ mode = Unit {0}
+abbrev pub IsModelessHead : Numbered → Option ℕ → Type 0
+IsModelessHead ChoiceLine mode = mode ≡ None
+IsModelessHead _ mode = Unit {0}

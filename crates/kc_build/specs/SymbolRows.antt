@@ -3,8 +3,8 @@ use Rattle.std.specs.Prelude.{◌≡◌, ℕ, ◌<◌, List, map, length, Option
 use Rattle.std.specs.List.{filter_map, list_any}
 use Rattle.std.specs.Option.{option_and_then}
 use Rattle.kc_expr.specs.declared.expression.SymId.{SymId}
-use Rattle.kc_expr.specs.declared.expression.Kind.{Kind}
-use Rattle.kc_expr.specs.declared.expression.Kind.TheVariants as kind
+use Rattle.kc_expr.specs.declared.expression.SymbolType.{SymbolType}
+use Rattle.kc_expr.specs.declared.expression.SymbolType.TheVariants as symbol_type
 use Rattle.kc_expr.specs.Names.{symbol}
 use Rattle.kc_read.specs.Blocks.{numbers}
 use Rattle.kc_read.specs.Statements.{Numbered, ChoiceLine, EndMenuLine}
@@ -14,7 +14,7 @@ use Rattle.kc_tree.specs.declared.rows.DefinitionId.{DefinitionId}
 use Rattle.kc_tree.specs.declared.rows.Symbol.{Symbol}
 use Rattle.kc_build.specs.declared.warning.Warning.{Warning}
 use Rattle.kc_tree.specs.Common.{listed}
-use Rattle.kc_build.specs.Facts.{kind_of, choice_of, enclosing_choice, definitions_of, stated_default, enclosing_block, single_symbol, symbol_at, is_selectable, type_of}
+use Rattle.kc_build.specs.Facts.{type_of, choice_of, enclosing_choice, definitions_of, stated_default, enclosing_block, single_symbol, symbol_at, is_selectable, stated_type}
 use Rattle.kc_build.specs.FirstDefinitions.{is_first_definition_at}
 use Rattle.kc_tree.specs.Spans.{definition_ids}
 use Rattle.kc_build.specs.Warnings.{menu_entry_at, line_warnings_by}
@@ -25,7 +25,7 @@ AreBelow count ss = (i : ℕ) (s : SymId) → symbol_at ss i ≡ Some s → s.0 
 
 -- no line gives the type that stands for none
 abbrev pub AreTypesDefined : List Numbered → Type 0
-AreTypesDefined ss = (i : ℕ) (s : Numbered) → slice_get ss i ≡ Some s → type_of s ≡ Some kind.Undefined → ⊥
+AreTypesDefined ss = (i : ℕ) (s : Numbered) → slice_get ss i ≡ Some s → stated_type s ≡ Some symbol_type.Undefined → ⊥
 
 -- no choice stands in another one
 abbrev pub AreChoicesApart : List Numbered → Type 0
@@ -37,13 +37,13 @@ AreMenusOpened ss = (i : ℕ) → slice_get ss i ≡ Some EndMenuLine → is_som
 
 -- What the first walk finds of a symbol: its type, its choice and the numbers of its definitions.
 pub record SymbolRow : Type 0 where
-  pub kind : Kind
+  pub symbol_type : SymbolType
   pub choice : Option ℕ
   pub definitions : List ℕ
 
 abbrev pub row_view : Symbol → SymbolRow
 row_view s = record {
-  kind = s.kind;
+  symbol_type = s.symbol_type;
   choice = option_map (λ (k : ChoiceId). k.0) s.choice;
   definitions = map (λ (d : DefinitionId). d.0) (definition_ids s);
 }
@@ -55,7 +55,7 @@ definition_number ss i = length (filter_map (symbol_at ss) (numbers i))
 -- the same, of the symbol with a number in a list of statements
 abbrev pub row_of : List Numbered → ℕ → SymbolRow
 row_of ss s = record {
-  kind = kind_of ss (symbol s);
+  symbol_type = type_of ss (symbol s);
   choice = choice_of ss (symbol s);
   definitions = map (definition_number ss) (definitions_of ss (symbol s));
 }
@@ -74,8 +74,8 @@ pub record HasSymbols (ss : List Numbered) (symbols : List Symbol) : Type 0 wher
 abbrev pub choice_by : List Symbol → SymId → Option ℕ
 choice_by symbols s = option_and_then (λ (f : Symbol). option_map (λ (c : ChoiceId). c.0) f.choice) (slice_get symbols s.0)
 
-abbrev pub kind_by : List Symbol → SymId → Kind
-kind_by symbols s = unwrap_or (option_map (λ (f : Symbol). f.kind) (slice_get symbols s.0)) kind.Undefined
+abbrev pub type_by : List Symbol → SymId → SymbolType
+type_by symbols s = unwrap_or (option_map (λ (f : Symbol). f.symbol_type) (slice_get symbols s.0)) symbol_type.Undefined
 
 -- the symbol is a member of the choice, by the same
 abbrev pub member_by : List Symbol → ℕ → SymId → Bool
@@ -83,7 +83,7 @@ member_by symbols c s = list_any (λ d. d == c) (listed (choice_by symbols s))
 
 -- selecting or implying the symbol has an effect, by the same
 abbrev pub can_be_target : List Symbol → SymId → Bool
-can_be_target symbols s = nat_lt s.0 (length symbols) && (is_none (choice_by symbols s) && is_selectable (kind_by symbols s))
+can_be_target symbols s = nat_lt s.0 (length symbols) && (is_none (choice_by symbols s) && is_selectable (type_by symbols s))
 
 -- the first definition of a symbol has this number, by the same
 abbrev pub first_by : List Symbol → SymId → ℕ → Bool
@@ -97,7 +97,7 @@ pub record IsEntrySummary (ss : List Numbered) (i : ℕ) (p : EntrySummary) : Ty
 
 -- the warnings about a line, by what is known of the symbols and by the summary of its entry
 abbrev pub line_warnings_in : List Symbol → EntrySummary → Bool → Numbered → List Warning
-line_warnings_in symbols p prompted = line_warnings_by (kind_by symbols) (choice_by symbols) (member_by symbols) p.entry prompted p.first
+line_warnings_in symbols p prompted = line_warnings_by (type_by symbols) (choice_by symbols) (member_by symbols) p.entry prompted p.first
 
 -- the symbol that a default names alone
 abbrev pub default_symbol : Numbered → Option SymId

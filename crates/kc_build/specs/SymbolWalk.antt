@@ -1,8 +1,8 @@
 -- For proofs: The first walk, entry by entry.
 use Rattle.std.specs.Prelude.{◌≡◌, ℕ, ◌+◌, List, [], ◌∷◌, ◌++◌, map, if◌then◌else◌, is_some, Option, Some, None, slice_get, unwrap_or}
 use Rattle.std.specs.Option.{option_or}
-use Rattle.kc_expr.specs.declared.expression.Kind.{Kind}
-use Rattle.kc_expr.specs.declared.expression.Kind.TheVariants as kind
+use Rattle.kc_expr.specs.declared.expression.SymbolType.{SymbolType}
+use Rattle.kc_expr.specs.declared.expression.SymbolType.TheVariants as symbol_type
 use Rattle.kc_expr.specs.declared.expression.SymId.{SymId}
 use Rattle.kc_read.specs.Blocks.{enclosing}
 use Rattle.kc_read.specs.Statements.{Numbered}
@@ -14,27 +14,27 @@ use Rattle.kc_build.specs.Passes.{changed}
 
 -- a symbol of which nothing is known
 abbrev pub unknown : SymbolRow
-unknown = record { kind = kind.Undefined; choice = None; definitions = [] }
+unknown = record { symbol_type = symbol_type.Undefined; choice = None; definitions = [] }
 
-abbrev pub first_kind : Kind → Option Kind → Kind
-first_kind kind.Undefined found = unwrap_or found kind.Undefined
-first_kind k found = k
+abbrev pub first_given_type : SymbolType → Option SymbolType → SymbolType
+first_given_type symbol_type.Undefined found = unwrap_or found symbol_type.Undefined
+first_given_type k found = k
 
 -- with one definition more
-abbrev pub with_definition : ℕ → Option Kind → Option ℕ → SymbolRow → SymbolRow
-with_definition id kind choice r = record {
-  kind = first_kind r.kind kind;
+abbrev pub with_definition : ℕ → Option SymbolType → Option ℕ → SymbolRow → SymbolRow
+with_definition id symbol_type choice r = record {
+  symbol_type = first_given_type r.symbol_type symbol_type;
   choice = option_or r.choice choice;
   definitions = r.definitions ++ id ∷ [];
 }
 
 -- the same, in the list of all
-abbrev pub noted : ℕ → Option Kind → Option ℕ → SymId → List SymbolRow → List SymbolRow
-noted id kind choice s = changed (with_definition id kind choice) (Some s)
+abbrev pub reported : ℕ → Option SymbolType → Option ℕ → SymId → List SymbolRow → List SymbolRow
+reported id symbol_type choice s = changed (with_definition id symbol_type choice) (Some s)
 
 -- a member without a type is a bool
 abbrev pub with_member_type : SymbolRow → SymbolRow
-with_member_type r = record r { kind = first_kind r.kind (if is_some r.choice then Some kind.Bool else None) }
+with_member_type r = record r { symbol_type = first_given_type r.symbol_type (if is_some r.choice then Some symbol_type.Bool else None) }
 
 abbrev pub HaveMemberTypes : List SymbolRow → List SymbolRow → Type 0
 HaveMemberTypes old new = new ≡ map with_member_type old

@@ -4,7 +4,7 @@ use Rattle.std.specs.List.{filter_map}
 use Rattle.std.specs.Option.{option_map, option_or}
 use Rattle.kc_expr.specs.declared.expression.SymId.{SymId}
 use Rattle.kc_expr.specs.Names.{same_name, symbol}
-use Rattle.kc_expr.specs.Order.{stands_in}
+use Rattle.kc_expr.specs.DistinctSymbols.{stands_in}
 use Rattle.kc_read.specs.Files.{Files}
 use Rattle.kc_read.specs.Statements.{Named, Numbered, Located, statements}
 use Rattle.kc_read.specs.Blocks.{last_of, modules_of, numbers}

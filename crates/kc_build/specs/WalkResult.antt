@@ -19,7 +19,7 @@ use Rattle.kc_build.specs.Before.{choices_before, definitions_before, entries_be
 use Rattle.kc_build.specs.Diagnosed.{diagnosis_view}
 use Rattle.kc_build.specs.Facts.{first_of}
 use Rattle.kc_tree.specs.Layouts.{choice_facts as choice_in, definition_facts, impliers_at, selectors_at, shown_of}
-use Rattle.kc_build.specs.ReverseRows.{HaveSources}
+use Rattle.kc_build.specs.SelectorRows.{HaveSources}
 use Rattle.kc_tree.specs.TreeFacts.{Condition}
 use Rattle.kc_build.specs.Warnings.{bad_defaults, bad_members, refused_at, warned_at}
 
@@ -29,7 +29,7 @@ pub record IsSmall (i : ℕ) (t : Tables) : Type 0 where
   pub definitions : length t.definitions.items ≤ i
   pub defaults : length t.defaults.items ≤ i
   pub ranges : length t.ranges.items ≤ i
-  pub lines : length t.reverses.lines.items ≤ i
+  pub lines : length t.selector_rows.lines.items ≤ i
   pub titles : length t.titles.items ≤ i
   pub entries : length t.entries.items ≤ i
   pub choices : length t.choices.items ≤ i
@@ -54,7 +54,7 @@ IsEntryThere titles entries (entry.Comment id) = id.0 < titles
 pub record AreRowsThere (t : Tables) : Type 0 where
   pub defaults : (i : ℕ) (d : Definition) → slice_get t.definitions.items i ≡ Some d → IsSpanBelow (length t.defaults.items) d.defaults
   pub ranges : (i : ℕ) (d : Definition) → slice_get t.definitions.items i ≡ Some d → IsSpanBelow (length t.ranges.items) d.ranges
-  pub sources : HaveSources (length t.definitions.items) t.reverses.lines.items
+  pub sources : HaveSources (length t.definitions.items) t.selector_rows.lines.items
   pub titles : All (IsTitleThere t.contexts) t.titles.items
   pub entries : All (IsEntryThere (length t.titles.items) (length t.entries.items)) t.entries.items
 
@@ -64,15 +64,15 @@ pub record HasRoom (n : ℕ) (t : Tables) : Type 0 where
   pub definitions : length t.definitions.items + n + 1 < 2 ^ 32
   pub defaults : length t.defaults.items + n < 2 ^ 32
   pub ranges : length t.ranges.items + n < 2 ^ 32
-  pub lines : length t.reverses.lines.items + n < 2 ^ 32
+  pub lines : length t.selector_rows.lines.items + n < 2 ^ 32
   pub titles : length t.titles.items + 1 < 2 ^ 32
   pub choices : length t.choices.items + 1 < 2 ^ 32
   pub entries : length t.entries.items + 1 < 2 ^ 32
 
 -- a last line of each kind, or none, for each symbol
 pub record HasHeads (symbols : List Symbol) (t : Tables) : Type 0 where
-  pub selects : length t.reverses.selects.items ≡ length symbols
-  pub implies : length t.reverses.implies.items ≡ length symbols
+  pub selects : length t.selector_rows.selects.items ≡ length symbols
+  pub implies : length t.selector_rows.implies.items ≡ length symbols
 
 -- what the lines before a place have against them
 pub record IsDiagnosed (names : List (List ℕ)) (ls : List (Located Numbered)) (i : ℕ) (d : Diagnostics) : Type 0 where

@@ -55,7 +55,7 @@ pub record AddsDefinition (symbol : SymId) (own : List Numbered) (old new : Entr
   pub rows : AreRowsThere old.tables → AreRowsThere new.tables
   pub defaults : length new.tables.defaults.items ≤ length old.tables.defaults.items + length own
   pub ranges : length new.tables.ranges.items ≤ length old.tables.ranges.items + length own
-  pub reverses : new.tables.reverses ≡ old.tables.reverses
+  pub selector_rows : new.tables.selector_rows ≡ old.tables.selector_rows
   pub choices : new.tables.choices ≡ old.tables.choices
   pub titles : new.tables.titles ≡ old.tables.titles
   pub entries : new.tables.entries ≡ old.tables.entries
@@ -68,7 +68,7 @@ pub record KeepsAllButChoices (old new : EntryWalk) : Type 0 where
   pub definitions : new.tables.definitions ≡ old.tables.definitions
   pub defaults : new.tables.defaults ≡ old.tables.defaults
   pub ranges : new.tables.ranges ≡ old.tables.ranges
-  pub reverses : new.tables.reverses ≡ old.tables.reverses
+  pub selector_rows : new.tables.selector_rows ≡ old.tables.selector_rows
   pub titles : new.tables.titles ≡ old.tables.titles
   pub entries : new.tables.entries ≡ old.tables.entries
   pub blocks : new.blocks ≡ old.blocks
@@ -85,7 +85,7 @@ pub record AddsTitle (text : List ℕ) (within visible : ContextId) (old new : E
   pub definitions : new.tables.definitions ≡ old.tables.definitions
   pub defaults : new.tables.defaults ≡ old.tables.defaults
   pub ranges : new.tables.ranges ≡ old.tables.ranges
-  pub reverses : new.tables.reverses ≡ old.tables.reverses
+  pub selector_rows : new.tables.selector_rows ≡ old.tables.selector_rows
   pub choices : new.tables.choices ≡ old.tables.choices
   pub entries : new.tables.entries ≡ old.tables.entries
   pub blocks : new.blocks ≡ old.blocks
@@ -103,7 +103,7 @@ pub record AddsEnd (old new : EntryWalk) : Type 0 where
   pub definitions : new.tables.definitions ≡ old.tables.definitions
   pub defaults : new.tables.defaults ≡ old.tables.defaults
   pub ranges : new.tables.ranges ≡ old.tables.ranges
-  pub reverses : new.tables.reverses ≡ old.tables.reverses
+  pub selector_rows : new.tables.selector_rows ≡ old.tables.selector_rows
   pub choices : new.tables.choices ≡ old.tables.choices
   pub titles : new.tables.titles ≡ old.tables.titles
   pub blocks : new.blocks ≡ old.blocks

@@ -2,15 +2,15 @@
 use Rattle.std.specs.Prelude.{ℕ, suc, List, [], ◌∷◌, ◌++◌, take, filter, map, reverse, Bool, false, not, ◌&&◌, ◌||◌, codes, decimal, Option, Some, None, slice_get, is_some, is_none, if◌then◌else◌, option_map, unwrap_or}
 use Rattle.std.specs.List.{flat_map, list_any, take_while}
 use Rattle.kc_expr.specs.declared.expression.SymId.{SymId}
-use Rattle.kc_expr.specs.declared.expression.Kind.{Kind}
-use Rattle.kc_expr.specs.declared.expression.Kind.TheVariants as kind
+use Rattle.kc_expr.specs.declared.expression.SymbolType.{SymbolType}
+use Rattle.kc_expr.specs.declared.expression.SymbolType.TheVariants as symbol_type
 use Rattle.kc_read.specs.declared.refusal.Code.{Code}
 use Rattle.kc_read.specs.declared.refusal.Code.TheVariants as code
 use Rattle.kc_read.specs.Statements.{Numbered, Located, ConfigLine, ChoiceLine, statements}
 use Rattle.kc_read.specs.Blocks.{numbers, last_of, is_attribute, is_no_attribute}
 use Rattle.kc_read.specs.Expansion.{Refused, refused}
-use Rattle.kc_build.specs.declared.lines.ReverseKind.{ReverseKind}
-use Rattle.kc_build.specs.declared.lines.ReverseKind.TheVariants as reverse_kind
+use Rattle.kc_build.specs.declared.lines.SelectOrImply.{SelectOrImply}
+use Rattle.kc_build.specs.declared.lines.SelectOrImply.TheVariants as select_or_imply
 use Rattle.kc_build.specs.declared.diagnostics.MenuEntry.{MenuEntry}
 use Rattle.kc_build.specs.declared.diagnostics.MenuEntry.TheVariants as menu_entry
 use Rattle.kc_build.specs.declared.warning.Warning.{Warning}
@@ -18,7 +18,7 @@ use Rattle.kc_build.specs.declared.warning.Warning.TheVariants as warning
 use Rattle.kc_build.specs.FirstDefinitions.{is_first_definition_at}
 use Rattle.kc_build.specs.Targets.{target_of}
 use Rattle.kc_tree.specs.Common.{listed, name_by}
-use Rattle.kc_build.specs.Facts.{symbol_of, kind_of, choice_of, has_text, same_kind, type_of, prompt_of, stated_default, single_symbol, is_single, is_member, choice_number, indices, enclosing_choice}
+use Rattle.kc_build.specs.Facts.{symbol_of, type_of, choice_of, has_text, same_type, stated_type, prompt_of, stated_default, single_symbol, is_single, is_member, choice_number, indices, enclosing_choice}
 
 -- something, where it holds
 abbrev pub when : {A : Type 0} → Bool → A → List A
@@ -67,23 +67,23 @@ module _ (ss : List Numbered) where
 -- The warnings about a line, by the types and choices of the symbols and by whose entry it belongs to.
 
 -- a type line whose type is not the symbol's
-abbrev pub type_redefined : (SymId → Kind) → MenuEntry → Numbered → List Warning
-type_redefined kinds o s = flat_map (λ t. flat_map (λ k. when (not (same_kind k (kinds t))) (warning.TypeRedefined t)) (listed (type_of s))) (listed (entry_symbol o))
+abbrev pub type_redefined : (SymId → SymbolType) → MenuEntry → Numbered → List Warning
+type_redefined types o s = flat_map (λ t. flat_map (λ k. when (not (same_type k (types t))) (warning.TypeRedefined t)) (listed (stated_type s))) (listed (entry_symbol o))
 
 -- a second prompt in one entry
 abbrev pub prompt_redefined : MenuEntry → Bool → Numbered → List Warning
 prompt_redefined o before s = when (is_some (prompt_of s) && before) (warning.PromptRedefined (entry_symbol o))
 
-abbrev pub has_type : Kind → Option ℕ → Bool
-has_type k c = is_some c || not (same_kind k kind.Undefined)
+abbrev pub has_type : SymbolType → Option ℕ → Bool
+has_type k c = is_some c || not (same_type k symbol_type.Undefined)
 
 -- the first definition of a symbol without a type
-abbrev pub without_type : (SymId → Kind) → (SymId → Option ℕ) → Bool → Numbered → List Warning
-without_type kinds choices first s = flat_map (λ t. when (first && not (has_type (kinds t) (choices t))) (warning.WithoutType t)) (listed (symbol_of (Some s)))
+abbrev pub without_type : (SymId → SymbolType) → (SymId → Option ℕ) → Bool → Numbered → List Warning
+without_type types choices first s = flat_map (λ t. when (first && not (has_type (types t) (choices t))) (warning.WithoutType t)) (listed (symbol_of (Some s)))
 
 -- a line that selects or implies a symbol whose value is a text
-abbrev pub text_target : (SymId → Kind) → Numbered → List Warning
-text_target kinds s = flat_map (λ t. when (has_text (kinds (t.1))) (warning.TextTarget (t.1) (t.0))) (listed (target_of s))
+abbrev pub text_target : (SymId → SymbolType) → Numbered → List Warning
+text_target types s = flat_map (λ t. when (has_text (types (t.1))) (warning.TextTarget (t.1) (t.0))) (listed (target_of s))
 
 -- a default of a choice that names no member of it
 abbrev pub default_not_member : (ℕ → SymId → Bool) → MenuEntry → Numbered → List Warning
@@ -96,37 +96,37 @@ abbrev pub member_target : (SymId → Option ℕ) → Numbered → List Warning
 member_target choices s = flat_map (λ t. when (is_some (choices (t.1))) (warning.MemberTarget (t.1) (t.0))) (listed (target_of s))
 
 -- by number
-abbrev pub line_warnings_by : (SymId → Kind) → (SymId → Option ℕ) → (ℕ → SymId → Bool) → MenuEntry → Bool → Bool → Numbered → List Warning
-line_warnings_by kinds choices members o before first s =
-    type_redefined kinds o s ++ prompt_redefined o before s ++ without_type kinds choices first s ++ text_target kinds s ++ default_not_member members o s ++ member_target choices s
+abbrev pub line_warnings_by : (SymId → SymbolType) → (SymId → Option ℕ) → (ℕ → SymId → Bool) → MenuEntry → Bool → Bool → Numbered → List Warning
+line_warnings_by types choices members o before first s =
+    type_redefined types o s ++ prompt_redefined o before s ++ without_type types choices first s ++ text_target types s ++ default_not_member members o s ++ member_target choices s
 
 abbrev pub line_warnings : List Numbered → ℕ → Numbered → List Warning
-line_warnings ss i = line_warnings_by (kind_of ss) (choice_of ss) (is_member ss) (menu_entry_at ss i) (prompt_before ss i) (is_first_definition_at ss i)
+line_warnings ss i = line_warnings_by (type_of ss) (choice_of ss) (is_member ss) (menu_entry_at ss i) (prompt_before ss i) (is_first_definition_at ss i)
 
 -- Refusals that the whole list shows.
 
 -- A second `config` line of a symbol that is a member; a `config` in a choice whose type is not bool.
-abbrev pub is_bad_member : (SymId → Kind) → (SymId → Option ℕ) → Bool → Option ℕ → Numbered → Bool
-is_bad_member kinds choices first within_choice s =
-    list_any (λ t. (is_some (choices t) && not first) || (is_some within_choice && not (same_kind (kinds t) kind.Bool))) (listed (symbol_of (Some s)))
+abbrev pub is_bad_member : (SymId → SymbolType) → (SymId → Option ℕ) → Bool → Option ℕ → Numbered → Bool
+is_bad_member types choices first within_choice s =
+    list_any (λ t. (is_some (choices t) && not first) || (is_some within_choice && not (same_type (types t) symbol_type.Bool))) (listed (symbol_of (Some s)))
 
 -- A default of a string, int or hex symbol that is no single operand; one of a choice that is no single name.
-abbrev pub is_bad_default : (SymId → Kind) → MenuEntry → Numbered → Bool
-is_bad_default kinds o s =
-    list_any (λ g. (list_any (λ t. has_text (kinds t)) (listed (entry_symbol o)) && not (is_single g.value)) ||
+abbrev pub is_bad_default : (SymId → SymbolType) → MenuEntry → Numbered → Bool
+is_bad_default types o s =
+    list_any (λ g. (list_any (λ t. has_text (types t)) (listed (entry_symbol o)) && not (is_single g.value)) ||
     (is_some (entry_choice o) && is_none (single_symbol g.value))) (listed (stated_default s))
 
 module _ (ss : List Numbered) where
   abbrev pub bad_members : List ℕ
-  bad_members = filter (λ i. list_any (is_bad_member (kind_of ss) (choice_of ss) (is_first_definition_at ss i) (enclosing_choice ss i)) (listed (slice_get ss i))) (indices ss)
+  bad_members = filter (λ i. list_any (is_bad_member (type_of ss) (choice_of ss) (is_first_definition_at ss i) (enclosing_choice ss i)) (listed (slice_get ss i))) (indices ss)
 
   abbrev pub bad_defaults : List ℕ
-  bad_defaults = filter (λ i. list_any (is_bad_default (kind_of ss) (menu_entry_at ss i)) (listed (slice_get ss i))) (indices ss)
+  bad_defaults = filter (λ i. list_any (is_bad_default (type_of ss) (menu_entry_at ss i)) (listed (slice_get ss i))) (indices ss)
 
 -- Texts.
-abbrev pub reverse_word : ReverseKind → List ℕ
-reverse_word reverse_kind.Select = codes "select"
-reverse_word reverse_kind.Imply = codes "imply"
+abbrev pub keyword_text : SelectOrImply → List ℕ
+keyword_text select_or_imply.Select = codes "select"
+keyword_text select_or_imply.Imply = codes "imply"
 
 module _ (names : List (List ℕ)) where
   -- the name of the symbol whose entry it is, or `choice`
@@ -137,9 +137,9 @@ module _ (names : List (List ℕ)) where
   text_of (warning.TypeRedefined t) = codes "K1: type of " ++ name_by names t ++ codes " redefined, the first is kept"
   text_of (warning.PromptRedefined o) = codes "K2: prompt of " ++ entry_name o ++ codes " redefined, the last is kept"
   text_of (warning.WithoutType t) = codes "K3: " ++ name_by names t ++ codes " has no type"
-  text_of (warning.TextTarget t r) = codes "K4: " ++ name_by names t ++ codes " is not bool or tristate, the " ++ reverse_word r ++ codes " has no effect"
+  text_of (warning.TextTarget t r) = codes "K4: " ++ name_by names t ++ codes " is not bool or tristate, the " ++ keyword_text r ++ codes " has no effect"
   text_of (warning.DefaultNotMember t) = codes "K5: " ++ name_by names t ++ codes " is not a member of the choice"
-  text_of (warning.MemberTarget t r) = codes "K6: " ++ name_by names t ++ codes " is a choice member, the " ++ reverse_word r ++ codes " has no effect"
+  text_of (warning.MemberTarget t r) = codes "K6: " ++ name_by names t ++ codes " is a choice member, the " ++ keyword_text r ++ codes " has no effect"
 
   -- the whole line of a warning about a line
   abbrev pub line_of : List ℕ → ℕ → Warning → List ℕ

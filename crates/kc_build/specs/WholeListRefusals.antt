@@ -8,7 +8,7 @@ use Rattle.kc_build.specs.declared.diagnostics.MenuEntry.{MenuEntry}
 use Rattle.kc_build.specs.declared.diagnostics.EntrySummary.{EntrySummary}
 use Rattle.kc_tree.specs.declared.rows.ChoiceId.{ChoiceId}
 use Rattle.kc_tree.specs.declared.rows.Symbol.{Symbol}
-use Rattle.kc_build.specs.SymbolRows.{choice_by, kind_by}
+use Rattle.kc_build.specs.SymbolRows.{choice_by, type_by}
 use Rattle.kc_build.specs.Warnings.{entry_name, entry_symbol, is_bad_default, is_bad_member}
 
 -- the refusal of a line at a place, which names its entry
@@ -18,9 +18,9 @@ entry_refusal names c o file line = refused (record { code = c; detail = entry_n
 -- the refusal of a line that defines a member it may not, by what is known of the symbols and by the summary of its entry
 abbrev pub bad_member_of : List (List ℕ) → List Symbol → EntrySummary → Located Numbered → Option Refused
 bad_member_of names symbols p l =
-    if is_bad_member (kind_by symbols) (choice_by symbols) p.first (option_map (λ (k : ChoiceId). k.0) p.within_choice) l.statement
+    if is_bad_member (type_by symbols) (choice_by symbols) p.first (option_map (λ (k : ChoiceId). k.0) p.within_choice) l.statement
     then Some (entry_refusal names code.ChoiceMember p.entry l.file l.line) else None
 
 -- and of a default that may not be
 abbrev pub bad_default_of : List (List ℕ) → List Symbol → EntrySummary → Located Numbered → Option Refused
-bad_default_of names symbols p l = if is_bad_default (kind_by symbols) p.entry l.statement then Some (entry_refusal names code.BadDefault p.entry l.file l.line) else None
+bad_default_of names symbols p l = if is_bad_default (type_by symbols) p.entry l.statement then Some (entry_refusal names code.BadDefault p.entry l.file l.line) else None

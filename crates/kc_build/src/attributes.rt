@@ -17,10 +17,10 @@ ghost use Rattle.kc_tree.specs.Layouts.{with_conjuncts};
 use crate::blocks::BlockScope;
 use crate::copies::operand_copy;
 use crate::lines::{
-    depends_of, prompt_of, range_of, single_symbol, stated_default, type_of, visible_of,
+    depends_of, prompt_of, range_of, single_symbol, stated_default, stated_type, visible_of,
 };
 use crate::symbols::is_member;
-use kc_expr::expression::{Expr, Kind};
+use kc_expr::expression::{Expr, SymbolType};
 use kc_read::entries::AttributeLine;
 use kc_read::statement;
 use kc_read::statement::Attribute;
@@ -32,12 +32,12 @@ use std::alloc::{AllocError, Global};
 use std::rc::Rc;
 
 /// The first type that attributes give.
-pub(crate) fn first_type(attributes: &[AttributeLine]) -> Option<Kind>
-    ensures { result ≡ facts.first_of (filter_map facts.type_of (statements_of attributes.now)) }
+pub(crate) fn first_type(attributes: &[AttributeLine]) -> Option<SymbolType>
+    ensures { result ≡ facts.first_of (filter_map facts.stated_type (statements_of attributes.now)) }
 {
     for line in attributes {
-        if let Some(kind) = type_of(&line.attribute) {
-            return Some(kind);
+        if let Some(symbol_type) = stated_type(&line.attribute) {
+            return Some(symbol_type);
         }
     }
     None

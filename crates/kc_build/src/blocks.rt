@@ -2,7 +2,7 @@
 
 ghost use Rattle.std.specs.Prelude.{◌≡◌, ◌<◌, ◌++◌, ◌∷◌, [], ◌^◌, None, Some, length, IfOk, OnOk, OnErr};
 ghost use Rattle.kc_expr.specs.Form.{form_of};
-ghost use Rattle.kc_tree.specs.Contexts.{IsPlain, and_also, in_choice, condition_in};
+ghost use Rattle.kc_tree.specs.Contexts.{HasNoMode, and_also, in_choice, condition_in};
 ghost use Rattle.kc_build.specs.Stacks.{IsClosed, open_scopes};
 
 use kc_expr::expression::Expr;
@@ -102,7 +102,7 @@ pub(crate) fn choice_block(
     entry: u32,
 ) -> Result<BlockScope, AllocError>
     requires there { outer.within.0 < length contexts.old }
-    requires plain { IsPlain contexts.old outer.within.0 }
+    requires modeless { HasNoMode contexts.old outer.within.0 }
     requires few { length contexts.old < 2 ^ 32 }
     ensures added { OnOk result (contexts.new ≡ contexts.old ++ in_choice (condition_in contexts.old outer.within.0) choice.0 ∷ []) }
     ensures within { IfOk result (λ b. b.within.0 ≡ length contexts.old) }

@@ -1,7 +1,7 @@
 //! The tree of a root file.
 
 ghost use Rattle.std.specs.Prelude.{◌≡◌, ◌≢◌, ◌<◌, ◌≤◌, ◌+◌, ◌*◌, ◌^◌, ℕ, List, length, map, IfOk, IfErr, OnOk, Ok, Err};
-ghost use Rattle.kc_expr.specs.Order.{stands_in};
+ghost use Rattle.kc_expr.specs.DistinctSymbols.{stands_in};
 ghost use Rattle.kc_read.specs.Files.{Files, bytes_in};
 ghost use Rattle.kc_read.specs.RefusalView.{IsMemory, refusal_view};
 ghost use Rattle.kc_read.specs.Entries.{lines_in};

@@ -12,16 +12,16 @@ ghost use Rattle.kc_build.specs.Odd as odd;
 ghost use Rattle.kc_build.specs.WalkResult.{HasOnlyWarnings};
 ghost use Rattle.kc_build.specs.Facts as facts;
 ghost use Rattle.kc_tree.specs.Common.{listed};
-ghost use Rattle.kc_build.specs.SymbolRows.{kind_by, choice_by, member_by, default_symbol, line_warnings_in};
+ghost use Rattle.kc_build.specs.SymbolRows.{type_by, choice_by, member_by, default_symbol, line_warnings_in};
 ghost use Rattle.kc_build.specs.WholeListRefusals as entry_refusal;
 ghost use Rattle.kc_build.specs.Warnings as spec;
 
 use crate::lines::{
-    is_single, prompt_of, single_symbol, stated_default, symbol_of, target_of, type_of,
+    is_single, prompt_of, single_symbol, stated_default, stated_type, symbol_of, target_of,
 };
-use crate::symbols::{choice_of, has_text, is_member, kind_of};
+use crate::symbols::{choice_of, has_text, is_member, type_of};
 use crate::warning::{Place, Warning, entry_name, line_of};
-use kc_expr::expression::{Expr, Kind, SymId};
+use kc_expr::expression::{Expr, SymId, SymbolType};
 use kc_expr::names::Names;
 use kc_read::entries::{Entry, EntryLines};
 use kc_read::refusal::{Code, Refusal};
@@ -77,11 +77,11 @@ fn entry_choice(entry: MenuEntry) -> Option<ChoiceId>
 
 // A type line whose type is not the symbol's.
 fn type_redefined(attribute: &Attribute, entry: MenuEntry, symbols: &[Symbol]) -> Option<Warning>
-    ensures { listed result ≡ spec.type_redefined (kind_by symbols.now) entry (attribute_view attribute.now) }
+    ensures { listed result ≡ spec.type_redefined (type_by symbols.now) entry (attribute_view attribute.now) }
 {
-    match (entry_symbol(entry), type_of(attribute)) {
-        (Some(symbol), Some(kind)) => {
-            (kind != kind_of(symbols, symbol)).then_some(Warning::TypeRedefined(symbol))
+    match (entry_symbol(entry), stated_type(attribute)) {
+        (Some(symbol), Some(symbol_type)) => {
+            (symbol_type != type_of(symbols, symbol)).then_some(Warning::TypeRedefined(symbol))
         }
         _ => None,
     }
@@ -98,14 +98,14 @@ fn prompt_redefined(attribute: &Attribute, entry: MenuEntry, prompted: bool) -> 
 
 // The symbol has a type, or is a member of a choice.
 fn has_type(symbol: SymId, symbols: &[Symbol]) -> bool
-    ensures { result ≡ spec.has_type (kind_by symbols.now symbol) (choice_by symbols.now symbol) }
+    ensures { result ≡ spec.has_type (type_by symbols.now symbol) (choice_by symbols.now symbol) }
 {
-    choice_of(symbols, symbol).is_some() || kind_of(symbols, symbol) != Kind::Undefined
+    choice_of(symbols, symbol).is_some() || type_of(symbols, symbol) != SymbolType::Undefined
 }
 
 // The first definition of a symbol without a type.
 fn without_type(head: &Head, first: bool, symbols: &[Symbol]) -> Option<Warning>
-    ensures { listed result ≡ spec.without_type (kind_by symbols.now) (choice_by symbols.now) first (head_view head.now) }
+    ensures { listed result ≡ spec.without_type (type_by symbols.now) (choice_by symbols.now) first (head_view head.now) }
 {
     match symbol_of(head) {
         Some(symbol) => (first && !has_type(symbol, symbols)).then_some(Warning::WithoutType(
@@ -117,12 +117,12 @@ fn without_type(head: &Head, first: bool, symbols: &[Symbol]) -> Option<Warning>
 
 // A select or imply of a symbol whose value is a text.
 fn text_target(attribute: &Attribute, symbols: &[Symbol]) -> Option<Warning>
-    ensures { listed result ≡ spec.text_target (kind_by symbols.now) (attribute_view attribute.now) }
+    ensures { listed result ≡ spec.text_target (type_by symbols.now) (attribute_view attribute.now) }
 {
     match target_of(attribute) {
-        Some(target) => has_text(kind_of(symbols, target.symbol)).then_some(Warning::TextTarget(
+        Some(target) => has_text(type_of(symbols, target.symbol)).then_some(Warning::TextTarget(
             target.symbol,
-            target.kind,
+            target.word,
         )),
         None => None,
     }
@@ -135,7 +135,7 @@ fn member_target(attribute: &Attribute, symbols: &[Symbol]) -> Option<Warning>
     match target_of(attribute) {
         Some(target) => choice_of(symbols, target.symbol)
             .is_some()
-            .then_some(Warning::MemberTarget(target.symbol, target.kind)),
+            .then_some(Warning::MemberTarget(target.symbol, target.word)),
         None => None,
     }
 }
@@ -197,12 +197,12 @@ fn warnings_of(
 
 // A second definition of a member; a definition in a choice whose type is not bool.
 fn is_bad_member(head: &Head, summary: EntrySummary, symbols: &[Symbol]) -> bool
-    ensures { result ≡ spec.is_bad_member (kind_by symbols.now) (choice_by symbols.now) summary.first (option_map (λ k. k.0) summary.within_choice) (head_view head.now) }
+    ensures { result ≡ spec.is_bad_member (type_by symbols.now) (choice_by symbols.now) summary.first (option_map (λ k. k.0) summary.within_choice) (head_view head.now) }
 {
     match symbol_of(head) {
         Some(symbol) => {
             (choice_of(symbols, symbol).is_some() && !summary.first)
-                || (summary.within_choice.is_some() && kind_of(symbols, symbol) != Kind::Bool)
+                || (summary.within_choice.is_some() && type_of(symbols, symbol) != SymbolType::Bool)
         }
         None => false,
     }
@@ -210,17 +210,17 @@ fn is_bad_member(head: &Head, summary: EntrySummary, symbols: &[Symbol]) -> bool
 
 // The entry is that of a symbol whose value is a text.
 fn is_text_entry(entry: MenuEntry, symbols: &[Symbol]) -> bool
-    ensures { result ≡ list_any (λ t. facts.has_text (kind_by symbols.now t)) (listed (spec.entry_symbol entry)) }
+    ensures { result ≡ list_any (λ t. facts.has_text (type_by symbols.now t)) (listed (spec.entry_symbol entry)) }
 {
     match entry_symbol(entry) {
-        Some(symbol) => has_text(kind_of(symbols, symbol)),
+        Some(symbol) => has_text(type_of(symbols, symbol)),
         None => false,
     }
 }
 
 // A default of such a symbol that is no single operand; one of a choice that is no single name.
 fn is_bad_default(attribute: &Attribute, entry: MenuEntry, symbols: &[Symbol]) -> bool
-    ensures { result ≡ spec.is_bad_default (kind_by symbols.now) entry (attribute_view attribute.now) }
+    ensures { result ≡ spec.is_bad_default (type_by symbols.now) entry (attribute_view attribute.now) }
 {
     match stated_default(attribute) {
         Some(stated) => {
@@ -232,11 +232,11 @@ fn is_bad_default(attribute: &Attribute, entry: MenuEntry, symbols: &[Symbol]) -
 }
 
 // A type that is not that of the symbol whose entry it is.
-fn is_other_type(kind: Kind, entry: MenuEntry, symbols: &[Symbol]) -> bool
-    ensures { result ≡ odd.is_other_type symbols.now entry kind }
+fn is_other_type(symbol_type: SymbolType, entry: MenuEntry, symbols: &[Symbol]) -> bool
+    ensures { result ≡ odd.is_other_type symbols.now entry symbol_type }
 {
     match entry_symbol(entry) {
-        Some(symbol) => kind != kind_of(symbols, symbol),
+        Some(symbol) => symbol_type != type_of(symbols, symbol),
         None => false,
     }
 }
@@ -246,7 +246,7 @@ fn is_odd_default(value: &Expr, entry: MenuEntry, symbols: &[Symbol]) -> bool
     ensures { result ≡ odd.is_odd_default symbols.now entry (form_of value.now) }
 {
     match entry {
-        MenuEntry::Symbol(symbol) => has_text(kind_of(symbols, symbol)) && !is_single(value),
+        MenuEntry::Symbol(symbol) => has_text(type_of(symbols, symbol)) && !is_single(value),
         MenuEntry::Choice(_) => true,
         MenuEntry::Other => false,
     }
@@ -257,7 +257,7 @@ fn is_odd_target(symbol: SymId, symbols: &[Symbol]) -> bool
     ensures { result ≡ odd.is_odd_target symbols.now symbol }
 {
     match symbols.get(symbol.0) {
-        Some(found) => found.choice.is_some() || has_text(found.kind),
+        Some(found) => found.choice.is_some() || has_text(found.symbol_type),
         None => false,
     }
 }
@@ -272,7 +272,7 @@ fn is_odd_head(head: &Head, summary: EntrySummary, symbols: &[Symbol]) -> bool
             Some(found) => {
                 found.choice.is_some()
                     || summary.within_choice.is_some()
-                    || found.kind == Kind::Undefined
+                    || found.symbol_type == SymbolType::Undefined
             }
             None => true,
         },
@@ -291,13 +291,13 @@ fn is_odd_attribute(
     ensures { result ≡ odd.is_odd_attribute symbols.now entry prompted (attribute_view attribute.now) }
 {
     match attribute {
-        Attribute::Type(kind, prompt) => {
-            (prompt.is_some() && prompted) || is_other_type(*kind, entry, symbols)
+        Attribute::Type(symbol_type, prompt) => {
+            (prompt.is_some() && prompted) || is_other_type(*symbol_type, entry, symbols)
         }
         Attribute::Prompt(_) => prompted,
         Attribute::Default(value, _) => is_odd_default(value, entry, symbols),
-        Attribute::Def(kind, value, _) => {
-            is_other_type(*kind, entry, symbols) || is_odd_default(value, entry, symbols)
+        Attribute::Def(symbol_type, value, _) => {
+            is_other_type(*symbol_type, entry, symbols) || is_odd_default(value, entry, symbols)
         }
         Attribute::Select(symbol, _) => is_odd_target(*symbol, symbols),
         Attribute::Imply(symbol, _) => is_odd_target(*symbol, symbols),

@@ -9,14 +9,14 @@ ghost use Rattle.kc_tree.specs.declared.rows.Symbol.{Symbol};
 ghost use Rattle.kc_build.specs.SymbolRows.{AreBelow, AreChoicesApart, AreMenusOpened, AreSymbols, IsEntrySummary, HasSymbols};
 ghost use Rattle.kc_build.specs.Passes.{statements_in, statements_of};
 ghost use Rattle.kc_build.specs.WalkResult.{IsWalkResult, HasHeads, HasRoom, IsDiagnosed, IsSmall};
-ghost use Rattle.kc_build.specs.Stacks.{AreBlocksPlain, AreBlocksVisible, AreBlocksWithin, AreTitlesWithin, IsTopEmpty, IsPlainHead};
-ghost use Rattle.kc_tree.specs.Contexts.{IsPlain, condition_in};
+ghost use Rattle.kc_build.specs.Stacks.{AreBlocksModeless, AreBlocksVisible, AreBlocksWithin, AreTitlesWithin, IsTopEmpty, IsModelessHead};
+ghost use Rattle.kc_tree.specs.Contexts.{HasNoMode, condition_in};
 ghost use Rattle.kc_tree.specs.Layouts.{choice_facts as choice_in};
 
 use crate::attributes::{add_attributes, choice_defaults, entry_context, prompt, visible_context};
 use crate::blocks::{BlockScope, Blocks, choice_block, if_block};
 use crate::diagnostics::{Diagnostics, EntrySummary, MenuEntry};
-use crate::reverse_lines::add_reverses;
+use crate::selectors::add_selectors;
 use crate::symbols::is_first;
 use kc_expr::expression::{Expr, SymId};
 use kc_expr::names::Names;
@@ -36,10 +36,10 @@ struct EntryWalk {
     blocks: Blocks,
     main_menu: Vec<u8>,
     ghost top_is_empty: { IsTopEmpty tables.contexts },
-    ghost top_plain: { IsPlain tables.contexts 0 },
+    ghost top_has_no_mode: { HasNoMode tables.contexts 0 },
     ghost within: { AreBlocksWithin tables.contexts blocks },
     ghost visible: { AreBlocksVisible tables.contexts blocks },
-    ghost plain: { AreBlocksPlain tables.contexts blocks },
+    ghost modeless: { AreBlocksModeless tables.contexts blocks },
     ghost titles: { AreTitlesWithin tables.contexts tables.titles.items },
 }
 
@@ -107,7 +107,7 @@ impl EntryWalk {
     {
         let id = self.next_definition();
         self.add_definition(symbol, own)?;
-        add_reverses(&mut self.tables.reverses, symbols, id, own)?;
+        add_selectors(&mut self.tables.selector_rows, symbols, id, own)?;
         if is_first(symbols, symbol, id) {
             self.tables.entries.push(ShownEntry::Symbol(symbol))?;
         }
@@ -140,7 +140,7 @@ impl EntryWalk {
     ) -> Result<TitleId, AllocError>
         requires within { within.0 < length self.old.tables.contexts }
         requires visible { visible.0 < length self.old.tables.contexts }
-        requires plain { IsPlain self.old.tables.contexts visible.0 }
+        requires modeless { HasNoMode self.old.tables.contexts visible.0 }
         requires few { length self.old.tables.titles.items < 2 ^ 32 }
         ensures number { IfOk result (λ id. id.0 ≡ length self.old.tables.titles.items) }
         ensures title { OnOk result (AddsTitle text.now within visible self.old self.new) }
@@ -215,7 +215,7 @@ impl EntryWalk {
         own: &[AttributeLine],
     ) -> Result<(), AllocError>
         requires room { HasRoom (length own.now) self.old.tables }
-        requires plain { IsPlain self.old.tables.contexts self.old.blocks.innermost.within.0 }
+        requires modeless { HasNoMode self.old.tables.contexts self.old.blocks.innermost.within.0 }
         ensures { OnOk result (Enters symbols.now ChoiceLine (statements_of own.now) self.old self.new) }
     {
         let entry = self.next_entry();
@@ -266,7 +266,7 @@ impl EntryWalk {
     ) -> Result<(), AllocError>
         requires room { HasRoom (length own.now) self.old.tables }
         requires heads { HasHeads symbols.now self.old.tables }
-        requires plain { IsPlainHead (head_view head.now) (condition_in self.old.tables.contexts self.old.blocks.innermost.within.0).mode }
+        requires modeless { IsModelessHead (head_view head.now) (condition_in self.old.tables.contexts self.old.blocks.innermost.within.0).mode }
         ensures { OnOk result (Enters symbols.now (head_view head.now) (statements_of own.now) self.old self.new) }
     {
         match head {

@@ -10,7 +10,7 @@ mod entries;
 pub mod laws;
 mod lines;
 mod listing;
-mod reverse_lines;
+mod selectors;
 mod symbols;
 mod warning;
 

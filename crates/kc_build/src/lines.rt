@@ -9,7 +9,7 @@ ghost use Rattle.kc_build.specs.Passes.{stated_default_view, target_view, range_
 ghost use Rattle.kc_build.specs.EntryLines.{range_line};
 ghost use Rattle.kc_build.specs.Targets as targets;
 
-use kc_expr::expression::{Expr, Kind, Operand, SymId};
+use kc_expr::expression::{Expr, Operand, SymId, SymbolType};
 use kc_read::statement::{Attribute, Head, Prompt};
 use std::rc::Rc;
 
@@ -22,7 +22,7 @@ pub(crate) struct StatedDefault<'a> {
 
 /// Which of the two a line is: a reverse dependency (`select`) or a weak one (`imply`).
 #[derive(Clone, Copy, Debug, PartialEq, Eq)]
-pub(crate) enum ReverseKind {
+pub(crate) enum SelectOrImply {
     Select,
     Imply,
 }
@@ -30,7 +30,7 @@ pub(crate) enum ReverseKind {
 /// A `select` or `imply` line: the symbol that it names and its condition.
 #[derive(Clone, Copy)]
 pub(crate) struct Target<'a> {
-    pub kind: ReverseKind,
+    pub word: SelectOrImply,
     pub symbol: SymId,
     pub when: Option<&'a Rc<Expr>>,
 }
@@ -54,8 +54,8 @@ pub(crate) fn symbol_of(head: &Head) -> Option<SymId>
 }
 
 /// The type that a line gives.
-pub(crate) fn type_of(attribute: &Attribute) -> Option<Kind>
-    ensures { result ≡ facts.type_of (attribute_view attribute.now) }
+pub(crate) fn stated_type(attribute: &Attribute) -> Option<SymbolType>
+    ensures { result ≡ facts.stated_type (attribute_view attribute.now) }
 {
     match attribute {
         Attribute::Type(k, _) => Some(*k),
@@ -128,12 +128,12 @@ pub(crate) fn target_of(attribute: &Attribute) -> Option<Target<'_>>
 {
     match attribute {
         Attribute::Select(symbol, when) => Some(Target {
-            kind: ReverseKind::Select,
+            word: SelectOrImply::Select,
             symbol: *symbol,
             when: condition(when),
         }),
         Attribute::Imply(symbol, when) => Some(Target {
-            kind: ReverseKind::Imply,
+            word: SelectOrImply::Imply,
             symbol: *symbol,
             when: condition(when),
         }),

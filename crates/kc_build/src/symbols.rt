@@ -10,10 +10,10 @@ ghost use Rattle.kc_build.specs.Facts.{first_of};
 ghost use Rattle.kc_build.specs.SymbolRows as symbol_rows;
 ghost use Rattle.kc_build.specs.SymbolRows.{row_view, AreSymbols, AreTypesDefined};
 ghost use Rattle.kc_build.specs.Passes.{statements_in, statements_of};
-ghost use Rattle.kc_build.specs.SymbolWalk.{unknown, first_kind, with_definition, noted, IsPassed, HaveMemberTypes};
+ghost use Rattle.kc_build.specs.SymbolWalk.{unknown, first_given_type, with_definition, reported, IsPassed, HaveMemberTypes};
 
 use crate::attributes::first_type;
-use kc_expr::expression::{Kind, SymId};
+use kc_expr::expression::{SymId, SymbolType};
 use kc_read::entries::{AttributeLine, Entries};
 use kc_read::statement::Head;
 use kc_tree::definitions::SymbolDefinitions;
@@ -38,7 +38,7 @@ fn unknown_symbols(alloc: Global, count: usize) -> Result<Vec<Symbol>, AllocErro
     let mut symbols = Vec::with_capacity(alloc, count)?;
     for _ in 0..count {
         symbols.push(Symbol {
-            kind: Kind::Undefined,
+            symbol_type: SymbolType::Undefined,
             choice: MaybeChoice::empty(),
             definitions: SymbolDefinitions::Empty,
         })?;
@@ -47,12 +47,12 @@ fn unknown_symbols(alloc: Global, count: usize) -> Result<Vec<Symbol>, AllocErro
 }
 
 // The first of two types.
-fn first_kind(kind: Kind, found: Option<Kind>) -> Kind
-    ensures { result ≡ first_kind kind found }
+fn first_given_type(symbol_type: SymbolType, found: Option<SymbolType>) -> SymbolType
+    ensures { result ≡ first_given_type symbol_type found }
 {
-    match kind {
-        Kind::Undefined => found.unwrap_or(Kind::Undefined),
-        _ => kind,
+    match symbol_type {
+        SymbolType::Undefined => found.unwrap_or(SymbolType::Undefined),
+        _ => symbol_type,
     }
 }
 
@@ -61,12 +61,12 @@ fn add_definition(
     alloc: Global,
     symbol: &mut Symbol,
     id: DefinitionId,
-    kind: Option<Kind>,
+    symbol_type: Option<SymbolType>,
     choice: Option<ChoiceId>,
 ) -> Result<(), AllocError>
-    ensures { OnOk result (row_view symbol.new ≡ with_definition id.0 kind (option_map (λ k. k.0) choice) (row_view symbol.old)) }
+    ensures { OnOk result (row_view symbol.new ≡ with_definition id.0 symbol_type (option_map (λ k. k.0) choice) (row_view symbol.old)) }
 {
-    symbol.kind = first_kind(symbol.kind, kind);
+    symbol.symbol_type = first_given_type(symbol.symbol_type, symbol_type);
     symbol.choice = MaybeChoice::of(symbol.choice.get().or(choice))?;
     symbol.definitions.push(alloc, id)
 }
@@ -80,12 +80,12 @@ fn note_definition(
     own: &[AttributeLine],
 ) -> Result<(), AllocError>
     ensures { OnOk result (map row_view symbols.new.items
-        ≡ noted scope.now.definitions (first_of (filter_map facts.type_of (statements_of own.now))) (option_map (λ k. k.0) scope.now.choice) symbol (map row_view symbols.old.items)) }
+        ≡ reported scope.now.definitions (first_of (filter_map facts.stated_type (statements_of own.now))) (option_map (λ k. k.0) scope.now.choice) symbol (map row_view symbols.old.items)) }
 {
     if symbol.0 < symbols.len() {
         let id = DefinitionId(scope.definitions);
-        let kind = first_type(own);
-        add_definition(alloc, &mut symbols[symbol.0], id, kind, scope.choice)?;
+        let symbol_type = first_type(own);
+        add_definition(alloc, &mut symbols[symbol.0], id, symbol_type, scope.choice)?;
     }
     Ok(())
 }
@@ -120,7 +120,10 @@ fn give_member_types(symbols: &mut Vec<Symbol>)
 {
     for i in 0..symbols.len() {
         if symbols[i].choice.is_some() {
-            symbols[i].kind = first_kind(symbols[i].kind, Some(Kind::Bool));
+            symbols[i].symbol_type = first_given_type(
+                symbols[i].symbol_type,
+                Some(SymbolType::Bool),
+            );
         }
     }
 }
@@ -157,12 +160,12 @@ pub(crate) fn symbols(
 }
 
 /// The type of a symbol; a name that is not defined has none.
-pub(crate) fn kind_of(symbols: &[Symbol], symbol: SymId) -> Kind
-    ensures { result ≡ symbol_rows.kind_by symbols.now symbol }
+pub(crate) fn type_of(symbols: &[Symbol], symbol: SymId) -> SymbolType
+    ensures { result ≡ symbol_rows.type_by symbols.now symbol }
 {
     match symbols.get(symbol.0) {
-        Some(found) => found.kind,
-        None => Kind::Undefined,
+        Some(found) => found.symbol_type,
+        None => SymbolType::Undefined,
     }
 }
 
@@ -197,8 +200,11 @@ pub(crate) fn is_first(symbols: &[Symbol], symbol: SymId, id: DefinitionId) -> b
 }
 
 /// The value of a symbol of this type is a text.
-pub(crate) fn has_text(kind: Kind) -> bool
-    ensures { result ≡ facts.has_text kind }
+pub(crate) fn has_text(symbol_type: SymbolType) -> bool
+    ensures { result ≡ facts.has_text symbol_type }
 {
-    matches!(kind, Kind::Str | Kind::Int | Kind::Hex)
+    matches!(
+        symbol_type,
+        SymbolType::Str | SymbolType::Int | SymbolType::Hex
+    )
 }

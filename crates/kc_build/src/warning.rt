@@ -4,7 +4,7 @@ ghost use Rattle.std.specs.Prelude.{◌≡◌, ◌++◌, codes, IfOk};
 ghost use Rattle.kc_tree.specs.Common.{name_by};
 ghost use Rattle.kc_build.specs.Warnings as spec;
 
-use crate::lines::ReverseKind;
+use crate::lines::SelectOrImply;
 use itoa::Buffer;
 use kc_expr::expression::SymId;
 use kc_expr::names::Names;
@@ -22,9 +22,9 @@ pub(crate) enum Warning {
     TypeRedefined(SymId),
     PromptRedefined(Option<SymId>),
     WithoutType(SymId),
-    TextTarget(SymId, ReverseKind),
+    TextTarget(SymId, SelectOrImply),
     DefaultNotMember(SymId),
-    MemberTarget(SymId, ReverseKind),
+    MemberTarget(SymId, SelectOrImply),
 }
 
 /// Where a line stands: its file and its number.
@@ -55,12 +55,12 @@ pub(crate) fn entry_name(names: &Names, symbol: Option<SymId>) -> &[u8]
 }
 
 // The word of the line.
-fn reverse_word(kind: ReverseKind) -> &'static [u8]
-    ensures { result.now ≡ spec.reverse_word kind }
+fn keyword_text(word: SelectOrImply) -> &'static [u8]
+    ensures { result.now ≡ spec.keyword_text word }
 {
-    match kind {
-        ReverseKind::Select => b"select",
-        ReverseKind::Imply => b"imply",
+    match word {
+        SelectOrImply::Select => b"select",
+        SelectOrImply::Imply => b"imply",
     }
 }
 
@@ -80,12 +80,12 @@ fn target_text(
     head: &[u8],
     name: &[u8],
     fault: &[u8],
-    kind: ReverseKind,
+    word: SelectOrImply,
 ) -> Result<Vec<u8>, AllocError>
-    ensures { IfOk result (λ v. v.items ≡ head.now ++ name.now ++ fault.now ++ spec.reverse_word kind ++ codes " has no effect") }
+    ensures { IfOk result (λ v. v.items ≡ head.now ++ name.now ++ fault.now ++ spec.keyword_text word ++ codes " has no effect") }
 {
     let mut text = joined_text(alloc, head, name, fault)?;
-    text.extend_from_slice(reverse_word(kind))?;
+    text.extend_from_slice(keyword_text(word))?;
     text.extend_from_slice(b" has no effect")?;
     Ok(text)
 }
@@ -108,12 +108,12 @@ pub(crate) fn text_of(alloc: Global, names: &Names, warning: Warning) -> Result<
             b" redefined, the last is kept",
         ),
         Warning::WithoutType(s) => joined_text(alloc, b"K3: ", name_of(names, s), b" has no type"),
-        Warning::TextTarget(s, kind) => target_text(
+        Warning::TextTarget(s, word) => target_text(
             alloc,
             b"K4: ",
             name_of(names, s),
             b" is not bool or tristate, the ",
-            kind,
+            word,
         ),
         Warning::DefaultNotMember(s) => joined_text(
             alloc,
@@ -121,12 +121,12 @@ pub(crate) fn text_of(alloc: Global, names: &Names, warning: Warning) -> Result<
             name_of(names, s),
             b" is not a member of the choice",
         ),
-        Warning::MemberTarget(s, kind) => target_text(
+        Warning::MemberTarget(s, word) => target_text(
             alloc,
             b"K6: ",
             name_of(names, s),
             b" is a choice member, the ",
-            kind,
+            word,
         ),
     }
 }

@@ -1,11 +1,11 @@
-//! Reading a `.config` in any pieces: what the calls tell, what they leave, and what waits (kc_dot).
+//! Reading a `.config` in any pieces: what the calls tell, what they leave, and what waits (kc_config_file).
 ghost use Rattle.kc_user.specs.Places.{ArePlacesOf};
 
 use crate::trial::{Claim, is_true_of};
-use kc_dot::fault::DotFault;
-use kc_dot::prefix::Prefix;
-use kc_dot::reader::DotReader;
-use kc_dot::user_input::UserInput;
+use kc_config_file::fault::InputFault;
+use kc_config_file::prefix::Prefix;
+use kc_config_file::reader::InputReader;
+use kc_config_file::user_input::UserInput;
 use kc_expr::expression::Tri;
 use kc_tree::tree::Tree;
 use kc_user::value::UserValue;
@@ -23,7 +23,7 @@ const WARNINGS: &[u8] = b".config:2: warning K9: malformed line\n\
 // A reader of `.config` over no user values, and what it told. Its calls have no contract of their own: what they leave is looked at.
 #[derive(Drop)]
 struct Trial<'a> {
-    reader: DotReader<'a>,
+    reader: InputReader<'a>,
     user: UserInput<'a>,
     told: Vec<u8>,
     ghost places: { ArePlacesOf reader.tree user.places },
@@ -42,24 +42,24 @@ impl<'a> Trial<'a> {
     fn new(alloc: Global, tree: &'a Tree, prefix: &'a Prefix) -> Result<Trial<'a>, AllocError> {
         let user = UserInput::new(alloc, tree, false)?;
         Ok(Trial {
-            reader: DotReader::new(alloc, tree, prefix, b".config"),
+            reader: InputReader::new(alloc, tree, prefix, b".config"),
             user,
             told: Vec::new(alloc),
         })
     }
 
-    fn feed(&mut self, piece: &[u8]) -> Result<(), DotFault> {
+    fn feed(&mut self, piece: &[u8]) -> Result<(), InputFault> {
         self.reader.feed(piece, &mut self.user, &mut self.told)
     }
 
-    fn feed_hashes(&mut self, count: usize) -> Result<(), DotFault> {
+    fn feed_hashes(&mut self, count: usize) -> Result<(), InputFault> {
         for _ in 0..count {
             self.feed(b"#")?;
         }
         Ok(())
     }
 
-    fn call(&mut self, call: &Call) -> Result<(), DotFault> {
+    fn call(&mut self, call: &Call) -> Result<(), InputFault> {
         match call {
             Call::Feed(piece) => self.feed(piece),
             Call::FeedHashes(count) => self.feed_hashes(*count),
@@ -74,7 +74,7 @@ impl<'a> Trial<'a> {
     fn refused_calls(&mut self, calls: &[Call], line: u64) -> usize {
         let mut refused = 0_usize;
         for call in calls {
-            if self.call(call) == Err(DotFault::DotLineTooLong(line)) {
+            if self.call(call) == Err(InputFault::InputLineTooLong(line)) {
                 refused = refused.saturating_add(1);
             }
         }

@@ -2,9 +2,9 @@
 
 ghost use Rattle.std.specs.Prelude.{[], Some};
 ghost use Rattle.kc_expr.specs.Names.{symbol};
-ghost use Rattle.kc_expr.specs.declared.expression.Kind.TheVariants as kind;
+ghost use Rattle.kc_expr.specs.declared.expression.SymbolType.TheVariants as symbol_type;
 
-use kc_expr::expression::{Expr, Kind, SymId, Tri};
+use kc_expr::expression::{Expr, SymId, SymbolType, Tri};
 use kc_expr::names::Names;
 use kc_expr::parse::parse;
 use kc_expr::values::{Values, eval, eval_depends_on_symbols, symbols_into};
@@ -22,7 +22,7 @@ impl Values for Alike {
 
     ghost text_of = { λ a s. [] };
 
-    ghost kind_of = { λ a s. kind.Bool };
+    ghost type_of = { λ a s. symbol_type.Bool };
 
     ghost modules_of = { λ a. Some (symbol 0) };
 
@@ -34,8 +34,8 @@ impl Values for Alike {
         b""
     }
 
-    fn kind(&self, _id: SymId) -> Kind {
-        Kind::Bool
+    fn symbol_type(&self, _id: SymId) -> SymbolType {
+        SymbolType::Bool
     }
 
     fn modules(&self) -> Option<SymId> {

@@ -1,4 +1,4 @@
-//! Tests of single calls of the crates up to kc_dot, of what no run of the program shows by itself: limits whose inputs are
+//! Tests of single calls of the crates up to kc_config_file, of what no run of the program shows by itself: limits whose inputs are
 //! made by code, a folder that fails, a `.config` in pieces, the order in which files are read, the plain slow solver beside the solver,
 //! user values, and generic functions at a type. Whole runs are cases in kconf_cases.
 #![tactic(auto)]

@@ -1,7 +1,7 @@
 //! The plain slow solver, beside which the tests hold the solver: every value computed anew, in iterations.
 
 ghost use Rattle.std.specs.Prelude.{◌≡◌, ◌<◌, length, replicate, slice_get, None, Some, IfOk, IfSome, OnOk, []};
-ghost use Rattle.kc_expr.specs.Value.{value_by_kind};
+ghost use Rattle.kc_expr.specs.Value.{value_by_type};
 ghost use Rattle.kc_expr.specs.declared.expression.Tri.TheVariants.{N};
 ghost use Rattle.kc_order.specs.Solution.{IsOnlySolution, Solves};
 ghost use Rattle.kc_solve.specs.Computing.{IsComputedSymbol};
@@ -18,9 +18,9 @@ ghost use Rattle.kc_values.specs.Solution.{equations, name_count};
 ghost use Rattle.kc_values.specs.Table.{known_value};
 ghost use Rattle.kc_values.specs.Values.{by_choice, member_equation};
 
-use kc_expr::expression::{Kind, SymId, Tri};
+use kc_expr::expression::{SymId, SymbolType, Tri};
 use kc_order::ordered_are_accepted;
-use kc_solve::order::EvaluationOrder;
+use kc_solve::evaluation_order::EvaluationOrder;
 use kc_tree::layout::Layout;
 use kc_tree::rows::{ChoiceId, Symbol};
 use kc_tree::tree::Tree;
@@ -45,16 +45,16 @@ fn symbol_row(layout: &Layout, id: SymId) -> &Symbol
 }
 
 // n, or the empty text.
-fn first_value(alloc: Global, kind: Kind) -> Value
-    ensures { known_value kind result ≡ value_by_kind kind N [] }
+fn first_value(alloc: Global, symbol_type: SymbolType) -> Value
+    ensures { known_value symbol_type result ≡ value_by_type symbol_type N [] }
 {
-    match kind {
-        Kind::Bool => Value::Truth(Tri::N),
-        Kind::Tristate => Value::Truth(Tri::N),
-        Kind::Str => Value::Text(Vec::new(alloc)),
-        Kind::Int => Value::Text(Vec::new(alloc)),
-        Kind::Hex => Value::Text(Vec::new(alloc)),
-        Kind::Undefined => Value::Text(Vec::new(alloc)),
+    match symbol_type {
+        SymbolType::Bool => Value::Truth(Tri::N),
+        SymbolType::Tristate => Value::Truth(Tri::N),
+        SymbolType::Str => Value::Text(Vec::new(alloc)),
+        SymbolType::Int => Value::Text(Vec::new(alloc)),
+        SymbolType::Hex => Value::Text(Vec::new(alloc)),
+        SymbolType::Undefined => Value::Text(Vec::new(alloc)),
     }
 }
 
@@ -65,8 +65,8 @@ fn first_values(alloc: Global, tree: &Tree) -> Result<SparseVec<Value>, AllocErr
     let count = tree.name_count();
     let mut values = SparseVec::empty(alloc, count)?;
     for i in 0..count {
-        let kind = symbol_row(tree.layout(), SymId(i)).kind;
-        values.set(i, Some(first_value(alloc, kind)))?;
+        let symbol_type = symbol_row(tree.layout(), SymId(i)).symbol_type;
+        values.set(i, Some(first_value(alloc, symbol_type)))?;
     }
     Ok(values)
 }
@@ -109,7 +109,7 @@ fn value_anew(
 ) -> Result<Value, AllocError>
     requires below { id.0 < length given.now }
     requires users { IfSome symbol.now.choice (λ c. c.0 < length chosen.now) }
-    ensures { IfOk result (λ x. known_value symbol.now.kind x
+    ensures { IfOk result (λ x. known_value symbol.now.symbol_type x
         ≡ by_choice table.now.tree.now (known_at table.now) id (facts_of table.now.layout.now id.0 symbol.now) (facts_of table.now.layout.now id.0 symbol.now).choice
         (given_for symbol.now.choice (places given.now chosen.now (SymbolPlace id.0)) chosen.now)) }
 {

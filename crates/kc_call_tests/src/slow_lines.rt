@@ -1,7 +1,7 @@
 //! What the plain slow solver finds, as lines.
 
 use crate::trial::{SymbolReport, choice_count, choice_into, symbol_into, warnings_into};
-use kc_expr::expression::{Kind, SymId};
+use kc_expr::expression::{SymId, SymbolType};
 use kc_expr::values::{Values, tri_text};
 use kc_tree::rows::{ChoiceId, Symbol};
 use kc_user::user::User;
@@ -58,8 +58,8 @@ fn differs(
 
 // The value as a text.
 fn text_of<'t>(table: &'t Table<'_>, id: SymId) -> &'t [u8] {
-    match table.kind(id) {
-        Kind::Bool | Kind::Tristate => tri_text(table.tri(id)),
+    match table.symbol_type(id) {
+        SymbolType::Bool | SymbolType::Tristate => tri_text(table.tri(id)),
         _ => table.text(id),
     }
 }

@@ -8,7 +8,7 @@ use crate::slow::slow_table;
 use crate::trees::{CHOICES, LIMITS, Setup, TEXTS, TRUTHS};
 use crate::trial::{Claim, give_all, is_true_of};
 use crate::{slow_lines, solved};
-use kc_solve::order::EvaluationOrder;
+use kc_solve::evaluation_order::EvaluationOrder;
 use kc_solve::solve::solve;
 use kc_tree::layout::Layout;
 use kc_tree::tree::Tree;

@@ -6,15 +6,15 @@ ghost use Rattle.kc_tree.specs.Layouts.{IsLayoutOf};
 
 use crate::end::{CallEnd, done, refused};
 use crate::trees::TreeCall;
-use kc_dot::config::config_text;
-use kc_dot::fault::DotFault;
-use kc_dot::header::{header_text, minimal_text};
-use kc_dot::prefix::Prefix;
-use kc_dot::reader::DotReader;
-use kc_dot::user_input::UserInput;
+use kc_config_file::config::config_text;
+use kc_config_file::fault::InputFault;
+use kc_config_file::header::{header_text, minimal_text};
+use kc_config_file::prefix::Prefix;
+use kc_config_file::reader::InputReader;
+use kc_config_file::user_input::UserInput;
 use kc_expr::expression::{SymId, Tri};
 use kc_expr::values::Values;
-use kc_solve::order::EvaluationOrder;
+use kc_solve::evaluation_order::EvaluationOrder;
 use kc_solve::solve::solve;
 use kc_solve::solved::Solved;
 use kc_tree::layout::Layout;
@@ -73,60 +73,64 @@ fn is_empty_or_text(user: &User, id: SymId, is_empty: bool) -> bool {
 }
 
 // The places are as after so many lines of `SETTINGS`, and the warnings are theirs.
-fn stands_after(user: &User, notes: &[u8], lines: u8) -> bool {
+fn stands_after(user: &User, diagnostics: &[u8], lines: u8) -> bool {
     let warned = if lines > 0 { UNKNOWN } else { b"".as_slice() };
-    notes == warned
+    diagnostics == warned
         && is_empty_or_text(user, B, lines < 2)
         && is_empty_or_n(user, A, lines < 3)
         && given(user, N).is_none()
 }
 
 // After how many lines of `SETTINGS` the places stand.
-fn lines_read(user: &User, notes: &[u8]) -> Option<u8> {
-    (0u8..4).find(|lines| stands_after(user, notes, *lines))
+fn lines_read(user: &User, diagnostics: &[u8]) -> Option<u8> {
+    (0u8..4).find(|lines| stands_after(user, diagnostics, *lines))
 }
 
 // A reader over places, and what it told. Its calls have no contract of their own: what they leave is looked at.
 #[derive(Drop)]
 struct Fed<'a> {
-    reader: DotReader<'a>,
+    reader: InputReader<'a>,
     user: UserInput<'a>,
-    notes: Vec<u8>,
+    diagnostics: Vec<u8>,
     ghost places: { ArePlacesOf reader.tree user.places },
 }
 
 impl<'a> Fed<'a> {
     fn new(alloc: Global, tree: &'a Tree, prefix: &'a Prefix) -> Result<Fed<'a>, AllocError> {
         Ok(Fed {
-            reader: DotReader::new(alloc, tree, prefix, b".config"),
+            reader: InputReader::new(alloc, tree, prefix, b".config"),
             user: UserInput::new(alloc, tree, true)?,
-            notes: Vec::with_capacity(alloc, ROOM)?,
+            diagnostics: Vec::with_capacity(alloc, ROOM)?,
         })
     }
 
-    fn feed(&mut self, piece: &[u8]) -> Result<(), DotFault> {
-        self.reader.feed(piece, &mut self.user, &mut self.notes)
+    fn feed(&mut self, piece: &[u8]) -> Result<(), InputFault> {
+        self.reader
+            .feed(piece, &mut self.user, &mut self.diagnostics)
     }
 
-    fn finish(&mut self) -> Result<(), DotFault> {
-        self.reader.finish(&mut self.user, &mut self.notes)
+    fn finish(&mut self) -> Result<(), InputFault> {
+        self.reader.finish(&mut self.user, &mut self.diagnostics)
     }
 
     // How `feed` ends: of a warning, two places and a line that is not at its end.
     fn end(&mut self) -> CallEnd {
         match self.feed(SETTINGS) {
             Ok(()) => {
-                done(self.reader.pending() == 10 && stands_after(self.user.user(), &self.notes, 3))
+                done(
+                    self.reader.pending() == 10
+                        && stands_after(self.user.user(), &self.diagnostics, 3),
+                )
             }
             // Each later call answers the same and changes nothing.
             Err(fault) => {
-                let before = lines_read(self.user.user(), &self.notes);
+                let before = lines_read(self.user.user(), &self.diagnostics);
                 let again = self.feed(b"\n");
                 let ends = self.finish();
-                let is_kept = again == Err(DotFault::Memory) && ends == Err(DotFault::Memory);
+                let is_kept = again == Err(InputFault::Memory) && ends == Err(InputFault::Memory);
                 let stands = before.is_some()
-                    && before == lines_read(self.user.user(), &self.notes);
-                refused(fault == DotFault::Memory && is_kept && stands)
+                    && before == lines_read(self.user.user(), &self.diagnostics);
+                refused(fault == InputFault::Memory && is_kept && stands)
             }
         }
     }
@@ -149,13 +153,13 @@ fn read_into<'a>(
     tree: &'a Tree,
     prefix: &'a Prefix,
     user: &mut UserInput<'a>,
-    notes: &mut Vec<u8>,
+    diagnostics: &mut Vec<u8>,
 ) -> bool
     requires { ArePlacesOf tree.now user.old.places }
     ensures { ArePlacesOf tree.now user.new.places }
 {
-    let mut reader = DotReader::new(alloc, tree, prefix, b".config");
-    reader.feed(SETTINGS, user, notes).is_ok() && reader.finish(user, notes).is_ok()
+    let mut reader = InputReader::new(alloc, tree, prefix, b".config");
+    reader.feed(SETTINGS, user, diagnostics).is_ok() && reader.finish(user, diagnostics).is_ok()
 }
 
 // The same, with a text of its own for the warnings.
@@ -168,8 +172,8 @@ fn fill<'a>(
     requires { ArePlacesOf tree.now user.old.places }
     ensures { ArePlacesOf tree.now user.new.places }
 {
-    let mut notes = Vec::with_capacity(alloc, ROOM)?;
-    Ok(read_into(alloc, tree, prefix, user, &mut notes))
+    let mut diagnostics = Vec::with_capacity(alloc, ROOM)?;
+    Ok(read_into(alloc, tree, prefix, user, &mut diagnostics))
 }
 
 // A is n, B the text, and N seven.

@@ -6,7 +6,7 @@ use kc_expr::expression::SymId;
 use kc_read::file_map::FileMap;
 use kc_read::refusal::{Code, Refusal};
 use kc_read::sources_of;
-use kc_solve::order::EvaluationOrder;
+use kc_solve::evaluation_order::EvaluationOrder;
 use kc_tree::tree::Tree;
 use std::alloc::{AllocError, Global};
 

@@ -21,18 +21,18 @@ use Rattle.kc_user.specs.Places.{ArePlacesOf, Places, place_at}
 use Rattle.kc_values.specs.Differs.{given_of}
 use Rattle.kc_values.specs.Lookups.{facts, name}
 use Rattle.kc_solve.specs.Solved.{Solution, known, warnings as value_warnings}
-use Rattle.kc_dot.specs.Changes.{StreamLocation, change_line, change_text}
-use Rattle.kc_dot.specs.Effects.{Effect, Silent, Warns, Assigns, SetAgain, LineWarning, kind_in, kind_of, warning_line}
-use Rattle.kc_dot.specs.Reading.{Line, UserInput, before_too_long, effect, effect_text, input_after, is_within, lines_of, reading, stream_location, warning, warning_line_if, warnings}
-use Rattle.kc_dot.specs.ReadingLaws.{LinesGiveInTurn, LinesInTurn}
-use Rattle.kc_dot.specs.SolvedView.{solution_view}
-use Rattle.kc_dot.specs.Texts.{config_text}
+use Rattle.kc_config_file.specs.Changes.{StreamLocation, change_line, change_text}
+use Rattle.kc_config_file.specs.Effects.{Effect, Silent, Warns, Assigns, SetAgain, LineWarning, type_in, type_of, warning_line}
+use Rattle.kc_config_file.specs.Reading.{Line, UserInput, before_too_long, effect, effect_text, input_after, is_within, lines_of, reading, stream_location, warning, warning_line_if, warnings}
+use Rattle.kc_config_file.specs.ReadingLaws.{LinesGiveInTurn, LinesInTurn}
+use Rattle.kc_config_file.specs.SolvedView.{solution_view}
+use Rattle.kc_config_file.specs.Texts.{config_text}
 use Rattle.kc_options.specs.declared.options.Options.{Options}
 use Rattle.kc_conf.specs.Accounted.{HoldsLine, IsAccountedFor, IsKeptOrWarned, IsSetAgain, LeavesAlone, NothingIsLost}
 use Rattle.kc_conf.specs.Lost.{has_prompt, lost_at, lost_by, lost_line, lost_lines, lost_of}
 use Rattle.kc_options.specs.Asked.{lead}
 use Rattle.kc_conf.proofs.OutcomeLemmas.{text_if_is}
-use Rattle.kc_conf.specs.Outcome.{AreLines, Outcome, fresh_input, lines_text, lost_warnings, names_of, noted, read_of, root_file, streams, warned_files, with_rule}
+use Rattle.kc_conf.specs.Outcome.{AreLines, Outcome, fresh_input, lines_text, lost_warnings, names_of, reported, read_of, root_file, streams, warned_files, with_rule}
 use Rattle.kc_conf.specs.Reruns.{RefusesNothing, WrittenAreWhole}
 use Rattle.kc_conf.proofs.PartLemmas.{AreLines-append, AreLines-nothing, AreLines-reading, AreLines-warning_if, AreLines-warnings}
 
@@ -106,14 +106,14 @@ module _ (lines : List (Option StreamLocation)) (s : Solution) (id : SymId) (f :
   value = given_of (known s id)
 
   abbrev line_of : List ℕ
-  line_of = lost_line at (name s.tree id) f.kind given value
+  line_of = lost_line at (name s.tree id) f.symbol_type given value
 
   lost_here : lost_at lines s id.0 ≡ (if same_given given value then [] else line_of ∷ [])
   lost_here =
       ap (λ o. lost_of (name s.tree id) o (slice_index_or lines id.0 None) (place_at s.places (SymbolPlace id.0)) value) defined
-      ∙ ap (λ b. if b then lost_by (name s.tree id) f.kind (slice_index_or lines id.0 None) (place_at s.places (SymbolPlace id.0)) value else []) prompted
-      ∙ ap (λ o. lost_by (name s.tree id) f.kind (slice_index_or lines id.0 None) o value) there
-      ∙ ap (λ l. lost_by (name s.tree id) f.kind l (Some given) value) by_line
+      ∙ ap (λ b. if b then lost_by (name s.tree id) f.symbol_type (slice_index_or lines id.0 None) (place_at s.places (SymbolPlace id.0)) value else []) prompted
+      ∙ ap (λ o. lost_by (name s.tree id) f.symbol_type (slice_index_or lines id.0 None) o value) there
+      ∙ ap (λ l. lost_by (name s.tree id) f.symbol_type l (Some given) value) by_line
 
   kept_or_told : (given ≡ value) ⊎ StandsIn (line_of ++ codes "\n") (lines_text (lost_lines lines s))
   kept_or_told = by (same_given given value) refl where
@@ -303,9 +303,9 @@ module _ (files : Files) (options : Options) (all : List (List ℕ)) (tree : Tre
   last_lines = (input_after tree prefix empty lines).lines
 
   module _ (formed : IsWellFormed tree) (turn : LinesInTurn tree prefix) (asked : options.warn_lost ≡ true) (outcome : Outcome) (opened : List (List ℕ)) (is : outcome ≡ with_rule options opened
-      (noted (lines_text tree.warnings) (noted (read_of options tree all).warned (warned_files options tree (read_of options tree all).input solution)))) where
-    notes_are : outcome.warned ≡ lines_text tree.warnings ++ (warnings tree prefix empty lines ++ (lines_text (map (λ line. lead options ++ line) (value_warnings solution)) ++ lines_text (lost_lines last_lines solution)))
-    notes_are =
+      (reported (lines_text tree.warnings) (reported (read_of options tree all).warned (warned_files options tree (read_of options tree all).input solution)))) where
+    diagnostics_are : outcome.warned ≡ lines_text tree.warnings ++ (warnings tree prefix empty lines ++ (lines_text (map (λ line. lead options ++ line) (value_warnings solution)) ++ lines_text (lost_lines last_lines solution)))
+    diagnostics_are =
         ap (λ (o : Outcome). o.warned) is
         ∙ ap (λ w. lines_text tree.warnings ++ (w ++ (lines_text (map (λ line. lead options ++ line) (value_warnings solution)) ++ lines_text (lost_warnings options (read_of options tree all).input solution)))) warned_are
         ∙ ap (λ (i : UserInput). lines_text tree.warnings ++ (warnings tree prefix empty lines ++ (lines_text (map (λ line. lead options ++ line) (value_warnings solution)) ++ lines_text (lost_warnings options i solution)))) input_is
@@ -314,12 +314,12 @@ module _ (files : Files) (options : Options) (all : List (List ℕ)) (tree : Tre
     -- what is warned of as the streams are read stands in the notes, and so does what is lost
     of_streams : (part : List ℕ) → StandsIn part (warnings tree prefix empty lines) → StandsIn part outcome.warned
     of_streams part stands =
-        subst (StandsIn part) (sym notes_are)
+        subst (StandsIn part) (sym diagnostics_are)
         (stands_after (lines_text tree.warnings) part _ (tree.warnings, refl) (stands_before (lines_text (map (λ line. lead options ++ line) (value_warnings solution)) ++ lines_text (lost_lines last_lines solution)) part _ stands))
 
     of_lost : (part : List ℕ) → StandsIn part (lines_text (lost_lines last_lines solution)) → StandsIn part outcome.warned
     of_lost part stands =
-        subst (StandsIn part) (sym notes_are)
+        subst (StandsIn part) (sym diagnostics_are)
         (stands_after (lines_text tree.warnings) part _ (tree.warnings, refl)
         (stands_after (warnings tree prefix empty lines) part _ (subst AreLines warned_are (AreLines-reading tree prefix lines empty))
         (stands_after (lines_text (map (λ line. lead options ++ line) (value_warnings solution))) part _ (map (λ line. lead options ++ line) (value_warnings solution), refl) stands)))
@@ -366,8 +366,8 @@ module _ (files : Files) (options : Options) (all : List (List ℕ)) (tree : Tre
       kept stays = elim (kept_or_told last_lines solution s f given (stream_location l) (subst (λ (t : TreeFacts). facts t s ≡ Some f) (sym is_whole.solution_is.tree_is) defined)
           (subst (λ (t : TreeFacts). Contains t.defined s) (sym is_whole.solution_is.tree_is) (formed.prompted_defined s f defined (some_prompts f.prompts prompted))) prompted there by_line) [
             | inl same ↦ inl same
-            | inr told ↦ inr (of_lost (lost_line (stream_location l) (name tree s) f.kind given (given_of (known solution s)) ++ codes "\n")
-                (subst (λ (t : TreeFacts). StandsIn (lost_line (stream_location l) (name t s) f.kind given (given_of (known solution s)) ++ codes "\n")
+            | inr told ↦ inr (of_lost (lost_line (stream_location l) (name tree s) f.symbol_type given (given_of (known solution s)) ++ codes "\n")
+                (subst (λ (t : TreeFacts). StandsIn (lost_line (stream_location l) (name t s) f.symbol_type given (given_of (known solution s)) ++ codes "\n")
                 (lines_text (lost_lines last_lines solution))) is_whole.solution_is.tree_is told))
           ]
         where
@@ -401,36 +401,36 @@ module _ (files : Files) (options : Options) (all : List (List ℕ)) (tree : Tre
         first = warning_line m.stream m.number (SetAgain (name tree s))
 
         abbrev change : List ℕ
-        change = change_text (stream_location m) (name tree s) (kind_of tree s) (Some given) (Some (stream_location l)) other
+        change = change_text (stream_location m) (name tree s) (type_of tree s) (Some given) (Some (stream_location l)) other
 
         told : StandsIn (first ++ change) outcome.warned
         told =
             subst (λ x. StandsIn x outcome.warned)
             (ap (λ o. warning_line_if m.stream m.number (if is_some o then Some (SetAgain (name tree s)) else None)
-            ++ change_text (stream_location m) (name tree s) (kind_of tree s) o (slice_index_or mid.lines s.0 None) other) had_then.0
-            ∙ ap (λ o. first ++ change_text (stream_location m) (name tree s) (kind_of tree s) (Some given) o other) had_then.1)
+            ++ change_text (stream_location m) (name tree s) (type_of tree s) o (slice_index_or mid.lines s.0 None) other) had_then.0
+            ∙ ap (λ o. first ++ change_text (stream_location m) (name tree s) (type_of tree s) (Some given) o other) had_then.1)
             (line_told (before ++ l ∷ front) back m (Assigns s other) joined sets)
 
         set_again_told : StandsIn first outcome.warned
         set_again_told = stands_within [] first change outcome.warned AreLines-nothing told
 
-        kind_is : kind_of tree s ≡ f.kind
-        kind_is = ap kind_in defined
+        type_is : type_of tree s ≡ f.symbol_type
+        type_is = ap type_in defined
 
-        changed : same_given given other ≡ false → StandsIn (change_line (stream_location m) (name tree s) f.kind given (stream_location l) other) outcome.warned
+        changed : same_given given other ≡ false → StandsIn (change_line (stream_location m) (name tree s) f.symbol_type given (stream_location l) other) outcome.warned
         changed differs =
-            stands_within first (change_line (stream_location m) (name tree s) f.kind given (stream_location l) other) [] outcome.warned
+            stands_within first (change_line (stream_location m) (name tree s) f.symbol_type given (stream_location l) other) [] outcome.warned
             (AreLines-warning_if m.stream m.number (Some (SetAgain (name tree s))))
             (subst (λ x. StandsIn (first ++ x) outcome.warned)
-            (ap (λ k. change_text (stream_location m) (name tree s) k (Some given) (Some (stream_location l)) other) kind_is
-            ∙ ap (λ b. if b then [] else change_line (stream_location m) (name tree s) f.kind given (stream_location l) other) differs
-            ∙ sym (append-nil (change_line (stream_location m) (name tree s) f.kind given (stream_location l) other))) told)
+            (ap (λ k. change_text (stream_location m) (name tree s) k (Some given) (Some (stream_location l)) other) type_is
+            ∙ ap (λ b. if b then [] else change_line (stream_location m) (name tree s) f.symbol_type given (stream_location l) other) differs
+            ∙ sym (append-nil (change_line (stream_location m) (name tree s) f.symbol_type given (stream_location l) other))) told)
 
-      again : SetsAgain tree prefix here s given (stream_location l) later → IsSetAgain tree prefix outcome.warned l s f.kind given later
+      again : SetsAgain tree prefix here s given (stream_location l) later → IsSetAgain tree prefix outcome.warned l s f.symbol_type given later
       again (front, back, m, other, is_later, leaves, sets, had) =
           (front, back, m, other, is_later, leaves, sets, set_again_told front back m other is_later sets had, changed front back m other is_later sets had)
 
-      heard : IsSetAgain tree prefix outcome.warned l s f.kind given later ⊎ IsKeptOrWarned tree solution outcome.warned l s f given
+      heard : IsSetAgain tree prefix outcome.warned l s f.symbol_type given later ⊎ IsKeptOrWarned tree solution outcome.warned l s f given
       heard = elim (stays_or_set tree prefix turn here later s given (stream_location l) has) [
         | inl stays ↦ inr (kept stays)
         | inr set ↦ inl (again set)

@@ -6,10 +6,10 @@ use Rattle.std.specs.Option.{option_map_or}
 use Rattle.std.proofs.lemmas.List.Elements.{All-cons, All-head, All-nil, All-tail}
 use Rattle.std.proofs.lemmas.Slice.Eq.{bytes_eq-Decides}
 use Rattle.kc_io.specs.Held.{last_of}
-use Rattle.kc_io.specs.Log.{Event, Journal, Log, Leads, failed, held, is_held, noted}
+use Rattle.kc_io.specs.Log.{Event, Journal, Log, Leads, failed, held, is_held, reported}
 use Rattle.kc_io.specs.Scripts.{NamedText, stale}
-use Rattle.kc_io.specs.declared.device.Action.TheVariants.{Note}
-use Rattle.kc_io.proofs.LogLemmas.{keeps_noted}
+use Rattle.kc_io.specs.declared.device.Action.TheVariants.{Report}
+use Rattle.kc_io.proofs.LogLemmas.{keeps_reported}
 use Rattle.kc_read.specs.Files.{Files}
 use Rattle.kc_tree.specs.TreeFacts.{TreeFacts}
 use Rattle.kc_options.specs.Asked.{input_files}
@@ -141,7 +141,7 @@ module _ (files : Files) (tree : TreeFacts) where
     takes_keeps : (name : List ℕ) (old new : Journal) (status : Status) (is_over : Bool) → ((o : Options) → are_options o → is_among name (written_files o) ≡ false) →
         TakesTurn files tree are_options (Some old) (Some new) status is_over → held new name ≡ held old name
     takes_keeps name old new status is_over none (many.runs o are r) = turn_ends o r.inputs r.part name old new status is_over (none o are) r.ends
-    takes_keeps name old new status is_over none (many.no_options (report, leads) is over) = kept_held name (noted report) _ old new leads (keeps_noted report)
+    takes_keeps name old new status is_over none (many.no_options (report, leads) is over) = kept_held name (reported report) _ old new leads (keeps_reported report)
 
     module _ (before last : Journal) where
       ends_among : (o : Options) (inputs : List InputFile) (part : Outcome) (old new : Journal) (status : Status) (is_over : Bool) → HoldAlike o before old → HoldAlike o new last →
@@ -237,10 +237,10 @@ module _ (files : Files) (tree : TreeFacts) (options : ℕ → Options → Type 
 
 stops_keep : (files : Files) (root : List ℕ) (old new : Journal) (status : Status) → StopsAtTree files root (Some old) (Some new) status → (name : List ℕ) → held new name ≡ held old name
 stops_keep files root old new status (many.refused_tree r is leads e) name = kept_held name [] _ old new leads refl
-stops_keep files root old new status (many.unsaid_refusal r is (fault, leads) e) name = kept_held name (failed Note [] fault) _ old new leads refl
-stops_keep files root old new status (many.unsaid_warnings tree is some (fault, leads) e) name = kept_held name (failed Note [] fault) _ old new leads refl
+stops_keep files root old new status (many.unsaid_refusal r is (fault, leads) e) name = kept_held name (failed Report [] fault) _ old new leads refl
+stops_keep files root old new status (many.unsaid_warnings tree is some (fault, leads) e) name = kept_held name (failed Report [] fault) _ old new leads refl
 stops_keep files root old new status (many.no_memory (Ok u, leads) e) name = kept_held name [] _ old new leads refl
-stops_keep files root old new status (many.no_memory (Err fault, leads) e) name = kept_held name (failed Note [] fault) _ old new leads refl
+stops_keep files root old new status (many.no_memory (Err fault, leads) e) name = kept_held name (failed Report [] fault) _ old new leads refl
 
 pub each_leaves_its_part_law : (options : ℕ → Options → Type 0) (count : ℕ) → EachLeavesItsPart options count
 each_leaves_its_part_law options count files root before after status separate (many.stops s) = among.stops s (stops_keep files root before after status s)

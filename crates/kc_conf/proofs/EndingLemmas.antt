@@ -5,26 +5,26 @@ use Rattle.std.proofs.Common.{◌≡◌, ◌≢◌, inl, inr, ℕ, Bool, true, f
 use Rattle.std.specs.Prelude.{if◌then◌else◌, not, filter, bytes_eq}
 use Rattle.std.specs.Option.{option_map_or}
 use Rattle.std.specs.List.{flat_map}
-use Rattle.kc_dot.specs.Sink.{GoesBeyond}
-use Rattle.kc_dot.specs.Reading.{StreamLocation}
+use Rattle.kc_config_file.specs.Sink.{GoesBeyond}
+use Rattle.kc_config_file.specs.Reading.{StreamLocation}
 use Rattle.kc_read.specs.Expansion.{Refused as RefusedTree}
 use Rattle.kc_io.specs.Delivered.{Delivered, StopsBefore, cleared, failure_of}
 use Rattle.kc_io.specs.Log.{Event, Journal, Log, Leads, Tells, did, each_byte, held, is_held}
 use Rattle.kc_io.specs.Scripts.{NamedText, chosen, delivery, moved, put, share_name, stale}
 use Rattle.kc_io.specs.declared.delivery.Manner.{Manner}
-use Rattle.kc_io.specs.declared.delivery.Manner.TheVariants.{Plain, Replacing}
+use Rattle.kc_io.specs.declared.delivery.Manner.TheVariants.{InPlace, Replacing}
 use Rattle.kc_io.specs.declared.device.Action.{Action}
-use Rattle.kc_io.specs.declared.device.Action.TheVariants.{Create, Close, Clear, Note, Write as WriteAt}
+use Rattle.kc_io.specs.declared.device.Action.TheVariants.{Create, Close, Clear, Report, Write as WriteAt}
 use Rattle.kc_io.specs.declared.device.Site.TheVariants.{Beside}
 use Rattle.kc_io.specs.declared.steps.Failure.{Failure}
 use Rattle.kc_io.proofs.LogLemmas.{leads_as, leads_both, leads_nothing, leads_said}
 use Rattle.kc_options.specs.Asked.{lead}
-use Rattle.kc_conf.specs.Endings.{BreaksEnd, EndStops, Ends, HandsBy, IsChecked, IsEnded, in_delivery, in_notes}
+use Rattle.kc_conf.specs.Endings.{BreaksEnd, EndStops, Ends, HandsBy, IsChecked, IsEnded, in_delivery, in_diagnostics}
 use Rattle.kc_conf.specs.Ends.{delivered_by, delivers, stale_by, stale_lines, stale_texts, status_with}
 use Rattle.kc_conf.specs.ErrorLines.{error_at, error_if_at, first_line, message_behind, message_before, refusal_line, stale_line, strict_line, too_long_line, unreadable_line}
 use Rattle.kc_conf.specs.Given.{still_told}
 use Rattle.kc_conf.specs.Outcome.{AreLines, lines_text}
-use Rattle.kc_conf.specs.Reads.{IsNoteStop}
+use Rattle.kc_conf.specs.Reads.{IsReportStop}
 use Rattle.kc_conf.specs.Stops.{cleared_by, clearing, event_of}
 use Rattle.kc_options.specs.declared.options.Delivery.{Delivery}
 use Rattle.kc_options.specs.declared.options.Delivery.TheVariants.{Write, Replace, Check}
@@ -90,29 +90,29 @@ stale-nothing Replace journal = refl
 stale-nothing Check journal = refl
 
 -- what failed was no delivery
-pub cleared-note : (by : Delivery) (action : Action) → action ≡ Note → cleared_by by action ≡ []
-cleared-note Write action e = refl
-cleared-note Replace action e = ap (cleared_by Replace) e
-cleared-note Check action e = refl
+pub cleared-report : (by : Delivery) (action : Action) → action ≡ Report → cleared_by by action ≡ []
+cleared-report Write action e = refl
+cleared-report Replace action e = ap (cleared_by Replace) e
+cleared-report Check action e = refl
 
 -- ---- what is refused
 
 -- the events of diagnostics that failed
-note-log : (options : Options) (stop : Stop) (old new : Log) → IsNoteStop stop → Leads (event_of stop) [] old new → Leads ([] ++ event_of stop ++ clearing options stop) [] old new
-note-log options OutOfMemory old new never log = absurd never
-note-log options (Failed f) old new (note, name) log =
+report-log : (options : Options) (stop : Stop) (old new : Log) → IsReportStop stop → Leads (event_of stop) [] old new → Leads ([] ++ event_of stop ++ clearing options stop) [] old new
+report-log options OutOfMemory old new never log = absurd never
+report-log options (Failed f) old new (report, name) log =
     leads_as (event_of (Failed f)) (event_of (Failed f) ++ clearing options (Failed f)) [] old new
-    (sym (append-nil (event_of (Failed f))) ∙ ap (λ l. event_of (Failed f) ++ l) (sym (cleared-note options.delivery f.action note))) log
+    (sym (append-nil (event_of (Failed f))) ∙ ap (λ l. event_of (Failed f) ++ l) (sym (cleared-report options.delivery f.action report))) log
 
 -- the diagnostics failed before anything was said
-pub BreaksEnd-note : (options : Options) (waits line : List ℕ) (texts : List NamedText) (stop : Stop) (old new : Log) → waits ++ line ≢ [] → IsNoteStop stop → Leads (event_of stop) [] old new →
+pub BreaksEnd-report : (options : Options) (waits line : List ℕ) (texts : List NamedText) (stop : Stop) (old new : Log) → waits ++ line ≢ [] → IsReportStop stop → Leads (event_of stop) [] old new →
     BreaksEnd options waits line texts stop old new
-BreaksEnd-note options waits line texts OutOfMemory old new some never log = absurd never
-BreaksEnd-note options waits line texts (Failed f) old new some (note, name) log = record {
+BreaksEnd-report options waits line texts OutOfMemory old new some never log = absurd never
+BreaksEnd-report options waits line texts (Failed f) old new some (report, name) log = record {
   done = [];
   front = [];
-  stops = in_notes f [] note name AreLines-nothing (λ journal e. beyond-nothing (waits ++ line) (stale_lines options (stale_texts options texts journal)) some);
-  log = note-log options (Failed f) old new (note, name) log;
+  stops = in_diagnostics f [] report name AreLines-nothing (λ journal e. beyond-nothing (waits ++ line) (stale_lines options (stale_texts options texts journal)) some);
+  log = report-log options (Failed f) old new (report, name) log;
 }
 
 -- a line was said, and that refuses
@@ -146,8 +146,8 @@ delivers-same Check texts j k same = refl
 module _ (options : Options) (waits line : List ℕ) (texts : List NamedText) (lines : AreLines waits) (old mid new : Log) (h : Leads [] waits old mid) where
   waits-stops : {stop : Stop} {done : List Event} {front : List ℕ} (b : List Event) (t : List ℕ) → Leads b t mid new → EndStops options [] line texts (still_told mid new) stop done front →
       EndStops options waits line texts (still_told old new) stop done (waits ++ front)
-  waits-stops b t w (in_notes f front note name are beyond) =
-      in_notes f (waits ++ front) note name (AreLines-append waits front lines are)
+  waits-stops b t w (in_diagnostics f front report name are beyond) =
+      in_diagnostics f (waits ++ front) report name (AreLines-append waits front lines are)
       (Tells-first (λ journal. GoesBeyond ((waits ++ line) ++ stale_lines options (stale_texts options texts journal)) (waits ++ front)) old mid new [] b waits t refl
       (λ j k same p. subst (λ (s : List NamedText). GoesBeyond ((waits ++ line) ++ stale_lines options s) (waits ++ front)) (stale-same options.delivery texts j k same) p) h w
       (Tells-weaker (λ journal. GoesBeyond (line ++ stale_lines options (stale_texts options texts journal)) front)
@@ -187,9 +187,9 @@ module _ (options : Options) (waits line : List ℕ) (texts : List NamedText) (l
   Ends-behind ended (Err stop) b = BreaksEnd-behind stop b
 
 -- it was not said
-pub Ends-unsaid : (options : Options) (waits line : List ℕ) (texts : List NamedText) (stop : Stop) (old new : Log) → IsNoteStop stop × (waits ≢ []) × Leads (event_of stop) [] old new →
+pub Ends-unsaid : (options : Options) (waits line : List ℕ) (texts : List NamedText) (stop : Stop) (old new : Log) → IsReportStop stop × (waits ≢ []) × Leads (event_of stop) [] old new →
     BreaksEnd options waits line texts stop old new
-Ends-unsaid options waits line texts stop old new (note, some, log) = BreaksEnd-note options waits line texts stop old new (some-before waits line some) note log
+Ends-unsaid options waits line texts stop old new (report, some, log) = BreaksEnd-report options waits line texts stop old new (some-before waits line some) report log
 
 -- ---- texts that are delivered
 
@@ -272,14 +272,14 @@ module _ (options : Options) (texts : List NamedText) (old : Log) (f : Failure) 
   }
 
 -- texts that are written
-pub Ends-written : (options : Options) (texts : List NamedText) (old new : Log) (result : Result Status Stop) → options.delivery ≡ Write → HandsBy Plain texts old new result →
+pub Ends-written : (options : Options) (texts : List NamedText) (old new : Log) (result : Result Status Stop) → options.delivery ≡ Write → HandsBy InPlace texts old new result →
     Ends options [] [] texts Done result old new
 Ends-written options texts old new (Ok status) write (done, d) =
     subst (λ (s : Status). IsEnded options [] [] texts Done old new s) (sym done)
-    (IsEnded-delivered options Plain texts old new (λ journal. ap (λ (by : Delivery). delivered_by by texts journal) (sym write)) (λ journal. ap (λ (by : Delivery). stale_by by texts journal) (sym write)) d)
+    (IsEnded-delivered options InPlace texts old new (λ journal. ap (λ (by : Delivery). delivered_by by texts journal) (sym write)) (λ journal. ap (λ (by : Delivery). stale_by by texts journal) (sym write)) d)
 Ends-written options texts old new (Err OutOfMemory) write d = absurd d
 Ends-written options texts old new (Err (Failed f)) write d =
-    BreaksEnd-delivered options texts old f Plain new (λ journal. ap (λ (by : Delivery). delivered_by by texts journal) (sym write)) d
+    BreaksEnd-delivered options texts old f InPlace new (λ journal. ap (λ (by : Delivery). delivered_by by texts journal) (sym write)) d
     (λ journal all. ap (λ (by : Delivery). cleared_by by f.action) (sym write))
 
 -- texts that take their places at the end
@@ -364,17 +364,17 @@ module _ (options : Options) (old mid : Log) (front : List NamedText) (status : 
     }
 
     -- or cannot be told
-    pub BreaksEnd-old : options.delivery ≡ Check → (behind : List NamedText) (stop : Stop) (new : Log) → IsNoteStop stop → Leads (event_of stop) [] mid new →
+    pub BreaksEnd-old : options.delivery ≡ Check → (behind : List NamedText) (stop : Stop) (new : Log) → IsReportStop stop → Leads (event_of stop) [] mid new →
         BreaksEnd options [] [] (front ++ text ∷ behind) stop old new
     BreaksEnd-old checks behind OutOfMemory new never said = absurd never
-    BreaksEnd-old checks behind (Failed f) new (note, name) said = record {
+    BreaksEnd-old checks behind (Failed f) new (report, name) said = record {
       done = [];
       front = stale_lines options so_far.found;
-      stops = in_notes f (stale_lines options so_far.found) note name (AreLines-stale options so_far.found)
+      stops = in_diagnostics f (stale_lines options so_far.found) report name (AreLines-stale options so_far.found)
           (Tells-later (λ journal. GoesBeyond (stale_lines options (stale_texts options (front ++ text ∷ behind) journal)) (stale_lines options so_far.found)) old mid new
           (event_of (Failed f)) [] said (λ journal e. goes journal (so_far.of_old journal e) (old-now journal e)));
       log = leads_said (event_of (Failed f) ++ clearing options (Failed f)) (stale_lines options so_far.found ++ []) (stale_lines options so_far.found) old new (append-nil (stale_lines options so_far.found))
-          (leads_both [] (event_of (Failed f) ++ clearing options (Failed f)) (stale_lines options so_far.found) [] old mid new so_far.log (note-log options (Failed f) mid new (note, name) said));
+          (leads_both [] (event_of (Failed f) ++ clearing options (Failed f)) (stale_lines options so_far.found) [] old mid new so_far.log (report-log options (Failed f) mid new (report, name) said));
     }
       where
         goes : (journal : Journal) → so_far.found ≡ stale front journal → false ≡ is_held journal text.name text.bytes →

@@ -4,7 +4,7 @@ use Rattle.std.specs.List.{range_with_len}
 use Rattle.kc_expr.specs.declared.expression.SymId.{SymId}
 use Rattle.std.proofs.lemmas.List.FromFn.{get_or-map-range_with_len, length-map-range_with_len}
 use Rattle.kc_expr.specs.Value.{SymbolValue, TextValue}
-use Rattle.kc_expr.specs.declared.expression.Kind.TheVariants.{Undefined}
+use Rattle.kc_expr.specs.declared.expression.SymbolType.TheVariants.{Undefined}
 use Rattle.kc_read.specs.OpenedFiles.{AreOpened, OpenedAreOneList}
 use Rattle.kc_read.specs.Existing.{HasOneExpansion}
 use Rattle.kc_read.specs.Expansion.{Refused}
@@ -20,13 +20,13 @@ use Rattle.kc_values.specs.Solution.{equations, name_count}
 use Rattle.kc_solve.specs.LoopText.{loop_text}
 use Rattle.kc_solve.specs.Refused.{loop_refused}
 use Rattle.kc_solve.specs.Solved.{Solution, value_of}
-use Rattle.kc_dot.specs.Reading.{StreamLocation}
-use Rattle.kc_dot.specs.Streams.{StreamsLeavePlaces}
+use Rattle.kc_config_file.specs.Reading.{StreamLocation}
+use Rattle.kc_config_file.specs.Streams.{StreamsLeavePlaces}
 use Rattle.kc_options.specs.declared.options.Options.{Options}
 use Rattle.kc_options.specs.Asked.{lead}
 use Rattle.kc_conf.specs.ErrorLines.{refusal_line, too_long_line, unreadable_line}
 use Rattle.kc_conf.specs.Existence.{AcceptedHaveAnOutcome, AnswerExists, OutcomeExists, SolutionExists}
-use Rattle.kc_conf.specs.Outcome.{IsAcceptedTree, IsLenientOutcome, IsOutcome, IsOutcomeOfReading, IsRefusedTree, Outcome, accepted_tree, lines_text, long_line, looped, names_of, no_tree, noted, outcome_of, read_of, refused, refused_name, refused_tree, root_file, streams, strictly, unreadable_name, whole, with_rule}
+use Rattle.kc_conf.specs.Outcome.{IsAcceptedTree, IsLenientOutcome, IsOutcome, IsOutcomeOfReading, IsRefusedTree, Outcome, accepted_tree, lines_text, long_line, looped, names_of, no_tree, reported, outcome_of, read_of, refused, refused_name, refused_tree, root_file, streams, strictly, unreadable_name, whole, with_rule}
 
 -- ---- a solution
 
@@ -96,11 +96,11 @@ ended files options opened all lenient are is =
 module _ (opens : OpenedAreOneList) (formed : TreesAreWellFormed) (leaves : StreamsLeavePlaces) (solved : SolutionExists) where
   of_stop : (files : Files) (options : Options) (all : List (List ℕ)) (tree : TreeFacts) → IsAcceptedTree files (root_file options) tree →
       (stopped : Option StreamLocation) → (read_of options tree all).stopped ≡ stopped → (rest : Outcome) × IsOutcomeOfReading options tree (read_of options tree all) rest
-  of_stop files options all tree accepted (Some stop) is = (noted (read_of options tree all).warned (refused (too_long_line stop)), long_line stop is refl)
+  of_stop files options all tree accepted (Some stop) is = (reported (read_of options tree all).warned (refused (too_long_line stop)), long_line stop is refl)
   of_stop files options all tree accepted None is =
       let held : ArePlaces tree (read_of options tree all).input.places = leaves tree options.prefix options.warn_lost (streams (names_of options) all) (formed files (root_file options) tree accepted.built) in
       let (solution, for) = solved tree (read_of options tree all).input.places accepted.accepted held.there in
-      (noted (read_of options tree all).warned (outcome_of options tree (read_of options tree all).input solution), whole solution is for refl)
+      (reported (read_of options tree all).warned (outcome_of options tree (read_of options tree all).input solution), whole solution is for refl)
 
   pub accepted_outcome : AcceptedHaveAnOutcome
   accepted_outcome files options all tree accepted =
@@ -112,7 +112,7 @@ module _ (opens : OpenedAreOneList) (formed : TreesAreWellFormed) (leaves : Stre
       by opened are (Some name) unread = ended files options opened all (refused (lead options ++ unreadable_line name)) are (refused_name tree name accepted unread refl)
       by opened are None read =
           let (rest, part) = of_stop files options all tree accepted (read_of options tree all).stopped refl in
-          ended files options opened all (noted (lines_text tree.warnings) rest) are (accepted_tree tree accepted read (rest, part, refl))
+          ended files options opened all (reported (lines_text tree.warnings) rest) are (accepted_tree tree accepted read (rest, part, refl))
 
   pub outcome_exists : AnswerExists → OutcomeExists
   outcome_exists answer files options all = elim (answer files (root_file options)) [

@@ -9,9 +9,9 @@ use Rattle.kc_io.specs.Reading.{IsAtEnd, IsFound, OpenFile, ReadsOn, contents}
 use Rattle.kc_io.specs.Reading as device
 use Rattle.kc_io.specs.declared.device.Action.TheVariants.{Miss, Open, Read}
 use Rattle.kc_io.proofs.LogLemmas.{bytes_both, leads_as, leads_both, leads_nothing, leads_said}
-use Rattle.kc_dot.specs.Feeding.{ReadsPiece, StreamPosition, stream_start, to_come}
-use Rattle.kc_dot.specs.ReaderState.{ReaderState}
-use Rattle.kc_dot.specs.Reading.{Line, lines_from, reading, with_warnings}
+use Rattle.kc_config_file.specs.Feeding.{ReadsPiece, StreamPosition, stream_start, to_come}
+use Rattle.kc_config_file.specs.ReaderState.{ReaderState}
+use Rattle.kc_config_file.specs.Reading.{Line, lines_from, reading, with_warnings}
 use Rattle.kc_conf.specs.Given.{InputFile, IsAsTold, IsThere, begun, ended_lines, reads_one, still_told}
 use Rattle.kc_conf.specs.ReadSteps.{BreaksEnd, BreaksFile, BreaksOpened, BreaksPiece, EndsFile, FailsAt, Gives, IsStillFresh, Opens, ReadsFile, ReadsLines, ReadsOpened, Stand, StopsFile, TakesPiece, TakesSoFar, Warns, in_file, in_lines, said_now, there_file}
 use Rattle.kc_conf.specs.Stops.{event_of}

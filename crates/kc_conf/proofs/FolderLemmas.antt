@@ -10,7 +10,7 @@ use Rattle.kc_load.specs.Expanding.{ExpandsAlike}
 use Rattle.kc_options.specs.declared.options.Options.{Options}
 use Rattle.kc_options.specs.declared.options.Status.{Status}
 use Rattle.kc_conf.specs.declared.stop.Stop.{Stop}
-use Rattle.kc_conf.specs.Ends.{AreReads, Breaks, Broken, Completes, Runs, in_delivery, in_input, in_notes, no_memory, of_tree, refused_name as reads_no_name, refused_tree as reads_no_tree}
+use Rattle.kc_conf.specs.Ends.{AreReads, Breaks, Broken, Completes, Runs, in_delivery, in_input, in_diagnostics, no_memory, of_tree, refused_name as reads_no_name, refused_tree as reads_no_tree}
 use Rattle.kc_conf.specs.Given.{InputFile}
 use Rattle.kc_conf.specs.Many.{AreRootedAt, EndsTurn, IsPart, RunsEach, RunsTurn, StopsAtTree, TakeTurns, TakesTurn}
 use Rattle.kc_conf.specs.Many as many
@@ -70,7 +70,7 @@ module _ (options : Options) (files others : Files) (alike : ExpandsAlike (root_
   breaks_over : (before : TreeFacts → List ℕ) (inputs : List InputFile) (outcome : Outcome) (told : Log) (stop : Stop) (done : List Event) (front : List ℕ) →
       Breaks files options before inputs outcome told stop done front → Breaks others options before inputs outcome told stop done front
   breaks_over before inputs outcome told stop done front (no_memory d left f all lines begins) = no_memory d left f all lines begins
-  breaks_over before inputs outcome told stop done front (in_notes f d left fr action name all lines more) = in_notes f d left fr action name all lines more
+  breaks_over before inputs outcome told stop done front (in_diagnostics f d left fr action name all lines more) = in_diagnostics f d left fr action name all lines more
   breaks_over before inputs outcome told stop done front (in_input f tree file d saying x read action name up_to) =
       in_input f tree file d saying (accepted_over top files others alike tree x) (read_over read) action name up_to
   breaks_over before inputs outcome told stop done front (in_delivery f events d are left) = in_delivery f events d (reads_over inputs told events are) left

@@ -12,14 +12,14 @@ use Rattle.kc_io.specs.Held.{keeps_files}
 use Rattle.kc_io.specs.Log.{Event, Journal, Log, Leads, Tells, did, each_byte, held}
 use Rattle.kc_io.specs.declared.device.Action.TheVariants.{Miss, Open, Read}
 use Rattle.kc_io.proofs.LogLemmas.{held_stays, keeps_both, keeps_bytes, leads_as, leads_both, leads_nothing}
-use Rattle.kc_dot.specs.Feeding.{stream_start}
-use Rattle.kc_dot.specs.Laws.{HasShortLines}
-use Rattle.kc_dot.specs.ReaderState.{ReaderState}
-use Rattle.kc_dot.specs.Reading.{ReadResult, Stream, UserInput, lines_from, lines_of, reading, with_warnings}
+use Rattle.kc_config_file.specs.Feeding.{stream_start}
+use Rattle.kc_config_file.specs.Laws.{HasShortLines}
+use Rattle.kc_config_file.specs.ReaderState.{ReaderState}
+use Rattle.kc_config_file.specs.Reading.{ReadResult, Stream, UserInput, lines_from, lines_of, reading, with_warnings}
 use Rattle.kc_options.specs.Asked.{holds_warnings, input_files, lead, may_at, names_of}
 use Rattle.kc_conf.specs.Given.{AreInputs, AreThere, HasTurn, InputFile, IsAsTold, IsThere, ReadsTo, all, begun, bytes_of, ended_lines, line, reads, reads_one, still_told, warned_by}
 use Rattle.kc_conf.specs.Outcome.{AreLines, fresh_input, streams}
-use Rattle.kc_conf.specs.Reads.{BreaksInputs, ReadsInputs, StopsInputs, ended_with, in_input, in_notes, no_memory}
+use Rattle.kc_conf.specs.Reads.{BreaksInputs, ReadsInputs, StopsInputs, ended_with, in_input, in_diagnostics, no_memory}
 use Rattle.kc_conf.specs.ReadSteps.{AreAsTold, BreaksFile, ReadsFile, ReadsSoFar, Stand, StopsFile, StopsWarnings, Warns, held_back, in_file, in_lines, said_now}
 use Rattle.kc_conf.specs.Stops.{event_of}
 use Rattle.kc_options.specs.declared.options.Options.{Options}
@@ -173,7 +173,7 @@ stops-inputs told options tree inputs true OutOfMemory warned done left front sp
     no_memory done left front split (subst AreLines (sym none) AreLines-nothing) (warned, ap (λ f. f ++ warned) (sym none))
 stops-inputs told options tree inputs true (Failed f) warned done left front split never = absurd never
 stops-inputs told options tree inputs false OutOfMemory warned done left front split (lines, begins) = no_memory done left front split lines begins
-stops-inputs told options tree inputs false (Failed f) warned done left front split (note, lines, goes) = in_notes f done left front note.0 note.1 split lines goes
+stops-inputs told options tree inputs false (Failed f) warned done left front split (report, lines, goes) = in_diagnostics f done left front report.0 report.1 split lines goes
 
 slice_get-seam : (done : List InputFile) (file : InputFile) (left : List InputFile) → slice_get (done ++ file ∷ left) (length done) ≡ Some file
 slice_get-seam [] file left = refl

@@ -8,8 +8,8 @@ use Rattle.kc_solve.specs.Solved.{warnings}
 use Rattle.kc_io.specs.Log.{Event, Log, Leads}
 use Rattle.kc_io.specs.Scripts.{NamedText}
 use Rattle.kc_io.proofs.LogLemmas.{leads_nothing}
-use Rattle.kc_dot.specs.Reading.{ReadResult, StreamLocation, UserInput, lines_of, reading}
-use Rattle.kc_dot.specs.Sink.{BeginsWith}
+use Rattle.kc_config_file.specs.Reading.{ReadResult, StreamLocation, UserInput, lines_of, reading}
+use Rattle.kc_config_file.specs.Sink.{BeginsWith}
 use Rattle.kc_options.specs.Asked.{holds_warnings, lead, names_of}
 use Rattle.kc_conf.specs.Computed.{Computes, refuses, ruled_files, value_lines}
 use Rattle.kc_conf.specs.Endings.{Ends, line_if, status_if, texts_or}
@@ -17,7 +17,7 @@ use Rattle.kc_conf.specs.Ends.{AreReads, of_tree, texts_of, nothing_said}
 use Rattle.kc_conf.specs.ErrorLines.{too_long_line}
 use Rattle.kc_conf.specs.Existence.{ExactlyOneOutcome}
 use Rattle.kc_conf.specs.Given.{AreInputs, AreThere, InputFile, ReadsTo, bytes_of, reads, still_told}
-use Rattle.kc_conf.specs.Outcome.{AreLines, IsAcceptedTree, IsOutcomeOfReading, OneAnswer, Outcome, fresh_input, has_text, lines_text, lost_warnings, names_listed, noted, outcome_of, read_of, refused, root_file, streams, unreadable_name}
+use Rattle.kc_conf.specs.Outcome.{AreLines, IsAcceptedTree, IsOutcomeOfReading, OneAnswer, Outcome, fresh_input, has_text, lines_text, lost_warnings, names_listed, reported, outcome_of, read_of, refused, root_file, streams, unreadable_name}
 use Rattle.kc_conf.specs.PartRuns.{LeavesPart}
 use Rattle.kc_conf.specs.Reads.{BreaksInputs, ReadsInputs, ended_with}
 use Rattle.kc_options.specs.declared.options.Options.{Options}
@@ -142,14 +142,14 @@ module _ (law : OneAnswer) (outcomes : ExactlyOneOutcome) (files : Files) (optio
       IsOutcomeOfReading options tree (read_of options tree (bytes_of inputs)) rest → (if holds then [] else warned) ++ waits ≡ (part_by rest).warned →
       Leads events (if holds then [] else warned) old mid → Ends options waits (part_by rest).refusal (texts_of options (part_by rest)) (part_by rest).status result mid new →
       LeavesPart files options tree result old new
-  ended-part inputs stopped after warned holds waits events rest result old mid new are_inputs there e to of notes log ends = record {
+  ended-part inputs stopped after warned holds waits events rest result old mid new are_inputs there e to of diagnostics log ends = record {
     inputs = inputs;
     are_inputs = are_inputs;
     part = part_by rest;
     is_part = is_part files options tree accepted opened are readable (bytes_of inputs) rest of;
     ends = EndsSo-behind nothing_said files options inputs (part_by rest) events (if holds then [] else warned) waits old mid new
         (of_tree tree events accepted (names-read files options tree accepted opened are readable) there (subst (λ s. ReadsTo inputs s events) (sym (ap (λ (r : ReadResult). r.stopped) e)) to))
-        (AreLines-said holds warned (lines-of options tree inputs after warned stopped e)) notes log result ends;
+        (AreLines-said holds warned (lines-of options tree inputs after warned stopped e)) diagnostics log result ends;
   }
 
   -- a line is too long
@@ -161,7 +161,7 @@ module _ (law : OneAnswer) (outcomes : ExactlyOneOutcome) (files : Files) (optio
       let are_inputs = AreInputs-later b t old mid new w options r.inputs r.are_inputs in
       let there = AreThere-later old mid new b t w r.inputs r.there in
       let e = read-is options tree r.inputs before after r.warned (Some stop) fresh r.reading_is in
-      let rest : Outcome = noted r.warned (refused (too_long_line stop)) in
+      let rest : Outcome = reported r.warned (refused (too_long_line stop)) in
       ended-part r.inputs (Some stop) after r.warned waiting.holds waiting.text.items r.events rest result old mid new are_inputs there e r.reads_to
       (rest-long options tree (read_of options tree (bytes_of r.inputs)) after r.warned stop e)
       (ap (λ l. (if waiting.holds then [] else r.warned) ++ l) (r.waits ∙ sym (append-nil (if waiting.holds then r.warned else []))) ∙ split-said waiting.holds r.warned [])
@@ -178,7 +178,7 @@ module _ (law : OneAnswer) (outcomes : ExactlyOneOutcome) (files : Files) (optio
       let there = AreThere-later old mid new b t w r.inputs r.there in
       let e = read-is options tree r.inputs before after r.warned None fresh r.reading_is in
       let values = value_lines options after c.solution in
-      let rest : Outcome = noted r.warned (outcome_of options tree after c.solution) in
+      let rest : Outcome = reported r.warned (outcome_of options tree after c.solution) in
       let text-is : text ≡ (if waiting.holds then r.warned else []) ++ values = c.adds ∙ ap (λ l. l ++ values) r.waits in
       let given-is : given ≡ (if refuses options after c.solution before_it text then None else Some (texts_of options (ruled_files options tree c.solution (names_listed options opened)))) =
       c.texts_are ∙ ap (λ b. if refuses options after c.solution b text then None else Some (texts_of options (ruled_files options tree c.solution names))) told

@@ -5,7 +5,7 @@ pub mod LostLemmas
 pub mod PromptLemmas
 pub mod PartLemmas
 pub mod OutcomeLemmas
-pub mod NoteLemmas
+pub mod DiagnosticLemmas
 pub mod Once
 pub mod RerunLemmas
 pub mod TellingLemmas

@@ -1,7 +1,7 @@
 -- The lines of the values that are lost, symbol by symbol.
 use Rattle.std.proofs.Common.{◌≡◌, ℕ, ◌+◌, ◌≤◌, Bool, true, false, List, [], ◌∷◌, ◌++◌, length, take, Option, Some, None, sym, ◌∙◌, ap, append-nil}
 use Rattle.std.specs.Prelude.{if◌then◌else◌, slice_index_or}
-use Rattle.kc_dot.specs.Changes.{StreamLocation}
+use Rattle.kc_config_file.specs.Changes.{StreamLocation}
 use Rattle.std.specs.List.{slice_get, flat_map}
 use Rattle.std.proofs.lemmas.Grind.{flat_map-append}
 use Rattle.std.proofs.lemmas.List.{take_all, take_more}
@@ -51,23 +51,23 @@ module _ (rows : RowsTellFacts) (lines : List (Option StreamLocation)) (s : Solu
   lost-nowhere e = line None e
 
   abbrev its_line : Symbol → List (List ℕ)
-  its_line row = lost_by (name s.tree (symbol i)) row.kind (slice_index_or lines i None) (place_at s.places (SymbolPlace i)) (given_of (known s (symbol i)))
+  its_line row = lost_by (name s.tree (symbol i)) row.symbol_type (slice_index_or lines i None) (place_at s.places (SymbolPlace i)) (given_of (known s (symbol i)))
 
   -- and none without a prompt
   pub lost-unprompted : (row : Symbol) → Some row ≡ slice_get l.symbols.items i → (b : Bool) → b ≡ has_prompt (facts_of l 0 row).prompts → b ≡ false → lost_at lines s i ≡ []
   lost-unprompted row e b is none = line (Some row) e ∙ ap (λ c. if c then its_line row else []) (sym is ∙ none)
 
   pub lost-prompted : (row : Symbol) → Some row ≡ slice_get l.symbols.items i → (b : Bool) → b ≡ has_prompt (facts_of l 0 row).prompts → b ≡ true →
-      lost_at lines s i ≡ lost_by (name s.tree (symbol i)) row.kind (slice_index_or lines i None) (place_at s.places (SymbolPlace i)) (given_of (known s (symbol i)))
+      lost_at lines s i ≡ lost_by (name s.tree (symbol i)) row.symbol_type (slice_index_or lines i None) (place_at s.places (SymbolPlace i)) (given_of (known s (symbol i)))
   lost-prompted row e b is some = line (Some row) e ∙ ap (λ c. if c then its_line row else []) (sym is ∙ some)
 
   -- else the line of what was given and what it is
   pub lost-line : (row : Symbol) → Some row ≡ slice_get l.symbols.items i → (b : Bool) → b ≡ has_prompt (facts_of l 0 row).prompts → b ≡ true →
       (called : List ℕ) (at : Option StreamLocation) (places : Places) (given : Option GivenValue) (value : GivenValue) → called ≡ name tree (symbol i) → at ≡ slice_index_or lines i None → places ≡ s.places → given ≡ place_at places (SymbolPlace i) →
-      value ≡ given_of (known s (symbol i)) → lost_by called row.kind at given value ≡ lost_at lines s i
+      value ≡ given_of (known s (symbol i)) → lost_by called row.symbol_type at given value ≡ lost_at lines s i
   lost-line row e b is some called at places given value called_is at_is places_are given_is value_is =
-      ap (λ n. lost_by n row.kind at given value) (called_is ∙ ap (λ (t : TreeFacts). name t (symbol i)) same)
-      ∙ ap (λ a. lost_by (name s.tree (symbol i)) row.kind a given value) at_is
-      ∙ ap (λ g. lost_by (name s.tree (symbol i)) row.kind (slice_index_or lines i None) g value) (given_is ∙ ap (λ p. place_at p (SymbolPlace i)) places_are)
-      ∙ ap (λ v. lost_by (name s.tree (symbol i)) row.kind (slice_index_or lines i None) (place_at s.places (SymbolPlace i)) v) value_is
+      ap (λ n. lost_by n row.symbol_type at given value) (called_is ∙ ap (λ (t : TreeFacts). name t (symbol i)) same)
+      ∙ ap (λ a. lost_by (name s.tree (symbol i)) row.symbol_type a given value) at_is
+      ∙ ap (λ g. lost_by (name s.tree (symbol i)) row.symbol_type (slice_index_or lines i None) g value) (given_is ∙ ap (λ p. place_at p (SymbolPlace i)) places_are)
+      ∙ ap (λ v. lost_by (name s.tree (symbol i)) row.symbol_type (slice_index_or lines i None) (place_at s.places (SymbolPlace i)) v) value_is
       ∙ sym (lost-prompted row e b is some)

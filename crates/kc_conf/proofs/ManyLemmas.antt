@@ -5,10 +5,10 @@ use Rattle.std.proofs.lemmas.List.{append_cancel_left}
 use Rattle.kc_read.specs.Files.{Files}
 use Rattle.kc_read.specs.OpenedFiles.{AreOpened}
 use Rattle.kc_tree.specs.TreeFacts.{TreeFacts}
-use Rattle.kc_io.specs.Log.{Log, Leads, failed, noted as io_noted, said}
+use Rattle.kc_io.specs.Log.{Log, Leads, failed, reported as io_reported, said}
 use Rattle.kc_io.specs.Scripts.{NamedText}
 use Rattle.kc_io.specs.declared.device.Action.{Action}
-use Rattle.kc_io.specs.declared.device.Action.TheVariants.{Note}
+use Rattle.kc_io.specs.declared.device.Action.TheVariants.{Report}
 use Rattle.kc_io.proofs.LogLemmas.{leads_both, leads_nothing}
 use Rattle.kc_conf.specs.Accepted.{IsAcceptedOf}
 use Rattle.kc_options.specs.Asked.{lead}
@@ -19,9 +19,9 @@ use Rattle.kc_conf.specs.ErrorLines.{unreadable_line}
 use Rattle.kc_conf.specs.Existence.{ExactlyOneOutcome}
 use Rattle.kc_conf.specs.Given.{bytes_of, reads, still_told}
 use Rattle.kc_conf.specs.Many.{AreRootedAt, CannotSay, ExactlyOnePart, IsPart, IsWholeOf, PartsAreOfRuns, RunsTurn, TakeTurns, TakesTurn, broken, ends_all, greater, last, next, none, warned_before, whole}
-use Rattle.kc_conf.specs.Outcome.{IsAcceptedTree, IsLenientOutcome, IsOutcome, OneAnswer, OneOutcome, Outcome, accepted_tree, has_text, lines_text, noted, refused, refused_name, refused_tree, root_file, strictly, unreadable_name, with_rule}
+use Rattle.kc_conf.specs.Outcome.{IsAcceptedTree, IsLenientOutcome, IsOutcome, OneAnswer, OneOutcome, Outcome, accepted_tree, has_text, lines_text, reported, refused, refused_name, refused_tree, root_file, strictly, unreadable_name, with_rule}
 use Rattle.kc_conf.specs.PartRuns.{LeavesPart, LeavesTurn, strictly_after}
-use Rattle.kc_conf.specs.Reads.{IsNoteStop}
+use Rattle.kc_conf.specs.Reads.{IsReportStop}
 use Rattle.kc_conf.specs.Stops.{Reports, TriesToSay, clearing, event_of, stop_line}
 use Rattle.kc_conf.specs.declared.accepted.OrderedTree.{OrderedTree}
 use Rattle.kc_options.specs.declared.options.Options.{Options}
@@ -31,7 +31,7 @@ use Rattle.kc_conf.specs.declared.stop.Stop.{Stop}
 use Rattle.kc_conf.specs.declared.stop.Stop.TheVariants.{OutOfMemory, Failed}
 use Rattle.kc_conf.proofs.GivenLemmas.{AreInputs-later, inputs-exist}
 use Rattle.kc_conf.proofs.Once.{one_opened}
-use Rattle.kc_conf.proofs.OutcomeLemmas.{strictly-noted, with_rule-noted}
+use Rattle.kc_conf.proofs.OutcomeLemmas.{strictly-reported, with_rule-reported}
 use Rattle.kc_conf.proofs.PartLemmas.{AreLines-nothing}
 use Rattle.kc_conf.proofs.PartOutcomes.{texts-none}
 use Rattle.kc_conf.proofs.RunParts.{EndsSo-behind, IsBrokenOff-memory, breaks-later}
@@ -39,7 +39,7 @@ use Rattle.kc_conf.proofs.RunParts.{EndsSo-behind, IsBrokenOff-memory, breaks-la
 -- ---- one part
 
 -- what stands behind the same warnings is the same
-same_part : (text : List ℕ) (a b : Outcome) → noted text a ≡ noted text b → a ≡ b
+same_part : (text : List ℕ) (a b : Outcome) → reported text a ≡ reported text b → a ≡ b
 same_part text a b e =
     let w : a.warned ≡ b.warned = append_cancel_left text a.warned b.warned (ap (λ (o : Outcome). o.warned) e) in
     ap (λ (t : List ℕ). let o : Outcome = record a { warned = t } in o) w ∙ ap (λ (p : Outcome). let o : Outcome = record p { warned = b.warned } in o) e
@@ -47,7 +47,7 @@ same_part text a b e =
 module _ (law : OneAnswer) (files : Files) (tree : TreeFacts) (options : Options) (all : List (List ℕ)) (accepted : IsAcceptedTree files (root_file options) tree) where
   -- the outcome with the tree's warnings before it, unless a name is refused
   abbrev behind : List (List ℕ) → Outcome → Outcome
-  behind opened part = noted (warned_before tree (unreadable_name options opened)) part
+  behind opened part = reported (warned_before tree (unreadable_name options opened)) part
 
   one_part : OneOutcome → (a b : Outcome) → IsPart files tree options all a → IsPart files tree options all b → a ≡ b
   one_part outcomes a b (opened, are, is) (others, are', is') =
@@ -59,13 +59,13 @@ module _ (law : OneAnswer) (files : Files) (tree : TreeFacts) (options : Options
   part_of_name : (opened : List (List ℕ)) (name : List ℕ) (outcome : Outcome) → AreOpened files (root_file options) opened → unreadable_name options opened ≡ Some name →
       IsOutcome files options all outcome → IsPart files tree options all outcome
   part_of_name opened name outcome are unread is =
-      (opened, are, subst (λ u. IsOutcome files options all (noted (warned_before tree u) outcome)) (sym unread) is)
+      (opened, are, subst (λ u. IsOutcome files options all (reported (warned_before tree u) outcome)) (sym unread) is)
 
   -- no refused name
   part_of_rest : (opened : List (List ℕ)) (part : Outcome) → AreOpened files (root_file options) opened → unreadable_name options opened ≡ None →
-      IsOutcome files options all (noted (lines_text tree.warnings) part) → IsPart files tree options all part
+      IsOutcome files options all (reported (lines_text tree.warnings) part) → IsPart files tree options all part
   part_of_rest opened part are read is =
-      (opened, are, subst (λ u. IsOutcome files options all (noted (warned_before tree u) part)) (sym read) is)
+      (opened, are, subst (λ u. IsOutcome files options all (reported (warned_before tree u) part)) (sym read) is)
 
   abbrev OfRun : Outcome → Type 0
   OfRun outcome = (part : Outcome) × IsPart files tree options all part × IsWholeOf files tree options part outcome
@@ -83,12 +83,12 @@ module _ (law : OneAnswer) (files : Files) (tree : TreeFacts) (options : Options
       go (accepted_tree other second read (rest, of_reading, e)) =
           let same : other ≡ tree = law.one_accepted files (root_file options) other tree second accepted in
           let warnings : List ℕ = lines_text tree.warnings in
-          let after : lenient ≡ noted warnings rest = e ∙ ap (λ (t : TreeFacts). noted (lines_text t.warnings) rest) same in
+          let after : lenient ≡ reported warnings rest = e ∙ ap (λ (t : TreeFacts). reported (lines_text t.warnings) rest) same in
           let part : Outcome = with_rule options opened (strictly_after options (has_text warnings) rest) in
-          let whole : outcome ≡ noted warnings part =
+          let whole : outcome ≡ reported warnings part =
           is ∙ ap (λ o. with_rule options opened (strictly options o)) after
-          ∙ ap (with_rule options opened) (sym (strictly-noted options warnings rest))
-          ∙ sym (with_rule-noted options opened warnings (strictly_after options (has_text warnings) rest)) in
+          ∙ ap (with_rule options opened) (sym (strictly-reported options warnings rest))
+          ∙ sym (with_rule-reported options opened warnings (strictly_after options (has_text warnings) rest)) in
           let here : IsOutcome files options all outcome = (lenient, opened, accepted_tree other second read (rest, of_reading, e), are, is) in
           (part, part_of_rest opened part are read (subst (λ o. IsOutcome files options all o) whole here), inl whole)
 
@@ -165,7 +165,7 @@ pub RunsTurn-broken : (files : Files) (options : Options) (tree : TreeFacts) (st
     Reports options stop is_told mid new → is_over ≡ (fatal || not is_told) → RunsTurn files tree options old new Faulted is_over
 RunsTurn-broken files options tree stop fatal is_told is_over old mid new p is (report, is_report, told_is, log) over = record {
   inputs = p.inputs;
-  are_inputs = AreInputs-later (io_noted report) (said report (stop_line options stop)) old mid new log options p.inputs p.are_inputs;
+  are_inputs = AreInputs-later (io_reported report) (said report (stop_line options stop)) old mid new log options p.inputs p.are_inputs;
   part = p.part;
   is_part = p.is_part;
   ends = broken (record {
@@ -173,9 +173,9 @@ RunsTurn-broken files options tree stop fatal is_told is_over old mid new p is (
     done = p.ends.done;
     front = p.ends.front;
     report = report;
-    breaks = breaks-later files options nothing_said p.inputs p.part (io_noted report) (said report (stop_line options stop)) old mid new log p.ends.breaks;
+    breaks = breaks-later files options nothing_said p.inputs p.part (io_reported report) (said report (stop_line options stop)) old mid new log p.ends.breaks;
     is_report = is_report;
-    log = leads_both (p.ends.done ++ event_of stop ++ clearing options stop) (io_noted report) p.ends.front (said report (stop_line options stop)) old mid new p.ends.log log;
+    log = leads_both (p.ends.done ++ event_of stop ++ clearing options stop) (io_reported report) p.ends.front (said report (stop_line options stop)) old mid new p.ends.log log;
     status_is = refl;
   }) (over ∙ ap (λ b. b || not is_told) is ∙ ap (λ b. ends_all stop || not b) told_is);
 }
@@ -247,14 +247,14 @@ module _ (files : Files) (tree : TreeFacts) (options : ℕ → Options → Type 
 -- ---- the tree
 
 -- the diagnostics are what failed
-pub CannotSay-note : (stop : Stop) (old new : Log) → IsNoteStop stop → Leads (event_of stop) [] old new → CannotSay old new
-CannotSay-note OutOfMemory old new never log = absurd never
-CannotSay-note (Failed f) old new (note, name) log =
-    (f.fault, subst (λ (n : List ℕ). Leads (failed Note n f.fault) [] old new) name (subst (λ (a : Action). Leads (failed a f.name.now f.fault) [] old new) note log))
+pub CannotSay-report : (stop : Stop) (old new : Log) → IsReportStop stop → Leads (event_of stop) [] old new → CannotSay old new
+CannotSay-report OutOfMemory old new never log = absurd never
+CannotSay-report (Failed f) old new (report, name) log =
+    (f.fault, subst (λ (n : List ℕ). Leads (failed Report n f.fault) [] old new) name (subst (λ (a : Action). Leads (failed a f.name.now f.fault) [] old new) report log))
 
 -- nothing was said before
 pub TriesToSay-behind : (line : List ℕ) (old mid new : Log) → Leads [] [] old mid → TriesToSay line mid new → TriesToSay line old new
-TriesToSay-behind line old mid new h (report, log) = (report, leads_both [] (io_noted report) [] (said report line) old mid new h log)
+TriesToSay-behind line old mid new h (report, log) = (report, leads_both [] (io_reported report) [] (said report line) old mid new h log)
 
 -- all options are of this tree
 pub IsAcceptedOf-rooted : (files : Files) (root : List ℕ) (are_options : ℕ → Options → Type 0) (accepted : OrderedTree) → IsAcceptedTree files root accepted.tree.now → AreOpened files root accepted.opened.now →

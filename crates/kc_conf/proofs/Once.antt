@@ -8,7 +8,7 @@ use Rattle.kc_tree.specs.TreeFacts.{TreeFacts}
 use Rattle.kc_build.specs.Trees.{IsTreeOf, OneTree, tree_of_log}
 use Rattle.kc_user.specs.Places.{Places, place_at}
 use Rattle.kc_expr.specs.Value.{TextValue}
-use Rattle.kc_expr.specs.declared.expression.Kind.TheVariants.{Undefined}
+use Rattle.kc_expr.specs.declared.expression.SymbolType.TheVariants.{Undefined}
 use Rattle.kc_order.specs.Laws.{NamedAreUnordered, OneNamedLoop}
 use Rattle.kc_order.specs.Solution.{Solves}
 use Rattle.kc_values.specs.Needs.{IsAccepted}
@@ -17,11 +17,11 @@ use Rattle.kc_values.specs.Solution.{equations, name_count}
 use Rattle.kc_solve.specs.LoopText.{loop_text}
 use Rattle.kc_solve.specs.Refused.{IsLoopText, loop_refused}
 use Rattle.kc_solve.specs.Solved.{Solution, value_of}
-use Rattle.kc_dot.specs.Reading.{ReadResult}
+use Rattle.kc_config_file.specs.Reading.{ReadResult}
 use Rattle.kc_options.specs.declared.options.Options.{Options}
 use Rattle.kc_options.specs.Asked.{lead}
 use Rattle.kc_conf.specs.ErrorLines.{refusal_line, too_long_line, unreadable_line}
-use Rattle.kc_conf.specs.Outcome.{Outcome, IsLenientOutcome, OneAnswer, OneOutcome, strictly, noted, lines_text, refused, outcome_of, read_of, root_file, IsRefusedTree, no_tree, looped, IsAcceptedTree, IsSolutionFor, refused_tree, refused_name, accepted_tree, IsOutcomeOfReading, IsOutcomeOfTree, long_line, whole, with_rule}
+use Rattle.kc_conf.specs.Outcome.{Outcome, IsLenientOutcome, OneAnswer, OneOutcome, strictly, reported, lines_text, refused, outcome_of, read_of, root_file, IsRefusedTree, no_tree, looped, IsAcceptedTree, IsSolutionFor, refused_tree, refused_name, accepted_tree, IsOutcomeOfReading, IsOutcomeOfTree, long_line, whole, with_rule}
 use Rattle.std.proofs.lemmas.List.{ext_get_or}
 
 -- ---- trees
@@ -99,11 +99,11 @@ some_or d (Some x) = x
 
 one_rest : (options : Options) (tree : TreeFacts) (read : ReadResult) (a b : Outcome) → IsOutcomeOfReading options tree read a → IsOutcomeOfReading options tree read b → a ≡ b
 one_rest options tree read a b (long_line stop long is) (long_line other long' is') =
-    is ∙ ap (λ s. noted read.warned (refused (too_long_line s))) (ap (some_or stop) (sym long ∙ long')) ∙ sym is'
+    is ∙ ap (λ s. reported read.warned (refused (too_long_line s))) (ap (some_or stop) (sym long ∙ long')) ∙ sym is'
 one_rest options tree read a b (long_line stop long is) (whole s none solves is') = absurd (let e : Some stop ≡ None = sym long ∙ none in cc)
 one_rest options tree read a b (whole s none solves is) (long_line stop long is') = absurd (let e : Some stop ≡ None = sym long ∙ none in cc)
 one_rest options tree read a b (whole s none solves is) (whole t none' solves' is') =
-    is ∙ ap (λ x. noted read.warned (outcome_of options tree read.input x)) (one_solution tree read.input.places s t solves solves') ∙ sym is'
+    is ∙ ap (λ x. reported read.warned (outcome_of options tree read.input x)) (one_solution tree read.input.places s t solves solves') ∙ sym is'
 
 -- over a refused tree it is the refusal
 lenient_refused : OneAnswer → (files : Files) (options : Options) (opened all : List (List ℕ)) (a : Outcome) (r : Refused) → IsRefusedTree files (root_file options) r →
@@ -123,13 +123,13 @@ one_lenient law files options opened all a b (accepted_tree tree first read rest
 one_lenient law files options opened all a b (accepted_tree tree first read (rest, part, is)) (accepted_tree other second read' (more, part', is')) =
     let same : other ≡ tree = law.one_accepted files (root_file options) other tree second first in
     let part'' : IsOutcomeOfReading options tree (read_of options tree all) more = subst (λ t. IsOutcomeOfReading options t (read_of options t all) more) same part' in
-    is ∙ ap (noted (lines_text tree.warnings)) (one_rest options tree (read_of options tree all) rest more part part'')
-    ∙ ap (λ (t : TreeFacts). noted (lines_text t.warnings) more) (sym same) ∙ sym is'
+    is ∙ ap (reported (lines_text tree.warnings)) (one_rest options tree (read_of options tree all) rest more part part'')
+    ∙ ap (λ (t : TreeFacts). reported (lines_text t.warnings) more) (sym same) ∙ sym is'
 
 -- the outcome of a tree is one
 pub one_of_tree : (options : Options) (tree : TreeFacts) (all : List (List ℕ)) (a b : Outcome) → IsOutcomeOfTree options tree all a → IsOutcomeOfTree options tree all b → a ≡ b
 one_of_tree options tree all a b (rest, part, is) (more, part', is') =
-    is ∙ ap (noted (lines_text tree.warnings)) (one_rest options tree (read_of options tree all) rest more part part') ∙ sym is'
+    is ∙ ap (reported (lines_text tree.warnings)) (one_rest options tree (read_of options tree all) rest more part part') ∙ sym is'
 
 -- an accepted tree is that of an expansion that is accepted
 expansion_of : (files : Files) (root : List ℕ) (tree : TreeFacts) → IsAcceptedTree files root tree → (log : Log) × Expands files root (Ok log)

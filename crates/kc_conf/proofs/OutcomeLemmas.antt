@@ -2,7 +2,7 @@
 use Rattle.std.proofs.Common.{◌≡◌, ℕ, Bool, true, false, List, [], ◌∷◌, ◌++◌, refl, sym, ap, ◌∙◌, append_assoc, length, map, not, Option, Some, None, is_some, Vec, Global, arith}
 use Rattle.std.specs.Prelude.{◌&&◌, ◌||◌, ◌==◌, if◌then◌else◌}
 use Rattle.kc_options.specs.declared.options.Options.{Options}
-use Rattle.kc_conf.specs.Outcome.{Outcome, depfile_text, has_text, is_done, lines_text, noted, notes_of, refused_if, strictly, text_if, with_rule}
+use Rattle.kc_conf.specs.Outcome.{Outcome, depfile_text, has_text, is_done, lines_text, reported, diagnostics_of, refused_if, strictly, text_if, with_rule}
 use Rattle.kc_conf.specs.PartRuns.{strictly_after}
 
 pub and_never : (b : Bool) → (b && false) ≡ false
@@ -11,12 +11,12 @@ and_never false = refl
 
 -- ---- text before an outcome
 
-pub notes-noted : (text : List ℕ) (outcome : Outcome) → text ++ notes_of outcome ≡ notes_of (noted text outcome)
-notes-noted text outcome = sym (append_assoc text outcome.warned outcome.refusal)
+pub diagnostics-reported : (text : List ℕ) (outcome : Outcome) → text ++ diagnostics_of outcome ≡ diagnostics_of (reported text outcome)
+diagnostics-reported text outcome = sym (append_assoc text outcome.warned outcome.refusal)
 
-noted_if : (options : Options) (text : List ℕ) (part : Outcome) (b : Bool) → noted text (refused_if options b part) ≡ refused_if options b (noted text part)
-noted_if options text part true = refl
-noted_if options text part false = refl
+reported_if : (options : Options) (text : List ℕ) (part : Outcome) (b : Bool) → reported text (refused_if options b part) ≡ refused_if options b (reported text part)
+reported_if options text part true = refl
+reported_if options text part false = refl
 
 told_three : (before : Bool) (a b : List ℕ) → ((before || has_text a) || has_text b) ≡ (before || has_text (a ++ b))
 told_three true a b = refl
@@ -24,10 +24,10 @@ told_three false [] b = refl
 told_three false (x ∷ a) b = refl
 
 -- what was said before a part that refuses warnings is a warning of the whole
-pub strictly-noted : (options : Options) (text : List ℕ) (part : Outcome) → noted text (strictly_after options (has_text text) part) ≡ strictly options (noted text part)
-strictly-noted options text part =
-    noted_if options text part (is_done part.status && (options.strict_tree && (has_text text || has_text part.warned)))
-    ∙ ap (λ b. refused_if options (is_done part.status && (options.strict_tree && b)) (noted text part)) (told_three false text part.warned)
+pub strictly-reported : (options : Options) (text : List ℕ) (part : Outcome) → reported text (strictly_after options (has_text text) part) ≡ strictly options (reported text part)
+strictly-reported options text part =
+    reported_if options text part (is_done part.status && (options.strict_tree && (has_text text || has_text part.warned)))
+    ∙ ap (λ b. refused_if options (is_done part.status && (options.strict_tree && b)) (reported text part)) (told_three false text part.warned)
 
 -- lines have text where there is one
 pub told_lines : (line : List ℕ) (lines : List (List ℕ)) → has_text (lines_text (line ∷ lines)) ≡ true
@@ -50,13 +50,13 @@ module _ (options : Options) (opened : List (List ℕ)) where
   abbrev ruled_if : Bool → Outcome → Outcome
   ruled_if b o = if b then record o { depfile = depfile_text options opened } else o
 
-  ruled-noted : (text : List ℕ) (o : Outcome) (b : Bool) → noted text (ruled_if b o) ≡ ruled_if b (noted text o)
-  ruled-noted text o true = refl
-  ruled-noted text o false = refl
+  ruled-reported : (text : List ℕ) (o : Outcome) (b : Bool) → reported text (ruled_if b o) ≡ ruled_if b (reported text o)
+  ruled-reported text o true = refl
+  ruled-reported text o false = refl
 
   -- it is no note
-  pub with_rule-noted : (text : List ℕ) (o : Outcome) → noted text (with_rule options opened o) ≡ with_rule options opened (noted text o)
-  with_rule-noted text o = ruled-noted text o (is_done o.status)
+  pub with_rule-reported : (text : List ℕ) (o : Outcome) → reported text (with_rule options opened o) ≡ with_rule options opened (reported text o)
+  with_rule-reported text o = ruled-reported text o (is_done o.status)
 
   config_ruled : (b : Bool) (o : Outcome) → (ruled_if b o).config ≡ o.config
   config_ruled true o = refl

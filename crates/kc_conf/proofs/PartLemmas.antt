@@ -11,14 +11,14 @@ use Rattle.std.proofs.lemmas.List.Sums.{take_while-cons}
 use Rattle.kc_text.specs.Limits.{one_more}
 use Rattle.kc_text.specs.Lines.{HoldsNoLineFeed, is_line_feed}
 use Rattle.kc_tree.specs.TreeFacts.{TreeFacts}
-use Rattle.kc_expr.specs.declared.expression.Kind.{Kind}
+use Rattle.kc_expr.specs.declared.expression.SymbolType.{SymbolType}
 use Rattle.kc_user.specs.GivenValue.{GivenValue, SymbolPlace, same_given}
 use Rattle.kc_user.specs.Places.{place_at}
-use Rattle.kc_dot.specs.Changes.{StreamLocation, change_line, change_text, location_text, value_text}
-use Rattle.kc_dot.specs.Effects.{Effect, Silent, Warns, Assigns, LineWarning, kind_of, name_of, warning_line, warning_text}
-use Rattle.kc_dot.specs.Feeding.{StreamPosition, stream_start, ReadsPiece}
-use Rattle.kc_dot.specs.Laws.{HasShortLines}
-use Rattle.kc_dot.specs.Reading.{UserInput, Line, ReadResult, before_too_long, effect, effect_change, effect_text, effect_warning, is_within, last_line, line, lines_from, lines_in_stream, input_after, reading, stream_location, warning, warning_line_if, warnings, with_warnings}
+use Rattle.kc_config_file.specs.Changes.{StreamLocation, change_line, change_text, location_text, value_text}
+use Rattle.kc_config_file.specs.Effects.{Effect, Silent, Warns, Assigns, LineWarning, type_of, name_of, warning_line, warning_text}
+use Rattle.kc_config_file.specs.Feeding.{StreamPosition, stream_start, ReadsPiece}
+use Rattle.kc_config_file.specs.Laws.{HasShortLines}
+use Rattle.kc_config_file.specs.Reading.{UserInput, Line, ReadResult, before_too_long, effect, effect_change, effect_text, effect_warning, is_within, last_line, line, lines_from, lines_in_stream, input_after, reading, stream_location, warning, warning_line_if, warnings, with_warnings}
 use Rattle.kc_conf.specs.Outcome.{AreLines, lines_text}
 use Rattle.kc_conf.specs.Given.{ended_lines}
 
@@ -41,19 +41,19 @@ AreLines-warning_if stream number None = AreLines-nothing
 AreLines-warning_if stream number (Some told) =
     ((stream ++ codes ":" ++ decimal number ++ codes ": warning " ++ warning_text told) ∷ [], sym (append-nil (warning_line stream number told)))
 
-AreLines-change : (at : StreamLocation) (name : List ℕ) (kind : Kind) (old : Option GivenValue) (from : Option StreamLocation) (given : GivenValue) →
-    AreLines (change_text at name kind old from given)
-AreLines-change at name kind None from given = AreLines-nothing
-AreLines-change at name kind (Some old) None given = AreLines-nothing
-AreLines-change at name kind (Some old) (Some from) given = by (same_given old given)
+AreLines-change : (at : StreamLocation) (name : List ℕ) (symbol_type : SymbolType) (old : Option GivenValue) (from : Option StreamLocation) (given : GivenValue) →
+    AreLines (change_text at name symbol_type old from given)
+AreLines-change at name symbol_type None from given = AreLines-nothing
+AreLines-change at name symbol_type (Some old) None given = AreLines-nothing
+AreLines-change at name symbol_type (Some old) (Some from) given = by (same_given old given)
   where
     front : List ℕ
-    front = location_text at ++ codes ": warning K15: " ++ name ++ codes " was " ++ value_text kind old ++ codes " (" ++ location_text from ++ codes ") and is now " ++ value_text kind given
+    front = location_text at ++ codes ": warning K15: " ++ name ++ codes " was " ++ value_text symbol_type old ++ codes " (" ++ location_text from ++ codes ") and is now " ++ value_text symbol_type given
 
-    whole : change_line at name kind old from given ≡ (front ++ codes "\n") ++ []
+    whole : change_line at name symbol_type old from given ≡ (front ++ codes "\n") ++ []
     whole = simp append_assoc refl
 
-    by : (b : Bool) → AreLines (if b then [] else change_line at name kind old from given)
+    by : (b : Bool) → AreLines (if b then [] else change_line at name symbol_type old from given)
     by true = AreLines-nothing
     by false = (front ∷ [], whole)
 
@@ -65,7 +65,7 @@ AreLines-effect tree input at e =
     changed : (e : Effect) → AreLines (effect_change tree input at e)
     changed Silent = AreLines-nothing
     changed (Warns line_warning) = AreLines-nothing
-    changed (Assigns s given) = AreLines-change at (name_of tree s) (kind_of tree s) (place_at input.places (SymbolPlace s.0)) (slice_index_or input.lines s.0 None) given
+    changed (Assigns s given) = AreLines-change at (name_of tree s) (type_of tree s) (place_at input.places (SymbolPlace s.0)) (slice_index_or input.lines s.0 None) given
 
 -- a line that is too long, behind the others, does not count
 counted-long_end : (lines : List Line) (l : Line) → is_within l ≡ false → before_too_long (lines ++ l ∷ []) ≡ before_too_long lines

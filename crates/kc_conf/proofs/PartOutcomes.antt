@@ -5,8 +5,8 @@ use Rattle.kc_read.specs.Files.{Files}
 use Rattle.kc_read.specs.OpenedFiles.{AreOpened}
 use Rattle.kc_tree.specs.TreeFacts.{TreeFacts}
 use Rattle.kc_solve.specs.Solved.{Solution}
-use Rattle.kc_dot.specs.Reading.{ReadResult, StreamLocation, UserInput}
-use Rattle.kc_dot.specs.Sink.{BeginsWith}
+use Rattle.kc_config_file.specs.Reading.{ReadResult, StreamLocation, UserInput}
+use Rattle.kc_config_file.specs.Sink.{BeginsWith}
 use Rattle.kc_io.specs.Log.{Log}
 use Rattle.kc_io.specs.Scripts.{NamedText}
 use Rattle.kc_conf.specs.Computed.{refuses, ruled_files, value_lines}
@@ -14,7 +14,7 @@ use Rattle.kc_conf.specs.Endings.{Ends, line_if, status_if, texts_or}
 use Rattle.kc_conf.specs.Ends.{text_at, texts_of}
 use Rattle.kc_conf.specs.ErrorLines.{too_long_line}
 use Rattle.kc_conf.specs.Existence.{ExactlyOneOutcome}
-use Rattle.kc_conf.specs.Outcome.{IsAcceptedTree, IsLenientOutcome, IsOutcome, IsOutcomeOfReading, IsSolutionFor, NamesAreRead, OneAnswer, Outcome, accepted_tree, has_text, is_done, lines_text, long_line, names_listed, noted, outcome_of, read_of, refused, refused_if, refused_name, refused_tree, root_file, unreadable_name, warned_files, whole, with_rule}
+use Rattle.kc_conf.specs.Outcome.{IsAcceptedTree, IsLenientOutcome, IsOutcome, IsOutcomeOfReading, IsSolutionFor, NamesAreRead, OneAnswer, Outcome, accepted_tree, has_text, is_done, lines_text, long_line, names_listed, reported, outcome_of, read_of, refused, refused_if, refused_name, refused_tree, root_file, unreadable_name, warned_files, whole, with_rule}
 use Rattle.kc_conf.specs.PartRuns.{strictly_after}
 use Rattle.kc_conf.specs.Reads.{ended_with}
 use Rattle.kc_conf.specs.Taken.{refuses_input}
@@ -23,7 +23,7 @@ use Rattle.kc_options.specs.declared.options.Status.{Status}
 use Rattle.kc_conf.specs.declared.stop.Stop.{Stop}
 use Rattle.std.specs.Prelude.{Result}
 use Rattle.kc_conf.proofs.Once.{one_opened}
-use Rattle.kc_conf.proofs.OutcomeLemmas.{rule-warned, strictly-noted, strictly_after-warned, warned_if, with_rule-noted}
+use Rattle.kc_conf.proofs.OutcomeLemmas.{rule-warned, strictly-reported, strictly_after-warned, warned_if, with_rule-reported}
 
 -- ---- what is refused has no text
 
@@ -50,14 +50,14 @@ module _ (files : Files) (options : Options) (tree : TreeFacts) (accepted : IsAc
 
   -- with the tree's warnings before it, it is the outcome
   pub is_part : (all : List (List ℕ)) (rest : Outcome) → IsOutcomeOfReading options tree (read_of options tree all) rest →
-      IsOutcome files options all (noted (lines_text tree.warnings) (part_of options opened (has_text (lines_text tree.warnings)) rest))
+      IsOutcome files options all (reported (lines_text tree.warnings) (part_of options opened (has_text (lines_text tree.warnings)) rest))
   is_part all rest of_reading =
       let told = lines_text tree.warnings in (
-        noted told rest,
+        reported told rest,
         opened,
         accepted_tree tree accepted readable (rest, of_reading, refl),
         are,
-        with_rule-noted options opened told (strictly_after options (has_text told) rest) ∙ ap (with_rule options opened) (strictly-noted options told rest),
+        with_rule-reported options opened told (strictly_after options (has_text told) rest) ∙ ap (with_rule options opened) (strictly-reported options told rest),
       )
 
   -- something follows from the streams
@@ -82,16 +82,16 @@ rest-begins options tree read rest (whole solution none solves is) = ((outcome_o
 -- ---- a line is too long
 
 pub rest-long : (options : Options) (tree : TreeFacts) (read : ReadResult) (input : UserInput) (warned : List ℕ) (stop : StreamLocation) → read ≡ ended_with input warned (Some stop) →
-    IsOutcomeOfReading options tree read (noted warned (refused (too_long_line stop)))
+    IsOutcomeOfReading options tree read (reported warned (refused (too_long_line stop)))
 rest-long options tree read input warned stop e =
-    subst (λ (r : ReadResult). IsOutcomeOfReading options tree r (noted warned (refused (too_long_line stop)))) (sym e) (long_line stop refl refl)
+    subst (λ (r : ReadResult). IsOutcomeOfReading options tree r (reported warned (refused (too_long_line stop)))) (sym e) (long_line stop refl refl)
 
 -- ---- all lines were read
 
 pub rest-whole : (options : Options) (tree : TreeFacts) (read : ReadResult) (input : UserInput) (warned : List ℕ) (solution : Solution) → read ≡ ended_with input warned None →
-    IsSolutionFor tree input.places solution → IsOutcomeOfReading options tree read (noted warned (outcome_of options tree input solution))
+    IsSolutionFor tree input.places solution → IsOutcomeOfReading options tree read (reported warned (outcome_of options tree input solution))
 rest-whole options tree read input warned solution e is =
-    subst (λ (r : ReadResult). IsOutcomeOfReading options tree r (noted warned (outcome_of options tree input solution))) (sym e) (whole solution refl is refl)
+    subst (λ (r : ReadResult). IsOutcomeOfReading options tree r (reported warned (outcome_of options tree input solution))) (sym e) (whole solution refl is refl)
 
 -- only under --strict-tree it matters what was said
 strict-same : (strict before : Bool) (x y : List ℕ) → (strict ≡ true → x ≡ y) → (strict && (before || has_text x)) ≡ (strict && (before || has_text y))
@@ -100,7 +100,7 @@ strict-same false before x y same = refl
 
 module _ (options : Options) (tree : TreeFacts) (opened : List (List ℕ)) (input : UserInput) (warned : List ℕ) (solution : Solution) where
   abbrev made : Bool → Outcome
-  made refused_too = noted warned (refused_if options refused_too (warned_files options tree input solution))
+  made refused_too = reported warned (refused_if options refused_too (warned_files options tree input solution))
 
   abbrev given_by : Bool → Option (List NamedText)
   given_by b = if b then None else Some (texts_of options (ruled_files options tree solution (names_listed options opened)))
@@ -115,7 +115,7 @@ module _ (options : Options) (tree : TreeFacts) (opened : List (List ℕ)) (inpu
   has-by false false = (refl, refl, refl)
 
   pub part-has : (before : Bool) (text : List ℕ) → (options.strict_tree ≡ true → text ≡ warned ++ value_lines options input solution) →
-      Has (part_of options opened before (noted warned (outcome_of options tree input solution))) (given_by (refuses options input solution before text))
+      Has (part_of options opened before (reported warned (outcome_of options tree input solution))) (given_by (refuses options input solution before text))
   part-has before text same =
       let r = refuses_input options input solution in
       let told : (made r).warned ≡ warned ++ value_lines options input solution = ap (λ t. warned ++ t) (warned_if options (warned_files options tree input solution) r) in
@@ -123,7 +123,7 @@ module _ (options : Options) (tree : TreeFacts) (opened : List (List ℕ)) (inpu
       (strict-same options.strict_tree before (made r).warned text (λ on. told ∙ sym (same on)))
       (has-by r (options.strict_tree && (before || has_text (made r).warned)))
 
-  pub part-says : (before : Bool) → (part_of options opened before (noted warned (outcome_of options tree input solution))).warned ≡ warned ++ value_lines options input solution
+  pub part-says : (before : Bool) → (part_of options opened before (reported warned (outcome_of options tree input solution))).warned ≡ warned ++ value_lines options input solution
   part-says before =
       part-warned options opened before (made (refuses_input options input solution))
       ∙ ap (λ t. warned ++ t) (warned_if options (warned_files options tree input solution) (refuses_input options input solution))

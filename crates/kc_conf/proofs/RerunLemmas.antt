@@ -2,7 +2,7 @@
 use Rattle.std.proofs.Common.{◌≡◌, ℕ, ◌<◌, true, false, List, [], ◌∷◌, ◌++◌, length, Some, None, refl, ap, sym, ◌∙◌, subst, map}
 use Rattle.std.specs.Prelude.{◌&&◌, not, string_bytes, slice_index_or}
 use Rattle.kc_expr.specs.Value.{SymbolValue, TextValue}
-use Rattle.kc_expr.specs.declared.expression.Kind.TheVariants.{Undefined}
+use Rattle.kc_expr.specs.declared.expression.SymbolType.TheVariants.{Undefined}
 use Rattle.std.proofs.lemmas.List.{ext_get_or}
 use Rattle.kc_read.specs.Files.{Files}
 use Rattle.kc_tree.specs.TreeFacts.{TreeFacts}
@@ -11,17 +11,17 @@ use Rattle.kc_user.specs.Places.{ArePlaces, Places, place_at}
 use Rattle.kc_order.specs.Solution.{Solves}
 use Rattle.kc_values.specs.Solution.{equations, name_count}
 use Rattle.kc_solve.specs.Solved.{Solution, value_of}
-use Rattle.kc_dot.specs.Laws.{HasShortLines}
-use Rattle.kc_dot.specs.WrittenLaws.{ConfigIsIdempotent, ConfigIsOfValues, IsSolutionOf, MinimalHasNothingToSpare, MinimalRestores, WrittenTextsAreShort}
-use Rattle.kc_dot.specs.Reading.{ReadResult, reading, reading_of}
-use Rattle.kc_dot.specs.Reread.{IsOneSolution, read_alone, valuation_view}
-use Rattle.kc_dot.specs.SolvedView.{solution_view}
-use Rattle.kc_dot.specs.Streams.{StreamsLeavePlaces}
-use Rattle.kc_dot.specs.Texts.{config_text, minimal_text}
-use Rattle.kc_dot.specs.Prefixes.{is_prefix}
+use Rattle.kc_config_file.specs.Laws.{HasShortLines}
+use Rattle.kc_config_file.specs.WrittenLaws.{ConfigIsIdempotent, ConfigIsOfValues, IsSolutionOf, MinimalHasNothingToSpare, MinimalRestores, WrittenTextsAreShort}
+use Rattle.kc_config_file.specs.Reading.{ReadResult, reading, reading_of}
+use Rattle.kc_config_file.specs.Reread.{IsOneSolution, read_alone, valuation_view}
+use Rattle.kc_config_file.specs.SolvedView.{solution_view}
+use Rattle.kc_config_file.specs.Streams.{StreamsLeavePlaces}
+use Rattle.kc_config_file.specs.Texts.{config_text, minimal_text}
+use Rattle.kc_config_file.specs.Prefixes.{is_prefix}
 use Rattle.kc_options.specs.declared.options.Options.{Options}
 use Rattle.kc_options.specs.Asked.{lead}
-use Rattle.kc_conf.specs.Outcome.{IsAcceptedTree, IsLenientOutcome, IsOutcomeOfReading, IsRefusedTree, IsSolutionFor, OneAnswer, Outcome, accepted_tree, lines_text, long_line, names_of, noted, read_of, refused_name, refused_tree, root_file, streams, strictly, text_if, unreadable_name, whole, with_rule, fresh_input, refused_if, warned_files}
+use Rattle.kc_conf.specs.Outcome.{IsAcceptedTree, IsLenientOutcome, IsOutcomeOfReading, IsRefusedTree, IsSolutionFor, OneAnswer, Outcome, accepted_tree, lines_text, long_line, names_of, reported, read_of, refused_name, refused_tree, root_file, streams, strictly, text_if, unreadable_name, whole, with_rule, fresh_input, refused_if, warned_files}
 use Rattle.kc_conf.proofs.OutcomeLemmas.{strictly-config, strictly-minimal, strictly-off, config_kept, minimal_kept, rule-config, rule-minimal, text_if-same, text_if_is}
 use Rattle.kc_conf.specs.Taken.{is_taken, refuses_input}
 use Rattle.kc_conf.specs.Reruns.{AreAlone, ConfigIsReadAgain, OutcomesAreReadAgain, RefusesNothing, MinimalIsReadAgain, MinimalIsRunAgain, TextsHaveShortLines, WrittenAreWhole}
@@ -31,22 +31,22 @@ use Rattle.kc_conf.specs.Reruns.{AreAlone, ConfigIsReadAgain, OutcomesAreReadAga
 abbrev Values : Files → Options → List (List ℕ) → Outcome → Type 0
 Values files options all outcome =
     (tree : TreeFacts) × (solution : Solution) × RefusesNothing files options all tree solution
-    × (outcome ≡ noted (lines_text tree.warnings) (noted (read_of options tree all).warned (warned_files options tree (read_of options tree all).input solution)))
+    × (outcome ≡ reported (lines_text tree.warnings) (reported (read_of options tree all).warned (warned_files options tree (read_of options tree all).input solution)))
     × (refuses_input options (read_of options tree all).input solution ≡ false)
 
 rest_whole : (files : Files) (options : Options) (all : List (List ℕ)) (tree : TreeFacts) (rest outcome : Outcome) (text : List ℕ) → IsAcceptedTree files (root_file options) tree →
-    IsOutcomeOfReading options tree (read_of options tree all) rest → outcome ≡ noted (lines_text tree.warnings) rest → outcome.config ≡ Some text → Values files options all outcome
+    IsOutcomeOfReading options tree (read_of options tree all) rest → outcome ≡ reported (lines_text tree.warnings) rest → outcome.config ≡ Some text → Values files options all outcome
 rest_whole files options all tree rest outcome text accepted (long_line stop stopped is) from there =
-    absurd (let e : None ≡ Some text = sym (ap (λ (o : Outcome). o.config) (from ∙ ap (noted (lines_text tree.warnings)) is)) ∙ there in cc)
+    absurd (let e : None ≡ Some text = sym (ap (λ (o : Outcome). o.config) (from ∙ ap (reported (lines_text tree.warnings)) is)) ∙ there in cc)
 rest_whole files options all tree rest outcome text accepted (whole solution none solves is) from there =
     let read = read_of options tree all in
     let files_too = warned_files options tree read.input solution in
-    let whole_is = from ∙ ap (noted (lines_text tree.warnings)) is in
+    let whole_is = from ∙ ap (reported (lines_text tree.warnings)) is in
     let kept = config_kept options (refuses_input options read.input solution) files_too text (sym (ap (λ (o : Outcome). o.config) whole_is) ∙ there) in (
       tree,
       solution,
       record { accepted = accepted; read_whole = none; solution_is = solves },
-      whole_is ∙ ap (λ b. noted (lines_text tree.warnings) (noted read.warned (refused_if options b files_too))) kept,
+      whole_is ∙ ap (λ b. reported (lines_text tree.warnings) (reported read.warned (refused_if options b files_too))) kept,
       kept,
     )
 
@@ -104,7 +104,7 @@ texts_short formed leaves short files options all tree solution is_pre is =
 pub outcomes_read_again : WrittenAreWhole → MinimalIsReadAgain → ConfigIsReadAgain → TextsHaveShortLines → OutcomesAreReadAgain
 outcomes_read_again written minimals configs shorts files options all outcome config is_pre is_outcome there =
     let (tree, solution, is, (opened, are, from), kept) = written files options all outcome config is_outcome there in
-    let part : Outcome = noted (lines_text tree.warnings) (noted (read_of options tree all).warned (warned_files options tree (read_of options tree all).input solution)) in
+    let part : Outcome = reported (lines_text tree.warnings) (reported (read_of options tree all).warned (warned_files options tree (read_of options tree all).input solution)) in
     let view : valuation_view tree (place_at solution.places) (value_of solution) ≡ solution_view solution =
     ap (λ (f : TreeFacts). valuation_view f (place_at solution.places) (value_of solution)) (sym is.solution_is.tree_is) in
     let short = shorts files options all tree solution is_pre is in
@@ -150,16 +150,16 @@ minimal_whole files options opened all outcome text (accepted_tree tree accepted
   where
     by : IsOutcomeOfReading options tree (read_of options tree all) rest → Values files options all outcome
     by (long_line stop stopped is) =
-        absurd (let e : None ≡ Some text = sym (ap (λ (o : Outcome). o.minimal) (from ∙ ap (noted (lines_text tree.warnings)) is)) ∙ there in cc)
+        absurd (let e : None ≡ Some text = sym (ap (λ (o : Outcome). o.minimal) (from ∙ ap (reported (lines_text tree.warnings)) is)) ∙ there in cc)
     by (whole solution none solves is) =
         let read = read_of options tree all in
         let files_too = warned_files options tree read.input solution in
-        let whole_is = from ∙ ap (noted (lines_text tree.warnings)) is in
+        let whole_is = from ∙ ap (reported (lines_text tree.warnings)) is in
         let kept = minimal_kept options (refuses_input options read.input solution) files_too text (sym (ap (λ (o : Outcome). o.minimal) whole_is) ∙ there) in (
           tree,
           solution,
           record { accepted = accepted; read_whole = none; solution_is = solves },
-          whole_is ∙ ap (λ b. noted (lines_text tree.warnings) (noted read.warned (refused_if options b files_too))) kept,
+          whole_is ∙ ap (λ b. reported (lines_text tree.warnings) (reported read.warned (refused_if options b files_too))) kept,
           kept,
         )
 

@@ -5,12 +5,12 @@ use Rattle.kc_read.specs.Files.{Files}
 use Rattle.kc_tree.specs.TreeFacts.{TreeFacts}
 use Rattle.kc_io.specs.Delivered.{StopsBefore}
 use Rattle.kc_io.specs.Held.{keeps_files}
-use Rattle.kc_io.specs.Log.{Event, Log, Leads, noted as io_noted, said}
+use Rattle.kc_io.specs.Log.{Event, Log, Leads, reported as io_reported, said}
 use Rattle.kc_io.specs.Scripts.{NamedText}
 use Rattle.kc_io.specs.declared.device.Action.TheVariants.{Open, Read}
 use Rattle.kc_io.specs.declared.steps.Failure.{Failure}
 use Rattle.kc_io.proofs.LogLemmas.{leads_as, leads_both, leads_nothing, leads_said}
-use Rattle.kc_dot.specs.Sink.{BeginsWith, GoesBeyond}
+use Rattle.kc_config_file.specs.Sink.{BeginsWith, GoesBeyond}
 use Rattle.kc_options.specs.Asked.{lead}
 use Rattle.kc_conf.specs.Endings.{Answers, BreaksEnd, EndStops, Ends, IsEnded}
 use Rattle.kc_conf.specs.Endings as tail
@@ -23,12 +23,12 @@ use Rattle.kc_read.specs.declared.refusal.Code.TheVariants.{Memory as NoMemory}
 use Rattle.kc_read.specs.declared.refusal.Refusal.{Refusal}
 use Rattle.kc_conf.specs.ErrorLines.{refusal_line, unreadable_line}
 use Rattle.kc_options.specs.declared.options.Status.TheVariants.{Refused}
-use Rattle.kc_conf.specs.Ends.{AreReads, Breaks, Completes, Runs, delivers, in_delivery, in_input, in_notes, no_memory, nothing_said, refused_name as name_refused, refused_tree as tree_refused, said_of_tree, stale_lines, stale_texts, texts_of}
+use Rattle.kc_conf.specs.Ends.{AreReads, Breaks, Completes, Runs, delivers, in_delivery, in_input, in_diagnostics, no_memory, nothing_said, refused_name as name_refused, refused_tree as tree_refused, said_of_tree, stale_lines, stale_texts, texts_of}
 use Rattle.kc_conf.specs.Given.{InputFile, bytes_of, reads, still_told}
 use Rattle.kc_conf.specs.Existence.{ExactlyOneOutcome}
-use Rattle.kc_conf.specs.Outcome.{AreLines, IsAcceptedTree, IsLenientOutcome, IsOutcome, IsRefusedTree, NamesAreRead, refused, unreadable_name, OneAnswer, Outcome, accepted_tree, has_text, is_done, lines_text, noted, notes_of, refused_name, refused_tree, root_file, strictly}
+use Rattle.kc_conf.specs.Outcome.{AreLines, IsAcceptedTree, IsLenientOutcome, IsOutcome, IsRefusedTree, NamesAreRead, refused, unreadable_name, OneAnswer, Outcome, accepted_tree, has_text, is_done, lines_text, reported, diagnostics_of, refused_name, refused_tree, root_file, strictly}
 use Rattle.kc_conf.specs.PartRuns.{EndsSo, IsBrokenOff, LeavesPart, LeavesRun, StopsLines}
-use Rattle.kc_conf.specs.Reads.{IsNoteStop, StopsInputs}
+use Rattle.kc_conf.specs.Reads.{IsReportStop, StopsInputs}
 use Rattle.kc_conf.specs.Reads as reading_stops
 use Rattle.kc_conf.specs.Stops.{cleared_by, clearing, event_of, stop_line}
 use Rattle.kc_options.specs.declared.options.Delivery.{Delivery}
@@ -37,9 +37,9 @@ use Rattle.kc_options.specs.declared.options.Options.{Options}
 use Rattle.kc_options.specs.declared.options.Status.{Status}
 use Rattle.kc_conf.specs.declared.stop.Stop.{Stop}
 use Rattle.kc_conf.specs.declared.stop.Stop.TheVariants.{OutOfMemory, Failed}
-use Rattle.kc_conf.proofs.EndingLemmas.{beyond-nothing, cleared-note, delivers-same, stale-same}
+use Rattle.kc_conf.proofs.EndingLemmas.{beyond-nothing, cleared-report, delivers-same, stale-same}
 use Rattle.kc_conf.proofs.GivenLemmas.{AreInputs-before, AreInputs-later, AreReads-before, AreReads-later, ReadsUpTo-before, ReadsUpTo-later, inputs-exist, keeps-are_reads, reads-front}
-use Rattle.kc_conf.proofs.OutcomeLemmas.{notes-noted, rule-warned, warned_if}
+use Rattle.kc_conf.proofs.OutcomeLemmas.{diagnostics-reported, rule-warned, warned_if}
 use Rattle.kc_conf.proofs.PartLemmas.{AreLines-append, AreLines-nothing}
 use Rattle.kc_conf.proofs.PartOutcomes.{texts-none}
 use Rattle.kc_conf.proofs.TellingLemmas.{Tells-first, Tells-later, Tells-weaker}
@@ -47,7 +47,7 @@ use Rattle.kc_conf.proofs.TellingLemmas.{Tells-first, Tells-later, Tells-weaker}
 -- ---- a run that was read, and then ended
 
 module _ (before : TreeFacts → List ℕ) (files : Files) (options : Options) (inputs : List InputFile) (part : Outcome) (events : List Event) (said0 waits : List ℕ) (old mid new : Log)
-    (are : AreReads files options inputs (still_told old new) events) (lines : AreLines said0) (notes : said0 ++ waits ≡ part.warned) (h : Leads events said0 old mid) where
+    (are : AreReads files options inputs (still_told old new) events) (lines : AreLines said0) (diagnostics : said0 ++ waits ≡ part.warned) (h : Leads events said0 old mid) where
   abbrev texts : List NamedText
   texts = texts_of options part
 
@@ -55,10 +55,10 @@ module _ (before : TreeFacts → List ℕ) (files : Files) (options : Options) (
   keeps = keeps-are_reads files options inputs (still_told old new) events are
 
   -- what is said in all
-  whole-notes : (more : List ℕ) → said0 ++ ((waits ++ part.refusal) ++ more) ≡ notes_of part ++ more
-  whole-notes more =
+  whole-diagnostics : (more : List ℕ) → said0 ++ ((waits ++ part.refusal) ++ more) ≡ diagnostics_of part ++ more
+  whole-diagnostics more =
       sym (append_assoc said0 (waits ++ part.refusal) more)
-      ∙ ap (λ l. l ++ more) (sym (append_assoc said0 waits part.refusal) ∙ ap (λ l. l ++ part.refusal) notes)
+      ∙ ap (λ l. l ++ more) (sym (append_assoc said0 waits part.refusal) ∙ ap (λ l. l ++ part.refusal) diagnostics)
 
   Completes-behind : (status : Status) → IsEnded options waits part.refusal texts part.status mid new status → Completes files options inputs part old new status
   Completes-behind status e = record {
@@ -68,7 +68,7 @@ module _ (before : TreeFacts → List ℕ) (files : Files) (options : Options) (
     stale = e.stale;
     of_old = Tells-first (λ journal. (e.made ≡ delivers options texts journal) × (e.stale ≡ stale_texts options texts journal)) old mid new events e.made said0 ((waits ++ part.refusal) ++ stale_lines options e.stale) keeps
         (λ j k same p. (p.0 ∙ delivers-same options.delivery texts j k same, p.1 ∙ stale-same options.delivery texts j k same)) h e.log e.of_old;
-    log = leads_said (events ++ e.made) (said0 ++ ((waits ++ part.refusal) ++ stale_lines options e.stale)) (notes_of part ++ stale_lines options e.stale) old new (whole-notes (stale_lines options e.stale))
+    log = leads_said (events ++ e.made) (said0 ++ ((waits ++ part.refusal) ++ stale_lines options e.stale)) (diagnostics_of part ++ stale_lines options e.stale) old new (whole-diagnostics (stale_lines options e.stale))
         (leads_both events e.made said0 ((waits ++ part.refusal) ++ stale_lines options e.stale) old mid new h e.log);
     status_is = e.status_is;
     only_checked = e.only_checked;
@@ -83,33 +83,33 @@ module _ (before : TreeFacts → List ℕ) (files : Files) (options : Options) (
 
   broken-behind : {stop : Stop} {done : List Event} {front : List ℕ} → EndStops options waits part.refusal texts (still_told mid new) stop done front →
       Leads (done ++ event_of stop ++ clearing options stop) front mid new → IsBrokenOff files options before inputs part stop old new
-  broken-behind (tail.in_notes f front note name are_lines beyond) w =
+  broken-behind (tail.in_diagnostics f front report name are_lines beyond) w =
       let (left, split) = reads-front are in record {
         done = events;
         front = said0 ++ front;
-        breaks = in_notes f events left (said0 ++ front) note name split (AreLines-append said0 front lines are_lines)
-            (Tells-first (λ journal. GoesBeyond (notes_of part ++ stale_lines options (stale_texts options texts journal)) (said0 ++ front)) old mid new events
+        breaks = in_diagnostics f events left (said0 ++ front) report name split (AreLines-append said0 front lines are_lines)
+            (Tells-first (λ journal. GoesBeyond (diagnostics_of part ++ stale_lines options (stale_texts options texts journal)) (said0 ++ front)) old mid new events
             (event_of (Failed f) ++ clearing options (Failed f)) said0 front keeps
-            (λ j k same p. subst (λ (s : List NamedText). GoesBeyond (notes_of part ++ stale_lines options s) (said0 ++ front)) (stale-same options.delivery texts j k same) p) h w
+            (λ j k same p. subst (λ (s : List NamedText). GoesBeyond (diagnostics_of part ++ stale_lines options s) (said0 ++ front)) (stale-same options.delivery texts j k same) p) h w
             (Tells-weaker (λ journal. GoesBeyond ((waits ++ part.refusal) ++ stale_lines options (stale_texts options texts journal)) front)
-            (λ journal. GoesBeyond (notes_of part ++ stale_lines options (stale_texts options texts journal)) (said0 ++ front)) (still_told mid new)
+            (λ journal. GoesBeyond (diagnostics_of part ++ stale_lines options (stale_texts options texts journal)) (said0 ++ front)) (still_told mid new)
             (λ journal p. (
               p.0,
               p.1,
-              sym (whole-notes (stale_lines options (stale_texts options texts journal))) ∙ ap (λ l. said0 ++ l) p.2 ∙ sym (append_assoc said0 front (p.0 ∷ p.1)),
+              sym (whole-diagnostics (stale_lines options (stale_texts options texts journal))) ∙ ap (λ l. said0 ++ l) p.2 ∙ sym (append_assoc said0 front (p.0 ∷ p.1)),
             )) beyond));
         log = leads_as (events ++ [] ++ event_of (Failed f) ++ clearing options (Failed f)) (events ++ event_of (Failed f) ++ clearing options (Failed f)) (said0 ++ front) old new
             (ap (λ l. l ++ event_of (Failed f) ++ clearing options (Failed f)) (append-nil events)) (behind-log [] (Failed f) front w);
       }
   broken-behind (tail.in_delivery f done tells) w = record {
     done = events ++ done;
-    front = notes_of part;
+    front = diagnostics_of part;
     breaks = in_delivery f events done are
         (Tells-first (λ journal. (left : List Event) × (done ++ left ≡ delivers options texts journal) × StopsBefore left (Err f)) old mid new events
         (done ++ event_of (Failed f) ++ clearing options (Failed f)) said0 (waits ++ part.refusal) keeps
         (λ j k same p. (p.0, p.1 ∙ delivers-same options.delivery texts j k same, p.2)) h w tells);
-    log = leads_said ((events ++ done) ++ event_of (Failed f) ++ clearing options (Failed f)) (said0 ++ (waits ++ part.refusal)) (notes_of part) old new
-        (sym (append_assoc said0 waits part.refusal) ∙ ap (λ l. l ++ part.refusal) notes) (behind-log done (Failed f) (waits ++ part.refusal) w);
+    log = leads_said ((events ++ done) ++ event_of (Failed f) ++ clearing options (Failed f)) (said0 ++ (waits ++ part.refusal)) (diagnostics_of part) old new
+        (sym (append_assoc said0 waits part.refusal) ∙ ap (λ l. l ++ part.refusal) diagnostics) (behind-log done (Failed f) (waits ++ part.refusal) w);
   }
 
   pub EndsSo-behind : (result : Result Status Stop) → Ends options waits part.refusal texts part.status result mid new → EndsSo files options before inputs part result old new
@@ -141,10 +141,10 @@ module _ (files : Files) (options : Options) (tree : TreeFacts) (accepted : IsAc
       let (more, is) = begins in
       let (rest, is') = front_begins in
       (no_memory done left front split lines (rest ++ more, is ∙ ap (λ l. l ++ more) is' ∙ append_assoc front rest more), refl)
-  stops-in (reading_stops.in_notes f done left front note name split lines goes) =
+  stops-in (reading_stops.in_diagnostics f done left front report name split lines goes) =
       let (more, is) = begins in
       let (b, rest, is') = goes in (
-        in_notes f done left front note name split lines
+        in_diagnostics f done left front report name split lines
             (λ journal e.
             let behind = part.refusal ++ stale_lines options (stale_texts options (texts_of options part) journal) in (
               b,
@@ -152,7 +152,7 @@ module _ (files : Files) (options : Options) (tree : TreeFacts) (accepted : IsAc
               append_assoc part.warned part.refusal (stale_lines options (stale_texts options (texts_of options part) journal))
                   ∙ ap (λ l. l ++ behind) (is ∙ ap (λ l. l ++ more) is') ∙ simp append_assoc refl,
             )),
-        cleared-note options.delivery f.action note,
+        cleared-report options.delivery f.action report,
       )
   stops-in (reading_stops.in_input f file done front which name up_to) = (in_input f tree file done front accepted named which name up_to, cleared-read options.delivery f which)
 
@@ -191,50 +191,50 @@ module _ (law : OneAnswer) (files : Files) (options : Options) (tree : TreeFacts
   told-lines : AreLines told
   told-lines = (tree.warnings, refl)
 
-  Completes-told : (status : Status) → Completes files options inputs part mid new status → Completes files options inputs (noted told part) old new status
+  Completes-told : (status : Status) → Completes files options inputs part mid new status → Completes files options inputs (reported told part) old new status
   Completes-told status c =
-      let said = notes_of part ++ stale_lines options c.stale in record {
+      let said = diagnostics_of part ++ stale_lines options c.stale in record {
         events = c.events;
         are_reads = AreReads-before old mid new [] (c.events ++ c.made) told said refl h c.log c.are_reads;
         made = c.made;
         stale = c.stale;
         of_old = Tells-first (λ journal. (c.made ≡ delivers options made journal) × (c.stale ≡ stale_texts options made journal)) old mid new [] (c.events ++ c.made) told said refl
             (λ j k same p. (p.0 ∙ delivers-same options.delivery made j k same, p.1 ∙ stale-same options.delivery made j k same)) h c.log c.of_old;
-        log = leads_said (c.events ++ c.made) (told ++ said) (notes_of (noted told part) ++ stale_lines options c.stale) old new
-            (sym (append_assoc told (notes_of part) (stale_lines options c.stale)) ∙ ap (λ l. l ++ stale_lines options c.stale) (notes-noted told part))
+        log = leads_said (c.events ++ c.made) (told ++ said) (diagnostics_of (reported told part) ++ stale_lines options c.stale) old new
+            (sym (append_assoc told (diagnostics_of part) (stale_lines options c.stale)) ∙ ap (λ l. l ++ stale_lines options c.stale) (diagnostics-reported told part))
             (leads_both [] (c.events ++ c.made) told said old mid new h c.log);
         status_is = c.status_is;
         only_checked = c.only_checked;
       }
 
   breaks-told : {stop : Stop} {done : List Event} {front : List ℕ} (b : List Event) (t : List ℕ) → Leads b t mid new → Breaks files options nothing_said inputs part (still_told mid new) stop done front →
-      Breaks files options said_of_tree inputs (noted told part) (still_told old new) stop done (told ++ front)
+      Breaks files options said_of_tree inputs (reported told part) (still_told old new) stop done (told ++ front)
   breaks-told b t w (no_memory done left front split lines begins) =
       no_memory done left (told ++ front) split (AreLines-append told front told-lines lines)
       (begins.0, ap (λ l. told ++ l) begins.1 ∙ sym (append_assoc told front begins.0))
-  breaks-told b t w (in_notes f done left front note name split lines beyond) =
-      in_notes f done left (told ++ front) note name split (AreLines-append told front told-lines lines)
-      (Tells-first (λ journal. GoesBeyond (notes_of (noted told part) ++ stale_lines options (stale_texts options made journal)) (told ++ front)) old mid new [] b told t refl
-      (λ j k same p. subst (λ (s : List NamedText). GoesBeyond (notes_of (noted told part) ++ stale_lines options s) (told ++ front)) (stale-same options.delivery made j k same) p) h w
-      (Tells-weaker (λ journal. GoesBeyond (notes_of part ++ stale_lines options (stale_texts options made journal)) front)
-      (λ journal. GoesBeyond (notes_of (noted told part) ++ stale_lines options (stale_texts options made journal)) (told ++ front)) (still_told mid new)
+  breaks-told b t w (in_diagnostics f done left front report name split lines beyond) =
+      in_diagnostics f done left (told ++ front) report name split (AreLines-append told front told-lines lines)
+      (Tells-first (λ journal. GoesBeyond (diagnostics_of (reported told part) ++ stale_lines options (stale_texts options made journal)) (told ++ front)) old mid new [] b told t refl
+      (λ j k same p. subst (λ (s : List NamedText). GoesBeyond (diagnostics_of (reported told part) ++ stale_lines options s) (told ++ front)) (stale-same options.delivery made j k same) p) h w
+      (Tells-weaker (λ journal. GoesBeyond (diagnostics_of part ++ stale_lines options (stale_texts options made journal)) front)
+      (λ journal. GoesBeyond (diagnostics_of (reported told part) ++ stale_lines options (stale_texts options made journal)) (told ++ front)) (still_told mid new)
       (λ journal p. (
         p.0,
         p.1,
-        ap (λ l. l ++ stale_lines options (stale_texts options made journal)) (sym (notes-noted told part))
-            ∙ append_assoc told (notes_of part) (stale_lines options (stale_texts options made journal)) ∙ ap (λ l. told ++ l) p.2 ∙ sym (append_assoc told front (p.0 ∷ p.1)),
+        ap (λ l. l ++ stale_lines options (stale_texts options made journal)) (sym (diagnostics-reported told part))
+            ∙ append_assoc told (diagnostics_of part) (stale_lines options (stale_texts options made journal)) ∙ ap (λ l. told ++ l) p.2 ∙ sym (append_assoc told front (p.0 ∷ p.1)),
       )) beyond))
   breaks-told b t w (in_input f other file done said other_accepted named which name up_to) =
       let same : tree ≡ other = law.one_accepted files (root_file options) tree other accepted other_accepted in
-      subst (λ l. Breaks files options said_of_tree inputs (noted told part) (still_told old new) (Failed f) done (l ++ said)) (ap (λ (s : TreeFacts). lines_text s.warnings) (sym same))
+      subst (λ l. Breaks files options said_of_tree inputs (reported told part) (still_told old new) (Failed f) done (l ++ said)) (ap (λ (s : TreeFacts). lines_text s.warnings) (sym same))
       (in_input f other file done said other_accepted named which name (ReadsUpTo-before old mid new [] b told t refl h w options other inputs f.action file done said up_to))
   breaks-told b t w (in_delivery f events done are tells) =
-      subst (λ l. Breaks files options said_of_tree inputs (noted told part) (still_told old new) (Failed f) (events ++ done) l) (sym (notes-noted told part))
+      subst (λ l. Breaks files options said_of_tree inputs (reported told part) (still_told old new) (Failed f) (events ++ done) l) (sym (diagnostics-reported told part))
       (in_delivery f events done (AreReads-before old mid new [] b told t refl h w are)
       (Tells-first (λ journal. (left : List Event) × (done ++ left ≡ delivers options made journal) × StopsBefore left (Err f)) old mid new [] b told t refl
       (λ j k same p. (p.0, p.1 ∙ delivers-same options.delivery made j k same, p.2)) h w tells))
 
-  ends-told : (result : Result Status Stop) → EndsSo files options nothing_said inputs part result mid new → EndsSo files options said_of_tree inputs (noted told part) result old new
+  ends-told : (result : Result Status Stop) → EndsSo files options nothing_said inputs part result mid new → EndsSo files options said_of_tree inputs (reported told part) result old new
   ends-told (Ok status) c = Completes-told status c
   ends-told (Err stop) b = record {
     done = b.done;
@@ -245,7 +245,7 @@ module _ (law : OneAnswer) (files : Files) (options : Options) (tree : TreeFacts
 
 some-log : (files : Files) (options : Options) (before : TreeFacts → List ℕ) (inputs : List InputFile) (outcome : Outcome) (result : Result Status Stop) (old new : Log) →
     EndsSo files options before inputs outcome result old new → (b : List Event) × (t : List ℕ) × Leads b t old new
-some-log files options before inputs outcome (Ok status) old new c = (c.events ++ c.made, notes_of outcome ++ stale_lines options c.stale, c.log)
+some-log files options before inputs outcome (Ok status) old new c = (c.events ++ c.made, diagnostics_of outcome ++ stale_lines options c.stale, c.log)
 some-log files options before inputs outcome (Err stop) old new b = (b.done ++ event_of stop ++ clearing options stop, b.front, b.log)
 
 -- with them, the part is the run
@@ -255,7 +255,7 @@ LeavesRun-part law files options tree result old mid new accepted h p =
     let (b, t, w) = some-log files options nothing_said p.inputs p.part result mid new p.ends in record {
       inputs = p.inputs;
       are_inputs = AreInputs-before old mid new [] b (lines_text tree.warnings) t refl h w options p.inputs p.are_inputs;
-      outcome = noted (lines_text tree.warnings) p.part;
+      outcome = reported (lines_text tree.warnings) p.part;
       is_outcome = p.is_part;
       ends = ends-told law files options tree accepted p.inputs p.part old mid new h result p.ends;
     }
@@ -308,7 +308,7 @@ module _ (law : OneAnswer) (outcomes : ExactlyOneOutcome) (files : Files) (optio
 
   pub LeavesRun-unsaid : (stop : Stop) (old new : Log) → StopsLines (lines_text tree.warnings) stop old new → LeavesRun files options (Err stop) old new
   LeavesRun-unsaid OutOfMemory old new log = LeavesRun-memory outcomes files options old new log
-  LeavesRun-unsaid (Failed f) old new ((note, name), some, log) =
+  LeavesRun-unsaid (Failed f) old new ((report, name), some, log) =
       let (inputs, are) = inputs-exist (still_told old new) options in
       let (outcome, is, only) = outcomes files options (bytes_of inputs) in
       let (rest, begins) = begins-told (bytes_of inputs) outcome is in
@@ -320,14 +320,14 @@ module _ (law : OneAnswer) (outcomes : ExactlyOneOutcome) (files : Files) (optio
         ends = record {
           done = [];
           front = [];
-          breaks = in_notes f [] (reads inputs) [] note name refl AreLines-nothing
+          breaks = in_diagnostics f [] (reads inputs) [] report name refl AreLines-nothing
               (λ journal e.
               let more = stale_lines options (stale_texts options (texts_of options outcome) journal) in
               subst (λ l. GoesBeyond l [])
               (sym (ap (λ l. l ++ outcome.refusal ++ more) begins ∙ simp append_assoc refl))
               (beyond-nothing (lines_text tree.warnings) (rest ++ (outcome.refusal ++ more)) some));
           log = leads_as (event_of (Failed f)) (event_of (Failed f) ++ clearing options (Failed f)) [] old new
-              (sym (append-nil (event_of (Failed f))) ∙ ap (λ l. event_of (Failed f) ++ l) (sym (cleared-note options.delivery f.action note))) log;
+              (sym (append-nil (event_of (Failed f))) ∙ ap (λ l. event_of (Failed f) ++ l) (sym (cleared-report options.delivery f.action report))) log;
         };
       }
 
@@ -337,9 +337,9 @@ module _ (law : OneAnswer) (outcomes : ExactlyOneOutcome) (files : Files) (optio
 pub breaks-later : (files : Files) (options : Options) (before : TreeFacts → List ℕ) (inputs : List InputFile) (outcome : Outcome) (more : List Event) (text : List ℕ) (old mid new : Log) → Leads more text mid new →
     {stop : Stop} {done : List Event} {front : List ℕ} → Breaks files options before inputs outcome (still_told old mid) stop done front → Breaks files options before inputs outcome (still_told old new) stop done front
 breaks-later files options before inputs outcome more text old mid new log (no_memory done left front split lines begins) = no_memory done left front split lines begins
-breaks-later files options before inputs outcome more text old mid new log (in_notes f done left front note name split lines beyond) =
-    in_notes f done left front note name split lines
-    (Tells-later (λ journal. GoesBeyond (notes_of outcome ++ stale_lines options (stale_texts options (texts_of options outcome) journal)) front) old mid new more text log beyond)
+breaks-later files options before inputs outcome more text old mid new log (in_diagnostics f done left front report name split lines beyond) =
+    in_diagnostics f done left front report name split lines
+    (Tells-later (λ journal. GoesBeyond (diagnostics_of outcome ++ stale_lines options (stale_texts options (texts_of options outcome) journal)) front) old mid new more text log beyond)
 breaks-later files options before inputs outcome more text old mid new log (in_input f tree file done front accepted named which name up_to) =
     in_input f tree file done front accepted named which name (ReadsUpTo-later old mid new more text log options tree inputs f.action file done front up_to)
 breaks-later files options before inputs outcome more text old mid new log (in_delivery f events done are tells) =
@@ -359,7 +359,7 @@ Runs-answered files options (Ok ended) status old mid new run (is, same) =
     }))
 Runs-answered files options (Err stop) status old mid new run (faulted, is_told, (report, is_report, told_is, log)) = record {
   inputs = run.inputs;
-  are_inputs = AreInputs-later (io_noted report) (said report (stop_line options stop)) old mid new log options run.inputs run.are_inputs;
+  are_inputs = AreInputs-later (io_reported report) (said report (stop_line options stop)) old mid new log options run.inputs run.are_inputs;
   outcome = run.outcome;
   is_outcome = run.is_outcome;
   ends = inr (record {
@@ -367,9 +367,9 @@ Runs-answered files options (Err stop) status old mid new run (faulted, is_told,
     done = run.ends.done;
     front = run.ends.front;
     report = report;
-    breaks = breaks-later files options said_of_tree run.inputs run.outcome (io_noted report) (said report (stop_line options stop)) old mid new log run.ends.breaks;
+    breaks = breaks-later files options said_of_tree run.inputs run.outcome (io_reported report) (said report (stop_line options stop)) old mid new log run.ends.breaks;
     is_report = is_report;
-    log = leads_both (run.ends.done ++ event_of stop ++ clearing options stop) (io_noted report) run.ends.front (said report (stop_line options stop)) old mid new run.ends.log log;
+    log = leads_both (run.ends.done ++ event_of stop ++ clearing options stop) (io_reported report) run.ends.front (said report (stop_line options stop)) old mid new run.ends.log log;
     status_is = faulted;
   });
 }

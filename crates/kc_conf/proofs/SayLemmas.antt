@@ -11,7 +11,7 @@ use Rattle.kc_io.specs.declared.device.Fault.{Fault}
 use Rattle.kc_io.specs.declared.device.Fault.TheVariants.{Refused, Memory}
 use Rattle.kc_io.specs.declared.steps.Failure.{Failure}
 use Rattle.kc_io.specs.WholeLines.{ends_line, is_whole_lines}
-use Rattle.kc_dot.specs.WholeLines.{AddsWholeLines}
+use Rattle.kc_config_file.specs.WholeLines.{AddsWholeLines}
 use Rattle.kc_read.specs.declared.refusal.Code.{Code}
 use Rattle.kc_read.specs.declared.refusal.Code.TheVariants as code
 use Rattle.kc_conf.specs.ErrorLines.{first_line, message_behind}

@@ -7,19 +7,19 @@ use Rattle.std.proofs.lemmas.Grind.{fold-append}
 use Rattle.std.proofs.lemmas.List.Folds.{list_all-append, list_any-append}
 use Rattle.std.proofs.lemmas.Slice.Eq.{bytes_eq-Decides}
 use Rattle.kc_io.specs.Held.{keeps_files, last_of, only_looks}
-use Rattle.kc_io.specs.Log.{Event, Journal, Leads, Spot, acted, after, did, each_byte, held, is_held, noted}
+use Rattle.kc_io.specs.Log.{Event, Journal, Leads, Spot, acted, after, did, each_byte, held, is_held, reported}
 use Rattle.kc_io.specs.Scripts.{NamedText, chosen, delivery, moved, put, share_name, stale}
 use Rattle.kc_io.specs.declared.delivery.Manner.{Manner}
-use Rattle.kc_io.specs.declared.delivery.Manner.TheVariants.{Plain, Replacing}
+use Rattle.kc_io.specs.declared.delivery.Manner.TheVariants.{InPlace, Replacing}
 use Rattle.kc_io.specs.declared.device.Action.{Action}
-use Rattle.kc_io.specs.declared.device.Action.TheVariants.{Open, Miss, Read, Create, Write, Close, Move, Clear, Note}
+use Rattle.kc_io.specs.declared.device.Action.TheVariants.{Open, Miss, Read, Create, Write, Close, Move, Clear, Report}
 use Rattle.kc_io.specs.declared.device.Site.{Site}
 use Rattle.kc_io.specs.declared.device.Site.TheVariants.{Place, Beside}
 use Rattle.kc_io.proofs.HeldLemmas.{delivery_held}
-use Rattle.kc_io.proofs.LogLemmas.{keeps_both, keeps_bytes, keeps_noted, looks_acts, spot_more, spot_of}
+use Rattle.kc_io.proofs.LogLemmas.{keeps_both, keeps_bytes, keeps_reported, looks_acts, spot_more, spot_of}
 use Rattle.kc_read.specs.Files.{Files}
 use Rattle.kc_tree.specs.TreeFacts.{TreeFacts}
-use Rattle.kc_conf.specs.Ends.{Breaks, Broken, Completes, delivered_by, delivers, in_delivery, in_input, in_notes, no_memory, text_at, texts_of}
+use Rattle.kc_conf.specs.Ends.{Breaks, Broken, Completes, delivered_by, delivers, in_delivery, in_input, in_diagnostics, no_memory, text_at, texts_of}
 use Rattle.kc_conf.specs.Given.{InputFile, begun, reads}
 use Rattle.kc_conf.specs.Outcome.{Outcome}
 use Rattle.kc_conf.specs.Stops.{cleared_by, clearing, event_of}
@@ -134,7 +134,7 @@ module _ (name : List ℕ) where
       pass_both (f text) (flat_map f texts) (one text both.0) (pass_all f one texts both.1)
 
   pass_delivery : (manner : Manner) (texts : List NamedText) → has texts ≡ false → pass (delivery manner texts) ≡ true
-  pass_delivery Plain texts e = pass_all (put Place) (pass_put Place) texts e
+  pass_delivery InPlace texts e = pass_all (put Place) (pass_put Place) texts e
   pass_delivery Replacing texts e =
       pass_both (flat_map (put Beside) texts) (flat_map moved texts) (pass_all (put Beside) (pass_put Beside) texts e)
       (pass_all moved (λ text other. pass_did Move text.name other) texts e)
@@ -158,7 +158,7 @@ module _ (name : List ℕ) where
 
   pass_delivered : (manner : Delivery) (texts : List NamedText) (names : List (List ℕ)) (journal : Journal) → is_among name (written_by manner names) ≡ false →
       (is_among name names ≡ false → has texts ≡ false) → pass (delivered_by manner texts journal) ≡ true
-  pass_delivered delivered.Write texts names journal e lacks = pass_delivery Plain texts (lacks e)
+  pass_delivered delivered.Write texts names journal e lacks = pass_delivery InPlace texts (lacks e)
   pass_delivered delivered.Replace texts names journal e lacks = pass_delivery Replacing (chosen Replacing texts journal) (chosen_lacks texts journal (lacks e))
   pass_delivered delivered.Check texts names journal e lacks = refl
 
@@ -205,7 +205,7 @@ module _ (name : List ℕ) where
 
     pass_breaks : (before : TreeFacts → List ℕ) (old : Journal) (stop : Stop) (done : List Event) (front : List ℕ) → Breaks files options before inputs part (Some old) stop done front → pass done ≡ true
     pass_breaks before old _ _ _ (no_memory done left front all lines begins) = pass_reads done left all
-    pass_breaks before old _ _ _ (in_notes f done left front action named all lines more) = pass_reads done left all
+    pass_breaks before old _ _ _ (in_diagnostics f done left front action named all lines more) = pass_reads done left all
     pass_breaks before old _ _ _ (in_input f tree file done said_of_inputs accepted readable action named to) =
         ap pass to.done_is ∙ pass_both (reads (take to.i inputs)) (begun f.action file.name to.bytes) (keeps_pass (reads (take to.i inputs)) (keeps-reads (take to.i inputs))) (pass_begun action)
       where
@@ -233,7 +233,7 @@ module _ (name : List ℕ) where
     keeps_cleared delivered.Replace (Close site) = refl
     keeps_cleared delivered.Replace Move = refl
     keeps_cleared delivered.Replace Clear = refl
-    keeps_cleared delivered.Replace Note = refl
+    keeps_cleared delivered.Replace Report = refl
 
     keeps_clearing : (stop : Stop) → keeps_files (clearing options stop) ≡ true
     keeps_clearing OutOfMemory = refl
@@ -242,12 +242,12 @@ module _ (name : List ℕ) where
     -- or one that was broken off
     pub broken_held : (before : TreeFacts → List ℕ) (old new : Journal) (status : Status) → Broken files options before inputs part (Some old) (Some new) status → held new name ≡ held old name
     broken_held before old new status b =
-        passed_held (b.done ++ event_of b.stop ++ clearing options b.stop ++ noted b.report) _ old new b.log
-        (pass_both (b.done ++ event_of b.stop ++ clearing options b.stop) (noted b.report)
+        passed_held (b.done ++ event_of b.stop ++ clearing options b.stop ++ reported b.report) _ old new b.log
+        (pass_both (b.done ++ event_of b.stop ++ clearing options b.stop) (reported b.report)
         (pass_both (b.done ++ event_of b.stop) (clearing options b.stop)
         (pass_both b.done (event_of b.stop) (pass_breaks before old b.stop b.done b.front b.breaks) (keeps_pass (event_of b.stop) (keeps_event b.stop)))
         (keeps_pass (clearing options b.stop) (keeps_clearing b.stop)))
-        (keeps_pass (noted b.report) (keeps_noted b.report)))
+        (keeps_pass (reported b.report) (keeps_reported b.report)))
 
   -- ---- what a whole delivery makes of a file
 
@@ -294,7 +294,7 @@ module _ (name : List ℕ) where
 
   delivered_last : (manner : Delivery) (texts : List NamedText) (names : List (List ℕ)) (journal : Journal) → is_among name (written_by manner names) ≡ true →
       (fold (after name) (spot_of journal name) (delivered_by manner texts journal)).held ≡ last_of name texts (held journal name)
-  delivered_last delivered.Write texts names journal e = delivery_held name Plain texts (spot_of journal name)
+  delivered_last delivered.Write texts names journal e = delivery_held name InPlace texts (spot_of journal name)
   delivered_last delivered.Replace texts names journal e = delivery_held name Replacing (chosen Replacing texts journal) (spot_of journal name) ∙ chosen_last texts journal
   delivered_last delivered.Check texts names journal e = absurd (let clash : false ≡ true = e in cc)
 

@@ -6,16 +6,16 @@ use Rattle.kc_text.specs.Lines.{HoldsNoLineFeed, is_line_feed}
 use Rattle.kc_io.specs.Log.{Event, Log, Leads}
 use Rattle.kc_io.specs.WholeLines.{is_whole_lines}
 use Rattle.kc_io.specs.declared.device.Action.{Action}
-use Rattle.kc_io.specs.declared.device.Action.TheVariants.{Note}
+use Rattle.kc_io.specs.declared.device.Action.TheVariants.{Report}
 use Rattle.kc_io.proofs.LogLemmas.{leads_both, leads_nothing, leads_said}
-use Rattle.kc_dot.specs.Feeding.{StreamPosition, to_come}
-use Rattle.kc_dot.specs.ReaderCalls.{AnswersEnd, AnswersFeed}
-use Rattle.kc_dot.specs.ReaderState.{ReaderState}
-use Rattle.kc_dot.specs.Reading.{Line, ReadResult, UserInput, lines_from, reading, with_warnings}
-use Rattle.kc_dot.specs.Sink.{BeginsWith, GoesBeyond}
-use Rattle.kc_dot.specs.WholeLines.{AddsWholeLines}
-use Rattle.kc_dot.specs.declared.fault.DotFault.{DotFault}
-use Rattle.kc_dot.specs.declared.fault.DotFault.TheVariants.{DotLineTooLong, Memory}
+use Rattle.kc_config_file.specs.Feeding.{StreamPosition, to_come}
+use Rattle.kc_config_file.specs.ReaderCalls.{AnswersEnd, AnswersFeed}
+use Rattle.kc_config_file.specs.ReaderState.{ReaderState}
+use Rattle.kc_config_file.specs.Reading.{Line, ReadResult, UserInput, lines_from, reading, with_warnings}
+use Rattle.kc_config_file.specs.Sink.{BeginsWith, GoesBeyond}
+use Rattle.kc_config_file.specs.WholeLines.{AddsWholeLines}
+use Rattle.kc_config_file.specs.declared.fault.InputFault.{InputFault}
+use Rattle.kc_config_file.specs.declared.fault.InputFault.TheVariants.{InputLineTooLong, Memory}
 use Rattle.kc_conf.specs.Outcome.{AreLines}
 use Rattle.kc_conf.specs.Reads.{ended_with}
 use Rattle.kc_conf.specs.ReadSteps.{BreaksEnd, BreaksPiece, EndsFile, FailsAt, OnlyHeldWaits, SaysWaiting, Stand, StopsWarnings, TakesPiece, Warns, held_back, said_now}
@@ -98,8 +98,8 @@ stops-after true OutOfMemory a front whole read lines is none = none
 stops-after true (Failed f) a front whole read lines is never = absurd never
 stops-after false OutOfMemory a front whole read lines is (are, (rest, begins)) =
     (AreLines-append a front lines are, (rest, ap (λ (r : ReadResult). r.warned) is ∙ ap (λ w. a ++ w) begins ∙ sym (append_assoc a front rest)))
-stops-after false (Failed f) a front whole read lines is (note, are, (b, rest, goes)) =
-    (note, AreLines-append a front lines are, (b, rest, ap (λ (r : ReadResult). r.warned) is ∙ ap (λ w. a ++ w) goes ∙ sym (append_assoc a front (b ∷ rest))))
+stops-after false (Failed f) a front whole read lines is (report, are, (b, rest, goes)) =
+    (report, AreLines-append a front lines are, (b, rest, ap (λ (r : ReadResult). r.warned) is ∙ ap (λ w. a ++ w) goes ∙ sym (append_assoc a front (b ∷ rest))))
 
 pub stops-behind-warns : (stop : Stop) (warned front : List ℕ) (events : List Event) (old new : Stand) (whole read : ReadResult) → Warns warned events old new → whole ≡ with_warnings warned read →
     StopsWarnings new.waiting.holds stop read.warned front → StopsWarnings old.waiting.holds stop whole.warned (said_now old.waiting.holds warned ++ front)
@@ -118,7 +118,7 @@ stops-behind false warned whole lines begins = (lines, begins)
 
 -- the diagnostics did not take these warnings
 stops-unsaid : (holds : Bool) (stop : Stop) (waits told warned whole : List ℕ) (old new : Log) → waits ≡ held_back holds waits → told ≡ waits ++ warned → BeginsWith whole warned →
-    FailsAt Note [] stop old new → GoesBeyond (said_now holds told) [] → StopsWarnings holds stop whole []
+    FailsAt Report [] stop old new → GoesBeyond (said_now holds told) [] → StopsWarnings holds stop whole []
 stops-unsaid true stop waits told warned whole old new only is begins fails (b, rest, goes) = absurd cc
 stops-unsaid false OutOfMemory waits told warned whole old new only is begins fails goes = absurd fails
 stops-unsaid false (Failed f) waits told warned whole old new only is (more, begins) (action, name, log) (b, rest, goes) =
@@ -158,7 +158,7 @@ said-warns warned told old new only is added says = record {
 
 module _ (reader : ReaderState) where
   -- what a piece that was fed warns of; what is warned of in all begins with it
-  fed-warns : (piece : List ℕ) (result : Result (Unit {0}) DotFault) (next : ReaderState) (before after : UserInput) (told told_after : List ℕ) → reader.refusal ≡ None →
+  fed-warns : (piece : List ℕ) (result : Result (Unit {0}) InputFault) (next : ReaderState) (before after : UserInput) (told told_after : List ℕ) → reader.refusal ≡ None →
       AnswersFeed piece result reader next before after told told_after →
       (warned : List ℕ) × (told_after ≡ told ++ warned)
       × ((rest : List ℕ) (more : List Line) → BeginsWith (reading reader.tree reader.prefix before (to_come reader.name reader.position (piece ++ rest) more)).warned warned)
@@ -198,7 +198,7 @@ module _ (reader : ReaderState) where
 
     module _ (none : reader.refusal ≡ None) where
       -- a line of it is too long
-      pub takes-long : (number : ℕ) → AnswersFeed piece (Err (DotLineTooLong number)) reader next old.input new.input old.waiting.text.items told.items →
+      pub takes-long : (number : ℕ) → AnswersFeed piece (Err (InputLineTooLong number)) reader next old.input new.input old.waiting.text.items told.items →
           SaysWaiting (Ok tt) (record { holds = old.waiting.holds; text = told }) new.waiting old.log new.log → new.file ≡ old.file → TakesPiece reader piece (Some number) next old new
       takes-long number answers says same_file =
           let refuses = answers.refused none in
@@ -231,7 +231,7 @@ module _ (reader : ReaderState) where
           }
 
       -- the diagnostics failed
-      pub breaks-unsaid : (result : Result (Unit {0}) DotFault) (stop : Stop) → AnswersFeed piece result reader next old.input new.input old.waiting.text.items told.items →
+      pub breaks-unsaid : (result : Result (Unit {0}) InputFault) (stop : Stop) → AnswersFeed piece result reader next old.input new.input old.waiting.text.items told.items →
           SaysWaiting (Err stop) (record { holds = old.waiting.holds; text = told }) new.waiting old.log new.log → BreaksPiece reader piece stop old new
       breaks-unsaid result stop answers says =
           let (warned, is, begins) = fed-warns piece result next old.input new.input old.waiting.text.items told.items none answers in
@@ -240,7 +240,7 @@ module _ (reader : ReaderState) where
             stops = λ rest more.
                 stops-unsaid old.waiting.holds stop old.waiting.text.items told.items warned (reading reader.tree reader.prefix old.input (to_come reader.name reader.position (piece ++ rest) more)).warned
                 old.log new.log only is (begins rest more) says.failed.0 says.failed.1;
-            log = fails-log Note [] stop old.log new.log says.failed.0;
+            log = fails-log Report [] stop old.log new.log says.failed.0;
           }
 
   -- ---- the last line
@@ -266,7 +266,7 @@ module _ (reader : ReaderState) where
               stops-unsaid old.waiting.holds stop old.waiting.text.items told.items warned
               (reading reader.tree reader.prefix old.input (lines_from reader.name reader.position.number reader.position.pending ++ more)).warned old.log new.log only is
               ((reading reader.tree reader.prefix new.input more).warned, ap (λ (r : ReadResult). r.warned) (ends more)) says.failed.0 says.failed.1;
-          log = fails-log Note [] stop old.log new.log says.failed.0;
+          log = fails-log Report [] stop old.log new.log says.failed.0;
         }
 
   -- there was no memory for it

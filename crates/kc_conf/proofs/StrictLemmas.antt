@@ -15,13 +15,13 @@ use Rattle.kc_user.specs.Places.{ArePlacesOf, Places, place_at}
 use Rattle.kc_values.specs.Differs.{given_of}
 use Rattle.kc_values.specs.Lookups.{facts}
 use Rattle.kc_solve.specs.Solved.{Solution, known, warnings}
-use Rattle.kc_dot.specs.Changes.{StreamLocation, is_change}
-use Rattle.kc_dot.specs.Effects.{Effect, Silent, Warns, Assigns}
-use Rattle.kc_dot.specs.Reading.{Line, UserInput, effect, input_after, lines_of, places_after, stream_location, untaken, untaken_line}
-use Rattle.kc_dot.specs.Reading.{is_taken as is_taken_by}
-use Rattle.kc_dot.specs.ReadingLaws.{LinesGiveInTurn, LinesInTurn}
-use Rattle.kc_dot.specs.SolvedView.{solution_view}
-use Rattle.kc_dot.specs.Texts.{config_text}
+use Rattle.kc_config_file.specs.Changes.{StreamLocation, is_change}
+use Rattle.kc_config_file.specs.Effects.{Effect, Silent, Warns, Assigns}
+use Rattle.kc_config_file.specs.Reading.{Line, UserInput, effect, input_after, lines_of, places_after, stream_location, untaken, untaken_line}
+use Rattle.kc_config_file.specs.Reading.{is_taken as is_taken_by}
+use Rattle.kc_config_file.specs.ReadingLaws.{LinesGiveInTurn, LinesInTurn}
+use Rattle.kc_config_file.specs.SolvedView.{solution_view}
+use Rattle.kc_config_file.specs.Texts.{config_text}
 use Rattle.kc_options.specs.declared.options.Options.{Options}
 use Rattle.kc_conf.specs.Lost.{has_prompt, lost_lines}
 use Rattle.kc_conf.proofs.OutcomeLemmas.{text_if_is}

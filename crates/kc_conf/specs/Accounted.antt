@@ -3,16 +3,16 @@ use Rattle.std.specs.Prelude.{◌≡◌, ◌⊎◌, ℕ, true, false, All, List,
 use Rattle.kc_expr.specs.declared.expression.SymId.{SymId}
 use Rattle.kc_read.specs.Files.{Files}
 use Rattle.kc_tree.specs.TreeFacts.{SymbolFacts, TreeFacts}
-use Rattle.kc_expr.specs.declared.expression.Kind.{Kind}
+use Rattle.kc_expr.specs.declared.expression.SymbolType.{SymbolType}
 use Rattle.kc_user.specs.GivenValue.{GivenValue, same_given}
 use Rattle.kc_values.specs.Differs.{given_of}
 use Rattle.kc_values.specs.Lookups.{facts, name}
 use Rattle.kc_solve.specs.Solved.{Solution, known}
-use Rattle.kc_dot.specs.Effects.{Effect, Silent, Warns, Assigns, SetAgain, warning_line}
-use Rattle.kc_dot.specs.Reading.{Line, effect, lines_of, stream_location}
-use Rattle.kc_dot.specs.Changes.{change_line}
-use Rattle.kc_dot.specs.SolvedView.{solution_view}
-use Rattle.kc_dot.specs.Texts.{config_text}
+use Rattle.kc_config_file.specs.Effects.{Effect, Silent, Warns, Assigns, SetAgain, warning_line}
+use Rattle.kc_config_file.specs.Reading.{Line, effect, lines_of, stream_location}
+use Rattle.kc_config_file.specs.Changes.{change_line}
+use Rattle.kc_config_file.specs.SolvedView.{solution_view}
+use Rattle.kc_config_file.specs.Texts.{config_text}
 use Rattle.kc_options.specs.declared.options.Options.{Options}
 use Rattle.kc_conf.specs.Lost.{has_prompt, lost_line}
 use Rattle.kc_conf.specs.Outcome.{AreLines, IsOutcome, Outcome, names_of, streams}
@@ -28,18 +28,18 @@ LeavesAlone tree prefix s l = (given : GivenValue) → effect tree prefix l ≡ 
 
 -- The next line that gives the symbol a value is told to set it again, and where that is another value, to change it: which value
 -- it was, by this line, and is now.
-abbrev pub IsSetAgain : TreeFacts → List ℕ → List ℕ → Line → SymId → Kind → GivenValue → List Line → Type 0
-IsSetAgain tree prefix warned l s kind given later =
+abbrev pub IsSetAgain : TreeFacts → List ℕ → List ℕ → Line → SymId → SymbolType → GivenValue → List Line → Type 0
+IsSetAgain tree prefix warned l s symbol_type given later =
     (front back : List Line) × (next : Line) × (other : GivenValue) × (later ≡ front ++ next ∷ back) × All (LeavesAlone tree prefix s) front
     × (effect tree prefix next ≡ Assigns s other)
     × HoldsLine warned (warning_line next.stream next.number (SetAgain (name tree s)))
-    × (same_given given other ≡ false → HoldsLine warned (change_line (stream_location next) (name tree s) kind given (stream_location l) other))
+    × (same_given given other ≡ false → HoldsLine warned (change_line (stream_location next) (name tree s) symbol_type given (stream_location l) other))
 
 -- no later line gives the symbol a value, and what this line gave is its value, or it is told that it is not
 abbrev pub IsKeptOrWarned : TreeFacts → Solution → List ℕ → Line → SymId → SymbolFacts → GivenValue → Type 0
 IsKeptOrWarned tree solution warned l s f given =
     (given ≡ given_of (known solution s))
-    ⊎ HoldsLine warned (lost_line (stream_location l) (name tree s) f.kind given (given_of (known solution s)) ++ codes "\n")
+    ⊎ HoldsLine warned (lost_line (stream_location l) (name tree s) f.symbol_type given (given_of (known solution s)) ++ codes "\n")
 
 module _ (tree : TreeFacts) (prefix : List ℕ) (solution : Solution) (warned : List ℕ) where
   -- A line that has this effect, before these lines, is accounted for: it is warned of; or what it gives a symbol with a
@@ -49,7 +49,7 @@ module _ (tree : TreeFacts) (prefix : List ℕ) (solution : Solution) (warned : 
   IsAccountedFor l later (Warns line_warning) = HoldsLine warned (warning_line l.stream l.number line_warning)
   IsAccountedFor l later (Assigns s given) =
       (f : SymbolFacts) → facts tree s ≡ Some f → has_prompt f.prompts ≡ true →
-      IsSetAgain tree prefix warned l s f.kind given later ⊎ IsKeptOrWarned tree solution warned l s f given
+      IsSetAgain tree prefix warned l s f.symbol_type given later ⊎ IsKeptOrWarned tree solution warned l s f given
 
 -- Where lost values are warned of and files are written, the .config is the text of the solution, and the warnings account
 -- for each line of the streams by the values of that solution.

@@ -2,7 +2,7 @@
 use Rattle.std.specs.Prelude.{◌≡◌, ℕ, Bool, ◌||◌, ◌&&◌, if◌then◌else◌, List, ◌++◌, map, Option, None, Some, option_map}
 use Rattle.kc_tree.specs.TreeFacts.{TreeFacts}
 use Rattle.kc_solve.specs.Solved.{Solution, warnings}
-use Rattle.kc_dot.specs.Reading.{UserInput}
+use Rattle.kc_config_file.specs.Reading.{UserInput}
 use Rattle.kc_io.specs.Scripts.{NamedText}
 use Rattle.kc_load.specs.Rules.{rule_text}
 use Rattle.kc_options.specs.Asked.{lead, target}

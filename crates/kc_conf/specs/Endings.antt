@@ -1,18 +1,18 @@
 -- For proofs: How a run ends behind its reading.
 use Rattle.std.specs.Prelude.{◌≡◌, ◌≢◌, ◌⊎◌, ℕ, Bool, List, [], ◌++◌, Option, None, Some, Result, Ok, Err}
-use Rattle.kc_dot.specs.Sink.{GoesBeyond}
+use Rattle.kc_config_file.specs.Sink.{GoesBeyond}
 use Rattle.kc_io.specs.Delivered.{Delivered, StopsBefore}
 use Rattle.kc_io.specs.Log.{Event, Log, Leads, Tells}
 use Rattle.kc_io.specs.Scripts.{NamedText, stale}
 use Rattle.kc_io.specs.declared.delivery.Manner.{Manner}
-use Rattle.kc_io.specs.declared.device.Action.TheVariants.{Note}
+use Rattle.kc_io.specs.declared.device.Action.TheVariants.{Report}
 use Rattle.kc_io.specs.declared.steps.Failure.{Failure}
 use Rattle.kc_options.specs.Asked.{lead}
 use Rattle.kc_conf.specs.Ends.{delivers, stale_lines, stale_texts, status_with}
 use Rattle.kc_conf.specs.ErrorLines.{strict_line}
 use Rattle.kc_conf.specs.Given.{still_told}
 use Rattle.kc_conf.specs.Outcome.{AreLines}
-use Rattle.kc_conf.specs.Reads.{IsNoteStop}
+use Rattle.kc_conf.specs.Reads.{IsReportStop}
 use Rattle.kc_conf.specs.Stops.{Reports, clearing, event_of}
 use Rattle.kc_options.specs.declared.options.Delivery.TheVariants.{Check}
 use Rattle.kc_options.specs.declared.options.Options.{Options}
@@ -24,7 +24,7 @@ use Rattle.kc_conf.specs.declared.stop.Stop.TheVariants.{OutOfMemory, Failed}
 -- the text was said; or there is some, and the diagnostics failed
 abbrev pub SaysAll : List ℕ → Result (Unit {0}) Stop → Log → Log → Type 0
 SaysAll text (Ok _) old new = Leads [] text old new
-SaysAll text (Err stop) old new = IsNoteStop stop × (text ≢ []) × Leads (event_of stop) [] old new
+SaysAll text (Err stop) old new = IsReportStop stop × (text ≢ []) × Leads (event_of stop) [] old new
 
 -- the texts were delivered, or what failed is answered
 abbrev pub HandsBy : Manner → List NamedText → Log → Log → Result Status Stop → Type 0
@@ -56,7 +56,7 @@ pub record IsEnded (options : Options) (waits line : List ℕ) (texts : List Nam
 
 -- why it was broken off, what was done and what was said
 pub data EndStops (options : Options) (waits line : List ℕ) (texts : List NamedText) (told : Log) : Stop → List Event → List ℕ → Type 0 where
-  in_notes : (f : Failure) (front : List ℕ) → f.action ≡ Note → f.name.now ≡ [] → AreLines front →
+  in_diagnostics : (f : Failure) (front : List ℕ) → f.action ≡ Report → f.name.now ≡ [] → AreLines front →
       Tells told (λ journal. GoesBeyond ((waits ++ line) ++ stale_lines options (stale_texts options texts journal)) front) → EndStops options waits line texts told (Failed f) [] front
   in_delivery : (f : Failure) (done : List Event) →
       Tells told (λ journal. (left : List Event) × (done ++ left ≡ delivers options texts journal) × StopsBefore left (Err f)) →

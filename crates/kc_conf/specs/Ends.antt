@@ -6,17 +6,17 @@ use Rattle.kc_read.specs.Expansion.{Refused}
 use Rattle.kc_read.specs.Files.{Files}
 use Rattle.kc_tree.specs.TreeFacts.{TreeFacts}
 use Rattle.kc_io.specs.Delivered.{StopsBefore}
-use Rattle.kc_io.specs.Log.{Event, Journal, Log, Leads, Tells, noted, said}
+use Rattle.kc_io.specs.Log.{Event, Journal, Log, Leads, Tells, reported, said}
 use Rattle.kc_io.specs.Scripts.{NamedText, chosen, delivery, stale}
-use Rattle.kc_io.specs.declared.delivery.Manner.TheVariants.{Plain, Replacing}
-use Rattle.kc_io.specs.declared.device.Action.TheVariants.{Open, Read, Note}
+use Rattle.kc_io.specs.declared.delivery.Manner.TheVariants.{InPlace, Replacing}
+use Rattle.kc_io.specs.declared.device.Action.TheVariants.{Open, Read, Report}
 use Rattle.kc_io.specs.declared.device.Fault.{Fault}
 use Rattle.kc_io.specs.declared.steps.Failure.{Failure}
-use Rattle.kc_dot.specs.Sink.{BeginsWith, GoesBeyond}
+use Rattle.kc_config_file.specs.Sink.{BeginsWith, GoesBeyond}
 use Rattle.kc_options.specs.Asked.{lead, root_file}
 use Rattle.kc_conf.specs.ErrorLines.{stale_line}
 use Rattle.kc_conf.specs.Given.{AreInputs, AreThere, InputFile, ReadsTo, ReadsUpTo, bytes_of, reads, still_told}
-use Rattle.kc_conf.specs.Outcome.{AreLines, IsAcceptedTree, IsOutcome, IsRefusedName, IsRefusedTree, NamesAreRead, Outcome, lines_text, notes_of, read_of}
+use Rattle.kc_conf.specs.Outcome.{AreLines, IsAcceptedTree, IsOutcome, IsRefusedName, IsRefusedTree, NamesAreRead, Outcome, lines_text, diagnostics_of, read_of}
 use Rattle.kc_conf.specs.Stops.{IsReport, clearing, event_of, stop_line}
 use Rattle.kc_options.specs.declared.options.Delivery.{Delivery}
 use Rattle.kc_options.specs.declared.options.Delivery.TheVariants as delivered
@@ -40,7 +40,7 @@ texts_of options outcome =
 
 -- what is done with them: they are written, those that differ from their files take their places, or nothing
 abbrev pub delivered_by : Delivery → List NamedText → Journal → List Event
-delivered_by delivered.Write texts journal = delivery Plain texts
+delivered_by delivered.Write texts journal = delivery InPlace texts
 delivered_by delivered.Replace texts journal = delivery Replacing (chosen Replacing texts journal)
 delivered_by delivered.Check texts journal = []
 
@@ -81,7 +81,7 @@ pub record Completes (files : Files) (options : Options) (inputs : List InputFil
   pub made : List Event
   pub stale : List NamedText
   pub of_old : Tells (still_told old new) (λ journal. (made ≡ delivers options (texts_of options outcome) journal) × (stale ≡ stale_texts options (texts_of options outcome) journal))
-  pub log : Leads (events ++ made) (notes_of outcome ++ stale_lines options stale) old new
+  pub log : Leads (events ++ made) (diagnostics_of outcome ++ stale_lines options stale) old new
   pub status_is : status ≡ status_with stale outcome.status
   pub only_checked : (stale ≡ []) ⊎ ((options.delivery ≡ delivered.Check) × (outcome.status ≡ answered.Done))
 
@@ -94,8 +94,8 @@ pub data Breaks (files : Files) (options : Options) (before : TreeFacts → List
   no_memory : (done left : List Event) (front : List ℕ) → done ++ left ≡ reads inputs → AreLines front → BeginsWith outcome.warned front →
       Breaks files options before inputs outcome told OutOfMemory done front
   -- The diagnostics failed. Whole lines were said, and more were to come.
-  in_notes : (f : Failure) (done left : List Event) (front : List ℕ) → f.action ≡ Note → f.name.now ≡ [] → done ++ left ≡ reads inputs → AreLines front →
-      Tells told (λ journal. GoesBeyond (notes_of outcome ++ stale_lines options (stale_texts options (texts_of options outcome) journal)) front) →
+  in_diagnostics : (f : Failure) (done left : List Event) (front : List ℕ) → f.action ≡ Report → f.name.now ≡ [] → done ++ left ≡ reads inputs → AreLines front →
+      Tells told (λ journal. GoesBeyond (diagnostics_of outcome ++ stale_lines options (stale_texts options (texts_of options outcome) journal)) front) →
       Breaks files options before inputs outcome told (Failed f) done front
   -- An input file could not be opened or read on.
   in_input : (f : Failure) (tree : TreeFacts) (file : InputFile) (done : List Event) (said_of_inputs : List ℕ) → IsAcceptedTree files (root_file options) tree → NamesAreRead files options →
@@ -104,7 +104,7 @@ pub data Breaks (files : Files) (options : Options) (before : TreeFacts → List
   -- A text could not be delivered: all was said, and what was to be done before was done.
   in_delivery : (f : Failure) (events done : List Event) → AreReads files options inputs told events →
       Tells told (λ journal. (left : List Event) × (done ++ left ≡ delivers options (texts_of options outcome) journal) × StopsBefore left (Err f)) →
-      Breaks files options before inputs outcome told (Failed f) (events ++ done) (notes_of outcome)
+      Breaks files options before inputs outcome told (Failed f) (events ++ done) (diagnostics_of outcome)
 
 -- It did what is left of the run, and answered `Faulted`: the event that failed, the removal of what stands beside places, and the error line, or the failure of the diagnostics
 -- to take it.
@@ -115,7 +115,7 @@ pub record Broken (files : Files) (options : Options) (before : TreeFacts → Li
   pub report : Result (Unit {0}) Fault
   pub breaks : Breaks files options before inputs outcome (still_told old new) stop done front
   pub is_report : IsReport stop report
-  pub log : Leads (done ++ event_of stop ++ clearing options stop ++ noted report) (front ++ said report (stop_line options stop)) old new
+  pub log : Leads (done ++ event_of stop ++ clearing options stop ++ reported report) (front ++ said report (stop_line options stop)) old new
   pub status_is : status ≡ answered.Faulted
 
 -- ---- a run

@@ -7,8 +7,8 @@ use Rattle.kc_read.specs.declared.refusal.Code.TheVariants as code
 use Rattle.kc_text.specs.Limits.{longest_line}
 use Rattle.kc_expr.specs.Limits.{most_symbols}
 use Rattle.kc_read.specs.Limits.{most_lines}
-use Rattle.kc_dot.specs.Limits.{longest_dot_line}
-use Rattle.kc_dot.specs.Reading.{StreamLocation}
+use Rattle.kc_config_file.specs.Limits.{longest_input_line}
+use Rattle.kc_config_file.specs.Reading.{StreamLocation}
 
 -- what an error line says of a refusal, before the word, the name or the loop that it is about
 abbrev pub message_before : Code → List ℕ
@@ -68,7 +68,7 @@ strict_line = codes "error E21: warnings are refused\n"
 
 -- the error line of a line of a stream that is too long
 abbrev pub too_long_line : StreamLocation → List ℕ
-too_long_line stop = error_at stop.stream stop.number (codes "E17: line longer than " ++ decimal longest_dot_line ++ codes " bytes\n")
+too_long_line stop = error_at stop.stream stop.number (codes "E17: line longer than " ++ decimal longest_input_line ++ codes " bytes\n")
 
 -- the error line of a file that cannot be read
 abbrev pub cannot_read_line : List ℕ → List ℕ

@@ -2,25 +2,25 @@
 use Rattle.std.specs.Prelude.{ℕ, Bool, true, false, if◌then◌else◌, List, [], ◌∷◌, ◌++◌, codes, slice_index_or, Option, Some, None}
 use Rattle.std.specs.List.{flat_map}
 use Rattle.kc_expr.specs.Names.{symbol}
-use Rattle.kc_expr.specs.declared.expression.Kind.{Kind}
+use Rattle.kc_expr.specs.declared.expression.SymbolType.{SymbolType}
 use Rattle.kc_tree.specs.TreeFacts.{Condition, SymbolFacts}
 use Rattle.kc_user.specs.GivenValue.{GivenValue, SymbolPlace, same_given}
 use Rattle.kc_user.specs.Places.{place_at}
 use Rattle.kc_values.specs.Differs.{given_of}
 use Rattle.kc_values.specs.Lookups.{facts, name}
 use Rattle.kc_solve.specs.Solved.{Solution, known}
-use Rattle.kc_dot.specs.Changes.{StreamLocation, location_text, value_text}
+use Rattle.kc_config_file.specs.Changes.{StreamLocation, location_text, value_text}
 
 -- `FILE:LINE: warning K14: NAME was given VALUE and is VALUE`, where this line gave the value
-abbrev pub lost_line : StreamLocation → List ℕ → Kind → GivenValue → GivenValue → List ℕ
-lost_line at name kind given value =
-    location_text at ++ codes ": warning K14: " ++ name ++ codes " was given " ++ value_text kind given ++ codes " and is " ++ value_text kind value
+abbrev pub lost_line : StreamLocation → List ℕ → SymbolType → GivenValue → GivenValue → List ℕ
+lost_line at name symbol_type given value =
+    location_text at ++ codes ": warning K14: " ++ name ++ codes " was given " ++ value_text symbol_type given ++ codes " and is " ++ value_text symbol_type value
 
 -- what was given, by a line that is known, is not the symbol's value
-abbrev pub lost_by : List ℕ → Kind → Option StreamLocation → Option GivenValue → GivenValue → List (List ℕ)
-lost_by name kind at None value = []
-lost_by name kind None (Some given) value = []
-lost_by name kind (Some at) (Some given) value = if same_given given value then [] else lost_line at name kind given value ∷ []
+abbrev pub lost_by : List ℕ → SymbolType → Option StreamLocation → Option GivenValue → GivenValue → List (List ℕ)
+lost_by name symbol_type at None value = []
+lost_by name symbol_type None (Some given) value = []
+lost_by name symbol_type (Some at) (Some given) value = if same_given given value then [] else lost_line at name symbol_type given value ∷ []
 
 abbrev pub has_prompt : List Condition → Bool
 has_prompt [] = false
@@ -29,7 +29,7 @@ has_prompt (when ∷ others) = true
 -- a symbol without a prompt has no value of the user's
 abbrev pub lost_of : List ℕ → Option SymbolFacts → Option StreamLocation → Option GivenValue → GivenValue → List (List ℕ)
 lost_of name None at given value = []
-lost_of name (Some f) at given value = if has_prompt f.prompts then lost_by name f.kind at given value else []
+lost_of name (Some f) at given value = if has_prompt f.prompts then lost_by name f.symbol_type at given value else []
 
 -- For the lines that gave the user's values, and a solution.
 module _ (lines : List (Option StreamLocation)) (s : Solution) where

@@ -7,14 +7,14 @@ use Rattle.kc_read.specs.OpenedFiles.{AreOpened}
 use Rattle.kc_tree.specs.TreeFacts.{TreeFacts}
 use Rattle.kc_io.specs.Log.{Log, Leads, failed}
 use Rattle.kc_io.specs.declared.device.Action.{Action}
-use Rattle.kc_io.specs.declared.device.Action.TheVariants.{Note}
+use Rattle.kc_io.specs.declared.device.Action.TheVariants.{Report}
 use Rattle.kc_io.specs.declared.device.Fault.{Fault}
 use Rattle.kc_io.specs.declared.device.Fault.TheVariants as fault
 use Rattle.kc_conf.specs.Ends.{Broken, Completes, nothing_said}
 use Rattle.kc_conf.specs.ErrorLines.{refusal_line}
 use Rattle.kc_options.specs.ErrorLines.{out_of_memory_line}
 use Rattle.kc_conf.specs.Given.{AreInputs, InputFile, bytes_of, still_told}
-use Rattle.kc_conf.specs.Outcome.{IsAcceptedTree, IsOutcome, IsRefusedName, IsRefusedTree, Outcome, lines_text, noted, root_file, unreadable_name}
+use Rattle.kc_conf.specs.Outcome.{IsAcceptedTree, IsOutcome, IsRefusedName, IsRefusedTree, Outcome, lines_text, reported, root_file, unreadable_name}
 use Rattle.kc_conf.specs.Stops.{TriesToSay}
 use Rattle.kc_options.specs.declared.options.Options.{Options}
 use Rattle.kc_options.specs.declared.options.Status.{Status}
@@ -34,7 +34,7 @@ warned_before tree (Some name) = []
 abbrev pub IsPart : Files → TreeFacts → Options → List (List ℕ) → Outcome → Type 0
 IsPart files tree options all part =
     (opened : List (List ℕ)) × AreOpened files (root_file options) opened
-    × IsOutcome files options all (noted (warned_before tree (unreadable_name options opened)) part)
+    × IsOutcome files options all (reported (warned_before tree (unreadable_name options opened)) part)
 
 -- A configuration of an accepted tree leaves one part, in whatever company and order: its own options and input files determine it.
 abbrev pub ExactlyOnePart : Type 0
@@ -45,7 +45,7 @@ ExactlyOnePart =
 -- with the tree's warnings before it, or where a name is refused, it is all that is left
 abbrev pub IsWholeOf : Files → TreeFacts → Options → Outcome → Outcome → Type 0
 IsWholeOf files tree options part outcome =
-    (outcome ≡ noted (lines_text tree.warnings) part) ⊎ ((name : List ℕ) × IsRefusedName files options name × (outcome ≡ part))
+    (outcome ≡ reported (lines_text tree.warnings) part) ⊎ ((name : List ℕ) × IsRefusedName files options name × (outcome ≡ part))
 
 -- What its own run leaves is the tree's warnings and then its part, or where a name is refused, its part.
 abbrev pub PartsAreOfRuns : Type 0
@@ -62,7 +62,7 @@ ends_all OutOfMemory = true
 ends_all (Failed f) = by f.action f.fault
   where
     by : Action → Fault → Bool
-    by Note _ = true
+    by Report _ = true
     by action fault.Memory = true
     by action fault.Refused = false
 
@@ -109,7 +109,7 @@ AreRootedAt root options = (i : ℕ) (o : Options) → options i o → root_file
 
 -- the diagnostics failed
 abbrev pub CannotSay : Log → Log → Type 0
-CannotSay old new = (fault : Fault) × Leads (failed Note [] fault) [] old new
+CannotSay old new = (fault : Fault) × Leads (failed Report [] fault) [] old new
 
 -- No configuration takes its turn: the tree is refused, which is told, or the diagnostics do not take it or the tree's warnings, or memory ran out.
 pub data StopsAtTree (files : Files) (root : List ℕ) (old new : Log) (status : Status) : Type 0 where

@@ -9,9 +9,9 @@ use Rattle.kc_user.specs.Places.{Places}
 use Rattle.kc_values.specs.Needs.{IsAccepted}
 use Rattle.kc_solve.specs.Refused.{IsLoopText, loop_refused}
 use Rattle.kc_solve.specs.Solved.{Solution, IsSolution, warnings}
-use Rattle.kc_dot.specs.Reading.{ReadResult, StreamLocation, Stream, UserInput, no_input, reading_of}
-use Rattle.kc_dot.specs.SolvedView.{solution_view}
-use Rattle.kc_dot.specs.Texts.{config_text, header_text, minimal_text}
+use Rattle.kc_config_file.specs.Reading.{ReadResult, StreamLocation, Stream, UserInput, no_input, reading_of}
+use Rattle.kc_config_file.specs.SolvedView.{solution_view}
+use Rattle.kc_config_file.specs.Texts.{config_text, header_text, minimal_text}
 pub use Rattle.kc_options.specs.Asked.{lead, names_of, root_file, target}
 use Rattle.kc_options.specs.declared.options.Options.{Options}
 use Rattle.kc_read.specs.OpenedFiles.{AreOpened}
@@ -35,12 +35,12 @@ pub record Outcome : Type 0 where
   pub status : Status
 
 -- what it adds to the notes
-abbrev pub notes_of : Outcome → List ℕ
-notes_of outcome = outcome.warned ++ outcome.refusal
+abbrev pub diagnostics_of : Outcome → List ℕ
+diagnostics_of outcome = outcome.warned ++ outcome.refusal
 
 -- with these warnings before its own
-abbrev pub noted : List ℕ → Outcome → Outcome
-noted text outcome = record outcome { warned = text ++ outcome.warned }
+abbrev pub reported : List ℕ → Outcome → Outcome
+reported text outcome = record outcome { warned = text ++ outcome.warned }
 
 -- each line with its LF
 abbrev pub lines_text : List (List ℕ) → List ℕ
@@ -160,14 +160,14 @@ pub record IsRefusedName (files : Files) (options : Options) (name : List ℕ) :
 -- What a run is to leave behind the tree's warnings, where reading the streams gave this: a line that is too long is
 -- refused; else it is the files of the one solution for the user's places.
 pub data IsOutcomeOfReading (options : Options) (tree : TreeFacts) (read : ReadResult) (outcome : Outcome) : Type 0 where
-  long_line : (stop : StreamLocation) → read.stopped ≡ Some stop → outcome ≡ noted read.warned (refused (too_long_line stop)) → IsOutcomeOfReading options tree read outcome
+  long_line : (stop : StreamLocation) → read.stopped ≡ Some stop → outcome ≡ reported read.warned (refused (too_long_line stop)) → IsOutcomeOfReading options tree read outcome
   whole : (solution : Solution) → read.stopped ≡ None → IsSolutionFor tree read.input.places solution →
-      outcome ≡ noted read.warned (outcome_of options tree read.input solution) → IsOutcomeOfReading options tree read outcome
+      outcome ≡ reported read.warned (outcome_of options tree read.input solution) → IsOutcomeOfReading options tree read outcome
 
 -- with the tree's warnings before it
 abbrev pub IsOutcomeOfTree : Options → TreeFacts → List (List ℕ) → Outcome → Type 0
 IsOutcomeOfTree options tree all outcome =
-    (rest : Outcome) × IsOutcomeOfReading options tree (read_of options tree all) rest × (outcome ≡ noted (lines_text tree.warnings) rest)
+    (rest : Outcome) × IsOutcomeOfReading options tree (read_of options tree all) rest × (outcome ≡ reported (lines_text tree.warnings) rest)
 
 -- What a run is to leave that lets the tree's warnings pass and writes no rule for make, for files, options and the bytes of the streams,
 -- where the tree opens these files.
@@ -203,8 +203,8 @@ IsOutcome files options all outcome =
     × (outcome ≡ with_rule options opened (strictly options lenient))
 
 -- what it adds to the notes is whole lines
-abbrev pub NotesAreLines : Type 0
-NotesAreLines = (files : Files) (options : Options) (all : List (List ℕ)) (outcome : Outcome) → IsOutcome files options all outcome → AreLines (notes_of outcome)
+abbrev pub DiagnosticsAreLines : Type 0
+DiagnosticsAreLines = (files : Files) (options : Options) (all : List (List ℕ)) (outcome : Outcome) → IsOutcome files options all outcome → AreLines (diagnostics_of outcome)
 
 -- there is at most one
 abbrev pub OneOutcome : Type 0

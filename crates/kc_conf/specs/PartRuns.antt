@@ -6,8 +6,8 @@ use Rattle.kc_io.specs.Log.{Event, Log, Leads}
 use Rattle.kc_conf.specs.Ends.{Breaks, Completes, nothing_said, said_of_tree}
 use Rattle.kc_conf.specs.Given.{AreInputs, InputFile, bytes_of, still_told}
 use Rattle.kc_conf.specs.Many.{IsPart}
-use Rattle.kc_conf.specs.Outcome.{IsOutcome, Outcome, has_text, is_done, lines_text, noted, refused_if}
-use Rattle.kc_conf.specs.Reads.{IsNoteStop}
+use Rattle.kc_conf.specs.Outcome.{IsOutcome, Outcome, has_text, is_done, lines_text, reported, refused_if}
+use Rattle.kc_conf.specs.Reads.{IsReportStop}
 use Rattle.kc_conf.specs.Stops.{clearing, event_of}
 use Rattle.kc_options.specs.declared.options.Options.{Options}
 use Rattle.kc_options.specs.declared.options.Status.{Status}
@@ -17,7 +17,7 @@ use Rattle.kc_conf.specs.declared.stop.Stop.TheVariants.{OutOfMemory, Failed}
 -- there was no memory, or the diagnostics failed
 abbrev pub StopsLines : List ℕ → Stop → Log → Log → Type 0
 StopsLines text OutOfMemory old new = Leads [] [] old new
-StopsLines text (Failed f) old new = IsNoteStop (Failed f) × (text ≢ []) × Leads (event_of (Failed f)) [] old new
+StopsLines text (Failed f) old new = IsReportStop (Failed f) × (text ≢ []) × Leads (event_of (Failed f)) [] old new
 
 -- the text was said, or saying it was broken off
 abbrev pub SaysLines : List ℕ → Result (Unit {0}) Stop → Log → Log → Type 0
@@ -54,7 +54,7 @@ module _ (files : Files) (options : Options) where
     pub inputs : List InputFile
     pub are_inputs : AreInputs (still_told old new) options inputs
     pub part : Outcome
-    pub is_part : IsOutcome files options (bytes_of inputs) (noted (lines_text tree.warnings) part)
+    pub is_part : IsOutcome files options (bytes_of inputs) (reported (lines_text tree.warnings) part)
     pub ends : EndsSo nothing_said inputs part result old new
 
   -- The same of one of many configurations, which refuses a name for itself.

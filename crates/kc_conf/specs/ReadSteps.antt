@@ -7,17 +7,17 @@ use Rattle.kc_user.specs.Places.{ArePlacesOf}
 use Rattle.kc_io.specs.Log.{Event, Log, Leads, did, each_byte}
 use Rattle.kc_io.specs.Reading.{IsFound, IsOpened, OpenFile}
 use Rattle.kc_io.specs.declared.device.Action.{Action}
-use Rattle.kc_io.specs.declared.device.Action.TheVariants.{Open, Miss, Read, Note}
+use Rattle.kc_io.specs.declared.device.Action.TheVariants.{Open, Miss, Read, Report}
 use Rattle.kc_io.specs.declared.steps.Failure.{Failure}
-use Rattle.kc_dot.specs.Feeding.{EndsStream, ReadsPiece, StreamPosition, stream_start, to_come}
-use Rattle.kc_dot.specs.Laws.{HasShortLines}
-use Rattle.kc_dot.specs.ReaderState.{ReaderState}
-use Rattle.kc_dot.specs.Reading.{Line, UserInput, lines_from, lines_of, reading, with_warnings}
-use Rattle.kc_dot.specs.Sink.{BeginsWith, GoesBeyond}
+use Rattle.kc_config_file.specs.Feeding.{EndsStream, ReadsPiece, StreamPosition, stream_start, to_come}
+use Rattle.kc_config_file.specs.Laws.{HasShortLines}
+use Rattle.kc_config_file.specs.ReaderState.{ReaderState}
+use Rattle.kc_config_file.specs.Reading.{Line, UserInput, lines_from, lines_of, reading, with_warnings}
+use Rattle.kc_config_file.specs.Sink.{BeginsWith, GoesBeyond}
 use Rattle.kc_options.specs.Asked.{input_files, names_of}
 use Rattle.kc_conf.specs.Given.{InputFile, IsAsTold, IsThere, ReadsInto, begun, bytes_of, ended_lines, reads, reads_one, still_told}
 use Rattle.kc_conf.specs.Outcome.{AreLines, streams}
-use Rattle.kc_conf.specs.Reads.{IsNoteStop, ended_with}
+use Rattle.kc_conf.specs.Reads.{IsReportStop, ended_with}
 use Rattle.kc_conf.specs.Stops.{event_of}
 use Rattle.kc_options.specs.declared.options.Options.{Options}
 use Rattle.kc_conf.specs.declared.reading.Waiting.{Waiting}
@@ -60,7 +60,7 @@ abbrev pub StopsWarnings : Bool → Stop → List ℕ → List ℕ → Type 0
 StopsWarnings true OutOfMemory warned front = front ≡ []
 StopsWarnings true (Failed f) warned front = ⊥
 StopsWarnings false OutOfMemory warned front = AreLines front × BeginsWith warned front
-StopsWarnings false (Failed f) warned front = IsNoteStop (Failed f) × AreLines front × GoesBeyond warned front
+StopsWarnings false (Failed f) warned front = IsReportStop (Failed f) × AreLines front × GoesBeyond warned front
 
 -- ---- the device
 
@@ -78,7 +78,7 @@ pub record Opens (name : List ℕ) (may_be_missing there : Bool) (old new : Log)
 -- What waits was said, unless it is held back; or the diagnostics failed, and something was to be said.
 pub record SaysWaiting (result : Result (Unit {0}) Stop) (waiting after : Waiting) (old new : Log) : Type 0 where
   pub said : OnOk result (Leads [] (said_now waiting.holds waiting.text.items) old new × (after.text.items ≡ held_back waiting.holds waiting.text.items))
-  pub failed : IfErr result (λ stop. FailsAt Note [] stop old new × GoesBeyond (said_now waiting.holds waiting.text.items) [])
+  pub failed : IfErr result (λ stop. FailsAt Report [] stop old new × GoesBeyond (said_now waiting.holds waiting.text.items) [])
   pub holds : after.holds ≡ waiting.holds
 
 -- the file gives these bytes, where that is told

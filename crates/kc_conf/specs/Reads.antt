@@ -3,13 +3,13 @@ use Rattle.std.specs.Prelude.{◌≡◌, ◌⊎◌, ℕ, Bool, if◌then◌else�
 use Rattle.std.specs.Borrow.{Bor}
 use Rattle.std.specs.Result.{is_ok}
 use Rattle.kc_tree.specs.TreeFacts.{TreeFacts}
-use Rattle.kc_io.specs.Log.{Event, Log, Leads, noted, said}
-use Rattle.kc_io.specs.declared.device.Action.TheVariants.{Open, Read, Note}
+use Rattle.kc_io.specs.Log.{Event, Log, Leads, reported, said}
+use Rattle.kc_io.specs.declared.device.Action.TheVariants.{Open, Read, Report}
 use Rattle.kc_io.specs.declared.device.Fault.{Fault}
 use Rattle.kc_io.specs.declared.device.Fault.TheVariants as fault
 use Rattle.kc_io.specs.declared.steps.Failure.{Failure}
-use Rattle.kc_dot.specs.Reading.{ReadResult, StreamLocation, UserInput, lines_of, reading}
-use Rattle.kc_dot.specs.Sink.{BeginsWith, GoesBeyond}
+use Rattle.kc_config_file.specs.Reading.{ReadResult, StreamLocation, UserInput, lines_of, reading}
+use Rattle.kc_config_file.specs.Sink.{BeginsWith, GoesBeyond}
 use Rattle.kc_options.specs.Asked.{names_of}
 use Rattle.kc_options.specs.ErrorLines.{out_of_memory_line}
 use Rattle.kc_conf.specs.Stops.{event_of}
@@ -44,7 +44,7 @@ pub record ReadsInputs (options : Options) (tree : TreeFacts) (stopped : Option 
 -- why reading them was broken off, what was done and what was said (`told` is what the device told at first)
 pub data StopsInputs (told : Log) (options : Options) (tree : TreeFacts) (inputs : List InputFile) (warned : List ℕ) : Stop → List Event → List ℕ → Type 0 where
   no_memory : (done left : List Event) (front : List ℕ) → done ++ left ≡ reads inputs → AreLines front → BeginsWith warned front → StopsInputs told options tree inputs warned OutOfMemory done front
-  in_notes : (f : Failure) (done left : List Event) (front : List ℕ) → f.action ≡ Note → f.name.now ≡ [] → done ++ left ≡ reads inputs → AreLines front → GoesBeyond warned front →
+  in_diagnostics : (f : Failure) (done left : List Event) (front : List ℕ) → f.action ≡ Report → f.name.now ≡ [] → done ++ left ≡ reads inputs → AreLines front → GoesBeyond warned front →
       StopsInputs told options tree inputs warned (Failed f) done front
   in_input : (f : Failure) (file : InputFile) (done : List Event) (front : List ℕ) → (f.action ≡ Open) ⊎ (f.action ≡ Read) → f.name.now ≡ file.name → ReadsUpTo told options tree inputs f.action file done front →
       StopsInputs told options tree inputs warned (Failed f) done front
@@ -58,14 +58,14 @@ pub record BreaksInputs (options : Options) (tree : TreeFacts) (stop : Stop) (be
   pub log : Leads (done ++ event_of stop) front old new
 
 -- the diagnostics are what failed
-abbrev pub IsNoteStop : Stop → Type 0
-IsNoteStop OutOfMemory = ⊥
-IsNoteStop (Failed f) = (f.action ≡ Note) × (f.name.now ≡ [])
+abbrev pub IsReportStop : Stop → Type 0
+IsReportStop OutOfMemory = ⊥
+IsReportStop (Failed f) = (f.action ≡ Report) × (f.name.now ≡ [])
 
 -- the text was said, or the diagnostics failed
 abbrev pub Says : List ℕ → Result (Unit {0}) Stop → Log → Log → Type 0
 Says text (Ok _) old new = Leads [] text old new
-Says text (Err stop) old new = IsNoteStop stop × Leads (event_of stop) [] old new
+Says text (Err stop) old new = IsReportStop stop × Leads (event_of stop) [] old new
 
 -- these bytes end a line
 abbrev pub IsWholeEnd : List ℕ → Type 0
@@ -78,13 +78,13 @@ LastEndsLine (part ∷ []) = IsWholeEnd part.now
 LastEndsLine (part ∷ next ∷ parts) = LastEndsLine (next ∷ parts)
 
 -- the diagnostics failed, or there was no memory
-abbrev pub IsNoteOrMemory : Stop → Type 0
-IsNoteOrMemory OutOfMemory = ⊤
-IsNoteOrMemory (Failed f) = IsNoteStop (Failed f)
+abbrev pub IsReportOrMemory : Stop → Type 0
+IsReportOrMemory OutOfMemory = ⊤
+IsReportOrMemory (Failed f) = IsReportStop (Failed f)
 
 -- the text was said, if this is so; else the diagnostics failed
 abbrev pub SaysIf : List ℕ → Bool → Log → Log → Type 0
-SaysIf text is_said old new = (report : Result (Unit {0}) Fault) × (is_said ≡ is_ok report) × Leads (noted report) (said report text) old new
+SaysIf text is_said old new = (report : Result (Unit {0}) Fault) × (is_said ≡ is_ok report) × Leads (reported report) (said report text) old new
 
 -- the line of a device that failed: this one, or that there was no memory
 abbrev pub failure_line : Fault → List ℕ → List ℕ

@@ -5,13 +5,13 @@ use Rattle.kc_read.specs.Files.{Files}
 use Rattle.kc_tree.specs.TreeFacts.{TreeFacts}
 use Rattle.kc_user.specs.Places.{place_at}
 use Rattle.kc_solve.specs.Solved.{Solution, value_of}
-use Rattle.kc_dot.specs.Laws.{ConfigGivesBack, HasShortLines, MinimalGivesBack, MinimalNeedsEach}
-use Rattle.kc_dot.specs.Prefixes.{is_prefix}
-use Rattle.kc_dot.specs.Reread.{valuation_view}
-use Rattle.kc_dot.specs.SolvedView.{solution_view}
-use Rattle.kc_dot.specs.Texts.{config_text, minimal_text}
+use Rattle.kc_config_file.specs.Laws.{ConfigGivesBack, HasShortLines, MinimalGivesBack, MinimalNeedsEach}
+use Rattle.kc_config_file.specs.Prefixes.{is_prefix}
+use Rattle.kc_config_file.specs.Reread.{valuation_view}
+use Rattle.kc_config_file.specs.SolvedView.{solution_view}
+use Rattle.kc_config_file.specs.Texts.{config_text, minimal_text}
 use Rattle.kc_options.specs.declared.options.Options.{Options}
-use Rattle.kc_conf.specs.Outcome.{IsAcceptedTree, IsOutcome, IsSolutionFor, NamesAreRead, Outcome, lines_text, noted, read_of, root_file, with_rule, warned_files}
+use Rattle.kc_conf.specs.Outcome.{IsAcceptedTree, IsOutcome, IsSolutionFor, NamesAreRead, Outcome, lines_text, reported, read_of, root_file, with_rule, warned_files}
 use Rattle.kc_conf.specs.Taken.{refuses_input}
 
 -- A run that refuses nothing: its tree is accepted, no line of its streams is too long, and these are the values.
@@ -26,7 +26,7 @@ WrittenAreWhole =
     (files : Files) (options : Options) (all : List (List ℕ)) (outcome : Outcome) (text : List ℕ) → IsOutcome files options all outcome → outcome.config ≡ Some text →
     (tree : TreeFacts) × (solution : Solution) × RefusesNothing files options all tree solution
     × ((opened : List (List ℕ)) × AreOpened files (root_file options) opened
-    × (outcome ≡ with_rule options opened (noted (lines_text tree.warnings) (noted (read_of options tree all).warned (warned_files options tree (read_of options tree all).input solution)))))
+    × (outcome ≡ with_rule options opened (reported (lines_text tree.warnings) (reported (read_of options tree all).warned (warned_files options tree (read_of options tree all).input solution)))))
     × (refuses_input options (read_of options tree all).input solution ≡ false)
 
 -- The minimal file, read alone and from empty places, gives the values back; with any nonempty set of its lines left out

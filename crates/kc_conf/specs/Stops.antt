@@ -1,9 +1,9 @@
 -- Trusted: Why a run is broken off, and what it says of it.
 use Rattle.std.specs.Prelude.{◌≡◌, ℕ, Bool, List, [], ◌++◌, Result, Ok, ⊤}
 use Rattle.std.specs.Result.{is_ok}
-use Rattle.kc_io.specs.Log.{Event, Log, Leads, did, failed, noted, said}
+use Rattle.kc_io.specs.Log.{Event, Log, Leads, did, failed, reported, said}
 use Rattle.kc_io.specs.declared.device.Action.{Action}
-use Rattle.kc_io.specs.declared.device.Action.TheVariants.{Open, Read, Create, Write, Close, Move, Clear, Note}
+use Rattle.kc_io.specs.declared.device.Action.TheVariants.{Open, Read, Create, Write, Close, Move, Clear, Report}
 use Rattle.kc_io.specs.declared.device.Fault.{Fault}
 use Rattle.kc_io.specs.declared.device.Fault.TheVariants as fault
 use Rattle.kc_options.specs.Asked.{lead}
@@ -36,7 +36,7 @@ clearing options (Failed f) = cleared_by options.delivery f.action
 abbrev pub refusal_by : Action → List ℕ → List ℕ
 refusal_by Open name = cannot_read_line name
 refusal_by Read name = cannot_read_line name
-refusal_by Note name = []
+refusal_by Report name = []
 refusal_by _ name = cannot_write_line name
 
 -- the error line of a run that was broken off
@@ -45,7 +45,7 @@ stop_line options OutOfMemory = lead options ++ out_of_memory_line
 stop_line options (Failed f) = by f.action f.fault
   where
     by : Action → Fault → List ℕ
-    by Note _ = []
+    by Report _ = []
     by action fault.Memory = lead options ++ out_of_memory_line
     by action fault.Refused = lead options ++ refusal_by action f.name.now
 
@@ -55,14 +55,14 @@ IsReport OutOfMemory report = ⊤
 IsReport (Failed f) report = by f.action
   where
     by : Action → Type 0
-    by Note = report ≡ Ok tt
+    by Report = report ≡ Ok tt
     by _ = ⊤
 
 -- the run says why it was broken off, or the diagnostics do not take it
 abbrev pub Reports : Options → Stop → Bool → Log → Log → Type 0
 Reports options stop is_told old new =
-    (report : Result (Unit {0}) Fault) × IsReport stop report × (is_told ≡ is_ok report) × Leads (noted report) (said report (stop_line options stop)) old new
+    (report : Result (Unit {0}) Fault) × IsReport stop report × (is_told ≡ is_ok report) × Leads (reported report) (said report (stop_line options stop)) old new
 
 -- the text was said, unless the diagnostics failed
 abbrev pub TriesToSay : List ℕ → Log → Log → Type 0
-TriesToSay text old new = (report : Result (Unit {0}) Fault) × Leads (noted report) (said report text) old new
+TriesToSay text old new = (report : Result (Unit {0}) Fault) × Leads (reported report) (said report text) old new

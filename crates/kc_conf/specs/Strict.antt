@@ -7,10 +7,10 @@ use Rattle.kc_values.specs.Differs.{given_of}
 use Rattle.kc_values.specs.Lookups.{facts}
 use Rattle.kc_solve.specs.Solved.{Solution, known, warnings}
 use Rattle.kc_user.specs.GivenValue.{GivenValue}
-use Rattle.kc_dot.specs.Effects.{Effect, Silent, Warns, Assigns}
-use Rattle.kc_dot.specs.Reading.{Line, effect, lines_of}
-use Rattle.kc_dot.specs.SolvedView.{solution_view}
-use Rattle.kc_dot.specs.Texts.{config_text}
+use Rattle.kc_config_file.specs.Effects.{Effect, Silent, Warns, Assigns}
+use Rattle.kc_config_file.specs.Reading.{Line, effect, lines_of}
+use Rattle.kc_config_file.specs.SolvedView.{solution_view}
+use Rattle.kc_config_file.specs.Texts.{config_text}
 use Rattle.kc_options.specs.declared.options.Options.{Options}
 use Rattle.kc_conf.specs.Lost.{has_prompt}
 use Rattle.kc_conf.specs.Outcome.{IsOutcome, Outcome, names_of, streams}

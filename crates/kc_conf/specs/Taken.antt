@@ -2,7 +2,7 @@
 use Rattle.std.specs.Prelude.{ℕ, Bool, not, ◌&&◌, ◌==◌, if◌then◌else◌, List, [], length, take, bytes_eq, codes}
 use Rattle.std.specs.List.{list_any}
 use Rattle.kc_solve.specs.Solved.{Solution, warnings}
-use Rattle.kc_dot.specs.Reading.{UserInput}
+use Rattle.kc_config_file.specs.Reading.{UserInput}
 use Rattle.kc_options.specs.declared.options.Options.{Options}
 use Rattle.kc_conf.specs.Lost.{lost_lines}
 

@@ -6,7 +6,7 @@ use kc_build::{RootReading, read_listing, tree_of};
 use kc_expr::names::Names;
 use kc_read::file_map::FileMap;
 use kc_read::refusal::Refusal;
-use kc_solve::order::EvaluationOrder;
+use kc_solve::evaluation_order::EvaluationOrder;
 use kc_tree::layout::Layout;
 use kc_tree::tree::Tree;
 use std::alloc::Global;

@@ -3,8 +3,8 @@ ghost use Rattle.std.specs.Prelude.{◌≡◌, ◌++◌, ◌||◌, ◌&&◌, [],
 ghost use Rattle.std.specs.List.{flat_map, list_any};
 ghost use Rattle.kc_user.specs.Places.{ArePlacesOf};
 ghost use Rattle.kc_solve.specs.Solved.{warnings};
-ghost use Rattle.kc_dot.specs.SolvedView.{solution_view};
-ghost use Rattle.kc_dot.specs.Texts as whole;
+ghost use Rattle.kc_config_file.specs.SolvedView.{solution_view};
+ghost use Rattle.kc_config_file.specs.Texts as whole;
 ghost use Rattle.kc_io.specs.TextViews.{text_view};
 ghost use Rattle.kc_load.specs.Rules as rules;
 ghost use Rattle.kc_conf.specs.Accepted.{IsReady};
@@ -16,9 +16,9 @@ ghost use Rattle.kc_conf.specs.Taken.{is_outside, lost_warnings, refuses_input};
 
 use crate::accepted::OrderedTree;
 use crate::lost::lost_warnings;
-use kc_dot::config::config_text;
-use kc_dot::header::{header_text, minimal_text};
-use kc_dot::user_input::UserInput;
+use kc_config_file::config::config_text;
+use kc_config_file::header::{header_text, minimal_text};
+use kc_config_file::user_input::UserInput;
 use kc_expr::names::Names;
 use kc_io::Text;
 use kc_load::{prerequisites_of, rule_text};

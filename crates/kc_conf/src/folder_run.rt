@@ -3,7 +3,7 @@ ghost use Rattle.kc_conf.specs.FolderRuns.{FolderRuns, load_line};
 ghost use Rattle.kc_conf.specs.Stops.{TriesToSay};
 
 use crate::accepted::AcceptedTree;
-use crate::notes::try_to_say;
+use crate::diagnostics::try_to_say;
 use crate::runs::run;
 use kc_io::Device;
 use kc_load::{Folder, LoadFault, load};

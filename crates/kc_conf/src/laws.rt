@@ -4,12 +4,12 @@ ghost use Rattle.kc_conf.specs.Accounted.{NothingIsLost};
 ghost use Rattle.kc_conf.specs.Many.{ExactlyOnePart, PartsAreOfRuns};
 ghost use Rattle.kc_conf.specs.Separate.{EachLeavesItsPart};
 ghost use Rattle.kc_conf.specs.Strict.{StrictTakesAll};
-ghost use Rattle.kc_conf.specs.Outcome.{NotesAreLines, OneAnswer, OneOutcome};
+ghost use Rattle.kc_conf.specs.Outcome.{DiagnosticsAreLines, OneAnswer, OneOutcome};
 ghost use Rattle.kc_conf.specs.Reruns.{ConfigIsReadAgain, MinimalIsReadAgain, MinimalIsRunAgain, OutcomesAreReadAgain, TextsHaveShortLines, WrittenAreWhole};
 
 use crate::many::Configurations;
 use kc_build::laws::{one_tree, trees_are_well_formed};
-use kc_dot::laws::{
+use kc_config_file::laws::{
     config_is_idempotent, config_is_of_values, lines_give_in_turn, minimal_gives_back,
     reading_leaves_allowed_places, written_texts_are_short,
 };
@@ -42,8 +42,8 @@ pub fn written_are_whole()
 {}
 
 /// What an outcome adds to the notes is whole lines, each with its line feed. (Our own.)
-pub fn notes_are_lines()
-    ensures { NotesAreLines }
+pub fn diagnostics_are_lines()
+    ensures { DiagnosticsAreLines }
 {}
 
 /// With `warn_lost`, if files are written, no line is lost silently. The warning of a line that is warned of (K7 to K9) is a
@@ -76,7 +76,7 @@ pub fn strict_takes_all()
 /// For every file map, options and streams whose run refuses nothing, the minimal file and the `.config` read again, each
 /// alone and from empty places: the minimal file gives the values back, and with any nonempty set of its lines left out it
 /// does not; the `.config` does exactly where no visible tristate symbol outside a choice stands above both its visibility
-/// and its reverse dependency, under the premises of `config_is_idempotent` of kc_dot. No line of the two is too long to be
+/// and its reverse dependency, under the premises of `config_is_idempotent` of kc_config_file. No line of the two is too long to be
 /// read again, whatever the numbers and titles. All this asks that the prefix is one. (Our own.)
 pub fn texts_are_read_again()
     ensures minimal { MinimalIsReadAgain }

@@ -3,11 +3,11 @@
 
 mod accepted;
 mod compute;
+mod diagnostics;
 mod folder_run;
 pub mod laws;
 mod lost;
 mod many;
-mod notes;
 mod reading;
 mod runs;
 mod stop;

@@ -1,6 +1,6 @@
 //! The values that were given and are not the symbols'.
 ghost use Rattle.std.specs.Prelude.{◌≡◌, ◌++◌, ◌<◌, length, map, IfOk, OnOk};
-ghost use Rattle.kc_expr.specs.Value.{value_by_kind};
+ghost use Rattle.kc_expr.specs.Value.{value_by_type};
 ghost use Rattle.kc_solve.specs.Solved.{known};
 ghost use Rattle.std.specs.Option.{option_and_then, option_map};
 ghost use Rattle.kc_tree.specs.Layouts.{definition_at, facts_of};
@@ -9,14 +9,14 @@ ghost use Rattle.kc_user.specs.Places.{place_at};
 ghost use Rattle.kc_values.specs.Differs.{given_of};
 ghost use Rattle.kc_values.specs.Solution.{name_count};
 ghost use Rattle.kc_values.specs.User.{given_in};
-ghost use Rattle.kc_dot.specs.ShownView.{given_by, location_of};
+ghost use Rattle.kc_config_file.specs.ShownView.{given_by, location_of};
 ghost use Rattle.kc_conf.specs.Lost as spec;
 ghost use Rattle.kc_conf.specs.LostView.{is_prompted};
 ghost use Rattle.kc_conf.specs.Taken.{lost_warnings};
 
-use kc_dot::shown::{InputLine, ShownValue, add_location, add_value, is_same, shown_given};
-use kc_dot::user_input::UserInput;
-use kc_expr::expression::{Kind, SymId, Tri};
+use kc_config_file::shown::{InputLine, ShownValue, add_location, add_value, is_same, shown_given};
+use kc_config_file::user_input::UserInput;
+use kc_expr::expression::{SymId, SymbolType, Tri};
 use kc_expr::values::Values;
 use kc_options::Options;
 use kc_solve::solved::Solved;
@@ -29,12 +29,13 @@ use kc_values::table::name;
 use std::alloc::{AllocError, Global};
 
 // The value of a symbol of this type.
-fn shown_by<'a>(kind: Kind, tri: Tri, text: &'a [u8]) -> ShownValue<'a>
-    ensures { given_by result ≡ given_of (value_by_kind kind tri text.now) }
+fn shown_by<'a>(symbol_type: SymbolType, tri: Tri, text: &'a [u8]) -> ShownValue<'a>
+    ensures { given_by result ≡ given_of (value_by_type symbol_type tri text.now) }
 {
-    match kind {
-        Kind::Bool | Kind::Tristate => ShownValue::Truth(tri),
-        Kind::Undefined | Kind::Str | Kind::Int | Kind::Hex => ShownValue::Text(text),
+    match symbol_type {
+        SymbolType::Bool | SymbolType::Tristate => ShownValue::Truth(tri),
+        SymbolType::Undefined | SymbolType::Str | SymbolType::Int | SymbolType::Hex =>
+            ShownValue::Text(text),
     }
 }
 
@@ -43,7 +44,7 @@ fn shown_value<'a>(solved: &'a Solved<'_>, id: SymId) -> ShownValue<'a>
     ensures { given_by result ≡ given_of (known solved.now id) }
 {
     solved.tells_known();
-    shown_by(solved.kind(id), solved.tri(id), solved.text(id))
+    shown_by(solved.symbol_type(id), solved.tri(id), solved.text(id))
 }
 
 // The line of a value that was given and is not the symbol's.
@@ -51,20 +52,20 @@ fn lost_line(
     alloc: Global,
     at: InputLine<'_>,
     name: &[u8],
-    kind: Kind,
+    symbol_type: SymbolType,
     given: ShownValue<'_>,
     value: ShownValue<'_>,
 ) -> Result<Vec<u8>, AllocError>
-    ensures { IfOk result (λ line. line.items ≡ spec.lost_line (location_of at.entry) name.now kind (given_by given.entry) (given_by value.entry)) }
+    ensures { IfOk result (λ line. line.items ≡ spec.lost_line (location_of at.entry) name.now symbol_type (given_by given.entry) (given_by value.entry)) }
 {
     let mut line = Vec::new(alloc);
     add_location(at, &mut line)?;
     line.extend_from_slice(b": warning K14: ")?;
     line.extend_from_slice(name)?;
     line.extend_from_slice(b" was given ")?;
-    add_value(kind, given, &mut line)?;
+    add_value(symbol_type, given, &mut line)?;
     line.extend_from_slice(b" and is ")?;
-    add_value(kind, value, &mut line)?;
+    add_value(symbol_type, value, &mut line)?;
     Ok(line)
 }
 
@@ -72,14 +73,14 @@ fn lost_line(
 fn lost_by(
     alloc: Global,
     name: &[u8],
-    kind: Kind,
+    symbol_type: SymbolType,
     at: Option<InputLine<'_>>,
     given: Option<&UserValue>,
     value: ShownValue<'_>,
     lines: &mut Vec<Vec<u8>>,
 ) -> Result<(), AllocError>
     ensures { OnOk result (map (λ l. l.items) lines.new.items ≡ map (λ l. l.items) lines.old.items
-        ++ spec.lost_by name.now kind (option_map location_of at.entry) (given_in given.entry) (given_by value.entry)) }
+        ++ spec.lost_by name.now symbol_type (option_map location_of at.entry) (given_in given.entry) (given_by value.entry)) }
 {
     let Some(given) = given else {
         return Ok(());
@@ -91,7 +92,7 @@ fn lost_by(
     if is_same(given, value) {
         return Ok(());
     }
-    let line = lost_line(alloc, at, name, kind, given, value)?;
+    let line = lost_line(alloc, at, name, symbol_type, given, value)?;
     lines.push(line)?;
     Ok(())
 }
@@ -153,7 +154,15 @@ fn lost_into(
     let at = input.line(id);
     let given = given_at(solved.user(), id);
     let value = shown_value(solved, id);
-    lost_by(alloc, name(tree, id), symbol.kind, at, given, value, lines)
+    lost_by(
+        alloc,
+        name(tree, id),
+        symbol.symbol_type,
+        at,
+        given,
+        value,
+        lines,
+    )
 }
 
 // The lines of all defined symbols.

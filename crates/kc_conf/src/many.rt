@@ -14,15 +14,15 @@ ghost use Rattle.kc_conf.specs.PartRuns.{LeavesTurn, StopsLines};
 
 use crate::accepted::{AcceptedTree, OrderedTree, TreeReading, read_tree};
 use crate::compute::names_listed;
+use crate::diagnostics::{report, say_no_memory, say_refusal};
 use crate::laws::{exactly_one_outcome, one_answer};
-use crate::notes::{report, say_no_memory, say_refusal};
 use crate::runs::{refuse_name, run_inputs, say_tree, unreadable_among};
 use crate::stop::Stop;
 use kc_io::{Action, Device, Fault};
 use kc_options::{Options, Status};
 use kc_read::file_map::FileMap;
 use kc_read::refusal::{Code, Refusal};
-use kc_solve::order::EvaluationOrder;
+use kc_solve::evaluation_order::EvaluationOrder;
 use std::alloc::{AllocError, Global};
 
 /// What gives the options of each of many configurations of one tree (our own).
@@ -86,7 +86,7 @@ fn ends_all(stop: &Stop<'_>) -> bool
         Stop::Failed(failure) => failure,
     };
     match failure.action {
-        Action::Note => true,
+        Action::Report => true,
         Action::Open
         | Action::Miss
         | Action::Read

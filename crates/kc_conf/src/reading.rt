@@ -6,18 +6,18 @@ ghost use Rattle.kc_io.specs.Log.{Leads};
 ghost use Rattle.kc_io.specs.Reading.{ReadsOn, reading};
 ghost use Rattle.kc_io.specs.WholeLines.{is_whole_lines};
 ghost use Rattle.kc_user.specs.Places.{ArePlacesOf};
-ghost use Rattle.kc_dot.specs.Feeding.{stream_start};
+ghost use Rattle.kc_config_file.specs.Feeding.{stream_start};
 ghost use Rattle.kc_options.specs.Asked.{holds_warnings, lead, names_of};
 ghost use Rattle.kc_conf.specs.Outcome.{fresh_input};
 ghost use Rattle.kc_conf.specs.Reads.{BreaksInputs, ReadsInputs, stop_of};
 ghost use Rattle.kc_conf.specs.ReadSteps.{BreaksEnd, BreaksFile, BreaksOpened, BreaksPiece, EndsFile, FailsAt, IsReadyToRead, Opens, ReadsFile, ReadsOpened, SaysWaiting, TakesPiece, stand};
 
 use crate::stop::Stop;
-use kc_dot::fault::DotFault;
-use kc_dot::laws::{lines_are_cut, reading_goes_line_by_line};
-use kc_dot::prefix::Prefix;
-use kc_dot::reader::DotReader;
-use kc_dot::user_input::UserInput;
+use kc_config_file::fault::InputFault;
+use kc_config_file::laws::{lines_are_cut, reading_goes_line_by_line};
+use kc_config_file::prefix::Prefix;
+use kc_config_file::reader::InputReader;
+use kc_config_file::user_input::UserInput;
 use kc_io::{Action, Device, Failure};
 use kc_options::Options;
 use kc_tree::tree::Tree;
@@ -85,13 +85,13 @@ fn say<D: Device>(device: &mut D, waiting: &mut Waiting) -> Result<(), Stop<'sta
     if waiting.holds || waiting.text.is_empty() {
         return Ok(());
     }
-    match device.note(&[&waiting.text]) {
+    match device.report(&[&waiting.text]) {
         Ok(()) => {
             waiting.text.clear();
             Ok(())
         }
         Err(fault) => Err(Stop::Failed(Failure {
-            action: Action::Note,
+            action: Action::Report,
             name: "",
             fault,
         })),
@@ -100,7 +100,7 @@ fn say<D: Device>(device: &mut D, waiting: &mut Waiting) -> Result<(), Stop<'sta
 
 // Takes the next bytes of a stream, and says what they warn of. The number of a line that is too long is answered.
 fn take_piece<'a, D: Device>(
-    reader: &mut DotReader<'a>,
+    reader: &mut InputReader<'a>,
     piece: &[u8],
     device: &mut D,
     user: &mut UserInput<'a>,
@@ -121,14 +121,14 @@ fn take_piece<'a, D: Device>(
     }
     match fed {
         Ok(()) => Ok(None),
-        Err(DotFault::DotLineTooLong(number)) => Ok(Some(number)),
-        Err(DotFault::Memory) => Err(Stop::OutOfMemory),
+        Err(InputFault::InputLineTooLong(number)) => Ok(Some(number)),
+        Err(InputFault::Memory) => Err(Stop::OutOfMemory),
     }
 }
 
 // Ends the last line of a file that was read to its end, and says what it warns of.
 fn finish<'a, D: Device>(
-    reader: &mut DotReader<'a>,
+    reader: &mut InputReader<'a>,
     device: &mut D,
     user: &mut UserInput<'a>,
     waiting: &mut Waiting,
@@ -149,7 +149,7 @@ fn finish<'a, D: Device>(
 
 // Reads the open file to its end, or to a line that is too long and whose number is answered.
 fn read_opened<'o, 'a, D: Device>(
-    reader: &mut DotReader<'a>,
+    reader: &mut InputReader<'a>,
     name: &'o str,
     device: &mut D,
     user: &mut UserInput<'a>,
@@ -187,7 +187,7 @@ fn read_opened<'o, 'a, D: Device>(
 
 // Reads an input file to the end of its last line, or to a line that is too long and whose number is answered.
 fn read_file<'o, 'a, D: Device>(
-    reader: &mut DotReader<'a>,
+    reader: &mut InputReader<'a>,
     name: &'o str,
     may_be_missing: bool,
     device: &mut D,
@@ -257,7 +257,7 @@ pub(crate) fn read_inputs<'o, 'a, D: Device>(
     reading_goes_line_by_line();
     for i in 0..names.len() {
         let stream = names[i].as_slice();
-        let mut reader = DotReader::new(alloc, tree, prefix, stream);
+        let mut reader = InputReader::new(alloc, tree, prefix, stream);
         match read_file(
             &mut reader,
             options.input_file(i),

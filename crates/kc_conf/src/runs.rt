@@ -15,13 +15,13 @@ ghost use Rattle.kc_conf.specs.Reads.{stop_of};
 
 use crate::accepted::{AcceptedTree, OrderedTree, TreeReading, read_tree};
 use crate::compute::{compute, names_listed};
-use crate::laws::{exactly_one_outcome, one_answer};
-use crate::notes::{
+use crate::diagnostics::{
     report, say_lines, say_long_line, say_parts, say_refusal, say_stale, say_strict, say_unreadable,
 };
+use crate::laws::{exactly_one_outcome, one_answer};
 use crate::reading::{LongLine, Waiting, read_inputs, stream_names};
 use crate::stop::Stop;
-use kc_dot::user_input::UserInput;
+use kc_config_file::user_input::UserInput;
 use kc_expr::names::Names;
 use kc_io::{Device, Manner, Text, deliver};
 use kc_load::unreadable_name;
@@ -29,7 +29,7 @@ use kc_options::{Delivery, Options, Status};
 use kc_read::file_map::FileMap;
 use kc_read::laws::opened_are_one_list;
 use kc_read::refusal::{Code, Refusal};
-use kc_solve::order::EvaluationOrder;
+use kc_solve::evaluation_order::EvaluationOrder;
 use kc_tree::tree::Tree;
 use std::alloc::Global;
 
@@ -79,7 +79,7 @@ fn hand_out_by<'o, D: Device>(
     ensures { Ends options.now [] [] (map text_view texts.entry.items) Status.Done result (D.log device.old) (D.log device.new) }
 {
     match options.delivery {
-        Delivery::Write => hand_out(Manner::Plain, texts, device),
+        Delivery::Write => hand_out(Manner::InPlace, texts, device),
         Delivery::Replace => hand_out(Manner::Replacing, texts, device),
         Delivery::Check => check(options, &texts, device),
     }

@@ -3,7 +3,7 @@ use Rattle.std.proofs.Common.{◌≡◌, ℕ, Bool, true, false, List, [], ◌�
 use Rattle.std.specs.Prelude.{slice_index_or}
 use Rattle.std.specs.declared.alloc.Global.{Global}
 use Rattle.kc_io.specs.Laws.{LookingKeeps}
-use Rattle.kc_io.specs.Log.{Journal, Leads, Log, held, noted, with_events}
+use Rattle.kc_io.specs.Log.{Journal, Leads, Log, held, reported, with_events}
 use Rattle.kc_io.specs.declared.device.Fault.{Fault}
 use Rattle.kc_words.specs.Apart.{AreApart, filled_if, reads, writes}
 use Rattle.kc_words.specs.Patterns.{AreOptionsFor, filled}
@@ -75,14 +75,14 @@ some_same : (a b : Journal) → (let one : Log = Some a in one ≡ Some b) → a
 some_same a b e = cc
 
 module _ (law : LookingKeeps) (old new : Journal) where
-  report_keeps : (report : Result (Unit {0}) Fault) (text : List ℕ) → Leads (noted report) text (Some old) (Some new) → (name : List ℕ) → held new name ≡ held old name
+  report_keeps : (report : Result (Unit {0}) Fault) (text : List ℕ) → Leads (reported report) text (Some old) (Some new) → (name : List ℕ) → held new name ≡ held old name
   report_keeps report text leads name =
       let o = leads.told new refl in
       ap (λ (j : Journal). held j name) (sym o.2) ∙ quiet report o.0 ∙ ap (λ (j : Journal). held j name) (sym (some_same old o.0 o.1))
     where
-      quiet : (report : Result (Unit {0}) Fault) (journal : Journal) → held (with_events (noted report) text journal) name ≡ held journal name
+      quiet : (report : Result (Unit {0}) Fault) (journal : Journal) → held (with_events (reported report) text journal) name ≡ held journal name
       quiet (Ok u) journal = law name [] text journal refl
-      quiet (Err fault) journal = law name (noted (Err fault)) text journal refl
+      quiet (Err fault) journal = law name (reported (Err fault)) text journal refl
 
   tries_keep : (text : List ℕ) → TriesToSay text (Some old) (Some new) → (name : List ℕ) → held new name ≡ held old name
   tries_keep text (report, leads) = report_keeps report _ leads

@@ -1,6 +1,6 @@
 -- Trusted: How the program ends where its arguments give no run.
 use Rattle.std.specs.Prelude.{◌≡◌, ◌⊎◌, ℕ, List, [], ◌++◌, if◌then◌else◌, Result, codes, string_bytes}
-use Rattle.kc_io.specs.Log.{Log, Leads, noted, said}
+use Rattle.kc_io.specs.Log.{Log, Leads, reported, said}
 use Rattle.kc_io.specs.WholeLines.{is_whole_lines}
 use Rattle.kc_io.specs.declared.device.Fault.{Fault}
 use Rattle.kc_words.specs.Refusals.{text_of}
@@ -26,7 +26,7 @@ ended_text text = text ++ line_end text
 
 -- this text was said as whole lines, or the diagnostics failed
 abbrev pub SaysText : List ℕ → Log → Log → Type 0
-SaysText text old new = (report : Result (Unit {0}) Fault) × Leads (noted report) (said report (ended_text text)) old new
+SaysText text old new = (report : Result (Unit {0}) Fault) × Leads (reported report) (said report (ended_text text)) old new
 
 -- what is wrong is said; help and the version are not
 abbrev pub SaysUsage : UsageError → Log → Log → Type 0

@@ -174,7 +174,7 @@ impl<'a> Device for SystemDevice<'a> {
         }
     }
 
-    fn note(&mut self, parts: &[&[u8]]) -> Result<(), Fault> {
+    fn report(&mut self, parts: &[&[u8]]) -> Result<(), Fault> {
         answer(self.diagnostics.write_parts(parts))
     }
 

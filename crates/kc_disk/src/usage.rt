@@ -28,7 +28,7 @@ fn end_of<'a>(bytes: &'a [u8]) -> &'a [u8]
 fn say_text<D: Device>(device: &mut D, text: &str)
     ensures { SaysText text.now (D.log device.old) (D.log device.new) }
 {
-    let _ = device.note(&[text.as_bytes(), end_of(text.as_bytes())]);
+    let _ = device.report(&[text.as_bytes(), end_of(text.as_bytes())]);
 }
 
 // Says why arguments give no run, and answers the status. Help and the version are not said.

@@ -23,7 +23,7 @@ pub(crate) struct Case {
     /// The files that were made and closed at their places or moved there, in order, and that what stands beside them was removed.
     pub log: &'static str,
     /// The diagnostics.
-    pub notes: &'static [u8],
+    pub diagnostics: &'static [u8],
     /// What files of the device hold at the end; none where there is no such file.
     pub left: &'static [(&'static str, Option<&'static [u8]>)],
 }
@@ -53,7 +53,7 @@ pub(crate) const DONE: Case = Case {
     plan: SEVEN,
     status: Status::Done,
     log: "make .config\nclose .config\n",
-    notes: b"",
+    diagnostics: b"",
     left: &[(".config", Some(CONFIG))],
 };
 

@@ -11,7 +11,7 @@ const REFUSALS: &[Case] = &[
     Case {
         name: "a tree without its root file",
         tree: &[],
-        notes: b"Kconfig:0: error E1: no file Kconfig\n",
+        diagnostics: b"Kconfig:0: error E1: no file Kconfig\n",
         ..REFUSED
     },
     Case {
@@ -21,7 +21,7 @@ const REFUSALS: &[Case] = &[
             (".config", b"CONFIG_Q=y\n"),
             ("x.cfg", b"\nCONFIG_OLD_DRIVER=y\n"),
         ],
-        notes: b".config:1: warning K7: unknown symbol Q\nx.cfg:2: warning K7: unknown symbol OLD_DRIVER\nerror E21: warnings are refused\n",
+        diagnostics: b".config:1: warning K7: unknown symbol Q\nx.cfg:2: warning K7: unknown symbol OLD_DRIVER\nerror E21: warnings are refused\n",
         ..REFUSED
     },
 ];
@@ -37,13 +37,13 @@ const FAULTS: &[Case] = &[
             ("dir/b", b""),
         ],
         failing: "dir/b",
-        notes: b"error E18: cannot read b\n",
+        diagnostics: b"error E18: cannot read b\n",
         ..FAULTED
     },
     Case {
         name: "E18 of a .config that has to exist",
         arguments: "--must-exist --config old Kconfig",
-        notes: b"error E18: cannot read old\n",
+        diagnostics: b"error E18: cannot read old\n",
         ..FAULTED
     },
     Case {
@@ -54,7 +54,7 @@ const FAULTS: &[Case] = &[
             fail_at: 1,
             ..SEVEN
         },
-        notes: b"error E18: cannot read .config\n",
+        diagnostics: b"error E18: cannot read .config\n",
         ..FAULTED
     },
     Case {
@@ -66,21 +66,21 @@ const FAULTS: &[Case] = &[
             fail_at: 3,
             ..SEVEN
         },
-        notes: b".config:1: warning K7: unknown symbol Q\nerror E18: cannot read .config\n",
+        diagnostics: b".config:1: warning K7: unknown symbol Q\nerror E18: cannot read .config\n",
         ..FAULTED
     },
     Case {
         name: "E18 of a fragment that is not there",
         arguments: "Kconfig x.cfg site.config",
         files: &[(".config", b""), ("x.cfg", b"")],
-        notes: b"error E18: cannot read site.config\n",
+        diagnostics: b"error E18: cannot read site.config\n",
         ..FAULTED
     },
     Case {
         name: "E18 of the first of two fragments that fail",
         arguments: "Kconfig x.cfg y.cfg",
         files: &[(".config", b"")],
-        notes: b"error E18: cannot read x.cfg\n",
+        diagnostics: b"error E18: cannot read x.cfg\n",
         ..FAULTED
     },
     Case {
@@ -91,7 +91,7 @@ const FAULTS: &[Case] = &[
             ..SEVEN
         },
         log: "make .config\nclose .config\nmake h\n",
-        notes: b"error E19: cannot write h\n",
+        diagnostics: b"error E19: cannot write h\n",
         left: &[
             (".config", Some(CONFIG)),
             ("h", Some(b"/*\n")),
@@ -183,7 +183,7 @@ fn a_file_that_may_be_missing_is_no_fault(rt: HostRuntime) -> Result<(), Fail> {
 }
 
 const TOO_LONG: &Case = &Case {
-    notes: b".config:1: error E17: line longer than 65535 bytes\n",
+    diagnostics: b".config:1: error E17: line longer than 65535 bytes\n",
     ..REFUSED
 };
 

@@ -23,7 +23,7 @@ const BROKEN: Case = Case {
     name: "the .config cannot be made",
     files: &[(".config", b"# old\n")],
     log: "clear\n",
-    notes: b"error E19: cannot write .config\n",
+    diagnostics: b"error E19: cannot write .config\n",
     status: Status::Faulted,
     left: &[(".config", Some(b"# old\n")), ("h", None)],
     ..NEW
@@ -32,7 +32,7 @@ const BROKEN: Case = Case {
 // The same, where the header cannot be made.
 const NO_HEADER: Case = Case {
     name: "the header cannot be made",
-    notes: b"error E19: cannot write h\n",
+    diagnostics: b"error E19: cannot write h\n",
     ..BROKEN
 };
 
@@ -72,7 +72,7 @@ const CASES: &[Case] = &[
         name: "a refused tree",
         tree: &[("./Kconfig", b"source \"a\"\n")],
         log: "",
-        notes: b"Kconfig:1: error E1: no file a\n",
+        diagnostics: b"Kconfig:1: error E1: no file a\n",
         status: Status::Refused,
         ..BROKEN
     },
@@ -80,7 +80,7 @@ const CASES: &[Case] = &[
         name: "an input file that cannot be read",
         arguments: "--replace --header h --must-exist --config none --out .config Kconfig",
         log: "",
-        notes: b"error E18: cannot read none\n",
+        diagnostics: b"error E18: cannot read none\n",
         ..BROKEN
     },
 ];
@@ -134,7 +134,7 @@ const STALE: Case = Case {
     name: "--check: neither file is there",
     arguments: "--check --header h Kconfig",
     log: "",
-    notes: b"error E22: .config is not up to date\nerror E22: h is not up to date\n",
+    diagnostics: b"error E22: .config is not up to date\nerror E22: h is not up to date\n",
     status: Status::Refused,
     left: &[(".config", None), ("h", None)],
     ..NEW
@@ -145,7 +145,7 @@ const COMPARED: &[Case] = &[
     Case {
         name: "--check: both are up to date",
         files: &[(".config", CONFIG), ("h", HEADER)],
-        notes: b"",
+        diagnostics: b"",
         status: Status::Done,
         left: BOTH,
         ..STALE
@@ -153,31 +153,31 @@ const COMPARED: &[Case] = &[
     Case {
         name: "--check: the header is empty",
         files: &[(".config", CONFIG), ("h", b"")],
-        notes: b"error E22: h is not up to date\n",
+        diagnostics: b"error E22: h is not up to date\n",
         left: &[(".config", Some(CONFIG)), ("h", Some(b""))],
         ..STALE
     },
     Case {
         name: "--check: a refused tree",
         tree: &[("./Kconfig", b"source \"a\"\n")],
-        notes: b"Kconfig:1: error E1: no file a\n",
+        diagnostics: b"Kconfig:1: error E1: no file a\n",
         ..STALE
     },
     Case {
         name: "--check: an input file that cannot be read",
         arguments: "--check --must-exist Kconfig",
-        notes: b"error E18: cannot read .config\n",
+        diagnostics: b"error E18: cannot read .config\n",
         status: Status::Faulted,
         ..STALE
     },
     Case {
         name: "--check: standard error takes nothing",
         plan: Plan {
-            counted: Some(Action::Note),
+            counted: Some(Action::Report),
             fail_at: 1,
             ..SEVEN
         },
-        notes: b"",
+        diagnostics: b"",
         status: Status::Faulted,
         ..STALE
     },

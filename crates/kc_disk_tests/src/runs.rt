@@ -137,7 +137,7 @@ pub(crate) fn holds(
     };
     Ok(
         is_logged
-            && device.diagnostics() == case.notes
+            && device.diagnostics() == case.diagnostics
             && case
                 .left
                 .iter()

@@ -13,13 +13,13 @@ const BAD: &[Case] = &[
     Case {
         name: "a text that is no prefix",
         arguments: "--prefix 9X none/Kconfig",
-        notes: b"error: invalid value '9X' for '--prefix <TEXT>': at most 64 letters, digits and _, of which the first is no digit\n\nFor more information, try '--help'.\n",
+        diagnostics: b"error: invalid value '9X' for '--prefix <TEXT>': at most 64 letters, digits and _, of which the first is no digit\n\nFor more information, try '--help'.\n",
         ..USAGE
     },
     Case {
         name: "two options that exclude each other",
         arguments: "--check --replace none/Kconfig none.cfg",
-        notes: b"error: the argument '--check' cannot be used with '--replace'\n\nFor more information, try '--help'.\n",
+        diagnostics: b"error: the argument '--check' cannot be used with '--replace'\n\nFor more information, try '--help'.\n",
         ..USAGE
     },
 ];

@@ -3,17 +3,17 @@ use Rattle.std.proofs.Common.{◌≡◌, ℕ, ◌∷◌, List, Bool}
 use Rattle.kc_expr.specs.declared.parse.ExprFault.{ExprFault}
 use Rattle.kc_expr.specs.declared.parse.Connective.TheVariants.{And, Or}
 use Rattle.kc_expr.specs.Form.{Form, Leaf}
-use Rattle.kc_expr.specs.Grammar.{Terminal, Plain, Atom, leaf, names_in_atom, plain_form}
+use Rattle.kc_expr.specs.Grammar.{Terminal, OperandToken, Atom, leaf, names_in_atom, lone_form}
 use Rattle.kc_expr.specs.Names.{number_of, all_mentioned, Extends}
 use Rattle.kc_expr.specs.Reading.{ParsedChain, FailsNot, FailsChain, StartsNoOp}
 use Rattle.kc_expr.proofs.ParseLemmas.{parsed_lone, parsed_negation, parsed_conjunction, parsed_only}
 use Rattle.kc_expr.proofs.ReadingLemmas.{fails_negation, fails_conjunction, fails_first}
 
-pub parsed_alone : (condition : Bool) (ts rest : List Terminal) (old names : List (List ℕ)) (a : Atom) (l : Leaf) (f : Form) (k : ℕ) → ts ≡ Plain a ∷ rest →
+pub parsed_alone : (condition : Bool) (ts rest : List Terminal) (old names : List (List ℕ)) (a : Atom) (l : Leaf) (f : Form) (k : ℕ) → ts ≡ OperandToken a ∷ rest →
     StartsNoOp rest → names ≡ all_mentioned old (names_in_atom a) → ((later : List (List ℕ)) → Extends names later → l ≡ leaf (number_of later) a) →
-    f ≡ plain_form condition l → ParsedChain Or condition k ts rest old names f
-parsed_alone condition ts rest old names a l f k e s m is plain =
-    let one = parsed_lone condition ts rest old names a l f e s.0 m is plain k in
+    f ≡ lone_form condition l → ParsedChain Or condition k ts rest old names f
+parsed_alone condition ts rest old names a l f k e s m is lone_expression =
+    let one = parsed_lone condition ts rest old names a l f e s.0 m is lone_expression k in
     let both = parsed_only And condition k ts rest old names f (parsed_negation condition k ts rest old names f one) s.1 in
     parsed_only Or condition k ts rest old names f (parsed_conjunction condition k ts rest old names f both) s.2
 

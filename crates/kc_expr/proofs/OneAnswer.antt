@@ -7,10 +7,10 @@ use Rattle.kc_expr.specs.declared.parse.Connective.{Connective}
 use Rattle.kc_expr.specs.declared.parse.Connective.TheVariants.{And, Or}
 use Rattle.kc_expr.specs.declared.parse.ExprFault.{ExprFault}
 use Rattle.kc_expr.specs.declared.parse.ExprFault.TheVariants.{Syntax, TooDeep, Memory}
-use Rattle.kc_expr.specs.Grammar.{Atom, Terminal, Plain, Compares, Bang, Joins, Open, Close, Keyword, Chain, Part, Disjunction, only, negation, conjunction, bang, group, lone, compare, spell, spell_part, spell_not, spell_or, levels, levels_part, levels_not, LongestFront}
+use Rattle.kc_expr.specs.Grammar.{Atom, Terminal, OperandToken, Compares, Bang, Joins, Open, Close, Keyword, Chain, Part, Disjunction, only, negation, conjunction, bang, group, lone, compare, spell, spell_part, spell_not, spell_or, levels, levels_part, levels_not, LongestFront}
 use Rattle.kc_expr.specs.Scan.{lone_in}
 use Rattle.kc_expr.specs.Parsing.{IsNoExpression, IsTooDeep, Answer, Derived, NoExpression, TooManyLevels, Answers, OneAnswer}
-use Rattle.kc_expr.specs.Reading.{starts_compares, starts_joins, starts_close, starts_plain, starts_bang, starts_open, same_connective, NoneWithin, StopsNot, StopsPart, StopsChain, FailsNot, FailsPart, FailsChain}
+use Rattle.kc_expr.specs.Reading.{starts_compares, starts_joins, starts_close, starts_operand, starts_bang, starts_open, same_connective, NoneWithin, StopsNot, StopsPart, StopsChain, FailsNot, FailsPart, FailsChain}
 use Rattle.kc_expr.proofs.PushLemmas.{push, spell-push, levels-push, lone-push}
 use Rattle.kc_expr.proofs.ReadingLemmas.{fails_bang, fails_group, fails_negation, fails_conjunction, fails_first, fails_next, deep_bang_now, deep_group_now, unclosed}
 use Rattle.kc_expr.proofs.ParseLemmas.{no_left, no_right_side}
@@ -60,7 +60,7 @@ same_is Or Or h = refl
 
 joins_first : (c : Connective) (ts : List Terminal) → starts_joins c ts ≡ true → (rest : List Terminal) × (ts ≡ Joins c ∷ rest)
 joins_first c [] h = absurd (false≢true h)
-joins_first c (Plain a ∷ ts) h = absurd (false≢true h)
+joins_first c (OperandToken a ∷ ts) h = absurd (false≢true h)
 joins_first c (Compares o ∷ ts) h = absurd (false≢true h)
 joins_first c (Bang ∷ ts) h = absurd (false≢true h)
 joins_first c (Joins d ∷ ts) h = (ts, ap (λ e. Joins e ∷ ts) (sym (same_is c d h)))
@@ -124,22 +124,22 @@ module _ (k n : ℕ) (nots : (ts : List Terminal) → length ts ≤ n → NotOrF
 
 -- ---- what stands between connectives
 
-lone_got : (k : ℕ) (a : Atom) (ts : List Terminal) → starts_compares ts ≡ false → NotOrFault k (Plain a ∷ ts)
+lone_got : (k : ℕ) (a : Atom) (ts : List Terminal) → starts_compares ts ≡ false → NotOrFault k (OperandToken a ∷ ts)
 lone_got k a ts e = inl (record { tree = lone a; rest = ts; whole = refl; within = omega arith; stops = λ h. e })
 
-no_second : (k : ℕ) (a : Atom) (o : Op) (ts : List Terminal) → starts_plain ts ≡ false → NotOrFault k (Plain a ∷ (Compares o ∷ ts))
-no_second k a o ts e = inr (Syntax, tt, no_right_side (Plain a ∷ (Compares o ∷ ts)) ts a o refl e k)
+no_second : (k : ℕ) (a : Atom) (o : Op) (ts : List Terminal) → starts_operand ts ≡ false → NotOrFault k (OperandToken a ∷ (Compares o ∷ ts))
+no_second k a o ts e = inr (Syntax, tt, no_right_side (OperandToken a ∷ (Compares o ∷ ts)) ts a o refl e k)
 
-relation_here : (k : ℕ) (a : Atom) (ts : List Terminal) → NotOrFault k (Plain a ∷ ts)
+relation_here : (k : ℕ) (a : Atom) (ts : List Terminal) → NotOrFault k (OperandToken a ∷ ts)
 relation_here k a [] = lone_got k a [] refl
-relation_here k a (Plain b ∷ ts) = lone_got k a (Plain b ∷ ts) refl
+relation_here k a (OperandToken b ∷ ts) = lone_got k a (OperandToken b ∷ ts) refl
 relation_here k a (Bang ∷ ts) = lone_got k a (Bang ∷ ts) refl
 relation_here k a (Joins c ∷ ts) = lone_got k a (Joins c ∷ ts) refl
 relation_here k a (Open ∷ ts) = lone_got k a (Open ∷ ts) refl
 relation_here k a (Close ∷ ts) = lone_got k a (Close ∷ ts) refl
 relation_here k a (Keyword ∷ ts) = lone_got k a (Keyword ∷ ts) refl
 relation_here k a (Compares o ∷ []) = no_second k a o [] refl
-relation_here k a (Compares o ∷ (Plain b ∷ ts)) = inl (record { tree = compare o a b; rest = ts; whole = refl; within = omega arith; stops = λ h. absurd (false≢true h) })
+relation_here k a (Compares o ∷ (OperandToken b ∷ ts)) = inl (record { tree = compare o a b; rest = ts; whole = refl; within = omega arith; stops = λ h. absurd (false≢true h) })
 relation_here k a (Compares o ∷ (Compares p ∷ ts)) = no_second k a o (Compares p ∷ ts) refl
 relation_here k a (Compares o ∷ (Bang ∷ ts)) = no_second k a o (Bang ∷ ts) refl
 relation_here k a (Compares o ∷ (Joins c ∷ ts)) = no_second k a o (Joins c ∷ ts) refl
@@ -156,7 +156,7 @@ not_closed k d rest w s e = inr (Syntax, tt, unclosed k d rest w s e)
 
 closing : (k : ℕ) (d : Disjunction) (rest : List Terminal) → levels d ≤ k → StopsChain Or d rest → NotOrFault (suc k) (Open ∷ (spell d ++ rest))
 closing k d [] w s = not_closed k d [] w s refl
-closing k d (Plain a ∷ ts) w s = not_closed k d (Plain a ∷ ts) w s refl
+closing k d (OperandToken a ∷ ts) w s = not_closed k d (OperandToken a ∷ ts) w s refl
 closing k d (Compares o ∷ ts) w s = not_closed k d (Compares o ∷ ts) w s refl
 closing k d (Bang ∷ ts) w s = not_closed k d (Bang ∷ ts) w s refl
 closing k d (Joins c ∷ ts) w s = not_closed k d (Joins c ∷ ts) w s refl
@@ -174,13 +174,13 @@ group_here : (k : ℕ) (ts : List Terminal) → ChainOrFault Or k ts → NotOrFa
 group_here k ts (inr x) = inr (x.0, x.1, fails_group x.0 k ts x.2)
 group_here k ts (inl p) = subst (λ l. NotOrFault (suc k) (Open ∷ l)) (sym p.whole) (closing k p.tree p.rest p.within p.stops)
 
-nothing_here : (k : ℕ) (ts : List Terminal) → starts_plain ts ≡ false → starts_bang ts ≡ false → starts_open ts ≡ false → NotOrFault k ts
+nothing_here : (k : ℕ) (ts : List Terminal) → starts_operand ts ≡ false → starts_bang ts ≡ false → starts_open ts ≡ false → NotOrFault k ts
 nothing_here k ts p b o = inr (Syntax, tt, no_left ts p b o k)
 
 not_here : (n k : ℕ) (ts : List Terminal) → length ts ≤ n → NotOrFault k ts
 not_here n k [] le = nothing_here k [] refl refl refl
 not_here zero k (t ∷ ts) le = absurd (omega arith)
-not_here (suc n) k (Plain a ∷ ts) le = relation_here k a ts
+not_here (suc n) k (OperandToken a ∷ ts) le = relation_here k a ts
 not_here (suc n) k (Compares o ∷ ts) le = nothing_here k (Compares o ∷ ts) refl refl refl
 not_here (suc n) k (Joins c ∷ ts) le = nothing_here k (Joins c ∷ ts) refl refl refl
 not_here (suc n) k (Close ∷ ts) le = nothing_here k (Close ∷ ts) refl refl refl

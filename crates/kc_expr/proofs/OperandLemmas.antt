@@ -4,16 +4,16 @@ use Rattle.std.proofs.lemmas.Bool.{false≢true}
 use Rattle.kc_expr.specs.declared.parse.Connective.{Connective}
 use Rattle.kc_expr.specs.declared.parse.ExprFault.{ExprFault}
 use Rattle.kc_expr.specs.declared.parse.ExprFault.TheVariants.{Syntax, TooDeep, Memory}
-use Rattle.kc_expr.specs.Grammar.{Atom, Terminal, Plain, Compares, Bang, Joins, Open, Close, Keyword, Chain, Part, Negation, only, joined, negation, conjunction, bang, group, lone, compare, spell, spell_part, spell_not}
+use Rattle.kc_expr.specs.Grammar.{Atom, Terminal, OperandToken, Compares, Bang, Joins, Open, Close, Keyword, Chain, Part, Negation, only, joined, negation, conjunction, bang, group, lone, compare, spell, spell_part, spell_not}
 use Rattle.kc_expr.specs.Parsing.{HasOperand}
-use Rattle.kc_expr.specs.Reading.{starts_plain, IsMemory, IsMemoryAt, FailsNot}
+use Rattle.kc_expr.specs.Reading.{starts_operand, IsMemory, IsMemoryAt, FailsNot}
 
 pub operand_after : (front ts : List Terminal) → HasOperand ts → HasOperand (front ++ ts)
 operand_after front ts h = record {
   before = front ++ h.before;
   atom = h.atom;
   after = h.after;
-  split = ap (λ l. front ++ l) h.split ∙ sym (append_assoc front h.before (Plain h.atom ∷ h.after));
+  split = ap (λ l. front ++ l) h.split ∙ sym (append_assoc front h.before (OperandToken h.atom ∷ h.after));
 }
 
 pub operand_before : (ts rest : List Terminal) → HasOperand ts → HasOperand (ts ++ rest)
@@ -21,13 +21,13 @@ operand_before ts rest h = record {
   before = h.before;
   atom = h.atom;
   after = h.after ++ rest;
-  split = ap (λ l. l ++ rest) h.split ∙ append_assoc h.before (Plain h.atom ∷ h.after) rest;
+  split = ap (λ l. l ++ rest) h.split ∙ append_assoc h.before (OperandToken h.atom ∷ h.after) rest;
 }
 
-pub operand_first : (a : Atom) (rest : List Terminal) → HasOperand (Plain a ∷ rest)
+pub operand_first : (a : Atom) (rest : List Terminal) → HasOperand (OperandToken a ∷ rest)
 operand_first a rest = record { before = []; atom = a; after = rest; split = refl }
 
-pub operand_here : (ts rest : List Terminal) (a : Atom) → ts ≡ Plain a ∷ rest → HasOperand ts
+pub operand_here : (ts rest : List Terminal) (a : Atom) → ts ≡ OperandToken a ∷ rest → HasOperand ts
 operand_here ts rest a e = record { before = []; atom = a; after = rest; split = e }
 
 pub operand_on : (ts front rest : List Terminal) → ts ≡ front ++ rest → HasOperand rest → HasOperand ts
@@ -50,11 +50,11 @@ mutual
   not_operand (bang n) = operand_after (Bang ∷ []) (spell_not n) (not_operand n)
   not_operand (group d) = operand_after (Open ∷ []) (spell d ++ Close ∷ []) (operand_before (spell d) (Close ∷ []) (chain_operand d))
   not_operand (lone a) = operand_first a []
-  not_operand (compare o a b) = operand_first a (Compares o ∷ (Plain b ∷ []))
+  not_operand (compare o a b) = operand_first a (Compares o ∷ (OperandToken b ∷ []))
 
-pub plain_operand : (ts : List Terminal) → starts_plain ts ≡ true → HasOperand ts
+pub plain_operand : (ts : List Terminal) → starts_operand ts ≡ true → HasOperand ts
 plain_operand [] h = absurd (false≢true h)
-plain_operand (Plain a ∷ ts) h = operand_first a ts
+plain_operand (OperandToken a ∷ ts) h = operand_first a ts
 plain_operand (Compares o ∷ ts) h = absurd (false≢true h)
 plain_operand (Bang ∷ ts) h = absurd (false≢true h)
 plain_operand (Joins c ∷ ts) h = absurd (false≢true h)

@@ -10,16 +10,16 @@ use Rattle.kc_expr.specs.Form.{Form, forms, form_of, Leaf, Related, Negated}
 use Rattle.kc_expr.specs.Names.{number_of, all_mentioned, Extends}
 use Rattle.kc_expr.specs.declared.parse.Connective.{Connective}
 use Rattle.kc_expr.specs.declared.parse.Connective.TheVariants.{And, Or}
-use Rattle.kc_expr.specs.Grammar.{Atom, Terminal, Plain, Compares, Bang, Joins, Open, Close, Keyword, Chain, only, negation, conjunction, bang, group, lone, compare, spell, spell_part, spell_not, levels, levels_not, leaf, plain_form, names_in_atom, names_in_terminals, connected, meaning_part, parts, terminals_from}
+use Rattle.kc_expr.specs.Grammar.{Atom, Terminal, OperandToken, Compares, Bang, Joins, Open, Close, Keyword, Chain, only, negation, conjunction, bang, group, lone, compare, spell, spell_part, spell_not, levels, levels_not, leaf, lone_form, names_in_atom, names_in_terminals, connected, meaning_part, parts, terminals_from}
 use Rattle.kc_expr.specs.Scan.{want, right}
-use Rattle.kc_expr.specs.Reading.{starts_compares, starts_joins, starts_close, starts_plain, starts_bang, starts_open, Refuses, Broken, Deep, Any_start, ParsedNot, ParsedPart, ParsedChain, FailsNot, FailsPart, FailsChain}
+use Rattle.kc_expr.specs.Reading.{starts_compares, starts_joins, starts_close, starts_operand, starts_bang, starts_open, Refuses, Broken, Deep, Any_start, ParsedNot, ParsedPart, ParsedChain, FailsNot, FailsPart, FailsChain}
 use Rattle.kc_expr.proofs.NamesLemmas.{extends_on, mentioned_on, mentioned_extends, names_in_terminals-append, names_in_terminals-closed}
 use Rattle.kc_expr.proofs.PushLemmas.{push, spell-push, levels-push, lone-push, parts-push, meaning-push}
 use Rattle.kc_expr.proofs.ReadingLemmas.{no_operand, no_right, unclosed, deep_bang_now, deep_group_now, fails_bang, fails_group, fails_next}
 
-refuses_want : (limit cur base : ℕ) (stack : List ℕ) (ts : List Terminal) → starts_plain ts ≡ false → starts_bang ts ≡ false → starts_open ts ≡ false → Refuses limit (want cur base stack) ts
+refuses_want : (limit cur base : ℕ) (stack : List ℕ) (ts : List Terminal) → starts_operand ts ≡ false → starts_bang ts ≡ false → starts_open ts ≡ false → Refuses limit (want cur base stack) ts
 refuses_want limit cur base stack [] p b o = tt
-refuses_want limit cur base stack (Plain a ∷ ts) p b o = absurd (false≢true (sym p))
+refuses_want limit cur base stack (OperandToken a ∷ ts) p b o = absurd (false≢true (sym p))
 refuses_want limit cur base stack (Bang ∷ ts) p b o = absurd (false≢true (sym b))
 refuses_want limit cur base stack (Open ∷ ts) p b o = absurd (false≢true (sym o))
 refuses_want limit cur base stack (Compares r ∷ ts) p b o = refl
@@ -27,9 +27,9 @@ refuses_want limit cur base stack (Joins c ∷ ts) p b o = refl
 refuses_want limit cur base stack (Close ∷ ts) p b o = refl
 refuses_want limit cur base stack (Keyword ∷ ts) p b o = refl
 
-refuses_right : (limit base : ℕ) (stack : List ℕ) (ts : List Terminal) → starts_plain ts ≡ false → Refuses limit (right base stack) ts
+refuses_right : (limit base : ℕ) (stack : List ℕ) (ts : List Terminal) → starts_operand ts ≡ false → Refuses limit (right base stack) ts
 refuses_right limit base stack [] p = tt
-refuses_right limit base stack (Plain a ∷ ts) p = absurd (false≢true (sym p))
+refuses_right limit base stack (OperandToken a ∷ ts) p = absurd (false≢true (sym p))
 refuses_right limit base stack (Bang ∷ ts) p = refl
 refuses_right limit base stack (Open ∷ ts) p = refl
 refuses_right limit base stack (Compares r ∷ ts) p = refl
@@ -37,30 +37,30 @@ refuses_right limit base stack (Joins c ∷ ts) p = refl
 refuses_right limit base stack (Close ∷ ts) p = refl
 refuses_right limit base stack (Keyword ∷ ts) p = refl
 
-pub no_left : (ts : List Terminal) → starts_plain ts ≡ false → starts_bang ts ≡ false → starts_open ts ≡ false → (k : ℕ) → Broken spell_not levels_not Any_start k ts
+pub no_left : (ts : List Terminal) → starts_operand ts ≡ false → starts_bang ts ≡ false → starts_open ts ≡ false → (k : ℕ) → Broken spell_not levels_not Any_start k ts
 no_left ts p b o k = no_operand k ts (λ limit cur base stack. refuses_want limit cur base stack ts p b o)
 
-pub no_right_side : (ts rest : List Terminal) (a : Atom) (r : Op) → ts ≡ Plain a ∷ (Compares r ∷ rest) → starts_plain rest ≡ false → (k : ℕ) → Broken spell_not levels_not Any_start k ts
+pub no_right_side : (ts rest : List Terminal) (a : Atom) (r : Op) → ts ≡ OperandToken a ∷ (Compares r ∷ rest) → starts_operand rest ≡ false → (k : ℕ) → Broken spell_not levels_not Any_start k ts
 no_right_side ts rest a r e p k =
     subst (λ l. Broken spell_not levels_not Any_start k l) (sym e) (no_right k a r rest (λ limit base stack. refuses_right limit base stack rest p))
 
 -- an operand that is alone
-pub parsed_lone : (condition : Bool) (ts rest : List Terminal) (old names : List (List ℕ)) (a : Atom) (l : Leaf) (f : Form) → ts ≡ Plain a ∷ rest →
+pub parsed_lone : (condition : Bool) (ts rest : List Terminal) (old names : List (List ℕ)) (a : Atom) (l : Leaf) (f : Form) → ts ≡ OperandToken a ∷ rest →
     starts_compares rest ≡ false → names ≡ all_mentioned old (names_in_atom a) →
-    ((later : List (List ℕ)) → Extends names later → l ≡ leaf (number_of later) a) → f ≡ plain_form condition l → (k : ℕ) →
+    ((later : List (List ℕ)) → Extends names later → l ≡ leaf (number_of later) a) → f ≡ lone_form condition l → (k : ℕ) →
     ParsedNot condition k ts rest old names f
-parsed_lone condition ts rest old names a l f e s m is plain k = record {
+parsed_lone condition ts rest old names a l f e s m is lone_expression k = record {
   tree = lone a;
   whole = e;
   mentions = m ∙ ap (all_mentioned old) (sym (append-nil (names_in_atom a)));
   within = omega arith;
   stops = λ _. s;
-  form = λ later x. plain ∙ ap (plain_form condition) (is later x);
+  form = λ later x. lone_expression ∙ ap (lone_form condition) (is later x);
 }
 
 -- a relation
-pub parsed_compare : (condition : Bool) (ts rest : List Terminal) (old now names : List (List ℕ)) (a b : Atom) (r : Op) (l m : Leaf) → ts ≡ Plain a ∷
-    (Compares r ∷ (Plain b ∷ rest)) → now ≡ all_mentioned old (names_in_atom a) → names ≡ all_mentioned now (names_in_atom b) →
+pub parsed_compare : (condition : Bool) (ts rest : List Terminal) (old now names : List (List ℕ)) (a b : Atom) (r : Op) (l m : Leaf) → ts ≡ OperandToken a ∷
+    (Compares r ∷ (OperandToken b ∷ rest)) → now ≡ all_mentioned old (names_in_atom a) → names ≡ all_mentioned now (names_in_atom b) →
     ((later : List (List ℕ)) → Extends now later → l ≡ leaf (number_of later) a) →
     ((later : List (List ℕ)) → Extends names later → m ≡ leaf (number_of later) b) → (k : ℕ) → ParsedNot condition k ts rest old names (Related r l m)
 parsed_compare condition ts rest old now names a b r l m e first second is js k = record {

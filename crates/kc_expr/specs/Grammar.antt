@@ -15,7 +15,7 @@ use Rattle.kc_expr.specs.declared.parse.Connective.TheVariants.{And, Or}
 use Rattle.kc_text.specs.Escapes.{unescape}
 use Rattle.kc_text.specs.Lexemes.{Lexeme, AWord, AQuoted, AnOp, lexeme}
 use Rattle.kc_text.specs.declared.tokens.Token.{Token}
-use Rattle.kc_expr.specs.Form.{Form, Forms, forms, Leaf, Text, Symbol, Single, Related, Negated, Every, Some_of, tri_text, PlainM}
+use Rattle.kc_expr.specs.Form.{Form, Forms, forms, Leaf, Text, Symbol, Single, Related, Negated, Every, Some_of, tri_text, LoneM}
 use Rattle.kc_expr.specs.Value.{tristate_constant}
 use Rattle.kc_expr.specs.Names.{symbol, same_name}
 
@@ -25,7 +25,7 @@ pub data Atom : Type 0 where
 
 -- a token, as the grammar sees it
 pub data Terminal : Type 0 where
-  Plain : Atom → Terminal
+  OperandToken : Atom → Terminal
   Compares : Op → Terminal
   Bang : Terminal
   Joins : Connective → Terminal
@@ -51,8 +51,8 @@ abbrev pub if_word : List ℕ
 if_word = codes "if"
 
 abbrev pub terminal_of : Lexeme → Terminal
-terminal_of (AWord w) = if same_name w if_word then Keyword else Plain (WordAtom w)
-terminal_of (AQuoted q) = Plain (QuotedAtom q)
+terminal_of (AWord w) = if same_name w if_word then Keyword else OperandToken (WordAtom w)
+terminal_of (AQuoted q) = OperandToken (QuotedAtom q)
 terminal_of (AnOp o) = op_terminal o
 
 abbrev pub terminals : List Lexeme → List Terminal
@@ -96,8 +96,8 @@ abbrev mutual
   pub spell_not : Negation → List Terminal
   spell_not (bang n) = Bang ∷ spell_not n
   spell_not (group d) = Open ∷ (spell d ++ (Close ∷ []))
-  spell_not (lone a) = Plain a ∷ []
-  spell_not (compare o a b) = Plain a ∷ (Compares o ∷ (Plain b ∷ []))
+  spell_not (lone a) = OperandToken a ∷ []
+  spell_not (compare o a b) = OperandToken a ∷ (Compares o ∷ (OperandToken b ∷ []))
 
 abbrev pub spell_or : Disjunction → List Terminal
 spell_or d = spell d
@@ -133,8 +133,8 @@ is_m_leaf (Symbol s) = false
 is_m_leaf (Text t) = same_name t m_word
 
 -- in a condition a plain m also asks for the modules symbol
-abbrev pub plain_form : Bool → Leaf → Form
-plain_form condition l = if condition && is_m_leaf l then PlainM else Single l
+abbrev pub lone_form : Bool → Leaf → Form
+lone_form condition l = if condition && is_m_leaf l then LoneM else Single l
 
 -- an operand, where names have these numbers
 abbrev pub leaf : (List ℕ → ℕ) → Atom → Leaf
@@ -164,7 +164,7 @@ module _ (condition : Bool) (number : List ℕ → ℕ) where
     pub meaning_not : Negation → Form
     meaning_not (bang n) = Negated (meaning_not n)
     meaning_not (group d) = meaning d
-    meaning_not (lone a) = plain_form condition (leaf number a)
+    meaning_not (lone a) = lone_form condition (leaf number a)
     meaning_not (compare o a b) = Related o (leaf number a) (leaf number b)
 
   abbrev pub meaning_or : Disjunction → Form
@@ -176,7 +176,7 @@ names_in_atom (WordAtom w) = if is_tristate_constant w then [] else w ∷ []
 names_in_atom (QuotedAtom q) = []
 
 abbrev pub names_in_terminal : Terminal → List (List ℕ)
-names_in_terminal (Plain a) = names_in_atom a
+names_in_terminal (OperandToken a) = names_in_atom a
 names_in_terminal (Compares o) = []
 names_in_terminal Bang = []
 names_in_terminal (Joins c) = []

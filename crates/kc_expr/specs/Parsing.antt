@@ -5,7 +5,7 @@ use Rattle.kc_expr.specs.declared.parse.ExprFault.{ExprFault}
 use Rattle.kc_expr.specs.declared.parse.ExprFault.TheVariants.{Syntax, TooDeep, Memory}
 use Rattle.kc_expr.specs.Form.{Form}
 use Rattle.kc_expr.specs.Names.{number_of, all_mentioned, Extends}
-use Rattle.kc_expr.specs.Grammar.{Atom, Terminal, Plain, Disjunction, spell_or, levels_or, meaning_or, names_in, Begins, BeginsWithin, LongestFront}
+use Rattle.kc_expr.specs.Grammar.{Atom, Terminal, OperandToken, Disjunction, spell_or, levels_or, meaning_or, names_in, Begins, BeginsWithin, LongestFront}
 
 -- what parsing answers: the one expression of the longest front that begins some expression
 pub record IsParsed (condition : Bool) (ts rest : List Terminal) (old names : List (List ℕ)) (f : Form) : Type 0 where
@@ -38,7 +38,7 @@ pub record HasOperand (ts : List Terminal) : Type 0 where
   pub before : List Terminal
   pub atom : Atom
   pub after : List Terminal
-  pub split : ts ≡ before ++ Plain atom ∷ after
+  pub split : ts ≡ before ++ OperandToken atom ∷ after
 
 -- what each refusal says; out of memory comes only where there is an operand
 abbrev pub IsRefused : ExprFault → List Terminal → Type 0

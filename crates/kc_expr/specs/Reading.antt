@@ -11,7 +11,7 @@ use Rattle.kc_expr.specs.Form.{Form, Leaf, leaf_of}
 use Rattle.kc_expr.specs.Names.{number_of, all_mentioned, Extends}
 use Rattle.kc_expr.specs.declared.parse.Connective.{Connective}
 use Rattle.kc_expr.specs.declared.parse.Connective.TheVariants.{And, Or}
-use Rattle.kc_expr.specs.Grammar.{Terminal, Plain, Compares, Bang, Joins, Open, Close, Keyword, Chain, Part, Negation, spell, spell_part, spell_not, levels, levels_part, levels_not, meaning, meaning_part, meaning_not, terminals_from, terminal_of, Atom, leaf, op_terminal, names_in_atom, names_in_terminals}
+use Rattle.kc_expr.specs.Grammar.{Terminal, OperandToken, Compares, Bang, Joins, Open, Close, Keyword, Chain, Part, Negation, spell, spell_part, spell_not, levels, levels_part, levels_not, meaning, meaning_part, meaning_not, terminals_from, terminal_of, Atom, leaf, op_terminal, names_in_atom, names_in_terminals}
 use Rattle.kc_expr.specs.Parsing.{HasOperand}
 use Rattle.kc_expr.specs.Scan.{State, want, single, right, done, step, run, lone_in, lone_part, lone_not}
 
@@ -29,7 +29,7 @@ same_connective Or Or = true
 
 abbrev pub joins : Connective → Terminal → Bool
 joins c (Joins d) = same_connective c d
-joins c (Plain a) = false
+joins c (OperandToken a) = false
 joins c (Compares o) = false
 joins c Bang = false
 joins c Open = false
@@ -147,20 +147,20 @@ IsNext None tokens at = terminals_from tokens at ≡ []
 IsNext (Some t) tokens at = (at < length tokens) × (terminals_from tokens at ≡ terminal_of (lexeme t) ∷ terminals_from tokens (at + 1))
 
 -- an operand that was read
-abbrev pub starts_plain : List Terminal → Bool
-starts_plain [] = false
-starts_plain (Plain a ∷ ts) = true
-starts_plain (_ ∷ ts) = false
+abbrev pub starts_operand : List Terminal → Bool
+starts_operand [] = false
+starts_operand (OperandToken a ∷ ts) = true
+starts_operand (_ ∷ ts) = false
 
 pub record ReadsAtom (tokens : List Token) (at : ℕ) (old names : List (List ℕ)) (o : Leaf) : Type 0 where
   pub atom : Atom
   pub mentions : names ≡ all_mentioned old (names_in_atom atom)
   pub there : at < length tokens
-  pub next : terminals_from tokens at ≡ Plain atom ∷ terminals_from tokens (at + 1)
+  pub next : terminals_from tokens at ≡ OperandToken atom ∷ terminals_from tokens (at + 1)
   pub leaf_is : (later : List (List ℕ)) → Extends names later → o ≡ leaf (number_of later) atom
 
 abbrev pub ReadsOperand : Option Operand → List Token → ℕ → List (List ℕ) → List (List ℕ) → Type 0
-ReadsOperand None tokens at old names = starts_plain (terminals_from tokens at) ≡ false
+ReadsOperand None tokens at old names = starts_operand (terminals_from tokens at) ≡ false
 ReadsOperand (Some o) tokens at old names = ReadsAtom tokens at old names (leaf_of o)
 
 abbrev pub ReadsRelation : Option Op → List Token → ℕ → Type 0
@@ -176,7 +176,7 @@ IsMemory Memory = Unit {0}
 abbrev pub IsMemoryAt : List Terminal → ExprFault → Type 0
 IsMemoryAt ts Syntax = ⊥
 IsMemoryAt ts TooDeep = ⊥
-IsMemoryAt ts Memory = starts_plain ts ≡ true
+IsMemoryAt ts Memory = starts_operand ts ≡ true
 
 abbrev pub starts_bang : List Terminal → Bool
 starts_bang [] = false

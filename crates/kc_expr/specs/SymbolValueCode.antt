@@ -4,18 +4,18 @@ use Rattle.std.proofs.Common.{ap}
 use Rattle.std.specs.Coded.{Coded}
 use base.Stored.{Gv, gnum, gcons}
 use Rattle.kc_expr.specs.contracts.expression.Tri as tri
-use Rattle.kc_expr.specs.contracts.expression.Kind as kind
+use Rattle.kc_expr.specs.contracts.expression.SymbolType as symbol_type
 use Rattle.kc_expr.specs.FormCode.{head, tail, bytes_code}
 use Rattle.kc_expr.specs.Value.{SymbolValue, Truth, TextValue}
 
 abbrev pub store : SymbolValue → Gv
 store (Truth t) = gcons (gnum 0) (tri.the_row.coded.code t)
-store (TextValue k bytes) = gcons (gnum 1) (gcons (kind.the_row.coded.code k) (bytes_code.code bytes))
+store (TextValue k bytes) = gcons (gnum 1) (gcons (symbol_type.the_row.coded.code k) (bytes_code.code bytes))
 
 pub symbol_value_inj : (x y : SymbolValue) → store x ≡ store y → x ≡ y
 symbol_value_inj (Truth s) (Truth t) p = ap Truth (tri.the_row.coded.inj s t (ap tail p))
 symbol_value_inj (TextValue j s) (TextValue k t) p = λ i.
-    TextValue (kind.the_row.coded.inj j k (ap (λ g. head (tail g)) p) i) (bytes_code.inj s t (ap (λ g. tail (tail g)) p) i)
+    TextValue (symbol_type.the_row.coded.inj j k (ap (λ g. head (tail g)) p) i) (bytes_code.inj s t (ap (λ g. tail (tail g)) p) i)
 symbol_value_inj (Truth s) (TextValue k t) p = cc
 symbol_value_inj (TextValue j s) (Truth t) p = cc
 

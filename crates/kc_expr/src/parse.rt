@@ -6,7 +6,7 @@ ghost use Rattle.kc_expr.specs.Limits.{most_levels};
 ghost use Rattle.kc_expr.specs.declared.parse.Connective.TheVariants.{Or};
 ghost use Rattle.kc_expr.specs.Form.{form_of, forms, leaf_of};
 ghost use Rattle.kc_expr.specs.Grammar as spec;
-ghost use Rattle.kc_expr.specs.Grammar.{terminals_from, is_m_leaf, plain_form, IsUnambiguous, Terminal, HasOneLongestFront};
+ghost use Rattle.kc_expr.specs.Grammar.{terminals_from, is_m_leaf, lone_form, IsUnambiguous, Terminal, HasOneLongestFront};
 ghost use Rattle.kc_expr.specs.Parsing.{IsParsed, IsDetermined, IsRefused, OneAnswer};
 ghost use Rattle.kc_expr.specs.Reading.{ParsedNot, ParsedPart, ParsedChain, FailsNot, FailsPart, FailsChain, IsLone, IsNext, ReadsOperand, ReadsRelation, IsMemoryAt, IsOp, IsJoined, StartsNoOp, StartsNoOperand};
 ghost use Rattle.kc_expr.specs.Names.{Extends};
@@ -152,7 +152,7 @@ fn lone(
     let Some(found) = operand(alloc, tokens, at, names)? else {
         return Err(ExprFault::Syntax);
     };
-    Ok((plain(found, condition), at + 1))
+    Ok((lone_expression(found, condition), at + 1))
 }
 
 // What joins the parts of a chain.
@@ -291,7 +291,7 @@ fn relation(
         return Err(ExprFault::Syntax);
     };
     let Some(op) = relation_op(tokens, at + 1) else {
-        return Ok((plain(left, condition), at + 1));
+        return Ok((lone_expression(left, condition), at + 1));
     };
     let Some(right) = operand(alloc, tokens, at + 2, names)? else {
         return Err(ExprFault::Syntax);
@@ -301,8 +301,8 @@ fn relation(
 }
 
 // An operand that is alone: a plain m of a condition is also asked of the modules symbol.
-fn plain(operand: Operand, condition: bool) -> Expr
-    ensures { form_of result ≡ plain_form condition (leaf_of operand) }
+fn lone_expression(operand: Operand, condition: bool) -> Expr
+    ensures { form_of result ≡ lone_form condition (leaf_of operand) }
 {
     if condition && is_m(&operand) {
         Expr::Module

@@ -7,7 +7,7 @@ use Rattle.kc_io.specs.Scripts.{NamedText, put, moved, chosen, delivery, share_n
 use Rattle.kc_io.specs.TextViews.{text_view}
 use Rattle.kc_io.specs.Delivered.{Delivered, Went, cleared}
 use Rattle.kc_io.specs.declared.delivery.Manner.{Manner}
-use Rattle.kc_io.specs.declared.delivery.Manner.TheVariants.{Plain, Replacing}
+use Rattle.kc_io.specs.declared.delivery.Manner.TheVariants.{InPlace, Replacing}
 use Rattle.kc_io.specs.declared.delivery.Text.{Text}
 use Rattle.kc_io.specs.declared.device.Site.TheVariants.{Place, Beside}
 use Rattle.kc_io.specs.declared.steps.Failure.{Failure}
@@ -27,7 +27,7 @@ filter-map p (text ∷ texts) = one (p (text_view text)) (filter-map p texts)
     one false e = e
 
 -- each where it belongs
-pub plain : (manner : Manner) (texts : List Text) (old new : Log) (r : Result (Unit {0}) Failure) → manner ≡ Plain → Went (flat_map (λ text. put Place (text_view text)) texts) old new r → Went (delivery manner (map text_view texts)) old new r
+pub plain : (manner : Manner) (texts : List Text) (old new : Log) (r : Result (Unit {0}) Failure) → manner ≡ InPlace → Went (flat_map (λ text. put Place (text_view text)) texts) old new r → Went (delivery manner (map text_view texts)) old new r
 plain manner texts old new r e w = rw (e, flat_map-map (put Place) text_view texts) w
 
 -- beside their places, and moved there

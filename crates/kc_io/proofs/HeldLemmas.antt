@@ -6,7 +6,7 @@ use Rattle.std.specs.List.{flat_map}
 use Rattle.kc_io.specs.Log.{Event, Spot, acted, after, each_byte, did}
 use Rattle.kc_io.specs.Scripts.{NamedText, put, moved, delivery}
 use Rattle.kc_io.specs.declared.delivery.Manner.{Manner}
-use Rattle.kc_io.specs.declared.delivery.Manner.TheVariants.{Plain, Replacing}
+use Rattle.kc_io.specs.declared.delivery.Manner.TheVariants.{InPlace, Replacing}
 use Rattle.kc_io.specs.Held.{last_of}
 use Rattle.kc_io.specs.declared.device.Action.TheVariants.{Create, Write, Close}
 use Rattle.kc_io.specs.declared.device.Site.{Site}
@@ -78,11 +78,11 @@ put_own name text spot e =
     closed e = rw e refl
 
 -- files that are made at their places
-pub plain_held : (name : List ℕ) (texts : List NamedText) (spot : Spot) → (fold (after name) spot (flat_map (put Place) texts)).held ≡ last_of name texts spot.held
-plain_held name [] spot = refl
-plain_held name (text ∷ texts) spot =
+pub modeless_held : (name : List ℕ) (texts : List NamedText) (spot : Spot) → (fold (after name) spot (flat_map (put Place) texts)).held ≡ last_of name texts spot.held
+modeless_held name [] spot = refl
+modeless_held name (text ∷ texts) spot =
     ap (λ (s : Spot). s.held) (fold-append (after name) spot (put Place text) (flat_map (put Place) texts))
-    ∙ plain_held name texts (fold (after name) spot (put Place text))
+    ∙ modeless_held name texts (fold (after name) spot (put Place text))
     ∙ ap (last_of name texts) (one (bytes_eq name text.name) refl)
   where
     one : (b : Bool) → bytes_eq name text.name ≡ b → (fold (after name) spot (put Place text)).held ≡ (if b then Some text.bytes else spot.held)
@@ -169,5 +169,5 @@ replacing_held name texts spot =
     ∙ last_is name texts spot.beside spot.held
 
 pub delivery_held : (name : List ℕ) (manner : Manner) (texts : List NamedText) (spot : Spot) → (fold (after name) spot (delivery manner texts)).held ≡ last_of name texts spot.held
-delivery_held name Plain texts spot = plain_held name texts spot
+delivery_held name InPlace texts spot = modeless_held name texts spot
 delivery_held name Replacing texts spot = replacing_held name texts spot

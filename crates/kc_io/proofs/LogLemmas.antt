@@ -3,12 +3,12 @@ use Rattle.std.proofs.Common.{◌≡◌, ℕ, zero, suc, Bool, true, false, not,
 use Rattle.std.proofs.lemmas.List.{append-nil, map-append}
 use Rattle.std.proofs.lemmas.List.Folds.{list_all-append}
 use Rattle.std.proofs.lemmas.Grind.{fold-append}
-use Rattle.kc_io.specs.Log.{Event, Journal, Log, Leads, Spot, Tells, acted, after, each_byte, failed, held, noted, with_events}
+use Rattle.kc_io.specs.Log.{Event, Journal, Log, Leads, Spot, Tells, acted, after, each_byte, failed, held, reported, with_events}
 use Rattle.kc_io.specs.Held.{keeps_files, only_looks}
 use Rattle.kc_io.specs.Reading.{contents, opening, reading}
 use Rattle.kc_io.specs.declared.device.Action.{Action}
 use Rattle.kc_io.specs.declared.device.Fault.{Fault}
-use Rattle.kc_io.specs.declared.device.Action.TheVariants.{Open, Miss, Read, Create, Write, Close, Move, Clear, Note}
+use Rattle.kc_io.specs.declared.device.Action.TheVariants.{Open, Miss, Read, Create, Write, Close, Move, Clear, Report}
 
 -- ---- what follows what
 
@@ -68,7 +68,7 @@ looks_acts (Write site) bytes spot h = cc
 looks_acts (Close site) bytes spot h = refl
 looks_acts Move bytes spot h = cc
 looks_acts Clear bytes spot h = refl
-looks_acts Note bytes spot h = refl
+looks_acts Report bytes spot h = refl
 
 pub looks_after : (name : List ℕ) (spot : Spot) (event : Event) → (is_some event.fault || only_looks event.action) ≡ true → after name spot event ≡ spot
 looks_after name spot event h = one (is_some event.fault) (bytes_eq name event.name) h
@@ -112,9 +112,9 @@ pub keeps_bytes : (action : Action) (name bytes : List ℕ) → only_looks actio
 keeps_bytes action name [] h = refl
 keeps_bytes action name (byte ∷ bytes) h = rw h (keeps_bytes action name bytes h)
 
-pub keeps_noted : (answer : Result (Unit {0}) Fault) → keeps_files (noted answer) ≡ true
-keeps_noted (Ok _) = refl
-keeps_noted (Err fault) = refl
+pub keeps_reported : (answer : Result (Unit {0}) Fault) → keeps_files (reported answer) ≡ true
+keeps_reported (Ok _) = refl
+keeps_reported (Err fault) = refl
 
 pub keeps_opening : (answer : Result Bool Fault) (name : List ℕ) → keeps_files (opening answer name) ≡ true
 keeps_opening (Ok true) name = refl

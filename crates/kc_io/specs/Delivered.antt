@@ -3,7 +3,7 @@ use Rattle.std.specs.Prelude.{◌≡◌, List, [], ◌∷◌, ◌++◌, Result, 
 use Rattle.kc_io.specs.Log.{Event, Log, Leads, Tells, did, failed}
 use Rattle.kc_io.specs.Scripts.{NamedText, chosen, delivery}
 use Rattle.kc_io.specs.declared.delivery.Manner.{Manner}
-use Rattle.kc_io.specs.declared.delivery.Manner.TheVariants.{Plain, Replacing}
+use Rattle.kc_io.specs.declared.delivery.Manner.TheVariants.{InPlace, Replacing}
 use Rattle.kc_io.specs.declared.device.Action.TheVariants.{Clear}
 use Rattle.kc_io.specs.declared.steps.Failure.{Failure}
 
@@ -30,7 +30,7 @@ pub record Went (script : List Event) (old new : Log) (result : Result (Unit {0}
 -- after a failure what stands beside places is removed
 abbrev pub cleared : Manner → Result (Unit {0}) Failure → List Event
 cleared manner (Ok _) = []
-cleared Plain (Err failure) = []
+cleared InPlace (Err failure) = []
 cleared Replacing (Err failure) = did Clear []
 
 -- The texts were delivered; or what was to be done before one event was, that one failed, and nothing stands beside a place.

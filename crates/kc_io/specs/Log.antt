@@ -2,7 +2,7 @@
 use Rattle.std.specs.Prelude.{◌≡◌, ℕ, Bool, false, not, ◌||◌, if◌then◌else◌, List, [], ◌∷◌, ◌++◌, map, fold, take, is_some, Option, None, Some, Result, Ok, Err, bytes_eq}
 use Rattle.std.specs.Option.{option_map, option_map_or}
 use Rattle.kc_io.specs.declared.device.Action.{Action}
-use Rattle.kc_io.specs.declared.device.Action.TheVariants.{Create, Write, Move, Note}
+use Rattle.kc_io.specs.declared.device.Action.TheVariants.{Create, Write, Move, Report}
 use Rattle.kc_io.specs.declared.device.Site.{Site}
 use Rattle.kc_io.specs.declared.device.Site.TheVariants.{Place, Beside}
 use Rattle.kc_io.specs.declared.device.Fault.{Fault}
@@ -36,9 +36,9 @@ wrote (Ok count) site name bytes = each_byte (Write site) name (take count bytes
 wrote (Err fault) site name bytes = failed (Write site) name fault
 
 -- diagnostics are no event, unless they fail
-abbrev pub noted : Result (Unit {0}) Fault → List Event
-noted (Ok _) = []
-noted (Err fault) = failed Note [] fault
+abbrev pub reported : Result (Unit {0}) Fault → List Event
+reported (Ok _) = []
+reported (Err fault) = failed Report [] fault
 
 abbrev pub said : Result (Unit {0}) Fault → List ℕ → List ℕ
 said (Ok _) text = text

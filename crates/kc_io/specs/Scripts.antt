@@ -6,7 +6,7 @@ use Rattle.kc_io.specs.declared.device.Action.TheVariants.{Create, Write, Close,
 use Rattle.kc_io.specs.declared.device.Site.{Site}
 use Rattle.kc_io.specs.declared.device.Site.TheVariants.{Place, Beside}
 use Rattle.kc_io.specs.declared.delivery.Manner.{Manner}
-use Rattle.kc_io.specs.declared.delivery.Manner.TheVariants.{Plain, Replacing}
+use Rattle.kc_io.specs.declared.delivery.Manner.TheVariants.{InPlace, Replacing}
 
 -- a text, and the name of the file that is to hold it
 pub record NamedText : Type 0 where
@@ -32,10 +32,10 @@ stale texts journal = filter (λ text. not (is_held journal text.name text.bytes
 
 -- The texts that are to be made: all; or those alone that their files do not hold, unless two have one name.
 abbrev pub chosen : Manner → List NamedText → Journal → List NamedText
-chosen Plain texts journal = texts
+chosen InPlace texts journal = texts
 chosen Replacing texts journal = if share_name texts then texts else stale texts journal
 
 -- They are written where they belong; or beside their places, and moved there when all are whole.
 abbrev pub delivery : Manner → List NamedText → List Event
-delivery Plain texts = flat_map (put Place) texts
+delivery InPlace texts = flat_map (put Place) texts
 delivery Replacing texts = flat_map (put Beside) texts ++ flat_map moved texts

@@ -20,7 +20,7 @@ pub struct Text<'a> {
 #[derive(Clone, Copy, Debug, PartialEq, Eq)]
 pub enum Manner {
     /// Each is written where it belongs.
-    Plain,
+    InPlace,
     /// Those that their files do not hold are written beside their places. When all are whole, each takes its place in one step.
     Replacing,
 }
@@ -51,7 +51,7 @@ fn choose<D: Device>(manner: Manner, texts: &mut Vec<Text<'_>>, device: &D)
     ensures { Tells (D.log device.now) (λ journal. map text_view texts.new.items ≡ chosen manner (map text_view texts.old.items) journal) }
 {
     match manner {
-        Manner::Plain => {}
+        Manner::InPlace => {}
         Manner::Replacing => {
             if !share_name(texts) {
                 texts.retain(|text| !device.holds(text.name, &text.bytes));
@@ -69,7 +69,7 @@ fn make<'a, D: Device>(
     ensures { Went (delivery manner (map text_view texts.now)) (D.log device.old) (D.log device.new) result }
 {
     match manner {
-        Manner::Plain => put_all(device, Site::Place, texts),
+        Manner::InPlace => put_all(device, Site::Place, texts),
         Manner::Replacing => match put_all(device, Site::Beside, texts) {
             Ok(()) => move_all(device, texts),
             Err(failure) => Err(failure),

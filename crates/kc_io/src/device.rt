@@ -1,7 +1,7 @@
 //! What a program asks of a device.
 ghost use Rattle.std.specs.Prelude.{◌≡◌, ◌<◌, ◌≤◌, [], true, length, take, IfOk, OnErr, IsTrue, if◌then◌else◌};
 ghost use Rattle.std.specs.List.{flat_map};
-ghost use Rattle.kc_io.specs.Log.{Leads, Log, Tells, did, is_held, noted, said, tried, wrote};
+ghost use Rattle.kc_io.specs.Log.{Leads, Log, Tells, did, is_held, reported, said, tried, wrote};
 ghost use Rattle.kc_io.specs.Reading.{IsFound, IsOpened, OpenFile, ReadsOn, opening, reading};
 ghost use Rattle.kc_io.specs.WholeLines.{is_whole_lines};
 
@@ -41,7 +41,7 @@ pub enum Action {
     /// Remove what stands beside places.
     Clear,
     /// Write diagnostics.
-    Note,
+    Report,
 }
 
 /// Files, by name, and diagnostics (our own).
@@ -71,9 +71,9 @@ pub trait Device {
     /// Writes whole lines to the diagnostics, all parts in one piece, however long they are (at most 65,536 bytes in one call of the system).
     ///
     /// The caller owes whole lines. On a `Fault` a beginning of them may be out. The open file stays as it is.
-    fn note(&mut self, parts: &[&[u8]]) -> Result<(), Fault>
+    fn report(&mut self, parts: &[&[u8]]) -> Result<(), Fault>
         requires { is_whole_lines (flat_map (λ part. part.now) parts.now) ≡ true }
-        ensures log { Leads (noted result) (said result (flat_map (λ part. part.now) parts.now)) (log self.old) (log self.new) }
+        ensures log { Leads (reported result) (said result (flat_map (λ part. part.now) parts.now)) (log self.old) (log self.new) }
         ensures stays { file self.new ≡ file self.old };
 
     /// Whether the file of this name is there and holds these bytes and no others.

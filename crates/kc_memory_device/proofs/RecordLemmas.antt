@@ -5,7 +5,7 @@ use Rattle.std.proofs.lemmas.List.{append-nil}
 use Rattle.std.proofs.lemmas.Grind.{flat_map-append}
 use Rattle.kc_io.specs.Log.{Event, Journal, Leads, Spot, acted, after, each_byte}
 use Rattle.kc_io.specs.declared.device.Action.{Action}
-use Rattle.kc_io.specs.declared.device.Action.TheVariants.{Open, Miss, Read, Create, Write, Close, Move, Clear, Note}
+use Rattle.kc_io.specs.declared.device.Action.TheVariants.{Open, Miss, Read, Create, Write, Close, Move, Clear, Report}
 use Rattle.kc_io.specs.declared.device.Fault.{Fault}
 use Rattle.kc_io.specs.declared.device.Site.TheVariants.{Place, Beside}
 use Rattle.kc_io.proofs.HeldLemmas.{bytes_other, bytes_own}
@@ -41,7 +41,7 @@ passed_over name (Create site) n bytes spot e = rw e refl
 passed_over name (Close site) n bytes spot e = rw e refl
 passed_over name Move n bytes spot e = rw e refl
 passed_over name Clear n bytes spot e = rw e refl
-passed_over name Note n bytes spot e = rw e refl
+passed_over name Report n bytes spot e = rw e refl
 
 pub taken : (name : List ℕ) (action : Action) (n bytes : List ℕ) (spot : Spot) → bytes_eq name n ≡ true → fold (after name) spot (done action n bytes) ≡ acted action bytes spot
 taken name (Write site) n bytes spot e = bytes_own name n site bytes spot e
@@ -54,7 +54,7 @@ taken name (Create Beside) n bytes spot e = rw e refl
 taken name (Close site) n bytes spot e = rw e refl
 taken name Move n bytes spot e = rw e refl
 taken name Clear n bytes spot e = rw e refl
-taken name Note n bytes spot e = rw e refl
+taken name Report n bytes spot e = rw e refl
 
 -- a call changes what is held only where it did not fail, at its name
 pub spot_failed : (name : List ℕ) (action : Action) (n bytes : List ℕ) (fault : Option Fault) (spot : Spot) → is_some fault ≡ true → fold (after name) spot (asked action n bytes fault) ≡ spot

@@ -4,7 +4,7 @@ use Rattle.std.specs.Option.{option_map_or}
 use Rattle.std.proofs.lemmas.Bool.Decides.{eqb_tells, nat_tests}
 use Rattle.kc_io.specs.Log.{Spot, acted, after}
 use Rattle.kc_io.specs.declared.device.Action.{Action}
-use Rattle.kc_io.specs.declared.device.Action.TheVariants.{Open, Miss, Read, Create, Write, Close, Move, Clear, Note}
+use Rattle.kc_io.specs.declared.device.Action.TheVariants.{Open, Miss, Read, Create, Write, Close, Move, Clear, Report}
 use Rattle.kc_io.specs.declared.device.Site.TheVariants.{Place, Beside}
 use Rattle.kc_memory_device.specs.Stripped.{stripped, stripped_of, to_come, Seen, seen_at, acted_seen}
 use Rattle.kc_memory_device.specs.Sights.{bytes_of}
@@ -58,7 +58,7 @@ acted_at bytes Read w spot = refl
 acted_at bytes (Close site) w spot = refl
 acted_at bytes Move w spot = refl
 acted_at bytes Clear w spot = refl
-acted_at bytes Note w spot = refl
+acted_at bytes Report w spot = refl
 
 -- nothing is to come of bytes that are there
 abbrev pub is_nil : List ℕ → Bool

@@ -18,7 +18,7 @@ pub struct MemoryDevice<'a> {
     first: &'a [(&'a str, &'a [u8])],
     records: Option<Vec<Record>>,
     said: Vec<u8>,
-    notes: u64,
+    diagnostics: u64,
     opened: Opened,
     turns: Turns,
 }
@@ -49,7 +49,7 @@ impl<'a> MemoryDevice<'a> {
             first: files,
             records: Some(Vec::new(alloc)),
             said: Vec::new(alloc),
-            notes: 0,
+            diagnostics: 0,
             opened: Opened::nothing(alloc),
             turns: Turns::new(plan),
         }
@@ -83,8 +83,8 @@ impl<'a> MemoryDevice<'a> {
     }
 
     /// How many notes were asked for.
-    pub fn notes(&self) -> u64 {
-        self.notes
+    pub fn diagnostics(&self) -> u64 {
+        self.diagnostics
     }
 
     /// How many calls were made of those that the plan counts.
@@ -198,10 +198,10 @@ impl<'a> Device for MemoryDevice<'a> {
         }
     }
 
-    fn note(&mut self, parts: &[&[u8]]) -> Result<(), Fault> {
-        self.notes = self.notes.saturating_add(1);
-        if let Some(fault) = self.turns.next(Action::Note) {
-            self.record(Action::Note, "", b"", Some(fault));
+    fn report(&mut self, parts: &[&[u8]]) -> Result<(), Fault> {
+        self.diagnostics = self.diagnostics.saturating_add(1);
+        if let Some(fault) = self.turns.next(Action::Report) {
+            self.record(Action::Report, "", b"", Some(fault));
             return Err(fault);
         }
         match say(&mut self.said, parts) {

@@ -107,7 +107,7 @@ fn act(alloc: Global, stand: &mut Stand, action: Action, bytes: &[u8]) -> Result
         | Action::Read
         | Action::Close(_)
         | Action::Clear
-        | Action::Note => {}
+        | Action::Report => {}
     }
     Ok(())
 }

@@ -58,6 +58,6 @@ pub(crate) fn seen_after<'b>(
         | Action::Read
         | Action::Close(_)
         | Action::Clear
-        | Action::Note => Sight { held, beside },
+        | Action::Report => Sight { held, beside },
     }
 }

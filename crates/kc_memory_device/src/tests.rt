@@ -52,7 +52,7 @@ fn failing(
 #[test]
 fn texts_stand_in_their_files(rt: HostRuntime) {
     for piece in [0, 1, 3, 100] {
-        for manner in [Manner::Plain, Manner::Replacing] {
+        for manner in [Manner::InPlace, Manner::Replacing] {
             let mut device = MemoryDevice::new(rt.alloc(), FIRST, Plan { piece, ..SMOOTH });
             assert!(rt; delivered(&rt, manner, &mut device) == Ok(None));
             assert!(rt; device.holds("config", b"A=y\n"));
@@ -80,9 +80,9 @@ fn each_call_fails_in_turn(rt: HostRuntime) {
     let mut number: u64 = 0;
     for action in plain {
         number = number.saturating_add(1);
-        assert!(rt; failing(&rt, Manner::Plain, number) == Ok(Some((action, Fault::Refused))));
+        assert!(rt; failing(&rt, Manner::InPlace, number) == Ok(Some((action, Fault::Refused))));
     }
-    assert!(rt; failing(&rt, Manner::Plain, 8) == Ok(None));
+    assert!(rt; failing(&rt, Manner::InPlace, 8) == Ok(None));
     assert!(rt; failing(&rt, Manner::Replacing, 8) == Ok(Some((Action::Move, Fault::Refused))));
     assert!(rt; failing(&rt, Manner::Replacing, 10) == Ok(None));
 }
@@ -106,7 +106,7 @@ fn calls_of_one_kind_are_counted(rt: HostRuntime) {
 #[test]
 fn a_write_without_room_is_refused(rt: HostRuntime) {
     let mut device = MemoryDevice::new(rt.alloc(), FIRST, Plan { room: 10, ..SMOOTH });
-    let answer = delivered(&rt, Manner::Plain, &mut device);
+    let answer = delivered(&rt, Manner::InPlace, &mut device);
     assert!(rt; answer == Ok(Some((Action::Write(Site::Place), Fault::Refused))));
     assert!(rt; device.holds("header", b"#defin"));
 }
@@ -145,15 +145,15 @@ fn a_file_is_read_in_pieces(rt: HostRuntime) {
 }
 
 #[test]
-fn notes_are_kept(rt: HostRuntime) {
+fn diagnostics_are_kept(rt: HostRuntime) {
     let plan = Plan {
-        counted: Some(Action::Note),
+        counted: Some(Action::Report),
         fail_at: 2,
         ..SMOOTH
     };
     let mut device = MemoryDevice::new(rt.alloc(), FIRST, plan);
-    assert!(rt; device.note(&[b"one ", b"line\n"]) == Ok(()));
-    assert!(rt; device.note(&[b"lost\n"]) == Err(Fault::Refused));
+    assert!(rt; device.report(&[b"one ", b"line\n"]) == Ok(()));
+    assert!(rt; device.report(&[b"lost\n"]) == Err(Fault::Refused));
     assert!(rt; device.diagnostics() == b"one line\n".as_slice());
-    assert!(rt; device.notes() == 2);
+    assert!(rt; device.diagnostics() == 2);
 }

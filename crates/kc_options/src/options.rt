@@ -4,7 +4,7 @@ ghost use Rattle.std.specs.Prelude.{◌≡◌, [], not, slice_index_or};
 ghost use Rattle.std.specs.List.{flat_map};
 ghost use Rattle.kc_options.specs.Asked.{holds_warnings, input_files, lead, may_at, target};
 
-use kc_dot::prefix::Prefix;
+use kc_config_file::prefix::Prefix;
 
 /// What is done with the texts of a run.
 #[derive(Clone, Copy, Debug, PartialEq, Eq)]

@@ -1,6 +1,6 @@
 -- Each line is a statement, or is refused for a cause.
 use Rattle.std.proofs.Common.{◌≡◌, ℕ, ◌⊎◌, Bool, true, false, List, [], ◌∷◌, ◌++◌, length, drop, codes, Option, Some, None, Result, Ok, Err, inl, inr, refl, sym, subst}
-use Rattle.kc_expr.specs.declared.expression.Kind.{Kind}
+use Rattle.kc_expr.specs.declared.expression.SymbolType.{SymbolType}
 use Rattle.kc_expr.specs.Grammar.{Terminal, Disjunction, terminals, spell_or, LongestFront, if_word}
 use Rattle.kc_expr.specs.Parsing.{Answer, Derived, NoExpression, TooManyLevels, Answers}
 use Rattle.kc_expr.proofs.OneAnswer.{one_answer_law}
@@ -121,7 +121,7 @@ config_line ts = after (word_of ts) (λ w. After (finish w (drop 1 ts)) (λ v r.
 asked_line : (make : InputPrompt Disjunction → Named) (ts : List Lexeme) → IsThere (ReadsPrompt make ts)
 asked_line make ts = after (text_of ts) (λ t. ReadsCondition (λ w. make (record { text = t; when = w })) (drop 1 ts)) (λ t. condition_line (λ w. make (record { text = t; when = w })) (drop 1 ts))
 
-type_line : (k : Kind) (ts : List Lexeme) → IsThere (ReadsType k ts)
+type_line : (k : SymbolType) (ts : List Lexeme) → IsThere (ReadsType k ts)
 type_line k [] = (Ok (TypeLine k None), inl (refl, refl))
 type_line k (t ∷ us) = let r = asked_line (λ p. TypeLine k (Some p)) (t ∷ us) in (r.0, inr ((t, us, refl), r.1))
 

@@ -10,7 +10,7 @@ use Rattle.kc_expr.specs.Names.{IsNumber, same_name, number_of, symbol, mention,
 use Rattle.std.proofs.lemmas.Bool.Decides.{nat_tests}
 use Rattle.kc_read.specs.declared.refusal.Code.TheVariants as code
 use Rattle.kc_read.specs.Lines.{cause}
-use Rattle.kc_expr.specs.Order.{added, stands_in}
+use Rattle.kc_expr.specs.DistinctSymbols.{added, stands_in}
 use Rattle.kc_expr.proofs.NamesLemmas.{extends_on, same_name-refl}
 use Rattle.kc_read.specs.Expansion.{names_match}
 use Rattle.kc_read.specs.Progress.{defined_after, defining_cause, ids_match, naming_cause, order_after, symbol_limit_cause}

@@ -2,7 +2,7 @@
 use Rattle.std.proofs.Common.{◌≡◌, ◌⊎◌, inl, inr, ℕ, zero, suc, Bool, true, false, List, [], ◌∷◌, length, drop, codes, Option, Some, None, Result, Ok, Err, refl, sym, ap, ◌∙◌, subst, append-nil, length-drop, arith}
 use Rattle.std.proofs.lemmas.List.{length-map}
 use Rattle.kc_text.specs.Lexemes.{Lexeme}
-use Rattle.kc_expr.specs.declared.expression.Kind.{Kind}
+use Rattle.kc_expr.specs.declared.expression.SymbolType.{SymbolType}
 use Rattle.kc_expr.specs.Grammar.{Disjunction, spell_or, terminals, terminal_of, if_word}
 use Rattle.kc_expr.proofs.OneTree.{unambiguous}
 use Rattle.kc_expr.proofs.LongestLemmas.{one_longest, is_expression, not_too_deep, determined}
@@ -137,7 +137,7 @@ one_config ts = one_after (word_of ts) (λ w. After (finish w (drop 1 ts)) (λ v
 one_asked : (make : InputPrompt Disjunction → Named) (ts : List Lexeme) → AtMostOne (ReadsPrompt make ts)
 one_asked make ts = one_after (text_of ts) (λ t. ReadsCondition (λ w. make (record { text = t; when = w })) (drop 1 ts)) (λ t. one_condition (λ w. make (record { text = t; when = w })) (drop 1 ts))
 
-one_type : (k : Kind) (ts : List Lexeme) → AtMostOne (ReadsType k ts)
+one_type : (k : SymbolType) (ts : List Lexeme) → AtMostOne (ReadsType k ts)
 one_type k ts r s (inl x) (inl y) = x.1 ∙ sym y.1
 one_type k ts r s (inl x) (inr y) = absurd (more_or_none ts y.0 x.0)
 one_type k ts r s (inr x) (inl y) = absurd (more_or_none ts x.0 y.0)

@@ -14,7 +14,7 @@ use Rattle.kc_expr.specs.Names.{IsNumber, same_name, mention}
 use Rattle.kc_read.specs.declared.refusal.Code.TheVariants as code
 use Rattle.kc_read.specs.declared.statement.LineFault.{LineFault}
 use Rattle.kc_read.specs.Lines.{LineContext, Cause, ReadsValue, front, syntax_cause, begins_with, operand_of, IsWhole, IsCondition, WholeFault, ConditionFault, ExpressionFault, text_of, word_of, named_target, is_pattern, is_good_name, ReadsTextLine, ReadsSource, ReadsConfig, ReadsPrompt, ReadsDepends, ReadsTarget, ReadsVisible, ReadsType, ReadsRange, ReadsRest, ReadsLine, IsMore, keyword_of, placement_cause, option_line}
-use Rattle.kc_expr.specs.declared.expression.Kind.{Kind}
+use Rattle.kc_expr.specs.declared.expression.SymbolType.{SymbolType}
 use Rattle.kc_read.specs.declared.statement.Keyword.{Keyword}
 use Rattle.kc_read.specs.Statements.{Named, InputPrompt, SourceLine, ConfigLine, DependsLine, VisibleLine, ModulesLine, IgnoredLine, TypeLine, RangeLine}
 use Rattle.kc_read.specs.declared.statement.Statement.{Statement}
@@ -121,7 +121,7 @@ option_modules ls b e = rw (b, e) refl
 pub option_ignored : (ls : List Lexeme) → begins_with (codes "modules") ls ≡ false → begins_with (codes "allnoconfig_y") ls ≡ true → drop 1 ls ≡ [] → Ok IgnoredLine ≡ option_line ls
 option_ignored ls a b e = rw (a, b, e) refl
 
-pub typed_read : (old names : List (List ℕ)) (k : Kind) (ls : List Lexeme) (r : Result Statement LineFault) → IsMore ls →
+pub typed_read : (old names : List (List ℕ)) (k : SymbolType) (ls : List Lexeme) (r : Result Statement LineFault) → IsMore ls →
     IsRead old names (ReadsPrompt (λ p. TypeLine k (Some p)) ls) r → IsRead old names (ReadsType k ls) r
 typed_read old names k ls (Ok s) m h = (h.0, inr (m, h.1), h.2)
 typed_read old names k ls (Err f) m h = λ n. inr (m, h n)

@@ -3,8 +3,8 @@ use Rattle.std.proofs.Common.{◌≡◌, inl, inr, ℕ, Bool, true, false, cond,
 use Rattle.std.proofs.lemmas.Bool.{cases_Bool}
 use Rattle.std.specs.Option.{option_or}
 use Rattle.kc_text.specs.Lexemes.{Lexeme, AWord, AQuoted, AnOp}
-use Rattle.kc_expr.specs.declared.expression.Kind.{Kind}
-use Rattle.kc_expr.specs.declared.expression.Kind.TheVariants as kind
+use Rattle.kc_expr.specs.declared.expression.SymbolType.{SymbolType}
+use Rattle.kc_expr.specs.declared.expression.SymbolType.TheVariants as symbol_type
 use Rattle.kc_expr.specs.Grammar.{Disjunction, if_word}
 use Rattle.kc_expr.specs.Names.{same_name}
 use Rattle.kc_read.specs.declared.statement.Keyword.{Keyword}
@@ -46,13 +46,13 @@ block_other w e = other_word (same_name w (codes "config")) key.Config _ refl
     (other_word (same_name w (codes "endchoice")) key.EndChoice _ refl (other_word (same_name w (codes "mainmenu")) key.MainMenu _ refl (refl)))))))))))
 
 type_other : (w : List ℕ) → is_source_key (keyword_in type_words w) ≡ false
-type_other w = other_word (same_name w (codes "bool")) (key.Type kind.Bool) _ refl
-    (other_word (same_name w (codes "tristate")) (key.Type kind.Tristate) _ refl
-    (other_word (same_name w (codes "string")) (key.Type kind.Str) _ refl
-    (other_word (same_name w (codes "int")) (key.Type kind.Int) _ refl
-    (other_word (same_name w (codes "hex")) (key.Type kind.Hex) _ refl
-    (other_word (same_name w (codes "def_bool")) (key.Def kind.Bool) _ refl
-    (other_word (same_name w (codes "def_tristate")) (key.Def kind.Tristate) _ refl (refl)))))))
+type_other w = other_word (same_name w (codes "bool")) (key.Type symbol_type.Bool) _ refl
+    (other_word (same_name w (codes "tristate")) (key.Type symbol_type.Tristate) _ refl
+    (other_word (same_name w (codes "string")) (key.Type symbol_type.Str) _ refl
+    (other_word (same_name w (codes "int")) (key.Type symbol_type.Int) _ refl
+    (other_word (same_name w (codes "hex")) (key.Type symbol_type.Hex) _ refl
+    (other_word (same_name w (codes "def_bool")) (key.Def symbol_type.Bool) _ refl
+    (other_word (same_name w (codes "def_tristate")) (key.Def symbol_type.Tristate) _ refl (refl)))))))
 
 attribute_other : (w : List ℕ) → is_source_key (keyword_in attribute_words w) ≡ false
 attribute_other w = other_word (same_name w (codes "default")) key.Default _ refl
@@ -138,7 +138,7 @@ other_good w = other_if (is_good_name w) (Ok (ConfigLine w)) (Err (record { code
 none_config : (ts : List Lexeme) → NoSource (ReadsConfig ts)
 none_config ts = none_after (word_of ts) (λ w. After (finish w (drop 1 ts)) (λ v r. r ≡ good_name v)) (λ w. none_after (finish w (drop 1 ts)) (λ v r. r ≡ good_name v) other_good)
 
-none_type : (k : Kind) (ts : List Lexeme) → NoSource (ReadsType k ts)
+none_type : (k : SymbolType) (ts : List Lexeme) → NoSource (ReadsType k ts)
 none_type k ts name (inl x) = let e : Ok (source_line name) ≡ Ok (TypeLine k None) = x.1 in cc
 none_type k ts name (inr x) = none_asked (λ p. TypeLine k (Some p)) ts (λ p n e. cc) name x.1
 

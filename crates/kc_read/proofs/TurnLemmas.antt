@@ -1,7 +1,7 @@
 -- What a line that is read asks of its context.
 use Rattle.std.proofs.Common.{◌≡◌, ℕ, Bool, true, false, ◌&&◌, ◌||◌, if◌then◌else◌, not, List, [], ◌∷◌, drop, Option, Some, None, Result, Ok, Err, refl, ap, sym, ◌∙◌, subst, inl, inr, codes}
 use Rattle.kc_text.specs.Lexemes.{Lexeme}
-use Rattle.kc_expr.specs.declared.expression.Kind.{Kind}
+use Rattle.kc_expr.specs.declared.expression.SymbolType.{SymbolType}
 use Rattle.kc_expr.specs.Grammar.{Disjunction, if_word}
 use Rattle.kc_read.specs.declared.statement.Block.{Block}
 use Rattle.kc_read.specs.declared.statement.Block.TheVariants as block
@@ -96,7 +96,7 @@ range_adds ts s r =
     after (operand_of ts) (λ a. After (operand_of (drop 1 ts)) (λ b. ReadsCondition (RangeLine a b) (drop 2 ts))) s (turn s ≡ Adds) r
     (λ a e q. after (operand_of (drop 1 ts)) (λ b. ReadsCondition (RangeLine a b) (drop 2 ts)) s (turn s ≡ Adds) q (λ b f p. condition_turns Adds (RangeLine a b) (drop 2 ts) s (λ w. refl) p))
 
-type_adds : (k : Kind) (ts : List Lexeme) (s : Named) → ReadsType k ts (Ok s) → turn s ≡ Adds
+type_adds : (k : SymbolType) (ts : List Lexeme) (s : Named) → ReadsType k ts (Ok s) → turn s ≡ Adds
 type_adds k ts s (inl e) = let same : s ≡ TypeLine k None = (let f = e.1 in cc) in ap turn same
 type_adds k ts s (inr e) = asked_turns Adds (λ p. TypeLine k (Some p)) ts s (λ p. refl) e.1
 
@@ -138,7 +138,7 @@ entry_placed : (k : EntryKind) → unless_placed (is_entry k) ≡ None → is_en
 entry_placed entry.Nothing e = absurd cc
 entry_placed _ e = refl
 
-type_placed : (k : EntryKind) (t : Kind) → type_placement k t ≡ None → is_entry k ≡ true
+type_placed : (k : EntryKind) (t : SymbolType) → type_placement k t ≡ None → is_entry k ≡ true
 type_placed entry.Config t e = refl
 type_placed entry.Choice t e = refl
 type_placed entry.Menu t e = refl

@@ -5,8 +5,8 @@ use Rattle.std.specs.Map.{lookup}
 use Rattle.kc_text.specs.Bytes.{byte}
 use Rattle.kc_text.specs.Lexemes.{Lexeme, AWord, AQuoted, AnOp}
 use Rattle.kc_text.specs.Escapes.{unescape}
-use Rattle.kc_expr.specs.declared.expression.Kind.{Kind}
-use Rattle.kc_expr.specs.declared.expression.Kind.TheVariants as kind
+use Rattle.kc_expr.specs.declared.expression.SymbolType.{SymbolType}
+use Rattle.kc_expr.specs.declared.expression.SymbolType.TheVariants as symbol_type
 use Rattle.kc_expr.specs.Grammar.{Disjunction, Atom, WordAtom, QuotedAtom, spell_or, levels_or, terminals, LongestFront, if_word, is_tristate_constant}
 use Rattle.kc_expr.specs.Limits.{longest_name, most_levels}
 use Rattle.kc_expr.specs.Names.{is_name_byte, same_name}
@@ -75,13 +75,13 @@ block_words =
 -- of types
 abbrev pub type_words : List (List ℕ × Keyword)
 type_words =
-    (codes "bool", key.Type kind.Bool) ∷
-    (codes "tristate", key.Type kind.Tristate) ∷
-    (codes "string", key.Type kind.Str) ∷
-    (codes "int", key.Type kind.Int) ∷
-    (codes "hex", key.Type kind.Hex) ∷
-    (codes "def_bool", key.Def kind.Bool) ∷
-    (codes "def_tristate", key.Def kind.Tristate) ∷
+    (codes "bool", key.Type symbol_type.Bool) ∷
+    (codes "tristate", key.Type symbol_type.Tristate) ∷
+    (codes "string", key.Type symbol_type.Str) ∷
+    (codes "int", key.Type symbol_type.Int) ∷
+    (codes "hex", key.Type symbol_type.Hex) ∷
+    (codes "def_bool", key.Def symbol_type.Bool) ∷
+    (codes "def_tristate", key.Def symbol_type.Tristate) ∷
     []
 
 -- of attributes
@@ -170,10 +170,10 @@ is_entry entry.Menu = true
 is_entry entry.Comment = true
 is_entry entry.Nothing = false
 
-abbrev pub type_placement : EntryKind → Kind → Option Cause
+abbrev pub type_placement : EntryKind → SymbolType → Option Cause
 type_placement entry.Config k = None
-type_placement entry.Choice kind.Bool = None
-type_placement entry.Choice kind.Tristate = Some (left_out (codes "tristate choice"))
+type_placement entry.Choice symbol_type.Bool = None
+type_placement entry.Choice symbol_type.Tristate = Some (left_out (codes "tristate choice"))
 type_placement e k = Some misplaced_cause
 
 -- the next token is this word
@@ -327,7 +327,7 @@ choice_line (t ∷ ts) = Err (left_out (codes "named choice"))
 abbrev pub ReadsPrompt : (InputPrompt Disjunction → Named) → List Lexeme → Result Named Cause → Type 0
 ReadsPrompt make ts = After (text_of ts) (λ t. ReadsCondition (λ w. make (record { text = t; when = w })) (drop 1 ts))
 
-abbrev pub ReadsType : Kind → List Lexeme → Result Named Cause → Type 0
+abbrev pub ReadsType : SymbolType → List Lexeme → Result Named Cause → Type 0
 ReadsType k ts r = ((ts ≡ []) × (r ≡ Ok (TypeLine k None))) ⊎ (IsMore ts × ReadsPrompt (λ p. TypeLine k (Some p)) ts r)
 
 -- a value, and then a condition

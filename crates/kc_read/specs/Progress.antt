@@ -10,7 +10,7 @@ use Rattle.kc_read.specs.Limits.{most_blocks, most_files, most_lines}
 use Rattle.kc_text.specs.Lines.{UnreadLines}
 use Rattle.kc_expr.specs.declared.expression.SymId.{SymId}
 use Rattle.kc_expr.specs.Names.{all_mentioned, mention, same_symbol}
-use Rattle.kc_expr.specs.Order.{added}
+use Rattle.kc_expr.specs.DistinctSymbols.{added}
 use Rattle.kc_read.specs.declared.frame.Frame.{Frame}
 use Rattle.kc_read.specs.declared.progress.Progress.{Progress}
 use Rattle.kc_read.specs.declared.refusal.Code.TheVariants as code

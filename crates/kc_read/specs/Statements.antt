@@ -1,7 +1,7 @@
 -- Trusted: The statements of a Kconfig file.
 use Rattle.std.specs.Prelude.{ℕ, true, false, List, [], ◌∷◌, ◌++◌, Option, Some, None, map, option_map}
 use Rattle.kc_expr.specs.declared.expression.SymId.{SymId}
-use Rattle.kc_expr.specs.declared.expression.Kind.{Kind}
+use Rattle.kc_expr.specs.declared.expression.SymbolType.{SymbolType}
 use Rattle.kc_expr.specs.Form.{Form, Leaf}
 use Rattle.kc_expr.specs.Grammar.{Disjunction, Atom, meaning_or, leaf, names_in, names_in_atom}
 use Rattle.kc_expr.specs.Names.{symbol}
@@ -23,10 +23,10 @@ pub data Statement (E L S : Type 0) : Type 0 where
   ChoiceLine : Statement E L S
   EndChoiceLine : Statement E L S
   MainMenuLine : List ℕ → Statement E L S
-  TypeLine : Kind → Option (InputPrompt E) → Statement E L S
+  TypeLine : SymbolType → Option (InputPrompt E) → Statement E L S
   PromptLine : InputPrompt E → Statement E L S
   DefaultLine : E → Option E → Statement E L S
-  DefLine : Kind → E → Option E → Statement E L S
+  DefLine : SymbolType → E → Option E → Statement E L S
   DependsLine : E → Statement E L S
   VisibleLine : E → Statement E L S
   SelectLine : S → Option E → Statement E L S

@@ -18,9 +18,9 @@ use crate::progress::Progress;
 use crate::refusal::Refusal;
 use crate::refuse::refuse;
 use crate::statement::{EntryKind, LineFault};
+use kc_expr::distinct_symbols::DistinctSymbols;
 use kc_expr::expression::SymId;
 use kc_expr::names::Names;
-use kc_expr::order::SymbolOrder;
 use std::alloc::Global;
 use std::rc::Rc;
 
@@ -30,7 +30,7 @@ use std::rc::Rc;
 #[derive(Drop)]
 pub struct Expansion {
     pub entries: Entries,
-    pub defined: SymbolOrder,
+    pub defined: DistinctSymbols,
     pub modules: Option<SymId>,
     pub opened: Names,
 }
@@ -63,7 +63,7 @@ fn begin(
     let progress = Progress {
         entries: Entries::new(alloc),
         total_lines,
-        defined: SymbolOrder::new(alloc),
+        defined: DistinctSymbols::new(alloc),
         config: None,
         modules: None,
         opened,

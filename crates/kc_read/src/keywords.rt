@@ -5,7 +5,7 @@ ghost use Rattle.kc_expr.specs.Names.{same_name};
 ghost use Rattle.kc_read.specs.Lines as spec;
 
 use crate::statement::Keyword;
-use kc_expr::expression::Kind;
+use kc_expr::expression::SymbolType;
 
 /// Whether two words are the same. Their lengths are compared first: most words differ in them.
 #[inline(always)]
@@ -51,19 +51,19 @@ fn type_word(word: &[u8]) -> Option<Keyword>
     ensures { result ≡ spec.keyword_in spec.type_words word.now }
 {
     if same_word(word, b"bool") {
-        Some(Keyword::Type(Kind::Bool))
+        Some(Keyword::Type(SymbolType::Bool))
     } else if same_word(word, b"tristate") {
-        Some(Keyword::Type(Kind::Tristate))
+        Some(Keyword::Type(SymbolType::Tristate))
     } else if same_word(word, b"string") {
-        Some(Keyword::Type(Kind::Str))
+        Some(Keyword::Type(SymbolType::Str))
     } else if same_word(word, b"int") {
-        Some(Keyword::Type(Kind::Int))
+        Some(Keyword::Type(SymbolType::Int))
     } else if same_word(word, b"hex") {
-        Some(Keyword::Type(Kind::Hex))
+        Some(Keyword::Type(SymbolType::Hex))
     } else if same_word(word, b"def_bool") {
-        Some(Keyword::Def(Kind::Bool))
+        Some(Keyword::Def(SymbolType::Bool))
     } else if same_word(word, b"def_tristate") {
-        Some(Keyword::Def(Kind::Tristate))
+        Some(Keyword::Def(SymbolType::Tristate))
     } else {
         None
     }

@@ -11,7 +11,7 @@ use crate::line_parts::begins_with;
 use crate::progress::Progress;
 use crate::refusal::Code;
 use crate::statement::{Block, EntryKind, Keyword, LineFault};
-use kc_expr::expression::Kind;
+use kc_expr::expression::SymbolType;
 use kc_text::Token;
 
 /// What is wrong with the placement of a line.
@@ -30,7 +30,7 @@ pub(crate) fn placement_fault<'a>(
         Keyword::EndMenu => closing_fault(Block::Menu, frame.own_block()),
         Keyword::EndChoice => closing_fault(Block::Choice, frame.own_block()),
         Keyword::Menu | Keyword::Choice | Keyword::MainMenu => unless_placed(!frame.is_in_choice()),
-        Keyword::Type(kind) => type_placement(frame.entry, kind),
+        Keyword::Type(symbol_type) => type_placement(frame.entry, symbol_type),
         Keyword::Prompt | Keyword::Default | Keyword::Help => unless_placed(matches!(
             frame.entry,
             EntryKind::Config | EntryKind::Choice
@@ -94,13 +94,13 @@ fn closing_fault<'a>(block: Block, own: Option<Block>) -> Option<LineFault<'a>>
 }
 
 // A type may stand in a config, and in a choice bool alone.
-fn type_placement<'a>(entry: EntryKind, kind: Kind) -> Option<LineFault<'a>>
-    ensures { option_map cause_of result ≡ spec.type_placement entry kind }
+fn type_placement<'a>(entry: EntryKind, symbol_type: SymbolType) -> Option<LineFault<'a>>
+    ensures { option_map cause_of result ≡ spec.type_placement entry symbol_type }
 {
-    match (entry, kind) {
+    match (entry, symbol_type) {
         (EntryKind::Config, _) => None,
-        (EntryKind::Choice, Kind::Bool) => None,
-        (EntryKind::Choice, Kind::Tristate) => Some(left_out(b"tristate choice")),
+        (EntryKind::Choice, SymbolType::Bool) => None,
+        (EntryKind::Choice, SymbolType::Tristate) => Some(left_out(b"tristate choice")),
         _ => unless_placed(false),
     }
 }

@@ -2,7 +2,7 @@
 
 ghost use Rattle.std.specs.Prelude.{◌≡◌, IfErr, OnOk, None, Some};
 ghost use Rattle.std.specs.Option.{option_or};
-ghost use Rattle.kc_expr.specs.Order.{added};
+ghost use Rattle.kc_expr.specs.DistinctSymbols.{added};
 ghost use Rattle.kc_read.specs.Progress.{defining_cause, ids_match, HasSymbolsWithin, IsRemembered, symbol_limit_cause, KeepsWhenDefining, KeepsWhenMarking};
 ghost use Rattle.kc_read.specs.StatementViews.{attribute_view, head_view};
 ghost use Rattle.kc_read.specs.LineReads.{IsFault};
@@ -11,9 +11,9 @@ ghost use Rattle.kc_read.specs.Blocks.{defined_name};
 use crate::entries::Entries;
 use crate::refusal::Code;
 use crate::statement::{Attribute, Head, LineFault};
+use kc_expr::distinct_symbols::DistinctSymbols;
 use kc_expr::expression::SymId;
 use kc_expr::names::Names;
-use kc_expr::order::SymbolOrder;
 use std::rc::Rc;
 
 // The most symbols that may be defined.
@@ -26,7 +26,7 @@ const MOST_SYMBOLS: usize = 65535;
 pub(crate) struct Progress {
     pub entries: Entries,
     pub total_lines: usize,
-    pub defined: SymbolOrder,
+    pub defined: DistinctSymbols,
     pub config: Option<SymId>,
     pub modules: Option<SymId>,
     pub opened: Names,

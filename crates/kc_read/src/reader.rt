@@ -19,7 +19,7 @@ use crate::placement::{left_out, placement_fault};
 use crate::progress::Progress;
 use crate::refusal::Code;
 use crate::statement::{Attribute, Bounds, Head, Keyword, LineFault, Prompt, Statement};
-use kc_expr::expression::{Kind, SymId};
+use kc_expr::expression::{SymId, SymbolType};
 use kc_expr::names::Names;
 use kc_text::Token;
 use std::alloc::Global;
@@ -250,45 +250,45 @@ fn visible_line<'a>(
 fn def_line<'a>(
     alloc: Global,
     tokens: &[Token<'a>],
-    kind: Kind,
+    symbol_type: SymbolType,
     names: &mut Names,
 ) -> Result<Statement, LineFault<'a>>
     requires { 1 ≤ length tokens.now }
-    ensures read { IsRead names.old names.new (ReadsValue (DefLine kind) (lexemes_from tokens.now 1)) result }
+    ensures read { IsRead names.old names.new (ReadsValue (DefLine symbol_type) (lexemes_from tokens.now 1)) result }
     ensures names { Extends names.old names.new }
 {
     let (value, after) = front(alloc, tokens, 1, false, names)?;
     let when = condition(alloc, tokens, after, names)?;
-    Ok(Statement::Attribute(Attribute::Def(kind, Rc::new(alloc, value)?, when)))
+    Ok(Statement::Attribute(Attribute::Def(symbol_type, Rc::new(alloc, value)?, when)))
 }
 
 fn prompted_type<'a>(
     alloc: Global,
     tokens: &[Token<'a>],
-    kind: Kind,
+    symbol_type: SymbolType,
     names: &mut Names,
 ) -> Result<Statement, LineFault<'a>>
-    ensures read { IsRead names.old names.new (ReadsPrompt (λ p. TypeLine kind (Some p)) (lexemes_from tokens.now 1)) result }
+    ensures read { IsRead names.old names.new (ReadsPrompt (λ p. TypeLine symbol_type (Some p)) (lexemes_from tokens.now 1)) result }
     ensures names { Extends names.old names.new }
 {
     // The text is not kept.
     raw_text(tokens, 1)?;
     let when = condition(alloc, tokens, 2, names)?;
-    Ok(Statement::Attribute(Attribute::Type(kind, Some(Prompt { when }))))
+    Ok(Statement::Attribute(Attribute::Type(symbol_type, Some(Prompt { when }))))
 }
 
 fn type_line<'a>(
     alloc: Global,
     tokens: &[Token<'a>],
-    kind: Kind,
+    symbol_type: SymbolType,
     names: &mut Names,
 ) -> Result<Statement, LineFault<'a>>
-    ensures read { IsRead names.old names.new (ReadsType kind (lexemes_from tokens.now 1)) result }
+    ensures read { IsRead names.old names.new (ReadsType symbol_type (lexemes_from tokens.now 1)) result }
     ensures names { Extends names.old names.new }
 {
     match next(tokens, 1) {
-        Some(_) => prompted_type(alloc, tokens, kind, names),
-        None => Ok(Statement::Attribute(Attribute::Type(kind, None))),
+        Some(_) => prompted_type(alloc, tokens, symbol_type, names),
+        None => Ok(Statement::Attribute(Attribute::Type(symbol_type, None))),
     }
 }
 
@@ -315,10 +315,10 @@ fn rest_of_line<'a>(
         Keyword::Choice => choice_line(tokens),
         Keyword::EndChoice => end_line(tokens, Statement::Head(Head::EndChoice)),
         Keyword::MainMenu => main_menu_line(alloc, tokens),
-        Keyword::Type(kind) => type_line(alloc, tokens, kind, names),
+        Keyword::Type(symbol_type) => type_line(alloc, tokens, symbol_type, names),
         Keyword::Prompt => prompt_line(alloc, tokens, names),
         Keyword::Default => default_line(alloc, tokens, names),
-        Keyword::Def(kind) => def_line(alloc, tokens, kind, names),
+        Keyword::Def(symbol_type) => def_line(alloc, tokens, symbol_type, names),
         Keyword::Depends => depends_line(alloc, tokens, names),
         Keyword::Visible => visible_line(alloc, tokens, names),
         Keyword::Select => select_line(alloc, tokens, names),

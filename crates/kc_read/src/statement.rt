@@ -4,7 +4,7 @@ ghost use Rattle.std.specs.Prelude.{◌≡◌};
 ghost use Rattle.kc_read.specs.declared.refusal.Code.TheVariants.{Memory};
 
 use crate::refusal::Code;
-use kc_expr::expression::{Expr, Kind, Operand, SymId};
+use kc_expr::expression::{Expr, Operand, SymId, SymbolType};
 use std::alloc::{AllocError, AllocFailed};
 use std::rc::Rc;
 
@@ -42,10 +42,10 @@ pub enum Head {
 /// are apart, so that a list of lines stays small; a condition is shared with what is made of the line.
 #[derive(Debug, Drop)]
 pub enum Attribute {
-    Type(Kind, Option<Prompt>),
+    Type(SymbolType, Option<Prompt>),
     Prompt(Prompt),
     Default(Rc<Expr>, Option<Rc<Expr>>),
-    Def(Kind, Rc<Expr>, Option<Rc<Expr>>),
+    Def(SymbolType, Rc<Expr>, Option<Rc<Expr>>),
     Depends(Rc<Expr>),
     Visible(Rc<Expr>),
     Select(SymId, Option<Rc<Expr>>),
@@ -77,10 +77,10 @@ pub enum Keyword {
     Choice,
     EndChoice,
     MainMenu,
-    Type(Kind),
+    Type(SymbolType),
     Prompt,
     Default,
-    Def(Kind),
+    Def(SymbolType),
     Depends,
     Visible,
     Select,

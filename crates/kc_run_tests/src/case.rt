@@ -36,7 +36,7 @@ pub(crate) struct Case {
     /// The diagnostics.
     pub diagnostics: Text,
     /// In how many calls they are written, where that is looked at.
-    pub notes: Option<u64>,
+    pub diagnostics: Option<u64>,
     /// Whether the `.config` that is written is written again by a run on it.
     pub is_stable: bool,
 }
@@ -56,7 +56,7 @@ pub(crate) const PLAIN_CASE: Case = Case {
     config: None,
     minimal: None,
     diagnostics: EMPTY,
-    notes: None,
+    diagnostics: None,
     is_stable: false,
 };
 
@@ -113,7 +113,7 @@ fn has_left(device: &MemoryDevice<'_>, case: &Case, texts: &Texts) -> bool {
         && !is_made(device, "out.h")
         && device.diagnostics() == texts.diagnostics.as_bytes()
         && (case.calls.is_none() || case.calls == Some(device.calls()))
-        && (case.notes.is_none() || case.notes == Some(device.notes()))
+        && (case.diagnostics.is_none() || case.diagnostics == Some(device.diagnostics()))
 }
 
 // Whether the run leaves what the case says, where the first piece of the `.config` has so many bytes.

@@ -89,11 +89,11 @@ const CASES: &[Case] = &[
         name: "nothing is reported if the diagnostics fail too",
         arguments: "--config none --must-exist Kconfig",
         plan: Plan {
-            counted: Some(Action::Note),
+            counted: Some(Action::Report),
             fail_at: 1,
             ..SMALL
         },
-        notes: Some(1),
+        diagnostics: Some(1),
         ..STRUCK
     },
 ];

@@ -44,7 +44,7 @@ fn is_same(record: &Record, other: &Record) -> bool {
 // How the error line of a call that failed begins; the name of its file stands behind it where the flag says so.
 fn line_of(action: Action, fault: Fault) -> (&'static [u8], bool) {
     match (action, fault) {
-        (Action::Note, _) => (b"", false),
+        (Action::Report, _) => (b"", false),
         (_, Fault::Memory) => (b"error E20: out of memory\n", false),
         (Action::Open | Action::Read, _) => (b"error E18: cannot read ", true),
         _ => (b"error E19: cannot write ", true),
@@ -110,7 +110,7 @@ fn is_struck(
         return false;
     };
     failed.fault == Some(fault)
-        && (failed.action == Action::Note || is_next(failed, &all[count.min(all.len())..]))
+        && (failed.action == Action::Report || is_next(failed, &all[count.min(all.len())..]))
         && whole.diagnostics().starts_with(said)
         && (!comes_last(failed.action) || said == whole.diagnostics())
         && is_end(failed, behind, replaces)

@@ -19,7 +19,7 @@ use Rattle.kc_values.proofs.SameValue.{same_value_itself}
 use Rattle.kc_values.proofs.Uncounted.{uncounted}
 use Rattle.kc_values.specs.Differs.{same_value, selection, default_selection, differs, differs_at}
 use Rattle.kc_tree.specs.Common.{is_symbol_of}
-use Rattle.kc_values.specs.Values.{selected, equation, by_choice, by_kind, is_n, visibility}
+use Rattle.kc_values.specs.Values.{selected, equation, by_choice, by_type, is_n, visibility}
 use Rattle.kc_values.specs.WrittenSymbols.{written}
 use Rattle.kc_values.specs.declared.table.Value.{Value}
 use Rattle.kc_solve.specs.Answers.{visibility_by}
@@ -112,5 +112,5 @@ module _ (tree : TreeFacts) (known : SymId → SymbolValue) (s : SymId) (f : Sym
   pub does_not_differ : (c : Option ℕ) → c ≡ None → IsSolvedOwn tree known s f c own → false ≡ differs_by tree known s f c selections defaults
   does_not_differ (Some c) e solved = cc
   does_not_differ None e solved =
-      let same : known s ≡ by_kind tree known s f f.kind None = solved ∙ uncounted tree known s f f.kind own nothing in
+      let same : known s ≡ by_type tree known s f f.symbol_type None = solved ∙ uncounted tree known s f f.symbol_type own nothing in
       sym (ap (λ x. not (same_value (known s) x)) (sym same) ∙ ap not (same_value_itself (known s)))

@@ -6,8 +6,8 @@ use Rattle.std.proofs.lemmas.List.Elements.{All-map}
 use Rattle.std.proofs.lemmas.Option.{slice_get_cases}
 use Rattle.kc_expr.specs.Names.{symbol}
 use Rattle.kc_expr.specs.declared.expression.SymId.{SymId}
-use Rattle.kc_expr.specs.declared.expression.Kind.{Kind}
-use Rattle.kc_expr.specs.declared.expression.Kind.TheVariants.{Undefined}
+use Rattle.kc_expr.specs.declared.expression.SymbolType.{SymbolType}
+use Rattle.kc_expr.specs.declared.expression.SymbolType.TheVariants.{Undefined}
 use Rattle.kc_order.specs.Graph.{Nodes}
 use Rattle.kc_order.specs.Needs.{needs_in}
 use Rattle.kc_tree.specs.Contexts.{mode_view}
@@ -34,10 +34,10 @@ module _ (tree : TreeFacts) (formed : IsWellFormed tree) (l : Layout) (laid : Is
       (All-map (λ s. s < length l.symbols.items) (λ (s : SymId). s.0) l.defined.items rows_there)
 
   -- a symbol whose row in the graph holds something is defined
-  no_row : (i : ℕ) (s : Symbol) → s.choice ≡ None → s.kind ≡ Undefined → rows.symbol_row tree l i (Some s) ≡ []
+  no_row : (i : ℕ) (s : Symbol) → s.choice ≡ None → s.symbol_type ≡ Undefined → rows.symbol_row tree l i (Some s) ≡ []
   no_row i s none u =
-      ap (λ (o : Option ChoiceId). rows.nodes_by_choice l i s o ++ rows.numbers l (cond (is_some o) [] (rows.names_by_kind tree l i s s.kind))) none
-      ∙ ap (λ (k : Kind). rows.nodes_by_kind l i s k ++ rows.numbers l (rows.names_by_kind tree l i s k)) u
+      ap (λ (o : Option ChoiceId). rows.nodes_by_choice l i s o ++ rows.numbers l (cond (is_some o) [] (rows.names_by_type tree l i s s.symbol_type))) none
+      ∙ ap (λ (k : SymbolType). rows.nodes_by_type l i s k ++ rows.numbers l (rows.names_by_type tree l i s k)) u
 
   choice_none : (o : Option ChoiceId) → mode_view o ≡ None → o ≡ None
   choice_none None e = refl

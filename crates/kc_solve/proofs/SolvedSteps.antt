@@ -7,19 +7,19 @@ use Rattle.std.proofs.lemmas.List.{get_or_past}
 use Rattle.std.proofs.lemmas.List.FromFn.{get_or-map-range_with_len, length-map-range_with_len}
 use Rattle.std.proofs.lemmas.Option.{slice_get_past}
 use Rattle.kc_expr.specs.Names.{symbol}
-use Rattle.kc_expr.specs.Value.{SymbolValue, TextValue, value_by_kind, truth_of_value, text_of_value}
+use Rattle.kc_expr.specs.Value.{SymbolValue, TextValue, value_by_type, truth_of_value, text_of_value}
 use Rattle.kc_expr.specs.declared.expression.SymId.{SymId}
 use Rattle.kc_expr.specs.declared.expression.Tri.{Tri}
 use Rattle.kc_expr.specs.declared.expression.Tri.TheVariants.{N}
-use Rattle.kc_expr.specs.declared.expression.Kind.{Kind}
-use Rattle.kc_expr.specs.declared.expression.Kind.TheVariants.{Undefined, Bool as IsBool, Tristate, Str, Int, Hex}
+use Rattle.kc_expr.specs.declared.expression.SymbolType.{SymbolType}
+use Rattle.kc_expr.specs.declared.expression.SymbolType.TheVariants.{Undefined, Bool as IsBool, Tristate, Str, Int, Hex}
 use Rattle.kc_order.specs.Solution.{Solves, IsOnlySolution}
 use Rattle.kc_tree.specs.TreeFacts.{SymbolFacts, TreeFacts, IsWellFormed}
 use Rattle.kc_user.specs.GivenValue.{GivenValue, UserPlace, SymbolPlace, ChoicePlace}
 use Rattle.kc_user.specs.Places.{Places, place_at}
 use Rattle.kc_values.specs.Differs.{differs, differs_at, same_value, selection, default_selection}
 use Rattle.kc_values.specs.Laws.{MinimalRestores, MinimalHasNothingToSpare, IdempotentWhere as Law}
-use Rattle.kc_values.specs.Lookups.{choice_at, is_mentioned, facts, name, kind_in}
+use Rattle.kc_values.specs.Lookups.{choice_at, is_mentioned, facts, name, type_in}
 use Rattle.kc_values.specs.Solution.{equations, rhs, known_from, user_place, name_count}
 use Rattle.kc_values.specs.Table.{value_in, tri_in, text_in}
 use Rattle.kc_tree.specs.Common.{is_symbol_of}
@@ -36,7 +36,7 @@ use Rattle.kc_solve.specs.SolvedLaws.{IsMinimal, IdempotentWhere}
 use Rattle.kc_solve.specs.Answers.{TellsKnown}
 
 -- what is known, by its type, truth value and text
-shape : (k : Kind) (t : Tri) (x : List ℕ) → value_by_kind k (truth_of_value (value_by_kind k t x)) (text_of_value (value_by_kind k t x)) ≡ value_by_kind k t x
+shape : (k : SymbolType) (t : Tri) (x : List ℕ) → value_by_type k (truth_of_value (value_by_type k t x)) (text_of_value (value_by_type k t x)) ≡ value_by_type k t x
 shape Undefined t x = refl
 shape IsBool t x = refl
 shape Tristate t x = refl
@@ -89,8 +89,8 @@ module _ (tree : TreeFacts) (places : Places) (values : List (Option Value)) whe
   -- these three tell what is known
   tells : length values ≡ name_count tree → TellsKnown (solution_in tree places values)
   tells full id =
-      subst (λ (k : SymId → SymbolValue). value_by_kind (kind_in (facts tree id)) (truth_of_value (k id)) (text_of_value (k id)) ≡ k id) (table_tells full)
-      (shape (kind_in (facts tree id)) (tri_in (value_in values id)) (text_in (value_in values id) (name tree id)))
+      subst (λ (k : SymId → SymbolValue). value_by_type (type_in (facts tree id)) (truth_of_value (k id)) (text_of_value (k id)) ≡ k id) (table_tells full)
+      (shape (type_in (facts tree id)) (tri_in (value_in values id)) (text_in (value_in values id) (name tree id)))
 
   -- one thing that the table tells of a symbol, and what it says at a solution that is this one
   pub told : {X : Type 0} (full : length values ≡ name_count tree) (s : Solution) (e : solution_in tree places values ≡ s) (f : TreeFacts → (SymId → SymbolValue) → X) (x : X) →

@@ -14,13 +14,13 @@ use Rattle.std.proofs.lemmas.List.Elements.{All-get_or}
 use Rattle.std.proofs.lemmas.Option.{slice_get_past, slice_get_within}
 use base.Stored.{Coded-set}
 use Rattle.kc_expr.specs.Names.{symbol}
-use Rattle.kc_expr.specs.Value.{SymbolValue, Truth, TextValue, value_by_kind}
-use Rattle.kc_expr.specs.contracts.expression.Kind as kind_row
+use Rattle.kc_expr.specs.Value.{SymbolValue, Truth, TextValue, value_by_type}
+use Rattle.kc_expr.specs.contracts.expression.SymbolType as type_row
 use Rattle.kc_expr.specs.contracts.expression.SymId as sym_row
 use Rattle.kc_expr.specs.declared.expression.SymId.{SymId}
 use Rattle.kc_expr.specs.declared.expression.Tri.{Tri}
-use Rattle.kc_expr.specs.declared.expression.Kind.{Kind}
-use Rattle.kc_expr.specs.declared.expression.Kind.TheVariants.{Undefined, Bool as IsBool, Tristate, Str, Int, Hex}
+use Rattle.kc_expr.specs.declared.expression.SymbolType.{SymbolType}
+use Rattle.kc_expr.specs.declared.expression.SymbolType.TheVariants.{Undefined, Bool as IsBool, Tristate, Str, Int, Hex}
 use Rattle.kc_expr.proofs.AgreeLemmas.{depends_on_symbols}
 use Rattle.kc_order.specs.Solution.{IsUpdate}
 use Rattle.kc_tree.specs.Contexts.{mode_view}
@@ -33,13 +33,13 @@ use Rattle.kc_tree.proofs.TreeLemmas.{symbols-length, symbols-at}
 use Rattle.kc_user.specs.GivenValue.{GivenValue, SymbolPlace}
 use Rattle.kc_user.specs.declared.value.UserValue.{UserValue}
 use Rattle.kc_values.specs.TableFacts.{IsRowOf, known_at}
-use Rattle.kc_values.specs.Lookups.{is_mentioned, facts, name, kind_in}
+use Rattle.kc_values.specs.Lookups.{is_mentioned, facts, name, type_in}
 use Rattle.kc_values.specs.Needs.{names_of}
 use Rattle.kc_values.specs.Selections.{given_for}
 use Rattle.kc_values.specs.Solution.{user_place_by, user_place_of, name_count, known_from, user_place, equations}
 use Rattle.kc_values.specs.Table.{value_in, tri_in, text_in, known_value, known_in}
 use Rattle.kc_values.specs.User.{given_in}
-use Rattle.kc_values.specs.Values.{equation, by_choice, by_kind}
+use Rattle.kc_values.specs.Values.{equation, by_choice, by_type}
 use Rattle.kc_values.specs.declared.table.Table.{Table}
 use Rattle.kc_values.specs.declared.table.Value.{Value}
 use Rattle.kc_values.specs.declared.table.Value.TheVariants as value
@@ -76,8 +76,8 @@ defined_below t ids i e l =
     (All-get_or (IsMentioned t.tree.now) ids i (symbol 0) l (subst (All (IsMentioned t.tree.now)) (sym (e ∙ defined_are t)) formed.defined_there)))
 
 -- a member is a bool
-pub member_kind : (t : Table) (s : SymId) (f : SymbolFacts) (c : ℕ) → facts t.tree.now s ≡ Some f → f.choice ≡ Some c → f.kind ≡ IsBool
-member_kind t s f c e h = ∥∥₁_elim t.formed (Coded-set kind_row.the_row.coded _ _) (λ formed. members_are_bools t.tree.now formed s f c e h)
+pub type_of_member : (t : Table) (s : SymId) (f : SymbolFacts) (c : ℕ) → facts t.tree.now s ≡ Some f → f.choice ≡ Some c → f.symbol_type ≡ IsBool
+type_of_member t s f c e h = ∥∥₁_elim t.formed (Coded-set type_row.the_row.coded _ _) (λ formed. members_are_bools t.tree.now formed s f c e h)
 
 -- what is found of a symbol in a table is what is known of it
 pub known_seen : (tree : TreeFacts) (values : List (Option Value)) → length values ≡ name_count tree → (s : SymId) → known_in tree values s ≡ known_from tree (valuation tree values) s
@@ -88,28 +88,28 @@ known_seen tree values l s =
           let past : name_count tree ≤ s.0 = ltb-false s.0 (name_count tree) f in
           let no_facts = slice_get_past tree.symbols s.0 past in
           let no_value = get_or_past values s.0 None (omega arith) in
-          ap (λ o. value_by_kind (kind_in o) (tri_in (value_in values s)) (text_in (value_in values s) (name tree s))) no_facts
+          ap (λ o. value_by_type (type_in o) (tri_in (value_in values s)) (text_in (value_in values s) (name tree s))) no_facts
           ∙ ap (λ o. TextValue Undefined (text_in o (name tree s))) no_value
           ∙ sym (ap (λ b. cond b (known_in tree values s) (TextValue Undefined (name tree s))) f)
     ]
 
 -- a value that an equation gives has the shape of its kind
-shaped_by_kind : (tree : TreeFacts) (known : SymId → SymbolValue) (s : SymId) (f : SymbolFacts) (user : Option GivenValue) (n : List ℕ) (kind : Kind) (x : Value) →
-    known_value kind x ≡ by_kind tree known s f kind user → value_by_kind kind (tri_in (Some x)) (text_in (Some x) n) ≡ known_value kind x
-shaped_by_kind tree known s f user n Undefined (value.Truth t) e = cc
-shaped_by_kind tree known s f user n Undefined (value.Text v) e = refl
-shaped_by_kind tree known s f user n IsBool (value.Truth t) e = refl
-shaped_by_kind tree known s f user n IsBool (value.Text v) e = cc
-shaped_by_kind tree known s f user n Tristate (value.Truth t) e = refl
-shaped_by_kind tree known s f user n Tristate (value.Text v) e = cc
-shaped_by_kind tree known s f user n Str (value.Truth t) e = cc
-shaped_by_kind tree known s f user n Str (value.Text v) e = refl
-shaped_by_kind tree known s f user n Int (value.Truth t) e = cc
-shaped_by_kind tree known s f user n Int (value.Text v) e = refl
-shaped_by_kind tree known s f user n Hex (value.Truth t) e = cc
-shaped_by_kind tree known s f user n Hex (value.Text v) e = refl
+shaped_by_type : (tree : TreeFacts) (known : SymId → SymbolValue) (s : SymId) (f : SymbolFacts) (user : Option GivenValue) (n : List ℕ) (symbol_type : SymbolType) (x : Value) →
+    known_value symbol_type x ≡ by_type tree known s f symbol_type user → value_by_type symbol_type (tri_in (Some x)) (text_in (Some x) n) ≡ known_value symbol_type x
+shaped_by_type tree known s f user n Undefined (value.Truth t) e = cc
+shaped_by_type tree known s f user n Undefined (value.Text v) e = refl
+shaped_by_type tree known s f user n IsBool (value.Truth t) e = refl
+shaped_by_type tree known s f user n IsBool (value.Text v) e = cc
+shaped_by_type tree known s f user n Tristate (value.Truth t) e = refl
+shaped_by_type tree known s f user n Tristate (value.Text v) e = cc
+shaped_by_type tree known s f user n Str (value.Truth t) e = cc
+shaped_by_type tree known s f user n Str (value.Text v) e = refl
+shaped_by_type tree known s f user n Int (value.Truth t) e = cc
+shaped_by_type tree known s f user n Int (value.Text v) e = refl
+shaped_by_type tree known s f user n Hex (value.Truth t) e = cc
+shaped_by_type tree known s f user n Hex (value.Text v) e = refl
 
-shaped_bool : (n : List ℕ) (kind : Kind) (x : Value) (t : Tri) → kind ≡ IsBool → known_value kind x ≡ Truth t → value_by_kind kind (tri_in (Some x)) (text_in (Some x) n) ≡ known_value kind x
+shaped_bool : (n : List ℕ) (symbol_type : SymbolType) (x : Value) (t : Tri) → symbol_type ≡ IsBool → known_value symbol_type x ≡ Truth t → value_by_type symbol_type (tri_in (Some x)) (text_in (Some x) n) ≡ known_value symbol_type x
 shaped_bool n IsBool (value.Truth u) t b e = refl
 shaped_bool n IsBool (value.Text v) t b e = cc
 shaped_bool n Undefined x t b e = cc
@@ -119,24 +119,24 @@ shaped_bool n Int x t b e = cc
 shaped_bool n Hex x t b e = cc
 
 pub shaped : (tree : TreeFacts) (known : SymId → SymbolValue) (s : SymId) (f : SymbolFacts) (c : Option ℕ) (user : Option GivenValue) (n : List ℕ) (x : Value) →
-    ((d : ℕ) → c ≡ Some d → f.kind ≡ IsBool) → known_value f.kind x ≡ by_choice tree known s f c user → value_by_kind f.kind (tri_in (Some x)) (text_in (Some x) n) ≡ known_value f.kind x
-shaped tree known s f None user n x bools e = shaped_by_kind tree known s f user n f.kind x e
-shaped tree known s f (Some c) user n x bools e = shaped_bool n f.kind x _ (bools c refl) e
+    ((d : ℕ) → c ≡ Some d → f.symbol_type ≡ IsBool) → known_value f.symbol_type x ≡ by_choice tree known s f c user → value_by_type f.symbol_type (tri_in (Some x)) (text_in (Some x) n) ≡ known_value f.symbol_type x
+shaped tree known s f None user n x bools e = shaped_by_type tree known s f user n f.symbol_type x e
+shaped tree known s f (Some c) user n x bools e = shaped_bool n f.symbol_type x _ (bools c refl) e
 
 -- a symbol without a type is worth its name, which its empty place says
 pub untyped : (tree : TreeFacts) (known : SymId → SymbolValue) (s : SymId) (f : SymbolFacts) (c : Option ℕ) (user : Option GivenValue) →
-    f.kind ≡ Undefined → ((d : ℕ) → c ≡ Some d → f.kind ≡ IsBool) → place_value f.kind (name tree s) None ≡ by_choice tree known s f c user
-untyped tree known s f None user e bools = ap (λ k. place_value k (name tree s) None) e ∙ sym (ap (λ k. by_kind tree known s f k user) e)
+    f.symbol_type ≡ Undefined → ((d : ℕ) → c ≡ Some d → f.symbol_type ≡ IsBool) → place_value f.symbol_type (name tree s) None ≡ by_choice tree known s f c user
+untyped tree known s f None user e bools = ap (λ k. place_value k (name tree s) None) e ∙ sym (ap (λ k. by_type tree known s f k user) e)
 untyped tree known s f (Some c) user e bools = let b = bools c refl in absurd cc
 
 -- one place written
 pub written_at : (tree : TreeFacts) (values : List (Option Value)) (i : ℕ) (f : SymbolFacts) (x : Option Value) → i < length values → facts tree (symbol i) ≡ Some f →
-    IsUpdate (valuation tree values) (valuation tree (slice_set values i x)) i (place_value f.kind (name tree (symbol i)) x)
+    IsUpdate (valuation tree values) (valuation tree (slice_set values i x)) i (place_value f.symbol_type (name tree (symbol i)) x)
 written_at tree values i f x l e = record {
   here =
-      ap (λ o. place_value (kind_in o) (name tree (symbol i)) (value_in (slice_set values i x) (symbol i))) e
-      ∙ ap (place_value f.kind (name tree (symbol i))) (get_or-set_same values i x None l);
-  others = λ t ne. ap (place_value (kind_in (facts tree (symbol t))) (name tree (symbol t))) (get_or-set_other values i t x None ne);
+      ap (λ o. place_value (type_in o) (name tree (symbol i)) (value_in (slice_set values i x) (symbol i))) e
+      ∙ ap (place_value f.symbol_type (name tree (symbol i))) (get_or-set_same values i x None l);
+  others = λ t ne. ap (place_value (type_in (facts tree (symbol t))) (name tree (symbol t))) (get_or-set_other values i t x None ne);
 }
 
 pub place_of : (given : List (Option UserValue)) (chosen : List (Option SymId)) (i : ℕ) (choice : Option ChoiceId) →
@@ -159,7 +159,7 @@ place_given given i (Some u) e = ap given_at e
 -- a symbol computed: its place says what its equation gives
 pub computed_place : (t : Table) (id : SymId) (s : Symbol) (given : List (Option UserValue)) (chosen : List (Option SymId)) (x : Option Value) → IsRowOf t id s →
     length t.values ≡ name_count t.tree.now → id.0 < length t.values →
-    place_value s.kind (name t.tree.now id) x ≡ equation_at t id s (given_at (slice_index_or given id.0 None)) chosen →
+    place_value s.symbol_type (name t.tree.now id) x ≡ equation_at t id s (given_at (slice_index_or given id.0 None)) chosen →
     AreComputedValues t.tree.now given chosen id t.values (slice_set t.values id.0 x)
 computed_place t id s given chosen x row count below e =
     let tree = t.tree.now in
@@ -169,7 +169,7 @@ computed_place t id s given chosen x row count below e =
     let P = places given chosen in
     let u = written_at tree values id.0 f x below at in
     let at_place : user_place tree id.0 ≡ user_place_by id.0 (mode_view s.choice) = ap (user_place_of id.0) at in
-    let value : place_value f.kind (name tree id) x ≡ equations tree P id.0 (valuation tree values) =
+    let value : place_value f.symbol_type (name tree id) x ≡ equations tree P id.0 (valuation tree values) =
     e
     ∙ ap (by_choice tree (known_at t) id f (mode_view s.choice)) (place_of given chosen id.0 s.choice ∙ ap P (sym at_place))
     ∙ ap (λ o. equation tree (known_in tree values) id o (P (user_place tree id.0))) (sym at)
@@ -183,15 +183,15 @@ computed_place t id s given chosen x row count below e =
 
 -- a value that the equation gives, in its place
 pub value_placed : (t : Table) (id : SymId) (s : Symbol) (own : Option GivenValue) (chosen : List (Option SymId)) (x : Value) → IsRowOf t id s →
-    known_value s.kind x ≡ equation_at t id s own chosen → place_value s.kind (name t.tree.now id) (Some x) ≡ equation_at t id s own chosen
+    known_value s.symbol_type x ≡ equation_at t id s own chosen → place_value s.symbol_type (name t.tree.now id) (Some x) ≡ equation_at t id s own chosen
 value_placed t id s own chosen x row e =
     let f = facts_of t.layout.now id.0 s in
-    shaped t.tree.now (known_at t) id f (mode_view s.choice) _ (name t.tree.now id) x (λ d h. member_kind t id f d (row_facts t id s row) h) e ∙ e
+    shaped t.tree.now (known_at t) id f (mode_view s.choice) _ (name t.tree.now id) x (λ d h. type_of_member t id f d (row_facts t id s row) h) e ∙ e
 
 -- the same of a value
 pub computed_value : (t : Table) (id : SymId) (s : Symbol) (given : List (Option UserValue)) (chosen : List (Option SymId)) (x : Value) → IsRowOf t id s →
     length t.values ≡ name_count t.tree.now → id.0 < length t.values →
-    known_value s.kind x ≡ equation_at t id s (given_at (slice_index_or given id.0 None)) chosen →
+    known_value s.symbol_type x ≡ equation_at t id s (given_at (slice_index_or given id.0 None)) chosen →
     AreComputedValues t.tree.now given chosen id t.values (slice_set t.values id.0 (Some x))
 computed_value t id s given chosen x row count below e =
     computed_place t id s given chosen (Some x) row count below (value_placed t id s (given_at (slice_index_or given id.0 None)) chosen x row e)

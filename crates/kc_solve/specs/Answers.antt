@@ -4,18 +4,18 @@ use Rattle.kc_expr.specs.Value.{SymbolValue, values_by, truth_of_value, text_of_
 use Rattle.kc_expr.specs.declared.expression.SymId.{SymId}
 use Rattle.kc_expr.specs.declared.expression.Tri.{Tri}
 use Rattle.kc_expr.specs.declared.expression.Tri.TheVariants.{N, Y}
-use Rattle.kc_expr.specs.declared.expression.Kind.{Kind}
+use Rattle.kc_expr.specs.declared.expression.SymbolType.{SymbolType}
 use Rattle.kc_tree.specs.TreeFacts.{Condition, SymbolFacts, TreeFacts, Shown, SymbolShown, MenuShown, EndShown, CommentShown}
 use Rattle.kc_user.specs.Places.{place_at}
 use Rattle.kc_values.specs.Differs as values
-use Rattle.kc_values.specs.Lookups.{facts, kind_in}
+use Rattle.kc_values.specs.Lookups.{facts, type_in}
 use Rattle.kc_values.specs.Values as value
 use Rattle.kc_values.specs.WrittenSymbols as writing
 use Rattle.kc_solve.specs.Solved.{Solution, known, value_of}
 
 -- the type of a symbol, its truth value and its text, as values that expressions read
-abbrev pub kind_of : Solution → SymId → Kind
-kind_of s id = kind_in (facts s.tree id)
+abbrev pub type_of : Solution → SymId → SymbolType
+type_of s id = type_in (facts s.tree id)
 
 abbrev pub tri_of : Solution → SymId → Tri
 tri_of s id = truth_of_value (known s id)
@@ -29,7 +29,7 @@ modules_of s = s.tree.modules
 
 -- the three before tell what is known
 abbrev pub TellsKnown : Solution → Type 0
-TellsKnown s = (id : SymId) → values_by (kind_of s) (tri_of s) (text_of s) id ≡ known s id
+TellsKnown s = (id : SymId) → values_by (type_of s) (tri_of s) (text_of s) id ≡ known s id
 
 abbrev pub visibility_by : TreeFacts → (SymId → SymbolValue) → Option SymbolFacts → Tri
 visibility_by tree known None = N

@@ -2,8 +2,8 @@
 use Rattle.std.specs.Prelude.{◌≡◌, ◌≢◌, ◌<◌, ℕ, List, length, Option, Some, None, slice_index_or, take}
 use Rattle.std.specs.List.{Contains}
 use Rattle.kc_expr.specs.Names.{symbol}
-use Rattle.kc_expr.specs.Value.{SymbolValue, value_by_kind}
-use Rattle.kc_expr.specs.declared.expression.Kind.{Kind}
+use Rattle.kc_expr.specs.Value.{SymbolValue, value_by_type}
+use Rattle.kc_expr.specs.declared.expression.SymbolType.{SymbolType}
 use Rattle.kc_expr.specs.declared.expression.SymId.{SymId}
 use Rattle.kc_expr.specs.declared.expression.Tri.{Tri}
 use Rattle.kc_order.specs.Graph.{Nodes, IsGraph, needs_of}
@@ -53,8 +53,8 @@ pub record KeepsTree (old new : Table) : Type 0 where
   pub layout : new.layout ≡ old.layout
 
 -- what a place says of a symbol of a type and a name
-abbrev pub place_value : Kind → List ℕ → Option Value → SymbolValue
-place_value kind name x = value_by_kind kind (tri_in x) (text_in x name)
+abbrev pub place_value : SymbolType → List ℕ → Option Value → SymbolValue
+place_value symbol_type name x = value_by_type symbol_type (tri_in x) (text_in x name)
 
 -- what the equation of a symbol gives under the values of a table, by its row
 abbrev pub equation_at : Table → SymId → Symbol → Option GivenValue → List (Option SymId) → SymbolValue

@@ -10,7 +10,7 @@ use Rattle.kc_tree.specs.TreeFacts.{SymbolFacts, TreeFacts}
 use Rattle.kc_user.specs.GivenValue.{GivenValue}
 use Rattle.kc_user.specs.Places.{Places, place_at}
 use Rattle.kc_tree.specs.Common.{is_symbol_of}
-use Rattle.kc_values.specs.Values.{by_kind}
+use Rattle.kc_values.specs.Values.{by_type}
 use Rattle.kc_values.specs.Lookups.{facts}
 use Rattle.kc_values.specs.Differs.{default_selection, differs, same_value, selection}
 use Rattle.kc_values.specs.Solution.{known_from, name_count}
@@ -21,7 +21,7 @@ use Rattle.kc_solve.specs.Answers.{visibility_by}
 use Rattle.kc_solve.specs.Kept.{valuation}
 
 abbrev pub differs_by : TreeFacts → (SymId → SymbolValue) → SymId → SymbolFacts → Option ℕ → List (Option SymId) → List (Option SymId) → Bool
-differs_by tree known s f None selections defaults = not (same_value (known s) (by_kind tree known s f f.kind None))
+differs_by tree known s f None selections defaults = not (same_value (known s) (by_type tree known s f f.symbol_type None))
 differs_by tree known s f (Some c) selections defaults =
     is_symbol_of s (slice_index_or selections c None) && not (is_symbol_of s (slice_index_or defaults c None))
 
@@ -31,7 +31,7 @@ row_differs t id row selections defaults = differs_by t.tree.now (known_at t) id
 
 -- the value of a symbol outside a choice is what its equation gives
 abbrev pub IsSolvedOwn : TreeFacts → (SymId → SymbolValue) → SymId → SymbolFacts → Option ℕ → Option GivenValue → Type 0
-IsSolvedOwn tree known s f None given = known s ≡ by_kind tree known s f f.kind given
+IsSolvedOwn tree known s f None given = known s ≡ by_type tree known s f f.symbol_type given
 IsSolvedOwn tree known s f (Some c) given = Unit {0}
 
 -- the same, by its row

@@ -1,8 +1,8 @@
 -- For proofs: Why no order was made.
 use Rattle.kc_tree.specs.TreeFacts.{TreeFacts}
 use Rattle.kc_solve.specs.Refused.{IsLoopText}
-use Rattle.kc_solve.specs.declared.order.LoopFault.{LoopFault}
-use Rattle.kc_solve.specs.declared.order.LoopFault.TheVariants.{Loop, Memory}
+use Rattle.kc_solve.specs.declared.evaluation_order.LoopFault.{LoopFault}
+use Rattle.kc_solve.specs.declared.evaluation_order.LoopFault.TheVariants.{Loop, Memory}
 
 -- nothing is said of memory
 abbrev pub NamesTheLoop : TreeFacts → LoopFault → Type 0

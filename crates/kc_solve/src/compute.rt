@@ -11,7 +11,7 @@ ghost use Rattle.kc_values.specs.Solution.{name_count, equations};
 ghost use Rattle.kc_values.specs.TableFacts.{AreSelected, IsRowOf};
 ghost use Rattle.kc_values.specs.User.{given_in};
 
-use kc_expr::expression::{Kind, SymId};
+use kc_expr::expression::{SymId, SymbolType};
 use kc_tree::layout::Layout;
 use kc_tree::rows::{ChoiceId, ContextId, Symbol};
 use kc_tree::tree::Tree;
@@ -47,9 +47,9 @@ fn kept_value(
 ) -> Result<Option<Value>, AllocError>
     requires row { IsRowOf table.now id symbol.now }
     requires selected { AreSelected table.now chosen.now }
-    ensures { IfOk result (λ x. place_value symbol.now.kind (lookup.name table.now.tree.now id) x ≡ equation_at table.now id symbol.now (given_in given.entry) chosen.now) }
+    ensures { IfOk result (λ x. place_value symbol.now.symbol_type (lookup.name table.now.tree.now id) x ≡ equation_at table.now id symbol.now (given_in given.entry) chosen.now) }
 {
-    if let Kind::Undefined = symbol.kind {
+    if let SymbolType::Undefined = symbol.symbol_type {
         return Ok(None);
     }
     let value = equation(alloc, table, id, symbol, given, chosen)?;

@@ -2,10 +2,10 @@
 #![tactic(auto)]
 
 mod compute;
+pub mod evaluation_order;
 mod flags;
-pub mod order;
 pub mod solve;
 pub mod solved;
 
-pub use order::EvaluationOrder;
+pub use evaluation_order::EvaluationOrder;
 pub use solved::Solved;

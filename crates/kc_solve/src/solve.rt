@@ -13,8 +13,8 @@ ghost use Rattle.kc_values.specs.Solution.{name_count, equations};
 ghost use Rattle.kc_values.specs.TableFacts.{AreSelected};
 
 use crate::compute::compute;
+use crate::evaluation_order::EvaluationOrder;
 use crate::flags::{ChoiceSelections, Flags, flags_of, selections, warnings_of};
-use crate::order::EvaluationOrder;
 use crate::solved::Solved;
 use kc_order::{alike_needs, groups_stand_for_symbols, ordered_are_accepted};
 use kc_tree::layout::Layout;

@@ -12,7 +12,7 @@ ghost use Rattle.kc_values.specs.Needs.{IsAccepted};
 ghost use Rattle.kc_values.specs.Solution.{name_count};
 
 use crate::flags::{at_choice, at_symbol, visibility_at};
-use kc_expr::expression::{Kind, SymId, Tri};
+use kc_expr::expression::{SymId, SymbolType, Tri};
 use kc_expr::values::{Values, tri_text};
 use kc_tree::layout::Layout;
 use kc_tree::rows::{ChoiceId, ContextId, ShownEntry, Title};
@@ -192,8 +192,8 @@ fn title_at(layout: &Layout, index: usize) -> Option<&Title>
 fn known_text<'t>(table: &'t Table, id: SymId) -> &'t [u8]
     ensures { result.now ≡ text_of_value (known_at table.now id) }
 {
-    match table.kind(id) {
-        Kind::Bool | Kind::Tristate => tri_text(table.tri(id)),
+    match table.symbol_type(id) {
+        SymbolType::Bool | SymbolType::Tristate => tri_text(table.tri(id)),
         _ => table.text(id),
     }
 }
@@ -203,7 +203,7 @@ impl<'a> Values for Solved<'a> {
 
     ghost text_of = { spec.text_of };
 
-    ghost kind_of = { spec.kind_of };
+    ghost type_of = { spec.type_of };
 
     ghost modules_of = { spec.modules_of };
 
@@ -215,8 +215,8 @@ impl<'a> Values for Solved<'a> {
         known_text(&self.table, id)
     }
 
-    fn kind(&self, id: SymId) -> Kind {
-        self.table.kind(id)
+    fn symbol_type(&self, id: SymId) -> SymbolType {
+        self.table.symbol_type(id)
     }
 
     fn modules(&self) -> Option<SymId> {

@@ -56,7 +56,7 @@ symbols-at l i =
 -- the row that was found has the type and the choice of its facts
 pub head-found : (l : Layout) (i : ℕ) (found : Option (Bor Symbol)) → option_map (λ s. s.now) found ≡ slice_get l.symbols.items i → IsSymbolRowOf (slice_get (symbols_in l) i) found
 head-found l i None e = symbols-at l i ∙ ap (option_map (facts_of l i)) (sym e)
-head-found l i (Some s) e = (facts_of l i s.now, symbols-at l i ∙ ap (option_map (facts_of l i)) (sym e), record { kind = refl; choice = refl })
+head-found l i (Some s) e = (facts_of l i s.now, symbols-at l i ∙ ap (option_map (facts_of l i)) (sym e), record { symbol_type = refl; choice = refl })
 
 pub choices-heads : (t : Tables) (cs : List Choice) → AreChoicesOf (map (choice_facts t) cs) cs
 choices-heads t [] = refl

@@ -17,8 +17,8 @@ abbrev pub condition_in : List Condition → ℕ → Condition
 condition_in conditions i = slice_index_or conditions i top
 
 -- no mode counts in the context with a number
-abbrev pub IsPlain : List Condition → ℕ → Type 0
-IsPlain conditions i = is_some (condition_in conditions i).mode ≡ false
+abbrev pub HasNoMode : List Condition → ℕ → Type 0
+HasNoMode conditions i = is_some (condition_in conditions i).mode ≡ false
 
 -- a condition and one thing more; a condition in a choice
 abbrev pub and_also : Condition → Form → Condition
@@ -53,7 +53,7 @@ KeepsMode conditions c = (e : Form) → when_view c.own_condition ≡ Some e →
 
 -- and no mode counts outside that of a choice's members
 abbrev pub BeginsMode : List Condition → Context → Type 0
-BeginsMode conditions c = when_view c.own_condition ≡ None → IsPlain conditions c.outer.0
+BeginsMode conditions c = when_view c.own_condition ≡ None → HasNoMode conditions c.outer.0
 
 -- each context does, by those before it
 abbrev pub KeepModes : List Context → Type 0

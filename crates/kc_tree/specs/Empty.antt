@@ -9,7 +9,7 @@ pub record AreEmpty (t : Tables) : Type 0 where
   pub definitions : t.definitions.items ≡ []
   pub defaults : t.defaults.items ≡ []
   pub ranges : t.ranges.items ≡ []
-  pub lines : t.reverses.lines.items ≡ []
+  pub lines : t.selector_rows.lines.items ≡ []
   pub choices : t.choices.items ≡ []
   pub titles : t.titles.items ≡ []
   pub entries : t.entries.items ≡ []

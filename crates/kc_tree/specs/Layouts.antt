@@ -3,7 +3,7 @@ use Rattle.std.specs.Prelude.{◌≡◌, ℕ, List, [], ◌++◌, map, length, r
 use Rattle.std.specs.Option.{option_map, option_and_then}
 use Rattle.std.specs.List.{filter_map, flat_map, range_with_len}
 use Rattle.kc_expr.specs.declared.expression.SymId.{SymId}
-use Rattle.kc_expr.specs.declared.expression.Kind.{Kind}
+use Rattle.kc_expr.specs.declared.expression.SymbolType.{SymbolType}
 use Rattle.kc_expr.specs.Form.{Form, form_of, leaf_of}
 use Rattle.kc_expr.specs.When.{when_view}
 use Rattle.kc_tree.specs.declared.layout.Layout.{Layout}
@@ -15,8 +15,8 @@ use Rattle.kc_tree.specs.declared.rows.DefinitionId.{DefinitionId}
 use Rattle.kc_tree.specs.declared.rows.ShownEntry.{ShownEntry}
 use Rattle.kc_tree.specs.declared.rows.ShownEntry.TheVariants as entry
 use Rattle.kc_tree.specs.declared.rows.EntryPrompt.{EntryPrompt}
-use Rattle.kc_tree.specs.declared.rows.Reverse.{Reverse}
-use Rattle.kc_tree.specs.declared.rows.ReverseId.{ReverseId}
+use Rattle.kc_tree.specs.declared.rows.Selector.{Selector}
+use Rattle.kc_tree.specs.declared.rows.SelectorId.{SelectorId}
 use Rattle.kc_tree.specs.declared.rows.Symbol.{Symbol}
 use Rattle.kc_tree.specs.declared.rows.SymbolDefault.{SymbolDefault}
 use Rattle.kc_tree.specs.declared.rows.SymbolRange.{SymbolRange}
@@ -63,9 +63,9 @@ pub record DefinitionFacts : Type 0 where
   pub ranges : List (Guarded Bounds)
 
 -- a symbol's facts by its definitions
-abbrev pub facts_by : Kind → Option ℕ → List DefinitionFacts → List (Guarded SymId) → List (Guarded SymId) → SymbolFacts
-facts_by kind choice ds selectors impliers = record {
-  kind = kind;
+abbrev pub facts_by : SymbolType → Option ℕ → List DefinitionFacts → List (Guarded SymId) → List (Guarded SymId) → SymbolFacts
+facts_by symbol_type choice ds selectors impliers = record {
+  symbol_type = symbol_type;
   choice = choice;
   dependencies = map (λ d. d.dependency) ds;
   prompts = filter_map (λ d. d.prompt) ds;
@@ -90,22 +90,22 @@ module _ (t : Tables) where
   definition_at id = option_map definition_facts (slice_get t.definitions.items id.0)
 
   -- a line that selects or implies: the symbol whose definition it stands in, and its condition
-  abbrev pub reverse_facts : Reverse → Option (Guarded SymId)
-  reverse_facts r = option_map (λ (d : DefinitionFacts). record { what = d.symbol; when = with_when d.dependency (when_view r.when) }) (definition_at r.source)
+  abbrev pub selector_facts : Selector → Option (Guarded SymId)
+  selector_facts r = option_map (λ (d : DefinitionFacts). record { what = d.symbol; when = with_when d.dependency (when_view r.when) }) (definition_at r.source)
 
-  abbrev pub reverse_at : ℕ → Option (Guarded SymId)
-  reverse_at i = option_and_then reverse_facts (slice_get t.reverses.lines.items i)
+  abbrev pub selector_at : ℕ → Option (Guarded SymId)
+  selector_at i = option_and_then selector_facts (slice_get t.selector_rows.lines.items i)
 
   -- the lines from one on, that one first
-  abbrev pub reverses_from : Option ReverseId → List (Guarded SymId)
-  reverses_from last = filter_map reverse_at (chain_of (chains_of t.reverses.lines.items) last)
+  abbrev pub selectors_from : Option SelectorId → List (Guarded SymId)
+  selectors_from last = filter_map selector_at (chain_of (chains_of t.selector_rows.lines.items) last)
 
   -- what selects a symbol, and what implies it, in the order of the lines
   abbrev pub selectors_at : ℕ → List (Guarded SymId)
-  selectors_at s = reverse (reverses_from (slice_index_or t.reverses.selects.items s None))
+  selectors_at s = reverse (selectors_from (slice_index_or t.selector_rows.selects.items s None))
 
   abbrev pub impliers_at : ℕ → List (Guarded SymId)
-  impliers_at s = reverse (reverses_from (slice_index_or t.reverses.implies.items s None))
+  impliers_at s = reverse (selectors_from (slice_index_or t.selector_rows.implies.items s None))
 
   abbrev pub choice_facts : Choice → ChoiceFacts
   choice_facts c = record {
@@ -138,7 +138,7 @@ module _ (l : Layout) where
   definitions_of s = filter_map (definition_at l.tables) (definition_ids s)
 
   abbrev pub facts_of : ℕ → Symbol → SymbolFacts
-  facts_of i s = facts_by s.kind (mode_view s.choice) (definitions_of s) (selectors_at l.tables i) (impliers_at l.tables i)
+  facts_of i s = facts_by s.symbol_type (mode_view s.choice) (definitions_of s) (selectors_at l.tables i) (impliers_at l.tables i)
 
   -- the facts of the symbol with a number
   abbrev pub facts_at : ℕ → Option SymbolFacts

@@ -10,7 +10,7 @@ use Rattle.kc_tree.specs.TreeFacts.{SymbolFacts, ChoiceFacts, Shown, SymbolShown
 
 -- a row has the type and the choice of its symbol
 pub record HasTypeAndChoice (f : SymbolFacts) (s : Symbol) : Type 0 where
-  pub kind : s.kind ≡ f.kind
+  pub symbol_type : s.symbol_type ≡ f.symbol_type
   pub choice : mode_view s.choice ≡ f.choice
 
 abbrev pub IsSymbolRowOf : Option SymbolFacts → Option (Bor Symbol) → Type 0

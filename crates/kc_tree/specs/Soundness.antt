@@ -7,7 +7,7 @@ use Rattle.kc_tree.specs.declared.rows.Choice.{Choice}
 use Rattle.kc_tree.specs.declared.rows.Definition.{Definition}
 use Rattle.kc_tree.specs.declared.rows.EntryPrompt.{EntryPrompt}
 use Rattle.kc_tree.specs.declared.rows.Title.{Title}
-use Rattle.kc_tree.specs.Contexts.{IsPlain, condition_in}
+use Rattle.kc_tree.specs.Contexts.{HasNoMode, condition_in}
 
 -- what definitions depend on is there
 abbrev pub AreContextsThere : List Condition → List Definition → Type 0
@@ -17,25 +17,25 @@ AreContextsThere conditions ds = (i : ℕ) (d : Definition) → slice_get ds i �
 abbrev pub ArePromptsWithin : List Condition → List Definition → Type 0
 ArePromptsWithin conditions ds = (i : ℕ) (d : Definition) (p : EntryPrompt) → slice_get ds i ≡ Some d → d.prompt ≡ Some p → p.visible.0 < length conditions
 
-abbrev pub ArePromptsPlain : List Condition → List Definition → Type 0
-ArePromptsPlain conditions ds = (i : ℕ) (d : Definition) (p : EntryPrompt) → slice_get ds i ≡ Some d → d.prompt ≡ Some p → IsPlain conditions p.visible.0
+abbrev pub ArePromptsModeless : List Condition → List Definition → Type 0
+ArePromptsModeless conditions ds = (i : ℕ) (d : Definition) (p : EntryPrompt) → slice_get ds i ≡ Some d → d.prompt ≡ Some p → HasNoMode conditions p.visible.0
 
 -- the same of choices, which no mode counts for
 abbrev pub AreChoicesWithin : List Condition → List Choice → Type 0
 AreChoicesWithin conditions cs = (k : ℕ) (c : Choice) → slice_get cs k ≡ Some c → c.within.0 < length conditions
 
-abbrev pub AreChoicesPlain : List Condition → List Choice → Type 0
-AreChoicesPlain conditions cs = (k : ℕ) (c : Choice) → slice_get cs k ≡ Some c → IsPlain conditions c.within.0
+abbrev pub AreChoicesModeless : List Condition → List Choice → Type 0
+AreChoicesModeless conditions cs = (k : ℕ) (c : Choice) → slice_get cs k ≡ Some c → HasNoMode conditions c.within.0
 
 abbrev pub AreChoicePromptsWithin : List Condition → List Choice → Type 0
 AreChoicePromptsWithin conditions cs = (k : ℕ) (c : Choice) (p : EntryPrompt) → slice_get cs k ≡ Some c → c.prompt ≡ Some p → p.visible.0 < length conditions
 
-abbrev pub AreChoicePromptsPlain : List Condition → List Choice → Type 0
-AreChoicePromptsPlain conditions cs = (k : ℕ) (c : Choice) (p : EntryPrompt) → slice_get cs k ≡ Some c → c.prompt ≡ Some p → IsPlain conditions p.visible.0
+abbrev pub AreChoicePromptsModeless : List Condition → List Choice → Type 0
+AreChoicePromptsModeless conditions cs = (k : ℕ) (c : Choice) (p : EntryPrompt) → slice_get cs k ≡ Some c → c.prompt ≡ Some p → HasNoMode conditions p.visible.0
 
 -- what the enclosing menus of a title ask of what is visible
-abbrev pub AreTitlesPlain : List Condition → List Title → Type 0
-AreTitlesPlain conditions ts = (i : ℕ) (t : Title) → slice_get ts i ≡ Some t → IsPlain conditions t.visible.0
+abbrev pub AreTitlesModeless : List Condition → List Title → Type 0
+AreTitlesModeless conditions ts = (i : ℕ) (t : Title) → slice_get ts i ≡ Some t → HasNoMode conditions t.visible.0
 
 -- a mode that counts is that of a choice; the context stands behind what that choice depends on, and behind what its prompt does
 abbrev pub AreModesBelow : List Condition → ℕ → Type 0
@@ -50,7 +50,7 @@ AreModePromptsBehind conditions cs = (i k : ℕ) (c : Choice) (p : EntryPrompt) 
 -- the same of one row, as it is asked for
 abbrev pub IsPromptThere : List Condition → Option EntryPrompt → Type 0
 IsPromptThere conditions None = Unit {0}
-IsPromptThere conditions (Some p) = (p.visible.0 < length conditions) × IsPlain conditions p.visible.0
+IsPromptThere conditions (Some p) = (p.visible.0 < length conditions) × HasNoMode conditions p.visible.0
 
 pub record IsDefinitionThere (conditions : List Condition) (d : Definition) : Type 0 where
   pub within : d.within.0 < length conditions
@@ -58,5 +58,5 @@ pub record IsDefinitionThere (conditions : List Condition) (d : Definition) : Ty
 
 pub record IsChoiceThere (conditions : List Condition) (c : Choice) : Type 0 where
   pub within : c.within.0 < length conditions
-  pub plain : IsPlain conditions c.within.0
+  pub modeless : HasNoMode conditions c.within.0
   pub prompt : IsPromptThere conditions c.prompt

@@ -3,9 +3,9 @@ use Rattle.std.specs.Prelude.{◌≡◌, ℕ, List, Option, ◌⊎◌, refl}
 use Rattle.std.proofs.Common.{inl, inr}
 use Rattle.std.specs.Coded.{Coded, code_by, coded×, coded⊎, coded_ℕ, coded_list, coded_option}
 use Rattle.kc_expr.specs.declared.expression.SymId.{SymId}
-use Rattle.kc_expr.specs.declared.expression.Kind.{Kind}
+use Rattle.kc_expr.specs.declared.expression.SymbolType.{SymbolType}
 use Rattle.kc_expr.specs.contracts.expression.SymId as sym_id
-use Rattle.kc_expr.specs.contracts.expression.Kind as kind
+use Rattle.kc_expr.specs.contracts.expression.SymbolType as symbol_type
 use Rattle.kc_expr.specs.Form.{Form, Leaf}
 use Rattle.kc_expr.specs.FormCode.{bytes_code, form_code, leaf_code}
 use Rattle.kc_tree.specs.TreeFacts.{Condition, Guarded, Bounds, SymbolFacts, ChoiceFacts, Shown, SymbolShown, MenuShown, EndShown, CommentShown, TreeFacts}
@@ -13,8 +13,8 @@ use Rattle.kc_tree.specs.TreeFacts.{Condition, Guarded, Bounds, SymbolFacts, Cho
 abbrev sym_code : Coded SymId
 sym_code = sym_id.the_row.coded
 
-abbrev kind_code : Coded Kind
-kind_code = kind.the_row.coded
+abbrev type_code : Coded SymbolType
+type_code = symbol_type.the_row.coded
 
 abbrev pub condition_code : Coded Condition
 condition_code =
@@ -43,10 +43,10 @@ lists_code =
 
 abbrev pub symbol_code : Coded SymbolFacts
 symbol_code =
-    code_by ((Kind × Option ℕ) × Lists) (coded× (coded× kind_code (coded_option coded_ℕ)) lists_code)
-    (λ f. ((f.kind, f.choice), ((f.dependencies, f.prompts), ((f.defaults, f.ranges), (f.selectors, f.impliers)))))
+    code_by ((SymbolType × Option ℕ) × Lists) (coded× (coded× type_code (coded_option coded_ℕ)) lists_code)
+    (λ f. ((f.symbol_type, f.choice), ((f.dependencies, f.prompts), ((f.defaults, f.ranges), (f.selectors, f.impliers)))))
     (λ p. record {
-      kind = p.0.0;
+      symbol_type = p.0.0;
       choice = p.0.1;
       dependencies = p.1.0.0;
       prompts = p.1.0.1;

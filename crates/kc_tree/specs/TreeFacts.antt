@@ -1,9 +1,9 @@
 -- Trusted: What a tree says, without where it lies in memory.
 use Rattle.std.specs.Prelude.{◌≡◌, ◌≢◌, ℕ, true, ◌<◌, ◌≤◌, List, length, Option, Some, None, slice_get, Contains, All}
 use Rattle.kc_expr.specs.declared.expression.SymId.{SymId}
-use Rattle.kc_expr.specs.declared.expression.Kind.{Kind}
-use Rattle.kc_expr.specs.declared.expression.Kind.TheVariants as kind
-use Rattle.kc_expr.specs.Form.{Form, Leaf, Text, Symbol, Single, Related, Negated, PlainM, Every, Some_of}
+use Rattle.kc_expr.specs.declared.expression.SymbolType.{SymbolType}
+use Rattle.kc_expr.specs.declared.expression.SymbolType.TheVariants as symbol_type
+use Rattle.kc_expr.specs.Form.{Form, Leaf, Text, Symbol, Single, Related, Negated, LoneM, Every, Some_of}
 use Rattle.kc_text.specs.Limits.{longest_line}
 use Rattle.kc_text.specs.Lines.{HoldsNoLineFeed}
 use Rattle.kc_expr.specs.Limits.{longest_name}
@@ -25,7 +25,7 @@ pub record Bounds : Type 0 where
   pub high : Leaf
 
 pub record SymbolFacts : Type 0 where
-  pub kind : Kind
+  pub symbol_type : SymbolType
   pub choice : Option ℕ
   pub dependencies : List Condition
   pub prompts : List Condition
@@ -87,7 +87,7 @@ pub record AreLinesSound (t : TreeFacts) (f : SymbolFacts) : Type 0 where
 
 -- s is a member of choice k, and is a bool
 abbrev pub IsMemberOf : TreeFacts → ℕ → SymId → Type 0
-IsMemberOf t k s = (f : SymbolFacts) × (slice_get t.symbols s.0 ≡ Some f) × (f.choice ≡ Some k) × (f.kind ≡ kind.Bool)
+IsMemberOf t k s = (f : SymbolFacts) × (slice_get t.symbols s.0 ≡ Some f) × (f.choice ≡ Some k) × (f.symbol_type ≡ symbol_type.Bool)
 
 -- the members of a choice are its own; its defaults are some of them; no condition of it asks for a choice's mode
 pub record IsChoiceSound (t : TreeFacts) (k : ℕ) (c : ChoiceFacts) : Type 0 where
@@ -130,7 +130,7 @@ IsLineForm (Single (Text bytes)) = IsLineText bytes
 IsLineForm (Single (Symbol s)) = Unit {0}
 IsLineForm (Related op a b) = Unit {0}
 IsLineForm (Negated f) = Unit {0}
-IsLineForm PlainM = Unit {0}
+IsLineForm LoneM = Unit {0}
 IsLineForm (Every fs) = Unit {0}
 IsLineForm (Some_of fs) = Unit {0}
 
@@ -152,7 +152,7 @@ pub record IsWellFormed (t : TreeFacts) : Type 0 where
   pub defined_once : (i j : ℕ) (s : SymId) → slice_get t.defined i ≡ Some s → slice_get t.defined j ≡ Some s → i ≡ j
   pub defined_there : All (IsMentioned t) t.defined
   -- a symbol with a type or a prompt is defined
-  pub typed_defined : (s : SymId) (f : SymbolFacts) → slice_get t.symbols s.0 ≡ Some f → f.kind ≢ kind.Undefined → Contains t.defined s
+  pub typed_defined : (s : SymId) (f : SymbolFacts) → slice_get t.symbols s.0 ≡ Some f → f.symbol_type ≢ symbol_type.Undefined → Contains t.defined s
   pub prompted_defined : (s : SymId) (f : SymbolFacts) → slice_get t.symbols s.0 ≡ Some f → 0 < length f.prompts → Contains t.defined s
   pub lines_sound : All (AreLinesSound t) t.symbols
   pub members_listed : (i : ℕ) (f : SymbolFacts) → slice_get t.symbols i ≡ Some f → IsListed t (record { 0 = i }) f

@@ -2,7 +2,7 @@
 
 ghost use Rattle.std.specs.Prelude.{◌≡◌, ◌<◌, ◌-◌, ◌^◌, ◌++◌, [], ◌∷◌, None, length, option_map, slice_get, IfOk, OnOk, OnErr};
 ghost use Rattle.kc_expr.specs.Form.{form_of};
-ghost use Rattle.kc_tree.specs.Contexts.{IsPlain, top, condition_in, and_also, in_choice, mode_view, IsContext};
+ghost use Rattle.kc_tree.specs.Contexts.{HasNoMode, top, condition_in, and_also, in_choice, mode_view, IsContext};
 
 use crate::maybe_choice::MaybeChoice;
 use crate::rows::{ChoiceId, Context, ContextId};
@@ -102,7 +102,7 @@ impl Contexts {
         choice: ChoiceId,
     ) -> Result<ContextId, AllocError>
         requires there { outer.0 < length self.old }
-        requires plain { IsPlain self.old outer.0 }
+        requires modeless { HasNoMode self.old outer.0 }
         requires few { length self.old < 2 ^ 32 }
         ensures added { OnOk result (self.new ≡ self.old ++ in_choice (condition_in self.old outer.0) choice.0 ∷ []) }
         ensures number { IfOk result (λ id. id.0 ≡ length self.old) }

@@ -3,14 +3,14 @@
 ghost use Rattle.std.specs.Prelude.{◌≡◌, ◌<◌, ◌+◌, ◌^◌, None, length, option_map, slice_get, slice_index_or, IfSome};
 ghost use Rattle.kc_tree.specs.Contexts.{condition_in, mode_view, IsContext};
 ghost use Rattle.kc_tree.specs.Spans.{slice_of, definition_ids, definition_of};
-ghost use Rattle.kc_tree.specs.Soundness.{AreChoicePromptsPlain, AreChoicePromptsWithin, AreChoicesPlain, AreChoicesWithin, AreModePromptsBehind, AreModesBehind, AreModesBelow, ArePromptsPlain, ArePromptsWithin, AreTitlesPlain, AreContextsThere};
+ghost use Rattle.kc_tree.specs.Soundness.{AreChoicePromptsModeless, AreChoicePromptsWithin, AreChoicesModeless, AreChoicesWithin, AreModePromptsBehind, AreModesBehind, AreModesBelow, ArePromptsModeless, ArePromptsWithin, AreTitlesModeless, AreContextsThere};
 
 use crate::contexts::Contexts;
-use crate::reverses::Reverses;
 use crate::rows::{
-    Choice, ChoiceId, Context, ContextId, Definition, DefinitionId, Reverse, ReverseId, RowSpan,
+    Choice, ChoiceId, Context, ContextId, Definition, DefinitionId, RowSpan, Selector, SelectorId,
     ShownEntry, Symbol, SymbolDefault, SymbolRange, Title, TitleId,
 };
+use crate::selector_rows::SelectorRows;
 use kc_expr::expression::SymId;
 use std::alloc::{AllocError, Global};
 
@@ -21,18 +21,18 @@ pub struct Tables {
     pub definitions: Vec<Definition>,
     pub defaults: Vec<SymbolDefault>,
     pub ranges: Vec<SymbolRange>,
-    pub reverses: Reverses,
+    pub selector_rows: SelectorRows,
     pub choices: Vec<Choice>,
     pub titles: Vec<Title>,
     pub entries: Vec<ShownEntry>,
     ghost within: { AreContextsThere contexts definitions.items },
     ghost prompts_within: { ArePromptsWithin contexts definitions.items },
-    ghost prompts_plain: { ArePromptsPlain contexts definitions.items },
+    ghost prompts_modeless: { ArePromptsModeless contexts definitions.items },
     ghost choices_within: { AreChoicesWithin contexts choices.items },
-    ghost choices_plain: { AreChoicesPlain contexts choices.items },
+    ghost choices_modeless: { AreChoicesModeless contexts choices.items },
     ghost choice_prompts_within: { AreChoicePromptsWithin contexts choices.items },
-    ghost choice_prompts_plain: { AreChoicePromptsPlain contexts choices.items },
-    ghost titles_plain: { AreTitlesPlain contexts titles.items },
+    ghost choice_prompts_modeless: { AreChoicePromptsModeless contexts choices.items },
+    ghost titles_modeless: { AreTitlesModeless contexts titles.items },
     ghost modes_below: { AreModesBelow contexts (length choices.items) },
     ghost modes_behind: { AreModesBehind contexts choices.items },
     ghost mode_prompts_behind: { AreModePromptsBehind contexts choices.items },
@@ -45,15 +45,15 @@ impl Tables {
     /// Tables without rows, with room for so many symbols among so many names. Fails only when it is out of memory.
     pub fn empty(alloc: Global, count: usize, names: usize) -> Result<Tables, AllocError>
         ensures empty { IfOk result AreEmpty }
-        ensures selects { IfOk result (λ t. length t.reverses.selects.items ≡ names) }
-        ensures implies { IfOk result (λ t. length t.reverses.implies.items ≡ names) }
+        ensures selects { IfOk result (λ t. length t.selector_rows.selects.items ≡ names) }
+        ensures implies { IfOk result (λ t. length t.selector_rows.implies.items ≡ names) }
     {
         Ok(Tables {
             contexts: Contexts::with_room(alloc, count)?,
             definitions: Vec::with_capacity(alloc, count)?,
             defaults: Vec::with_capacity(alloc, count)?,
             ranges: Vec::new(alloc),
-            reverses: Reverses::new(alloc, names)?,
+            selector_rows: SelectorRows::new(alloc, names)?,
             choices: Vec::new(alloc),
             titles: Vec::new(alloc),
             entries: Vec::with_capacity(alloc, count)?,
@@ -192,25 +192,25 @@ impl Layout {
     }
 
     /// The last line that selects a symbol, which leads on to the others.
-    pub fn last_select(&self, id: SymId) -> Option<ReverseId>
-        ensures { result ≡ slice_index_or self.now.tables.reverses.selects.items id.0 None }
+    pub fn last_select(&self, id: SymId) -> Option<SelectorId>
+        ensures { result ≡ slice_index_or self.now.tables.selector_rows.selects.items id.0 None }
     {
-        self.tables.reverses.last_select(id)
+        self.tables.selector_rows.last_select(id)
     }
 
     /// The last line that implies a symbol, which leads on to the others.
-    pub fn last_imply(&self, id: SymId) -> Option<ReverseId>
-        ensures { result ≡ slice_index_or self.now.tables.reverses.implies.items id.0 None }
+    pub fn last_imply(&self, id: SymId) -> Option<SelectorId>
+        ensures { result ≡ slice_index_or self.now.tables.selector_rows.implies.items id.0 None }
     {
-        self.tables.reverses.last_imply(id)
+        self.tables.selector_rows.last_imply(id)
     }
 
     /// A line that selects or implies; it leads on to one with a smaller number.
-    pub fn reverse(&self, id: ReverseId) -> Option<&Reverse>
-        ensures line { option_map (λ r. r.now) result ≡ slice_get self.now.tables.reverses.lines.items id.0 }
+    pub fn selector(&self, id: SelectorId) -> Option<&Selector>
+        ensures line { option_map (λ r. r.now) result ≡ slice_get self.now.tables.selector_rows.lines.items id.0 }
         ensures smaller { IfSome result (λ r. IfSome r.now.next (λ next. next.0 < id.0)) }
     {
-        self.tables.reverses.line(id)
+        self.tables.selector_rows.line(id)
     }
 
     /// The title of a menu or comment.

@@ -5,6 +5,6 @@ pub mod contexts;
 pub mod definitions;
 pub mod layout;
 pub mod maybe_choice;
-pub mod reverses;
 pub mod rows;
+pub mod selector_rows;
 pub mod tree;

@@ -3,7 +3,7 @@
 
 use crate::definitions::SymbolDefinitions;
 use crate::maybe_choice::MaybeChoice;
-use kc_expr::expression::{Expr, Kind, Operand, SymId};
+use kc_expr::expression::{Expr, Operand, SymId, SymbolType};
 use std::rc::Rc;
 
 /// The number of a choice: its place among the tree's choices, in the order in which they open. The numbers are our
@@ -21,7 +21,7 @@ pub struct DefinitionId(pub u32);
 
 /// The number of a reverse dependency: its place among those of the tree (our own).
 #[derive(Clone, Copy, PartialEq, Eq, Debug)]
-pub struct ReverseId(pub u32);
+pub struct SelectorId(pub u32);
 
 /// The number of a title: its place among those of the menus and comments of the tree (our own).
 #[derive(Clone, Copy, PartialEq, Eq, Debug)]
@@ -82,17 +82,17 @@ pub struct Definition {
 /// kconfig-language document, "Menu attributes": reverse dependencies, weak reverse dependencies). `next` is the line of the
 /// same kind before it that names the same symbol.
 #[derive(Debug, Drop)]
-pub struct Reverse {
+pub struct Selector {
     pub source: DefinitionId,
     pub when: Option<Rc<Expr>>,
-    pub next: Option<ReverseId>,
+    pub next: Option<SelectorId>,
 }
 
 /// What a tree says of one symbol: the first type that a line gives it, and bool for a choice's member without one; the
 /// choice that it is a member of; and its definitions.
 #[derive(Debug, Drop)]
 pub struct Symbol {
-    pub kind: Kind,
+    pub symbol_type: SymbolType,
     pub choice: MaybeChoice,
     pub definitions: SymbolDefinitions,
 }

@@ -5,8 +5,8 @@ use Rattle.std.specs.List.{Contains}
 use Rattle.std.proofs.lemmas.Bool.{cases_eq, cases_lt, false≢true, leb-true}
 use Rattle.std.proofs.lemmas.List.{get_or-replicate, get_or_past, length-replicate, length-set}
 use Rattle.kc_expr.specs.Names.{symbol}
-use Rattle.kc_expr.specs.declared.expression.Kind.{Kind}
-use Rattle.kc_expr.specs.declared.expression.Kind.TheVariants as kind
+use Rattle.kc_expr.specs.declared.expression.SymbolType.{SymbolType}
+use Rattle.kc_expr.specs.declared.expression.SymbolType.TheVariants as symbol_type
 use Rattle.kc_text.specs.Escapes.{escape}
 use Rattle.kc_tree.specs.TreeFacts.{SymbolFacts}
 use Rattle.kc_user.specs.GivenValue.{GivenText}
@@ -73,17 +73,17 @@ short_quoted text e =
 short_number : (text : List ℕ) (b : Bool) → (is_short text && b) ≡ true → length text ≤ 65000
 short_number text b e = leb-true (length text) 65000 (first_holds _ _ e)
 
-short_by_kind : (k : Kind) (text : List ℕ) → allowed_text k text ≡ true → length text ≤ 65000
-short_by_kind kind.Undefined text e = absurd (false≢true e)
-short_by_kind kind.Bool text e = absurd (false≢true e)
-short_by_kind kind.Tristate text e = absurd (false≢true e)
-short_by_kind kind.Str text e = short_quoted text e
-short_by_kind kind.Int text e = short_number text _ e
-short_by_kind kind.Hex text e = short_number text _ e
+short_by_type : (k : SymbolType) (text : List ℕ) → allowed_text k text ≡ true → length text ≤ 65000
+short_by_type symbol_type.Undefined text e = absurd (false≢true e)
+short_by_type symbol_type.Bool text e = absurd (false≢true e)
+short_by_type symbol_type.Tristate text e = absurd (false≢true e)
+short_by_type symbol_type.Str text e = short_quoted text e
+short_by_type symbol_type.Int text e = short_number text _ e
+short_by_type symbol_type.Hex text e = short_number text _ e
 
 short_by_facts : (facts : Option SymbolFacts) (text : List ℕ) → allowed_for facts (GivenText text) ≡ true → length text ≤ 65000
 short_by_facts None text e = absurd (false≢true e)
-short_by_facts (Some f) text e = short_by_kind f.kind text e
+short_by_facts (Some f) text e = short_by_type f.symbol_type text e
 
 pub texts_short : TextsAreShort
 texts_short tree places i text are e = short_by_facts (slice_get tree.symbols i) text (are.allowed_all i (GivenText text) e)

@@ -7,8 +7,8 @@ use Rattle.kc_text.specs.Numbers.{int_of, hex_of}
 use Rattle.kc_expr.specs.declared.expression.SymId.{SymId}
 use Rattle.kc_expr.specs.declared.expression.Tri.{Tri}
 use Rattle.kc_expr.specs.declared.expression.Tri.TheVariants.{N, M, Y}
-use Rattle.kc_expr.specs.declared.expression.Kind.{Kind}
-use Rattle.kc_expr.specs.declared.expression.Kind.TheVariants as kind
+use Rattle.kc_expr.specs.declared.expression.SymbolType.{SymbolType}
+use Rattle.kc_expr.specs.declared.expression.SymbolType.TheVariants as symbol_type
 use Rattle.kc_expr.specs.Names.{symbol}
 use Rattle.kc_tree.specs.TreeFacts.{TreeFacts, SymbolFacts, ChoiceFacts}
 use Rattle.kc_user.specs.Limits.{longest_value}
@@ -54,30 +54,30 @@ is_m N = false
 is_m M = true
 is_m Y = false
 
-abbrev pub allowed_truth : Kind → Tri → Bool
-allowed_truth kind.Undefined t = false
-allowed_truth kind.Bool t = not (is_m t)
-allowed_truth kind.Tristate t = true
-allowed_truth kind.Str t = false
-allowed_truth kind.Int t = false
-allowed_truth kind.Hex t = false
+abbrev pub allowed_truth : SymbolType → Tri → Bool
+allowed_truth symbol_type.Undefined t = false
+allowed_truth symbol_type.Bool t = not (is_m t)
+allowed_truth symbol_type.Tristate t = true
+allowed_truth symbol_type.Str t = false
+allowed_truth symbol_type.Int t = false
+allowed_truth symbol_type.Hex t = false
 
-abbrev pub allowed_text : Kind → List ℕ → Bool
-allowed_text kind.Undefined t = false
-allowed_text kind.Bool t = false
-allowed_text kind.Tristate t = false
-allowed_text kind.Str t = fits_quoted t
-allowed_text kind.Int t = is_short t && is_some (int_of t)
-allowed_text kind.Hex t = is_short t && is_some (hex_of t)
+abbrev pub allowed_text : SymbolType → List ℕ → Bool
+allowed_text symbol_type.Undefined t = false
+allowed_text symbol_type.Bool t = false
+allowed_text symbol_type.Tristate t = false
+allowed_text symbol_type.Str t = fits_quoted t
+allowed_text symbol_type.Int t = is_short t && is_some (int_of t)
+allowed_text symbol_type.Hex t = is_short t && is_some (hex_of t)
 
-abbrev pub allowed_by : Kind → GivenValue → Bool
+abbrev pub allowed_by : SymbolType → GivenValue → Bool
 allowed_by k (GivenTruth t) = allowed_truth k t
 allowed_by k (GivenText t) = allowed_text k t
 allowed_by k (Member m) = false
 
 abbrev pub allowed_for : Option SymbolFacts → GivenValue → Bool
 allowed_for None given = false
-allowed_for (Some facts) given = allowed_by facts.kind given
+allowed_for (Some facts) given = allowed_by facts.symbol_type given
 
 -- a value of a symbol's own place
 abbrev pub allowed : TreeFacts → SymId → GivenValue → Bool

@@ -7,7 +7,7 @@ ghost use Rattle.kc_text.specs.Escapes.{escape, is_escaped};
 ghost use Rattle.kc_user.specs.Places as spec;
 ghost use Rattle.kc_user.specs.ValueView.{given_of_value};
 
-use kc_expr::expression::{Kind, SymId, Tri};
+use kc_expr::expression::{SymId, SymbolType, Tri};
 use kc_text::{is_escaped, read_hex, read_int};
 use kc_tree::tree::Tree;
 
@@ -31,42 +31,42 @@ pub fn allowed(tree: &Tree, id: SymId, value: &UserValue) -> bool
     ensures { result ≡ spec.allowed tree.now id (given_of_value value.now) }
 {
     match tree.facts(id) {
-        Some(symbol) => is_allowed(symbol.kind, value),
+        Some(symbol) => is_allowed(symbol.symbol_type, value),
         None => false,
     }
 }
 
 // Whether a line gives a symbol of this type the value.
-fn is_allowed(kind: Kind, value: &UserValue) -> bool
-    ensures { result ≡ spec.allowed_by kind (given_of_value value.now) }
+fn is_allowed(symbol_type: SymbolType, value: &UserValue) -> bool
+    ensures { result ≡ spec.allowed_by symbol_type (given_of_value value.now) }
 {
     match value {
-        UserValue::Tri(tri) => is_allowed_tri(kind, *tri),
-        UserValue::Text(text) => is_allowed_text(kind, text),
+        UserValue::Tri(tri) => is_allowed_tri(symbol_type, *tri),
+        UserValue::Text(text) => is_allowed_text(symbol_type, text),
     }
 }
 
-fn is_allowed_tri(kind: Kind, tri: Tri) -> bool
-    ensures { result ≡ spec.allowed_truth kind tri }
+fn is_allowed_tri(symbol_type: SymbolType, tri: Tri) -> bool
+    ensures { result ≡ spec.allowed_truth symbol_type tri }
 {
-    match kind {
-        Kind::Bool => match tri {
+    match symbol_type {
+        SymbolType::Bool => match tri {
             Tri::M => false,
             Tri::N | Tri::Y => true,
         },
-        Kind::Tristate => true,
-        Kind::Undefined | Kind::Str | Kind::Int | Kind::Hex => false,
+        SymbolType::Tristate => true,
+        SymbolType::Undefined | SymbolType::Str | SymbolType::Int | SymbolType::Hex => false,
     }
 }
 
-fn is_allowed_text(kind: Kind, text: &[u8]) -> bool
-    ensures { result ≡ spec.allowed_text kind text.now }
+fn is_allowed_text(symbol_type: SymbolType, text: &[u8]) -> bool
+    ensures { result ≡ spec.allowed_text symbol_type text.now }
 {
-    match kind {
-        Kind::Str => fits_quoted(text),
-        Kind::Int => text.len() <= LONGEST_VALUE && read_int(text).is_some(),
-        Kind::Hex => text.len() <= LONGEST_VALUE && read_hex(text).is_some(),
-        Kind::Undefined | Kind::Bool | Kind::Tristate => false,
+    match symbol_type {
+        SymbolType::Str => fits_quoted(text),
+        SymbolType::Int => text.len() <= LONGEST_VALUE && read_int(text).is_some(),
+        SymbolType::Hex => text.len() <= LONGEST_VALUE && read_hex(text).is_some(),
+        SymbolType::Undefined | SymbolType::Bool | SymbolType::Tristate => false,
     }
 }
 

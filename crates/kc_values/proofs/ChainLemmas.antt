@@ -9,25 +9,25 @@ use Rattle.kc_expr.specs.declared.expression.Tri.{Tri}
 use Rattle.kc_expr.specs.declared.expression.Tri.TheVariants.{N}
 use Rattle.kc_expr.specs.Value.{SymbolValue, truth_of_value, lesser, greater}
 use Rattle.kc_tree.specs.declared.layout.Tables.{Tables}
-use Rattle.kc_tree.specs.declared.rows.Reverse.{Reverse}
-use Rattle.kc_tree.specs.declared.rows.ReverseId.{ReverseId}
+use Rattle.kc_tree.specs.declared.rows.Selector.{Selector}
+use Rattle.kc_tree.specs.declared.rows.SelectorId.{SelectorId}
 use Rattle.kc_tree.specs.Chains.{chain_of, chains_from, chains_of, AreChained}
-use Rattle.kc_tree.specs.Layouts.{reverse_at, reverse_facts, reverses_from}
+use Rattle.kc_tree.specs.Layouts.{selector_at, selector_facts, selectors_from}
 use Rattle.kc_tree.specs.TreeFacts.{Guarded, TreeFacts}
 use Rattle.kc_tree.specs.Common.{listed}
-use Rattle.kc_values.specs.Values.{condition, reverse_values}
+use Rattle.kc_values.specs.Values.{condition, selector_values}
 use Rattle.kc_values.proofs.DefinitionLemmas.{greatest-cons}
 use Rattle.kc_values.proofs.TriLemmas.{greatest-reverse}
 
 -- how far a walk along a chain has still to go
-abbrev pub steps_left : Option ReverseId → ℕ
+abbrev pub steps_left : Option SelectorId → ℕ
 steps_left None = 0
 steps_left (Some id) = suc id.0
 
-abbrev one_chain : List (List ℕ) → Reverse → List ℕ
+abbrev one_chain : List (List ℕ) → Selector → List ℕ
 one_chain chains r = length chains ∷ chain_of chains r.next
 
-from-length : (chains : List (List ℕ)) (rs : List Reverse) → length (chains_from chains rs) ≡ length chains + length rs
+from-length : (chains : List (List ℕ)) (rs : List Selector) → length (chains_from chains rs) ≡ length chains + length rs
 from-length chains [] = omega arith
 from-length chains (r ∷ rs) =
     let more = length-append chains (one_chain chains r ∷ []) in
@@ -35,21 +35,21 @@ from-length chains (r ∷ rs) =
     omega (arith, more, rest)
 
 -- what was there stays
-from-keeps : (chains : List (List ℕ)) (rs : List Reverse) (i : ℕ) → i < length chains → get_or (chains_from chains rs) i [] ≡ get_or chains i []
+from-keeps : (chains : List (List ℕ)) (rs : List Selector) (i : ℕ) → i < length chains → get_or (chains_from chains rs) i [] ≡ get_or chains i []
 from-keeps chains [] i h = refl
 from-keeps chains (r ∷ rs) i h =
     let more = length-append chains (one_chain chains r ∷ []) in
     from-keeps (chains ++ one_chain chains r ∷ []) rs i (omega (arith, h, more)) ∙ get_or_append_left chains (one_chain chains r ∷ []) [] i h
 
 -- a line below a number
-abbrev IsBelow : ℕ → Option ReverseId → Type 0
-IsBelow n next = (id : ReverseId) → next ≡ Some id → id.0 < n
+abbrev IsBelow : ℕ → Option SelectorId → Type 0
+IsBelow n next = (id : SelectorId) → next ≡ Some id → id.0 < n
 
-chain-keeps : (chains : List (List ℕ)) (rs : List Reverse) (next : Option ReverseId) → IsBelow (length chains) next → chain_of (chains_from chains rs) next ≡ chain_of chains next
+chain-keeps : (chains : List (List ℕ)) (rs : List Selector) (next : Option SelectorId) → IsBelow (length chains) next → chain_of (chains_from chains rs) next ≡ chain_of chains next
 chain-keeps chains rs None h = refl
 chain-keeps chains rs (Some id) h = from-keeps chains rs id.0 (h id refl)
 
-from-at : (chains : List (List ℕ)) (rs : List Reverse) (k : ℕ) (r : Reverse) → slice_get rs k ≡ Some r → IsBelow (length chains + k) r.next →
+from-at : (chains : List (List ℕ)) (rs : List Selector) (k : ℕ) (r : Selector) → slice_get rs k ≡ Some r → IsBelow (length chains + k) r.next →
     get_or (chains_from chains rs) (length chains + k) [] ≡ (length chains + k) ∷ chain_of (chains_from chains rs) r.next
 from-at chains [] k r e h = absurd cc
 from-at chains (x ∷ xs) zero r e h =
@@ -69,25 +69,25 @@ from-at chains (x ∷ xs) (suc k) r e h =
     let place : length chains + suc k ≡ length more + k = omega (arith, one) in
     rw place (from-at more xs k r e (rw place at h))
 
-pub chain-at : (lines : List Reverse) (i : ℕ) (r : Reverse) → AreChained lines → slice_get lines i ≡ Some r → get_or (chains_of lines) i [] ≡ i ∷ chain_of (chains_of lines) r.next
+pub chain-at : (lines : List Selector) (i : ℕ) (r : Selector) → AreChained lines → slice_get lines i ≡ Some r → get_or (chains_of lines) i [] ≡ i ∷ chain_of (chains_of lines) r.next
 chain-at lines i r chained e =
     let place : 0 + i ≡ i = omega arith in
     let below : IsBelow (length {A = List ℕ} [] + i) r.next = λ id n. let h = chained i r id e n in omega (arith, h) in
     rw place at (from-at [] lines i r e below)
 
 -- the number of no line has no chain
-pub chain-past : (lines : List Reverse) (i : ℕ) → length lines ≤ i → get_or (chains_of lines) i [] ≡ []
+pub chain-past : (lines : List Selector) (i : ℕ) → length lines ≤ i → get_or (chains_of lines) i [] ≡ []
 chain-past lines i h = let e = from-length [] lines in get_or_past (chains_of lines) i [] (omega (arith, h, e))
 
 module _ (t : Tables) where
-  pub reverses-at : (id : ReverseId) (r : Reverse) → slice_get t.reverses.lines.items id.0 ≡ Some r →
-      reverses_from t (Some id) ≡ cons_option (reverse_facts t r) (reverses_from t r.next)
-  reverses-at id r e =
-      ap (filter_map (reverse_at t)) (chain-at t.reverses.lines.items id.0 r t.reverses.chained e)
-      ∙ ap (λ (o : Option Reverse). cons_option (option_and_then (reverse_facts t) o) (reverses_from t r.next)) e
+  pub selector_rows-at : (id : SelectorId) (r : Selector) → slice_get t.selector_rows.lines.items id.0 ≡ Some r →
+      selectors_from t (Some id) ≡ cons_option (selector_facts t r) (selectors_from t r.next)
+  selector_rows-at id r e =
+      ap (filter_map (selector_at t)) (chain-at t.selector_rows.lines.items id.0 r t.selector_rows.chained e)
+      ∙ ap (λ (o : Option Selector). cons_option (option_and_then (selector_facts t) o) (selectors_from t r.next)) e
 
-  pub reverses-past : (id : ReverseId) → slice_get t.reverses.lines.items id.0 ≡ None → reverses_from t (Some id) ≡ []
-  reverses-past id e = ap (filter_map (reverse_at t)) (chain-past t.reverses.lines.items id.0 (past t.reverses.lines.items id.0 e))
+  pub selector_rows-past : (id : SelectorId) → slice_get t.selector_rows.lines.items id.0 ≡ None → selectors_from t (Some id) ≡ []
+  selector_rows-past id e = ap (filter_map (selector_at t)) (chain-past t.selector_rows.lines.items id.0 (past t.selector_rows.lines.items id.0 e))
     where
       past : {X : Type 0} (xs : List X) (i : ℕ) → slice_get xs i ≡ None → length xs ≤ i
       past [] i e = omega arith
@@ -99,16 +99,16 @@ module _ (t : Tables) where
     abbrev pub worth : Guarded SymId → Tri
     worth g = lesser (truth_of_value (known g.what)) (condition tree known g.when)
 
-    abbrev pub reverse_values_from : Option ReverseId → Tri
-    reverse_values_from last = reverse_values tree known (reverses_from t last)
+    abbrev pub selector_values_from : Option SelectorId → Tri
+    selector_values_from last = selector_values tree known (selectors_from t last)
 
-    pub reverse_values-at : (id : ReverseId) (r : Reverse) → slice_get t.reverses.lines.items id.0 ≡ Some r → (at : Option ReverseId) → at ≡ Some id →
-        reverse_values_from at ≡ greater (reverse_values tree known (listed (reverse_facts t r))) (reverse_values_from r.next)
-    reverse_values-at id r e at is = ap reverse_values_from is ∙ ap (reverse_values tree known) (reverses-at id r e) ∙ greatest-cons worth (reverse_facts t r) (reverses_from t r.next)
+    pub selector_values-at : (id : SelectorId) (r : Selector) → slice_get t.selector_rows.lines.items id.0 ≡ Some r → (at : Option SelectorId) → at ≡ Some id →
+        selector_values_from at ≡ greater (selector_values tree known (listed (selector_facts t r))) (selector_values_from r.next)
+    selector_values-at id r e at is = ap selector_values_from is ∙ ap (selector_values tree known) (selector_rows-at id r e) ∙ greatest-cons worth (selector_facts t r) (selectors_from t r.next)
 
-    pub reverse_values-past : (id : ReverseId) → slice_get t.reverses.lines.items id.0 ≡ None → (at : Option ReverseId) → at ≡ Some id → reverse_values_from at ≡ N
-    reverse_values-past id e at is = ap reverse_values_from is ∙ ap (reverse_values tree known) (reverses-past id e)
+    pub selector_values-past : (id : SelectorId) → slice_get t.selector_rows.lines.items id.0 ≡ None → (at : Option SelectorId) → at ≡ Some id → selector_values_from at ≡ N
+    selector_values-past id e at is = ap selector_values_from is ∙ ap (selector_values tree known) (selector_rows-past id e)
 
     -- in the order of the lines
-    pub reverse_values-reverse : (last : Option ReverseId) → reverse_values tree known (reverse (reverses_from t last)) ≡ reverse_values_from last
-    reverse_values-reverse last = greatest-reverse worth (reverses_from t last)
+    pub selector_values-reverse : (last : Option SelectorId) → selector_values tree known (reverse (selectors_from t last)) ≡ selector_values_from last
+    selector_values-reverse last = greatest-reverse worth (selectors_from t last)

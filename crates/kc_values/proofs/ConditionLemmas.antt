@@ -9,7 +9,7 @@ use Rattle.kc_expr.specs.Value.{SymbolValue, value, lesser, least}
 use Rattle.kc_expr.specs.When.{when_view}
 use Rattle.kc_tree.specs.declared.rows.Context.{Context}
 use Rattle.kc_tree.specs.declared.rows.EntryPrompt.{EntryPrompt}
-use Rattle.kc_tree.specs.Contexts.{condition_in, IsPlain, IsContextAt}
+use Rattle.kc_tree.specs.Contexts.{condition_in, HasNoMode, IsContextAt}
 use Rattle.kc_tree.specs.Layouts.{with_when, with_conjuncts, prompt_view}
 use Rattle.kc_tree.specs.TreeFacts.{Condition, TreeFacts}
 use Rattle.kc_tree.specs.Common.{listed}
@@ -62,14 +62,14 @@ module _ (tree : TreeFacts) (known : SymId → SymbolValue) where
   pub condition-plain : (c : Condition) → is_some c.mode ≡ false → condition tree known c ≡ and_value tree known c.conjuncts
   condition-plain c e = ap (λ m. lesser (and_value tree known c.conjuncts) (mode_value tree known m)) (no_mode c.mode e) ∙ lesser_y (and_value tree known c.conjuncts)
 
-  pub within_plain : (first : Tri) (c : Condition) → is_some c.mode ≡ false → lesser first (mode_value tree known c.mode) ≡ first
-  within_plain first c e = ap (λ m. lesser first (mode_value tree known m)) (no_mode c.mode e) ∙ lesser_y first
+  pub within_modeless : (first : Tri) (c : Condition) → is_some c.mode ≡ false → lesser first (mode_value tree known c.mode) ≡ first
+  within_modeless first c e = ap (λ m. lesser first (mode_value tree known m)) (no_mode c.mode e) ∙ lesser_y first
 
   -- a condition and what another one asks for besides
   pub condition-both : (c d : Condition) → is_some d.mode ≡ false → condition tree known (with_conjuncts c d.conjuncts) ≡ lesser (condition tree known c) (condition tree known d)
   condition-both c d e = condition-with_conjuncts c d.conjuncts ∙ ap (lesser (condition tree known c)) (sym (condition-plain d e))
 
-  pub condition-prompt : (conditions : List Condition) (dep : Condition) (p : EntryPrompt) → IsPlain conditions p.visible.0 →
+  pub condition-prompt : (conditions : List Condition) (dep : Condition) (p : EntryPrompt) → HasNoMode conditions p.visible.0 →
       condition tree known (prompt_view conditions dep p) ≡ lesser
       (lesser (condition tree known dep) (condition tree known (condition_in conditions p.visible.0))) (when_value tree known (when_view p.when))
   condition-prompt conditions dep p e =
@@ -99,7 +99,7 @@ module _ (tree : TreeFacts) (known : SymId → SymbolValue) where
 
     by_conjuncts : (i : ℕ) (c : Context) → IsContextAt conditions i c → (least : Tri) → lesser least (mode_at i) ≡ least → (w : Option Form) → when_view c.own_condition ≡ w →
         lesser (lesser least (when_value tree known w)) (mode_at c.outer.0) ≡ lesser least (when_value tree known w)
-    by_conjuncts i c step least within None e = within_plain (lesser least Y) (condition_in conditions c.outer.0) (step.begins e)
+    by_conjuncts i c step least within None e = within_modeless (lesser least Y) (condition_in conditions c.outer.0) (step.begins e)
     by_conjuncts i c step least within (Some f) e =
         let same : (condition_in conditions i).mode ≡ (condition_in conditions c.outer.0).mode = ap (λ (o : Condition). o.mode) step.is ∙ step.keeps f e in
         less_mode least (value known tree.modules f) (mode_at c.outer.0) (ap (λ m. lesser least (mode_value tree known m)) (sym same) ∙ within)

@@ -5,29 +5,29 @@ use Rattle.std.proofs.Math.ListN.{get_or-map}
 use Rattle.std.proofs.lemmas.List.{length-map}
 use Rattle.kc_expr.specs.Names.{symbol}
 use Rattle.kc_expr.specs.declared.expression.SymId.{SymId}
-use Rattle.kc_expr.specs.declared.expression.Kind.TheVariants.{Undefined}
+use Rattle.kc_expr.specs.declared.expression.SymbolType.TheVariants.{Undefined}
 use Rattle.kc_order.specs.Needs.{needs_in}
 use Rattle.kc_tree.specs.TreeFacts.{IsWellFormed, SymbolFacts, TreeFacts}
 use Rattle.kc_values.specs.Laws.{NeedingAreDefined}
 use Rattle.kc_values.specs.Lookups.{facts}
-use Rattle.kc_values.specs.Needs.{mentioned_numbers, names_by_choice, names_by_kind, names_of, needs}
+use Rattle.kc_values.specs.Needs.{mentioned_numbers, names_by_choice, names_by_type, names_of, needs}
 use Rattle.kc_values.proofs.ModeLaws.{members_are_bools}
 use Rattle.kc_values.proofs.TreeNeeds.{needs_at}
 
 module _ (tree : TreeFacts) (formed : IsWellFormed tree) where
   -- a symbol that has a choice or a type is defined
-  pub typed : (s : SymId) (f : SymbolFacts) → facts tree s ≡ Some f → (f.choice ≡ None → f.kind ≡ Undefined → ⊥) → Contains (map (λ (t : SymId). t.0) tree.defined) s.0
+  pub typed : (s : SymId) (f : SymbolFacts) → facts tree s ≡ Some f → (f.choice ≡ None → f.symbol_type ≡ Undefined → ⊥) → Contains (map (λ (t : SymId). t.0) tree.defined) s.0
   typed s f at some =
       let there = formed.typed_defined s f at (by f.choice refl) in
       (there.0, omega (arith, there.1, length-map tree.defined (λ (t : SymId). t.0)), get_or-map (λ (t : SymId). t.0) tree.defined there.0 s ∙ ap (λ (t : SymId). t.0) there.2)
     where
-      by : (c : Option ℕ) → f.choice ≡ c → f.kind ≡ Undefined → ⊥
+      by : (c : Option ℕ) → f.choice ≡ c → f.symbol_type ≡ Undefined → ⊥
       by None e u = some e u
       by (Some c) e u = let b = members_are_bools tree formed s f c at e in absurd cc
 
   -- a symbol without a choice and a type names nothing
-  no_names : (f : SymbolFacts) → f.choice ≡ None → f.kind ≡ Undefined → names_by_choice tree f f.choice ≡ []
-  no_names f none u = ap (names_by_choice tree f) none ∙ ap (names_by_kind tree f) u
+  no_names : (f : SymbolFacts) → f.choice ≡ None → f.symbol_type ≡ Undefined → names_by_choice tree f f.choice ≡ []
+  no_names f none u = ap (names_by_choice tree f) none ∙ ap (names_by_type tree f) u
 
   by_facts : (s t : ℕ) (o : Option SymbolFacts) → facts tree (symbol s) ≡ o → Contains (mentioned_numbers tree (names_of tree o)) t → Contains (map (λ (t : SymId). t.0) tree.defined) s
   by_facts s t None e c = absurd (omega (arith, c.1))

@@ -4,8 +4,8 @@ use Rattle.std.proofs.lemmas.Bool.{true≢false, and_parts}
 use Rattle.kc_expr.specs.declared.expression.SymId.{SymId}
 use Rattle.kc_expr.specs.declared.expression.Tri.{Tri}
 use Rattle.kc_expr.specs.declared.expression.Tri.TheVariants.{N, M, Y}
-use Rattle.kc_expr.specs.declared.expression.Kind.{Kind}
-use Rattle.kc_expr.specs.declared.expression.Kind.TheVariants.{Undefined, Bool as IsBool, Tristate, Str, Int, Hex}
+use Rattle.kc_expr.specs.declared.expression.SymbolType.{SymbolType}
+use Rattle.kc_expr.specs.declared.expression.SymbolType.TheVariants.{Undefined, Bool as IsBool, Tristate, Str, Int, Hex}
 use Rattle.kc_expr.specs.Names.{symbol}
 use Rattle.kc_expr.specs.Value.{SymbolValue, Truth, TextValue}
 use Rattle.kc_tree.specs.TreeFacts.{SymbolFacts, TreeFacts}
@@ -22,7 +22,7 @@ use Rattle.kc_values.specs.Differs.{given_of, default_selection}
 use Rattle.kc_values.specs.Laws.{DifferingAreAllowed}
 use Rattle.kc_values.specs.Members.{MembersAreBools}
 use Rattle.kc_values.proofs.FixedLines.{place_cases, Sel, member_now, other_value, differs-member}
-use Rattle.kc_values.proofs.IdempotentLines.{upgrade_allowed, is_truth_kind}
+use Rattle.kc_values.proofs.IdempotentLines.{upgrade_allowed, is_truth_type}
 use Rattle.kc_values.proofs.ModeLaws.{members_are_bools}
 
 -- a text is the user's, which was allowed, or is the one without it
@@ -39,17 +39,17 @@ inside_allowed : (q : List ℕ → Bool) (b : Bool) (t d : List ℕ) → q t ≡
 inside_allowed q true t d e = inr e
 inside_allowed q false t d e = inl refl
 
-number_allowed : (kind : Kind) (range : Option Interval) (q : List ℕ → Bool) (u : Option GivenValue) (vis : Tri) (d : List ℕ) → ((t : List ℕ) → u ≡ Some (GivenText t) → q t ≡ true) →
-    (unwrap_or (if_within_range kind range (v.visible_text u vis)) d ≡ d) ⊎ (q (unwrap_or (if_within_range kind range (v.visible_text u vis)) d) ≡ true)
-number_allowed kind range q None vis d given = inl refl
-number_allowed kind range q (Some (GivenTruth t)) vis d given = inl refl
-number_allowed kind range q (Some (Member m)) vis d given = inl refl
-number_allowed kind range q (Some (GivenText t)) N d given = inl refl
-number_allowed kind range q (Some (GivenText t)) M d given = inside_allowed q (is_within_range kind range t) t d (given t refl)
-number_allowed kind range q (Some (GivenText t)) Y d given = inside_allowed q (is_within_range kind range t) t d (given t refl)
+number_allowed : (symbol_type : SymbolType) (range : Option Interval) (q : List ℕ → Bool) (u : Option GivenValue) (vis : Tri) (d : List ℕ) → ((t : List ℕ) → u ≡ Some (GivenText t) → q t ≡ true) →
+    (unwrap_or (if_within_range symbol_type range (v.visible_text u vis)) d ≡ d) ⊎ (q (unwrap_or (if_within_range symbol_type range (v.visible_text u vis)) d) ≡ true)
+number_allowed symbol_type range q None vis d given = inl refl
+number_allowed symbol_type range q (Some (GivenTruth t)) vis d given = inl refl
+number_allowed symbol_type range q (Some (Member m)) vis d given = inl refl
+number_allowed symbol_type range q (Some (GivenText t)) N d given = inl refl
+number_allowed symbol_type range q (Some (GivenText t)) M d given = inside_allowed q (is_within_range symbol_type range t) t d (given t refl)
+number_allowed symbol_type range q (Some (GivenText t)) Y d given = inside_allowed q (is_within_range symbol_type range t) t d (given t refl)
 
 module _ (tree : TreeFacts) (k : SymId → SymbolValue) where
-  upgraded_allowed : (kind : Kind) (t : Tri) → is_truth_kind tree k kind ≡ true → allowed_truth kind (v.upgraded tree k kind t) ≡ true
+  upgraded_allowed : (symbol_type : SymbolType) (t : Tri) → is_truth_type tree k symbol_type ≡ true → allowed_truth symbol_type (v.upgraded tree k symbol_type t) ≡ true
   upgraded_allowed IsBool t e = upgrade_allowed tree k t
   upgraded_allowed Tristate t e = refl
   upgraded_allowed Undefined t e = absurd (true≢false (sym e))
@@ -61,32 +61,32 @@ module _ (tree : TreeFacts) (k : SymId → SymbolValue) where
   abbrev AllowedOr : (Option GivenValue → SymbolValue) → (GivenValue → Bool) → Option GivenValue → Type 0
   AllowedOr f allow u = (f u ≡ f None) ⊎ (allow (given_of (f u)) ≡ true)
 
-  module _ (s : SymId) (f : SymbolFacts) (u : Option GivenValue) (given : (g : GivenValue) → u ≡ Some g → allowed_by f.kind g ≡ true) where
+  module _ (s : SymId) (f : SymbolFacts) (u : Option GivenValue) (given : (g : GivenValue) → u ≡ Some g → allowed_by f.symbol_type g ≡ true) where
     abbrev Default : List ℕ
     Default = v.default_text k (v.first_met tree k f.defaults)
 
-    kind_allowed : (kind : Kind) → kind ≡ f.kind → AllowedOr (v.by_kind tree k s f kind) (allowed_by f.kind) u
-    kind_allowed Undefined h = inl refl
-    kind_allowed IsBool h = inr (upgraded_allowed f.kind _ (ap (is_truth_kind tree k) (sym h)))
-    kind_allowed Tristate h = inr (upgraded_allowed f.kind _ (ap (is_truth_kind tree k) (sym h)))
-    kind_allowed Str h =
-        elim (text_allowed (allowed_text f.kind) u (v.visibility tree k f) Default (λ t e. given (GivenText t) e)) [
+    type_allowed : (symbol_type : SymbolType) → symbol_type ≡ f.symbol_type → AllowedOr (v.by_type tree k s f symbol_type) (allowed_by f.symbol_type) u
+    type_allowed Undefined h = inl refl
+    type_allowed IsBool h = inr (upgraded_allowed f.symbol_type _ (ap (is_truth_type tree k) (sym h)))
+    type_allowed Tristate h = inr (upgraded_allowed f.symbol_type _ (ap (is_truth_type tree k) (sym h)))
+    type_allowed Str h =
+        elim (text_allowed (allowed_text f.symbol_type) u (v.visibility tree k f) Default (λ t e. given (GivenText t) e)) [
           | inl e ↦ inl (ap (TextValue Str) e)
           | inr e ↦ inr e
         ]
-    kind_allowed Int h =
-        elim (number_allowed f.kind (v.active_range tree k f) (allowed_text f.kind) u (v.visibility tree k f) (clamped f.kind (v.active_range tree k f) Default) (λ t e. given (GivenText t) e)) [
+    type_allowed Int h =
+        elim (number_allowed f.symbol_type (v.active_range tree k f) (allowed_text f.symbol_type) u (v.visibility tree k f) (clamped f.symbol_type (v.active_range tree k f) Default) (λ t e. given (GivenText t) e)) [
           | inl e ↦ inl (ap (TextValue Int) e)
           | inr e ↦ inr e
         ]
-    kind_allowed Hex h =
-        elim (number_allowed f.kind (v.active_range tree k f) (allowed_text f.kind) u (v.visibility tree k f) (clamped f.kind (v.active_range tree k f) Default) (λ t e. given (GivenText t) e)) [
+    type_allowed Hex h =
+        elim (number_allowed f.symbol_type (v.active_range tree k f) (allowed_text f.symbol_type) u (v.visibility tree k f) (clamped f.symbol_type (v.active_range tree k f) Default) (λ t e. given (GivenText t) e)) [
           | inl e ↦ inl (ap (TextValue Hex) e)
           | inr e ↦ inr e
         ]
 
-    choice_allowed : (i : ℕ) (c : Option ℕ) → sol.user_place_by i c ≡ SymbolPlace i → AllowedOr (v.by_choice tree k s f c) (allowed_by f.kind) u
-    choice_allowed i None e = kind_allowed f.kind refl
+    choice_allowed : (i : ℕ) (c : Option ℕ) → sol.user_place_by i c ≡ SymbolPlace i → AllowedOr (v.by_choice tree k s f c) (allowed_by f.symbol_type) u
+    choice_allowed i None e = type_allowed f.symbol_type refl
     choice_allowed i (Some c) e = cc
 
   facts_allowed : (s : SymId) (i : ℕ) (f : Option SymbolFacts) (u : Option GivenValue) → sol.user_place_of i f ≡ SymbolPlace i → ((g : GivenValue) → u ≡ Some g → allowed_for f g ≡ true) →
@@ -102,7 +102,7 @@ member_choice f i c (Some d) e = let h : d ≡ c = cc in ap Some h
 member_allowed : (tree : TreeFacts) (i c : ℕ) (f : Option SymbolFacts) → facts tree (symbol i) ≡ f → MembersAreBools tree → sol.user_place_of i f ≡ ChoicePlace c → allowed_for f (GivenTruth Y) ≡ true
 member_allowed tree i c None at bools e = cc
 member_allowed tree i c (Some f) at bools e =
-    ap (λ kind. allowed_truth kind Y) (bools (symbol i) f c at (member_choice f i c f.choice e))
+    ap (λ symbol_type. allowed_truth symbol_type Y) (bools (symbol i) f c at (member_choice f i c f.choice e))
 
 pub differing_allowed : DifferingAreAllowed
 differing_allowed tree user V i l formed given solves t =

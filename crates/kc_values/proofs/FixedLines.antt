@@ -5,8 +5,8 @@ use Rattle.std.proofs.lemmas.Bool.{cases_Bool, true≢false, not-true, not-false
 use Rattle.kc_expr.specs.declared.expression.SymId.{SymId}
 use Rattle.kc_expr.specs.declared.expression.Tri.{Tri}
 use Rattle.kc_expr.specs.declared.expression.Tri.TheVariants.{N, Y}
-use Rattle.kc_expr.specs.declared.expression.Kind.{Kind}
-use Rattle.kc_expr.specs.declared.expression.Kind.TheVariants.{Undefined, Bool as IsBool, Tristate, Str, Int, Hex}
+use Rattle.kc_expr.specs.declared.expression.SymbolType.{SymbolType}
+use Rattle.kc_expr.specs.declared.expression.SymbolType.TheVariants.{Undefined, Bool as IsBool, Tristate, Str, Int, Hex}
 use Rattle.kc_expr.specs.Value.{SymbolValue, Truth, TextValue, greater}
 use Rattle.kc_expr.specs.Names.{symbol}
 use Rattle.kc_tree.specs.TreeFacts.{SymbolFacts, ChoiceFacts, TreeFacts}
@@ -34,33 +34,33 @@ abbrev Again : (Option GivenValue → SymbolValue) → SymbolValue → Type 0
 Again f e = (e ≡ f None) ⊎ (f (Some (given_of e)) ≡ e)
 
 module _ (tree : TreeFacts) (k : SymId → SymbolValue) where
-  truth_again : (b : Bool) (vis reverse o : Tri) (user : Option GivenValue) →
-      Again (λ u. Truth (upgrade_if b (greater (v.user_or u (upgrade_if b vis) o) (upgrade_if b reverse))))
-      (Truth (upgrade_if b (greater (v.user_or user (upgrade_if b vis) o) (upgrade_if b reverse))))
-  truth_again b vis reverse o None = inl refl
-  truth_again b vis reverse o (Some (GivenText t)) = inl refl
-  truth_again b vis reverse o (Some (Member m)) = inl refl
-  truth_again b vis reverse o (Some (GivenTruth u)) =
-      elim (line_fixed b u vis reverse o) [
+  truth_again : (b : Bool) (vis selected_to o : Tri) (user : Option GivenValue) →
+      Again (λ u. Truth (upgrade_if b (greater (v.user_or u (upgrade_if b vis) o) (upgrade_if b selected_to))))
+      (Truth (upgrade_if b (greater (v.user_or user (upgrade_if b vis) o) (upgrade_if b selected_to))))
+  truth_again b vis selected_to o None = inl refl
+  truth_again b vis selected_to o (Some (GivenText t)) = inl refl
+  truth_again b vis selected_to o (Some (Member m)) = inl refl
+  truth_again b vis selected_to o (Some (GivenTruth u)) =
+      elim (line_fixed b u vis selected_to o) [
         | inl e ↦ inl (ap Truth e)
         | inr e ↦ inr (ap Truth e)
       ]
 
   module _ (f : SymbolFacts) where
-    truth_by_kind : (kind : Kind) (user : Option GivenValue) (vis reverse o : Tri) →
-        Again (λ u. Truth (v.upgraded tree k kind (greater (v.user_or u (v.upgraded tree k kind vis) o) (v.upgraded tree k kind reverse))))
-        (Truth (v.upgraded tree k kind (greater (v.user_or user (v.upgraded tree k kind vis) o) (v.upgraded tree k kind reverse))))
-    truth_by_kind Undefined user vis reverse o = truth_again true vis reverse o user
-    truth_by_kind IsBool user vis reverse o = truth_again true vis reverse o user
-    truth_by_kind Tristate user vis reverse o = truth_again (is_n (v.modules_value k tree.modules)) vis reverse o user
-    truth_by_kind Str user vis reverse o = truth_again true vis reverse o user
-    truth_by_kind Int user vis reverse o = truth_again true vis reverse o user
-    truth_by_kind Hex user vis reverse o = truth_again true vis reverse o user
+    truth_by_type : (symbol_type : SymbolType) (user : Option GivenValue) (vis selected_to o : Tri) →
+        Again (λ u. Truth (v.upgraded tree k symbol_type (greater (v.user_or u (v.upgraded tree k symbol_type vis) o) (v.upgraded tree k symbol_type selected_to))))
+        (Truth (v.upgraded tree k symbol_type (greater (v.user_or user (v.upgraded tree k symbol_type vis) o) (v.upgraded tree k symbol_type selected_to))))
+    truth_by_type Undefined user vis selected_to o = truth_again true vis selected_to o user
+    truth_by_type IsBool user vis selected_to o = truth_again true vis selected_to o user
+    truth_by_type Tristate user vis selected_to o = truth_again (is_n (v.modules_value k tree.modules)) vis selected_to o user
+    truth_by_type Str user vis selected_to o = truth_again true vis selected_to o user
+    truth_by_type Int user vis selected_to o = truth_again true vis selected_to o user
+    truth_by_type Hex user vis selected_to o = truth_again true vis selected_to o user
 
     truth_fixed : (user : Option GivenValue) → Again (λ u. Truth (v.truth_equation tree k f u)) (Truth (v.truth_equation tree k f user))
     truth_fixed user =
-        truth_by_kind f.kind user (v.conditions tree k f.prompts) (v.reverse_values tree k f.selectors)
-        (v.implied (v.default_value tree k (v.first_met tree k f.defaults)) (v.weak_reverse tree k f) (v.direct tree k f))
+        truth_by_type f.symbol_type user (v.conditions tree k f.prompts) (v.selector_values tree k f.selectors)
+        (v.implied (v.default_value tree k (v.first_met tree k f.defaults)) (v.implied_to tree k f) (v.direct tree k f))
 
     text_again : (b : Bool) (t d : List ℕ) → (unwrap_or (cond b None (Some t)) d ≡ d) ⊎ (unwrap_or (cond b None (Some (unwrap_or (cond b None (Some t)) d))) d ≡ unwrap_or (cond b None (Some t)) d)
     text_again true t d = inl refl
@@ -76,38 +76,38 @@ module _ (tree : TreeFacts) (k : SymId → SymbolValue) where
           | inr e ↦ inr (ap (TextValue Str) e)
         ]
 
-    number_again : (b : Bool) (kind : Kind) (range : Option Interval) (t d : List ℕ) →
-        (unwrap_or (if_within_range kind range (cond b None (Some t))) d ≡ d) ⊎
-        (unwrap_or (if_within_range kind range (cond b None (Some (unwrap_or (if_within_range kind range (cond b None (Some t))) d)))) d ≡ unwrap_or (if_within_range kind range (cond b None (Some t))) d)
-    number_again true kind range t d = inl refl
-    number_again false kind range t d =
-        let F = λ (x : List ℕ). unwrap_or (if_within_range kind range (Some x)) d in
-        elim (cases_Bool (is_within_range kind range t)) [
+    number_again : (b : Bool) (symbol_type : SymbolType) (range : Option Interval) (t d : List ℕ) →
+        (unwrap_or (if_within_range symbol_type range (cond b None (Some t))) d ≡ d) ⊎
+        (unwrap_or (if_within_range symbol_type range (cond b None (Some (unwrap_or (if_within_range symbol_type range (cond b None (Some t))) d)))) d ≡ unwrap_or (if_within_range symbol_type range (cond b None (Some t))) d)
+    number_again true symbol_type range t d = inl refl
+    number_again false symbol_type range t d =
+        let F = λ (x : List ℕ). unwrap_or (if_within_range symbol_type range (Some x)) d in
+        elim (cases_Bool (is_within_range symbol_type range t)) [
           | inl y ↦ let e : F t ≡ t = ap (λ c. unwrap_or (cond c (Some t) None) d) y in inr (ap F e)
           | inr n ↦ inl (ap (λ c. unwrap_or (cond c (Some t) None) d) n)
         ]
 
-    number_fixed : (kind : Kind) (user : Option GivenValue) → Again (λ u. TextValue kind (v.number_equation tree k f u)) (TextValue kind (v.number_equation tree k f user))
-    number_fixed kind None = inl refl
-    number_fixed kind (Some (GivenTruth t)) = inl refl
-    number_fixed kind (Some (Member m)) = inl refl
-    number_fixed kind (Some (GivenText t)) =
+    number_fixed : (symbol_type : SymbolType) (user : Option GivenValue) → Again (λ u. TextValue symbol_type (v.number_equation tree k f u)) (TextValue symbol_type (v.number_equation tree k f user))
+    number_fixed symbol_type None = inl refl
+    number_fixed symbol_type (Some (GivenTruth t)) = inl refl
+    number_fixed symbol_type (Some (Member m)) = inl refl
+    number_fixed symbol_type (Some (GivenText t)) =
         let range = v.active_range tree k f in
-        elim (number_again (is_n (v.visibility tree k f)) f.kind range t (clamped f.kind range (v.default_text k (v.first_met tree k f.defaults)))) [
-          | inl e ↦ inl (ap (TextValue kind) e)
-          | inr e ↦ inr (ap (TextValue kind) e)
+        elim (number_again (is_n (v.visibility tree k f)) f.symbol_type range t (clamped f.symbol_type range (v.default_text k (v.first_met tree k f.defaults)))) [
+          | inl e ↦ inl (ap (TextValue symbol_type) e)
+          | inr e ↦ inr (ap (TextValue symbol_type) e)
         ]
 
-    fixed_by_kind : (s : SymId) (kind : Kind) (user : Option GivenValue) → Again (v.by_kind tree k s f kind) (v.by_kind tree k s f kind user)
-    fixed_by_kind s Undefined user = inl refl
-    fixed_by_kind s IsBool user = truth_fixed user
-    fixed_by_kind s Tristate user = truth_fixed user
-    fixed_by_kind s Str user = text_fixed user
-    fixed_by_kind s Int user = number_fixed Int user
-    fixed_by_kind s Hex user = number_fixed Hex user
+    fixed_by_type : (s : SymId) (symbol_type : SymbolType) (user : Option GivenValue) → Again (v.by_type tree k s f symbol_type) (v.by_type tree k s f symbol_type user)
+    fixed_by_type s Undefined user = inl refl
+    fixed_by_type s IsBool user = truth_fixed user
+    fixed_by_type s Tristate user = truth_fixed user
+    fixed_by_type s Str user = text_fixed user
+    fixed_by_type s Int user = number_fixed Int user
+    fixed_by_type s Hex user = number_fixed Hex user
 
     fixed_by_choice : (s : SymId) (i : ℕ) (c : Option ℕ) (user : Option GivenValue) → sol.user_place_by i c ≡ SymbolPlace i → Again (v.by_choice tree k s f c) (v.by_choice tree k s f c user)
-    fixed_by_choice s i None user e = fixed_by_kind s f.kind user
+    fixed_by_choice s i None user e = fixed_by_type s f.symbol_type user
     fixed_by_choice s i (Some c) user e = cc
 
   fixed_facts : (s : SymId) (i : ℕ) (f : Option SymbolFacts) (user : Option GivenValue) → sol.user_place_of i f ≡ SymbolPlace i → Again (v.equation tree k s f) (v.equation tree k s f user)

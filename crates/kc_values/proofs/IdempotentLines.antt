@@ -6,8 +6,8 @@ use Rattle.std.proofs.lemmas.Bool.{cases_Bool, true≢false, and_parts, and_righ
 use Rattle.kc_expr.specs.declared.expression.SymId.{SymId}
 use Rattle.kc_expr.specs.declared.expression.Tri.{Tri}
 use Rattle.kc_expr.specs.declared.expression.Tri.TheVariants.{N, M, Y}
-use Rattle.kc_expr.specs.declared.expression.Kind.{Kind}
-use Rattle.kc_expr.specs.declared.expression.Kind.TheVariants.{Undefined, Bool as IsBool, Tristate, Str, Int, Hex}
+use Rattle.kc_expr.specs.declared.expression.SymbolType.{SymbolType}
+use Rattle.kc_expr.specs.declared.expression.SymbolType.TheVariants.{Undefined, Bool as IsBool, Tristate, Str, Int, Hex}
 use Rattle.kc_expr.specs.Value.{SymbolValue, Truth, TextValue, greater, lesser, truth_of_value}
 use Rattle.kc_expr.specs.Names.{symbol}
 use Rattle.kc_tree.specs.TreeFacts.{SymbolFacts, ChoiceFacts, TreeFacts}
@@ -46,39 +46,39 @@ module _ (tree : TreeFacts) (k : SymId → SymbolValue) where
 
   -- the value under a user's place
   abbrev Out : Bool → Tri → Tri → Tri → Option GivenValue → Tri
-  Out b vis reverse o u = upgrade_if b (greater (v.user_or u (upgrade_if b vis) o) (upgrade_if b reverse))
+  Out b vis selected_to o u = upgrade_if b (greater (v.user_or u (upgrade_if b vis) o) (upgrade_if b selected_to))
 
   abbrev Line : Bool → Bool → Tri → Option GivenValue
   Line w a t = cond (w && a) (Some (GivenTruth t)) None
 
-  upgrade_if_stays : (b : Bool) (allow : Tri → Bool) (u : Option GivenValue) (vis reverse o : Tri) (w : Bool) → (is_n (upgrade_if b vis) ≡ false → w ≡ true) →
+  upgrade_if_stays : (b : Bool) (allow : Tri → Bool) (u : Option GivenValue) (vis selected_to o : Tri) (w : Bool) → (is_n (upgrade_if b vis) ≡ false → w ≡ true) →
       ((y : Tri) → allow (upgrade_if b y) ≡ true) →
-      Keeps (Truth (Out b vis reverse o u)) (Truth (Out b vis reverse o (Line w (allow (Out b vis reverse o u)) (Out b vis reverse o u))))
-      (not b && (not (is_n (upgrade_if b vis)) && (above (Out b vis reverse o u) (upgrade_if b vis) && above (Out b vis reverse o u) (upgrade_if b reverse))))
-  upgrade_if_stays b allow u vis reverse o w shown allowed =
-      let t = Out b vis reverse o u in
-      let R = λ (x : Tri). upgrade_if b (greater x (upgrade_if b reverse)) in
+      Keeps (Truth (Out b vis selected_to o u)) (Truth (Out b vis selected_to o (Line w (allow (Out b vis selected_to o u)) (Out b vis selected_to o u))))
+      (not b && (not (is_n (upgrade_if b vis)) && (above (Out b vis selected_to o u) (upgrade_if b vis) && above (Out b vis selected_to o u) (upgrade_if b selected_to))))
+  upgrade_if_stays b allow u vis selected_to o w shown allowed =
+      let t = Out b vis selected_to o u in
+      let R = λ (x : Tri). upgrade_if b (greater x (upgrade_if b selected_to)) in
       elim (cases_Bool (is_n (upgrade_if b vis))) [
         | inl hidden ↦
             let e = ap R (user_or_hidden u (upgrade_if b vis) o hidden) ∙ sym (ap R (user_or_hidden (Line w (allow t) t) (upgrade_if b vis) o hidden)) in
             inl (
               ap Truth e,
-              and_right (not b) (not (is_n (upgrade_if b vis)) && (above t (upgrade_if b vis) && above t (upgrade_if b reverse)))
-                  (ap (λ h. not h && (above t (upgrade_if b vis) && above t (upgrade_if b reverse))) hidden),
+              and_right (not b) (not (is_n (upgrade_if b vis)) && (above t (upgrade_if b vis) && above t (upgrade_if b selected_to)))
+                  (ap (λ h. not h && (above t (upgrade_if b vis) && above t (upgrade_if b selected_to))) hidden),
             )
         | inr seen_now ↦
             let base = v.user_or u (upgrade_if b vis) o in
             let place : Line w (allow t) t ≡ Some (GivenTruth t) =
-            ap (λ x. Line x (allow t) t) (shown seen_now) ∙ ap (λ x. Line true x t) (allowed (greater base (upgrade_if b reverse)))
+            ap (λ x. Line x (allow t) t) (shown seen_now) ∙ ap (λ x. Line true x t) (allowed (greater base (upgrade_if b selected_to)))
             in
-            let new : Out b vis reverse o (Line w (allow t) t) ≡ outcome b (base_of t (upgrade_if b vis) o) reverse = ap (Out b vis reverse o) place in
-            let tell : (not b && (not (is_n (upgrade_if b vis)) && (above t (upgrade_if b vis) && above t (upgrade_if b reverse)))) ≡
-            (not b && (above t (upgrade_if b vis) && above t (upgrade_if b reverse))) =
-            ap (λ h. not b && (not h && (above t (upgrade_if b vis) && above t (upgrade_if b reverse)))) seen_now
+            let new : Out b vis selected_to o (Line w (allow t) t) ≡ outcome b (base_of t (upgrade_if b vis) o) selected_to = ap (Out b vis selected_to o) place in
+            let tell : (not b && (not (is_n (upgrade_if b vis)) && (above t (upgrade_if b vis) && above t (upgrade_if b selected_to)))) ≡
+            (not b && (above t (upgrade_if b vis) && above t (upgrade_if b selected_to))) =
+            ap (λ h. not b && (not h && (above t (upgrade_if b vis) && above t (upgrade_if b selected_to)))) seen_now
             in
-            elim (line_keeps b base vis reverse o seen_now) [
+            elim (line_keeps b base vis selected_to o seen_now) [
               | inl same ↦ inl (ap Truth (same.0 ∙ sym new), tell ∙ same.1)
-              | inr other ↦ inr ((λ e. let h : t ≡ outcome b (base_of t (upgrade_if b vis) o) reverse = ap truth_of_value e ∙ new in other.0 h), tell ∙ other.1)
+              | inr other ↦ inr ((λ e. let h : t ≡ outcome b (base_of t (upgrade_if b vis) o) selected_to = ap truth_of_value e ∙ new in other.0 h), tell ∙ other.1)
             ]
       ]
 
@@ -87,27 +87,27 @@ module _ (tree : TreeFacts) (k : SymId → SymbolValue) where
   upgrade_allowed M = refl
   upgrade_allowed Y = refl
 
-  abbrev pub is_truth_kind : Kind → Bool
-  is_truth_kind Undefined = false
-  is_truth_kind IsBool = true
-  is_truth_kind Tristate = true
-  is_truth_kind Str = false
-  is_truth_kind Int = false
-  is_truth_kind Hex = false
+  abbrev pub is_truth_type : SymbolType → Bool
+  is_truth_type Undefined = false
+  is_truth_type IsBool = true
+  is_truth_type Tristate = true
+  is_truth_type Str = false
+  is_truth_type Int = false
+  is_truth_type Hex = false
 
-  abbrev OutBy : Kind → Tri → Tri → Tri → Option GivenValue → Tri
-  OutBy kind vis reverse o u = v.upgraded tree k kind (greater (v.user_or u (v.upgraded tree k kind vis) o) (v.upgraded tree k kind reverse))
+  abbrev OutBy : SymbolType → Tri → Tri → Tri → Option GivenValue → Tri
+  OutBy symbol_type vis selected_to o u = v.upgraded tree k symbol_type (greater (v.user_or u (v.upgraded tree k symbol_type vis) o) (v.upgraded tree k symbol_type selected_to))
 
-  truth_settles : (kind : Kind) → is_truth_kind kind ≡ true → (u : Option GivenValue) (vis reverse o : Tri) (w : Bool) → (is_n (v.upgraded tree k kind vis) ≡ false → w ≡ true) →
-      Keeps (Truth (OutBy kind vis reverse o u)) (Truth (OutBy kind vis reverse o (Line w (allowed_truth kind (OutBy kind vis reverse o u)) (OutBy kind vis reverse o u))))
-      (ls.is_tristate tree k kind &&
-      (not (is_n (v.upgraded tree k kind vis)) && (above (OutBy kind vis reverse o u) (v.upgraded tree k kind vis) && above (OutBy kind vis reverse o u) (v.upgraded tree k kind reverse))))
-  truth_settles IsBool e u vis reverse o w shown = upgrade_if_stays true (allowed_truth IsBool) u vis reverse o w shown upgrade_allowed
-  truth_settles Tristate e u vis reverse o w shown = upgrade_if_stays (is_n (v.modules_value k tree.modules)) (allowed_truth Tristate) u vis reverse o w shown (λ y. refl)
-  truth_settles Undefined e u vis reverse o w shown = absurd (true≢false (sym e))
-  truth_settles Str e u vis reverse o w shown = absurd (true≢false (sym e))
-  truth_settles Int e u vis reverse o w shown = absurd (true≢false (sym e))
-  truth_settles Hex e u vis reverse o w shown = absurd (true≢false (sym e))
+  truth_settles : (symbol_type : SymbolType) → is_truth_type symbol_type ≡ true → (u : Option GivenValue) (vis selected_to o : Tri) (w : Bool) → (is_n (v.upgraded tree k symbol_type vis) ≡ false → w ≡ true) →
+      Keeps (Truth (OutBy symbol_type vis selected_to o u)) (Truth (OutBy symbol_type vis selected_to o (Line w (allowed_truth symbol_type (OutBy symbol_type vis selected_to o u)) (OutBy symbol_type vis selected_to o u))))
+      (ls.is_tristate tree k symbol_type &&
+      (not (is_n (v.upgraded tree k symbol_type vis)) && (above (OutBy symbol_type vis selected_to o u) (v.upgraded tree k symbol_type vis) && above (OutBy symbol_type vis selected_to o u) (v.upgraded tree k symbol_type selected_to))))
+  truth_settles IsBool e u vis selected_to o w shown = upgrade_if_stays true (allowed_truth IsBool) u vis selected_to o w shown upgrade_allowed
+  truth_settles Tristate e u vis selected_to o w shown = upgrade_if_stays (is_n (v.modules_value k tree.modules)) (allowed_truth Tristate) u vis selected_to o w shown (λ y. refl)
+  truth_settles Undefined e u vis selected_to o w shown = absurd (true≢false (sym e))
+  truth_settles Str e u vis selected_to o w shown = absurd (true≢false (sym e))
+  truth_settles Int e u vis selected_to o w shown = absurd (true≢false (sym e))
+  truth_settles Hex e u vis selected_to o w shown = absurd (true≢false (sym e))
 
   -- Texts and numbers.
   abbrev TextLine : Bool → Bool → List ℕ → Option GivenValue
@@ -128,9 +128,9 @@ module _ (tree : TreeFacts) (k : SymId → SymbolValue) where
   text_settles q (Some (GivenText t)) M d w shown given = sym (ap (λ b. unwrap_or (v.visible_text (cond b (Some (GivenText t)) None) M) d) (and_from w (q t) (shown refl) (given t refl)))
   text_settles q (Some (GivenText t)) Y d w shown given = sym (ap (λ b. unwrap_or (v.visible_text (cond b (Some (GivenText t)) None) Y) d) (and_from w (q t) (shown refl) (given t refl)))
 
-  module _ (kind : Kind) (range : Option Interval) where
+  module _ (symbol_type : SymbolType) (range : Option Interval) where
     abbrev Ranged : Tri → List ℕ → Option GivenValue → List ℕ
-    Ranged vis d u = unwrap_or (if_within_range kind range (v.visible_text u vis)) d
+    Ranged vis d u = unwrap_or (if_within_range symbol_type range (v.visible_text u vis)) d
 
     either_way : (b : Bool) (d : List ℕ) → d ≡ unwrap_or (cond b (Some d) None) d
     either_way true d = refl
@@ -138,23 +138,23 @@ module _ (tree : TreeFacts) (k : SymId → SymbolValue) where
 
     unused_number : (a : Bool) (vis : Tri) (d : List ℕ) → d ≡ Ranged vis d (cond a (Some (GivenText d)) None)
     unused_number true N d = refl
-    unused_number true M d = either_way (is_within_range kind range d) d
-    unused_number true Y d = either_way (is_within_range kind range d) d
+    unused_number true M d = either_way (is_within_range symbol_type range d) d
+    unused_number true Y d = either_way (is_within_range symbol_type range d) d
     unused_number false vis d = refl
 
     shown_number : (q : List ℕ → Bool) (t d : List ℕ) (w : Bool) → w ≡ true → q t ≡ true →
-        unwrap_or (cond (is_within_range kind range t) (Some t) None) d ≡ Ranged Y d
-        (TextLine w (q (unwrap_or (cond (is_within_range kind range t) (Some t) None) d)) (unwrap_or (cond (is_within_range kind range t) (Some t) None) d))
+        unwrap_or (cond (is_within_range symbol_type range t) (Some t) None) d ≡ Ranged Y d
+        (TextLine w (q (unwrap_or (cond (is_within_range symbol_type range t) (Some t) None) d)) (unwrap_or (cond (is_within_range symbol_type range t) (Some t) None) d))
     shown_number q t d w shown given =
         let T = λ (b : Bool). unwrap_or (cond b (Some t) None) d in
         let F = λ (x : List ℕ). Ranged Y d (TextLine w (q x) x) in
-        elim (cases_Bool (is_within_range kind range t)) [
+        elim (cases_Bool (is_within_range symbol_type range t)) [
           | inl y ↦
-              let e : T (is_within_range kind range t) ≡ t = ap T y in
+              let e : T (is_within_range symbol_type range t) ≡ t = ap T y in
               let f : F t ≡ t = ap (λ b. Ranged Y d (cond b (Some (GivenText t)) None)) (and_from w (q t) shown given) ∙ e in
               e ∙ sym f ∙ sym (ap F e)
           | inr n ↦
-              let e : T (is_within_range kind range t) ≡ d = ap T n in
+              let e : T (is_within_range symbol_type range t) ≡ d = ap T n in
               e ∙ unused_number (w && q d) Y d ∙ sym (ap F e)
         ]
 
@@ -180,47 +180,47 @@ module _ (tree : TreeFacts) (k : SymId → SymbolValue) where
   shown_first b c e = ap (λ x. not x || c) e
 
   module _ (s : SymId) (f : SymbolFacts) where
-    not_tristate : (kind : Kind) (t : Tri) → ls.is_tristate tree k kind ≡ false → kind ≡ f.kind → ls.changes_on_reread_truth tree k f t ≡ false
-    not_tristate kind t n h =
-        ap (λ x. ls.is_tristate tree k x && (ls.is_visible tree k f && (above t (v.visibility tree k f) && above t (v.reverse tree k f)))) (sym h)
-        ∙ ap (λ b. b && (ls.is_visible tree k f && (above t (v.visibility tree k f) && above t (v.reverse tree k f)))) n
+    not_tristate : (symbol_type : SymbolType) (t : Tri) → ls.is_tristate tree k symbol_type ≡ false → symbol_type ≡ f.symbol_type → ls.changes_on_reread_truth tree k f t ≡ false
+    not_tristate symbol_type t n h =
+        ap (λ x. ls.is_tristate tree k x && (ls.is_visible tree k f && (above t (v.visibility tree k f) && above t (v.selected_to tree k f)))) (sym h)
+        ∙ ap (λ b. b && (ls.is_visible tree k f && (above t (v.visibility tree k f) && above t (v.selected_to tree k f)))) n
 
-    truth_line : (u : Option GivenValue) → is_truth_kind f.kind ≡ true →
-        Settling (λ p. Truth (v.truth_equation tree k f p)) (ls.written_truth tree k f) (allowed_by f.kind) (ls.changes_on_reread_truth tree k f) (Truth (v.truth_equation tree k f u))
+    truth_line : (u : Option GivenValue) → is_truth_type f.symbol_type ≡ true →
+        Settling (λ p. Truth (v.truth_equation tree k f p)) (ls.written_truth tree k f) (allowed_by f.symbol_type) (ls.changes_on_reread_truth tree k f) (Truth (v.truth_equation tree k f u))
     truth_line u e =
-        truth_settles f.kind e u (v.conditions tree k f.prompts) (v.reverse_values tree k f.selectors)
-        (v.implied (v.default_value tree k (v.first_met tree k f.defaults)) (v.weak_reverse tree k f) (v.direct tree k f))
+        truth_settles f.symbol_type e u (v.conditions tree k f.prompts) (v.selector_values tree k f.selectors)
+        (v.implied (v.default_value tree k (v.first_met tree k f.defaults)) (v.implied_to tree k f) (v.direct tree k f))
         (ls.written_truth tree k f) (λ h. shown_first (is_n (v.visibility tree k f)) _ h)
 
-    settles_by_kind : (kind : Kind) (u : Option GivenValue) → kind ≡ f.kind → ((g : GivenValue) → u ≡ Some g → allowed_by f.kind g ≡ true) →
-        Settling (v.by_kind tree k s f kind) (ls.written_by_kind tree k f kind) (allowed_by f.kind) (ls.changes_on_reread_truth tree k f) (v.by_kind tree k s f kind u)
-    settles_by_kind Undefined u h given = inl (refl, not_tristate Undefined N refl h)
-    settles_by_kind IsBool u h given = truth_line u (ap is_truth_kind (sym h))
-    settles_by_kind Tristate u h given = truth_line u (ap is_truth_kind (sym h))
-    settles_by_kind Str u h given =
+    settles_by_type : (symbol_type : SymbolType) (u : Option GivenValue) → symbol_type ≡ f.symbol_type → ((g : GivenValue) → u ≡ Some g → allowed_by f.symbol_type g ≡ true) →
+        Settling (v.by_type tree k s f symbol_type) (ls.written_by_type tree k f symbol_type) (allowed_by f.symbol_type) (ls.changes_on_reread_truth tree k f) (v.by_type tree k s f symbol_type u)
+    settles_by_type Undefined u h given = inl (refl, not_tristate Undefined N refl h)
+    settles_by_type IsBool u h given = truth_line u (ap is_truth_type (sym h))
+    settles_by_type Tristate u h given = truth_line u (ap is_truth_type (sym h))
+    settles_by_type Str u h given =
         inl (
-          ap (TextValue Str) (text_settles (allowed_text f.kind) u (v.visibility tree k f) (v.default_text k (v.first_met tree k f.defaults)) (ls.written_text tree k f)
+          ap (TextValue Str) (text_settles (allowed_text f.symbol_type) u (v.visibility tree k f) (v.default_text k (v.first_met tree k f.defaults)) (ls.written_text tree k f)
               (λ e. shown_first (is_n (v.visibility tree k f)) _ e) (λ t e. given (GivenText t) e)),
           not_tristate Str N refl h,
         )
-    settles_by_kind Int u h given =
+    settles_by_type Int u h given =
         inl (
-          ap (TextValue Int) (number_settles f.kind (v.active_range tree k f) (allowed_text f.kind) u (v.visibility tree k f)
-              (clamped f.kind (v.active_range tree k f) (v.default_text k (v.first_met tree k f.defaults))) (ls.written_text tree k f)
+          ap (TextValue Int) (number_settles f.symbol_type (v.active_range tree k f) (allowed_text f.symbol_type) u (v.visibility tree k f)
+              (clamped f.symbol_type (v.active_range tree k f) (v.default_text k (v.first_met tree k f.defaults))) (ls.written_text tree k f)
               (λ e. shown_first (is_n (v.visibility tree k f)) _ e) (λ t e. given (GivenText t) e)),
           not_tristate Int N refl h,
         )
-    settles_by_kind Hex u h given =
+    settles_by_type Hex u h given =
         inl (
-          ap (TextValue Hex) (number_settles f.kind (v.active_range tree k f) (allowed_text f.kind) u (v.visibility tree k f)
-              (clamped f.kind (v.active_range tree k f) (v.default_text k (v.first_met tree k f.defaults))) (ls.written_text tree k f)
+          ap (TextValue Hex) (number_settles f.symbol_type (v.active_range tree k f) (allowed_text f.symbol_type) u (v.visibility tree k f)
+              (clamped f.symbol_type (v.active_range tree k f) (v.default_text k (v.first_met tree k f.defaults))) (ls.written_text tree k f)
               (λ e. shown_first (is_n (v.visibility tree k f)) _ e) (λ t e. given (GivenText t) e)),
           not_tristate Hex N refl h,
         )
 
-    settles_by_choice : (i : ℕ) (c : Option ℕ) (u : Option GivenValue) → sol.user_place_by i c ≡ SymbolPlace i → ((g : GivenValue) → u ≡ Some g → allowed_by f.kind g ≡ true) →
-        Settling (v.by_choice tree k s f c) (ls.written_by_choice tree k f c) (allowed_by f.kind) (ls.changes_on_reread_by tree k f c) (v.by_choice tree k s f c u)
-    settles_by_choice i None u at given = settles_by_kind f.kind u refl given
+    settles_by_choice : (i : ℕ) (c : Option ℕ) (u : Option GivenValue) → sol.user_place_by i c ≡ SymbolPlace i → ((g : GivenValue) → u ≡ Some g → allowed_by f.symbol_type g ≡ true) →
+        Settling (v.by_choice tree k s f c) (ls.written_by_choice tree k f c) (allowed_by f.symbol_type) (ls.changes_on_reread_by tree k f c) (v.by_choice tree k s f c u)
+    settles_by_choice i None u at given = settles_by_type f.symbol_type u refl given
     settles_by_choice i (Some c) u at given = cc
 
   settles_facts : (s : SymId) (i : ℕ) (f : Option SymbolFacts) (u : Option GivenValue) → sol.user_place_of i f ≡ SymbolPlace i → ((g : GivenValue) → u ≡ Some g → allowed_for f g ≡ true) →
@@ -246,7 +246,7 @@ module _ (tree : TreeFacts) (k : SymId → SymbolValue) where
   is_n-if true t = is_n-upgrade t
   is_n-if false t = refl
 
-  is_n-upgraded : (kind : Kind) (t : Tri) → is_n (v.upgraded tree k kind t) ≡ is_n t
+  is_n-upgraded : (symbol_type : SymbolType) (t : Tri) → is_n (v.upgraded tree k symbol_type t) ≡ is_n t
   is_n-upgraded Undefined t = is_n-upgrade t
   is_n-upgraded IsBool t = is_n-upgrade t
   is_n-upgraded Tristate t = is_n-if (is_n (v.modules_value k tree.modules)) t
@@ -259,7 +259,7 @@ module _ (tree : TreeFacts) (k : SymId → SymbolValue) where
   member_written m g c e h vis =
       ap (ls.written_facts tree k) e
       ∙ ap (ls.written_by_choice tree k g) h
-      ∙ ap not (is_n-upgraded g.kind (v.conditions tree k g.prompts))
+      ∙ ap not (is_n-upgraded g.symbol_type (v.conditions tree k g.prompts))
       ∙ sym (ap (v.visible_facts tree k) e)
       ∙ vis
 

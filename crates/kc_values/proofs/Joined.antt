@@ -3,7 +3,7 @@ use Rattle.std.proofs.Common.{◌≡◌, ℕ, List, [], ◌∷◌, ◌++◌, app
 use Rattle.std.specs.Prelude.{codes}
 use Rattle.kc_expr.specs.declared.expression.SymId.{SymId}
 use Rattle.kc_expr.specs.declared.expression.Tri.{Tri}
-use Rattle.kc_expr.specs.declared.expression.Kind.{Kind}
+use Rattle.kc_expr.specs.declared.expression.SymbolType.{SymbolType}
 use Rattle.kc_expr.specs.Value.{SymbolValue}
 use Rattle.kc_tree.specs.declared.rows.ChoiceId.{ChoiceId}
 use Rattle.kc_tree.specs.Contexts.{mode_view}
@@ -20,47 +20,47 @@ no_choice None e = refl
 no_choice (Some c) e = absurd cc
 
 module _ (tree : TreeFacts) (k : SymId → SymbolValue) where
-  pub select_joined : (name : List ℕ) (f : SymbolFacts) (reverse direct : Tri) (over : Bool) (line : List ℕ) (old new : List (List ℕ)) → reverse ≡ v.reverse tree k f → direct ≡ v.direct tree k f →
-      over ≡ above reverse direct → over ≡ true → line ≡ w.selected_line name reverse direct → new ≡ old ++ line ∷ [] → new ≡ old ++ w.select_warnings tree k name f
-  select_joined name f reverse direct over line old new e1 e2 e3 e4 e5 e6 =
-      let R = v.reverse tree k f in
+  pub select_joined : (name : List ℕ) (f : SymbolFacts) (selected_to direct : Tri) (over : Bool) (line : List ℕ) (old new : List (List ℕ)) → selected_to ≡ v.selected_to tree k f → direct ≡ v.direct tree k f →
+      over ≡ above selected_to direct → over ≡ true → line ≡ w.selected_line name selected_to direct → new ≡ old ++ line ∷ [] → new ≡ old ++ w.select_warnings tree k name f
+  select_joined name f selected_to direct over line old new e1 e2 e3 e4 e5 e6 =
+      let R = v.selected_to tree k f in
       let D = v.direct tree k f in
       let yes : above R D ≡ true = sym (e3 ∙ ap (λ x. above x direct) e1 ∙ ap (above R) e2) ∙ e4 in
       let text : line ≡ w.selected_line name R D = e5 ∙ ap (λ x. w.selected_line name x direct) e1 ∙ ap (w.selected_line name R) e2 in
       e6 ∙ ap (λ x. old ++ x ∷ []) text ∙ ap (λ b. old ++ cond b (w.selected_line name R D ∷ []) []) (sym yes)
 
   -- a bool or tristate outside a choice
-  pub truth_warned : (name told : List ℕ) (f : SymbolFacts) (choice : Option ℕ) (user : Option GivenValue) (kind : Kind) →
-      w.warnings_by_kind tree k told f kind user ≡ w.select_warnings tree k told f → f.kind ≡ kind →
+  pub truth_warned : (name told : List ℕ) (f : SymbolFacts) (choice : Option ℕ) (user : Option GivenValue) (symbol_type : SymbolType) →
+      w.warnings_by_type tree k told f symbol_type user ≡ w.select_warnings tree k told f → f.symbol_type ≡ symbol_type →
       choice ≡ None → name ≡ told → w.select_warnings tree k name f ≡ w.warnings_by_choice tree k told f choice user
-  truth_warned name told f choice user kind by_kind e1 e2 e3 =
-      ap (λ n. w.select_warnings tree k n f) e3 ∙ sym by_kind ∙ ap (λ x. w.warnings_by_kind tree k told f x user) (sym e1) ∙ ap (λ c. w.warnings_by_choice tree k told f c user) (sym e2)
+  truth_warned name told f choice user symbol_type by_type e1 e2 e3 =
+      ap (λ n. w.select_warnings tree k n f) e3 ∙ sym by_type ∙ ap (λ x. w.warnings_by_type tree k told f x user) (sym e1) ∙ ap (λ c. w.warnings_by_choice tree k told f c user) (sym e2)
 
   pub range_joined : (name : List ℕ) (f : SymbolFacts) (user : Option GivenValue) (range : Option Interval) (vis : Tri) (given used default : Option (List ℕ))
-      (old mid new : List (List ℕ)) → range ≡ v.active_range tree k f → vis ≡ v.visibility tree k f → given ≡ v.visible_text user vis → used ≡ if_within_range f.kind range given →
-      default ≡ w.met_text k (v.first_met tree k f.defaults) → mid ≡ old ++ w.user_warnings f.kind name range given →
-      new ≡ mid ++ w.default_warnings f.kind name range used default → new ≡ old ++ w.range_warnings tree k name f user
+      (old mid new : List (List ℕ)) → range ≡ v.active_range tree k f → vis ≡ v.visibility tree k f → given ≡ v.visible_text user vis → used ≡ if_within_range f.symbol_type range given →
+      default ≡ w.met_text k (v.first_met tree k f.defaults) → mid ≡ old ++ w.user_warnings f.symbol_type name range given →
+      new ≡ mid ++ w.default_warnings f.symbol_type name range used default → new ≡ old ++ w.range_warnings tree k name f user
   range_joined name f user range vis given used default old mid new e1 e2 e3 e4 e5 e6 e7 =
       let r = v.active_range tree k f in
       let t = v.visible_text user (v.visibility tree k f) in
       let given_is : given ≡ t = e3 ∙ ap (v.visible_text user) e2 in
-      let used_is : used ≡ if_within_range f.kind r t = e4 ∙ ap (λ x. if_within_range f.kind x given) e1 ∙ ap (if_within_range f.kind r) given_is in
-      let first_is : w.user_warnings f.kind name range given ≡ w.user_warnings f.kind name r t =
-      ap (λ x. w.user_warnings f.kind name x given) e1 ∙ ap (w.user_warnings f.kind name r) given_is
+      let used_is : used ≡ if_within_range f.symbol_type r t = e4 ∙ ap (λ x. if_within_range f.symbol_type x given) e1 ∙ ap (if_within_range f.symbol_type r) given_is in
+      let first_is : w.user_warnings f.symbol_type name range given ≡ w.user_warnings f.symbol_type name r t =
+      ap (λ x. w.user_warnings f.symbol_type name x given) e1 ∙ ap (w.user_warnings f.symbol_type name r) given_is
       in
-      let second_is : w.default_warnings f.kind name range used default ≡ w.default_warnings f.kind name r (if_within_range f.kind r t) (w.met_text k (v.first_met tree k f.defaults)) =
-      ap (λ x. w.default_warnings f.kind name x used default) e1 ∙ ap (λ x. w.default_warnings f.kind name r x default) used_is ∙ ap (w.default_warnings f.kind name r (if_within_range f.kind r t)) e5
+      let second_is : w.default_warnings f.symbol_type name range used default ≡ w.default_warnings f.symbol_type name r (if_within_range f.symbol_type r t) (w.met_text k (v.first_met tree k f.defaults)) =
+      ap (λ x. w.default_warnings f.symbol_type name x used default) e1 ∙ ap (λ x. w.default_warnings f.symbol_type name r x default) used_is ∙ ap (w.default_warnings f.symbol_type name r (if_within_range f.symbol_type r t)) e5
       in
-      e7 ∙ ap (λ x. x ++ w.default_warnings f.kind name range used default) (e6 ∙ ap (λ x. old ++ x) first_is)
-      ∙ ap (λ x. (old ++ w.user_warnings f.kind name r t) ++ x) second_is
-      ∙ append_assoc old (w.user_warnings f.kind name r t) (w.default_warnings f.kind name r (if_within_range f.kind r t) (w.met_text k (v.first_met tree k f.defaults)))
+      e7 ∙ ap (λ x. x ++ w.default_warnings f.symbol_type name range used default) (e6 ∙ ap (λ x. old ++ x) first_is)
+      ∙ ap (λ x. (old ++ w.user_warnings f.symbol_type name r t) ++ x) second_is
+      ∙ append_assoc old (w.user_warnings f.symbol_type name r t) (w.default_warnings f.symbol_type name r (if_within_range f.symbol_type r t) (w.met_text k (v.first_met tree k f.defaults)))
 
-pub outside_joined : (kind : Kind) (r : Interval) (begin name first second third low high new : List ℕ) → first ≡ begin ++ codes " of " → second ≡ first ++ name →
-    third ≡ second ++ codes " is outside " → low ≡ number_text kind r.low → high ≡ number_text kind r.high → new ≡ third ++ low ++ codes " to " ++ high → new ≡ w.outside_line begin kind r name
-outside_joined kind r begin name first second third low high new e1 e2 e3 e4 e5 e6 =
+pub outside_joined : (symbol_type : SymbolType) (r : Interval) (begin name first second third low high new : List ℕ) → first ≡ begin ++ codes " of " → second ≡ first ++ name →
+    third ≡ second ++ codes " is outside " → low ≡ number_text symbol_type r.low → high ≡ number_text symbol_type r.high → new ≡ third ++ low ++ codes " to " ++ high → new ≡ w.outside_line begin symbol_type r name
+outside_joined symbol_type r begin name first second third low high new e1 e2 e3 e4 e5 e6 =
     let third_is : third ≡ begin ++ codes " of " ++ name ++ codes " is outside " =
     e3 ∙ ap (λ x. x ++ codes " is outside ") (e2 ∙ ap (λ x. x ++ name) e1)
     in
     e6 ∙ ap (λ x. x ++ low ++ codes " to " ++ high) third_is
     ∙ ap (λ x. begin ++ codes " of " ++ name ++ codes " is outside " ++ x ++ codes " to " ++ high) e4
-    ∙ ap (λ x. begin ++ codes " of " ++ name ++ codes " is outside " ++ number_text kind r.low ++ codes " to " ++ x) e5
+    ∙ ap (λ x. begin ++ codes " of " ++ name ++ codes " is outside " ++ number_text symbol_type r.low ++ codes " to " ++ x) e5

@@ -3,15 +3,15 @@ use Rattle.std.proofs.Common.{length, ◌≡◌, ℕ, List, Option, Some, None, 
 use Rattle.std.specs.List.{slice_get}
 use Rattle.std.specs.Option.{option_map}
 use Rattle.std.proofs.lemmas.Option.{slice_get-map}
-use Rattle.kc_expr.specs.declared.expression.Kind.{Kind}
-use Rattle.kc_expr.specs.declared.expression.Kind.TheVariants.{Undefined}
+use Rattle.kc_expr.specs.declared.expression.SymbolType.{SymbolType}
+use Rattle.kc_expr.specs.declared.expression.SymbolType.TheVariants.{Undefined}
 use Rattle.kc_tree.specs.declared.layout.Layout.{Layout}
 use Rattle.kc_tree.specs.declared.rows.Choice.{Choice}
 use Rattle.kc_tree.specs.declared.rows.Symbol.{Symbol}
 use Rattle.kc_tree.specs.Layouts.{IsLayoutOf, facts_of, facts_at, choice_facts}
 use Rattle.kc_tree.specs.TreeFacts.{SymbolFacts, ChoiceFacts, TreeFacts}
 use Rattle.kc_tree.proofs.TreeLemmas.{symbols-at, symbols-length}
-use Rattle.kc_values.specs.Lookups.{kind_in}
+use Rattle.kc_values.specs.Lookups.{type_in}
 
 module _ (tree : TreeFacts) (l : Layout) (laid : IsLayoutOf tree l) where
   pub facts_laid : (i : ℕ) → slice_get tree.symbols i ≡ facts_at l i
@@ -31,13 +31,13 @@ module _ (tree : TreeFacts) (l : Layout) (laid : IsLayoutOf tree l) where
   pub symbol_found : (i : ℕ) (o : Option Symbol) → o ≡ slice_get l.symbols.items i → option_map (facts_of l i) o ≡ slice_get tree.symbols i
   symbol_found i o e = ap (option_map (facts_of l i)) e ∙ sym (facts_laid i)
 
-abbrev pub kind_of_row : Option Symbol → Kind
-kind_of_row None = Undefined
-kind_of_row (Some s) = s.kind
+abbrev pub type_of_row : Option Symbol → SymbolType
+type_of_row None = Undefined
+type_of_row (Some s) = s.symbol_type
 
-same_kind : (l : Layout) (i : ℕ) (o : Option Symbol) → kind_of_row o ≡ kind_in (option_map (facts_of l i) o)
-same_kind l i None = refl
-same_kind l i (Some s) = refl
+same_type : (l : Layout) (i : ℕ) (o : Option Symbol) → type_of_row o ≡ type_in (option_map (facts_of l i) o)
+same_type l i None = refl
+same_type l i (Some s) = refl
 
-pub kind_laid : (tree : TreeFacts) (l : Layout) → IsLayoutOf tree l → (i : ℕ) (o : Option Symbol) → o ≡ slice_get l.symbols.items i → kind_of_row o ≡ kind_in (slice_get tree.symbols i)
-kind_laid tree l laid i o e = same_kind l i o ∙ ap kind_in (symbol_found tree l laid i o e)
+pub type_laid : (tree : TreeFacts) (l : Layout) → IsLayoutOf tree l → (i : ℕ) (o : Option Symbol) → o ≡ slice_get l.symbols.items i → type_of_row o ≡ type_in (slice_get tree.symbols i)
+type_laid tree l laid i o e = same_type l i o ∙ ap type_in (symbol_found tree l laid i o e)

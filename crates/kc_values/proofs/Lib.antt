@@ -23,7 +23,7 @@ pub mod MetLemmas
 pub mod SmallNumbers
 pub mod RowSteps
 pub mod RowsMade
-pub mod ReverseRows
+pub mod SelectorRows
 pub mod AnyLemmas
 pub mod RowNeeds
 pub mod NodesBelow

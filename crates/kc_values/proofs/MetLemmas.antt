@@ -4,7 +4,7 @@ use Rattle.std.specs.Borrow.{Bor}
 use Rattle.std.specs.Option.{option_or}
 use Rattle.kc_expr.specs.Form.{Form, Leaf, leaf_of}
 use Rattle.kc_expr.specs.Value.{text}
-use Rattle.kc_expr.specs.declared.expression.Kind.{Kind}
+use Rattle.kc_expr.specs.declared.expression.SymbolType.{SymbolType}
 use Rattle.kc_expr.specs.declared.expression.Tri.{Tri}
 use Rattle.kc_tree.specs.declared.rows.SymbolDefault.{SymbolDefault}
 use Rattle.kc_tree.specs.declared.rows.SymbolRange.{SymbolRange}
@@ -36,9 +36,9 @@ module _ (t : Table) where
   range-none (Some g) others h = absurd h
 
   -- and its bounds are those of the row that was found
-  pub range-bounds : (kind : Kind) (o : Option (Guarded Bounds)) (found : Bor SymbolRange) (dep : Condition) → IsMetRange t o (Some found) →
-      interval (known_at t) kind (Some (range_view dep found.now)) ≡ interval (known_at t) kind o
-  range-bounds kind None found dep h = absurd cc
-  range-bounds kind (Some g) found dep h =
-      let F : Leaf → Leaf → Option Interval = λ x y. Some (record { low = number_or_zero kind (text (known_at t) x); high = number_or_zero kind (text (known_at t) y) }) in
+  pub range-bounds : (symbol_type : SymbolType) (o : Option (Guarded Bounds)) (found : Bor SymbolRange) (dep : Condition) → IsMetRange t o (Some found) →
+      interval (known_at t) symbol_type (Some (range_view dep found.now)) ≡ interval (known_at t) symbol_type o
+  range-bounds symbol_type None found dep h = absurd cc
+  range-bounds symbol_type (Some g) found dep h =
+      let F : Leaf → Leaf → Option Interval = λ x y. Some (record { low = number_or_zero symbol_type (text (known_at t) x); high = number_or_zero symbol_type (text (known_at t) y) }) in
       ap (λ x. F x (leaf_of found.now.high)) h.0 ∙ ap (F g.what.low) h.1

@@ -34,4 +34,4 @@ members_are_bools tree formed s g c e h =
     let listed = formed.members_listed s.0 g e c h in
     let mine = All-contains (IsMemberOf tree c) listed.0.members s (formed.choices_sound c listed.0 listed.1).members listed.2 in
     let same : g ≡ mine.0 = some_same g mine.0 (sym e ∙ mine.1) in
-    ap (λ (f : SymbolFacts). f.kind) same ∙ mine.3
+    ap (λ (f : SymbolFacts). f.symbol_type) same ∙ mine.3

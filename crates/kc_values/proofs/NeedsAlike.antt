@@ -17,7 +17,7 @@ use Rattle.kc_expr.specs.declared.expression.SymId.{SymId}
 use Rattle.kc_order.proofs.Groups.{group_stands, needs_count, needs_stand, stands_symbol}
 use Rattle.kc_order.specs.Graph.{IsGraph, Nodes, groups_of, needs_of, stands_for}
 use Rattle.kc_order.specs.Needs.{AreAlike, needs_in}
-use Rattle.kc_tree.specs.Contexts.{IsPlain, condition_in, mode_view}
+use Rattle.kc_tree.specs.Contexts.{HasNoMode, condition_in, mode_view}
 use Rattle.kc_tree.specs.Layouts.{IsLayoutOf, choice_facts, facts_of}
 use Rattle.kc_tree.specs.TreeFacts.{TreeFacts}
 use Rattle.kc_tree.specs.Common.{listed}
@@ -80,7 +80,7 @@ module _ (tree : TreeFacts) (l : Layout) (laid : IsLayoutOf tree l) (g : Nodes) 
     mode_row k None e there = refl
     mode_row k (Some c) e there =
         let h = there c refl in
-        choice_prompt_needs tree l v (sym laid.modules) st bound stand c.within.0 c.prompt h.0 (l.tables.choices_plain k c e) (λ p q. (h.1 p q, l.tables.choice_prompts_plain k c p e q))
+        choice_prompt_needs tree l v (sym laid.modules) st bound stand c.within.0 c.prompt h.0 (l.tables.choices_modeless k c e) (λ p q. (h.1 p q, l.tables.choice_prompts_modeless k c p e q))
 
     mode_needs : (o : Option ChoiceId) → ((c : Choice) → rows.choice_row l o ≡ Some c → (c.within.0 < bound) × ((p : EntryPrompt) → c.prompt ≡ Some p → p.visible.0 < bound)) →
         (list_any st (rows.mode_nodes l o) || names tree l v (rows.mode_names l o)) ≡ mode tree l v (mode_view o)
@@ -90,7 +90,7 @@ module _ (tree : TreeFacts) (l : Layout) (laid : IsLayoutOf tree l) (g : Nodes) 
 
     -- what a context asks for besides the one outside it
     asked_needs : (outer : ℕ) (w : Option (Rc Expr Global)) (o : Option ChoiceId) → outer < bound →
-        ((e : Form) → when_view w ≡ Some e → mode_view o ≡ (condition_in l.tables.contexts outer).mode) → (when_view w ≡ None → IsPlain l.tables.contexts outer) →
+        ((e : Form) → when_view w ≡ Some e → mode_view o ≡ (condition_in l.tables.contexts outer).mode) → (when_view w ≡ None → HasNoMode l.tables.contexts outer) →
         ((c : Choice) → rows.choice_row l o ≡ Some c → (c.within.0 < bound) × ((p : EntryPrompt) → c.prompt ≡ Some p → p.visible.0 < bound)) →
         (list_any st (rows.context_nodes l outer ++ cond (is_some w) [] (rows.mode_nodes l o)) || names tree l v (cond (is_some w) (rows.when_names l.modules (when_view w)) (rows.mode_names l o))) ≡
         condition_hits tree l v (record { conjuncts = (condition_in l.tables.contexts outer).conjuncts ++ listed (when_view w); mode = mode_view o })

@@ -4,8 +4,8 @@ use Rattle.std.specs.Prelude.{filter, is_some, slice_get}
 use Rattle.std.specs.List.{list_any, flat_map, filter_map, Contains}
 use Rattle.std.proofs.lemmas.Bool.{cases_lt, true≢false}
 use Rattle.std.proofs.lemmas.List.Folds.{list_any-append, list_any_at}
-use Rattle.kc_expr.specs.declared.expression.Kind.{Kind}
-use Rattle.kc_expr.specs.declared.expression.Kind.TheVariants.{Undefined, Bool as IsBool, Tristate, Str, Int, Hex}
+use Rattle.kc_expr.specs.declared.expression.SymbolType.{SymbolType}
+use Rattle.kc_expr.specs.declared.expression.SymbolType.TheVariants.{Undefined, Bool as IsBool, Tristate, Str, Int, Hex}
 use Rattle.kc_expr.specs.declared.expression.SymId.{SymId}
 use Rattle.kc_tree.specs.Spans.{definition_ids}
 use Rattle.kc_tree.specs.declared.layout.Layout.{Layout}
@@ -15,8 +15,8 @@ use Rattle.kc_tree.specs.declared.rows.Context.{Context}
 use Rattle.kc_tree.specs.declared.rows.Definition.{Definition}
 use Rattle.kc_tree.specs.declared.rows.DefinitionId.{DefinitionId}
 use Rattle.kc_tree.specs.declared.rows.EntryPrompt.{EntryPrompt}
-use Rattle.kc_tree.specs.declared.rows.Reverse.{Reverse}
-use Rattle.kc_tree.specs.declared.rows.ReverseId.{ReverseId}
+use Rattle.kc_tree.specs.declared.rows.Selector.{Selector}
+use Rattle.kc_tree.specs.declared.rows.SelectorId.{SelectorId}
 use Rattle.kc_tree.specs.declared.rows.Symbol.{Symbol}
 use Rattle.kc_values.specs.NeedRows as rows
 use Rattle.kc_values.specs.Nodes.{choice_number, context_number}
@@ -116,11 +116,11 @@ module _ (l : Layout) (b : ℕ) (fits : length l.symbols.items + length l.tables
   definition_context : (id : DefinitionId) (d : Definition) → rows.stored_definition l id ≡ Some d → none b (rows.context_nodes l d.within.0)
   definition_context id d e = context_below l b (length l.tables.contexts) fits d.within.0 (l.tables.within id.0 d e)
 
-  definitions_below : (kind : Kind) (ids : List DefinitionId) → none b (rows.definitions_nodes_of l kind ids)
-  definitions_below kind =
-      none_found b (rows.definition_nodes l kind) (rows.stored_definition l)
-      (λ id d e. none_both b (cond (rows.is_read l kind d) (rows.context_nodes l d.within.0) []) (rows.prompt_nodes l d.prompt)
-      (none_if b (rows.is_read l kind d) (rows.context_nodes l d.within.0) (definition_context id d e)) (definition_prompt id d e))
+  definitions_below : (symbol_type : SymbolType) (ids : List DefinitionId) → none b (rows.definitions_nodes_of l symbol_type ids)
+  definitions_below symbol_type =
+      none_found b (rows.definition_nodes l symbol_type) (rows.stored_definition l)
+      (λ id d e. none_both b (cond (rows.is_read l symbol_type d) (rows.context_nodes l d.within.0) []) (rows.prompt_nodes l d.prompt)
+      (none_if b (rows.is_read l symbol_type d) (rows.context_nodes l d.within.0) (definition_context id d e)) (definition_prompt id d e))
 
   prompts_below : (ids : List DefinitionId) → none b (rows.prompts_nodes_of l ids)
   prompts_below =
@@ -132,28 +132,28 @@ module _ (l : Layout) (b : ℕ) (fits : length l.symbols.items + length l.tables
   source_below id None e = refl
   source_below id (Some d) e = definition_context id d e
 
-  reverses_below : (last : Option ReverseId) → none b (rows.reverses_nodes l last)
-  reverses_below last =
-      any_flat (far b) (λ (r : Reverse). rows.source_nodes l (rows.stored_definition l r.source)) (rows.lines_from l last)
-      ∙ any_none (λ (r : Reverse). list_any (far b) (rows.source_nodes l (rows.stored_definition l r.source)))
+  selectors_below : (last : Option SelectorId) → none b (rows.selectors_nodes l last)
+  selectors_below last =
+      any_flat (far b) (λ (r : Selector). rows.source_nodes l (rows.stored_definition l r.source)) (rows.lines_from l last)
+      ∙ any_none (λ (r : Selector). list_any (far b) (rows.source_nodes l (rows.stored_definition l r.source)))
       (λ r. source_below r.source (rows.stored_definition l r.source) refl) (rows.lines_from l last)
 
   truth_below : (i : ℕ) (s : Symbol) → none b (rows.truth_nodes l i s)
   truth_below i s =
-      none_both b (rows.definitions_nodes l s ++ rows.reverses_nodes l (rows.last_select l i)) (rows.reverses_nodes l (rows.last_imply l i))
-      (none_both b (rows.definitions_nodes l s) (rows.reverses_nodes l (rows.last_select l i)) (definitions_below s.kind (definition_ids s)) (reverses_below (rows.last_select l i)))
-      (reverses_below (rows.last_imply l i))
+      none_both b (rows.definitions_nodes l s ++ rows.selectors_nodes l (rows.last_select l i)) (rows.selectors_nodes l (rows.last_imply l i))
+      (none_both b (rows.definitions_nodes l s) (rows.selectors_nodes l (rows.last_select l i)) (definitions_below s.symbol_type (definition_ids s)) (selectors_below (rows.last_select l i)))
+      (selectors_below (rows.last_imply l i))
 
-  kind_below : (i : ℕ) (s : Symbol) (kind : Kind) → none b (rows.nodes_by_kind l i s kind)
-  kind_below i s Undefined = refl
-  kind_below i s IsBool = truth_below i s
-  kind_below i s Tristate = truth_below i s
-  kind_below i s Str = definitions_below s.kind (definition_ids s)
-  kind_below i s Int = definitions_below s.kind (definition_ids s)
-  kind_below i s Hex = definitions_below s.kind (definition_ids s)
+  type_below : (i : ℕ) (s : Symbol) (symbol_type : SymbolType) → none b (rows.nodes_by_type l i s symbol_type)
+  type_below i s Undefined = refl
+  type_below i s IsBool = truth_below i s
+  type_below i s Tristate = truth_below i s
+  type_below i s Str = definitions_below s.symbol_type (definition_ids s)
+  type_below i s Int = definitions_below s.symbol_type (definition_ids s)
+  type_below i s Hex = definitions_below s.symbol_type (definition_ids s)
 
   by_choice_below : (i : ℕ) (s : Symbol) (o : Option ChoiceId) → ((k : ChoiceId) → o ≡ Some k → choice_number l k.0 < b) → none b (rows.nodes_by_choice l i s o)
-  by_choice_below i s None h = kind_below i s s.kind
+  by_choice_below i s None h = type_below i s s.symbol_type
   by_choice_below i s (Some k) h = ap (λ x. x || false) (near b (choice_number l k.0) (h k refl))
 
   pub symbol_below : (i : ℕ) (s : Symbol) (ss : List SymId) → ((k : ChoiceId) → s.choice ≡ Some k → choice_number l k.0 < b) → none b (rows.symbol_nodes l i s ++ rows.numbers l ss)

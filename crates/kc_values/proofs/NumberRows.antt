@@ -5,7 +5,7 @@ use Rattle.std.specs.Fmt.{digits}
 use Rattle.kc_text.specs.Numbers.{natural_of}
 use Rattle.kc_text.specs.declared.tokens.Op.TheVariants.{Gt, Lt, Eq}
 use Rattle.kc_expr.specs.declared.expression.Tri.TheVariants.{N, Y}
-use Rattle.kc_expr.specs.declared.expression.Kind.TheVariants.{Undefined, Bool as IsBool, Str, Int, Hex}
+use Rattle.kc_expr.specs.declared.expression.SymbolType.TheVariants.{Undefined, Bool as IsBool, Str, Int, Hex}
 use Rattle.kc_expr.specs.Form.{Form, Related, Negated, Text, Symbol}
 use Rattle.kc_expr.specs.Names.{symbol}
 use Rattle.kc_expr.specs.Value.{SymbolValue, Truth, TextValue}

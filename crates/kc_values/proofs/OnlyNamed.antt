@@ -6,9 +6,9 @@ use Rattle.std.proofs.lemmas.List.Elements.{All-from_recursion}
 use Rattle.kc_expr.specs.declared.expression.SymId.{SymId}
 use Rattle.kc_expr.specs.declared.expression.Tri.{Tri}
 use Rattle.kc_expr.specs.declared.expression.Tri.TheVariants.{N, M, Y}
-use Rattle.kc_expr.specs.declared.expression.Kind.{Kind}
-use Rattle.kc_expr.specs.declared.expression.Kind.TheVariants.{Undefined, Bool as IsBool, Tristate, Str, Int, Hex}
-use Rattle.kc_expr.specs.Form.{Form, Leaf, Text, Symbol, Single, Related, Negated, PlainM, Every, Some_of, symbols, leaf_symbols}
+use Rattle.kc_expr.specs.declared.expression.SymbolType.{SymbolType}
+use Rattle.kc_expr.specs.declared.expression.SymbolType.TheVariants.{Undefined, Bool as IsBool, Tristate, Str, Int, Hex}
+use Rattle.kc_expr.specs.Form.{Form, Leaf, Text, Symbol, Single, Related, Negated, LoneM, Every, Some_of, symbols, leaf_symbols}
 use Rattle.kc_expr.specs.Value.{SymbolValue, Truth, TextValue, value, text, least, greatest, lesser, greater, truth_of_value, text_of_value, DependsOnSymbols}
 use Rattle.kc_tree.specs.TreeFacts.{Condition, Guarded, Bounds, SymbolFacts, ChoiceFacts, TreeFacts}
 use Rattle.kc_expr.specs.Names.{symbol, same_symbol}
@@ -84,7 +84,7 @@ module _ (law : DependsOnSymbols) (tree : TreeFacts) (k l : SymId → SymbolValu
   same_modules None h = refl
   same_modules (Some m) h = ap truth_of_value h.0
 
-  same_upgraded : (kind : Kind) → Sames (n.kind_names tree kind) → (t u : Tri) → t ≡ u → v.upgraded tree k kind t ≡ v.upgraded tree l kind u
+  same_upgraded : (symbol_type : SymbolType) → Sames (n.type_names tree symbol_type) → (t u : Tri) → t ≡ u → v.upgraded tree k symbol_type t ≡ v.upgraded tree l symbol_type u
   same_upgraded Undefined h t u e = ap upgrade e
   same_upgraded IsBool h t u e = ap upgrade e
   same_upgraded Tristate h t u e = let m = same_modules tree.modules h in cc
@@ -102,7 +102,7 @@ module _ (law : DependsOnSymbols) (tree : TreeFacts) (k l : SymId → SymbolValu
   is_n-if true t = is_n-upgrade t
   is_n-if false t = refl
 
-  is_n-upgraded : (known : SymId → SymbolValue) (kind : Kind) (t : Tri) → is_n (v.upgraded tree known kind t) ≡ is_n t
+  is_n-upgraded : (known : SymId → SymbolValue) (symbol_type : SymbolType) (t : Tri) → is_n (v.upgraded tree known symbol_type t) ≡ is_n t
   is_n-upgraded known Undefined t = is_n-upgrade t
   is_n-upgraded known IsBool t = is_n-upgrade t
   is_n-upgraded known Tristate t = is_n-if (is_n (v.modules_value known tree.modules)) t
@@ -120,10 +120,10 @@ module _ (law : DependsOnSymbols) (tree : TreeFacts) (k l : SymId → SymbolValu
       v.visible_text user (v.visibility tree k f) ≡ v.visible_text user (v.visibility tree l f)
   same_visible_text f user h =
       visible_text-is_n user (v.visibility tree k f) (v.visibility tree l f)
-      (is_n-upgraded k f.kind (v.conditions tree k f.prompts) ∙ ap is_n (same_conditions f.prompts h) ∙ sym (is_n-upgraded l f.kind (v.conditions tree l f.prompts)))
+      (is_n-upgraded k f.symbol_type (v.conditions tree k f.prompts) ∙ ap is_n (same_conditions f.prompts h) ∙ sym (is_n-upgraded l f.symbol_type (v.conditions tree l f.prompts)))
 
-  same_reverse_values : (gs : List (Guarded SymId)) → Sames (n.guarded_names tree (n.one_name) gs) → v.reverse_values tree k gs ≡ v.reverse_values tree l gs
-  same_reverse_values gs h =
+  same_selector_values : (gs : List (Guarded SymId)) → Sames (n.guarded_names tree (n.one_name) gs) → v.selector_values tree k gs ≡ v.selector_values tree l gs
+  same_selector_values gs h =
       ap greatest
       (map_same Same (λ (g : Guarded SymId). n.one_name g.what ++ n.condition_names tree g.when)
       (λ g. lesser (truth_of_value (k g.what)) (v.condition tree k g.when))
@@ -141,7 +141,7 @@ module _ (law : DependsOnSymbols) (tree : TreeFacts) (k l : SymId → SymbolValu
   same_single (Single o) h = same_text o h
   same_single (Related op a b) h = refl
   same_single (Negated f) h = refl
-  same_single PlainM h = refl
+  same_single LoneM h = refl
   same_single (Every fs) h = refl
   same_single (Some_of fs) h = refl
 
@@ -149,23 +149,23 @@ module _ (law : DependsOnSymbols) (tree : TreeFacts) (k l : SymId → SymbolValu
   same_default_text f h =
       same_first (symbols tree.modules) (v.default_text k) (v.default_text l) refl (λ g a b. same_single g.what a) f.defaults h
 
-  same_base : (user : Option GivenValue) (vis vis' d d' weak_reverse weak' dir dir' reverse rev' : Tri) → vis ≡ vis' → d ≡ d' → weak_reverse ≡ weak' → dir ≡ dir' → reverse ≡ rev' →
-      greater (v.user_or user vis (v.implied d weak_reverse dir)) reverse ≡ greater (v.user_or user vis' (v.implied d' weak' dir')) rev'
-  same_base None vis vis' d d' weak_reverse weak' dir dir' reverse rev' a b c e g = cc
-  same_base (Some (GivenTruth u)) vis vis' d d' weak_reverse weak' dir dir' reverse rev' a b c e g = cc
-  same_base (Some (GivenText t)) vis vis' d d' weak_reverse weak' dir dir' reverse rev' a b c e g = cc
-  same_base (Some (Member m)) vis vis' d d' weak_reverse weak' dir dir' reverse rev' a b c e g = cc
+  same_base : (user : Option GivenValue) (vis vis' d d' implied_to weak' dir dir' selected_to rev' : Tri) → vis ≡ vis' → d ≡ d' → implied_to ≡ weak' → dir ≡ dir' → selected_to ≡ rev' →
+      greater (v.user_or user vis (v.implied d implied_to dir)) selected_to ≡ greater (v.user_or user vis' (v.implied d' weak' dir')) rev'
+  same_base None vis vis' d d' implied_to weak' dir dir' selected_to rev' a b c e g = cc
+  same_base (Some (GivenTruth u)) vis vis' d d' implied_to weak' dir dir' selected_to rev' a b c e g = cc
+  same_base (Some (GivenText t)) vis vis' d d' implied_to weak' dir dir' selected_to rev' a b c e g = cc
+  same_base (Some (Member m)) vis vis' d d' implied_to weak' dir dir' selected_to rev' a b c e g = cc
 
-  same_interval : (kind : Kind) (g : Guarded Bounds) → Sames (n.bounds_names g.what) → v.interval k kind (Some g) ≡ v.interval l kind (Some g)
-  same_interval kind g h =
+  same_interval : (symbol_type : SymbolType) (g : Guarded Bounds) → Sames (n.bounds_names g.what) → v.interval k symbol_type (Some g) ≡ v.interval l symbol_type (Some g)
+  same_interval symbol_type g h =
       let a = same_text g.what.low (front (leaf_symbols g.what.low) (leaf_symbols g.what.high) h) in
       let b = same_text g.what.high (back (leaf_symbols g.what.low) (leaf_symbols g.what.high) h) in
-      let made : List ℕ → List ℕ → Option Interval = λ x y. Some (record { low = number_or_zero kind x; high = number_or_zero kind y }) in
+      let made : List ℕ → List ℕ → Option Interval = λ x y. Some (record { low = number_or_zero symbol_type x; high = number_or_zero symbol_type y }) in
       ap (λ x. made x (text k g.what.high)) a ∙ ap (made (text l g.what.low)) b
 
   same_active : (f : SymbolFacts) → Sames (n.guarded_names tree n.bounds_names f.ranges) → v.active_range tree k f ≡ v.active_range tree l f
   same_active f h =
-      same_first n.bounds_names (v.interval k f.kind) (v.interval l f.kind) refl (λ g a b. same_interval f.kind g a) f.ranges h
+      same_first n.bounds_names (v.interval k f.symbol_type) (v.interval l f.symbol_type) refl (λ g a b. same_interval f.symbol_type g a) f.ranges h
 
   module _ (f : SymbolFacts) where
     abbrev Prompts : List SymId
@@ -184,7 +184,7 @@ module _ (law : DependsOnSymbols) (tree : TreeFacts) (k l : SymId → SymbolValu
     Impliers = n.guarded_names tree (n.one_name) f.impliers
 
     abbrev Own : List SymId
-    Own = n.kind_names tree f.kind
+    Own = n.type_names tree f.symbol_type
 
     abbrev Ranges : List SymId
     Ranges = n.guarded_names tree (n.bounds_names) f.ranges
@@ -202,12 +202,12 @@ module _ (law : DependsOnSymbols) (tree : TreeFacts) (k l : SymId → SymbolValu
         let more2 = back Deps (Selectors ++ (Impliers ++ Own)) more1 in
         let more3 = back Selectors (Impliers ++ Own) more2 in
         let own = back Impliers Own more3 in
-        let vis = same_upgraded f.kind own _ _ (same_conditions f.prompts (front Prompts Defaults all)) in
-        let dir = same_upgraded f.kind own _ _ (same_conditions f.dependencies (front Deps (Selectors ++ (Impliers ++ Own)) more1)) in
-        let reverse = same_upgraded f.kind own _ _ (same_reverse_values f.selectors (front Selectors (Impliers ++ Own) more2)) in
-        let weak_reverse = same_upgraded f.kind own _ _ (same_reverse_values f.impliers (front Impliers Own more3)) in
+        let vis = same_upgraded f.symbol_type own _ _ (same_conditions f.prompts (front Prompts Defaults all)) in
+        let dir = same_upgraded f.symbol_type own _ _ (same_conditions f.dependencies (front Deps (Selectors ++ (Impliers ++ Own)) more1)) in
+        let selected_to = same_upgraded f.symbol_type own _ _ (same_selector_values f.selectors (front Selectors (Impliers ++ Own) more2)) in
+        let implied_to = same_upgraded f.symbol_type own _ _ (same_selector_values f.impliers (front Impliers Own more3)) in
         let d = same_default f (back Prompts Defaults all) in
-        same_upgraded f.kind own _ _ (same_base user _ _ _ _ _ _ _ _ _ _ vis d weak_reverse dir reverse)
+        same_upgraded f.symbol_type own _ _ (same_base user _ _ _ _ _ _ _ _ _ _ vis d implied_to dir selected_to)
 
     pub same_number_equation : (user : Option GivenValue) → Sames (n.names_of_number tree f) → v.number_equation tree k f user ≡ v.number_equation tree l f user
     same_number_equation user h =
@@ -282,16 +282,16 @@ module _ (law : DependsOnSymbols) (tree : TreeFacts) (k l : SymId → SymbolValu
       let ch = same_chosen_member c shown user in
       cc
 
-  same_by_kind : (s : SymId) (f : SymbolFacts) (kind : Kind) (user : Option GivenValue) → Sames (n.names_by_kind tree f kind) → v.by_kind tree k s f kind user ≡ v.by_kind tree l s f kind user
-  same_by_kind s f Undefined user h = refl
-  same_by_kind s f IsBool user h = ap Truth (same_truth_equation f user h)
-  same_by_kind s f Tristate user h = ap Truth (same_truth_equation f user h)
-  same_by_kind s f Str user h = ap (TextValue Str) (same_text_equation f user h)
-  same_by_kind s f Int user h = ap (TextValue Int) (same_number_equation f user h)
-  same_by_kind s f Hex user h = ap (TextValue Hex) (same_number_equation f user h)
+  same_by_type : (s : SymId) (f : SymbolFacts) (symbol_type : SymbolType) (user : Option GivenValue) → Sames (n.names_by_type tree f symbol_type) → v.by_type tree k s f symbol_type user ≡ v.by_type tree l s f symbol_type user
+  same_by_type s f Undefined user h = refl
+  same_by_type s f IsBool user h = ap Truth (same_truth_equation f user h)
+  same_by_type s f Tristate user h = ap Truth (same_truth_equation f user h)
+  same_by_type s f Str user h = ap (TextValue Str) (same_text_equation f user h)
+  same_by_type s f Int user h = ap (TextValue Int) (same_number_equation f user h)
+  same_by_type s f Hex user h = ap (TextValue Hex) (same_number_equation f user h)
 
   same_by_choice : (s : SymId) (f : SymbolFacts) (c : Option ℕ) (user : Option GivenValue) → Sames (n.names_by_choice tree f c) → v.by_choice tree k s f c user ≡ v.by_choice tree l s f c user
-  same_by_choice s f None user h = same_by_kind s f f.kind user h
+  same_by_choice s f None user h = same_by_type s f f.symbol_type user h
   same_by_choice s f (Some c) user h =
       ap (λ o. Truth (cond (is_symbol_of s o) Y N)) (same_selected (choice_at tree c) user h)
 

@@ -9,13 +9,13 @@ use Rattle.std.proofs.lemmas.Grind.{flat_map-append}
 use Rattle.std.proofs.lemmas.List.Folds.{list_any-append}
 use Rattle.kc_expr.specs.Form.{Form, form_of, leaf_of, leaf_symbols, symbols}
 use Rattle.kc_expr.specs.When.{when_view}
-use Rattle.kc_expr.specs.declared.expression.Kind.{Kind}
-use Rattle.kc_expr.specs.declared.expression.Kind.TheVariants.{Undefined, Bool as IsBool, Tristate, Str, Int, Hex}
+use Rattle.kc_expr.specs.declared.expression.SymbolType.{SymbolType}
+use Rattle.kc_expr.specs.declared.expression.SymbolType.TheVariants.{Undefined, Bool as IsBool, Tristate, Str, Int, Hex}
 use Rattle.kc_expr.specs.declared.expression.SymId.{SymId}
 use Rattle.kc_tree.specs.Chains.{chain_of, chains_of}
-use Rattle.kc_tree.specs.Contexts.{IsPlain, condition_in, mode_view}
+use Rattle.kc_tree.specs.Contexts.{HasNoMode, condition_in, mode_view}
 use Rattle.kc_tree.specs.Layouts as laid
-use Rattle.kc_tree.specs.Layouts.{DefinitionFacts, IsLayoutOf, choice_facts, definition_facts, facts_of, prompt_view, default_view, range_view, choice_default_view, with_conjuncts, with_when, reverse_at, reverse_facts, reverses_from}
+use Rattle.kc_tree.specs.Layouts.{DefinitionFacts, IsLayoutOf, choice_facts, definition_facts, facts_of, prompt_view, default_view, range_view, choice_default_view, with_conjuncts, with_when, selector_at, selector_facts, selectors_from}
 use Rattle.kc_tree.specs.Spans.{definition_ids}
 use Rattle.kc_tree.specs.TreeFacts.{Condition, Guarded, TreeFacts}
 use Rattle.kc_tree.specs.Common.{listed}
@@ -26,8 +26,8 @@ use Rattle.kc_tree.specs.declared.rows.ChoiceId.{ChoiceId}
 use Rattle.kc_tree.specs.declared.rows.Definition.{Definition}
 use Rattle.kc_tree.specs.declared.rows.DefinitionId.{DefinitionId}
 use Rattle.kc_tree.specs.declared.rows.EntryPrompt.{EntryPrompt}
-use Rattle.kc_tree.specs.declared.rows.Reverse.{Reverse}
-use Rattle.kc_tree.specs.declared.rows.ReverseId.{ReverseId}
+use Rattle.kc_tree.specs.declared.rows.Selector.{Selector}
+use Rattle.kc_tree.specs.declared.rows.SelectorId.{SelectorId}
 use Rattle.kc_tree.specs.declared.rows.Symbol.{Symbol}
 use Rattle.kc_tree.specs.declared.rows.SymbolDefault.{SymbolDefault}
 use Rattle.kc_tree.specs.declared.rows.SymbolRange.{SymbolRange}
@@ -174,7 +174,7 @@ module _ (tree : TreeFacts) (l : Layout) (v : ℕ) (alike : l.modules ≡ tree.m
 
   -- a prompt asks for contexts below the bound, in which no mode counts
   abbrev pub IsBelow : Option EntryPrompt → Type 0
-  IsBelow o = (p : EntryPrompt) → o ≡ Some p → (p.visible.0 < bound) × IsPlain l.tables.contexts p.visible.0
+  IsBelow o = (p : EntryPrompt) → o ≡ Some p → (p.visible.0 < bound) × HasNoMode l.tables.contexts p.visible.0
 
   abbrev prompt_own : Option EntryPrompt → Bool
   prompt_own o = known (rows.prompt_nodes l o) || names tree l v (rows.prompt_names l.modules o)
@@ -226,7 +226,7 @@ module _ (tree : TreeFacts) (l : Layout) (v : ℕ) (alike : l.modules ≡ tree.m
       regroup a b c = grind arith
 
   -- that of a choice, whose conjuncts alone count
-  pub choice_prompt_needs : (within : ℕ) (o : Option EntryPrompt) → within < bound → IsPlain l.tables.contexts within → IsBelow o →
+  pub choice_prompt_needs : (within : ℕ) (o : Option EntryPrompt) → within < bound → HasNoMode l.tables.contexts within → IsBelow o →
       (known (cond (is_some o) (rows.context_nodes l within) [] ++ rows.prompt_nodes l o) || names tree l v (rows.prompt_names l.modules o)) ≡
       names tree l v (spec.conjunct_names tree (option_map (prompt_view l.tables.contexts (cond_at within)) o))
   choice_prompt_needs within o b plain h =
@@ -238,11 +238,11 @@ module _ (tree : TreeFacts) (l : Layout) (v : ℕ) (alike : l.modules ≡ tree.m
     entry_needs : (known (rows.entry_nodes l d) || names tree l v (rows.entry_names l.modules d)) ≡ passes (condition_hits tree l v) (definition_facts l.tables d).prompt
     entry_needs = prompt_needs d.within.0 d.prompt within prompt
 
-    definition_needs : (kind : Kind) → (known (rows.definition_nodes l kind d) || names tree l v (rows.definition_names l kind d)) ≡
-        ((rows.is_truth kind && condition_hits tree l v (definition_facts l.tables d).dependency)
+    definition_needs : (symbol_type : SymbolType) → (known (rows.definition_nodes l symbol_type d) || names tree l v (rows.definition_names l symbol_type d)) ≡
+        ((rows.is_truth symbol_type && condition_hits tree l v (definition_facts l.tables d).dependency)
         || ((passes (condition_hits tree l v) (definition_facts l.tables d).prompt || names tree l v (spec.guarded_names tree (symbols tree.modules) (definition_facts l.tables d).defaults))
-        || (rows.is_number kind && names tree l v (spec.guarded_names tree spec.bounds_names (definition_facts l.tables d).ranges))))
-    definition_needs kind =
+        || (rows.is_number symbol_type && names tree l v (spec.guarded_names tree spec.bounds_names (definition_facts l.tables d).ranges))))
+    definition_needs symbol_type =
         let c = cond_at d.within.0 in
         let ds = rows.defaults_of l d in
         let rs = rows.ranges_of l d in
@@ -250,18 +250,18 @@ module _ (tree : TreeFacts) (l : Layout) (v : ℕ) (alike : l.modules ≡ tree.m
         let pw = names tree l v (rows.prompt_names l.modules d.prompt) in
         let dn = names tree l v (flat_map (rows.default_names l.modules) ds) in
         let rn = names tree l v (flat_map (rows.range_names l.modules) rs) in
-        let nodes : known (rows.definition_nodes l kind d) ≡ ((rows.is_read l kind d && condition_hits tree l v c) || pn) =
-        list_any-append st (cond (rows.is_read l kind d) (rows.context_nodes l d.within.0) []) (rows.prompt_nodes l d.prompt)
-        ∙ ap (λ x. x || pn) (any_if st (rows.is_read l kind d) (rows.context_nodes l d.within.0) ∙ ap (λ x. rows.is_read l kind d && x) (at d.within.0 within)) in
-        let own : names tree l v (rows.definition_names l kind d) ≡ ((pw || dn) || (rows.is_number kind && rn)) =
-        list_any-append (hit tree l v) (rows.prompt_names l.modules d.prompt ++ flat_map (rows.default_names l.modules) ds) (cond (rows.is_number kind) (flat_map (rows.range_names l.modules) rs) [])
-        ∙ ap (λ x. x || names tree l v (cond (rows.is_number kind) (flat_map (rows.range_names l.modules) rs) [])) (list_any-append (hit tree l v) (rows.prompt_names l.modules d.prompt) (flat_map (rows.default_names l.modules) ds))
-        ∙ ap (λ x. (pw || dn) || x) (any_if (hit tree l v) (rows.is_number kind) (flat_map (rows.range_names l.modules) rs)) in
+        let nodes : known (rows.definition_nodes l symbol_type d) ≡ ((rows.is_read l symbol_type d && condition_hits tree l v c) || pn) =
+        list_any-append st (cond (rows.is_read l symbol_type d) (rows.context_nodes l d.within.0) []) (rows.prompt_nodes l d.prompt)
+        ∙ ap (λ x. x || pn) (any_if st (rows.is_read l symbol_type d) (rows.context_nodes l d.within.0) ∙ ap (λ x. rows.is_read l symbol_type d && x) (at d.within.0 within)) in
+        let own : names tree l v (rows.definition_names l symbol_type d) ≡ ((pw || dn) || (rows.is_number symbol_type && rn)) =
+        list_any-append (hit tree l v) (rows.prompt_names l.modules d.prompt ++ flat_map (rows.default_names l.modules) ds) (cond (rows.is_number symbol_type) (flat_map (rows.range_names l.modules) rs) [])
+        ∙ ap (λ x. x || names tree l v (cond (rows.is_number symbol_type) (flat_map (rows.range_names l.modules) rs) [])) (list_any-append (hit tree l v) (rows.prompt_names l.modules d.prompt) (flat_map (rows.default_names l.modules) ds))
+        ∙ ap (λ x. (pw || dn) || x) (any_if (hit tree l v) (rows.is_number symbol_type) (flat_map (rows.range_names l.modules) rs)) in
         let p = prompt_hits c d.prompt prompt in
         let df = defaults_names tree l v alike c ds in
         let rf = ranges_names tree l v alike c rs in
-        together (rows.is_truth kind) (is_some d.prompt) (has_some ds) (has_some rs) (nat_lt 0 (length ds)) (nat_lt 0 (length rs)) (rows.is_number kind) (condition_hits tree l v c) pn pw dn rn
-        (known (rows.definition_nodes l kind d)) (names tree l v (rows.definition_names l kind d)) (passes (condition_hits tree l v) (definition_facts l.tables d).prompt)
+        together (rows.is_truth symbol_type) (is_some d.prompt) (has_some ds) (has_some rs) (nat_lt 0 (length ds)) (nat_lt 0 (length rs)) (rows.is_number symbol_type) (condition_hits tree l v c) pn pw dn rn
+        (known (rows.definition_nodes l symbol_type d)) (names tree l v (rows.definition_names l symbol_type d)) (passes (condition_hits tree l v) (definition_facts l.tables d).prompt)
         (names tree l v (spec.guarded_names tree (symbols tree.modules) (definition_facts l.tables d).defaults)) (names tree l v (spec.guarded_names tree spec.bounds_names (definition_facts l.tables d).ranges))
         (some_length ds) (some_length rs) nodes own p df rf
       where
@@ -277,7 +277,7 @@ module _ (tree : TreeFacts) (l : Layout) (v : ℕ) (alike : l.modules ≡ tree.m
   all = length l.tables.contexts
 
   definition_there : (id : DefinitionId) (d : Definition) → rows.stored_definition l id ≡ Some d → IsBelow tree l v alike st (length l.tables.contexts) at d.prompt
-  definition_there id d e p h = (l.tables.prompts_within id.0 d p e h, l.tables.prompts_plain id.0 d p e h)
+  definition_there id d e p h = (l.tables.prompts_within id.0 d p e h, l.tables.prompts_modeless id.0 d p e h)
 
   facts_list : (ids : List DefinitionId) → filter_map (laid.definition_at l.tables) ids ≡ map (definition_facts l.tables) (rows.definitions_of l ids)
   facts_list ids = found_mapped (definition_facts l.tables) (rows.stored_definition l) ids
@@ -343,25 +343,25 @@ module _ (tree : TreeFacts) (l : Layout) (v : ℕ) (alike : l.modules ≡ tree.m
       ∙ sym (prompts_seen ids)
 
   -- and of its definitions
-  definitions_needs : (kind : Kind) (ids : List DefinitionId) →
-      (list_any st (rows.definitions_nodes_of l kind ids) || names tree l v (rows.definitions_names_of l kind ids)) ≡
-      ((rows.is_truth kind && list_any dep_of (rows.definitions_of l ids))
-      || ((list_any prompt_of (rows.definitions_of l ids) || list_any defaults_of (rows.definitions_of l ids)) || (rows.is_number kind && list_any ranges_of (rows.definitions_of l ids))))
-  definitions_needs kind ids =
-      let node : Definition → Bool = λ d. list_any st (rows.definition_nodes l kind d) in
-      let name : Definition → Bool = λ d. names tree l v (rows.definition_names l kind d) in
-      ap (λ b. b || names tree l v (rows.definitions_names_of l kind ids)) (any_flat st (rows.definition_nodes l kind) (rows.definitions_of l ids))
-      ∙ ap (λ b. list_any node (rows.definitions_of l ids) || b) (any_flat (hit tree l v) (rows.definition_names l kind) (rows.definitions_of l ids))
+  definitions_needs : (symbol_type : SymbolType) (ids : List DefinitionId) →
+      (list_any st (rows.definitions_nodes_of l symbol_type ids) || names tree l v (rows.definitions_names_of l symbol_type ids)) ≡
+      ((rows.is_truth symbol_type && list_any dep_of (rows.definitions_of l ids))
+      || ((list_any prompt_of (rows.definitions_of l ids) || list_any defaults_of (rows.definitions_of l ids)) || (rows.is_number symbol_type && list_any ranges_of (rows.definitions_of l ids))))
+  definitions_needs symbol_type ids =
+      let node : Definition → Bool = λ d. list_any st (rows.definition_nodes l symbol_type d) in
+      let name : Definition → Bool = λ d. names tree l v (rows.definition_names l symbol_type d) in
+      ap (λ b. b || names tree l v (rows.definitions_names_of l symbol_type ids)) (any_flat st (rows.definition_nodes l symbol_type) (rows.definitions_of l ids))
+      ∙ ap (λ b. list_any node (rows.definitions_of l ids) || b) (any_flat (hit tree l v) (rows.definition_names l symbol_type) (rows.definitions_of l ids))
       ∙ sym (any_or node name (rows.definitions_of l ids))
-      ∙ found_same (λ d. node d || name d) (λ d. (rows.is_truth kind && dep_of d) || ((prompt_of d || defaults_of d) || (rows.is_number kind && ranges_of d))) (rows.stored_definition l)
-      (λ id d e. definition_needs tree l v alike st (length l.tables.contexts) at d (l.tables.within id.0 d e) (definition_there id d e) kind) ids
-      ∙ any_four (rows.is_truth kind) (rows.is_number kind) dep_of prompt_of defaults_of ranges_of (rows.definitions_of l ids)
+      ∙ found_same (λ d. node d || name d) (λ d. (rows.is_truth symbol_type && dep_of d) || ((prompt_of d || defaults_of d) || (rows.is_number symbol_type && ranges_of d))) (rows.stored_definition l)
+      (λ id d e. definition_needs tree l v alike st (length l.tables.contexts) at d (l.tables.within id.0 d e) (definition_there id d e) symbol_type) ids
+      ∙ any_four (rows.is_truth symbol_type) (rows.is_number symbol_type) dep_of prompt_of defaults_of ranges_of (rows.definitions_of l ids)
 
   -- a line that selects or implies
   abbrev line : Guarded SymId → Bool
   line g = names tree l v (spec.one_name g.what ++ spec.condition_names tree g.when)
 
-  source_needs : (r : Reverse) (o : Option Definition) → rows.stored_definition l r.source ≡ o →
+  source_needs : (r : Selector) (o : Option Definition) → rows.stored_definition l r.source ≡ o →
       (list_any st (rows.source_nodes l o) || names tree l v (rows.source_names l.modules r o)) ≡
       passes line (option_map (λ (d : DefinitionFacts). record { what = d.symbol; when = with_when d.dependency (when_view r.when) }) (option_map (definition_facts l.tables) o))
   source_needs r None e = refl
@@ -374,30 +374,30 @@ module _ (tree : TreeFacts) (l : Layout) (v : ℕ) (alike : l.modules ≡ tree.m
       turned : (a x w : Bool) → (a || (x || w)) ≡ (x || (a || w))
       turned a x w = grind arith
 
-  reverse_needs : (o : Option Reverse) →
-      (passes (λ (r : Reverse). list_any st (rows.source_nodes l (rows.stored_definition l r.source)) || names tree l v (rows.source_names l.modules r (rows.stored_definition l r.source))) o) ≡
-      passes line (option_and_then (reverse_facts l.tables) o)
-  reverse_needs None = refl
-  reverse_needs (Some r) = source_needs r (rows.stored_definition l r.source) refl
+  selector_needs : (o : Option Selector) →
+      (passes (λ (r : Selector). list_any st (rows.source_nodes l (rows.stored_definition l r.source)) || names tree l v (rows.source_names l.modules r (rows.stored_definition l r.source))) o) ≡
+      passes line (option_and_then (selector_facts l.tables) o)
+  selector_needs None = refl
+  selector_needs (Some r) = source_needs r (rows.stored_definition l r.source) refl
 
-  reverses_needs : (last : Option ReverseId) →
-      (list_any st (rows.reverses_nodes l last) || names tree l v (rows.reverses_names l last)) ≡ names tree l v (spec.guarded_names tree spec.one_name (reverses_from l.tables last))
-  reverses_needs last =
-      let chain = chain_of (chains_of l.tables.reverses.lines.items) last in
-      let node : Reverse → Bool = λ r. list_any st (rows.source_nodes l (rows.stored_definition l r.source)) in
-      let name : Reverse → Bool = λ r. names tree l v (rows.source_names l.modules r (rows.stored_definition l r.source)) in
+  selectors_needs : (last : Option SelectorId) →
+      (list_any st (rows.selectors_nodes l last) || names tree l v (rows.selectors_names l last)) ≡ names tree l v (spec.guarded_names tree spec.one_name (selectors_from l.tables last))
+  selectors_needs last =
+      let chain = chain_of (chains_of l.tables.selector_rows.lines.items) last in
+      let node : Selector → Bool = λ r. list_any st (rows.source_nodes l (rows.stored_definition l r.source)) in
+      let name : Selector → Bool = λ r. names tree l v (rows.source_names l.modules r (rows.stored_definition l r.source)) in
       let each : Guarded SymId → List SymId = λ g. spec.one_name g.what ++ spec.condition_names tree g.when in
-      ap (λ b. b || names tree l v (rows.reverses_names l last)) (any_flat st (λ (r : Reverse). rows.source_nodes l (rows.stored_definition l r.source)) (rows.lines_from l last))
-      ∙ ap (λ b. list_any node (rows.lines_from l last) || b) (any_flat (hit tree l v) (λ (r : Reverse). rows.source_names l.modules r (rows.stored_definition l r.source)) (rows.lines_from l last))
+      ap (λ b. b || names tree l v (rows.selectors_names l last)) (any_flat st (λ (r : Selector). rows.source_nodes l (rows.stored_definition l r.source)) (rows.lines_from l last))
+      ∙ ap (λ b. list_any node (rows.lines_from l last) || b) (any_flat (hit tree l v) (λ (r : Selector). rows.source_names l.modules r (rows.stored_definition l r.source)) (rows.lines_from l last))
       ∙ sym (any_or node name (rows.lines_from l last))
-      ∙ any_found (λ r. node r || name r) (rows.reverse_row l) chain
-      ∙ any_same (λ i. passes (λ r. node r || name r) (rows.reverse_row l i)) (λ i. passes line (reverse_at l.tables i)) (λ i. reverse_needs (rows.reverse_row l i)) chain
-      ∙ sym (any_found line (reverse_at l.tables) chain)
-      ∙ sym (any_flat (hit tree l v) each (reverses_from l.tables last))
+      ∙ any_found (λ r. node r || name r) (rows.selector_row l) chain
+      ∙ any_same (λ i. passes (λ r. node r || name r) (rows.selector_row l i)) (λ i. passes line (selector_at l.tables i)) (λ i. selector_needs (rows.selector_row l i)) chain
+      ∙ sym (any_found line (selector_at l.tables) chain)
+      ∙ sym (any_flat (hit tree l v) each (selectors_from l.tables last))
 
-  guarded_reverse : {X : Type 0} (what : X → List SymId) (gs : List (Guarded X)) →
+  guarded_selector : {X : Type 0} (what : X → List SymId) (gs : List (Guarded X)) →
       names tree l v (spec.guarded_names tree what (reverse gs)) ≡ names tree l v (spec.guarded_names tree what gs)
-  guarded_reverse {X} what gs =
+  guarded_selector {X} what gs =
       let each : Guarded X → List SymId = λ g. what g.what ++ spec.condition_names tree g.when in
       any_flat (hit tree l v) each (reverse gs) ∙ any_reverse (λ g. names tree l v (each g)) gs ∙ sym (any_flat (hit tree l v) each gs)
 
@@ -416,21 +416,21 @@ module _ (tree : TreeFacts) (l : Layout) (v : ℕ) (alike : l.modules ≡ tree.m
         ∙ ap (λ b. b || name (spec.guarded_names tree (symbols tree.modules) (facts_of l i s).defaults)) (prompts_seen (definition_ids s))
         ∙ ap (λ b. list_any prompt_of (rows.definitions_of l (definition_ids s)) || b) (several (symbols tree.modules) (λ (d : DefinitionFacts). d.defaults) (definition_ids s))
 
-    text_needs : rows.is_truth s.kind ≡ false → rows.is_number s.kind ≡ false →
+    text_needs : rows.is_truth s.symbol_type ≡ false → rows.is_number s.symbol_type ≡ false →
         (list_any st (rows.definitions_nodes l s) || name (rows.definitions_names l s)) ≡ name (spec.names_of_all tree (facts_of l i s))
     text_needs t n =
-        definitions_needs s.kind (definition_ids s)
-        ∙ close (rows.is_truth s.kind) (rows.is_number s.kind) (list_any dep_of (rows.definitions_of l (definition_ids s))) (list_any prompt_of (rows.definitions_of l (definition_ids s)))
+        definitions_needs s.symbol_type (definition_ids s)
+        ∙ close (rows.is_truth s.symbol_type) (rows.is_number s.symbol_type) (list_any dep_of (rows.definitions_of l (definition_ids s))) (list_any prompt_of (rows.definitions_of l (definition_ids s)))
         (list_any defaults_of (rows.definitions_of l (definition_ids s))) (list_any ranges_of (rows.definitions_of l (definition_ids s))) t n ∙ sym common_seen
       where
         close : (t n a p d r : Bool) → t ≡ false → n ≡ false → ((t && a) || ((p || d) || (n && r))) ≡ (p || d)
         close t n a p d r e f = grind arith
 
-    number_needs : rows.is_truth s.kind ≡ false → rows.is_number s.kind ≡ true →
+    number_needs : rows.is_truth s.symbol_type ≡ false → rows.is_number s.symbol_type ≡ true →
         (list_any st (rows.definitions_nodes l s) || name (rows.definitions_names l s)) ≡ name (spec.names_of_number tree (facts_of l i s))
     number_needs t n =
-        definitions_needs s.kind (definition_ids s)
-        ∙ close (rows.is_truth s.kind) (rows.is_number s.kind) (list_any dep_of (rows.definitions_of l (definition_ids s))) (list_any prompt_of (rows.definitions_of l (definition_ids s)))
+        definitions_needs s.symbol_type (definition_ids s)
+        ∙ close (rows.is_truth s.symbol_type) (rows.is_number s.symbol_type) (list_any dep_of (rows.definitions_of l (definition_ids s))) (list_any prompt_of (rows.definitions_of l (definition_ids s)))
         (list_any defaults_of (rows.definitions_of l (definition_ids s))) (list_any ranges_of (rows.definitions_of l (definition_ids s))) t n
         ∙ sym (name_both (spec.names_of_all tree (facts_of l i s)) (spec.guarded_names tree spec.bounds_names (facts_of l i s).ranges)
         ∙ ap (λ b. b || name (spec.guarded_names tree spec.bounds_names (facts_of l i s).ranges)) common_seen
@@ -440,17 +440,17 @@ module _ (tree : TreeFacts) (l : Layout) (v : ℕ) (alike : l.modules ≡ tree.m
         close : (t n a p d r : Bool) → t ≡ false → n ≡ true → ((t && a) || ((p || d) || (n && r))) ≡ ((p || d) || r)
         close t n a p d r e f = grind arith
 
-    truth_needs : rows.is_truth s.kind ≡ true → rows.is_number s.kind ≡ false →
+    truth_needs : rows.is_truth s.symbol_type ≡ true → rows.is_number s.symbol_type ≡ false →
         (list_any st (rows.truth_nodes l i s) || name (rows.truth_names tree l i s)) ≡ name (spec.names_of_truth tree (facts_of l i s))
     truth_needs t n =
         let f = facts_of l i s in
         let dn = rows.definitions_nodes l s in
-        let sn = rows.reverses_nodes l (rows.last_select l i) in
-        let in' = rows.reverses_nodes l (rows.last_imply l i) in
+        let sn = rows.selectors_nodes l (rows.last_select l i) in
+        let in' = rows.selectors_nodes l (rows.last_imply l i) in
         let dw = rows.definitions_names l s in
-        let sw = rows.reverses_names l (rows.last_select l i) in
-        let iw = rows.reverses_names l (rows.last_imply l i) in
-        let kw = spec.kind_names tree s.kind in
+        let sw = rows.selectors_names l (rows.last_select l i) in
+        let iw = rows.selectors_names l (rows.last_imply l i) in
+        let kw = spec.type_names tree s.symbol_type in
         let dependencies = flat_map (spec.condition_names tree) f.dependencies in
         let sel = spec.guarded_names tree spec.one_name f.selectors in
         let imp = spec.guarded_names tree spec.one_name f.impliers in
@@ -462,31 +462,31 @@ module _ (tree : TreeFacts) (l : Layout) (v : ℕ) (alike : l.modules ≡ tree.m
         name_both (spec.names_of_all tree f) (dependencies ++ (sel ++ (imp ++ kw)))
         ∙ ap (λ b. name (spec.names_of_all tree f) || b)
         (name_both dependencies (sel ++ (imp ++ kw)) ∙ ap (λ b. name dependencies || b) (name_both sel (imp ++ kw) ∙ ap (λ b. name sel || b) (name_both imp kw))) in
-        close (rows.is_truth s.kind) (rows.is_number s.kind) (list_any dep_of (rows.definitions_of l (definition_ids s))) (list_any prompt_of (rows.definitions_of l (definition_ids s)))
+        close (rows.is_truth s.symbol_type) (rows.is_number s.symbol_type) (list_any dep_of (rows.definitions_of l (definition_ids s))) (list_any prompt_of (rows.definitions_of l (definition_ids s)))
         (list_any defaults_of (rows.definitions_of l (definition_ids s))) (list_any ranges_of (rows.definitions_of l (definition_ids s)))
         (list_any st dn) (list_any st sn) (list_any st in') (name dw) (name sw) (name iw) (name kw) (name (spec.names_of_all tree f)) (name dependencies) (name sel) (name imp)
         (list_any st (rows.truth_nodes l i s)) (name (rows.truth_names tree l i s)) (name (spec.names_of_truth tree f))
-        t n nodes own seen (definitions_needs s.kind (definition_ids s)) common_seen (deps_seen (definition_ids s))
-        (reverses_needs (rows.last_select l i) ∙ sym (guarded_reverse spec.one_name (reverses_from l.tables (rows.last_select l i))))
-        (reverses_needs (rows.last_imply l i) ∙ sym (guarded_reverse spec.one_name (reverses_from l.tables (rows.last_imply l i))))
+        t n nodes own seen (definitions_needs s.symbol_type (definition_ids s)) common_seen (deps_seen (definition_ids s))
+        (selectors_needs (rows.last_select l i) ∙ sym (guarded_selector spec.one_name (selectors_from l.tables (rows.last_select l i))))
+        (selectors_needs (rows.last_imply l i) ∙ sym (guarded_selector spec.one_name (selectors_from l.tables (rows.last_imply l i))))
       where
         close : (t n de p df r dn sn in' dw sw iw kw all dependencies sel imp ns ow want : Bool) → t ≡ true → n ≡ false → ns ≡ ((dn || sn) || in') → ow ≡ (((dw || sw) || iw) || kw) →
             want ≡ (all || (dependencies || (sel || (imp || kw)))) → (dn || dw) ≡ ((t && de) || ((p || df) || (n && r))) → all ≡ (p || df) → dependencies ≡ de →
             (sn || sw) ≡ sel → (in' || iw) ≡ imp → (ns || ow) ≡ want
         close t n de p df r dn sn in' dw sw iw kw all dependencies sel imp ns ow want e1 e2 e3 e4 e5 e6 e7 e8 e9 e10 = grind arith
 
-    by_kind_needs : (kind : Kind) → s.kind ≡ kind →
-        (list_any st (rows.nodes_by_kind l i s kind) || name (rows.names_by_kind tree l i s kind)) ≡ name (spec.names_by_kind tree (facts_of l i s) kind)
-    by_kind_needs Undefined e = refl
-    by_kind_needs IsBool e = truth_needs (ap rows.is_truth e) (ap rows.is_number e)
-    by_kind_needs Tristate e = truth_needs (ap rows.is_truth e) (ap rows.is_number e)
-    by_kind_needs Str e = text_needs (ap rows.is_truth e) (ap rows.is_number e)
-    by_kind_needs Int e = number_needs (ap rows.is_truth e) (ap rows.is_number e)
-    by_kind_needs Hex e = number_needs (ap rows.is_truth e) (ap rows.is_number e)
+    by_type_needs : (symbol_type : SymbolType) → s.symbol_type ≡ symbol_type →
+        (list_any st (rows.nodes_by_type l i s symbol_type) || name (rows.names_by_type tree l i s symbol_type)) ≡ name (spec.names_by_type tree (facts_of l i s) symbol_type)
+    by_type_needs Undefined e = refl
+    by_type_needs IsBool e = truth_needs (ap rows.is_truth e) (ap rows.is_number e)
+    by_type_needs Tristate e = truth_needs (ap rows.is_truth e) (ap rows.is_number e)
+    by_type_needs Str e = text_needs (ap rows.is_truth e) (ap rows.is_number e)
+    by_type_needs Int e = number_needs (ap rows.is_truth e) (ap rows.is_number e)
+    by_type_needs Hex e = number_needs (ap rows.is_truth e) (ap rows.is_number e)
 
     by_choice_needs : (o : Option ChoiceId) → ((k : ChoiceId) → o ≡ Some k → st (choice_number l k.0) ≡ name (spec.names_of_choice tree (choice_at tree k.0))) →
-        (list_any st (rows.nodes_by_choice l i s o) || name (cond (is_some o) [] (rows.names_by_kind tree l i s s.kind))) ≡ name (spec.names_by_choice tree (facts_of l i s) (mode_view o))
-    by_choice_needs None h = by_kind_needs s.kind refl
+        (list_any st (rows.nodes_by_choice l i s o) || name (cond (is_some o) [] (rows.names_by_type tree l i s s.symbol_type))) ≡ name (spec.names_by_choice tree (facts_of l i s) (mode_view o))
+    by_choice_needs None h = by_type_needs s.symbol_type refl
     by_choice_needs (Some k) h = alone (st (choice_number l k.0)) ∙ h k refl
       where
         alone : (b : Bool) → ((b || false) || false) ≡ b
@@ -522,7 +522,7 @@ module _ (tree : TreeFacts) (l : Layout) (v : ℕ) (alike : l.modules ≡ tree.m
     choice_needs k c e =
         let dependency = condition_in l.tables.contexts c.within.0 in
         let within = l.tables.choices_within k c e in
-        let below : IsBelow tree l v alike st (length l.tables.contexts) at c.prompt = λ p h. (l.tables.choice_prompts_within k c p e h, l.tables.choice_prompts_plain k c p e h) in
+        let below : IsBelow tree l v alike st (length l.tables.contexts) at c.prompt = λ p h. (l.tables.choice_prompts_within k c p e h, l.tables.choice_prompts_modeless k c p e h) in
         let mn = rows.members_nodes l c.members.items in
         let pn = rows.choice_prompt_nodes l c in
         let dn = rows.choice_defaults_nodes l c in
@@ -540,7 +540,7 @@ module _ (tree : TreeFacts) (l : Layout) (v : ℕ) (alike : l.modules ≡ tree.m
         any_where st c.defaults.items (rows.context_nodes l c.within.0) ∙ ap (λ b. has_some c.defaults.items && b) (at c.within.0 within) in
         close (list_any st mn) (list_any st pn) (list_any st dn) (name mw) (name pw) (name dw) (name m) (name p) (name d) (has_some c.defaults.items && condition_hits tree l v dependency)
         (list_any st (rows.choice_nodes l c)) (name (rows.choice_names l c)) (name (spec.names_of_choice tree (Some (choice_facts l.tables c))))
-        nodes own seen (members_needs c.members.items) (choice_prompt_needs tree l v alike st (length l.tables.contexts) at c.within.0 c.prompt within (l.tables.choices_plain k c e) below)
+        nodes own seen (members_needs c.members.items) (choice_prompt_needs tree l v alike st (length l.tables.contexts) at c.within.0 c.prompt within (l.tables.choices_modeless k c e) below)
         defaults (choice_defaults_names tree l v alike dependency c.defaults.items)
       where
         close : (mn pn dn mw pw dw m p d h ns ow want : Bool) → ns ≡ ((mn || pn) || dn) → ow ≡ ((mw || pw) || dw) → want ≡ (m || (p || d)) → (mn || mw) ≡ m →

@@ -6,8 +6,8 @@ use Rattle.std.proofs.lemmas.Bool.{true≢false, and_from, eq-eqb}
 use Rattle.kc_expr.specs.declared.expression.SymId.{SymId}
 use Rattle.kc_expr.specs.declared.expression.Tri.{Tri}
 use Rattle.kc_expr.specs.declared.expression.Tri.TheVariants.{N, M, Y}
-use Rattle.kc_expr.specs.declared.expression.Kind.{Kind}
-use Rattle.kc_expr.specs.declared.expression.Kind.TheVariants.{Undefined, Bool as IsBool, Tristate, Str, Int, Hex}
+use Rattle.kc_expr.specs.declared.expression.SymbolType.{SymbolType}
+use Rattle.kc_expr.specs.declared.expression.SymbolType.TheVariants.{Undefined, Bool as IsBool, Tristate, Str, Int, Hex}
 use Rattle.kc_expr.specs.Value.{SymbolValue, Truth, TextValue}
 use Rattle.kc_tree.specs.TreeFacts.{SymbolFacts, TreeFacts}
 use Rattle.kc_values.specs.Values as v
@@ -41,22 +41,22 @@ same_value_itself (TextValue k t) = same_text_itself t
 same_truth : (t u : Tri) → same_value (Truth t) (Truth u) ≡ true → Truth t ≡ Truth u
 same_truth t u e = ap Truth (same_tri-true t u e)
 
-same_written : (k : Kind) (t u : List ℕ) → same_value (TextValue k t) (TextValue k u) ≡ true → TextValue k t ≡ TextValue k u
+same_written : (k : SymbolType) (t u : List ℕ) → same_value (TextValue k t) (TextValue k u) ≡ true → TextValue k t ≡ TextValue k u
 same_written k t u e = ap (TextValue k) (same_text t u (sym e))
 
 module _ (tree : TreeFacts) (known : SymId → SymbolValue) where
-  same_by_kind : (s : SymId) (f : SymbolFacts) (kind : Kind) (user other : Option GivenValue) →
-      same_value (v.by_kind tree known s f kind user) (v.by_kind tree known s f kind other) ≡ true → v.by_kind tree known s f kind user ≡ v.by_kind tree known s f kind other
-  same_by_kind s f Undefined user other e = refl
-  same_by_kind s f IsBool user other e = same_truth _ _ e
-  same_by_kind s f Tristate user other e = same_truth _ _ e
-  same_by_kind s f Str user other e = same_written Str _ _ e
-  same_by_kind s f Int user other e = same_written Int _ _ e
-  same_by_kind s f Hex user other e = same_written Hex _ _ e
+  same_by_type : (s : SymId) (f : SymbolFacts) (symbol_type : SymbolType) (user other : Option GivenValue) →
+      same_value (v.by_type tree known s f symbol_type user) (v.by_type tree known s f symbol_type other) ≡ true → v.by_type tree known s f symbol_type user ≡ v.by_type tree known s f symbol_type other
+  same_by_type s f Undefined user other e = refl
+  same_by_type s f IsBool user other e = same_truth _ _ e
+  same_by_type s f Tristate user other e = same_truth _ _ e
+  same_by_type s f Str user other e = same_written Str _ _ e
+  same_by_type s f Int user other e = same_written Int _ _ e
+  same_by_type s f Hex user other e = same_written Hex _ _ e
 
   same_by_choice : (s : SymId) (f : SymbolFacts) (c : Option ℕ) (user other : Option GivenValue) →
       same_value (v.by_choice tree known s f c user) (v.by_choice tree known s f c other) ≡ true → v.by_choice tree known s f c user ≡ v.by_choice tree known s f c other
-  same_by_choice s f None user other e = same_by_kind s f f.kind user other e
+  same_by_choice s f None user other e = same_by_type s f f.symbol_type user other e
   same_by_choice s f (Some c) user other e = same_truth _ _ e
 
   -- an equation's values under two places

@@ -5,8 +5,8 @@ use Rattle.std.specs.Option.{option_map}
 use Rattle.std.specs.Str.Parse.{digits_value, starts_with_minus}
 use Rattle.std.proofs.lemmas.Bool.{and_parts, ltb-true}
 use Rattle.kc_text.specs.Numbers.{natural_of, is_numeral, negated, without_hex_prefix}
-use Rattle.kc_expr.specs.declared.expression.Kind.{Kind}
-use Rattle.kc_expr.specs.declared.expression.Kind.TheVariants.{Undefined, Bool as IsBool, Tristate, Str, Int, Hex}
+use Rattle.kc_expr.specs.declared.expression.SymbolType.{SymbolType}
+use Rattle.kc_expr.specs.declared.expression.SymbolType.TheVariants.{Undefined, Bool as IsBool, Tristate, Str, Int, Hex}
 use Rattle.kc_values.specs.Numbers.{number_or_zero, number_text, is_within_range, clamped}
 use Rattle.kc_values.specs.declared.numbers.Interval.{Interval}
 
@@ -40,7 +40,7 @@ int_below false text =
     let e = of_pos (natural_of 10 (2 ^ 63) text) in
     omega (arith, l, e)
 
-pub number_or_zero_below : (kind : Kind) (text : List ℕ) → unsigned_abs (number_or_zero kind text) < 2 ^ 64
+pub number_or_zero_below : (symbol_type : SymbolType) (text : List ℕ) → unsigned_abs (number_or_zero symbol_type text) < 2 ^ 64
 number_or_zero_below Int text = int_below (starts_with_minus text) text
 number_or_zero_below Hex text =
     let l = natural_below 16 (2 ^ 64) (without_hex_prefix text) (omega arith) in
@@ -57,6 +57,6 @@ neither false true x y t e = cc
 neither false false x y t e = refl
 
 -- what is inside keeps its text
-pub inside_keeps : (kind : Kind) (range : Option Interval) (t : List ℕ) → is_within_range kind range t ≡ true → clamped kind range t ≡ t
-inside_keeps kind None t e = refl
-inside_keeps kind (Some r) t e = neither (int_lt (number_or_zero kind t) r.low) (int_lt r.high (number_or_zero kind t)) (number_text kind r.low) (number_text kind r.high) t e
+pub inside_keeps : (symbol_type : SymbolType) (range : Option Interval) (t : List ℕ) → is_within_range symbol_type range t ≡ true → clamped symbol_type range t ≡ t
+inside_keeps symbol_type None t e = refl
+inside_keeps symbol_type (Some r) t e = neither (int_lt (number_or_zero symbol_type t) r.low) (int_lt r.high (number_or_zero symbol_type t)) (number_text symbol_type r.low) (number_text symbol_type r.high) t e

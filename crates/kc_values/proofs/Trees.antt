@@ -4,8 +4,8 @@ use Rattle.std.specs.Prelude.{slice_index_or}
 use Rattle.std.specs.List.{range_with_len}
 use Rattle.kc_expr.specs.declared.expression.SymId.{SymId}
 use Rattle.kc_expr.specs.declared.expression.Tri.TheVariants.{N}
-use Rattle.kc_expr.specs.declared.expression.Kind.{Kind}
-use Rattle.kc_expr.specs.declared.expression.Kind.TheVariants.{Undefined, Bool as IsBool}
+use Rattle.kc_expr.specs.declared.expression.SymbolType.{SymbolType}
+use Rattle.kc_expr.specs.declared.expression.SymbolType.TheVariants.{Undefined, Bool as IsBool}
 use Rattle.kc_expr.specs.Form.{Form, Leaf, Single, Text, Symbol}
 use Rattle.kc_expr.specs.Names.{symbol}
 use Rattle.kc_expr.specs.Value.{SymbolValue, Truth}
@@ -43,11 +43,11 @@ abbrev pub by : ℕ → Guarded SymId
 by i = line (symbol i)
 
 -- of a type, with prompts and defaults
-abbrev pub plain : Kind → List Condition → List (Guarded Form) → SymbolFacts
-plain k ps ds = record { kind = k; choice = None; dependencies = always ∷ []; prompts = ps; defaults = ds; ranges = []; selectors = []; impliers = [] }
+abbrev pub plain : SymbolType → List Condition → List (Guarded Form) → SymbolFacts
+plain k ps ds = record { symbol_type = k; choice = None; dependencies = always ∷ []; prompts = ps; defaults = ds; ranges = []; selectors = []; impliers = [] }
 
 abbrev pub member : List Condition → SymbolFacts
-member ps = record { kind = IsBool; choice = Some 0; dependencies = in_choice [] ∷ []; prompts = ps; defaults = []; ranges = []; selectors = []; impliers = [] }
+member ps = record { symbol_type = IsBool; choice = Some 0; dependencies = in_choice [] ∷ []; prompts = ps; defaults = []; ranges = []; selectors = []; impliers = [] }
 
 -- of a name that is mentioned and not defined
 abbrev pub mentioned : SymbolFacts

@@ -6,8 +6,8 @@ use Rattle.kc_expr.specs.Value.{SymbolValue, Truth, TextValue, greater}
 use Rattle.kc_expr.specs.declared.expression.SymId.{SymId}
 use Rattle.kc_expr.specs.declared.expression.Tri.{Tri}
 use Rattle.kc_expr.specs.declared.expression.Tri.TheVariants.{N, M, Y}
-use Rattle.kc_expr.specs.declared.expression.Kind.{Kind}
-use Rattle.kc_expr.specs.declared.expression.Kind.TheVariants.{Undefined, Bool as IsBool, Tristate, Str, Int, Hex}
+use Rattle.kc_expr.specs.declared.expression.SymbolType.{SymbolType}
+use Rattle.kc_expr.specs.declared.expression.SymbolType.TheVariants.{Undefined, Bool as IsBool, Tristate, Str, Int, Hex}
 use Rattle.kc_tree.specs.TreeFacts.{SymbolFacts, TreeFacts}
 use Rattle.kc_user.specs.GivenValue.{GivenValue, GivenTruth, GivenText, Member}
 use Rattle.kc_values.specs.Numbers.{if_within_range, clamped}
@@ -33,8 +33,8 @@ module _ (tree : TreeFacts) (known : SymId → SymbolValue) where
   truth_uncounted : (f : SymbolFacts) (user : Option GivenValue) → (is_some user && not (v.is_n (v.visibility tree known f))) ≡ false →
       v.truth_equation tree known f user ≡ v.truth_equation tree known f None
   truth_uncounted f user e =
-      ap (λ b. v.upgraded tree known f.kind (greater b (v.reverse tree known f)))
-      (user_or_uncounted user (v.visibility tree known f) (v.implied (v.default_value tree known (v.first_met tree known f.defaults)) (v.weak_reverse tree known f) (v.direct tree known f)) e)
+      ap (λ b. v.upgraded tree known f.symbol_type (greater b (v.selected_to tree known f)))
+      (user_or_uncounted user (v.visibility tree known f) (v.implied (v.default_value tree known (v.first_met tree known f.defaults)) (v.implied_to tree known f) (v.direct tree known f)) e)
 
   text_uncounted : (f : SymbolFacts) (user : Option GivenValue) → (is_some user && not (v.is_n (v.visibility tree known f))) ≡ false →
       v.text_equation tree known f user ≡ v.text_equation tree known f None
@@ -44,12 +44,12 @@ module _ (tree : TreeFacts) (known : SymId → SymbolValue) where
   number_uncounted : (f : SymbolFacts) (user : Option GivenValue) → (is_some user && not (v.is_n (v.visibility tree known f))) ≡ false →
       v.number_equation tree known f user ≡ v.number_equation tree known f None
   number_uncounted f user e =
-      ap (λ t. unwrap_or (if_within_range f.kind (v.active_range tree known f) t) (clamped f.kind (v.active_range tree known f) (v.default_text known (v.first_met tree known f.defaults))))
+      ap (λ t. unwrap_or (if_within_range f.symbol_type (v.active_range tree known f) t) (clamped f.symbol_type (v.active_range tree known f) (v.default_text known (v.first_met tree known f.defaults))))
       (visible_text_uncounted user (v.visibility tree known f) e)
 
   -- the equation of a symbol outside a choice gives the same without it
-  pub uncounted : (s : SymId) (f : SymbolFacts) (kind : Kind) (user : Option GivenValue) → (is_some user && not (v.is_n (v.visibility tree known f))) ≡ false →
-      v.by_kind tree known s f kind user ≡ v.by_kind tree known s f kind None
+  pub uncounted : (s : SymId) (f : SymbolFacts) (symbol_type : SymbolType) (user : Option GivenValue) → (is_some user && not (v.is_n (v.visibility tree known f))) ≡ false →
+      v.by_type tree known s f symbol_type user ≡ v.by_type tree known s f symbol_type None
   uncounted s f Undefined user e = refl
   uncounted s f IsBool user e = ap Truth (truth_uncounted f user e)
   uncounted s f Tristate user e = ap Truth (truth_uncounted f user e)

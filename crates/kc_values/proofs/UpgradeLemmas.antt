@@ -5,15 +5,15 @@ use Rattle.kc_expr.specs.Value.{SymbolValue}
 use Rattle.kc_expr.specs.declared.expression.SymId.{SymId}
 use Rattle.kc_expr.specs.declared.expression.Tri.{Tri}
 use Rattle.kc_expr.specs.declared.expression.Tri.TheVariants.{N, M, Y}
-use Rattle.kc_expr.specs.declared.expression.Kind.{Kind}
-use Rattle.kc_expr.specs.declared.expression.Kind.TheVariants.{Undefined, Bool as IsBool, Tristate, Str, Int, Hex}
+use Rattle.kc_expr.specs.declared.expression.SymbolType.{SymbolType}
+use Rattle.kc_expr.specs.declared.expression.SymbolType.TheVariants.{Undefined, Bool as IsBool, Tristate, Str, Int, Hex}
 use Rattle.kc_tree.specs.declared.layout.Tables.{Tables}
-use Rattle.kc_tree.specs.declared.rows.ReverseId.{ReverseId}
-use Rattle.kc_tree.specs.Layouts.{reverses_from}
+use Rattle.kc_tree.specs.declared.rows.SelectorId.{SelectorId}
+use Rattle.kc_tree.specs.Layouts.{selectors_from}
 use Rattle.kc_tree.specs.TreeFacts.{TreeFacts}
 use Rattle.kc_values.specs.Values as v
 use Rattle.kc_values.specs.WrittenSymbols as written
-use Rattle.kc_values.proofs.ChainLemmas.{reverse_values_from, reverse_values-reverse}
+use Rattle.kc_values.proofs.ChainLemmas.{selector_values_from, selector_values-reverse}
 
 module _ (tree : TreeFacts) (known : SymId → SymbolValue) where
   either : (b : Bool) (t : Tri) → v.upgrade t ≡ t → t ≡ cond b (v.upgrade t) t
@@ -21,7 +21,7 @@ module _ (tree : TreeFacts) (known : SymId → SymbolValue) where
   either false t e = refl
 
   -- n and y stay
-  stays : (kind : Kind) (t : Tri) → v.upgrade t ≡ t → t ≡ v.upgraded tree known kind t
+  stays : (symbol_type : SymbolType) (t : Tri) → v.upgrade t ≡ t → t ≡ v.upgraded tree known symbol_type t
   stays Undefined t e = sym e
   stays IsBool t e = sym e
   stays Tristate t e = either (v.is_n (v.modules_value known tree.modules)) t e
@@ -29,11 +29,11 @@ module _ (tree : TreeFacts) (known : SymId → SymbolValue) where
   stays Int t e = sym e
   stays Hex t e = sym e
 
-  pub n_stays : (kind : Kind) → N ≡ v.upgraded tree known kind N
-  n_stays kind = stays kind N refl
+  pub n_stays : (symbol_type : SymbolType) → N ≡ v.upgraded tree known symbol_type N
+  n_stays symbol_type = stays symbol_type N refl
 
-  pub y_stays : (kind : Kind) → Y ≡ v.upgraded tree known kind Y
-  y_stays kind = stays kind Y refl
+  pub y_stays : (symbol_type : SymbolType) → Y ≡ v.upgraded tree known symbol_type Y
+  y_stays symbol_type = stays symbol_type Y refl
 
   is_upgraded : (b : Bool) → not b ≡ false → Y ≡ cond b Y M
   is_upgraded true e = refl
@@ -44,7 +44,7 @@ module _ (tree : TreeFacts) (known : SymId → SymbolValue) where
   is_kept true e = absurd cc
 
   -- m is y where the type is not tristate
-  pub m_upgraded : (kind : Kind) → written.is_tristate tree known kind ≡ false → Y ≡ v.upgraded tree known kind M
+  pub m_upgraded : (symbol_type : SymbolType) → written.is_tristate tree known symbol_type ≡ false → Y ≡ v.upgraded tree known symbol_type M
   m_upgraded Undefined e = refl
   m_upgraded IsBool e = refl
   m_upgraded Tristate e = is_upgraded (v.is_n (v.modules_value known tree.modules)) e
@@ -53,7 +53,7 @@ module _ (tree : TreeFacts) (known : SymId → SymbolValue) where
   m_upgraded Hex e = refl
 
   -- and stays where it is
-  pub m_kept : (kind : Kind) → written.is_tristate tree known kind ≡ true → M ≡ v.upgraded tree known kind M
+  pub m_kept : (symbol_type : SymbolType) → written.is_tristate tree known symbol_type ≡ true → M ≡ v.upgraded tree known symbol_type M
   m_kept Undefined e = absurd cc
   m_kept IsBool e = absurd cc
   m_kept Tristate e = is_kept (v.is_n (v.modules_value known tree.modules)) e
@@ -62,13 +62,13 @@ module _ (tree : TreeFacts) (known : SymId → SymbolValue) where
   m_kept Hex e = absurd cc
 
   -- the upgrade of what no line selects or implies
-  pub none_upgraded : (tables : Tables) (kind : Kind) (last : Option ReverseId) → last ≡ None →
-      N ≡ v.upgraded tree known kind (v.reverse_values tree known (reverse (reverses_from tables last)))
-  none_upgraded tables kind last none = rw none (n_stays kind)
+  pub none_upgraded : (tables : Tables) (symbol_type : SymbolType) (last : Option SelectorId) → last ≡ None →
+      N ≡ v.upgraded tree known symbol_type (v.selector_values tree known (reverse (selectors_from tables last)))
+  none_upgraded tables symbol_type last none = rw none (n_stays symbol_type)
 
   -- and of what some line does
-  pub some_upgraded : (tables : Tables) (kind : Kind) (last : Option ReverseId) (id : ReverseId) (values result : Tri) → last ≡ Some id →
-      values ≡ reverse_values_from tables tree known (Some id) → result ≡ v.upgraded tree known kind values →
-      result ≡ v.upgraded tree known kind (v.reverse_values tree known (reverse (reverses_from tables last)))
-  some_upgraded tables kind last id values result some are is =
-      is ∙ ap (v.upgraded tree known kind) (are ∙ sym (reverse_values-reverse tables tree known (Some id)) ∙ ap (λ l. v.reverse_values tree known (reverse (reverses_from tables l))) (sym some))
+  pub some_upgraded : (tables : Tables) (symbol_type : SymbolType) (last : Option SelectorId) (id : SelectorId) (values result : Tri) → last ≡ Some id →
+      values ≡ selector_values_from tables tree known (Some id) → result ≡ v.upgraded tree known symbol_type values →
+      result ≡ v.upgraded tree known symbol_type (v.selector_values tree known (reverse (selectors_from tables last)))
+  some_upgraded tables symbol_type last id values result some are is =
+      is ∙ ap (v.upgraded tree known symbol_type) (are ∙ sym (selector_values-reverse tables tree known (Some id)) ∙ ap (λ l. v.selector_values tree known (reverse (selectors_from tables l))) (sym some))

@@ -3,8 +3,8 @@ use Rattle.std.proofs.Common.{◌≡◌, ℕ, true, false, List, [], ◌∷◌, 
 use Rattle.std.specs.Prelude.{codes}
 use Rattle.kc_expr.specs.declared.expression.SymId.{SymId}
 use Rattle.kc_expr.specs.declared.expression.Tri.TheVariants.{N, M, Y}
-use Rattle.kc_expr.specs.declared.expression.Kind.{Kind}
-use Rattle.kc_expr.specs.declared.expression.Kind.TheVariants.{Undefined, Bool as IsBool, Tristate, Str}
+use Rattle.kc_expr.specs.declared.expression.SymbolType.{SymbolType}
+use Rattle.kc_expr.specs.declared.expression.SymbolType.TheVariants.{Undefined, Bool as IsBool, Tristate, Str}
 use Rattle.kc_expr.specs.Form.{Form}
 use Rattle.kc_expr.specs.Names.{symbol}
 use Rattle.kc_expr.specs.Value.{SymbolValue, Truth, TextValue}
@@ -247,7 +247,7 @@ odd_values : given_by odd_modules nothing (TextValue Str (codes "y") ∷ (Truth 
 odd_values = refl
 
 -- A select written in a string adds n, and its target needs it; an untyped symbol takes no select and needs nothing.
-abbrev text_selects : Kind → TreeFacts
+abbrev text_selects : SymbolType → TreeFacts
 text_selects k =
     tree (codes "S" ∷ (codes "A" ∷ [])) (plain Str [] (line (constant (codes "y")) ∷ []) ∷ (record (plain k [] []) { selectors = by 0 ∷ [] } ∷ [])) [] None
 

@@ -1,7 +1,7 @@
 -- Trusted: What a tree says of a symbol and of a choice, by its number.
 use Rattle.std.specs.Prelude.{ℕ, Bool, List, Option, Some, None, length, nat_lt, slice_get}
-use Rattle.kc_expr.specs.declared.expression.Kind.{Kind}
-use Rattle.kc_expr.specs.declared.expression.Kind.TheVariants.{Undefined}
+use Rattle.kc_expr.specs.declared.expression.SymbolType.{SymbolType}
+use Rattle.kc_expr.specs.declared.expression.SymbolType.TheVariants.{Undefined}
 use Rattle.kc_expr.specs.declared.expression.SymId.{SymId}
 use Rattle.kc_tree.specs.Common.{name_by}
 use Rattle.kc_tree.specs.TreeFacts.{SymbolFacts, ChoiceFacts, TreeFacts}
@@ -14,9 +14,9 @@ abbrev pub facts : TreeFacts → SymId → Option SymbolFacts
 facts tree s = slice_get tree.symbols s.0
 
 -- the type that these facts give; none where there are no facts
-abbrev pub kind_in : Option SymbolFacts → Kind
-kind_in None = Undefined
-kind_in (Some f) = f.kind
+abbrev pub type_in : Option SymbolFacts → SymbolType
+type_in None = Undefined
+type_in (Some f) = f.symbol_type
 
 abbrev pub name : TreeFacts → SymId → List ℕ
 name tree s = name_by tree.names s

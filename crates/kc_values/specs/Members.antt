@@ -2,7 +2,7 @@
 use Rattle.std.specs.Prelude.{◌≡◌, ℕ, ◌<◌, Some}
 use Rattle.std.specs.List.{Contains}
 use Rattle.kc_expr.specs.declared.expression.SymId.{SymId}
-use Rattle.kc_expr.specs.declared.expression.Kind.TheVariants.{Bool as IsBool}
+use Rattle.kc_expr.specs.declared.expression.SymbolType.TheVariants.{Bool as IsBool}
 use Rattle.kc_tree.specs.TreeFacts.{ChoiceFacts, SymbolFacts, TreeFacts}
 use Rattle.kc_values.specs.Lookups.{choice_at, facts}
 use Rattle.kc_values.specs.Solution.{name_count}
@@ -15,4 +15,4 @@ MembersAreTheirs tree =
 
 -- a symbol of a choice is a bool
 abbrev pub MembersAreBools : TreeFacts → Type 0
-MembersAreBools tree = (s : SymId) (g : SymbolFacts) (c : ℕ) → facts tree s ≡ Some g → g.choice ≡ Some c → g.kind ≡ IsBool
+MembersAreBools tree = (s : SymId) (g : SymbolFacts) (c : ℕ) → facts tree s ≡ Some g → g.choice ≡ Some c → g.symbol_type ≡ IsBool

@@ -3,8 +3,8 @@ use Rattle.std.specs.Prelude.{◌≡◌, ℕ, ◌<◌, ◌==◌, ◌&&◌, ◌||
 use Rattle.std.specs.Option.{option_and_then}
 use Rattle.std.specs.List.{filter_map, flat_map, range_with_len}
 use Rattle.kc_expr.specs.Form.{Form, form_of, leaf_of, leaf_symbols, symbols}
-use Rattle.kc_expr.specs.declared.expression.Kind.{Kind}
-use Rattle.kc_expr.specs.declared.expression.Kind.TheVariants.{Undefined, Bool as IsBool, Tristate, Str, Int, Hex}
+use Rattle.kc_expr.specs.declared.expression.SymbolType.{SymbolType}
+use Rattle.kc_expr.specs.declared.expression.SymbolType.TheVariants.{Undefined, Bool as IsBool, Tristate, Str, Int, Hex}
 use Rattle.kc_expr.specs.declared.expression.SymId.{SymId}
 use Rattle.kc_order.specs.Graph.{Nodes}
 use Rattle.kc_expr.specs.When.{when_view}
@@ -16,8 +16,8 @@ use Rattle.kc_tree.specs.declared.rows.Context.{Context}
 use Rattle.kc_tree.specs.declared.rows.Definition.{Definition}
 use Rattle.kc_tree.specs.declared.rows.DefinitionId.{DefinitionId}
 use Rattle.kc_tree.specs.declared.rows.EntryPrompt.{EntryPrompt}
-use Rattle.kc_tree.specs.declared.rows.Reverse.{Reverse}
-use Rattle.kc_tree.specs.declared.rows.ReverseId.{ReverseId}
+use Rattle.kc_tree.specs.declared.rows.Selector.{Selector}
+use Rattle.kc_tree.specs.declared.rows.SelectorId.{SelectorId}
 use Rattle.kc_tree.specs.declared.rows.Symbol.{Symbol}
 use Rattle.kc_tree.specs.declared.rows.SymbolDefault.{SymbolDefault}
 use Rattle.kc_tree.specs.declared.rows.SymbolRange.{SymbolRange}
@@ -25,7 +25,7 @@ use Rattle.kc_tree.specs.Chains.{chain_of, chains_of}
 use Rattle.kc_tree.specs.Contexts.{IsContextAt, condition_in, top}
 use Rattle.kc_tree.specs.Spans.{definition_ids, slice_of}
 use Rattle.kc_tree.specs.TreeFacts.{TreeFacts}
-use Rattle.kc_values.specs.Needs.{kind_names}
+use Rattle.kc_values.specs.Needs.{type_names}
 use Rattle.kc_values.specs.Nodes.{choice_number, context_number, node_count}
 
 -- names, where this is the modules symbol
@@ -47,7 +47,7 @@ module _ (modules : Option SymId) where
   entry_names d = prompt_names d.prompt
 
   -- of a line that selects or implies
-  abbrev pub source_names : Reverse → Option Definition → List SymId
+  abbrev pub source_names : Selector → Option Definition → List SymId
   source_names r None = []
   source_names r (Some d) = d.symbol ∷ when_names (when_view r.when)
 
@@ -60,7 +60,7 @@ module _ (modules : Option SymId) where
   abbrev pub choice_default_names : ChoiceDefault → List SymId
   choice_default_names d = when_names (when_view d.when)
 
-abbrev pub is_number : Kind → Bool
+abbrev pub is_number : SymbolType → Bool
 is_number Undefined = false
 is_number IsBool = false
 is_number Tristate = false
@@ -68,7 +68,7 @@ is_number Str = false
 is_number Int = true
 is_number Hex = true
 
-abbrev pub is_truth : Kind → Bool
+abbrev pub is_truth : SymbolType → Bool
 is_truth Undefined = false
 is_truth IsBool = true
 is_truth Tristate = true
@@ -143,65 +143,65 @@ module _ (l : Layout) where
   prompts_names s = prompts_names_of (definition_ids s)
 
   -- the equation of a symbol of this type reads what a definition of it depends on
-  abbrev pub is_read : Kind → Definition → Bool
-  is_read kind d = is_truth kind || (is_some d.prompt || (nat_lt 0 (length (defaults_of d)) || (is_number kind && nat_lt 0 (length (ranges_of d)))))
+  abbrev pub is_read : SymbolType → Definition → Bool
+  is_read symbol_type d = is_truth symbol_type || (is_some d.prompt || (nat_lt 0 (length (defaults_of d)) || (is_number symbol_type && nat_lt 0 (length (ranges_of d)))))
 
-  abbrev pub definition_nodes : Kind → Definition → List ℕ
-  definition_nodes kind d = (if is_read kind d then context_nodes d.within.0 else []) ++ prompt_nodes d.prompt
+  abbrev pub definition_nodes : SymbolType → Definition → List ℕ
+  definition_nodes symbol_type d = (if is_read symbol_type d then context_nodes d.within.0 else []) ++ prompt_nodes d.prompt
 
-  abbrev pub definition_names : Kind → Definition → List SymId
-  definition_names kind d =
-      prompt_names l.modules d.prompt ++ flat_map (default_names l.modules) (defaults_of d) ++ (if is_number kind then flat_map (range_names l.modules) (ranges_of d) else [])
+  abbrev pub definition_names : SymbolType → Definition → List SymId
+  definition_names symbol_type d =
+      prompt_names l.modules d.prompt ++ flat_map (default_names l.modules) (defaults_of d) ++ (if is_number symbol_type then flat_map (range_names l.modules) (ranges_of d) else [])
 
-  abbrev pub definitions_nodes_of : Kind → List DefinitionId → List ℕ
-  definitions_nodes_of kind ids = flat_map (definition_nodes kind) (definitions_of ids)
+  abbrev pub definitions_nodes_of : SymbolType → List DefinitionId → List ℕ
+  definitions_nodes_of symbol_type ids = flat_map (definition_nodes symbol_type) (definitions_of ids)
 
-  abbrev pub definitions_names_of : Kind → List DefinitionId → List SymId
-  definitions_names_of kind ids = flat_map (definition_names kind) (definitions_of ids)
+  abbrev pub definitions_names_of : SymbolType → List DefinitionId → List SymId
+  definitions_names_of symbol_type ids = flat_map (definition_names symbol_type) (definitions_of ids)
 
   abbrev pub definitions_nodes : Symbol → List ℕ
-  definitions_nodes s = definitions_nodes_of s.kind (definition_ids s)
+  definitions_nodes s = definitions_nodes_of s.symbol_type (definition_ids s)
 
   abbrev pub definitions_names : Symbol → List SymId
-  definitions_names s = definitions_names_of s.kind (definition_ids s)
+  definitions_names s = definitions_names_of s.symbol_type (definition_ids s)
 
   -- lines that select or imply, from one on
-  abbrev pub reverse_row : ℕ → Option Reverse
-  reverse_row i = slice_get l.tables.reverses.lines.items i
+  abbrev pub selector_row : ℕ → Option Selector
+  selector_row i = slice_get l.tables.selector_rows.lines.items i
 
-  abbrev pub lines_from : Option ReverseId → List Reverse
-  lines_from last = filter_map reverse_row (chain_of (chains_of l.tables.reverses.lines.items) last)
+  abbrev pub lines_from : Option SelectorId → List Selector
+  lines_from last = filter_map selector_row (chain_of (chains_of l.tables.selector_rows.lines.items) last)
 
   abbrev pub source_nodes : Option Definition → List ℕ
   source_nodes None = []
   source_nodes (Some d) = context_nodes d.within.0
 
-  abbrev pub reverses_nodes : Option ReverseId → List ℕ
-  reverses_nodes last = flat_map (λ (r : Reverse). source_nodes (stored_definition r.source)) (lines_from last)
+  abbrev pub selectors_nodes : Option SelectorId → List ℕ
+  selectors_nodes last = flat_map (λ (r : Selector). source_nodes (stored_definition r.source)) (lines_from last)
 
-  abbrev pub reverses_names : Option ReverseId → List SymId
-  reverses_names last = flat_map (λ (r : Reverse). source_names l.modules r (stored_definition r.source)) (lines_from last)
+  abbrev pub selectors_names : Option SelectorId → List SymId
+  selectors_names last = flat_map (λ (r : Selector). source_names l.modules r (stored_definition r.source)) (lines_from last)
 
-  abbrev pub last_select : ℕ → Option ReverseId
-  last_select s = slice_index_or l.tables.reverses.selects.items s None
+  abbrev pub last_select : ℕ → Option SelectorId
+  last_select s = slice_index_or l.tables.selector_rows.selects.items s None
 
-  abbrev pub last_imply : ℕ → Option ReverseId
-  last_imply s = slice_index_or l.tables.reverses.implies.items s None
+  abbrev pub last_imply : ℕ → Option SelectorId
+  last_imply s = slice_index_or l.tables.selector_rows.implies.items s None
 
   abbrev pub truth_nodes : ℕ → Symbol → List ℕ
-  truth_nodes i s = definitions_nodes s ++ reverses_nodes (last_select i) ++ reverses_nodes (last_imply i)
+  truth_nodes i s = definitions_nodes s ++ selectors_nodes (last_select i) ++ selectors_nodes (last_imply i)
 
-  abbrev pub nodes_by_kind : ℕ → Symbol → Kind → List ℕ
-  nodes_by_kind i s Undefined = []
-  nodes_by_kind i s IsBool = truth_nodes i s
-  nodes_by_kind i s Tristate = truth_nodes i s
-  nodes_by_kind i s Str = definitions_nodes s
-  nodes_by_kind i s Int = definitions_nodes s
-  nodes_by_kind i s Hex = definitions_nodes s
+  abbrev pub nodes_by_type : ℕ → Symbol → SymbolType → List ℕ
+  nodes_by_type i s Undefined = []
+  nodes_by_type i s IsBool = truth_nodes i s
+  nodes_by_type i s Tristate = truth_nodes i s
+  nodes_by_type i s Str = definitions_nodes s
+  nodes_by_type i s Int = definitions_nodes s
+  nodes_by_type i s Hex = definitions_nodes s
 
   abbrev pub nodes_by_choice : ℕ → Symbol → Option ChoiceId → List ℕ
   nodes_by_choice i s (Some k) = choice_number l k.0 ∷ []
-  nodes_by_choice i s None = nodes_by_kind i s s.kind
+  nodes_by_choice i s None = nodes_by_type i s s.symbol_type
 
   abbrev pub symbol_nodes : ℕ → Symbol → List ℕ
   symbol_nodes i s = nodes_by_choice i s s.choice
@@ -238,18 +238,18 @@ module _ (l : Layout) where
 
 module _ (tree : TreeFacts) (l : Layout) where
   abbrev pub truth_names : ℕ → Symbol → List SymId
-  truth_names i s = definitions_names l s ++ reverses_names l (last_select l i) ++ reverses_names l (last_imply l i) ++ kind_names tree s.kind
+  truth_names i s = definitions_names l s ++ selectors_names l (last_select l i) ++ selectors_names l (last_imply l i) ++ type_names tree s.symbol_type
 
-  abbrev pub names_by_kind : ℕ → Symbol → Kind → List SymId
-  names_by_kind i s Undefined = []
-  names_by_kind i s IsBool = truth_names i s
-  names_by_kind i s Tristate = truth_names i s
-  names_by_kind i s Str = definitions_names l s
-  names_by_kind i s Int = definitions_names l s
-  names_by_kind i s Hex = definitions_names l s
+  abbrev pub names_by_type : ℕ → Symbol → SymbolType → List SymId
+  names_by_type i s Undefined = []
+  names_by_type i s IsBool = truth_names i s
+  names_by_type i s Tristate = truth_names i s
+  names_by_type i s Str = definitions_names l s
+  names_by_type i s Int = definitions_names l s
+  names_by_type i s Hex = definitions_names l s
 
   abbrev pub symbol_names : ℕ → Symbol → List SymId
-  symbol_names i s = if is_some s.choice then [] else names_by_kind i s s.kind
+  symbol_names i s = if is_some s.choice then [] else names_by_type i s s.symbol_type
 
   abbrev pub symbol_row : ℕ → Option Symbol → List ℕ
   symbol_row i None = []

@@ -4,8 +4,8 @@ use Rattle.std.specs.List.{filter, flat_map, range_with_len}
 use Rattle.kc_expr.specs.Form.{symbols, leaf_symbols}
 use Rattle.kc_expr.specs.Names.{symbol}
 use Rattle.kc_expr.specs.declared.expression.SymId.{SymId}
-use Rattle.kc_expr.specs.declared.expression.Kind.{Kind}
-use Rattle.kc_expr.specs.declared.expression.Kind.TheVariants.{Undefined, Bool as IsBool, Tristate, Str, Int, Hex}
+use Rattle.kc_expr.specs.declared.expression.SymbolType.{SymbolType}
+use Rattle.kc_expr.specs.declared.expression.SymbolType.TheVariants.{Undefined, Bool as IsBool, Tristate, Str, Int, Hex}
 use Rattle.kc_order.specs.Needs.{IsAccepted as AreAccepted}
 use Rattle.kc_tree.specs.Common.{listed}
 use Rattle.kc_tree.specs.TreeFacts.{Condition, Guarded, Bounds, SymbolFacts, ChoiceFacts, TreeFacts}
@@ -45,13 +45,13 @@ module _ (tree : TreeFacts) where
   prompts_names (Some f) = flat_map condition_names f.prompts
 
   -- a tristate type names the modules symbol
-  abbrev pub kind_names : Kind → List SymId
-  kind_names Undefined = []
-  kind_names IsBool = []
-  kind_names Tristate = listed tree.modules
-  kind_names Str = []
-  kind_names Int = []
-  kind_names Hex = []
+  abbrev pub type_names : SymbolType → List SymId
+  type_names Undefined = []
+  type_names IsBool = []
+  type_names Tristate = listed tree.modules
+  type_names Str = []
+  type_names Int = []
+  type_names Hex = []
 
   -- the conditions of its prompts, the values and conditions of its defaults
   abbrev pub names_of_all : SymbolFacts → List SymId
@@ -60,7 +60,7 @@ module _ (tree : TreeFacts) where
   -- bool and tristate: also the dependencies, and each symbol that selects or implies it with the condition of that line
   abbrev pub names_of_truth : SymbolFacts → List SymId
   names_of_truth f =
-      names_of_all f ++ (flat_map condition_names f.dependencies ++ (guarded_names one_name f.selectors ++ (guarded_names one_name f.impliers ++ kind_names f.kind)))
+      names_of_all f ++ (flat_map condition_names f.dependencies ++ (guarded_names one_name f.selectors ++ (guarded_names one_name f.impliers ++ type_names f.symbol_type)))
 
   -- int and hex: also the bounds and conditions of its ranges
   abbrev pub names_of_number : SymbolFacts → List SymId
@@ -73,17 +73,17 @@ module _ (tree : TreeFacts) where
       flat_map (λ m. prompts_names (facts tree m)) c.members ++ (conjunct_names c.prompt ++ guarded_names no_name c.defaults)
 
   -- without a type nothing
-  abbrev pub names_by_kind : SymbolFacts → Kind → List SymId
-  names_by_kind f Undefined = []
-  names_by_kind f IsBool = names_of_truth f
-  names_by_kind f Tristate = names_of_truth f
-  names_by_kind f Str = names_of_all f
-  names_by_kind f Int = names_of_number f
-  names_by_kind f Hex = names_of_number f
+  abbrev pub names_by_type : SymbolFacts → SymbolType → List SymId
+  names_by_type f Undefined = []
+  names_by_type f IsBool = names_of_truth f
+  names_by_type f Tristate = names_of_truth f
+  names_by_type f Str = names_of_all f
+  names_by_type f Int = names_of_number f
+  names_by_type f Hex = names_of_number f
 
   abbrev pub names_by_choice : SymbolFacts → Option ℕ → List SymId
   names_by_choice f (Some c) = names_of_choice (choice_at tree c)
-  names_by_choice f None = names_by_kind f f.kind
+  names_by_choice f None = names_by_type f f.symbol_type
 
   abbrev pub names_of : Option SymbolFacts → List SymId
   names_of None = []

@@ -3,7 +3,7 @@ use Rattle.std.specs.Prelude.{ℕ, Option, Some, None, length, if◌then◌else�
 use Rattle.kc_expr.specs.Names.{symbol}
 use Rattle.kc_expr.specs.Value.{SymbolValue, TextValue}
 use Rattle.kc_expr.specs.declared.expression.SymId.{SymId}
-use Rattle.kc_expr.specs.declared.expression.Kind.TheVariants.{Undefined}
+use Rattle.kc_expr.specs.declared.expression.SymbolType.TheVariants.{Undefined}
 use Rattle.kc_tree.specs.TreeFacts.{SymbolFacts, TreeFacts}
 use Rattle.kc_values.specs.Lookups.{is_mentioned, facts, name}
 use Rattle.kc_user.specs.GivenValue.{GivenValue, UserPlace, SymbolPlace, ChoicePlace}

@@ -1,12 +1,12 @@
 -- Trusted: A table of values by the numbers of the symbols, of which some places may be empty.
 use Rattle.std.specs.Prelude.{ℕ, List, Option, Some, None, slice_index_or}
-use Rattle.kc_expr.specs.Value.{SymbolValue, Truth, TextValue, value_by_kind}
+use Rattle.kc_expr.specs.Value.{SymbolValue, Truth, TextValue, value_by_type}
 use Rattle.kc_expr.specs.declared.expression.SymId.{SymId}
 use Rattle.kc_expr.specs.declared.expression.Tri.TheVariants.{N}
 use Rattle.kc_expr.specs.declared.expression.Tri as tri
-use Rattle.kc_expr.specs.declared.expression.Kind.{Kind}
+use Rattle.kc_expr.specs.declared.expression.SymbolType.{SymbolType}
 use Rattle.kc_tree.specs.TreeFacts.{TreeFacts}
-use Rattle.kc_values.specs.Lookups.{facts, kind_in, name}
+use Rattle.kc_values.specs.Lookups.{facts, type_in, name}
 use Rattle.kc_values.specs.declared.table.Value.{Value}
 use Rattle.kc_values.specs.declared.table.Value.TheVariants as value
 
@@ -25,10 +25,10 @@ text_in (Some (value.Truth t)) name = name
 text_in (Some (value.Text v)) name = v.items
 
 -- what a value of the code is, at a type
-abbrev pub known_value : Kind → Value → SymbolValue
-known_value kind (value.Truth t) = Truth t
-known_value kind (value.Text v) = TextValue kind v.items
+abbrev pub known_value : SymbolType → Value → SymbolValue
+known_value symbol_type (value.Truth t) = Truth t
+known_value symbol_type (value.Text v) = TextValue symbol_type v.items
 
 -- what values tell of each symbol
 abbrev pub known_in : TreeFacts → List (Option Value) → SymId → SymbolValue
-known_in tree values s = value_by_kind (kind_in (facts tree s)) (tri_in (value_in values s)) (text_in (value_in values s) (name tree s))
+known_in tree values s = value_by_type (type_in (facts tree s)) (tri_in (value_in values s)) (text_in (value_in values s) (name tree s))

@@ -16,7 +16,7 @@ use Rattle.kc_user.specs.Places.{member_place}
 use Rattle.kc_values.specs.declared.table.Table.{Table}
 use Rattle.kc_values.specs.Lookups.{choice_at}
 use Rattle.kc_values.specs.Table.{known_in}
-use Rattle.kc_values.specs.Values.{by_kind, selected}
+use Rattle.kc_values.specs.Values.{by_type, selected}
 
 -- what a table tells of each symbol
 abbrev pub known_at : Table → SymId → SymbolValue
@@ -44,7 +44,7 @@ facts_in t id s = facts_of t.layout.now id.0 s
 
 -- what the equation of a symbol outside a choice gives
 abbrev pub own_value : Table → SymId → Symbol → Option GivenValue → SymbolValue
-own_value t id s given = by_kind t.tree.now (known_at t) id (facts_in t id s) s.kind given
+own_value t id s given = by_type t.tree.now (known_at t) id (facts_in t id s) s.symbol_type given
 
 -- where the selection of a choice is computed, it is the selection under this member of the user's
 abbrev pub IsSelected : Table → ℕ → Option SymId → Type 0

@@ -4,13 +4,13 @@
 use Rattle.std.specs.Prelude.{ℕ, ◌&&◌, Bool, true, false, not, if◌then◌else◌, List, [], map, Option, Some, None, unwrap_or}
 use Rattle.std.specs.List.{find, list_any}
 use Rattle.std.specs.Option.{option_or}
-use Rattle.kc_expr.specs.Form.{Form, Single, Related, Negated, PlainM, Every, Some_of}
+use Rattle.kc_expr.specs.Form.{Form, Single, Related, Negated, LoneM, Every, Some_of}
 use Rattle.kc_expr.specs.Value.{SymbolValue, Truth, TextValue, value, text, least, greatest, lesser, greater, truth_of_value}
 use Rattle.kc_expr.specs.declared.expression.SymId.{SymId}
 use Rattle.kc_expr.specs.declared.expression.Tri.{Tri}
 use Rattle.kc_expr.specs.declared.expression.Tri.TheVariants.{N, M, Y}
-use Rattle.kc_expr.specs.declared.expression.Kind.{Kind}
-use Rattle.kc_expr.specs.declared.expression.Kind.TheVariants.{Undefined, Bool as IsBool, Tristate, Str, Int, Hex}
+use Rattle.kc_expr.specs.declared.expression.SymbolType.{SymbolType}
+use Rattle.kc_expr.specs.declared.expression.SymbolType.TheVariants.{Undefined, Bool as IsBool, Tristate, Str, Int, Hex}
 use Rattle.kc_expr.specs.Names.{same_symbol}
 use Rattle.kc_tree.specs.Common.{is_symbol_of}
 use Rattle.kc_tree.specs.TreeFacts.{Condition, Guarded, Bounds, SymbolFacts, ChoiceFacts, TreeFacts}
@@ -43,7 +43,7 @@ user_or None vis otherwise = otherwise
 
 -- An `imply` raises the default, up to the direct dependency (the order is our own).
 abbrev pub implied : Tri → Tri → Tri → Tri
-implied d weak_reverse direct = if is_n weak_reverse then d else lesser (greater d weak_reverse) direct
+implied d implied_to direct = if is_n implied_to then d else lesser (greater d implied_to) direct
 
 -- a visible user text
 abbrev pub visible_text : Option GivenValue → Tri → Option (List ℕ)
@@ -64,7 +64,7 @@ module _ (known : SymId → SymbolValue) where
   single_text (Single o) = text known o
   single_text (Related op a b) = []
   single_text (Negated a) = []
-  single_text PlainM = []
+  single_text LoneM = []
   single_text (Every fs) = []
   single_text (Some_of fs) = []
 
@@ -79,9 +79,9 @@ module _ (known : SymId → SymbolValue) where
   modules_value (Some m) = truth_of_value (known m)
 
   -- the bounds of a range as numbers
-  abbrev pub interval : Kind → Option (Guarded Bounds) → Option Interval
-  interval kind None = None
-  interval kind (Some r) = Some (record { low = number_or_zero kind (text known r.what.low); high = number_or_zero kind (text known r.what.high) })
+  abbrev pub interval : SymbolType → Option (Guarded Bounds) → Option Interval
+  interval symbol_type None = None
+  interval symbol_type (Some r) = Some (record { low = number_or_zero symbol_type (text known r.what.low); high = number_or_zero symbol_type (text known r.what.high) })
 
 -- Under a tree and what is known of its symbols.
 module _ (tree : TreeFacts) (known : SymId → SymbolValue) where
@@ -113,7 +113,7 @@ module _ (tree : TreeFacts) (known : SymId → SymbolValue) where
 
   -- The tristate upgrade: m counts as y where the type is not tristate under the values: bool, or the modules symbol is n
   -- (kconfiglib).
-  abbrev pub upgraded : Kind → Tri → Tri
+  abbrev pub upgraded : SymbolType → Tri → Tri
   upgraded Undefined t = upgrade t
   upgraded IsBool t = upgrade t
   upgraded Tristate t = if is_n (modules_value known tree.modules) then upgrade t else t
@@ -123,23 +123,23 @@ module _ (tree : TreeFacts) (known : SymId → SymbolValue) where
 
   -- Visibility: the greatest condition of its prompts (kconfiglib's `visibility`).
   abbrev pub visibility : SymbolFacts → Tri
-  visibility f = upgraded f.kind (conditions f.prompts)
+  visibility f = upgraded f.symbol_type (conditions f.prompts)
 
   -- The direct dependency: the greatest `depends on` of its definitions (kconfiglib's `direct_dep`).
   abbrev pub direct : SymbolFacts → Tri
-  direct f = upgraded f.kind (conditions f.dependencies)
+  direct f = upgraded f.symbol_type (conditions f.dependencies)
 
   -- the greatest of min(the other symbol's value, condition)
-  abbrev pub reverse_values : List (Guarded SymId) → Tri
-  reverse_values gs = greatest (map (λ g. lesser (truth_of_value (known g.what)) (condition g.when)) gs)
+  abbrev pub selector_values : List (Guarded SymId) → Tri
+  selector_values gs = greatest (map (λ g. lesser (truth_of_value (known g.what)) (condition g.when)) gs)
 
   -- The reverse dependency, of the `select` lines that name it (the document's "reverse dependencies").
-  abbrev pub reverse : SymbolFacts → Tri
-  reverse f = upgraded f.kind (reverse_values f.selectors)
+  abbrev pub selected_to : SymbolFacts → Tri
+  selected_to f = upgraded f.symbol_type (selector_values f.selectors)
 
   -- The weak reverse dependency, of the `imply` lines that name it (the document's "weak reverse dependencies").
-  abbrev pub weak_reverse : SymbolFacts → Tri
-  weak_reverse f = upgraded f.kind (reverse_values f.impliers)
+  abbrev pub implied_to : SymbolFacts → Tri
+  implied_to f = upgraded f.symbol_type (selector_values f.impliers)
 
   -- min(value, condition) of the met default, or n
   abbrev pub default_value : Option (Guarded Form) → Tri
@@ -148,12 +148,12 @@ module _ (tree : TreeFacts) (known : SymId → SymbolValue) where
 
   -- the default as an `imply` raises it
   abbrev pub implied_value : SymbolFacts → Tri
-  implied_value f = implied (default_value (first_met f.defaults)) (weak_reverse f) (direct f)
+  implied_value f = implied (default_value (first_met f.defaults)) (implied_to f) (direct f)
 
   -- Bool and tristate outside a choice: the user's value or the default, at least the reverse dependency, even against
   -- its direct dependency (the document: "select should be used with care").
   abbrev pub truth_equation : SymbolFacts → Option GivenValue → Tri
-  truth_equation f user = upgraded f.kind (greater (user_or user (visibility f) (implied_value f)) (reverse f))
+  truth_equation f user = upgraded f.symbol_type (greater (user_or user (visibility f) (implied_value f)) (selected_to f))
 
   -- String: the visible user text, else the text of the default, else nothing (kconfiglib's `str_value`).
   abbrev pub text_equation : SymbolFacts → Option GivenValue → List ℕ
@@ -161,14 +161,14 @@ module _ (tree : TreeFacts) (known : SymId → SymbolValue) where
 
   -- The active range: the first whose condition is not n.
   abbrev pub active_range : SymbolFacts → Option Interval
-  active_range f = interval known f.kind (first_met f.ranges)
+  active_range f = interval known f.symbol_type (first_met f.ranges)
 
   -- Int and hex: the visible user text where it is inside the active range, else the default's, clamped (kconfiglib's
   -- `str_value`; the number 0 of what is no number is our own).
   abbrev pub number_equation : SymbolFacts → Option GivenValue → List ℕ
   number_equation f user =
-      unwrap_or (if_within_range f.kind (active_range f) (visible_text user (visibility f)))
-      (clamped f.kind (active_range f) (default_text known (first_met f.defaults)))
+      unwrap_or (if_within_range f.symbol_type (active_range f) (visible_text user (visibility f)))
+      (clamped f.symbol_type (active_range f) (default_text known (first_met f.defaults)))
 
   abbrev pub visible_facts : Option SymbolFacts → Bool
   visible_facts None = false
@@ -209,17 +209,17 @@ module _ (tree : TreeFacts) (known : SymId → SymbolValue) where
   member_equation s c user = if is_symbol_of s (selected (choice_at tree c) user) then Y else N
 
   -- The equation of one symbol; without a type it is worth its own name.
-  abbrev pub by_kind : SymId → SymbolFacts → Kind → Option GivenValue → SymbolValue
-  by_kind s f Undefined user = TextValue Undefined (name tree s)
-  by_kind s f IsBool user = Truth (truth_equation f user)
-  by_kind s f Tristate user = Truth (truth_equation f user)
-  by_kind s f Str user = TextValue Str (text_equation f user)
-  by_kind s f Int user = TextValue Int (number_equation f user)
-  by_kind s f Hex user = TextValue Hex (number_equation f user)
+  abbrev pub by_type : SymId → SymbolFacts → SymbolType → Option GivenValue → SymbolValue
+  by_type s f Undefined user = TextValue Undefined (name tree s)
+  by_type s f IsBool user = Truth (truth_equation f user)
+  by_type s f Tristate user = Truth (truth_equation f user)
+  by_type s f Str user = TextValue Str (text_equation f user)
+  by_type s f Int user = TextValue Int (number_equation f user)
+  by_type s f Hex user = TextValue Hex (number_equation f user)
 
   abbrev pub by_choice : SymId → SymbolFacts → Option ℕ → Option GivenValue → SymbolValue
   by_choice s f (Some c) user = Truth (member_equation s c user)
-  by_choice s f None user = by_kind s f f.kind user
+  by_choice s f None user = by_type s f f.symbol_type user
 
   abbrev pub equation : SymId → Option SymbolFacts → Option GivenValue → SymbolValue
   equation s None user = TextValue Undefined (name tree s)

@@ -8,13 +8,13 @@ use Rattle.kc_expr.specs.Names.{symbol}
 use Rattle.kc_expr.specs.Value.{SymbolValue, tri_text}
 use Rattle.kc_expr.specs.declared.expression.SymId.{SymId}
 use Rattle.kc_expr.specs.declared.expression.Tri.{Tri}
-use Rattle.kc_expr.specs.declared.expression.Kind.{Kind}
-use Rattle.kc_expr.specs.declared.expression.Kind.TheVariants.{Undefined, Bool as IsBool, Tristate, Str, Int, Hex}
+use Rattle.kc_expr.specs.declared.expression.SymbolType.{SymbolType}
+use Rattle.kc_expr.specs.declared.expression.SymbolType.TheVariants.{Undefined, Bool as IsBool, Tristate, Str, Int, Hex}
 use Rattle.kc_tree.specs.TreeFacts.{Guarded, SymbolFacts, TreeFacts}
 use Rattle.kc_values.specs.Lookups.{facts, name}
 use Rattle.kc_values.specs.Numbers.{number_text, is_within_range, clamped, if_within_range}
 use Rattle.kc_user.specs.GivenValue.{GivenValue, UserPlace, SymbolPlace}
-use Rattle.kc_values.specs.Values.{first_met, direct, reverse, visibility, visible_text, single_text, active_range}
+use Rattle.kc_values.specs.Values.{first_met, direct, selected_to, visibility, visible_text, single_text, active_range}
 use Rattle.kc_values.specs.WrittenSymbols.{above}
 use Rattle.kc_values.specs.Solution.{known_from}
 use Rattle.kc_values.specs.declared.numbers.Interval.{Interval}
@@ -25,35 +25,35 @@ texts lines = map (λ (l : Vec ℕ Global). l.items) lines
 
 -- `NAME is selected to REV while its dependency is DIRECT`
 abbrev pub selected_line : List ℕ → Tri → Tri → List ℕ
-selected_line name reverse direct =
-    codes "warning K11: " ++ name ++ codes " is selected to " ++ tri_text reverse ++ codes " while its dependency is " ++ tri_text direct
+selected_line name selected_to direct =
+    codes "warning K11: " ++ name ++ codes " is selected to " ++ tri_text selected_to ++ codes " while its dependency is " ++ tri_text direct
 
 -- ` of NAME is outside LOW to HIGH` after what stands before it
-abbrev pub outside_line : List ℕ → Kind → Interval → List ℕ → List ℕ
-outside_line begin kind r name =
-    begin ++ codes " of " ++ name ++ codes " is outside " ++ number_text kind r.low ++ codes " to " ++ number_text kind r.high
+abbrev pub outside_line : List ℕ → SymbolType → Interval → List ℕ → List ℕ
+outside_line begin symbol_type r name =
+    begin ++ codes " of " ++ name ++ codes " is outside " ++ number_text symbol_type r.low ++ codes " to " ++ number_text symbol_type r.high
 
 -- `user value TEXT of NAME is outside LOW to HIGH`
-abbrev pub user_warning_line : Kind → Interval → List ℕ → List ℕ → List ℕ
-user_warning_line kind r name t = outside_line (codes "warning K12: user value " ++ t) kind r name
+abbrev pub user_warning_line : SymbolType → Interval → List ℕ → List ℕ → List ℕ
+user_warning_line symbol_type r name t = outside_line (codes "warning K12: user value " ++ t) symbol_type r name
 
 -- `default TEXT of NAME is outside LOW to HIGH, VALUE is used`
-abbrev pub default_warning_line : Kind → Interval → List ℕ → List ℕ → List ℕ
-default_warning_line kind r name t =
-    outside_line (codes "warning K13: default " ++ t) kind r name ++ codes ", " ++ clamped kind (Some r) t ++ codes " is used"
+abbrev pub default_warning_line : SymbolType → Interval → List ℕ → List ℕ → List ℕ
+default_warning_line symbol_type r name t =
+    outside_line (codes "warning K13: default " ++ t) symbol_type r name ++ codes ", " ++ clamped symbol_type (Some r) t ++ codes " is used"
 
 -- a visible user value outside the active range
-abbrev pub user_warnings : Kind → List ℕ → Option Interval → Option (List ℕ) → List (List ℕ)
-user_warnings kind name None t = []
-user_warnings kind name (Some r) None = []
-user_warnings kind name (Some r) (Some t) = if is_within_range kind (Some r) t then [] else user_warning_line kind r name t ∷ []
+abbrev pub user_warnings : SymbolType → List ℕ → Option Interval → Option (List ℕ) → List (List ℕ)
+user_warnings symbol_type name None t = []
+user_warnings symbol_type name (Some r) None = []
+user_warnings symbol_type name (Some r) (Some t) = if is_within_range symbol_type (Some r) t then [] else user_warning_line symbol_type r name t ∷ []
 
 -- a default that applied, since no user value was used, and was clamped
-abbrev pub default_warnings : Kind → List ℕ → Option Interval → Option (List ℕ) → Option (List ℕ) → List (List ℕ)
-default_warnings kind name r (Some used) d = []
-default_warnings kind name None None d = []
-default_warnings kind name (Some r) None None = []
-default_warnings kind name (Some r) None (Some t) = if is_within_range kind (Some r) t then [] else default_warning_line kind r name t ∷ []
+abbrev pub default_warnings : SymbolType → List ℕ → Option Interval → Option (List ℕ) → Option (List ℕ) → List (List ℕ)
+default_warnings symbol_type name r (Some used) d = []
+default_warnings symbol_type name None None d = []
+default_warnings symbol_type name (Some r) None None = []
+default_warnings symbol_type name (Some r) None (Some t) = if is_within_range symbol_type (Some r) t then [] else default_warning_line symbol_type r name t ∷ []
 
 -- the text of the met default, if there is one
 abbrev pub met_text : (SymId → SymbolValue) → Option (Guarded Form) → Option (List ℕ)
@@ -65,27 +65,27 @@ module _ (tree : TreeFacts) (known : SymId → SymbolValue) where
   -- selected above its dependency
   abbrev pub select_warnings : List ℕ → SymbolFacts → List (List ℕ)
   select_warnings name f =
-      if above (reverse tree known f) (direct tree known f) then selected_line name (reverse tree known f) (direct tree known f) ∷ [] else []
+      if above (selected_to tree known f) (direct tree known f) then selected_line name (selected_to tree known f) (direct tree known f) ∷ [] else []
 
   abbrev pub range_warnings : List ℕ → SymbolFacts → Option GivenValue → List (List ℕ)
   range_warnings name f user =
       let range = active_range tree known f in
       let given = visible_text user (visibility tree known f) in
-      user_warnings f.kind name range given
-      ++ default_warnings f.kind name range (if_within_range f.kind range given) (met_text known (first_met tree known f.defaults))
+      user_warnings f.symbol_type name range given
+      ++ default_warnings f.symbol_type name range (if_within_range f.symbol_type range given) (met_text known (first_met tree known f.defaults))
 
-  abbrev pub warnings_by_kind : List ℕ → SymbolFacts → Kind → Option GivenValue → List (List ℕ)
-  warnings_by_kind name f Undefined user = []
-  warnings_by_kind name f IsBool user = select_warnings name f
-  warnings_by_kind name f Tristate user = select_warnings name f
-  warnings_by_kind name f Str user = []
-  warnings_by_kind name f Int user = range_warnings name f user
-  warnings_by_kind name f Hex user = range_warnings name f user
+  abbrev pub warnings_by_type : List ℕ → SymbolFacts → SymbolType → Option GivenValue → List (List ℕ)
+  warnings_by_type name f Undefined user = []
+  warnings_by_type name f IsBool user = select_warnings name f
+  warnings_by_type name f Tristate user = select_warnings name f
+  warnings_by_type name f Str user = []
+  warnings_by_type name f Int user = range_warnings name f user
+  warnings_by_type name f Hex user = range_warnings name f user
 
   -- a member is not warned of
   abbrev pub warnings_by_choice : List ℕ → SymbolFacts → Option ℕ → Option GivenValue → List (List ℕ)
   warnings_by_choice name f (Some c) user = []
-  warnings_by_choice name f None user = warnings_by_kind name f f.kind user
+  warnings_by_choice name f None user = warnings_by_type name f f.symbol_type user
 
   -- The warnings of one symbol, by number.
   abbrev pub warnings_of : List ℕ → Option SymbolFacts → Option GivenValue → List (List ℕ)

@@ -3,7 +3,7 @@
 ghost use Rattle.std.specs.Prelude.{◌≡◌};
 ghost use Rattle.kc_expr.specs.Value.{lesser};
 ghost use Rattle.kc_expr.specs.When.{when_view};
-ghost use Rattle.kc_tree.specs.Contexts.{IsPlain, mode_view};
+ghost use Rattle.kc_tree.specs.Contexts.{HasNoMode, mode_view};
 ghost use Rattle.kc_tree.specs.Layouts.{choice_facts, prompt_view, title_condition, with_when};
 ghost use Rattle.kc_tree.specs.Soundness.{IsChoiceThere};
 ghost use Rattle.kc_values.specs.TableFacts.{known_at, condition_at};
@@ -130,7 +130,7 @@ pub(crate) fn condition(table: &Table<'_>, within: ContextId, when: &Option<Rc<E
 
 /// The condition of a prompt, whose entry depends on a context.
 pub(crate) fn prompt_condition(table: &Table<'_>, within: ContextId, prompt: &EntryPrompt) -> Tri
-    requires { IsPlain table.now.layout.now.tables.contexts prompt.now.visible.0 }
+    requires { HasNoMode table.now.layout.now.tables.contexts prompt.now.visible.0 }
     ensures { result ≡ spec.condition table.now.tree.now (known_at table.now) (prompt_view table.now.layout.now.tables.contexts (condition_at table.now within.0) prompt.now) }
 {
     let first = lesser(context(table, within), context(table, prompt.visible));
@@ -139,7 +139,7 @@ pub(crate) fn prompt_condition(table: &Table<'_>, within: ContextId, prompt: &En
 
 /// When a menu or comment is shown.
 pub fn title_condition(table: &Table<'_>, title: &Title) -> Tri
-    requires { IsPlain table.now.layout.now.tables.contexts title.now.visible.0 }
+    requires { HasNoMode table.now.layout.now.tables.contexts title.now.visible.0 }
     ensures { result ≡ spec.condition table.now.tree.now (known_at table.now) (title_condition table.now.layout.now.tables title.now) }
 {
     lesser(context(table, title.within), context(table, title.visible))

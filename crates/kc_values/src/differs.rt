@@ -13,7 +13,7 @@ use crate::numbers::differs_from_default;
 use crate::table::{Table, name};
 use crate::texts::default_text;
 use crate::truths::truth_equation;
-use kc_expr::expression::{Kind, SymId, Tri};
+use kc_expr::expression::{SymId, SymbolType, Tri};
 use kc_expr::values::Values;
 use kc_tree::rows::Symbol;
 use kc_user::value::UserValue;
@@ -30,13 +30,13 @@ pub fn own_differs(
     requires { IsRowOf table.now id symbol.now }
     ensures { IfOk result (λ b. b ≡ not (same_value (known_at table.now id) (own_value table.now id symbol.now None))) }
 {
-    match symbol.kind {
-        Kind::Bool => Ok(table.tri(id) != truth_equation(table, id, symbol, None)),
-        Kind::Tristate => Ok(table.tri(id) != truth_equation(table, id, symbol, None)),
-        Kind::Str => Ok(table.text(id) != default_text(table, symbol)),
-        Kind::Int => differs_from_default(alloc, table, symbol, table.text(id)),
-        Kind::Hex => differs_from_default(alloc, table, symbol, table.text(id)),
-        Kind::Undefined => Ok(table.text(id) != name(table.tree, id)),
+    match symbol.symbol_type {
+        SymbolType::Bool => Ok(table.tri(id) != truth_equation(table, id, symbol, None)),
+        SymbolType::Tristate => Ok(table.tri(id) != truth_equation(table, id, symbol, None)),
+        SymbolType::Str => Ok(table.text(id) != default_text(table, symbol)),
+        SymbolType::Int => differs_from_default(alloc, table, symbol, table.text(id)),
+        SymbolType::Hex => differs_from_default(alloc, table, symbol, table.text(id)),
+        SymbolType::Undefined => Ok(table.text(id) != name(table.tree, id)),
     }
 }
 

@@ -14,7 +14,7 @@ use crate::numbers::number_equation;
 use crate::table::{Table, Value, name};
 use crate::texts::text_equation;
 use crate::truths::truth_equation;
-use kc_expr::expression::{Kind, SymId};
+use kc_expr::expression::{SymId, SymbolType};
 use kc_tree::rows::{ChoiceId, Symbol};
 use kc_user::value::UserValue;
 use std::alloc::{AllocError, Global};
@@ -29,24 +29,24 @@ pub fn own_equation(
     symbol: &Symbol,
     user: Option<&UserValue>,
 ) -> Result<Value, AllocError>
-    ensures { IfOk result (λ x. known_value symbol.now.kind x ≡ own_value table.now id symbol.now (given_in user.entry)) }
+    ensures { IfOk result (λ x. known_value symbol.now.symbol_type x ≡ own_value table.now id symbol.now (given_in user.entry)) }
 {
-    match symbol.kind {
-        Kind::Bool => Ok(Value::Truth(truth_equation(table, id, symbol, user))),
-        Kind::Tristate => Ok(Value::Truth(truth_equation(table, id, symbol, user))),
-        Kind::Str => {
+    match symbol.symbol_type {
+        SymbolType::Bool => Ok(Value::Truth(truth_equation(table, id, symbol, user))),
+        SymbolType::Tristate => Ok(Value::Truth(truth_equation(table, id, symbol, user))),
+        SymbolType::Str => {
             let text = text_equation(alloc, table, symbol, user)?;
             Ok(Value::Text(text))
         }
-        Kind::Int => {
+        SymbolType::Int => {
             let text = number_equation(alloc, table, symbol, user)?;
             Ok(Value::Text(text))
         }
-        Kind::Hex => {
+        SymbolType::Hex => {
             let text = number_equation(alloc, table, symbol, user)?;
             Ok(Value::Text(text))
         }
-        Kind::Undefined => {
+        SymbolType::Undefined => {
             let text = Vec::from_slice(alloc, name(table.tree, id))?;
             Ok(Value::Text(text))
         }
@@ -75,7 +75,7 @@ pub fn equation(
     users: &[Option<SymId>],
 ) -> Result<Value, AllocError>
     requires selected { AreSelected table.now users.now }
-    ensures { IfOk result (λ x. known_value symbol.now.kind x
+    ensures { IfOk result (λ x. known_value symbol.now.symbol_type x
         ≡ spec.by_choice table.now.tree.now (known_at table.now) id (facts_of table.now.layout.now id.0 symbol.now) (facts_of table.now.layout.now id.0 symbol.now).choice
         (given_for symbol.now.choice (given_in user.entry) users.now)) }
 {

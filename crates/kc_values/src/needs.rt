@@ -14,12 +14,12 @@ ghost use Rattle.kc_values.specs.NeedRows as rows;
 ghost use Rattle.kc_values.specs.MadeRows.{Adds, AreChoicesThere, IsRow, row_of};
 
 use crate::nodes::{choice_number, context_number, node_count};
-use kc_expr::expression::{Expr, Kind, Operand, SymId};
+use kc_expr::expression::{Expr, Operand, SymId, SymbolType};
 use kc_expr::values::symbols_into;
 use kc_order::Graph;
 use kc_tree::layout::Layout;
 use kc_tree::rows::{
-    Choice, ChoiceId, Context, ContextId, Definition, EntryPrompt, ReverseId, Symbol,
+    Choice, ChoiceId, Context, ContextId, Definition, EntryPrompt, SelectorId, Symbol,
     SymbolDefault, SymbolRange,
 };
 use kc_tree::tree::Tree;
@@ -176,39 +176,39 @@ fn ranges_into(layout: &Layout, ranges: &[SymbolRange], out: &mut NeedRow) -> Re
 }
 
 // The value of a symbol of this type is a number.
-fn is_number(kind: Kind) -> bool
-    ensures { result ≡ rows.is_number kind }
+fn is_number(symbol_type: SymbolType) -> bool
+    ensures { result ≡ rows.is_number symbol_type }
 {
-    matches!(kind, Kind::Int | Kind::Hex)
+    matches!(symbol_type, SymbolType::Int | SymbolType::Hex)
 }
 
 // Whether the equation of a symbol of this type reads what one of its definitions depends on: of a bool or tristate it does, of
 // the others where a line counts that depends on it.
-fn is_read(layout: &Layout, kind: Kind, definition: &Definition) -> bool
-    ensures { result ≡ rows.is_read layout.now kind definition.now }
+fn is_read(layout: &Layout, symbol_type: SymbolType, definition: &Definition) -> bool
+    ensures { result ≡ rows.is_read layout.now symbol_type definition.now }
 {
-    matches!(kind, Kind::Bool | Kind::Tristate)
+    matches!(symbol_type, SymbolType::Bool | SymbolType::Tristate)
         || definition.prompt.is_some()
         || !layout.defaults(definition).is_empty()
-        || (is_number(kind) && !layout.ranges(definition).is_empty())
+        || (is_number(symbol_type) && !layout.ranges(definition).is_empty())
 }
 
 // Adds a definition of a symbol of this type: what it depends on once, whatever its lines are.
 fn definition_into(
     layout: &Layout,
-    kind: Kind,
+    symbol_type: SymbolType,
     definition: &Definition,
     out: &mut NeedRow,
 ) -> Result<(), AllocError>
     requires there { IsDefinitionThere layout.now.tables.contexts definition.now }
-    ensures { OnOk result (Adds out.old out.new (rows.definition_nodes layout.now kind definition.now) (rows.definition_names layout.now kind definition.now)) }
+    ensures { OnOk result (Adds out.old out.new (rows.definition_nodes layout.now symbol_type definition.now) (rows.definition_names layout.now symbol_type definition.now)) }
 {
-    if is_read(layout, kind, definition) {
+    if is_read(layout, symbol_type, definition) {
         context_into(layout, definition.within, out)?;
     }
     prompt_into(layout, &definition.prompt, out)?;
     defaults_into(layout, layout.defaults(definition), out)?;
-    if is_number(kind) {
+    if is_number(symbol_type) {
         ranges_into(layout, layout.ranges(definition), out)?;
     }
     Ok(())
@@ -220,23 +220,23 @@ fn definitions_into(layout: &Layout, symbol: &Symbol, out: &mut NeedRow) -> Resu
 {
     for i in 0..symbol.definition_count() {
         if let Some(definition) = layout.definition_of(symbol, i) {
-            definition_into(layout, symbol.kind, definition, out)?;
+            definition_into(layout, symbol.symbol_type, definition, out)?;
         }
     }
     Ok(())
 }
 
 // Adds the symbols that select or imply, and what those lines depend on, from the last line on.
-fn reverses_into(
+fn selectors_into(
     layout: &Layout,
-    last: Option<ReverseId>,
+    last: Option<SelectorId>,
     out: &mut NeedRow,
 ) -> Result<(), AllocError>
-    ensures { OnOk result (Adds out.old out.new (rows.reverses_nodes layout.now last) (rows.reverses_names layout.now last)) }
+    ensures { OnOk result (Adds out.old out.new (rows.selectors_nodes layout.now last) (rows.selectors_names layout.now last)) }
 {
     let mut at = last;
     'lines: while let Some(id) = at {
-        let Some(line) = layout.reverse(id) else {
+        let Some(line) = layout.selector(id) else {
             return Ok(());
         };
         if let Some(source) = layout.definition(line.source) {
@@ -250,10 +250,10 @@ fn reverses_into(
 }
 
 // Adds the modules symbol, which a tristate names.
-fn modules_into(tree: &Tree, kind: Kind, out: &mut NeedRow) -> Result<(), AllocError>
-    ensures { OnOk result (Adds out.old out.new [] (spec.kind_names tree.now kind)) }
+fn modules_into(tree: &Tree, symbol_type: SymbolType, out: &mut NeedRow) -> Result<(), AllocError>
+    ensures { OnOk result (Adds out.old out.new [] (spec.type_names tree.now symbol_type)) }
 {
-    if kind != Kind::Tristate {
+    if symbol_type != SymbolType::Tristate {
         return Ok(());
     }
     match tree.modules_symbol() {
@@ -276,9 +276,9 @@ fn truth_into(
     ensures { OnOk result (Adds out.old out.new (rows.truth_nodes layout.now id.0 symbol.now) (rows.truth_names tree.now layout.now id.0 symbol.now)) }
 {
     definitions_into(layout, symbol, out)?;
-    reverses_into(layout, layout.last_select(id), out)?;
-    reverses_into(layout, layout.last_imply(id), out)?;
-    modules_into(tree, symbol.kind, out)
+    selectors_into(layout, layout.last_select(id), out)?;
+    selectors_into(layout, layout.last_imply(id), out)?;
+    modules_into(tree, symbol.symbol_type, out)
 }
 
 // Adds what the equation of a symbol names: of a member of a choice what its selection does.
@@ -296,13 +296,13 @@ fn symbol_into(
         out.nodes.push(choice_number(layout, choice))?;
         return Ok(());
     }
-    match symbol.kind {
-        Kind::Undefined => Ok(()),
-        Kind::Bool => truth_into(tree, layout, id, symbol, out),
-        Kind::Tristate => truth_into(tree, layout, id, symbol, out),
-        Kind::Str => definitions_into(layout, symbol, out),
-        Kind::Int => definitions_into(layout, symbol, out),
-        Kind::Hex => definitions_into(layout, symbol, out),
+    match symbol.symbol_type {
+        SymbolType::Undefined => Ok(()),
+        SymbolType::Bool => truth_into(tree, layout, id, symbol, out),
+        SymbolType::Tristate => truth_into(tree, layout, id, symbol, out),
+        SymbolType::Str => definitions_into(layout, symbol, out),
+        SymbolType::Int => definitions_into(layout, symbol, out),
+        SymbolType::Hex => definitions_into(layout, symbol, out),
     }
 }
 

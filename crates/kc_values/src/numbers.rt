@@ -16,7 +16,7 @@ use crate::conditions::{condition, is_n};
 use crate::table::Table;
 use crate::texts::{default_text, visible_text_of};
 use crate::truths::definition;
-use kc_expr::expression::Kind;
+use kc_expr::expression::SymbolType;
 use kc_expr::values::text;
 use kc_text::{read_hex, read_int};
 use kc_tree::rows::{Definition, Symbol, SymbolRange};
@@ -35,33 +35,33 @@ pub struct Interval {
 
 /// The number that a text writes, read by the type: decimal for int, with or without `0x` for hex; none for another type or
 /// text (our own limits, 64 bits each).
-pub(crate) fn number_as(kind: Kind, text: &[u8]) -> Option<i128>
-    ensures { result ≡ digits.number_as kind text.now }
+pub(crate) fn number_as(symbol_type: SymbolType, text: &[u8]) -> Option<i128>
+    ensures { result ≡ digits.number_as symbol_type text.now }
 {
-    match kind {
-        Kind::Int => read_int(text),
-        Kind::Hex => read_hex(text),
+    match symbol_type {
+        SymbolType::Int => read_int(text),
+        SymbolType::Hex => read_hex(text),
         _ => None,
     }
 }
 
 // The number of a text, or 0.
 #[tactic(auto, using(crate::proofs::SmallNumbers::number_or_zero_below))]
-fn number_or_zero(kind: Kind, text: &[u8]) -> i128
-    ensures number { result ≡ digits.number_or_zero kind text.now }
+fn number_or_zero(symbol_type: SymbolType, text: &[u8]) -> i128
+    ensures number { result ≡ digits.number_or_zero symbol_type text.now }
     ensures small { unsigned_abs result < hex_limit }
 {
-    number_as(kind, text).unwrap_or(0)
+    number_as(symbol_type, text).unwrap_or(0)
 }
 
 // The bounds of a range.
-fn bounds_of(table: &Table<'_>, kind: Kind, range: &SymbolRange) -> Interval
-    ensures range { Some result ≡ spec.interval (known_at table.now) kind (Some (range_view (condition_in table.now.layout.now.tables.contexts 0) range.now)) }
+fn bounds_of(table: &Table<'_>, symbol_type: SymbolType, range: &SymbolRange) -> Interval
+    ensures range { Some result ≡ spec.interval (known_at table.now) symbol_type (Some (range_view (condition_in table.now.layout.now.tables.contexts 0) range.now)) }
     ensures small { HasSmallBounds result }
 {
     Interval {
-        low: number_or_zero(kind, text(&range.low, table)),
-        high: number_or_zero(kind, text(&range.high, table)),
+        low: number_or_zero(symbol_type, text(&range.low, table)),
+        high: number_or_zero(symbol_type, text(&range.high, table)),
     }
 }
 
@@ -86,7 +86,7 @@ pub(crate) fn active_range(table: &Table<'_>, symbol: &Symbol) -> Option<Interva
     for i in 0..symbol.definition_count() {
         if let Some(definition) = definition(table, symbol, i) {
             if let Some(range) = first_met(table, definition) {
-                return Some(bounds_of(table, symbol.kind, range));
+                return Some(bounds_of(table, symbol.symbol_type, range));
             }
         }
     }
@@ -95,12 +95,12 @@ pub(crate) fn active_range(table: &Table<'_>, symbol: &Symbol) -> Option<Interva
 
 /// Whether the number of a text is inside the range, both bounds included; where there is no range it is (kconfiglib's
 /// `str_value`). What is no number counts as 0 (our own).
-pub fn is_within_range(kind: Kind, range: Option<Interval>, text: &[u8]) -> bool
-    ensures { result ≡ digits.is_within_range kind range text.now }
+pub fn is_within_range(symbol_type: SymbolType, range: Option<Interval>, text: &[u8]) -> bool
+    ensures { result ≡ digits.is_within_range symbol_type range text.now }
 {
     match range {
         Some(bounds) => {
-            let number = number_or_zero(kind, text);
+            let number = number_or_zero(symbol_type, text);
             bounds.low <= number && number <= bounds.high
         }
         None => true,
@@ -108,23 +108,31 @@ pub fn is_within_range(kind: Kind, range: Option<Interval>, text: &[u8]) -> bool
 }
 
 /// The user's text where its number is inside the range; another is dropped and not clamped (kconfiglib's `str_value`).
-pub fn if_within_range(kind: Kind, range: Option<Interval>, given: Option<&[u8]>) -> Option<&[u8]>
-    ensures { option_copied result ≡ digits.if_within_range kind range (option_copied given.entry) }
+pub fn if_within_range(
+    symbol_type: SymbolType,
+    range: Option<Interval>,
+    given: Option<&[u8]>,
+) -> Option<&[u8]>
+    ensures { option_copied result ≡ digits.if_within_range symbol_type range (option_copied given.entry) }
 {
     match given {
-        Some(bytes) if is_within_range(kind, range, bytes) => Some(bytes),
+        Some(bytes) if is_within_range(symbol_type, range, bytes) => Some(bytes),
         _ => None,
     }
 }
 
 /// A number as it is written: decimal for int, `0x` and lower-case digits for hex (kconfiglib's `str_value`). Fails only when
 /// it is out of memory.
-pub fn number_text(alloc: Global, kind: Kind, number: i128) -> Result<Vec<u8>, AllocError>
+pub fn number_text(
+    alloc: Global,
+    symbol_type: SymbolType,
+    number: i128,
+) -> Result<Vec<u8>, AllocError>
     requires { unsigned_abs number < hex_limit }
-    ensures { IfOk result (λ v. v.items ≡ digits.number_text kind number) }
+    ensures { IfOk result (λ v. v.items ≡ digits.number_text symbol_type number) }
 {
-    let text = match kind {
-        Kind::Hex => {
+    let text = match symbol_type {
+        SymbolType::Hex => {
             let magnitude = number.unsigned_abs() as u64;
             format!(in alloc; "0x{magnitude:x}")?
         }
@@ -137,21 +145,21 @@ pub fn number_text(alloc: Global, kind: Kind, number: i128) -> Result<Vec<u8>, A
 /// `str_value` of a default outside its range). What is no number counts as 0 (our own). Fails only when it is out of memory.
 pub fn clamped(
     alloc: Global,
-    kind: Kind,
+    symbol_type: SymbolType,
     range: Option<Interval>,
     text: &[u8],
 ) -> Result<Vec<u8>, AllocError>
     requires { IfSome range HasSmallBounds }
-    ensures { IfOk result (λ v. v.items ≡ digits.clamped kind range text.now) }
+    ensures { IfOk result (λ v. v.items ≡ digits.clamped symbol_type range text.now) }
 {
     if let Some(bounds) = range {
-        let number = number_or_zero(kind, text);
+        let number = number_or_zero(symbol_type, text);
         if number < bounds.low {
-            let low = number_text(alloc, kind, bounds.low)?;
+            let low = number_text(alloc, symbol_type, bounds.low)?;
             return Ok(low);
         }
         if bounds.high < number {
-            let high = number_text(alloc, kind, bounds.high)?;
+            let high = number_text(alloc, symbol_type, bounds.high)?;
             return Ok(high);
         }
     }
@@ -172,12 +180,12 @@ pub(crate) fn number_equation(
 {
     let range = active_range(table, symbol);
     let given = visible_text_of(table, symbol, user);
-    if let Some(bytes) = if_within_range(symbol.kind, range, given) {
+    if let Some(bytes) = if_within_range(symbol.symbol_type, range, given) {
         let copy = Vec::from_slice(alloc, bytes)?;
         return Ok(copy);
     }
     let default = default_text(table, symbol);
-    let value = clamped(alloc, symbol.kind, range, default)?;
+    let value = clamped(alloc, symbol.symbol_type, range, default)?;
     Ok(value)
 }
 
@@ -194,9 +202,9 @@ pub(crate) fn differs_from_default(
 {
     let range = active_range(table, symbol);
     let default = default_text(table, symbol);
-    if is_within_range(symbol.kind, range, default) {
+    if is_within_range(symbol.symbol_type, range, default) {
         return Ok(text != default);
     }
-    let used = clamped(alloc, symbol.kind, range, default)?;
+    let used = clamped(alloc, symbol.symbol_type, range, default)?;
     Ok(text != used.as_slice())
 }

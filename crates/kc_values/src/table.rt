@@ -7,9 +7,9 @@ ghost use Rattle.kc_tree.specs.TreeFacts.{IsWellFormed};
 ghost use Rattle.kc_values.specs.Lookups as lookup;
 ghost use Rattle.kc_values.specs.Computed.{AreContextsComputed};
 ghost use Rattle.kc_values.specs.Table.{value_in, tri_in, text_in};
-ghost use Rattle.kc_values.specs.Lookups.{kind_in};
+ghost use Rattle.kc_values.specs.Lookups.{type_in};
 
-use kc_expr::expression::{Kind, SymId, Tri};
+use kc_expr::expression::{SymId, SymbolType, Tri};
 use kc_expr::values::Values;
 use kc_tree::layout::Layout;
 use kc_tree::rows::{ChoiceId, ContextId};
@@ -114,7 +114,7 @@ impl<'t> Values for Table<'t> {
 
     ghost text_of = { λ t s. text_in (value_in t.values s) (lookup.name t.tree.now s) };
 
-    ghost kind_of = { λ t s. kind_in (lookup.facts t.tree.now s) };
+    ghost type_of = { λ t s. type_in (lookup.facts t.tree.now s) };
 
     ghost modules_of = { λ t. t.tree.now.modules };
 
@@ -132,10 +132,10 @@ impl<'t> Values for Table<'t> {
         }
     }
 
-    fn kind(&self, id: SymId) -> Kind {
+    fn symbol_type(&self, id: SymId) -> SymbolType {
         match self.layout.symbol(id) {
-            Some(symbol) => symbol.kind,
-            None => Kind::Undefined,
+            Some(symbol) => symbol.symbol_type,
+            None => SymbolType::Undefined,
         }
     }
 

@@ -22,7 +22,7 @@ use std::alloc::{AllocError, Global};
 /// The text of a default that is one operand, no byte of any other (the kernel's kconfig-language document, "Menu
 /// attributes"; that it must be one operand is our own).
 pub fn single_text<'a, V: Values>(expr: &'a Expr, values: &'a V) -> &'a [u8]
-    ensures { result.now ≡ spec.single_text (values_by (V.kind_of values.now) (V.tri_of values.now) (V.text_of values.now)) (form_of expr.now) }
+    ensures { result.now ≡ spec.single_text (values_by (V.type_of values.now) (V.tri_of values.now) (V.text_of values.now)) (form_of expr.now) }
 {
     match expr {
         Expr::One(operand) => text(operand, values),

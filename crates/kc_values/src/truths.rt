@@ -3,7 +3,7 @@
 ghost use Rattle.std.specs.Prelude.{◌≡◌};
 ghost use Rattle.kc_expr.specs.Value.{values_by, truth_of_value};
 ghost use Rattle.kc_tree.specs.Common.{listed};
-ghost use Rattle.kc_tree.specs.Layouts.{definition_facts, facts_of, reverse_facts, reverses_from};
+ghost use Rattle.kc_tree.specs.Layouts.{definition_facts, facts_of, selector_facts, selectors_from};
 ghost use Rattle.kc_values.specs.TableFacts.{known_at, IsDefinitionOf};
 ghost use Rattle.kc_values.specs.FoundRows.{IsDefinitionAt, IsMetDefault};
 ghost use Rattle.kc_values.specs.User.{given_in};
@@ -12,28 +12,28 @@ ghost use Rattle.kc_values.specs.WrittenSymbols as written;
 
 use crate::conditions::{condition, context, is_n, prompt_condition};
 use crate::table::Table;
-use kc_expr::expression::{Kind, SymId, Tri};
+use kc_expr::expression::{SymId, SymbolType, Tri};
 use kc_expr::values::{Values, eval, greater, lesser};
-use kc_tree::rows::{Definition, Reverse, ReverseId, Symbol, SymbolDefault};
+use kc_tree::rows::{Definition, Selector, SelectorId, Symbol, SymbolDefault};
 use kc_user::value::UserValue;
 
 /// The value of a symbol as a truth: n where it is no bool or tristate (the kernel's kconfig-language document, "Menu
 /// dependencies").
 pub fn truth_of<V: Values>(id: SymId, values: &V) -> Tri
-    ensures { result ≡ truth_of_value (values_by (V.kind_of values.now) (V.tri_of values.now) (V.text_of values.now) id) }
+    ensures { result ≡ truth_of_value (values_by (V.type_of values.now) (V.tri_of values.now) (V.text_of values.now) id) }
 {
-    match values.kind(id) {
-        Kind::Bool | Kind::Tristate => values.tri(id),
+    match values.symbol_type(id) {
+        SymbolType::Bool | SymbolType::Tristate => values.tri(id),
         _ => Tri::N,
     }
 }
 
 // Whether the type is tristate under the values: it is written as that, and the modules symbol is a bool or tristate that is
 // not n.
-fn is_tristate(table: &Table<'_>, kind: Kind) -> bool
-    ensures { result ≡ written.is_tristate table.now.tree.now (known_at table.now) kind }
+fn is_tristate(table: &Table<'_>, symbol_type: SymbolType) -> bool
+    ensures { result ≡ written.is_tristate table.now.tree.now (known_at table.now) symbol_type }
 {
-    if kind != Kind::Tristate {
+    if symbol_type != SymbolType::Tristate {
         return false;
     }
     match table.tree.modules_symbol() {
@@ -46,11 +46,11 @@ fn is_tristate(table: &Table<'_>, kind: Kind) -> bool
 /// where the modules symbol is n, or is no bool or tristate, or is not there (kconfiglib's `tri_value`). The modules symbol is
 /// looked at only where the value is m.
 #[tactic(auto, using(crate::proofs::UpgradeLemmas::n_stays, crate::proofs::UpgradeLemmas::y_stays, crate::proofs::UpgradeLemmas::m_upgraded, crate::proofs::UpgradeLemmas::m_kept))]
-pub(crate) fn upgraded(table: &Table<'_>, kind: Kind, value: Tri) -> Tri
-    ensures { result ≡ spec.upgraded table.now.tree.now (known_at table.now) kind value }
+pub(crate) fn upgraded(table: &Table<'_>, symbol_type: SymbolType, value: Tri) -> Tri
+    ensures { result ≡ spec.upgraded table.now.tree.now (known_at table.now) symbol_type value }
 {
     match value {
-        Tri::M if !is_tristate(table, kind) => Tri::Y,
+        Tri::M if !is_tristate(table, symbol_type) => Tri::Y,
         _ => value,
     }
 }
@@ -91,7 +91,7 @@ pub(crate) fn prompts_condition(table: &Table<'_>, symbol: &Symbol) -> Tri
 pub fn visibility(table: &Table<'_>, symbol: &Symbol) -> Tri
     ensures { result ≡ spec.visibility table.now.tree.now (known_at table.now) (facts_of table.now.layout.now 0 symbol.now) }
 {
-    upgraded(table, symbol.kind, prompts_condition(table, symbol))
+    upgraded(table, symbol.symbol_type, prompts_condition(table, symbol))
 }
 
 // The first default of a definition whose condition is not n, and that condition.
@@ -136,8 +136,8 @@ pub(crate) fn default_truth(table: &Table<'_>, symbol: &Symbol) -> Tri
 }
 
 // min(value of the other symbol, condition) of a line that selects or implies.
-fn reverse_value(table: &Table<'_>, line: &Reverse) -> Tri
-    ensures { result ≡ spec.reverse_values table.now.tree.now (known_at table.now) (listed (reverse_facts table.now.layout.now.tables line.now)) }
+fn selector_value(table: &Table<'_>, line: &Selector) -> Tri
+    ensures { result ≡ spec.selector_values table.now.tree.now (known_at table.now) (listed (selector_facts table.now.layout.now.tables line.now)) }
 {
     let Some(source) = table.layout.definition(line.source) else {
         return Tri::N;
@@ -150,16 +150,16 @@ fn reverse_value(table: &Table<'_>, line: &Reverse) -> Tri
 }
 
 // The greatest of them, from the last line on.
-fn reverse_values(table: &Table<'_>, last: Option<ReverseId>) -> Tri
-    ensures { result ≡ spec.reverse_values table.now.tree.now (known_at table.now) (reverses_from table.now.layout.now.tables last) }
+fn selector_values(table: &Table<'_>, last: Option<SelectorId>) -> Tri
+    ensures { result ≡ spec.selector_values table.now.tree.now (known_at table.now) (selectors_from table.now.layout.now.tables last) }
 {
     let mut greatest = Tri::N;
     let mut at = last;
     'lines: while let Some(id) = at {
-        let Some(line) = table.layout.reverse(id) else {
+        let Some(line) = table.layout.selector(id) else {
             return greatest;
         };
-        greatest = greater(greatest, reverse_value(table, line));
+        greatest = greater(greatest, selector_value(table, line));
         at = line.next;
     }
     greatest
@@ -176,28 +176,36 @@ pub fn direct(table: &Table<'_>, symbol: &Symbol) -> Tri
             greatest = greater(greatest, context(table, definition.within));
         }
     }
-    upgraded(table, symbol.kind, greatest)
+    upgraded(table, symbol.symbol_type, greatest)
 }
 
 /// The reverse dependency of a symbol: the greatest min(value of the selecting symbol, condition), m being y where the symbol
 /// can't be m (the kernel's kconfig-language document, "Menu attributes": reverse dependencies).
-pub(crate) fn reverse(table: &Table<'_>, id: SymId, symbol: &Symbol) -> Tri
-    ensures { result ≡ spec.reverse table.now.tree.now (known_at table.now) (facts_of table.now.layout.now id.0 symbol.now) }
+pub(crate) fn selected_to(table: &Table<'_>, id: SymId, symbol: &Symbol) -> Tri
+    ensures { result ≡ spec.selected_to table.now.tree.now (known_at table.now) (facts_of table.now.layout.now id.0 symbol.now) }
 {
     match table.layout.last_select(id) {
         None => Tri::N,
-        Some(last) => upgraded(table, symbol.kind, reverse_values(table, Some(last))),
+        Some(last) => upgraded(
+            table,
+            symbol.symbol_type,
+            selector_values(table, Some(last)),
+        ),
     }
 }
 
 /// The weak reverse dependency of a symbol: the same over what implies it (the kernel's kconfig-language document, "Menu
 /// attributes": weak reverse dependencies).
-pub(crate) fn weak_reverse(table: &Table<'_>, id: SymId, symbol: &Symbol) -> Tri
-    ensures { result ≡ spec.weak_reverse table.now.tree.now (known_at table.now) (facts_of table.now.layout.now id.0 symbol.now) }
+pub(crate) fn implied_to(table: &Table<'_>, id: SymId, symbol: &Symbol) -> Tri
+    ensures { result ≡ spec.implied_to table.now.tree.now (known_at table.now) (facts_of table.now.layout.now id.0 symbol.now) }
 {
     match table.layout.last_imply(id) {
         None => Tri::N,
-        Some(last) => upgraded(table, symbol.kind, reverse_values(table, Some(last))),
+        Some(last) => upgraded(
+            table,
+            symbol.symbol_type,
+            selector_values(table, Some(last)),
+        ),
     }
 }
 
@@ -206,10 +214,10 @@ fn implied(table: &Table<'_>, id: SymId, symbol: &Symbol) -> Tri
     ensures { result ≡ spec.implied_value table.now.tree.now (known_at table.now) (facts_of table.now.layout.now id.0 symbol.now) }
 {
     let default = default_truth(table, symbol);
-    let weak_reverse = weak_reverse(table, id, symbol);
-    match weak_reverse {
+    let implied_to = implied_to(table, id, symbol);
+    match implied_to {
         Tri::N => default,
-        _ => lesser(greater(default, weak_reverse), direct(table, symbol)),
+        _ => lesser(greater(default, implied_to), direct(table, symbol)),
     }
 }
 
@@ -240,6 +248,6 @@ pub(crate) fn truth_equation(
     ensures { result ≡ spec.truth_equation table.now.tree.now (known_at table.now) (facts_of table.now.layout.now id.0 symbol.now) (given_in user.entry) }
 {
     let value = given_or_implied(table, id, symbol, user);
-    let selected = reverse(table, id, symbol);
-    upgraded(table, symbol.kind, greater(value, selected))
+    let selected = selected_to(table, id, symbol);
+    upgraded(table, symbol.symbol_type, greater(value, selected))
 }

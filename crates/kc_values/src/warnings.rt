@@ -17,8 +17,8 @@ use crate::numbers::{
 };
 use crate::table::{Table, name};
 use crate::texts::{met_text, visible_text};
-use crate::truths::{direct, reverse};
-use kc_expr::expression::{Kind, SymId, Tri};
+use crate::truths::{direct, selected_to};
+use kc_expr::expression::{SymId, SymbolType, Tri};
 use kc_expr::values::tri_text;
 use kc_tree::rows::Symbol;
 use kc_user::value::UserValue;
@@ -41,35 +41,35 @@ fn is_above(a: Tri, b: Tri) -> bool
 fn selected_line(
     alloc: Global,
     name: &[u8],
-    reverse: Tri,
+    selected_to: Tri,
     direct: Tri,
 ) -> Result<Vec<u8>, AllocError>
-    ensures { IfOk result (λ v. v.items ≡ spec.selected_line name.now reverse direct) }
+    ensures { IfOk result (λ v. v.items ≡ spec.selected_line name.now selected_to direct) }
 {
     let mut line = Vec::from_slice(alloc, b"warning K11: ")?;
     line.extend_from_slice(name)?;
     line.extend_from_slice(b" is selected to ")?;
-    line.extend_from_slice(tri_text(reverse))?;
+    line.extend_from_slice(tri_text(selected_to))?;
     line.extend_from_slice(b" while its dependency is ")?;
     line.extend_from_slice(tri_text(direct))?;
     Ok(line)
 }
 
 // The low bound as it is written.
-fn low_text(alloc: Global, kind: Kind, range: Interval) -> Result<Vec<u8>, AllocError>
+fn low_text(alloc: Global, symbol_type: SymbolType, range: Interval) -> Result<Vec<u8>, AllocError>
     requires { HasSmallBounds range }
-    ensures { IfOk result (λ v. v.items ≡ number_text kind range.low) }
+    ensures { IfOk result (λ v. v.items ≡ number_text symbol_type range.low) }
 {
-    let text = number_text(alloc, kind, range.low)?;
+    let text = number_text(alloc, symbol_type, range.low)?;
     Ok(text)
 }
 
 // The high bound as it is written.
-fn high_text(alloc: Global, kind: Kind, range: Interval) -> Result<Vec<u8>, AllocError>
+fn high_text(alloc: Global, symbol_type: SymbolType, range: Interval) -> Result<Vec<u8>, AllocError>
     requires { HasSmallBounds range }
-    ensures { IfOk result (λ v. v.items ≡ number_text kind range.high) }
+    ensures { IfOk result (λ v. v.items ≡ number_text symbol_type range.high) }
 {
-    let text = number_text(alloc, kind, range.high)?;
+    let text = number_text(alloc, symbol_type, range.high)?;
     Ok(text)
 }
 
@@ -86,16 +86,16 @@ fn bounds_into(low: &[u8], high: &[u8], line: &mut Vec<u8>) -> Result<(), AllocE
 // ` of NAME is outside LOW to HIGH` behind what stands in the line.
 fn outside_into(
     alloc: Global,
-    kind: Kind,
+    symbol_type: SymbolType,
     range: Interval,
     name: &[u8],
     line: &mut Vec<u8>,
 ) -> Result<(), AllocError>
     requires { HasSmallBounds range }
-    ensures { OnOk result (line.new.items ≡ spec.outside_line line.old.items kind range name.now) }
+    ensures { OnOk result (line.new.items ≡ spec.outside_line line.old.items symbol_type range name.now) }
 {
-    let low = low_text(alloc, kind, range)?;
-    let high = high_text(alloc, kind, range)?;
+    let low = low_text(alloc, symbol_type, range)?;
+    let high = high_text(alloc, symbol_type, range)?;
     line.extend_from_slice(b" of ")?;
     line.extend_from_slice(name)?;
     line.extend_from_slice(b" is outside ")?;
@@ -106,35 +106,35 @@ fn outside_into(
 // The line of a user's text outside the range.
 fn user_warning_line(
     alloc: Global,
-    kind: Kind,
+    symbol_type: SymbolType,
     range: Interval,
     name: &[u8],
     text: &[u8],
 ) -> Result<Vec<u8>, AllocError>
     requires { HasSmallBounds range }
-    ensures { IfOk result (λ v. v.items ≡ spec.user_warning_line kind range name.now text.now) }
+    ensures { IfOk result (λ v. v.items ≡ spec.user_warning_line symbol_type range name.now text.now) }
 {
     let mut line = Vec::from_slice(alloc, b"warning K12: user value ")?;
     line.extend_from_slice(text)?;
-    outside_into(alloc, kind, range, name, &mut line)?;
+    outside_into(alloc, symbol_type, range, name, &mut line)?;
     Ok(line)
 }
 
 // The line of a default outside the range.
 fn default_warning_line(
     alloc: Global,
-    kind: Kind,
+    symbol_type: SymbolType,
     range: Interval,
     name: &[u8],
     text: &[u8],
 ) -> Result<Vec<u8>, AllocError>
     requires { HasSmallBounds range }
-    ensures { IfOk result (λ v. v.items ≡ spec.default_warning_line kind range name.now text.now) }
+    ensures { IfOk result (λ v. v.items ≡ spec.default_warning_line symbol_type range name.now text.now) }
 {
-    let used = clamped(alloc, kind, Some(range), text)?;
+    let used = clamped(alloc, symbol_type, Some(range), text)?;
     let mut line = Vec::from_slice(alloc, b"warning K13: default ")?;
     line.extend_from_slice(text)?;
-    outside_into(alloc, kind, range, name, &mut line)?;
+    outside_into(alloc, symbol_type, range, name, &mut line)?;
     line.extend_from_slice(b", ")?;
     line.extend_from_slice(&used)?;
     line.extend_from_slice(b" is used")?;
@@ -144,14 +144,14 @@ fn default_warning_line(
 // The warning of a visible user value outside the active range.
 fn user_warning(
     alloc: Global,
-    kind: Kind,
+    symbol_type: SymbolType,
     name: &[u8],
     range: Option<Interval>,
     given: Option<&[u8]>,
     out: &mut Vec<Vec<u8>>,
 ) -> Result<(), AllocError>
     requires { IfSome range HasSmallBounds }
-    ensures { OnOk result (spec.texts out.new.items ≡ spec.texts out.old.items ++ spec.user_warnings kind name.now range (option_copied given.entry)) }
+    ensures { OnOk result (spec.texts out.new.items ≡ spec.texts out.old.items ++ spec.user_warnings symbol_type name.now range (option_copied given.entry)) }
 {
     let Some(bounds) = range else {
         return Ok(());
@@ -159,10 +159,10 @@ fn user_warning(
     let Some(text) = given else {
         return Ok(());
     };
-    if is_within_range(kind, Some(bounds), text) {
+    if is_within_range(symbol_type, Some(bounds), text) {
         return Ok(());
     }
-    let line = user_warning_line(alloc, kind, bounds, name, text)?;
+    let line = user_warning_line(alloc, symbol_type, bounds, name, text)?;
     out.push(line)?;
     Ok(())
 }
@@ -170,7 +170,7 @@ fn user_warning(
 // The warning of a default that applied and was clamped.
 fn default_warning(
     alloc: Global,
-    kind: Kind,
+    symbol_type: SymbolType,
     name: &[u8],
     range: Option<Interval>,
     used: Option<&[u8]>,
@@ -178,7 +178,7 @@ fn default_warning(
     out: &mut Vec<Vec<u8>>,
 ) -> Result<(), AllocError>
     requires { IfSome range HasSmallBounds }
-    ensures { OnOk result (spec.texts out.new.items ≡ spec.texts out.old.items ++ spec.default_warnings kind name.now range (option_copied used.entry) (option_copied default.entry)) }
+    ensures { OnOk result (spec.texts out.new.items ≡ spec.texts out.old.items ++ spec.default_warnings symbol_type name.now range (option_copied used.entry) (option_copied default.entry)) }
 {
     if used.is_some() {
         return Ok(());
@@ -189,10 +189,10 @@ fn default_warning(
     let Some(text) = default else {
         return Ok(());
     };
-    if is_within_range(kind, Some(bounds), text) {
+    if is_within_range(symbol_type, Some(bounds), text) {
         return Ok(());
     }
-    let line = default_warning_line(alloc, kind, bounds, name, text)?;
+    let line = default_warning_line(alloc, symbol_type, bounds, name, text)?;
     out.push(line)?;
     Ok(())
 }
@@ -213,10 +213,10 @@ fn range_warnings(
 {
     let range = active_range(table, symbol);
     let given = visible_text(user, visibility);
-    let used = if_within_range(symbol.kind, range, given);
+    let used = if_within_range(symbol.symbol_type, range, given);
     let default = met_text(table, symbol);
-    user_warning(alloc, symbol.kind, name, range, given, out)?;
-    default_warning(alloc, symbol.kind, name, range, used, default, out)?;
+    user_warning(alloc, symbol.symbol_type, name, range, given, out)?;
+    default_warning(alloc, symbol.symbol_type, name, range, used, default, out)?;
     Ok(())
 }
 
@@ -231,16 +231,16 @@ fn select_warnings(
 ) -> Result<(), AllocError>
     ensures { OnOk result (spec.texts out.new.items ≡ spec.texts out.old.items ++ spec.select_warnings table.now.tree.now (known_at table.now) name.now (facts_in table.now id symbol.now)) }
 {
-    let reverse = reverse(table, id, symbol);
+    let selected_to = selected_to(table, id, symbol);
     // What nothing selects is above no direct dependency.
-    if let Tri::N = reverse {
+    if let Tri::N = selected_to {
         return Ok(());
     }
     let direct = direct(table, symbol);
-    if !is_above(reverse, direct) {
+    if !is_above(selected_to, direct) {
         return Ok(());
     }
-    let line = selected_line(alloc, name, reverse, direct)?;
+    let line = selected_line(alloc, name, selected_to, direct)?;
     out.push(line)?;
     Ok(())
 }
@@ -266,12 +266,12 @@ pub fn warnings_into(
         return Ok(());
     }
     let name = name(table.tree, id);
-    match symbol.kind {
-        Kind::Undefined => Ok(()),
-        Kind::Bool => select_warnings(alloc, table, name, id, symbol, out),
-        Kind::Tristate => select_warnings(alloc, table, name, id, symbol, out),
-        Kind::Str => Ok(()),
-        Kind::Int => range_warnings(alloc, table, name, symbol, visibility, user, out),
-        Kind::Hex => range_warnings(alloc, table, name, symbol, visibility, user, out),
+    match symbol.symbol_type {
+        SymbolType::Undefined => Ok(()),
+        SymbolType::Bool => select_warnings(alloc, table, name, id, symbol, out),
+        SymbolType::Tristate => select_warnings(alloc, table, name, id, symbol, out),
+        SymbolType::Str => Ok(()),
+        SymbolType::Int => range_warnings(alloc, table, name, symbol, visibility, user, out),
+        SymbolType::Hex => range_warnings(alloc, table, name, symbol, visibility, user, out),
     }
 }

@@ -8,8 +8,8 @@ ghost use Rattle.kc_values.specs.WrittenSymbols as spec;
 
 use crate::conditions::is_n;
 use crate::table::Table;
-use crate::truths::{default_truth, direct, met_default, reverse, weak_reverse};
-use kc_expr::expression::{Kind, SymId, Tri};
+use crate::truths::{default_truth, direct, implied_to, met_default, selected_to};
+use kc_expr::expression::{SymId, SymbolType, Tri};
 use kc_tree::rows::Symbol;
 
 // Whether a bool or tristate symbol outside a choice is written.
@@ -19,8 +19,8 @@ fn truth_is_written(table: &Table<'_>, id: SymId, symbol: &Symbol, visibility: T
 {
     !is_n(visibility)
         || !is_n(default_truth(table, symbol))
-        || !is_n(reverse(table, id, symbol))
-        || (!is_n(weak_reverse(table, id, symbol)) && !is_n(direct(table, symbol)))
+        || !is_n(selected_to(table, id, symbol))
+        || (!is_n(implied_to(table, id, symbol)) && !is_n(direct(table, symbol)))
 }
 
 // Whether a string, int or hex symbol is written.
@@ -34,12 +34,14 @@ fn text_is_written(table: &Table<'_>, symbol: &Symbol, visibility: Tri) -> bool
 // Whether a symbol outside a choice is written, by its type.
 fn own_is_written(table: &Table<'_>, id: SymId, symbol: &Symbol, visibility: Tri) -> bool
     requires { visibility ≡ value.visibility table.now.tree.now (known_at table.now) (facts_of table.now.layout.now id.0 symbol.now) }
-    ensures { result ≡ spec.written_by_kind table.now.tree.now (known_at table.now) (facts_of table.now.layout.now id.0 symbol.now) symbol.now.kind }
+    ensures { result ≡ spec.written_by_type table.now.tree.now (known_at table.now) (facts_of table.now.layout.now id.0 symbol.now) symbol.now.symbol_type }
 {
-    match symbol.kind {
-        Kind::Undefined => false,
-        Kind::Bool | Kind::Tristate => truth_is_written(table, id, symbol, visibility),
-        Kind::Str | Kind::Int | Kind::Hex => text_is_written(table, symbol, visibility),
+    match symbol.symbol_type {
+        SymbolType::Undefined => false,
+        SymbolType::Bool | SymbolType::Tristate => truth_is_written(table, id, symbol, visibility),
+        SymbolType::Str | SymbolType::Int | SymbolType::Hex => text_is_written(
+            table, symbol, visibility,
+        ),
     }
 }
 

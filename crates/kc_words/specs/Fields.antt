@@ -4,7 +4,7 @@ use Rattle.clap.specs.Words.{Row, Text, first_of}
 use Rattle.kc_options.specs.declared.options.Options.{Options}
 use Rattle.kc_options.specs.declared.options.Delivery.{Delivery}
 use Rattle.kc_options.specs.declared.options.Delivery.TheVariants as delivery
-use Rattle.kc_dot.specs.Prefixes.{is_prefix}
+use Rattle.kc_config_file.specs.Prefixes.{is_prefix}
 use Rattle.kc_words.specs.Exclusions.{exclusion_of, is_each, is_given, values_of}
 use Rattle.kc_words.specs.declared.each.Each.{Each}
 use Rattle.kc_words.specs.declared.options.Request.{Request}

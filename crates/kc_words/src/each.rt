@@ -7,7 +7,7 @@ ghost use Rattle.kc_words.specs.Patterns.{AreOptionsFor};
 use crate::apart;
 use crate::patterns::{filled_if, push_filled};
 use crate::usage::UsageError;
-use kc_dot::prefix::Prefix;
+use kc_config_file::prefix::Prefix;
 use kc_options::Options;
 use std::alloc::{AllocError, Global};
 

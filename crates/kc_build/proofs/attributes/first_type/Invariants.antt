@@ -1,6 +1,6 @@
-use Rattle.kc_build.specs.Facts.{type_of}
+use Rattle.kc_build.specs.Facts.{stated_type}
 use Rattle.kc_build.proofs.ScanLemmas.{FirstIs}
 use Rattle.kc_build.proofs.attributes.first_type.Given as goal
 
 abbrev pub invariant-loop-line : goal.invariant-loop-line
-invariant-loop-line l = FirstIs type_of l.attributes l.line-index
+invariant-loop-line l = FirstIs stated_type l.attributes l.line-index

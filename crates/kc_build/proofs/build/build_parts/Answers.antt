@@ -1,6 +1,6 @@
 use Rattle.std.proofs.Common.{◌+◌, ◌^◌, ◌<◌, List, length, ap, ◌∙◌, subst, arith}
 use Rattle.kc_expr.specs.declared.expression.SymId.{SymId}
-use Rattle.kc_expr.specs.Order.{stands_in}
+use Rattle.kc_expr.specs.DistinctSymbols.{stands_in}
 use Rattle.kc_build.specs.Facts.{defined_symbols}
 use Rattle.kc_build.specs.Trees.{symbol_if}
 use Rattle.kc_tree.specs.declared.rows.Symbol.{Symbol}

@@ -7,7 +7,7 @@ use Rattle.kc_build.specs.WalkResult.{IsDiagnosed}
 use Rattle.kc_build.specs.Walks.{IsWalk, index_after}
 use Rattle.kc_build.proofs.DiagnosedLemmas.{diagnosed_start}
 use Rattle.kc_build.proofs.EntryWalkLemmas.{at-end, at-next, at-start, head-is}
-use Rattle.kc_build.proofs.LineWalkLemmas.{diagnosed-next, plain-head, walk-starts}
+use Rattle.kc_build.proofs.LineWalkLemmas.{diagnosed-next, modeless-head, walk-starts}
 use Rattle.kc_build.proofs.PlaceLemmas.{length-statements_of}
 use Rattle.kc_build.proofs.entries.walk_entries.Goals as goal
 
@@ -41,11 +41,11 @@ enter-requires-clause-room c =
       choices = (let a = s.choices in omega arith);
     }
 
-pub enter-requires-clause-plain : goal.enter-requires-clause-plain
-enter-requires-clause-plain c =
+pub enter-requires-clause-modeless : goal.enter-requires-clause-modeless
+enter-requires-clause-modeless c =
     let es = c.args.entries.now in
     let w = c.entries.invariant in
-    plain-head (statements_in es) c.args.symbols.now w.place _ c.entries.walk c.requires.apart (head-is es c.entries.at w.place c.in-Some.entry w.at c.in-Some.ensures).at w.walk
+    modeless-head (statements_in es) c.args.symbols.now w.place _ c.entries.walk c.requires.apart (head-is es c.entries.at w.place c.in-Some.entry w.at c.in-Some.ensures).at w.walk
 
 pub entries-preserved : goal.entries-preserved
 entries-preserved c =

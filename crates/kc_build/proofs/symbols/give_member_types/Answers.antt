@@ -3,11 +3,11 @@ use Rattle.std.specs.Option.{is_some}
 use Rattle.std.specs.declared.alloc.Global.{Global}
 use Rattle.std.specs.declared.vec.Vec.{Vec}
 use Rattle.std.proofs.lemmas.List.{length-map}
-use Rattle.kc_expr.specs.declared.expression.Kind.TheVariants as kind
+use Rattle.kc_expr.specs.declared.expression.SymbolType.TheVariants as symbol_type
 use Rattle.kc_tree.specs.declared.rows.Symbol.{Symbol}
 use Rattle.kc_build.specs.SymbolRows.{row_view}
 use Rattle.kc_build.specs.Passes.{change}
-use Rattle.kc_build.specs.SymbolWalk.{first_kind, with_member_type}
+use Rattle.kc_build.specs.SymbolWalk.{first_given_type, with_member_type}
 use Rattle.kc_build.proofs.SymbolRowLemmas.{change_next, change_same, changed_all, length-changed, same_item, member_gets_type, other_keeps_type}
 use Rattle.kc_build.proofs.TableLemmas.{set_changed}
 use Rattle.kc_build.proofs.symbols.give_member_types.Goals as goal
@@ -32,11 +32,11 @@ loop-i-preserved c =
           let other = w.index-then-is_some.result.now in
           let tested = same_item now i c.index.result.now x within c.index.ensures w.index_mut.ensures.value in
           let read = same_item now i other x within w.index-then-is_some.ensures w.index_mut.ensures.value in
-          let k = w.first_kind.result in
-          let type = w.first_kind.ensures ∙ ap (λ (y : Symbol). first_kind y.kind (Some kind.Bool)) read in
+          let k = w.first_given_type.result in
+          let type = w.first_given_type.ensures ∙ ap (λ (y : Symbol). first_given_type y.symbol_type (Some symbol_type.Bool)) read in
           let member = w.if-is_some.ensures ∙ ap (λ (y : Symbol). is_some y.choice) tested in
           ap (λ (v : Vec Symbol Global). map row_view v.items) w.symbols-is
-          ∙ set_changed row_view with_member_type now i x (record x { kind = k }) within w.index_mut.ensures.value (member_gets_type x k member type) ∙ next
+          ∙ set_changed row_view with_member_type now i x (record x { symbol_type = k }) within w.index_mut.ensures.value (member_gets_type x k member type) ∙ next
       | else-is_some w ↦
           let x = c.index.result.now in
           ap (λ (v : Vec Symbol Global). map row_view v.items) w.symbols-is ∙ change_same with_member_type row_view now i x within c.index.ensures (other_keeps_type x w.if-is_some.ensures) ∙ next

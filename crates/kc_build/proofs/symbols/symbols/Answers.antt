@@ -10,7 +10,7 @@ use Rattle.kc_read.specs.Blocks.{numbers}
 use Rattle.kc_read.specs.Entries.{first_line, lines_in}
 use Rattle.kc_read.specs.StatementViews.{head_view}
 use Rattle.kc_tree.specs.declared.rows.Symbol.{Symbol}
-use Rattle.kc_build.specs.Facts.{enclosing_choice, first_of, symbol_at, symbol_of, type_of}
+use Rattle.kc_build.specs.Facts.{enclosing_choice, first_of, symbol_at, symbol_of, stated_type}
 use Rattle.kc_build.specs.SymbolRows.{definition_number, row_of, row_view}
 use Rattle.kc_build.specs.Passes.{changed, statements_in, statements_of}
 use Rattle.kc_build.specs.SymbolWalk.{with_definition}
@@ -62,9 +62,9 @@ entries-preserved c =
           let t = v.in-Config.symbol in
           let named : symbol_at ss i ≡ Some t = ap symbol_of head.at ∙ ap (λ (y : Head). symbol_of (Some (head_view y))) v.in-Config.is in
           let by = v.in_ok-note_definition.ensures ∙ ap
-          (λ n. changed (with_definition n (first_of (filter_map type_of own)) (mode_view c.entries.scope.choice)) (Some t) now)
+          (λ n. changed (with_definition n (first_of (filter_map stated_type own)) (mode_view c.entries.scope.choice)) (Some t) now)
           w.scope.definitions ∙ ap
-          (λ l. changed (with_definition (definition_number ss i) (first_of (filter_map type_of l))
+          (λ l. changed (with_definition (definition_number ss i) (first_of (filter_map stated_type l))
           (mode_view c.entries.scope.choice)) (Some t) now) (sym (attributes-are es c.entries.at i e w.at begins))
           ∙ ap (λ k. changed (with_definition (definition_number ss i) (entry_type ss i) k) (Some t) now) w.scope.choice in
           (Some t, named, rw v.symbols-is by)

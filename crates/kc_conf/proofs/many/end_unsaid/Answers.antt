@@ -6,7 +6,7 @@ use Rattle.kc_conf.specs.Outcome.{lines_text}
 use Rattle.kc_conf.specs.PartRuns.{StopsLines}
 use Rattle.kc_conf.specs.declared.stop.Stop.{Stop}
 use Rattle.kc_conf.specs.declared.stop.Stop.TheVariants.{Failed}
-use Rattle.kc_conf.proofs.ManyLemmas.{CannotSay-note, TriesToSay-behind}
+use Rattle.kc_conf.proofs.ManyLemmas.{CannotSay-report, TriesToSay-behind}
 use Rattle.kc_conf.proofs.many.end_unsaid.Goals as goal
 
 pub returns-in-OutOfMemory : goal.returns-in-OutOfMemory
@@ -19,4 +19,4 @@ pub returns-in_default : goal.returns-in_default
 returns-in_default g c = λ files root tree before accepted stops.
     let mid = g.D.Device.log c.args.device.now in
     let failed = subst (λ (s : Stop). StopsLines (lines_text tree.warnings) s before mid) c.in_default.is stops in
-    unsaid_warnings tree accepted failed.1 (CannotSay-note (Failed c.in_default.field-0) before mid failed.0 failed.2) refl
+    unsaid_warnings tree accepted failed.1 (CannotSay-report (Failed c.in_default.field-0) before mid failed.0 failed.2) refl

@@ -1,6 +1,6 @@
 -- Piece by piece.
 use Rattle.std.proofs.Common.{◌≤◌, ap, arith, refl, rules, subst}
-use Rattle.kc_dot.specs.ReaderState.{ReaderState}
+use Rattle.kc_config_file.specs.ReaderState.{ReaderState}
 use Rattle.kc_conf.specs.ReadSteps.{stand}
 use Rattle.kc_conf.proofs.FileLemmas.{breaks-end, breaks-piece, breaks-unread, fresh-at-start, reads-long, reads-whole, still-then, takes-more, takes-nothing}
 use Rattle.kc_conf.proofs.reading.read_opened.Goals as goal

@@ -4,8 +4,8 @@ use Rattle.kc_io.specs.WholeLines.{is_whole_lines}
 use Rattle.kc_conf.proofs.StepLemmas.{some-said}
 use Rattle.kc_conf.proofs.reading.say.Goals as goal
 
-pub note-requires : goal.note-requires
-note-requires g c = ap is_whole_lines (append-nil c.deref.result.now ∙ c.deref.ensures.value) ∙ c.requires c.if-waiting.false
+pub report-requires : goal.report-requires
+report-requires g c = ap is_whole_lines (append-nil c.deref.result.now ∙ c.deref.ensures.value) ∙ c.requires c.if-waiting.false
 
 pub returns-in-Err-clause-says : goal.returns-in-Err-clause-says
 returns-in-Err-clause-says g c =

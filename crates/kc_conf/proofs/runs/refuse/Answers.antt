@@ -2,7 +2,7 @@
 use Rattle.std.proofs.Common.{[]}
 use Rattle.kc_read.specs.RefusalView.{refusal_view}
 use Rattle.kc_conf.specs.ErrorLines.{refusal_line}
-use Rattle.kc_conf.proofs.EndingLemmas.{BreaksEnd-note, IsEnded-line, some-refusal}
+use Rattle.kc_conf.proofs.EndingLemmas.{BreaksEnd-report, IsEnded-line, some-refusal}
 use Rattle.kc_conf.proofs.runs.refuse.Goals as goal
 
 pub returns-in-Ok-clause-said : goal.returns-in-Ok-clause-said
@@ -11,5 +11,5 @@ returns-in-Ok-clause-said g c = λ known options.
 
 pub returns-in-Err-clause-said : goal.returns-in-Err-clause-said
 returns-in-Err-clause-said g c = λ known options.
-    BreaksEnd-note options [] (refusal_line (refusal_view c.args.refusal.now)) [] c.in-Err.stop (g.D.Device.log c.args.device.now) (g.D.Device.log c.say_refusal.new.device)
+    BreaksEnd-report options [] (refusal_line (refusal_view c.args.refusal.now)) [] c.in-Err.stop (g.D.Device.log c.args.device.now) (g.D.Device.log c.say_refusal.new.device)
     (some-refusal (refusal_view c.args.refusal.now)) c.in-Err.ensures.0 c.in-Err.ensures.1

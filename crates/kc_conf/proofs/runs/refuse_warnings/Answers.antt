@@ -2,7 +2,7 @@
 use Rattle.std.proofs.Common.{◌++◌, []}
 use Rattle.kc_options.specs.Asked.{lead}
 use Rattle.kc_conf.specs.ErrorLines.{strict_line}
-use Rattle.kc_conf.proofs.EndingLemmas.{BreaksEnd-note, IsEnded-line, some-strict}
+use Rattle.kc_conf.proofs.EndingLemmas.{BreaksEnd-report, IsEnded-line, some-strict}
 use Rattle.kc_conf.proofs.runs.refuse_warnings.Goals as goal
 
 pub returns-in-Ok : goal.returns-in-Ok
@@ -10,5 +10,5 @@ returns-in-Ok g c = IsEnded-line c.args.options.now (lead c.args.options.now ++ 
 
 pub returns-in-Err : goal.returns-in-Err
 returns-in-Err g c =
-    BreaksEnd-note c.args.options.now [] (lead c.args.options.now ++ strict_line) [] c.in-Err.stop (g.D.Device.log c.args.device.now) (g.D.Device.log c.say_strict.new.device)
+    BreaksEnd-report c.args.options.now [] (lead c.args.options.now ++ strict_line) [] c.in-Err.stop (g.D.Device.log c.args.device.now) (g.D.Device.log c.say_strict.new.device)
     (some-strict c.args.options.now) c.in-Err.ensures.0 c.in-Err.ensures.1

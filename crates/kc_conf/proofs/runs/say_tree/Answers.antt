@@ -4,14 +4,14 @@ use Rattle.std.specs.Prelude.{IfErr}
 use Rattle.kc_io.specs.Log.{Leads, Log}
 use Rattle.kc_conf.specs.Outcome.{has_text, lines_text}
 use Rattle.kc_conf.specs.PartRuns.{SaysLines}
-use Rattle.kc_conf.specs.Reads.{IsNoteOrMemory}
+use Rattle.kc_conf.specs.Reads.{IsReportOrMemory}
 use Rattle.kc_conf.specs.Stops.{event_of}
 use Rattle.kc_conf.specs.declared.stop.Stop.{Stop}
 use Rattle.kc_conf.specs.declared.stop.Stop.TheVariants.{OutOfMemory, Failed}
 use Rattle.kc_conf.proofs.OutcomeLemmas.{lines_some}
 use Rattle.kc_conf.proofs.runs.say_tree.Goals as goal
 
-said : (text : List ℕ) (result : Result (Unit {0}) Stop) (old new : Log) → text ≢ [] → OnOk result (Leads [] text old new) → IfErr result (λ stop. IsNoteOrMemory stop × Leads (event_of stop) [] old new) →
+said : (text : List ℕ) (result : Result (Unit {0}) Stop) (old new : Log) → text ≢ [] → OnOk result (Leads [] text old new) → IfErr result (λ stop. IsReportOrMemory stop × Leads (event_of stop) [] old new) →
     SaysLines text result old new
 said text (Ok x) old new some ok err = ok
 said text (Err OutOfMemory) old new some ok err = err.1

@@ -16,7 +16,7 @@ returns-in_default-clause-fails c =
 pub returns-clause-parsed : goal.returns-clause-parsed
 returns-clause-parsed c =
     let found = rw c.in-Some.is at c.in_ok-found.ensures.reads in
-    parsed_alone _ _ _ _ _ found.atom _ _ _ found.next c.requires.1 found.mentions found.leaf_is c.plain.ensures
+    parsed_alone _ _ _ _ _ found.atom _ _ _ found.next c.requires.1 found.mentions found.leaf_is c.lone_expression.ensures
 
 pub returns-in_err-found-clause-fails : goal.returns-in_err-found-clause-fails
 returns-in_err-found-clause-fails c =

@@ -1,7 +1,7 @@
 -- What the check left open in `relation`.
 use Rattle.std.proofs.Common.{ℕ, ◌≡◌, ◌≤◌, ◌<◌, ◌+◌, ◌∙◌, ap, ◌∷◌, length, arith}
-use Rattle.kc_expr.specs.Grammar.{terminals_from, Plain, Compares}
-use Rattle.kc_expr.specs.Reading.{starts_plain}
+use Rattle.kc_expr.specs.Grammar.{terminals_from, OperandToken, Compares}
+use Rattle.kc_expr.specs.Reading.{starts_operand}
 use Rattle.kc_expr.specs.declared.parse.ExprFault.TheVariants.{Memory}
 use Rattle.kc_expr.specs.Reading.{FailsNot}
 use Rattle.kc_expr.proofs.NamesLemmas.{extends_on}
@@ -16,15 +16,15 @@ returns-in_default-clause-fails c =
 pub returns-in_default-relation_op-clause-parsed : goal.returns-in_default-relation_op-clause-parsed
 returns-in_default-relation_op-clause-parsed c =
     let left = rw c.in-Some.is at c.in_ok-left.ensures.reads in
-    parsed_lone _ _ _ _ _ left.atom _ _ left.next c.in_default-relation_op.ensures left.mentions left.leaf_is c.plain.ensures
+    parsed_lone _ _ _ _ _ left.atom _ _ left.next c.in_default-relation_op.ensures left.mentions left.leaf_is c.lone_expression.ensures
 
 pub returns-in_default-2-clause-fails : goal.returns-in_default-2-clause-fails
 returns-in_default-2-clause-fails c =
     let left = rw c.in-Some.is at c.in_ok-left.ensures.reads in
     let right = rw c.in_default-2.is at c.in_ok-right.ensures.reads in
     let e : c.args.at + 1 + 1 ≡ c.args.at + 2 = omega arith in
-    no_right_side _ _ left.atom c.in-Some-relation_op.op (left.next ∙ ap (λ l. Plain left.atom ∷ l) c.in-Some-relation_op.ensures.1)
-    (ap (λ n. starts_plain (terminals_from c.args.tokens.now n)) e ∙ right)
+    no_right_side _ _ left.atom c.in-Some-relation_op.op (left.next ∙ ap (λ l. OperandToken left.atom ∷ l) c.in-Some-relation_op.ensures.1)
+    (ap (λ n. starts_operand (terminals_from c.args.tokens.now n)) e ∙ right)
 
 pub returns-clause-parsed : goal.returns-clause-parsed
 returns-clause-parsed c =
@@ -33,8 +33,8 @@ returns-clause-parsed c =
     let op = c.in-Some-relation_op.ensures in
     let e : c.args.at + 1 + 1 ≡ c.args.at + 2 = omega arith in
     let f : c.args.at + 2 + 1 ≡ c.args.at + 3 = omega arith in
-    let third = ap (terminals_from c.args.tokens.now) e ∙ right.next ∙ ap (λ n. Plain right.atom ∷ terminals_from c.args.tokens.now n) f in
-    let text = left.next ∙ ap (λ l. Plain left.atom ∷ l) (op.1 ∙ ap (λ l. Compares c.in-Some-relation_op.op ∷ l) third) in
+    let third = ap (terminals_from c.args.tokens.now) e ∙ right.next ∙ ap (λ n. OperandToken right.atom ∷ terminals_from c.args.tokens.now n) f in
+    let text = left.next ∙ ap (λ l. OperandToken left.atom ∷ l) (op.1 ∙ ap (λ l. Compares c.in-Some-relation_op.op ∷ l) third) in
     rw c.in_ok-operands.ensures.ok (parsed_compare _ _ _ _ _ _ left.atom right.atom c.in-Some-relation_op.op _ _ text left.mentions right.mentions left.leaf_is right.leaf_is)
 
 pub returns-in_err-left-clause-fails : goal.returns-in_err-left-clause-fails

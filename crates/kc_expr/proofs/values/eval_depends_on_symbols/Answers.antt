@@ -9,8 +9,8 @@ pub returns : goal.returns
 returns g c =
     let values = c.args.values.now in
     let others = c.args.others.now in
-    let known = values_by (g.V.Values.kind_of values) (g.V.Values.tri_of values) (g.V.Values.text_of values) in
-    let others_known = values_by (g.W.Values.kind_of others) (g.W.Values.tri_of others) (g.W.Values.text_of others) in
+    let known = values_by (g.V.Values.type_of values) (g.V.Values.tri_of values) (g.V.Values.text_of values) in
+    let others_known = values_by (g.W.Values.type_of others) (g.W.Values.tri_of others) (g.W.Values.text_of others) in
     λ same agree.
     depends_on_symbols known others_known (g.V.Values.modules_of values) (form_of c.args.e.now) agree
     ∙ ap (λ m. value others_known m (form_of c.args.e.now)) same

@@ -1,8 +1,8 @@
 use Rattle.kc_io.proofs.DeliveryLemmas.{plain, replacing, not_made}
 use Rattle.kc_io.proofs.delivery.make.Goals as goal
 
-pub returns-in-Plain : goal.returns-in-Plain
-returns-in-Plain g c = plain _ _ _ _ _ c.in-Plain.is c.put_all.ensures
+pub returns-in-InPlace : goal.returns-in-InPlace
+returns-in-InPlace g c = plain _ _ _ _ _ c.in-InPlace.is c.put_all.ensures
 
 pub returns-in-Ok : goal.returns-in-Ok
 returns-in-Ok g c = replacing _ _ _ _ _ _ c.in-Replacing.is c.in-Ok.ensures c.move_all.ensures

@@ -16,11 +16,11 @@ returns-clause-read c =
     let v = c.in_ok-value.ensures.front in
     let w = c.in_ok-when.ensures.condition in
     let rest = lexemes_from c.args.tokens.now c.in_ok-value.after in (
-      DefLine c.args.kind v.tree w.tree,
+      DefLine c.args.symbol_type v.tree w.tree,
       (front v.tree rest, w.tree, v.starts, w.condition_is, refl),
       record {
         mentions = mentioned_on c.args.names.now c.front.new.names c.condition.new.names (names_in v.tree) (names_in_condition w.tree) v.mentions w.mentions;
-        form = λ later x. rw c.in_ok-new.ensures.ok (λ i. DefLine c.args.kind
+        form = λ later x. rw c.in_ok-new.ensures.ok (λ i. DefLine c.args.symbol_type
             (v.form later (extends_on c.front.new.names c.condition.new.names later c.in_ok-when.ensures.names x) i) (w.form later x i));
       },
     )
@@ -28,19 +28,19 @@ returns-clause-read c =
 pub returns-in_err-when-clause-read : goal.returns-in_err-when-clause-read
 returns-in_err-when-clause-read c =
     let ls = lexemes_from c.args.tokens.now 1 in
-    read_passed c.args.names.now c.condition.new.names (ReadsValue (DefLine c.args.kind) ls)
+    read_passed c.args.names.now c.condition.new.names (ReadsValue (DefLine c.args.symbol_type) ls)
     c.from_residual-in_err-when.result c.in_err-when.field-0.0 c.from_residual-in_err-when.ensures.1
-    (value_fault (DefLine c.args.kind) false c.args.names.now c.front.new.names ls (lexemes_from c.args.tokens.now c.in_ok-value.after)
+    (value_fault (DefLine c.args.symbol_type) false c.args.names.now c.front.new.names ls (lexemes_from c.args.tokens.now c.in_ok-value.after)
     (form_of c.in_ok-value.value) c.in_err-when.field-0.0 c.in_ok-value.ensures.front c.in_err-when.ensures.fault)
 
 pub returns-in_err-value-clause-read : goal.returns-in_err-value-clause-read
 returns-in_err-value-clause-read c =
-    value_refused c.args.names.now c.front.new.names (DefLine c.args.kind) (lexemes_from c.args.tokens.now 1) c.from_residual.result
+    value_refused c.args.names.now c.front.new.names (DefLine c.args.symbol_type) (lexemes_from c.args.tokens.now 1) c.from_residual.result
     c.in_err-value.field-0.0 c.from_residual.ensures.1 c.in_err-value.ensures.fault
 
 pub returns-in_err-new-clause-read : goal.returns-in_err-new-clause-read
 returns-in_err-new-clause-read c =
-    memory_passed c.args.names.now c.condition.new.names (ReadsValue (DefLine c.args.kind) (lexemes_from c.args.tokens.now 1))
+    memory_passed c.args.names.now c.condition.new.names (ReadsValue (DefLine c.args.symbol_type) (lexemes_from c.args.tokens.now 1))
     c.from_residual-in_err-new.result c.from_residual-in_err-new.ensures.1
 
 pub returns-in_err-when-clause-names : goal.returns-in_err-when-clause-names

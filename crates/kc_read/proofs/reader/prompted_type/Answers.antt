@@ -11,17 +11,17 @@ returns-clause-read c =
     let ls = lexemes_from c.args.tokens.now 1 in
     let w = c.in_ok-when.ensures.condition in
     let t = unquoted_text c.in_ok-raw_text.field-0.1 c.in_ok-raw_text.field-0.0.now in (
-      TypeLine c.args.kind (Some (record { text = t; when = w.tree })),
-      asked_ok (λ p. TypeLine c.args.kind (Some p)) ls (lexemes_from c.args.tokens.now 2)
+      TypeLine c.args.symbol_type (Some (record { text = t; when = w.tree })),
+      asked_ok (λ p. TypeLine c.args.symbol_type (Some p)) ls (lexemes_from c.args.tokens.now 2)
           t w.tree c.in_ok-raw_text.ensures.part (after_one c.args.tokens.now 1) w.condition_is,
-      record { mentions = w.mentions; form = λ later x. ap (λ o. TypeLine c.args.kind (Some (record { text = []; when = o }))) (w.form later x) },
+      record { mentions = w.mentions; form = λ later x. ap (λ o. TypeLine c.args.symbol_type (Some (record { text = []; when = o }))) (w.form later x) },
     )
 
 pub returns-in_err-when-clause-read : goal.returns-in_err-when-clause-read
 returns-in_err-when-clause-read c =
     let ls = lexemes_from c.args.tokens.now 1 in
     let t = unquoted_text c.in_ok-raw_text.field-0.1 c.in_ok-raw_text.field-0.0.now in
-    read_passed c.args.names.now c.condition.new.names (ReadsPrompt (λ p. TypeLine c.args.kind (Some p)) ls)
+    read_passed c.args.names.now c.condition.new.names (ReadsPrompt (λ p. TypeLine c.args.symbol_type (Some p)) ls)
     c.from_residual-in_err-when.result c.in_err-when.field-0.0 c.from_residual-in_err-when.ensures.1
-    (asked_fault (λ p. TypeLine c.args.kind (Some p)) ls (lexemes_from c.args.tokens.now 2) t c.in_err-when.field-0.0 c.in_ok-raw_text.ensures.part
+    (asked_fault (λ p. TypeLine c.args.symbol_type (Some p)) ls (lexemes_from c.args.tokens.now 2) t c.in_err-when.field-0.0 c.in_ok-raw_text.ensures.part
     (after_one c.args.tokens.now 1) c.in_err-when.ensures.fault)

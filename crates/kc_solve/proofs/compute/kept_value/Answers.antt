@@ -2,7 +2,7 @@ use Rattle.kc_tree.specs.Contexts.{mode_view}
 use Rattle.kc_tree.specs.Layouts.{facts_of}
 use Rattle.kc_values.specs.TableFacts.{known_at}
 use Rattle.kc_values.specs.User.{given_in}
-use Rattle.kc_solve.proofs.TableSteps.{member_kind, row_facts, untyped, value_placed}
+use Rattle.kc_solve.proofs.TableSteps.{type_of_member, row_facts, untyped, value_placed}
 use Rattle.kc_solve.proofs.compute.kept_value.Goals as goal
 
 pub returns-in-Undefined : goal.returns-in-Undefined
@@ -11,7 +11,7 @@ returns-in-Undefined c =
     let s = c.args.symbol.now in
     let f = facts_of t.layout.now c.args.id.0 s in
     untyped t.tree.now (known_at t) c.args.id f (mode_view s.choice) _ c.in-Undefined.is
-    (λ d h. member_kind t c.args.id f d (row_facts t c.args.id s c.requires.row) h)
+    (λ d h. type_of_member t c.args.id f d (row_facts t c.args.id s c.requires.row) h)
 
 pub returns : goal.returns
 returns c =

@@ -22,7 +22,7 @@ module _ (start a b c d : NeedRow) (n o : List ℕ) (s t u rest : List SymId) wh
 
 -- the context, where it is read
 read : (c : In_ok-defaults_into) → Adds c.args.out.now c.if-is_read.out
-    (cond (rows.is_read c.args.layout.now c.args.kind c.args.definition.now) (rows.context_nodes c.args.layout.now c.args.definition.now.within.0) []) []
+    (cond (rows.is_read c.args.layout.now c.args.symbol_type c.args.definition.now) (rows.context_nodes c.args.layout.now c.args.definition.now.within.0) []) []
 read c =
     elim c.if-is_read.branch [
       | then-is_read+in_ok-context_into w ↦ rw (w.out-is, ← w.if-is_read.ensures) w.in_ok-context_into.ensures
@@ -38,8 +38,8 @@ returns-in_ok-ranges_into c =
     let defaults = flat_map (rows.default_names l.modules) (rows.defaults_of l d) in
     let ranges = flat_map (rows.range_names l.modules) (rows.ranges_of l d) in
     all_added c.args.out.now c.if-is_read.out c.prompt_into.new.out c.defaults_into.new.out c.ranges_into.new.out
-    (cond (rows.is_read l c.args.kind d) (rows.context_nodes l d.within.0) []) (rows.prompt_nodes l d.prompt) asked
-    (flat_map (rows.default_names l.modules) c.defaults.result.now) given (asked ++ defaults ++ cond (rows.is_number c.args.kind) ranges [])
+    (cond (rows.is_read l c.args.symbol_type d) (rows.context_nodes l d.within.0) []) (rows.prompt_nodes l d.prompt) asked
+    (flat_map (rows.default_names l.modules) c.defaults.result.now) given (asked ++ defaults ++ cond (rows.is_number c.args.symbol_type) ranges [])
     (read (goal.at.returns-in_ok-ranges_into c).In_ok-defaults_into) c.in_ok-prompt_into.ensures c.in_ok-defaults_into.ensures c.in_ok-ranges_into.ensures
     (ap (λ ds. asked ++ flat_map (rows.default_names l.modules) ds ++ given) c.defaults.ensures
     ∙ ap (λ rs. asked ++ defaults ++ flat_map (rows.range_names l.modules) rs) c.ranges-then-is_number.ensures
@@ -53,7 +53,7 @@ returns-else-is_number c =
     let defaults = flat_map (rows.default_names l.modules) (rows.defaults_of l d) in
     let ranges = flat_map (rows.range_names l.modules) (rows.ranges_of l d) in
     all_added c.args.out.now c.if-is_read.out c.prompt_into.new.out c.defaults_into.new.out c.defaults_into.new.out
-    (cond (rows.is_read l c.args.kind d) (rows.context_nodes l d.within.0) []) (rows.prompt_nodes l d.prompt) asked
-    (flat_map (rows.default_names l.modules) c.defaults.result.now) [] (asked ++ defaults ++ cond (rows.is_number c.args.kind) ranges [])
+    (cond (rows.is_read l c.args.symbol_type d) (rows.context_nodes l d.within.0) []) (rows.prompt_nodes l d.prompt) asked
+    (flat_map (rows.default_names l.modules) c.defaults.result.now) [] (asked ++ defaults ++ cond (rows.is_number c.args.symbol_type) ranges [])
     (read (goal.at.returns-else-is_number c).In_ok-defaults_into) c.in_ok-prompt_into.ensures c.in_ok-defaults_into.ensures (adds_nothing c.defaults_into.new.out)
     (ap (λ ds. asked ++ flat_map (rows.default_names l.modules) ds ++ []) c.defaults.ensures ∙ ap (λ b. asked ++ defaults ++ cond b ranges []) c.if-is_number.ensures)

@@ -20,8 +20,8 @@ returns-in-Some-first_met-clause-range c =
     let here = first_met t.tree.now k (definition_facts t.layout.now.tables d).ranges in
     let cs = t.layout.now.tables.contexts in
     c.bounds_of.ensures.range
-    ∙ range-bounds t s.kind here c.in-Some-first_met.range (condition_in cs 0) c.in-Some-first_met.ensures
-    ∙ ap (interval k s.kind)
+    ∙ range-bounds t s.symbol_type here c.in-Some-first_met.range (condition_in cs 0) c.in-Some-first_met.ensures
+    ∙ ap (interval k s.symbol_type)
     (range-some t here rest c.in-Some-first_met.range c.in-Some-first_met.ensures ∙ sym (met-some t.tree.now k t.layout.now s lines i d c.in-Some.ensures) ∙ c.loop-i.invariant)
 
 pub loop-i-preserved : goal.loop-i-preserved

@@ -4,7 +4,7 @@ use Rattle.kc_values.proofs.warnings.outside_into.Goals as goal
 
 pub returns : goal.returns
 returns c =
-    outside_joined c.args.kind c.args.range c.args.line.now.items c.args.name.now _ _ _ _ _ _
+    outside_joined c.args.symbol_type c.args.range c.args.line.now.items c.args.name.now _ _ _ _ _ _
     c.in_ok-extend_from_slice.ensures.items
     c.in_ok-extend_from_slice-2.ensures.items
     c.in_ok-extend_from_slice-3.ensures.items

@@ -9,8 +9,8 @@ pub returns : goal.returns
 returns c =
     let t = c.args.table.now in
     select_joined t.tree.now (known_at t) c.args.name.now (facts_of t.layout.now c.args.id.0 c.args.symbol.now)
-    c.reverse-reverse.result c.direct-direct.result c.is_above.result c.in_ok-line.line.items _ _
-    c.reverse-reverse.ensures
+    c.selected_to-selected_to.result c.direct-direct.result c.is_above.result c.in_ok-line.line.items _ _
+    c.selected_to-selected_to.ensures
     c.direct-direct.ensures
     c.is_above.ensures
     c.if-not-is_above.false

@@ -1,5 +1,5 @@
 use Rattle.std.proofs.Common.{◌≡◌, ◌++◌, map, OnOk, subst, refl, ◌∙◌, sym}
-use Rattle.kc_expr.specs.declared.expression.Kind.TheVariants.{Bool as IsBool, Tristate}
+use Rattle.kc_expr.specs.declared.expression.SymbolType.TheVariants.{Bool as IsBool, Tristate}
 use Rattle.kc_tree.specs.Contexts.{mode_view}
 use Rattle.kc_tree.specs.Layouts.{facts_of}
 use Rattle.kc_values.specs.TableFacts.{known_at}

@@ -25,7 +25,7 @@ invariant_of-self-in-Break-1 c =
     let w = c.args.self.now in
     let g = entry_carries w c.add_attributes.new.contexts _ (outer_grown w c.innermost-outer.result c.add_attributes.new.contexts _ c.innermost-outer.ensures c.add_attributes.ensures.kept) in
     let h = held_carries w.tables.contexts c.add_attributes.new.contexts w.blocks w.tables.titles.items g (held_by w) in
-    record { top_is_empty = h.top_is_empty; top_plain = h.top_plain; within = h.within; visible = h.visible; plain = h.plain; titles = h.titles }
+    record { top_is_empty = h.top_is_empty; top_has_no_mode = h.top_has_no_mode; within = h.within; visible = h.visible; modeless = h.modeless; titles = h.titles }
 
 pub invariant_of-self-2 : goal.invariant_of-self-2
 invariant_of-self-2 c =
@@ -54,7 +54,7 @@ returns c =
       ranges = c.in_ok-parts.ensures.ranges;
       ranges_start = c.in_ok-parts.ensures.ranges_start;
       ranges_end = c.in_ok-parts.ensures.ranges_end;
-      reverses = refl;
+      selector_rows = refl;
       choices = refl;
       titles = refl;
       entries = refl;

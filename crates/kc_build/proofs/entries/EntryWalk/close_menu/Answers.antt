@@ -11,12 +11,12 @@ pub invariant_of-self : goal.invariant_of-self
 invariant_of-self c =
     let made = c.add_end.new.self in
     let h = held_closes made.tables.contexts made.blocks c.close.new.self made.tables.titles.items (held_by made) c.close.ensures in
-    record { top_is_empty = h.top_is_empty; top_plain = h.top_plain; within = h.within; visible = h.visible; plain = h.plain; titles = h.titles }
+    record { top_is_empty = h.top_is_empty; top_has_no_mode = h.top_has_no_mode; within = h.within; visible = h.visible; modeless = h.modeless; titles = h.titles }
 
 pub returns : goal.returns
 returns c =
     let t = c.in_ok-add_end.ensures in
     end_enters c.args.self.now _
-    (record { definitions = t.definitions; defaults = t.defaults; ranges = t.ranges; reverses = t.reverses; choices = t.choices; main_menu = t.main_menu })
+    (record { definitions = t.definitions; defaults = t.defaults; ranges = t.ranges; selector_rows = t.selector_rows; choices = t.choices; main_menu = t.main_menu })
     t.contexts t.titles t.added
     (subst (λ (b : Blocks). IsClosed b c.close.new.self) t.blocks c.close.ensures)

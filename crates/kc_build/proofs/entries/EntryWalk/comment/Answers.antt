@@ -37,6 +37,6 @@ returns c =
     let entries : c.push.new.self.items ≡ old.tables.entries.items ++ entry.Comment c.in_ok-title.title ∷ [] = c.in_ok-push.ensures.items
     ∙ ap (λ v. v.items ++ entry.Comment c.in_ok-title.title ∷ []) t.entries in
     comment_enters c.args.text.now (statements_of c.args.own.now) old _
-    (record { definitions = t.definitions; defaults = t.defaults; ranges = t.ranges; reverses = t.reverses; choices = t.choices; main_menu = t.main_menu })
+    (record { definitions = t.definitions; defaults = t.defaults; ranges = t.ranges; selector_rows = t.selector_rows; choices = t.choices; main_menu = t.main_menu })
     c.in_ok-within.within t.title c.in_ok-title.title
     grown stands t.blocks t.added t.text_is t.within_is t.visible_is c.in_ok-title.ensures.number entries

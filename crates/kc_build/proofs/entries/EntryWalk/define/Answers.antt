@@ -1,9 +1,9 @@
 use Rattle.std.proofs.Common.{◌∙◌, ap, sym, subst, Bool}
 use Rattle.kc_tree.specs.declared.rows.ShownEntry.TheVariants as entry
-use Rattle.kc_tree.specs.declared.reverses.Reverses.{Reverses}
+use Rattle.kc_tree.specs.declared.selector_rows.SelectorRows.{SelectorRows}
 use Rattle.kc_build.specs.declared.entries.EntryWalk.{EntryWalk}
 use Rattle.kc_build.specs.Passes.{statements_of}
-use Rattle.kc_build.specs.ReverseRows.{AreAdded, KeepSources}
+use Rattle.kc_build.specs.SelectorRows.{AreAdded, KeepSources}
 use Rattle.kc_build.proofs.GrownLemmas.{pushed}
 use Rattle.kc_build.proofs.HeldLemmas.{on_ok_both}
 use Rattle.kc_build.proofs.DefineWalkLemmas.{Defines, walk_defines}
@@ -23,9 +23,9 @@ returns c =
       | then-is_first+in_ok-push v ↦ record {
         number = c.next_definition-id.ensures;
         added = c.in_ok-add_definition.ensures;
-        reverses = subst (λ (r : Reverses). AreAdded symbols source made.tables.reverses own r) (sym (ap (λ (x : EntryWalk). x.tables.reverses) v.self-is)) c.in_ok-add_reverses.ensures.added;
-        sources = subst (λ (r : Reverses). KeepSources source.0 made.tables.reverses.lines.items r.lines.items) (sym (ap (λ (x : EntryWalk). x.tables.reverses) v.self-is))
-            c.in_ok-add_reverses.ensures.sources;
+        selector_rows = subst (λ (r : SelectorRows). AreAdded symbols source made.tables.selector_rows own r) (sym (ap (λ (x : EntryWalk). x.tables.selector_rows) v.self-is)) c.in_ok-add_selectors.ensures.added;
+        sources = subst (λ (r : SelectorRows). KeepSources source.0 made.tables.selector_rows.lines.items r.lines.items) (sym (ap (λ (x : EntryWalk). x.tables.selector_rows) v.self-is))
+            c.in_ok-add_selectors.ensures.sources;
         contexts = ap (λ (x : EntryWalk). x.tables.contexts) v.self-is;
         definitions = ap (λ (x : EntryWalk). x.tables.definitions) v.self-is;
         defaults = ap (λ (x : EntryWalk). x.tables.defaults) v.self-is;
@@ -43,9 +43,9 @@ returns c =
       | else-is_first v ↦ record {
         number = c.next_definition-id.ensures;
         added = c.in_ok-add_definition.ensures;
-        reverses = subst (λ (r : Reverses). AreAdded symbols source made.tables.reverses own r) (sym (ap (λ (x : EntryWalk). x.tables.reverses) v.self-is)) c.in_ok-add_reverses.ensures.added;
-        sources = subst (λ (r : Reverses). KeepSources source.0 made.tables.reverses.lines.items r.lines.items) (sym (ap (λ (x : EntryWalk). x.tables.reverses) v.self-is))
-            c.in_ok-add_reverses.ensures.sources;
+        selector_rows = subst (λ (r : SelectorRows). AreAdded symbols source made.tables.selector_rows own r) (sym (ap (λ (x : EntryWalk). x.tables.selector_rows) v.self-is)) c.in_ok-add_selectors.ensures.added;
+        sources = subst (λ (r : SelectorRows). KeepSources source.0 made.tables.selector_rows.lines.items r.lines.items) (sym (ap (λ (x : EntryWalk). x.tables.selector_rows) v.self-is))
+            c.in_ok-add_selectors.ensures.sources;
         contexts = ap (λ (x : EntryWalk). x.tables.contexts) v.self-is;
         definitions = ap (λ (x : EntryWalk). x.tables.definitions) v.self-is;
         defaults = ap (λ (x : EntryWalk). x.tables.defaults) v.self-is;

@@ -37,12 +37,12 @@ returns-in_ok-self-in-MainMenu c =
     c.in_ok-self-in-MainMenu.ensures.items ∙ c.deref-in-MainMenu-2.ensures.value ∙ ap (λ v. v.items) c.deref-in-MainMenu.ensures in
     rw (c.in-MainMenu.is)
     (main_menu_enters c.in-MainMenu.text.value.items w _
-    (record { definitions = refl; defaults = refl; ranges = refl; reverses = refl; choices = refl; titles = refl; entries = refl })
+    (record { definitions = refl; defaults = refl; ranges = refl; selector_rows = refl; choices = refl; titles = refl; entries = refl })
     refl refl text c.args.symbols.now (statements_of c.args.own.now))
 
 pub returns-in-EndIf : goal.returns-in-EndIf
 returns-in-EndIf c =
     let e = end_is c.args.head.now c.in-EndIf.is in
     closer_enters (head_view c.args.head.now) c.args.self.now _ e.closes e.symbol e.title e.entry
-    (record { definitions = refl; defaults = refl; ranges = refl; reverses = refl; choices = refl; titles = refl; entries = refl })
+    (record { definitions = refl; defaults = refl; ranges = refl; selector_rows = refl; choices = refl; titles = refl; entries = refl })
     refl refl c.close.ensures c.args.symbols.now (statements_of c.args.own.now)

@@ -14,7 +14,7 @@ use Rattle.kc_build.specs.Growth.{IsGrown, Stands}
 use Rattle.kc_build.specs.Passes.{statements_of}
 use Rattle.kc_build.specs.declared.blocks.BlockScope.{BlockScope}
 use Rattle.kc_build.proofs.ChoiceOpenLemmas.{choice_enters, extends_block, extends_push, kept_block, kept_row}
-use Rattle.kc_build.proofs.GrownLemmas.{further, further_extends, held_extends, keeping, keeping_carries, plain_carries, plain_extends, titles_carry}
+use Rattle.kc_build.proofs.GrownLemmas.{further, further_extends, held_extends, keeping, keeping_carries, plain_carries, modeless_extends, titles_carry}
 use Rattle.kc_build.proofs.HeldLemmas.{carries_entry, held_fields, held_opens, held_walk, on_ok_both}
 use Rattle.kc_build.proofs.entries.EntryWalk.open_choice.Goals as goal
 use Rattle.kc_tree.specs.Layouts.{with_conjuncts}
@@ -63,7 +63,7 @@ invariant_of-self-2 c =
     (kept_row w c.innermost-outer.result c.entry_context.new.contexts (length c.args.own.now) (is_ok c.push.result)
     (record { within = c.in_ok-within.within; prompt = c.in_ok-prompt.prompt; defaults = c.in_ok-defaults.defaults; members = c.new.result }) c.push.new.self.items
     (filter_map depends_form (statements_of c.args.own.now))
-    (last_of (filter_map prompt_of (statements_of c.args.own.now))) c.innermost-outer.ensures c.entry_context.ensures.kept c.in_ok-within.ensures.made c.requires.plain
+    (last_of (filter_map prompt_of (statements_of c.args.own.now))) c.innermost-outer.ensures c.entry_context.ensures.kept c.in_ok-within.ensures.made c.requires.modeless
     c.in_ok-prompt.ensures c.push.ensures.items)
 
 pub choice_block-requires-clause-there : goal.choice_block-requires-clause-there
@@ -86,7 +86,7 @@ invariant_of-self-3 c =
     (kept_row w c.innermost-outer.result c.entry_context.new.contexts (length c.args.own.now) (is_ok c.push.result)
     (record { within = c.in_ok-within.within; prompt = c.in_ok-prompt.prompt; defaults = c.in_ok-defaults.defaults; members = c.new.result }) c.push.new.self.items
     (filter_map depends_form (statements_of c.args.own.now))
-    (last_of (filter_map prompt_of (statements_of c.args.own.now))) c.innermost-outer.ensures c.entry_context.ensures.kept c.in_ok-within.ensures.made c.requires.plain
+    (last_of (filter_map prompt_of (statements_of c.args.own.now))) c.innermost-outer.ensures c.entry_context.ensures.kept c.in_ok-within.ensures.made c.requires.modeless
     c.in_ok-prompt.ensures c.push.ensures.items))
 
 pub invariant_of-self-in-Break-branch-5 : goal.invariant_of-self-in-Break-branch-5
@@ -106,7 +106,7 @@ invariant_of-self-4 c =
     let f = carries_entry w c.innermost-outer.result middle (length c.args.own.now) c.innermost-outer.ensures c.entry_context.ensures.kept in
     let g = extends_push middle new (in_choice (condition_in middle c.innermost-outer.result.within.0) c.next_choice-id.result.0) c.in_ok-block.ensures.added in
     let v = further w.tables.contexts middle f w.blocks.innermost.visible.0 (w.visible 0 w.blocks.innermost refl) in
-    let p = plain_carries w.tables.contexts middle f w.blocks.innermost.visible.0 (w.visible 0 w.blocks.innermost refl) (w.plain 0 w.blocks.innermost refl) in
+    let p = plain_carries w.tables.contexts middle f w.blocks.innermost.visible.0 (w.visible 0 w.blocks.innermost refl) (w.modeless 0 w.blocks.innermost refl) in
     let visible : c.in_ok-block.block.visible ≡ w.blocks.innermost.visible = c.in_ok-block.ensures.visible ∙ ap (λ (b : BlockScope). b.visible) c.innermost-outer.ensures in
     let n : length new ≡ length middle + 1 = ap length c.in_ok-block.ensures.added
     ∙ length_push middle (in_choice (condition_in middle c.innermost-outer.result.within.0) c.next_choice-id.result.0) in
@@ -117,7 +117,7 @@ invariant_of-self-4 c =
     c.open.ensures.outside c.open.ensures.unchanged
     (omega arith)
     (rw visible (further_extends middle new g w.blocks.innermost.visible.0 v))
-    (rw visible (plain_extends middle new g w.blocks.innermost.visible.0 v p)))
+    (rw visible (modeless_extends middle new g w.blocks.innermost.visible.0 v p)))
 
 pub returns : goal.returns
 returns c =
@@ -136,7 +136,7 @@ returns c =
     rw (← c.innermost-outer.ensures) c.in_ok-prompt.ensures in
     on_ok_both c.open.result _ _ _ c.open.ensures.innermost c.open.ensures.outside
     (λ inner outside. choice_enters c.args.symbols.now (statements_of c.args.own.now) w _
-    (record { definitions = refl; defaults = refl; ranges = refl; reverses = refl; titles = refl; entries = refl; main_menu = refl })
+    (record { definitions = refl; defaults = refl; ranges = refl; selector_rows = refl; titles = refl; entries = refl; main_menu = refl })
     middle (record { within = c.in_ok-within.within; prompt = c.in_ok-prompt.prompt; defaults = c.in_ok-defaults.defaults; members = c.new.result }) c.in_ok-block.block
     c.next_entry-entry.result c.next_choice-id.result.0
     grown stands added c.next_choice-id.ensures c.in_ok-push.ensures.items asked c.in_ok-defaults.ensures c.new.ensures.items c.in_ok-block.ensures.within visible

@@ -25,7 +25,7 @@ invariant_of-self-3 c =
     let old = c.args.self.now in
     let there = old.within 0 old.blocks.innermost refl in
     let seen = old.visible 0 old.blocks.innermost refl in
-    let plain = old.plain 0 old.blocks.innermost refl in
+    let modeless = old.modeless 0 old.blocks.innermost refl in
     let added : c.if_block.new.contexts ≡ old.tables.contexts ++ and_also (condition_in old.tables.contexts old.blocks.innermost.within.0) (form_of c.in_ok-clone.field-0.value) ∷ [] =
     rw (← c.innermost-outer.ensures) c.in_ok-block.ensures.added in
     let g = carries_push old.tables.contexts c.if_block.new.contexts old.blocks.innermost.within.0 (form_of c.in_ok-clone.field-0.value) there added in
@@ -38,8 +38,8 @@ invariant_of-self-3 c =
     c.open.result c.in_ok-block.block c.open.ensures.innermost c.open.ensures.outside c.open.ensures.unchanged
     (omega arith)
     (rw visible (let l = g.longer in omega arith))
-    (rw visible (plain_carries old.tables.contexts c.if_block.new.contexts g old.blocks.innermost.visible.0 seen plain)) in
-    record { top_is_empty = h.top_is_empty; top_plain = h.top_plain; within = h.within; visible = h.visible; plain = h.plain; titles = h.titles }
+    (rw visible (plain_carries old.tables.contexts c.if_block.new.contexts g old.blocks.innermost.visible.0 seen modeless)) in
+    record { top_is_empty = h.top_is_empty; top_has_no_mode = h.top_has_no_mode; within = h.within; visible = h.visible; modeless = h.modeless; titles = h.titles }
 
 pub returns : goal.returns
 returns c =
@@ -50,5 +50,5 @@ returns c =
     let visible : c.in_ok-block.block.visible ≡ old.blocks.innermost.visible = c.in_ok-block.ensures.visible ∙ ap (λ b. b.visible) c.innermost-outer.ensures in
     on_ok_both c.open.result _ _ _ c.open.ensures.innermost c.open.ensures.outside
     (λ inner outside. if_enters (form_of c.args.condition.now.value) c.next_entry-entry.result c.in_ok-block.block old _
-    (record { definitions = refl; defaults = refl; ranges = refl; reverses = refl; choices = refl; titles = refl; entries = refl })
+    (record { definitions = refl; defaults = refl; ranges = refl; selector_rows = refl; choices = refl; titles = refl; entries = refl })
     refl c.next_entry-entry.ensures added c.in_ok-block.ensures.within visible c.in_ok-block.ensures.entry inner outside)

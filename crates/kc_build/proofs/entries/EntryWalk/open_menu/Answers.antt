@@ -3,14 +3,14 @@ use Rattle.std.proofs.Common.{refl, ap, ◌∙◌, ◌≡◌, ◌<◌, ◌++◌,
 use Rattle.std.specs.List.{filter_map}
 use Rattle.std.proofs.lemmas.List.{length-map}
 use Rattle.kc_read.specs.StatementViews.{attribute_view}
-use Rattle.kc_tree.specs.Contexts.{IsPlain, condition_in}
+use Rattle.kc_tree.specs.Contexts.{HasNoMode, condition_in}
 use Rattle.kc_tree.specs.declared.rows.ShownEntry.TheVariants as entry
 use Rattle.kc_build.specs.Facts.{depends_form, visible_form}
 use Rattle.kc_build.specs.Growth.{IsGrown, Stands}
 use Rattle.kc_build.specs.Passes.{statements_of}
 use Rattle.kc_build.specs.declared.blocks.Blocks.{Blocks}
 use Rattle.kc_build.proofs.GrownLemmas.{carries_both, further, held_by, keeping_carries}
-use Rattle.kc_build.proofs.HeldLemmas.{carries_entry, carries_visible, held_opens, held_walk, keeping_both, on_ok_both, plain_visible}
+use Rattle.kc_build.proofs.HeldLemmas.{carries_entry, carries_visible, held_opens, held_walk, keeping_both, on_ok_both, modeless_visible}
 use Rattle.kc_build.proofs.TitleLemmas.{menu_enters}
 use Rattle.kc_build.proofs.entries.EntryWalk.open_menu.Goals as goal
 use Rattle.kc_tree.specs.Layouts.{with_conjuncts}
@@ -30,7 +30,7 @@ invariant_of-self-in-Break-1 c =
     let old = c.args.self.now in
     let h = held_walk old c.entry_context.new.contexts
     (carries_entry old c.innermost-outer.result c.entry_context.new.contexts (length c.args.own.now) c.innermost-outer.ensures c.entry_context.ensures.kept) in
-    record { top_is_empty = h.top_is_empty; top_plain = h.top_plain; within = h.within; visible = h.visible; plain = h.plain; titles = h.titles }
+    record { top_is_empty = h.top_is_empty; top_has_no_mode = h.top_has_no_mode; within = h.within; visible = h.visible; modeless = h.modeless; titles = h.titles }
 
 pub visible_context-requires-clause-there : goal.visible_context-requires-clause-there
 visible_context-requires-clause-there c =
@@ -46,11 +46,11 @@ invariant_of-self-2 c =
     (length c.args.own.now) c.innermost-outer.ensures f c.visible_context.ensures.kept in
     keeping_both old c.visible_context.new.contexts (carries_both old.tables.contexts c.entry_context.new.contexts c.visible_context.new.contexts f g)
 
-pub add_title-requires-clause-plain : goal.add_title-requires-clause-plain
-add_title-requires-clause-plain c =
+pub add_title-requires-clause-modeless : goal.add_title-requires-clause-modeless
+add_title-requires-clause-modeless c =
     let old = c.args.self.now in
     let f = carries_entry old c.innermost-outer.result c.entry_context.new.contexts (length c.args.own.now) c.innermost-outer.ensures c.entry_context.ensures.kept in
-    plain_visible old c.innermost-outer.result c.entry_context.new.contexts c.visible_context.new.contexts c.in_ok-visible.visible.0 0
+    modeless_visible old c.innermost-outer.result c.entry_context.new.contexts c.visible_context.new.contexts c.in_ok-visible.visible.0 0
     (filter_map visible_form (statements_of c.args.own.now)) c.innermost-outer.ensures f c.in_ok-visible.ensures.made
 
 pub invariant_of-self-4 : goal.invariant_of-self-4
@@ -61,16 +61,16 @@ invariant_of-self-4 c =
     let f = carries_entry old c.innermost-outer.result c.entry_context.new.contexts (length c.args.own.now) c.innermost-outer.ensures c.entry_context.ensures.kept in
     let g = carries_visible old c.innermost-outer.result c.entry_context.new.contexts c.visible_context.new.contexts
     (length c.args.own.now) c.innermost-outer.ensures f c.visible_context.ensures.kept in
-    let plain = plain_visible old c.innermost-outer.result c.entry_context.new.contexts c.visible_context.new.contexts c.in_ok-visible.visible.0 0
+    let modeless = modeless_visible old c.innermost-outer.result c.entry_context.new.contexts c.visible_context.new.contexts c.in_ok-visible.visible.0 0
     (filter_map visible_form (statements_of c.args.own.now)) c.innermost-outer.ensures f c.in_ok-visible.ensures.made in
     let within : c.in_ok-within.within.0 < length made.tables.contexts =
     rw t.contexts (further c.entry_context.new.contexts c.visible_context.new.contexts g c.in_ok-within.within.0 c.in_ok-within.ensures.made.there) in
     let visible : c.in_ok-visible.visible.0 < length made.tables.contexts = rw t.contexts c.in_ok-visible.ensures.made.there in
-    let still : IsPlain made.tables.contexts c.in_ok-visible.visible.0 = rw t.contexts plain in
+    let still : HasNoMode made.tables.contexts c.in_ok-visible.visible.0 = rw t.contexts modeless in
     let h = held_opens made.tables.contexts made.blocks c.open.new.self made.tables.titles.items (held_by made) c.open.result
     (record { within = c.in_ok-within.within; visible = c.in_ok-visible.visible; entry = Some c.next_entry-entry.result }) c.open.ensures.innermost c.open.ensures.outside
     c.open.ensures.unchanged within visible still in
-    record { top_is_empty = h.top_is_empty; top_plain = h.top_plain; within = h.within; visible = h.visible; plain = h.plain; titles = h.titles }
+    record { top_is_empty = h.top_is_empty; top_has_no_mode = h.top_has_no_mode; within = h.within; visible = h.visible; modeless = h.modeless; titles = h.titles }
 
 pub returns : goal.returns
 returns c =
@@ -92,7 +92,7 @@ returns c =
     ∙ ap (λ v. v.items ++ entry.Menu c.in_ok-title.title ∷ []) t.entries in
     on_ok_both c.open.result _ _ _ c.open.ensures.innermost c.open.ensures.outside
     (λ inner outside. menu_enters c.args.text.now (statements_of c.args.own.now) old _
-    (record { definitions = t.definitions; defaults = t.defaults; ranges = t.ranges; reverses = t.reverses; choices = t.choices; main_menu = t.main_menu })
+    (record { definitions = t.definitions; defaults = t.defaults; ranges = t.ranges; selector_rows = t.selector_rows; choices = t.choices; main_menu = t.main_menu })
     c.entry_context.new.contexts c.in_ok-within.within c.in_ok-visible.visible t.title c.in_ok-title.title c.next_entry-entry.result
     (record { within = c.in_ok-within.within; visible = c.in_ok-visible.visible; entry = Some c.next_entry-entry.result })
     grown stands more sees t.added t.text_is t.within_is t.visible_is c.in_ok-title.ensures.number c.next_entry-entry.ensures entries refl inner

@@ -1,6 +1,6 @@
 use Rattle.std.proofs.Common.{◌≡◌, ◌≤◌, ◌++◌, ◌∷◌, [], length, ap, ◌∙◌, arith, Some, None, Option}
 use Rattle.std.proofs.lemmas.List.{append-nil}
-use Rattle.kc_tree.specs.Contexts.{top, condition_in, conditions_of, mode_view, IsPlain}
+use Rattle.kc_tree.specs.Contexts.{top, condition_in, conditions_of, mode_view, HasNoMode}
 use Rattle.kc_tree.specs.declared.rows.ChoiceId.{ChoiceId}
 use Rattle.kc_tree.proofs.ContextLemmas.{from-snoc, conditions-length, nested-push, modes-push}
 use Rattle.kc_tree.proofs.contexts.Contexts.inside_choice.Goals as goal
@@ -25,8 +25,8 @@ invariant_of-self-2 c =
     let all = conditions-length items in
     let view : length (conditions_of items) ≡ length c.args.self.now = ap length c.self.view_is in
     let outer : c.args.outer.0 ≤ length items = omega (arith, all, view, c.requires.there) in
-    let plain : IsPlain (conditions_of items) c.args.outer.0 = rw (c.self.view_is) c.requires.plain in
-    rw (c.in_ok-push.ensures.items) (nested-push items _ c.self.invariant.0 outer, modes-push items _ c.self.invariant.1 (λ f (w : None ≡ Some f). absurd cc) (λ w. plain))
+    let modeless : HasNoMode (conditions_of items) c.args.outer.0 = rw (c.self.view_is) c.requires.modeless in
+    rw (c.in_ok-push.ensures.items) (nested-push items _ c.self.invariant.0 outer, modes-push items _ c.self.invariant.1 (λ f (w : None ≡ Some f). absurd cc) (λ w. modeless))
 
 pub returns-clause-added : goal.returns-clause-added
 returns-clause-added c =

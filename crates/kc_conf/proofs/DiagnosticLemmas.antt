@@ -1,0 +1,102 @@
+-- What an outcome adds to the notes is whole lines.
+use Rattle.std.proofs.Common.{◌≡◌, ℕ, map, Bool, true, false, List, [], ◌∷◌, ◌++◌, codes, refl, sym, ap, subst, ◌∙◌, append_assoc, append-nil, Option, Some, None}
+use Rattle.std.specs.Prelude.{decimal, if◌then◌else◌, ◌&&◌}
+use Rattle.kc_read.specs.Expansion.{Refused}
+use Rattle.kc_read.specs.Files.{Files}
+use Rattle.kc_read.specs.declared.refusal.Code.{Code}
+use Rattle.kc_read.specs.declared.refusal.Code.TheVariants as code
+use Rattle.kc_tree.specs.TreeFacts.{TreeFacts}
+use Rattle.kc_solve.specs.Solved.{warnings}
+use Rattle.kc_config_file.specs.Limits.{longest_input_line}
+use Rattle.kc_config_file.specs.Reading.{StreamLocation, lines_of}
+use Rattle.kc_options.specs.Asked.{lead}
+use Rattle.kc_conf.specs.ErrorLines.{error_if_at, first_line, message_before, message_behind, refusal_line, strict_line, too_long_line, unreadable_line}
+use Rattle.kc_conf.specs.Outcome.{AreLines, IsLenientOutcome, IsOutcomeOfReading, DiagnosticsAreLines, Outcome, accepted_tree, depfile_text, has_text, is_done, lines_text, long_line, lost_warnings, names_of, reported, outcome_of, read_of, refused, refused_name, refused_tree, streams, strictly, whole, fresh_input, refused_if, warned_files}
+use Rattle.kc_conf.specs.Taken.{refuses_input}
+use Rattle.kc_options.specs.declared.options.Options.{Options}
+use Rattle.kc_conf.proofs.PartLemmas.{AreLines-append, AreLines-nothing, AreLines-reading}
+
+AreLines-line : (text : List ℕ) → AreLines (text ++ codes "\n")
+AreLines-line text = (text ∷ [], sym (append-nil (text ++ codes "\n")))
+
+-- what an error line ends with
+behind_ends : (c : Code) → (text : List ℕ) × (message_behind c ≡ text ++ codes "\n")
+behind_ends code.NoFile = ([], refl)
+behind_ends code.InclusionLoop = (codes " includes itself", refl)
+behind_ends code.TooManyLines = ([], refl)
+behind_ends code.LineTooLong = ([], refl)
+behind_ends code.BadToken = ([], refl)
+behind_ends code.Macro = ([], refl)
+behind_ends code.LeftOut = (codes " is left out", refl)
+behind_ends code.Syntax = ([], refl)
+behind_ends code.Block = ([], refl)
+behind_ends code.Misplaced = ([], refl)
+behind_ends code.BadName = ([], refl)
+behind_ends code.TooDeep = ([], refl)
+behind_ends code.ChoiceMember = ([], refl)
+behind_ends code.BadDefault = ([], refl)
+behind_ends code.Loop = ([], refl)
+behind_ends code.TooManySymbols = ([], refl)
+behind_ends code.Memory = ([], refl)
+
+-- a text is whole lines where it ends so
+AreLines-ended : (text end : List ℕ) → (front : List ℕ) × (end ≡ front ++ codes "\n") → AreLines (text ++ end)
+AreLines-ended text end (front, is) =
+    subst AreLines (append_assoc text front (codes "\n") ∙ ap (λ e. text ++ e) (sym is)) (AreLines-line (text ++ front))
+
+AreLines-at : (location : Option (List ℕ × ℕ)) (text end : List ℕ) → (front : List ℕ) × (end ≡ front ++ codes "\n") → AreLines (error_if_at location (text ++ end))
+AreLines-at None text end ends = subst AreLines (append_assoc (codes "error ") text end) (AreLines-ended (codes "error " ++ text) end ends)
+AreLines-at (Some place) text end ends =
+    let front = place.0 ++ codes ":" ++ decimal place.1 ++ codes ": error " in
+    subst AreLines (append_assoc front text end) (AreLines-ended (front ++ text) end ends)
+
+AreLines-refusal : (r : Refused) → AreLines (refusal_line r)
+AreLines-refusal r = AreLines-at r.location (message_before r.code ++ r.detail) (message_behind r.code) (behind_ends r.code)
+
+AreLines-too_long : (stop : StreamLocation) → AreLines (too_long_line stop)
+AreLines-too_long stop = AreLines-at (Some (stop.stream, stop.number)) (codes "E17: line longer than " ++ decimal longest_input_line) (codes " bytes\n") (codes " bytes", refl)
+
+-- ---- an outcome
+
+-- its warnings are whole lines, and so is its refusal
+abbrev AddsLines : Outcome → Type 0
+AddsLines outcome = AreLines outcome.warned × AreLines outcome.refusal
+
+AddsLines-reported : (text : List ℕ) (outcome : Outcome) → AreLines text → AddsLines outcome → AddsLines (reported text outcome)
+AddsLines-reported text outcome lines (warned, refusal) = (AreLines-append text outcome.warned lines warned, refusal)
+
+if_strict : (options : Options) (b : Bool) (outcome : Outcome) → AddsLines outcome → AddsLines (refused_if options b outcome)
+if_strict options true outcome adds = (adds.0, AreLines-ended (lead options) strict_line (codes "error E21: warnings are refused", refl))
+if_strict options false outcome adds = adds
+
+of_reading : (options : Options) (tree : TreeFacts) (all : List (List ℕ)) (outcome : Outcome) → IsOutcomeOfReading options tree (read_of options tree all) outcome → AddsLines outcome
+of_reading options tree all outcome (long_line stop stopped is) =
+    subst AddsLines (sym is) (AddsLines-reported (read_of options tree all).warned (refused (too_long_line stop))
+    (AreLines-reading tree options.prefix (lines_of (streams (names_of options) all)) (fresh_input options tree)) (AreLines-nothing, AreLines-too_long stop))
+of_reading options tree all outcome (whole solution none solves is) =
+    let input = (read_of options tree all).input in
+    let lost = lost_warnings options input solution in
+    subst AddsLines (sym is) (AddsLines-reported (read_of options tree all).warned (outcome_of options tree input solution)
+    (AreLines-reading tree options.prefix (lines_of (streams (names_of options) all)) (fresh_input options tree))
+    (if_strict options (refuses_input options input solution) (warned_files options tree input solution)
+    (AreLines-append (lines_text (map (λ line. lead options ++ line) (warnings solution))) (lines_text lost) (map (λ line. lead options ++ line) (warnings solution), refl) (lost, refl), AreLines-nothing)))
+
+of_lenient : (files : Files) (options : Options) (opened all : List (List ℕ)) (outcome : Outcome) → IsLenientOutcome files options opened all outcome → AddsLines outcome
+of_lenient files options opened all outcome (refused_tree r is_refused is) = subst AddsLines (sym is) (AreLines-nothing, AreLines-refusal r)
+of_lenient files options opened all outcome (refused_name tree name accepted unread is) =
+    subst AddsLines (sym is) (AreLines-nothing, AreLines-ended (lead options) (unreadable_line name) (codes "error E23: make cannot read the name " ++ first_line name, refl))
+of_lenient files options opened all outcome (accepted_tree tree accepted named (rest, read, is)) =
+    subst AddsLines (sym is) (AddsLines-reported (lines_text tree.warnings) rest (tree.warnings, refl) (of_reading options tree all rest read))
+
+if_ruled : (b : Bool) (options : Options) (opened : List (List ℕ)) (outcome : Outcome) → AddsLines outcome →
+    AddsLines (if b then record outcome { depfile = depfile_text options opened } else outcome)
+if_ruled true options opened outcome adds = adds
+if_ruled false options opened outcome adds = adds
+
+pub diagnostics_are_lines : DiagnosticsAreLines
+diagnostics_are_lines files options all outcome (lenient, opened, is_lenient, are, is) =
+    let strict = strictly options lenient in
+    let adds = subst AddsLines (sym is)
+    (if_ruled (is_done strict.status) options opened strict
+    (if_strict options (is_done lenient.status && (options.strict_tree && has_text lenient.warned)) lenient (of_lenient files options opened all lenient is_lenient))) in
+    AreLines-append outcome.warned outcome.refusal adds.0 adds.1

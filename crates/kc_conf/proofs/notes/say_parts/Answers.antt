@@ -1,6 +1,0 @@
--- What ends a line is whole lines.
-use Rattle.kc_conf.proofs.SayLemmas.{whole-parts}
-use Rattle.kc_conf.proofs.notes.say_parts.Goals as goal
-
-pub note-requires : goal.note-requires
-note-requires g c = whole-parts c.args.parts.now c.requires

@@ -1,0 +1,47 @@
+-- When reading the .config that was written gives the values again.
+use Rattle.std.proofs.Common.{◌≡◌, ℕ, ◌<◌, List, true, false, sym, ap, ◌∙◌, subst, ◌↔◌, Option, None}
+use Rattle.kc_expr.specs.declared.expression.SymId.{SymId}
+use Rattle.kc_expr.specs.Value.{SymbolValue}
+use Rattle.kc_order.specs.Solution.{Solves}
+use Rattle.kc_tree.specs.TreeFacts.{TreeFacts, IsLineText, IsWellFormed, OfTitles, ShowsEach}
+use Rattle.kc_user.specs.GivenValue.{GivenValue, UserPlace}
+use Rattle.kc_user.specs.Places.{Places, place_at}
+use Rattle.kc_values.specs.Differs.{changes_on_reread}
+use Rattle.kc_values.specs.GivenLines.{reread_places}
+use Rattle.kc_values.specs.Laws.{SolutionsAgree}
+use Rattle.kc_values.specs.Members.{MembersAreTheirs, MembersAreBools}
+use Rattle.kc_values.specs.Needs.{IsAccepted}
+use Rattle.kc_values.specs.Solution.{name_count, known_from, user_place, rhs, equations}
+use Rattle.kc_values.specs.WrittenSymbols.{written}
+use Rattle.kc_config_file.specs.Prefixes.{is_prefix}
+use Rattle.kc_config_file.specs.Plain.{HasPlainTitles}
+use Rattle.kc_config_file.specs.Reread.{valuation_view, read_alone, IsOneSolution}
+use Rattle.kc_config_file.specs.HasNames.{HasNames}
+use Rattle.kc_config_file.specs.Texts.{config_text}
+use Rattle.kc_config_file.proofs.ConfigLaws.{Reread, reread_at, config_read}
+use Rattle.kc_config_file.proofs.SymbolLineLemmas.{FitsLine}
+
+module _ (tree : TreeFacts) (user : UserPlace → Option GivenValue) (V : ℕ → SymbolValue) (formed : IsWellFormed tree) (theirs : MembersAreTheirs tree)
+    (bools : MembersAreBools tree) (named_all : HasNames tree) (shows : ShowsEach tree) (texts : OfTitles IsLineText tree)
+    (solves : Solves (name_count tree) (equations tree user) V)
+    (fits : (s : SymId) → s.0 < name_count tree → written tree (known_from tree V) s ≡ true → FitsLine (V s.0)) (prefix : List ℕ)
+    (is_pre : is_prefix prefix ≡ true) (plain : HasPlainTitles tree prefix (valuation_view tree user V)) where
+  abbrev IsIdempotent : Type 0
+  IsIdempotent = (i : ℕ) → i < name_count tree → changes_on_reread tree V i ≡ false
+
+  pub idempotent_again : IsAccepted tree → SolutionsAgree → (Solves (name_count tree) (equations tree (reread_places tree V)) V ↔ IsIdempotent) → (name : List ℕ) →
+      let read = read_alone tree prefix name (config_text tree prefix (valuation_view tree user V)) in (read.stopped ≡ None) × (IsOneSolution tree read.input.places V ↔ IsIdempotent)
+  idempotent_again accepted agree settled name =
+      let (whole, is) = config_read tree user V formed theirs bools named_all shows texts solves fits prefix is_pre plain name in
+      let P = Reread tree user V formed theirs bools named_all shows texts solves fits prefix is_pre plain in
+      let same : (i : ℕ) → i < name_count tree → place_at P (user_place tree i) ≡ reread_places tree V (user_place tree i) =
+      reread_at tree user V formed theirs bools named_all shows texts solves fits prefix is_pre plain in
+      let there : Solves (name_count tree) (equations tree (reread_places tree V)) V → Solves (name_count tree) (equations tree (place_at P)) V =
+      λ w i lt. w i lt ∙ ap (λ g. rhs tree i g V) (sym (same i lt)) in
+      let back : Solves (name_count tree) (equations tree (place_at P)) V → Solves (name_count tree) (equations tree (reread_places tree V)) V =
+      λ w i lt. w i lt ∙ ap (λ g. rhs tree i g V) (same i lt) in
+      let both : IsOneSolution tree P V ↔ IsIdempotent = (
+        λ one. settled.0 (back one.solves),
+        λ all. record { solves = there (settled.1 all); only = agree tree (place_at P) accepted V (there (settled.1 all)) },
+      ) in
+      (whole, subst (λ (p : Places). IsOneSolution tree p V ↔ IsIdempotent) (sym is) both)

@@ -1,0 +1,85 @@
+-- The laws of lines that are read one after another.
+use Rattle.std.proofs.Common.{◌≡◌, ℕ, List, [], ◌∷◌, ◌++◌, refl, ap, ◌∙◌, append-nil, Some}
+use Rattle.std.specs.Prelude.{slice_set}
+use Rattle.kc_expr.specs.declared.expression.SymId.{SymId}
+use Rattle.kc_tree.specs.TreeFacts.{TreeFacts}
+use Rattle.kc_user.specs.GivenValue.{GivenValue}
+use Rattle.kc_user.specs.Places.{Places}
+use Rattle.kc_config_file.specs.Effects.{Effect, Silent, Warns, Assigns}
+use Rattle.kc_config_file.specs.LineSteps.{input_by}
+use Rattle.kc_config_file.specs.Reading.{Line, UserInput, assignments, effect, input_after, places_after, stream_location, text_of, untaken, untaken_line, warning, warnings}
+use Rattle.kc_config_file.specs.ReadingLaws.{GoesLineByLine, LinesAddUp, LinesAreCut, LinesDoWhatTheySay, LinesInTurn, LinesKeepCounts}
+use Rattle.kc_config_file.proofs.LineLemmas.{input_after-line, lines_from-last, lines_from-lf}
+use Rattle.kc_config_file.proofs.PlaceLemmas.{ArePlacesOf-given, places_given-one}
+use Rattle.kc_config_file.proofs.ReadingLemmas.{input_after-append, input_after-nothing, lines_after-length, reading-nothing, reading_long, reading_within, untaken-append, untaken-cons, warnings-append, warnings-cons, warnings-nothing}
+use Rattle.kc_config_file.proofs.StreamLemmas.{waiting_no_lf}
+
+pub lines_cut : LinesAreCut
+lines_cut = record {
+  ended = λ stream n bytes rest b one ends. lines_from-lf stream n bytes b rest one ends;
+  last = lines_from-last;
+  waiting = waiting_no_lf;
+}
+
+module _ (tree : TreeFacts) (prefix : List ℕ) where
+  pub line_by_line : GoesLineByLine tree prefix
+  line_by_line = record { nothing = reading-nothing tree prefix; short = reading_within tree prefix; too_long = reading_long tree prefix }
+
+  -- ---- lines add up
+
+  one_warns : (input : UserInput) (l : Line) → warnings tree prefix input (l ∷ []) ≡ warning tree prefix input l
+  one_warns input l =
+      warnings-cons tree prefix input l []
+      ∙ ap (λ t. warning tree prefix input l ++ t) (warnings-nothing tree prefix (input_after tree prefix input (l ∷ [])))
+      ∙ append-nil (warning tree prefix input l)
+
+  none_untaken : (places : Places) → untaken tree prefix places [] ≡ []
+  unfolding untaken
+  none_untaken places = refl
+
+  one_untaken : (places : Places) (l : Line) → untaken tree prefix places (l ∷ []) ≡ untaken_line tree prefix places l
+  one_untaken places l =
+      untaken-cons tree prefix places l []
+      ∙ ap (λ (ls : List Line). untaken_line tree prefix places l ++ ls) (none_untaken (places_after tree prefix places (l ∷ [])))
+      ∙ append-nil (untaken_line tree prefix places l)
+
+  add_up : LinesAddUp tree prefix
+  add_up = record {
+    none_leave = input_after-nothing tree prefix;
+    leave = input_after-append tree prefix;
+    one_warns = one_warns;
+    warn = warnings-append tree prefix;
+    one_untaken = one_untaken;
+    are_untaken = untaken-append tree prefix;
+  }
+
+  -- ---- what a line does
+
+  step : (input : UserInput) (l : Line) (e : Effect) → effect tree prefix l ≡ e → input_after tree prefix input (l ∷ []) ≡ input_by tree input (stream_location l) e
+  unfolding effect
+  step input l e is = input_after-line tree prefix input l (text_of l) refl ∙ ap (input_by tree input (stream_location l)) is
+
+  value : (input : UserInput) (l : Line) (s : SymId) (given : GivenValue) → effect tree prefix l ≡ Assigns s given →
+      (input_after tree prefix input (l ∷ [])).places.symbols ≡ slice_set input.places.symbols s.0 (Some given)
+  value input l s given is =
+      ap (λ (i : UserInput). i.places.symbols) (step input l (Assigns s given) is)
+      ∙ ap (λ (p : Places). p.symbols) (places_given-one tree input.places s given)
+
+  says : LinesDoWhatTheySay tree prefix
+  says = record {
+    silent = λ input l is. step input l Silent is;
+    warned = λ input l line_warning is. step input l (Warns line_warning) is;
+    value = value;
+    by_line = λ input l s given is. ap (λ (i : UserInput). i.lines) (step input l (Assigns s given) is);
+  }
+
+  -- ---- what is as it was
+
+  counts : LinesKeepCounts tree prefix
+  counts = record {
+    places = λ input lines there. ArePlacesOf-given tree input.places (assignments tree prefix lines) there;
+    lines = λ input lines. lines_after-length tree prefix input.lines lines;
+  }
+
+  pub in_turn : LinesInTurn tree prefix
+  in_turn = record { add_up = add_up; says = says; counts = counts }

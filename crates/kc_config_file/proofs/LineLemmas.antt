@@ -1,0 +1,99 @@
+-- The lines of a stream's bytes, one at a time.
+use Rattle.std.proofs.Common.{◌≡◌, ℕ, ◌≤◌, List, [], ◌∷◌, ◌++◌, Bool, true, false, length, refl, ap, ◌∙◌, inl, inr, Option, cond, arith}
+use Rattle.std.specs.Prelude.{◌&&◌, ◌==◌}
+use Rattle.std.specs.List.{All, slice_split, onto_first, cons_option, last_or}
+use Rattle.std.proofs.lemmas.Bool.{cases_Bool, le-leb}
+use Rattle.std.proofs.lemmas.List.Splits.{slice_split_at, slice_split_none, slice_split-cons_no, slice_split-cons_yes}
+use Rattle.kc_text.specs.Lines.{is_line_feed}
+use Rattle.kc_tree.specs.TreeFacts.{TreeFacts}
+use Rattle.kc_user.specs.Places.{Places}
+use Rattle.kc_config_file.specs.ConfigFileLine.{meaning_of}
+use Rattle.kc_config_file.specs.Effects.{Effect, Silent, Warns, Assigns, effect_of}
+use Rattle.kc_config_file.specs.LineSteps.{input_by}
+use Rattle.kc_config_file.proofs.StepEffects.{places_by, lines_by, all_by}
+use Rattle.kc_text.specs.Limits.{one_more}
+use Rattle.kc_config_file.specs.Reading.{Line, StreamLocation, UserInput, line, is_within, last_line, lines_from, text_of, effect, effect_text, each_from, assignment_of, input_after, is_taken, line_for, lines_after, places_given, stream_location, untaken, untaken_line, warning}
+use Rattle.kc_config_file.proofs.PlaceLemmas.{each_same, one_place, places_given-nothing}
+
+-- there is a first part
+pub split_form : (bytes : List ℕ) → (part : List ℕ) × (parts : List (List ℕ)) × (slice_split is_line_feed bytes ≡ part ∷ parts)
+split_form [] = ([], [], refl)
+split_form (b ∷ bytes) = elim (cases_Bool (is_line_feed b)) [
+  | inl e ↦ ([], slice_split is_line_feed bytes, slice_split-cons_yes is_line_feed b bytes e)
+  | inr e ↦
+      let (part, parts, is) = split_form bytes in
+      (b ∷ part, parts, slice_split-cons_no is_line_feed b bytes e ∙ ap (onto_first b) is)
+]
+
+abbrev pub HasNoLf : List ℕ → Type 0
+HasNoLf bytes = All (λ b. is_line_feed b ≡ false) bytes
+
+-- an LF ends the line, and the next line follows
+pub lines_from-lf : (stream : List ℕ) (n : ℕ) (bytes : List ℕ) (b : ℕ) (rest : List ℕ) → HasNoLf bytes → is_line_feed b ≡ true →
+    lines_from stream n (bytes ++ b ∷ rest) ≡ line stream n bytes true ∷ lines_from stream (one_more n) rest
+unfolding lines_from
+lines_from-lf stream n bytes b rest one ends =
+    let (part, parts, is) = split_form rest in
+    rw (slice_split_at is_line_feed bytes b rest one ends, is) refl
+
+-- without one the bytes are the last line
+pub lines_from-last : (stream : List ℕ) (n : ℕ) (bytes : List ℕ) → HasNoLf bytes → lines_from stream n bytes ≡ last_line stream n bytes
+unfolding lines_from
+lines_from-last stream n bytes one = rw (slice_split_none is_line_feed bytes one) refl
+
+-- What one line does.
+after_effect : (tree : TreeFacts) (places : Places) (e : Effect) → places_given tree places (cons_option (assignment_of e) []) ≡ places_by tree places e
+after_effect tree places Silent = places_given-nothing tree places
+after_effect tree places (Warns line_warning) = places_given-nothing tree places
+after_effect tree places (Assigns s given) = refl
+
+lines_by_effect : (at : StreamLocation) (lines : List (Option StreamLocation)) (e : Effect) →
+    each_from (λ i last. last_or last (cons_option (line_for i at e) [])) 0 lines ≡ lines_by lines at e
+lines_by_effect at lines Silent = each_same 0 lines
+lines_by_effect at lines (Warns line_warning) = each_same 0 lines
+lines_by_effect at lines (Assigns s given) = one_place s.0 0 s.0 at lines (omega arith)
+
+-- whether a line of this effect leaves all lines taken
+none_untaken : (l : Line) (b : Bool) → (length (cond b [] (l ∷ []) ++ []) == 0) ≡ b
+none_untaken l true = refl
+none_untaken l false = refl
+
+is_and_true : (b : Bool) → (b && true) ≡ b
+is_and_true true = refl
+is_and_true false = refl
+
+is_and_false : (b : Bool) → (b && false) ≡ false
+is_and_false true = refl
+is_and_false false = refl
+
+all_by_effect : (input : UserInput) (e : Effect) → (input.all_taken && is_taken input.places e) ≡ all_by input e
+all_by_effect input Silent = is_and_true input.all_taken
+all_by_effect input (Warns line_warning) = is_and_false input.all_taken
+all_by_effect input (Assigns s given) = refl
+
+by_parts : (tree : TreeFacts) (input : UserInput) (at : StreamLocation) (e : Effect) →
+    record { places = places_by tree input.places e; lines = lines_by input.lines at e; all_taken = all_by input e } ≡ input_by tree input at e
+by_parts tree input at Silent = refl
+by_parts tree input at (Warns line_warning) = refl
+by_parts tree input at (Assigns s given) = refl
+
+pub input_after-line : (tree : TreeFacts) (prefix : List ℕ) (input : UserInput) (l : Line) (text : List ℕ) → text ≡ text_of l →
+    input_after tree prefix input (l ∷ []) ≡ input_by tree input (stream_location l) (effect_of tree (meaning_of prefix text))
+unfolding effect lines_after untaken_line untaken
+input_after-line tree prefix input l text is =
+    let e = effect_of tree (meaning_of prefix (text_of l)) in
+    let nothing : places_given tree input.places [] ≡ input.places = places_given-nothing tree input.places in
+    let none : (length (cond (is_taken (places_given tree input.places []) e) [] (l ∷ []) ++ []) == 0) ≡ is_taken input.places e =
+    none_untaken l (is_taken (places_given tree input.places []) e) ∙ ap (λ (p : Places). is_taken p e) nothing in
+    let all : (input.all_taken && (length (cond (is_taken (places_given tree input.places []) e) [] (l ∷ []) ++ []) == 0)) ≡ all_by input e =
+    ap (λ b. input.all_taken && b) none ∙ all_by_effect input e in
+    rw is (rw (after_effect tree input.places e, lines_by_effect (stream_location l) input.lines e, all) (by_parts tree input (stream_location l) e))
+
+pub warning-line : (tree : TreeFacts) (prefix : List ℕ) (input : UserInput) (l : Line) (text : List ℕ) → text ≡ text_of l →
+    warning tree prefix input l ≡ effect_text tree input (stream_location l) (effect_of tree (meaning_of prefix text))
+unfolding warning effect
+warning-line tree prefix input l text is = rw is refl
+
+-- a line of at most 65,535 bytes is not too long
+pub is_within-line : (stream : List ℕ) (n : ℕ) (bytes : List ℕ) (ended : Bool) → length bytes ≤ 65535 → is_within (line stream n bytes ended) ≡ true
+is_within-line stream n bytes ended within = le-leb (length bytes) 65535 within

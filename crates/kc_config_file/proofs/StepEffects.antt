@@ -1,0 +1,22 @@
+-- What an effect does to each part of the input.
+use Rattle.std.proofs.Common.{List, [], ◌∷◌, Bool, false, Option, Some, slice_set}
+use Rattle.std.specs.Prelude.{◌&&◌}
+use Rattle.kc_tree.specs.TreeFacts.{TreeFacts}
+use Rattle.kc_user.specs.Places.{Places}
+use Rattle.kc_config_file.specs.Effects.{Effect, Silent, Warns, Assigns}
+use Rattle.kc_config_file.specs.Reading.{StreamLocation, UserInput, is_taken, places_given}
+
+abbrev pub places_by : TreeFacts → Places → Effect → Places
+places_by tree places Silent = places
+places_by tree places (Warns line_warning) = places
+places_by tree places (Assigns s given) = places_given tree places (record { symbol = s; given = given } ∷ [])
+
+abbrev pub lines_by : List (Option StreamLocation) → StreamLocation → Effect → List (Option StreamLocation)
+lines_by lines at Silent = lines
+lines_by lines at (Warns line_warning) = lines
+lines_by lines at (Assigns s given) = slice_set lines s.0 (Some at)
+
+abbrev pub all_by : UserInput → Effect → Bool
+all_by input Silent = input.all_taken
+all_by input (Warns line_warning) = false
+all_by input (Assigns s given) = input.all_taken && is_taken input.places (Assigns s given)

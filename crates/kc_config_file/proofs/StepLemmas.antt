@@ -1,0 +1,66 @@
+-- What one line does to the places.
+use Rattle.std.proofs.Common.{◌≡◌, ℕ, ◌<◌, List, [], ◌∷◌, true, false, length, refl, sym, Option, Some, None, slice_set}
+use Rattle.std.specs.Prelude.{slice_get, IfSome}
+use Rattle.std.proofs.lemmas.Option.{slice_get_within}
+use Rattle.kc_expr.specs.declared.expression.SymId.{SymId}
+use Rattle.kc_expr.specs.declared.expression.SymbolType.{SymbolType}
+use Rattle.kc_expr.specs.declared.expression.SymbolType.TheVariants as symbol_type
+use Rattle.kc_tree.specs.TreeFacts.{TreeFacts, SymbolFacts, IsWellFormed}
+use Rattle.kc_tree.specs.Contexts.{mode_view}
+use Rattle.kc_tree.specs.declared.rows.ChoiceId.{ChoiceId}
+use Rattle.kc_user.specs.GivenValue.{GivenValue, is_yes}
+use Rattle.kc_user.specs.Places.{Places}
+use Rattle.kc_config_file.specs.Effects.{set_effect, set_by_type, assigned_or, type_in}
+use Rattle.kc_config_file.specs.LineValue.{line_value}
+use Rattle.kc_config_file.specs.EffectView.{AssignsDefined}
+use Rattle.kc_config_file.specs.LineSteps.{with_member}
+use Rattle.kc_config_file.specs.Reading.{places_given, choice_of}
+use Rattle.kc_config_file.proofs.PlaceLemmas.{places_given-one}
+
+by_value : (tree : TreeFacts) (name : List ℕ) (s : SymId) (found : Option GivenValue) → s.0 < length tree.symbols → AssignsDefined tree (assigned_or name s found)
+by_value tree name s None defined = tt
+by_value tree name s (Some given) defined = defined
+
+by_type : (tree : TreeFacts) (name : List ℕ) (s : SymId) (text : List ℕ) (k : SymbolType) → s.0 < length tree.symbols → AssignsDefined tree (set_by_type name s text k)
+by_type tree name s text symbol_type.Undefined defined = tt
+by_type tree name s text symbol_type.Bool defined = by_value tree name s (line_value symbol_type.Bool text) defined
+by_type tree name s text symbol_type.Tristate defined = by_value tree name s (line_value symbol_type.Tristate text) defined
+by_type tree name s text symbol_type.Str defined = by_value tree name s (line_value symbol_type.Str text) defined
+by_type tree name s text symbol_type.Int defined = by_value tree name s (line_value symbol_type.Int text) defined
+by_type tree name s text symbol_type.Hex defined = by_value tree name s (line_value symbol_type.Hex text) defined
+
+by_facts : (tree : TreeFacts) (name : List ℕ) (s : SymId) (text : List ℕ) (o : Option SymbolFacts) → slice_get tree.symbols s.0 ≡ o → AssignsDefined tree (set_by_type name s text (type_in o))
+by_facts tree name s text None is = tt
+by_facts tree name s text (Some facts) is = by_type tree name s text facts.symbol_type (slice_get_within tree.symbols s.0 facts is)
+
+-- a set line gives a value to a defined symbol alone
+pub set_defined : (tree : TreeFacts) (name text : List ℕ) (found : Option SymId) → AssignsDefined tree (set_effect tree name text found)
+set_defined tree name text None = tt
+set_defined tree name text (Some s) = by_facts tree name s text (slice_get tree.symbols s.0) refl
+
+-- a member's choice is one of the tree's
+pub choice_there : (tree : TreeFacts) (i : ℕ) (facts : SymbolFacts) (choice : Option ChoiceId) → IsWellFormed tree → slice_get tree.symbols i ≡ Some facts → mode_view choice ≡ facts.choice →
+    IfSome choice (λ k. k.0 < length tree.choices)
+choice_there tree i facts None formed found is = tt
+choice_there tree i facts (Some k) formed found is =
+    let (c, listed, member) = formed.members_listed i facts found k.0 (sym is) in
+    slice_get_within tree.choices k.0 c listed
+
+-- the places after an assignment, whose symbol's choice is seen to after it
+pub assigned : (tree : TreeFacts) (old mid new : Places) (s : SymId) (given : GivenValue) →
+    mid ≡ record { symbols = slice_set old.symbols s.0 (Some given); choices = old.choices } →
+    new ≡ record { symbols = mid.symbols; choices = with_member (is_yes given) (choice_of tree s) s mid.choices } →
+    new ≡ places_given tree old (record { symbol = s; given = given } ∷ [])
+assigned tree old mid new s given set chosen =
+    rw (chosen, set) (sym (places_given-one tree old s given))
+
+pub assigned_yes : (tree : TreeFacts) (old mid new : Places) (s : SymId) (given : GivenValue) → is_yes given ≡ true →
+    mid ≡ record { symbols = slice_set old.symbols s.0 (Some given); choices = old.choices } →
+    new ≡ record { symbols = mid.symbols; choices = with_member true (choice_of tree s) s mid.choices } →
+    new ≡ places_given tree old (record { symbol = s; given = given } ∷ [])
+assigned_yes tree old mid new s given is_y set chosen = assigned tree old mid new s given set (rw is_y chosen)
+
+pub assigned_no : (tree : TreeFacts) (old mid new : Places) (s : SymId) (given : GivenValue) → is_yes given ≡ false →
+    mid ≡ record { symbols = slice_set old.symbols s.0 (Some given); choices = old.choices } → new ≡ mid →
+    new ≡ places_given tree old (record { symbol = s; given = given } ∷ [])
+assigned_no tree old mid new s given is_other set same = assigned tree old mid new s given set (rw is_other same)

@@ -1,0 +1,132 @@
+-- What is told is whole lines.
+use Rattle.std.proofs.Common.{◌≡◌, ℕ, ◌<◌, Bool, true, false, List, [], ◌∷◌, ◌++◌, codes, refl, sym, ap, subst, ◌∙◌, append_assoc, append-nil, Option, Some, None, arith}
+use Rattle.std.specs.Prelude.{decimal, replicate, slice_index_or, if◌then◌else◌}
+use Rattle.std.specs.List.{last_or}
+use Rattle.kc_expr.specs.declared.expression.SymbolType.{SymbolType}
+use Rattle.kc_tree.specs.TreeFacts.{TreeFacts}
+use Rattle.kc_user.specs.GivenValue.{GivenValue, SymbolPlace, same_given}
+use Rattle.kc_user.specs.Places.{place_at}
+use Rattle.kc_config_file.specs.Changes.{StreamLocation, change_line, change_text, location_text, value_text}
+use Rattle.kc_config_file.specs.Effects.{Effect, Silent, Warns, Assigns, LineWarning, type_of, name_of, warning_text}
+use Rattle.kc_config_file.specs.declared.fault.InputFault.{InputFault}
+use Rattle.kc_config_file.specs.Feeding.{StreamPosition, ReadsPiece, EndsStream, Feeds, Refuses, FinishesStream, fed}
+use Rattle.kc_config_file.specs.Reading.{UserInput, Line, ReadResult, before_too_long, effect, effect_change, effect_text, effect_warning, input_after, reading, stream_location, warning, warning_line_if, warnings, with_warnings, lines_from}
+use Rattle.kc_config_file.specs.WholeLines.{AddsWholeLines, ends_line, is_whole_lines}
+use Rattle.kc_config_file.proofs.LineLemmas.{HasNoLf}
+use Rattle.kc_config_file.proofs.ReadingLemmas.{reading-nothing, warnings-cons, warnings-nothing}
+use Rattle.kc_config_file.proofs.StreamLemmas.{reading-long_end, waiting_no_lf}
+
+-- the last of two lists is that of the second, where it has one
+last_or-append : {A : Type 0} (o : Option A) (a b : List A) → last_or o (a ++ b) ≡ last_or (last_or o a) b
+last_or-append o [] b = refl
+last_or-append o (x ∷ a) b = last_or-append (Some x) a b
+
+-- whole lines behind whole lines are whole lines
+pub is_whole_lines-append : (a b : List ℕ) → is_whole_lines a ≡ true → is_whole_lines b ≡ true → is_whole_lines (a ++ b) ≡ true
+is_whole_lines-append a [] first second = rw append-nil first
+is_whole_lines-append a (x ∷ b) first second = ap ends_line (last_or-append None a (x ∷ b)) ∙ second
+
+-- a text with a line feed behind it is whole lines
+pub is_whole_lines-line : (text : List ℕ) → is_whole_lines (text ++ codes "\n") ≡ true
+is_whole_lines-line text = ap ends_line (last_or-append None text (codes "\n"))
+
+pub AddsWholeLines-nothing : (told : List ℕ) → AddsWholeLines told told
+AddsWholeLines-nothing told = ([], sym (append-nil told), refl)
+
+pub AddsWholeLines-same : (old new : List ℕ) → new ≡ old → AddsWholeLines old new
+AddsWholeLines-same old new same = rw same (AddsWholeLines-nothing old)
+
+-- what whole lines were added, where nothing was told before
+pub AddsWholeLines-first : (told : List ℕ) → AddsWholeLines [] told → is_whole_lines told ≡ true
+AddsWholeLines-first told (added, is, whole) = rw is whole
+
+-- whole lines that were added in two steps were added
+pub AddsWholeLines-then : (old mid new : List ℕ) → AddsWholeLines old mid → AddsWholeLines mid new → AddsWholeLines old new
+AddsWholeLines-then old mid new (a, is_a, first) (b, is_b, second) =
+    (a ++ b, is_b ∙ ap (λ t. t ++ b) is_a ∙ append_assoc old a b, is_whole_lines-append a b first second)
+
+whole-warning_if : (stream : List ℕ) (number : ℕ) (warned : Option LineWarning) → is_whole_lines (warning_line_if stream number warned) ≡ true
+whole-warning_if stream number None = refl
+whole-warning_if stream number (Some w) = is_whole_lines-line (stream ++ codes ":" ++ decimal number ++ codes ": warning " ++ warning_text w)
+
+whole-change : (at : StreamLocation) (name : List ℕ) (symbol_type : SymbolType) (old : Option GivenValue) (from : Option StreamLocation) (given : GivenValue) →
+    is_whole_lines (change_text at name symbol_type old from given) ≡ true
+whole-change at name symbol_type None from given = refl
+whole-change at name symbol_type (Some old) None given = refl
+whole-change at name symbol_type (Some old) (Some from) given = by (same_given old given)
+  where
+    front : List ℕ
+    front = location_text at ++ codes ": warning K15: " ++ name ++ codes " was " ++ value_text symbol_type old ++ codes " (" ++ location_text from ++ codes ") and is now " ++ value_text symbol_type given
+
+    by : (b : Bool) → is_whole_lines (if b then [] else change_line at name symbol_type old from given) ≡ true
+    by true = refl
+    by false = is_whole_lines-line front
+
+whole-effect : (tree : TreeFacts) (input : UserInput) (at : StreamLocation) (e : Effect) → is_whole_lines (effect_text tree input at e) ≡ true
+whole-effect tree input at e =
+    is_whole_lines-append (warning_line_if at.stream at.number (effect_warning tree input.places e)) (effect_change tree input at e)
+    (whole-warning_if at.stream at.number (effect_warning tree input.places e)) (changed e)
+  where
+    changed : (e : Effect) → is_whole_lines (effect_change tree input at e) ≡ true
+    changed Silent = refl
+    changed (Warns line_warning) = refl
+    changed (Assigns s given) = whole-change at (name_of tree s) (type_of tree s) (place_at input.places (SymbolPlace s.0)) (slice_index_or input.lines s.0 None) given
+
+module _ (tree : TreeFacts) (prefix : List ℕ) where
+  -- what a line warns of
+  pub whole-warning : (input : UserInput) (l : Line) → is_whole_lines (warning tree prefix input l) ≡ true
+  unfolding warning
+  whole-warning input l = whole-effect tree input (stream_location l) (effect tree prefix l)
+
+  -- what lines warn of
+  pub whole-warnings : (lines : List Line) (input : UserInput) → is_whole_lines (warnings tree prefix input lines) ≡ true
+  whole-warnings [] input = rw (warnings-nothing tree prefix input) refl
+  whole-warnings (l ∷ lines) input =
+      let after = input_after tree prefix input (l ∷ []) in
+      rw (warnings-cons tree prefix input l lines)
+      (is_whole_lines-append (warning tree prefix input l) (warnings tree prefix after lines) (whole-warning input l) (whole-warnings lines after))
+
+  -- what a reading warns of
+  pub whole-reading : (lines : List Line) (input : UserInput) → is_whole_lines (reading tree prefix input lines).warned ≡ true
+  unfolding reading
+  whole-reading lines input = whole-warnings (before_too_long lines) input
+
+module _ (tree : TreeFacts) (prefix name : List ℕ) where
+  -- what the lines of a piece warn of: a line that is too long, behind the piece, warns of nothing
+  whole-long : (n : ℕ) → 65535 < n → (piece : List ℕ) (old new : StreamPosition) (before after : UserInput) (warned : List ℕ) → HasNoLf new.pending →
+      ReadsPiece tree prefix name piece old new before after warned → is_whole_lines warned ≡ true
+  whole-long n far piece old new before after warned none goes =
+      let (stop, ends) = reading-long_end tree prefix name new after n far none in
+      let lines = lines_from name old.number (old.pending ++ (piece ++ replicate n 120)) ++ [] in
+      let is : (reading tree prefix before lines).warned ≡ warned =
+      ap (λ (r : ReadResult). r.warned) (goes (replicate n 120) [] ∙ ap (with_warnings warned) ends) ∙ append-nil warned in
+      subst (λ text. is_whole_lines text ≡ true) is (whole-reading tree prefix lines before)
+
+  pub whole-piece : (piece : List ℕ) (old new : StreamPosition) (before after : UserInput) (warned : List ℕ) → new ≡ fed piece old →
+      ReadsPiece tree prefix name piece old new before after warned → is_whole_lines warned ≡ true
+  whole-piece piece old new before after warned stands goes =
+      whole-long 65536 (omega arith) piece old new before after warned
+      (subst HasNoLf (sym (ap (λ (s : StreamPosition). s.pending) stands)) (waiting_no_lf (old.pending ++ piece))) goes
+
+  -- what the last line warns of
+  pub whole-end : (position : StreamPosition) (before after : UserInput) (warned : List ℕ) → EndsStream tree prefix name position before after warned → is_whole_lines warned ≡ true
+  whole-end position before after warned ends =
+      let lines = lines_from name position.number position.pending ++ [] in
+      let is : (reading tree prefix before lines).warned ≡ warned =
+      ap (λ (r : ReadResult). r.warned) (ends [] ∙ ap (with_warnings warned) (reading-nothing tree prefix after)) ∙ append-nil warned in
+      subst (λ text. is_whole_lines text ≡ true) is (whole-reading tree prefix lines before)
+
+  pub Feeds-lines : (piece : List ℕ) (old new : StreamPosition) (before after : UserInput) (told told_after : List ℕ) → new ≡ fed piece old →
+      Feeds tree prefix name piece old new before after told told_after → AddsWholeLines told told_after
+  Feeds-lines piece old new before after told told_after stands (warned, tells, goes) =
+      (warned, tells, whole-piece piece old new before after warned stands goes)
+
+  pub Refuses-lines : (fault : InputFault) (piece : List ℕ) (old new : StreamPosition) (before after : UserInput) (told told_after : List ℕ) →
+      Refuses tree prefix name fault piece old new before after told told_after → AddsWholeLines told told_after
+  Refuses-lines fault piece old new before after told told_after refuses =
+      (refuses.warned, refuses.tells, whole-piece refuses.done old new before after refuses.warned refuses.stands refuses.goes)
+
+  pub FinishesStream-lines : (position : StreamPosition) (before after : UserInput) (told told_after : List ℕ) →
+      FinishesStream tree prefix name position before after told told_after → AddsWholeLines told told_after
+  FinishesStream-lines position before after told told_after (warned, tells, ends) =
+      (warned, tells, whole-end position before after warned ends)

@@ -1,0 +1,10 @@
+use Rattle.std.proofs.Common.{◌∙◌, ◌++◌, ap}
+use Rattle.kc_config_file.specs.Texts.{config_text, entries_text}
+use Rattle.kc_config_file.specs.SolvedView.{solution_view}
+use Rattle.kc_config_file.proofs.config.config_text.Goals as goal
+
+pub returns : goal.returns
+unfolding config_text
+returns c =
+    let lines = entries_text c.args.tree.now c.args.prefix.now (solution_view c.args.solved.now) c.args.tree.now.entries in
+    c.in_ok-add_entries.ensures ∙ ap (λ t. t ++ lines) (rw (c.in_ok-file.ensures, c.main_menu.ensures) at c.in_ok-add_heading.ensures)

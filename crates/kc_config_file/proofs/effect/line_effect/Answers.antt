@@ -1,0 +1,14 @@
+use Rattle.std.proofs.Common.{subst, sym}
+use Rattle.std.proofs.lemmas.Result.{IfOk-weaker}
+use Rattle.kc_config_file.specs.Effects.{symbol_named}
+use Rattle.kc_config_file.specs.EffectView.{AssignsDefined}
+use Rattle.kc_config_file.proofs.StepLemmas.{set_defined}
+use Rattle.kc_config_file.proofs.effect.line_effect.Goals as goal
+
+pub returns-in-Set-clause-defined : goal.returns-in-Set-clause-defined
+returns-in-Set-clause-defined c =
+    let tree = c.args.tree.now in
+    let name = c.in-Set.name.now in
+    IfOk-weaker c.set_effect.result _ _
+    (λ effect is. subst (AssignsDefined tree) (sym is) (set_defined tree name c.in-Set.text.now (symbol_named tree name)))
+    c.set_effect.ensures

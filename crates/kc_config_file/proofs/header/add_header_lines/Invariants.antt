@@ -1,0 +1,11 @@
+use Rattle.std.proofs.Common.{◌≡◌, ◌++◌, drop}
+use Rattle.std.specs.Prelude.{flat_map}
+use Rattle.kc_config_file.specs.Texts.{header_if}
+use Rattle.kc_config_file.specs.SolvedView.{solution_view}
+use Rattle.kc_config_file.proofs.header.add_header_lines.Given as goal
+
+-- the lines of the symbols behind are still to come
+abbrev pub invariant-loop-i : goal.invariant-loop-i
+invariant-loop-i l =
+    let line = header_if l.tree l.prefix (solution_view l.solved) in
+    l.file.items ++ flat_map line (drop l.i l.tree.defined) ≡ l.fn.file.items ++ flat_map line l.tree.defined

@@ -1,0 +1,11 @@
+use Rattle.std.proofs.Common.{◌≡◌, ◌++◌, drop}
+use Rattle.std.specs.Prelude.{flat_map}
+use Rattle.kc_config_file.specs.Texts.{minimal_if, minimal_text}
+use Rattle.kc_config_file.specs.SolvedView.{solution_view}
+use Rattle.kc_config_file.proofs.header.minimal_text.Given as goal
+
+-- the lines of the symbols behind are still to come
+abbrev pub invariant-loop-i : goal.invariant-loop-i
+invariant-loop-i l =
+    let told = solution_view l.solved in
+    l.file.items ++ flat_map (minimal_if l.tree l.prefix told) (drop l.i l.tree.defined) ≡ minimal_text l.tree l.prefix told

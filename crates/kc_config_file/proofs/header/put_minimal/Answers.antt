@@ -1,0 +1,15 @@
+use Rattle.std.proofs.Common.{List, ℕ, ◌∙◌, subst}
+use Rattle.kc_config_file.specs.Texts.{minimal_text}
+use Rattle.kc_config_file.specs.Writing.{Writes}
+use Rattle.kc_config_file.specs.SolvedView.{solution_view}
+use Rattle.kc_config_file.proofs.WritingLemmas.{writes_nothing}
+use Rattle.kc_config_file.proofs.header.put_minimal.Goals as goal
+
+pub returns-in_err-text : goal.returns-in_err-text
+returns-in_err-text g c =
+    writes_nothing g.S.Sink (minimal_text c.args.tree.now c.args.prefix.now (solution_view c.args.solved.now)) _ _ c.from_residual.ensures.1 c.in_err-text.ensures.some (g.met.S.Sink.stays c.args.sink.now)
+
+pub returns : goal.returns
+returns g c =
+    let P : List ℕ → Type 0 = λ text. Writes g.S.Sink text c.put_text.result c.args.sink.now c.put_text.new.sink in
+    subst P (c.deref.ensures.value ∙ c.in_ok-text.ensures.text) c.put_text.ensures

@@ -1,0 +1,19 @@
+use Rattle.std.proofs.Common.{◌≡◌, ◌≤◌, ◌-◌, length, take}
+use Rattle.kc_user.specs.Places.{ArePlacesOf}
+use Rattle.kc_config_file.specs.Feeding.{IsWithinLine, Feeds, fed}
+use Rattle.kc_config_file.specs.ReaderView.{position_of}
+use Rattle.kc_config_file.proofs.line_buffer.take_piece.Given as goal
+
+-- the bytes so far were taken
+abbrev pub invariant-loop-at : goal.invariant-loop-at
+invariant-loop-at l = record {
+  within : l.at ≤ length l.piece;
+  taken : Feeds l.stream.tree.now l.stream.prefix.now l.stream.name.now (take l.at l.piece) (position_of l.fn.line_buffer) (position_of l.line_buffer)
+      l.fn.user l.user l.fn.told.items l.told.items;
+  position : position_of l.line_buffer ≡ fed (take l.at l.piece) (position_of l.fn.line_buffer);
+  opened : IsWithinLine (position_of l.line_buffer);
+  fits : ArePlacesOf l.stream.tree.now l.user.places;
+}
+
+abbrev pub decreases-loop-at : goal.decreases-loop-at
+decreases-loop-at l = length l.piece - l.at

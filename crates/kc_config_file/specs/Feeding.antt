@@ -1,0 +1,102 @@
+-- Trusted: What a reader does with the bytes that it is fed, whatever follows them.
+use Rattle.std.specs.Prelude.{◌≡◌, ℕ, ◌+◌, ◌<◌, ◌≤◌, ◌++◌, List, [], ◌∷◌, length, min, count_by, Some, false, if◌then◌else◌, ◌==◌}
+use Rattle.std.specs.List.{after_last}
+use Rattle.kc_text.specs.Limits.{last_count, one_more}
+use Rattle.kc_text.specs.Lines.{HoldsNoLineFeed, is_line_feed}
+use Rattle.kc_tree.specs.TreeFacts.{TreeFacts}
+use Rattle.kc_config_file.specs.declared.fault.InputFault.{InputFault}
+use Rattle.kc_config_file.specs.declared.fault.InputFault.TheVariants.{InputLineTooLong, Memory}
+use Rattle.kc_config_file.specs.Limits.{longest_input_line}
+use Rattle.kc_config_file.specs.Reading.{Line, UserInput, lines_from, reading, with_warnings}
+
+-- where a reader stands in its stream: the number of the line not yet ended, and its bytes so far
+pub record StreamPosition : Type 0 where
+  pub number : ℕ
+  pub pending : List ℕ
+
+-- the beginning of a stream
+abbrev pub stream_start : StreamPosition
+stream_start = record { number = 1; pending = [] }
+
+-- the pending bytes are those of one line that is not too long
+pub record IsWithinLine (position : StreamPosition) : Type 0 where
+  pub numbered : position.number ≤ last_count
+  pub within : length position.pending ≤ longest_input_line
+  pub one_line : HoldsNoLineFeed position.pending
+
+-- the line's number after these bytes: one more for each LF
+abbrev pub number_after : ℕ → List ℕ → ℕ
+number_after n bytes = min (n + count_by is_line_feed bytes) last_count
+
+-- where the reader stands after a piece: the bytes after its last LF are pending, or all where it has none
+abbrev pub fed : List ℕ → StreamPosition → StreamPosition
+fed piece position = record { number = number_after position.number piece; pending = after_last is_line_feed (position.pending ++ piece) }
+
+-- from wherever a reader came to a position, these bytes bring it on to the next
+abbrev pub GoesOnBy : List ℕ → StreamPosition → StreamPosition → Type 0
+GoesOnBy bytes old new = (before : List ℕ) (first : StreamPosition) → old ≡ fed before first → new ≡ fed (before ++ bytes) first
+
+-- where it stands once the last line is ended
+abbrev pub ended : StreamPosition → StreamPosition
+ended position = record { number = if length position.pending == 0 then position.number else one_more position.number; pending = [] }
+
+-- another byte than an LF comes next
+abbrev pub GoesOn : List ℕ → Type 0
+GoesOn bytes = (b : ℕ) × (rest : List ℕ) × (bytes ≡ b ∷ rest) × (is_line_feed b ≡ false)
+
+-- the lines of a stream that are still to come: those of the pending bytes and the rest, and more of other streams
+abbrev pub to_come : List ℕ → StreamPosition → List ℕ → List Line → List Line
+to_come name position rest more = lines_from name position.number (position.pending ++ rest) ++ more
+
+-- For a tree, a prefix and the name of the stream.
+module _ (tree : TreeFacts) (prefix name : List ℕ) where
+  -- Whatever follows: reading the piece and it from the old position and input is these warnings, and then reading it
+  -- from the new position and input.
+  abbrev pub ReadsPiece : List ℕ → StreamPosition → StreamPosition → UserInput → UserInput → List ℕ → Type 0
+  ReadsPiece piece old new before after warned =
+      (rest : List ℕ) (more : List Line) →
+      reading tree prefix before (to_come name old (piece ++ rest) more) ≡ with_warnings warned (reading tree prefix after (to_come name new rest more))
+
+  -- the piece was read, and its warnings were told
+  abbrev pub Feeds : List ℕ → StreamPosition → StreamPosition → UserInput → UserInput → List ℕ → List ℕ → Type 0
+  Feeds piece old new before after told told_after =
+      (warned : List ℕ) × (told_after ≡ told ++ warned) × ReadsPiece piece old new before after warned
+
+  -- Whatever follows: the line at this position is too long.
+  abbrev pub MeetsLongLine : List ℕ → StreamPosition → UserInput → Type 0
+  MeetsLongLine left position input =
+      (rest : List ℕ) (more : List Line) →
+      reading tree prefix input (to_come name position (left ++ rest) more)
+      ≡ record { input = input; warned = []; stopped = Some (record { stream = name; number = position.number }) }
+
+  -- Why a reader stops before what is left. Memory it wants only where something is left.
+  abbrev pub StopsBecause : InputFault → List ℕ → StreamPosition → UserInput → Type 0
+  StopsBecause (InputLineTooLong n) left position input =
+      (n ≡ position.number) × (length position.pending ≡ longest_input_line) × GoesOn left × MeetsLongLine left position input
+  StopsBecause Memory left position input = 0 < length left
+
+  -- The lines before the refused one are read, and their warnings told, and no more; there the reader stands.
+  pub record Refuses (fault : InputFault) (piece : List ℕ) (old new : StreamPosition) (before after : UserInput) (told told_after : List ℕ) : Type 0 where
+    pub done : List ℕ
+    pub left : List ℕ
+    pub warned : List ℕ
+    pub split : piece ≡ done ++ left
+    pub stands : new ≡ fed done old
+    pub goes : ReadsPiece done old new before after warned
+    pub tells : told_after ≡ told ++ warned
+    pub because : StopsBecause fault left new after
+
+  -- Whatever lines follow: the last line is ended, with its warning.
+  abbrev pub EndsStream : StreamPosition → UserInput → UserInput → List ℕ → Type 0
+  EndsStream old before after warned =
+      (more : List Line) →
+      reading tree prefix before (lines_from name old.number old.pending ++ more) ≡ with_warnings warned (reading tree prefix after more)
+
+  abbrev pub FinishesStream : StreamPosition → UserInput → UserInput → List ℕ → List ℕ → Type 0
+  FinishesStream old before after told told_after =
+      (warned : List ℕ) × (told_after ≡ told ++ warned) × EndsStream old before after warned
+
+-- The last line could not be ended, and nothing of its warning was told: there was no memory, and bytes are pending.
+abbrev pub FailsToEnd : InputFault → StreamPosition → List ℕ → List ℕ → Type 0
+FailsToEnd (InputLineTooLong n) position told told_after = ⊥
+FailsToEnd Memory position told told_after = (told_after ≡ told) × (0 < length position.pending)

@@ -1,0 +1,9 @@
+-- For proofs: What is known of a symbol by its value.
+use Rattle.kc_expr.specs.Value.{SymbolValue}
+use Rattle.kc_expr.specs.Value as known
+use Rattle.kc_config_file.specs.declared.symbol_line.WrittenValue.{WrittenValue}
+use Rattle.kc_config_file.specs.declared.symbol_line.WrittenValue.TheVariants.{Truth, TextValue}
+
+abbrev pub value_view : WrittenValue → SymbolValue
+value_view (Truth tri) = known.Truth tri
+value_view (TextValue symbol_type text) = known.TextValue symbol_type text.now

@@ -1,0 +1,28 @@
+-- Trusted: What a reader of .config text stands for.
+use Rattle.std.specs.Prelude.{ℕ, List, Option, refl}
+use Rattle.std.specs.Coded.{Coded, code_by, coded×, coded_ℕ, coded_option}
+use Rattle.kc_expr.specs.FormCode.{bytes_code}
+use Rattle.kc_tree.specs.TreeFacts.{TreeFacts}
+use Rattle.kc_tree.specs.TreeCode.{tree_code}
+use Rattle.kc_config_file.specs.declared.fault.InputFault.{InputFault}
+use Rattle.kc_config_file.specs.contracts.fault.InputFault as input_fault
+use Rattle.kc_config_file.specs.Feeding.{StreamPosition}
+
+-- the tree and prefix that it reads for, its stream's name, where it stands in it, and the refusal that it keeps
+pub record ReaderState : Type 0 where
+  pub tree : TreeFacts
+  pub prefix : List ℕ
+  pub name : List ℕ
+  pub position : StreamPosition
+  pub refusal : Option InputFault
+
+abbrev pub position_code : Coded StreamPosition
+position_code = code_by (ℕ × List ℕ) (coded× coded_ℕ bytes_code) (λ s. (s.number, s.pending)) (λ p. record { number = p.0; pending = p.1 }) (λ _. refl)
+
+abbrev pub reader_code : Coded ReaderState
+reader_code =
+    code_by (TreeFacts × ((List ℕ × List ℕ) × (StreamPosition × Option InputFault)))
+    (coded× tree_code (coded× (coded× bytes_code bytes_code) (coded× position_code (coded_option input_fault.the_row.coded))))
+    (λ r. (r.tree, ((r.prefix, r.name), (r.position, r.refusal))))
+    (λ p. record { tree = p.0; prefix = p.1.0.0; name = p.1.0.1; position = p.1.1.0; refusal = p.1.1.1 })
+    (λ _. refl)

@@ -1,0 +1,6 @@
+-- Trusted: What the fields of a reader say.
+use Rattle.kc_config_file.specs.Feeding.{StreamPosition}
+use Rattle.kc_config_file.specs.declared.line_buffer.LineBuffer.{LineBuffer}
+
+abbrev pub position_of : LineBuffer → StreamPosition
+position_of line_buffer = record { number = line_buffer.number; pending = line_buffer.pending.items }

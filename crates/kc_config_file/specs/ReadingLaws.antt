@@ -1,0 +1,78 @@
+-- Trusted: What holds of reading lines, for every tree, every prefix and every input before them.
+use Rattle.std.specs.Prelude.{◌≡◌, ℕ, ◌++◌, List, [], ◌∷◌, length, true, false, Some, None, slice_set}
+use Rattle.std.specs.List.{after_last}
+use Rattle.kc_expr.specs.declared.expression.SymId.{SymId}
+use Rattle.kc_text.specs.Limits.{one_more}
+use Rattle.kc_text.specs.Lines.{HoldsNoLineFeed, is_line_feed}
+use Rattle.kc_tree.specs.TreeFacts.{TreeFacts}
+use Rattle.kc_user.specs.GivenValue.{GivenValue}
+use Rattle.kc_user.specs.Places.{ArePlacesOf, Places}
+use Rattle.kc_config_file.specs.Effects.{Silent, Warns, Assigns, LineWarning}
+use Rattle.kc_config_file.specs.Reading.{Line, UserInput, effect, input_after, is_within, last_line, line, lines_from, places_after, reading, stream_location, untaken, untaken_line, warning, warnings, with_warnings}
+
+-- The lines of a stream's bytes: a line feed ends a line, and the next line follows; bytes without one are the last line,
+-- where there are any; and behind the last line feed none is left.
+pub record LinesAreCut : Type 0 where
+  pub ended :
+      (stream : List ℕ) (n : ℕ) (bytes rest : List ℕ) (b : ℕ) → HoldsNoLineFeed bytes → is_line_feed b ≡ true →
+      lines_from stream n (bytes ++ b ∷ rest) ≡ line stream n bytes true ∷ lines_from stream (one_more n) rest
+  pub last : (stream : List ℕ) (n : ℕ) (bytes : List ℕ) → HoldsNoLineFeed bytes → lines_from stream n bytes ≡ last_line stream n bytes
+  pub waiting : (bytes : List ℕ) → HoldsNoLineFeed (after_last is_line_feed bytes)
+
+-- For a tree and a prefix.
+module _ (tree : TreeFacts) (prefix : List ℕ) where
+  -- Reading goes line by line: a line that is not too long is read, and then the others from the input that it leaves; one
+  -- that is too long stops it, with nothing read of it.
+  pub record GoesLineByLine : Type 0 where
+    pub nothing : (input : UserInput) → reading tree prefix input [] ≡ record { input = input; warned = []; stopped = None }
+    pub short :
+        (input : UserInput) (l : Line) (lines : List Line) → is_within l ≡ true →
+        reading tree prefix input (l ∷ lines) ≡ with_warnings (warning tree prefix input l) (reading tree prefix (input_after tree prefix input (l ∷ [])) lines)
+    pub too_long :
+        (input : UserInput) (l : Line) (lines : List Line) → is_within l ≡ false →
+        reading tree prefix input (l ∷ lines) ≡ record { input = input; warned = []; stopped = Some (stream_location l) }
+
+  -- Lines add up: what some lines leave, warn of and do not take as written is that of the first of them, and then that of
+  -- the others from the input that the first leave.
+  pub record LinesAddUp : Type 0 where
+    pub none_leave : (input : UserInput) → input_after tree prefix input [] ≡ input
+    pub leave : (input : UserInput) (a b : List Line) → input_after tree prefix input (a ++ b) ≡ input_after tree prefix (input_after tree prefix input a) b
+    pub one_warns : (input : UserInput) (l : Line) → warnings tree prefix input (l ∷ []) ≡ warning tree prefix input l
+    pub warn :
+        (input : UserInput) (a b : List Line) →
+        warnings tree prefix input (a ++ b) ≡ warnings tree prefix input a ++ warnings tree prefix (input_after tree prefix input a) b
+    pub one_untaken : (places : Places) (l : Line) → untaken tree prefix places (l ∷ []) ≡ untaken_line tree prefix places l
+    pub are_untaken :
+        (places : Places) (a b : List Line) →
+        untaken tree prefix places (a ++ b) ≡ untaken tree prefix places a ++ untaken tree prefix (places_after tree prefix places a) b
+
+  -- A line does what it says: one that is silent or is warned of gives no symbol a value; one that gives a symbol a value
+  -- puts it in the symbol's place, and itself as the line that gave it.
+  pub record LinesDoWhatTheySay : Type 0 where
+    pub silent : (input : UserInput) (l : Line) → effect tree prefix l ≡ Silent → input_after tree prefix input (l ∷ []) ≡ input
+    pub warned :
+        (input : UserInput) (l : Line) (line_warning : LineWarning) → effect tree prefix l ≡ Warns line_warning →
+        input_after tree prefix input (l ∷ []) ≡ record input { all_taken = false }
+    pub value :
+        (input : UserInput) (l : Line) (s : SymId) (given : GivenValue) → effect tree prefix l ≡ Assigns s given →
+        (input_after tree prefix input (l ∷ [])).places.symbols ≡ slice_set input.places.symbols s.0 (Some given)
+    pub by_line :
+        (input : UserInput) (l : Line) (s : SymId) (given : GivenValue) → effect tree prefix l ≡ Assigns s given →
+        (input_after tree prefix input (l ∷ [])).lines ≡ slice_set input.lines s.0 (Some (stream_location l))
+
+  -- Lines make no place, and take none away.
+  pub record LinesKeepCounts : Type 0 where
+    pub places : (input : UserInput) (lines : List Line) → ArePlacesOf tree input.places → ArePlacesOf tree (input_after tree prefix input lines).places
+    pub lines : (input : UserInput) (lines : List Line) → length (input_after tree prefix input lines).lines ≡ length input.lines
+
+abbrev pub ReadingGoesLineByLine : Type 0
+ReadingGoesLineByLine = (tree : TreeFacts) (prefix : List ℕ) → GoesLineByLine tree prefix
+
+-- What lines give, one after another.
+pub record LinesInTurn (tree : TreeFacts) (prefix : List ℕ) : Type 0 where
+  pub add_up : LinesAddUp tree prefix
+  pub says : LinesDoWhatTheySay tree prefix
+  pub counts : LinesKeepCounts tree prefix
+
+abbrev pub LinesGiveInTurn : Type 0
+LinesGiveInTurn = (tree : TreeFacts) (prefix : List ℕ) → LinesInTurn tree prefix

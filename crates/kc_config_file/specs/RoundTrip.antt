@@ -1,0 +1,54 @@
+-- Trusted: A written line, read again.
+use Rattle.std.specs.Prelude.{◌≡◌, ℕ, ◌+◌, ◌<◌, ◌≤◌, ◌++◌, List, [], ◌∷◌, length, true, All, Some, codes}
+use Rattle.kc_text.specs.Bytes.{byte}
+use Rattle.kc_text.specs.Escapes.{escape}
+use Rattle.kc_user.specs.GivenValue.{GivenText}
+use Rattle.kc_user.specs.Limits.{longest_value}
+use Rattle.kc_expr.specs.Limits.{longest_name}
+use Rattle.kc_expr.specs.Names.{is_name_byte}
+use Rattle.kc_expr.specs.Value.{SymbolValue, Truth, TextValue}
+use Rattle.kc_expr.specs.declared.expression.SymbolType.TheVariants as symbol_type
+use Rattle.kc_config_file.specs.SymbolLines.{config_file_line}
+use Rattle.kc_config_file.specs.ConfigFileLine.{Set, Unset, ended_meaning}
+use Rattle.kc_config_file.specs.LineValue.{line_value}
+use Rattle.kc_config_file.specs.Limits.{longest_prefix}
+use Rattle.kc_config_file.specs.Plain.{EndsPlainly}
+use Rattle.kc_config_file.specs.Prefixes.{is_prefix}
+
+-- one byte or more, each of which may stand in a name
+pub record IsName (name : List ℕ) : Type 0 where
+  pub some : 0 < length name
+  pub bytes : All (λ b. is_name_byte b ≡ true) name
+
+-- `# CONFIG_NAME is not set` unsets NAME, whatever the prefix
+abbrev pub UnsetLineReadAgain : Type 0
+UnsetLineReadAgain =
+    (prefix name : List ℕ) → IsName name → ended_meaning prefix ((codes "# " ++ (prefix ++ name)) ++ codes " is not set") ≡ Unset name
+
+-- `CONFIG_NAME=value` sets NAME to the value, whatever the prefix, where the value ends in no blank and no carriage return
+abbrev pub SetLineReadAgain : Type 0
+SetLineReadAgain =
+    (prefix name value : List ℕ) → is_prefix prefix ≡ true → IsName name → EndsPlainly value →
+    ended_meaning prefix ((prefix ++ name) ++ byte "=" ∷ value) ≡ Set name value
+
+-- a string's text, quoted and escaped, is read as that text
+abbrev pub StringReadAgain : Type 0
+StringReadAgain =
+    (text : List ℕ) → length (escape text) + 2 ≤ longest_value →
+    line_value symbol_type.Str (byte "\"" ∷ escape text ++ byte "\"" ∷ []) ≡ Some (GivenText text)
+
+-- the text that a line shows is no longer than a value may be
+abbrev pub IsShortText : SymbolValue → Type 0
+IsShortText (Truth t) = Unit {0}
+IsShortText (TextValue symbol_type.Undefined text) = Unit {0}
+IsShortText (TextValue symbol_type.Bool text) = Unit {0}
+IsShortText (TextValue symbol_type.Tristate text) = Unit {0}
+IsShortText (TextValue symbol_type.Str text) = length (escape text) ≤ longest_value
+IsShortText (TextValue symbol_type.Int text) = length text ≤ longest_value
+IsShortText (TextValue symbol_type.Hex text) = length text ≤ longest_value
+
+-- a line that is written is no longer than a prefix, a name and a value, with `=`, two quotes and the LF
+abbrev pub WrittenLinesAreShort : Type 0
+WrittenLinesAreShort =
+    (prefix name : List ℕ) (known : SymbolValue) → length prefix ≤ longest_prefix → length name ≤ longest_name → IsShortText known →
+    length (config_file_line (prefix ++ name) known) ≤ longest_prefix + longest_name + longest_value + 4

@@ -1,0 +1,52 @@
+-- Trusted: Streams that are handed to a reader in pieces of any size.
+use Rattle.std.specs.Prelude.{◌≡◌, ℕ, List, [], ◌∷◌, ◌++◌, map, Bool, None}
+use Rattle.std.specs.List.{concat}
+use Rattle.kc_user.specs.Places.{ArePlaces}
+use Rattle.kc_tree.specs.TreeFacts.{TreeFacts, IsWellFormed}
+use Rattle.kc_config_file.specs.Calls.{Call, Feed, Finish, NextStream, AllAnswered}
+use Rattle.kc_config_file.specs.declared.fault.InputFault.{InputFault}
+use Rattle.kc_config_file.specs.Feeding.{StreamPosition, Refuses, stream_start}
+use Rattle.kc_config_file.specs.ReaderState.{ReaderState}
+use Rattle.kc_config_file.specs.Reading.{Stream, UserInput, no_input, reading_of}
+
+-- a stream's name, and its bytes as they are handed in
+pub record Pieces : Type 0 where
+  pub name : List ℕ
+  pub pieces : List (List ℕ)
+
+abbrev pub stream_of : Pieces → Stream
+stream_of s = record { name = s.name; bytes = concat s.pieces }
+
+abbrev pub feeds : List (List ℕ) → List Call
+feeds pieces = map Feed pieces
+
+-- the calls that hand in the streams after the first, and end the last
+abbrev pub calls_after : List Pieces → List Call
+calls_after [] = Finish ∷ []
+calls_after (s ∷ streams) = NextStream s.name ∷ (feeds s.pieces ++ calls_after streams)
+
+-- The calls of a new reader that hand in all streams give what reading them at once gives.
+abbrev pub StreamsAreRead : Type 0
+StreamsAreRead =
+    (first : Pieces) (streams : List Pieces) (old new : ReaderState) (before after : UserInput) (warned : List ℕ) →
+    old.name ≡ first.name → old.position ≡ stream_start → AllAnswered (feeds first.pieces ++ calls_after streams) old new before after warned →
+    reading_of old.tree old.prefix before (map stream_of (first ∷ streams)) ≡ record { input = after; warned = warned; stopped = None }
+
+-- Places that hold what is allowed still do after any calls.
+abbrev pub ReadingKeepsPlaces : Type 0
+ReadingKeepsPlaces =
+    (calls : List Call) (old new : ReaderState) (before after : UserInput) (warned : List ℕ) → IsWellFormed old.tree →
+    AllAnswered calls old new before after warned → ArePlaces old.tree before.places → ArePlaces old.tree after.places
+
+-- What reading any streams leaves, from empty places, holds what is allowed.
+abbrev pub StreamsLeavePlaces : Type 0
+StreamsLeavePlaces =
+    (tree : TreeFacts) (prefix : List ℕ) (keeps_lines : Bool) (streams : List Stream) → IsWellFormed tree →
+    ArePlaces tree (reading_of tree prefix (no_input keeps_lines tree) streams).input.places
+
+-- Places that hold what is allowed still do after a call that was refused.
+abbrev pub RefusalsKeepPlaces : Type 0
+RefusalsKeepPlaces =
+    (tree : TreeFacts) (prefix name : List ℕ) (fault : InputFault) (piece : List ℕ) (old new : StreamPosition) (before after : UserInput) (told told_after : List ℕ) →
+    IsWellFormed tree → Refuses tree prefix name fault piece old new before after told told_after →
+    ArePlaces tree before.places → ArePlaces tree after.places

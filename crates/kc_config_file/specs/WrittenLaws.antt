@@ -1,0 +1,64 @@
+-- Trusted: What holds of reading, and of the texts that are written, for every tree, every prefix and every solution.
+use Rattle.std.specs.Prelude.{◌≡◌, ℕ, List, Option, true}
+use Rattle.kc_text.specs.Lines.{HoldsNoLineFeed}
+use Rattle.kc_expr.specs.declared.expression.SymId.{SymId}
+use Rattle.kc_expr.specs.Value.{SymbolValue}
+use Rattle.kc_order.specs.Solution.{Solves}
+use Rattle.kc_tree.specs.TreeFacts.{TreeFacts, IsWellFormed}
+use Rattle.kc_user.specs.GivenValue.{GivenValue, UserPlace}
+use Rattle.kc_user.specs.Places.{ArePlaces, Places, allowed, place_at}
+use Rattle.kc_values.specs.Needs.{IsAccepted}
+use Rattle.kc_values.specs.Solution.{equations, name_count}
+use Rattle.kc_config_file.specs.ConfigFileLine.{meaning_of}
+use Rattle.kc_config_file.specs.Effects.{Assigns, effect_of}
+use Rattle.kc_config_file.specs.Laws.{ConfigGivesBack, HasShortLines, MinimalGivesBack, MinimalNeedsEach}
+use Rattle.kc_config_file.specs.Prefixes.{is_prefix}
+use Rattle.kc_config_file.specs.Reading.{Line, effect, is_within}
+use Rattle.kc_config_file.specs.Reread.{valuation_view}
+use Rattle.kc_config_file.specs.Texts.{config_text, minimal_text}
+
+-- What a line assigns to a symbol is allowed for it.
+abbrev pub AssignedAreAllowed : Type 0
+AssignedAreAllowed =
+    (tree : TreeFacts) (prefix bytes : List ℕ) (s : SymId) (given : GivenValue) → HoldsNoLineFeed bytes →
+    effect_of tree (meaning_of prefix bytes) ≡ Assigns s given → allowed tree s given ≡ true
+
+-- Every value that is allowed for a symbol is assigned by some line, which is not too long.
+abbrev pub AllowedAreAssigned : Type 0
+AllowedAreAssigned =
+    (tree : TreeFacts) (prefix : List ℕ) (s : SymId) (given : GivenValue) → IsWellFormed tree → is_prefix prefix ≡ true → allowed tree s given ≡ true →
+    (l : Line) × (l.ended ≡ true) × HoldsNoLineFeed l.bytes × (is_within l ≡ true) × (effect tree prefix l ≡ Assigns s given)
+
+-- the values of an accepted tree solve its equations under places that hold what is allowed
+pub record IsSolutionOf (tree : TreeFacts) (places : Places) (V : ℕ → SymbolValue) : Type 0 where
+  pub formed : IsWellFormed tree
+  pub accepted : IsAccepted tree
+  pub held : ArePlaces tree places
+  pub solves : Solves (name_count tree) (equations tree (place_at places)) V
+
+-- No line of the .config or of the minimal file is too long to be read again, whatever the numbers and titles.
+abbrev pub WrittenTextsAreShort : Type 0
+WrittenTextsAreShort =
+    (tree : TreeFacts) (prefix : List ℕ) (places : Places) (V : ℕ → SymbolValue) → is_prefix prefix ≡ true → IsSolutionOf tree places V →
+    HasShortLines (config_text tree prefix (valuation_view tree (place_at places) V)) × HasShortLines (minimal_text tree prefix (valuation_view tree (place_at places) V))
+
+abbrev pub MinimalRestores : Type 0
+MinimalRestores =
+    (tree : TreeFacts) (prefix : List ℕ) (places : Places) (V : ℕ → SymbolValue) → is_prefix prefix ≡ true →
+    IsSolutionOf tree places V → MinimalGivesBack tree prefix places V
+
+abbrev pub MinimalHasNothingToSpare : Type 0
+MinimalHasNothingToSpare =
+    (tree : TreeFacts) (prefix : List ℕ) (places : Places) (V : ℕ → SymbolValue) → is_prefix prefix ≡ true →
+    IsSolutionOf tree places V → MinimalNeedsEach tree prefix places V
+
+abbrev pub ConfigIsIdempotent : Type 0
+ConfigIsIdempotent =
+    (tree : TreeFacts) (prefix : List ℕ) (places : Places) (V : ℕ → SymbolValue) → is_prefix prefix ≡ true →
+    IsSolutionOf tree places V → ConfigGivesBack tree prefix places V
+
+-- The .config is that of the values alone: under any other places, the same values have the same text.
+abbrev pub ConfigIsOfValues : Type 0
+ConfigIsOfValues =
+    (tree : TreeFacts) (prefix : List ℕ) (user other : UserPlace → Option GivenValue) (V : ℕ → SymbolValue) →
+    config_text tree prefix (valuation_view tree user V) ≡ config_text tree prefix (valuation_view tree other V)

@@ -1,0 +1,273 @@
+//! The writer of the `.config`.
+ghost use Rattle.std.specs.Prelude.{◌≡◌, ◌++◌, ◌<◌, length, slice_get, Some, is_some, true, false, OnOk, IfOk, if◌then◌else◌};
+ghost use Rattle.std.specs.Option.{option_copied};
+ghost use Rattle.kc_tree.specs.TreeFacts.{SymbolShown};
+ghost use Rattle.kc_tree.specs.Layouts.{IsLayoutOf, shown_of, title_at, title_text};
+ghost use Rattle.kc_config_file.specs.Laws.{ConfigGivesBack, HasShortLines};
+ghost use Rattle.kc_config_file.specs.SolvedView.{solution_view};
+ghost use Rattle.kc_config_file.specs.EntryTexts.{ends_after};
+ghost use Rattle.kc_config_file.specs.Texts.{title_if, end_if, gap, shown_title, entry_text, entries_text, config_heading, config_text};
+ghost use Rattle.kc_config_file.specs.SolutionView.{is_shown};
+ghost use Rattle.kc_config_file.specs.Named.{HasName};
+ghost use Rattle.kc_config_file.specs.Writing.{Writes};
+ghost use Rattle.kc_solve.specs.Solved.{value_of};
+ghost use Rattle.kc_user.specs.Places.{ArePlaces};
+
+use crate::batch::put_text;
+use crate::fault::WriteFault;
+use crate::laws::{config_is_idempotent, written_texts_are_short};
+use crate::prefix::Prefix;
+use crate::sink::Sink;
+use crate::symbol_line::{add_config_file_line, symbol_value};
+use crate::text::{add_parts, new_text};
+use kc_expr::expression::{SymId, Tri};
+use kc_solve::solved::Solved;
+use kc_tree::layout::Layout;
+use kc_tree::rows::{ShownEntry, TitleId};
+use kc_tree::tree::Tree;
+use std::alloc::{AllocError, Global};
+
+// Whether the value is not n.
+fn is_shown(tri: Tri) -> bool
+    ensures { result ≡ is_shown tri }
+{
+    match tri {
+        Tri::N => false,
+        Tri::M | Tri::Y => true,
+    }
+}
+
+// Adds an empty line, the title and the lines around it, where it is shown.
+fn add_title_if(shown: bool, text: &[u8], file: &mut Vec<u8>) -> Result<(), AllocError>
+    ensures { OnOk result (file.new.items ≡ file.old.items ++ title_if shown text.now) }
+{
+    if !shown {
+        return Ok(());
+    }
+    add_parts(&[b"\n#\n# ", text, b"\n#\n"], file)
+}
+
+// Adds the end line of a menu, where its title is shown.
+fn add_end_if(title: Option<&[u8]>, file: &mut Vec<u8>) -> Result<(), AllocError>
+    ensures { OnOk result (file.new.items ≡ file.old.items ++ end_if (option_copied title.entry)) }
+{
+    match title {
+        None => Ok(()),
+        Some(text) => add_parts(&[b"# end of ", text, b"\n"], file),
+    }
+}
+
+// Adds an empty line after an end line.
+fn add_gap(after_end: bool, file: &mut Vec<u8>) -> Result<(), AllocError>
+    ensures { OnOk result (file.new.items ≡ file.old.items ++ gap after_end) }
+{
+    if !after_end {
+        return Ok(());
+    }
+    file.extend_from_slice(b"\n")
+}
+
+// The text of a title.
+fn text_of(layout: &Layout, title: TitleId) -> &[u8]
+    ensures { result.now ≡ title_text (title_at layout.now.tables title) }
+{
+    match layout.title(title) {
+        Some(found) => &found.text,
+        None => b"",
+    }
+}
+
+// The title of the menu of this number among the entries, where it is shown.
+fn shown_title<'a>(tree: &'a Tree, solved: &Solved<'_>, menu: usize) -> Option<&'a [u8]>
+    requires { solved.now.tree ≡ tree.now }
+    ensures { option_copied result ≡ shown_title (solution_view solved.now) (slice_get tree.now.entries menu) }
+{
+    let layout = tree.layout();
+    match layout.entries().get(menu) {
+        Some(ShownEntry::Menu(title)) => {
+            if is_shown(solved.shown(menu)) {
+                return Some(text_of(layout, *title));
+            }
+            None
+        }
+        Some(ShownEntry::Symbol(_) | ShownEntry::End(_) | ShownEntry::Comment(_)) => None,
+        None => None,
+    }
+}
+
+// Adds the symbol's line where it is written, after an empty line where an end line stands before it. Answers whether
+// the last line is an end line now.
+fn add_symbol_if(
+    tree: &Tree,
+    solved: &Solved<'_>,
+    prefix: &Prefix,
+    id: SymId,
+    after_end: bool,
+    file: &mut Vec<u8>,
+) -> Result<bool, AllocError>
+    requires { id.0 < length tree.now.names }
+    ensures text { OnOk result (file.new.items ≡ file.old.items ++ entry_text tree.now prefix.now (solution_view solved.now) after_end (SymbolShown id)) }
+    ensures next { IfOk result (λ next. next ≡ ends_after tree.now (solution_view solved.now) after_end (SymbolShown id)) }
+{
+    if !solved.written(id) {
+        return Ok(after_end);
+    }
+    add_gap(after_end, file)?;
+    add_config_file_line(prefix, tree.name(id), symbol_value(solved, id), file)?;
+    Ok(false)
+}
+
+// Adds the title where it is shown. Answers whether the last line is an end line now.
+fn add_title(
+    shown: bool,
+    text: &[u8],
+    after_end: bool,
+    file: &mut Vec<u8>,
+) -> Result<bool, AllocError>
+    ensures text { OnOk result (file.new.items ≡ file.old.items ++ title_if shown text.now) }
+    ensures next { IfOk result (λ next. next ≡ (if shown then false else after_end)) }
+{
+    add_title_if(shown, text, file)?;
+    Ok(!shown && after_end)
+}
+
+// Adds the end line where there is a title. Answers whether the last line is an end line now.
+fn add_end(title: Option<&[u8]>, after_end: bool, file: &mut Vec<u8>) -> Result<bool, AllocError>
+    ensures text { OnOk result (file.new.items ≡ file.old.items ++ end_if (option_copied title.entry)) }
+    ensures next { IfOk result (λ next. next ≡ (if is_some (option_copied title.entry) then true else after_end)) }
+{
+    add_end_if(title, file)?;
+    Ok(title.is_some() || after_end)
+}
+
+// Adds what an entry gives. Answers whether the last line is an end line now.
+fn add_entry(
+    tree: &Tree,
+    layout: &Layout,
+    solved: &Solved<'_>,
+    prefix: &Prefix,
+    index: usize,
+    entry: &ShownEntry,
+    after_end: bool,
+    file: &mut Vec<u8>,
+) -> Result<bool, AllocError>
+    requires there { slice_get tree.now.entries index ≡ Some (shown_of layout.now.tables entry.now) }
+    requires laid { IsLayoutOf tree.now layout.now }
+    requires name { HasName tree.now (shown_of layout.now.tables entry.now) }
+    requires same { solved.now.tree ≡ tree.now }
+    ensures text { OnOk result (file.new.items ≡ file.old.items ++ entry_text tree.now prefix.now (solution_view solved.now) after_end (shown_of layout.now.tables entry.now)) }
+    ensures next { IfOk result (λ next. next ≡ ends_after tree.now (solution_view solved.now) after_end (shown_of layout.now.tables entry.now)) }
+{
+    match entry {
+        ShownEntry::Symbol(id) => add_symbol_if(tree, solved, prefix, *id, after_end, file),
+        ShownEntry::Menu(title) | ShownEntry::Comment(title) => {
+            let shown = is_shown(solved.shown(index));
+            add_title(shown, text_of(layout, *title), after_end, file)
+        }
+        ShownEntry::End(menu) => add_end(
+            shown_title(tree, solved, *menu as usize),
+            after_end,
+            file,
+        ),
+    }
+}
+
+// Adds what the entries give.
+fn add_entries(
+    tree: &Tree,
+    solved: &Solved<'_>,
+    prefix: &Prefix,
+    file: &mut Vec<u8>,
+) -> Result<(), AllocError>
+    requires { solved.now.tree ≡ tree.now }
+    ensures { OnOk result (file.new.items ≡ file.old.items ++ entries_text tree.now prefix.now (solution_view solved.now) tree.now.entries) }
+{
+    // The entries name symbols of the tree alone: `symbol_count` says so.
+    let _ = tree.symbol_count();
+    let layout = tree.layout();
+    let entries = layout.entries();
+    let mut after_end = false;
+    for (index, entry) in entries.iter().enumerate() {
+        after_end = add_entry(tree, layout, solved, prefix, index, entry, after_end, file)?;
+    }
+    Ok(())
+}
+
+// Adds the heading.
+fn add_heading(title: &[u8], file: &mut Vec<u8>) -> Result<(), AllocError>
+    ensures { OnOk result (file.new.items ≡ file.old.items ++ config_heading title.now) }
+{
+    add_parts(
+        &[
+            b"#\n# Automatically generated file; DO NOT EDIT.\n# ",
+            title,
+            b"\n#\n",
+        ],
+        file,
+    )
+}
+
+/// The full `.config`: the heading, then in the order of the entries the line of each written symbol at its first
+/// definition, the titles of the menus and comments that are shown, and `# end of` lines of these menus; an empty line
+/// stands where a symbol's line directly follows such an end line. (Our own layout, in the manner of the kernel's conf
+/// and of kconfiglib.)
+///
+/// The caller owes the solution of that tree. The only error is to be out of memory.
+pub fn config_text(
+    alloc: Global,
+    tree: &Tree,
+    solved: &Solved<'_>,
+    prefix: &Prefix,
+) -> Result<Vec<u8>, AllocError>
+    requires { solved.now.tree ≡ tree.now }
+    ensures { IfOk result (λ text. text.items ≡ config_text tree.now prefix.now (solution_view solved.now)) }
+{
+    let mut file = new_text(alloc)?;
+    add_heading(tree.main_menu(), &mut file)?;
+    add_entries(tree, solved, prefix, &mut file)?;
+    Ok(file)
+}
+
+// Makes the full `.config`, and hands it out.
+fn put_config<S: Sink>(
+    alloc: Global,
+    tree: &Tree,
+    solved: &Solved<'_>,
+    prefix: &Prefix,
+    sink: &mut S,
+) -> Result<(), WriteFault>
+    requires { solved.now.tree ≡ tree.now }
+    ensures { Writes S.Sink (config_text tree.now prefix.now (solution_view solved.now)) result sink.old sink.new }
+{
+    let text = config_text(alloc, tree, solved, prefix)?;
+    put_text(&text, sink)
+}
+
+/// Hands out the full `.config`, the text that `config_text` makes. The caller owes the solution of that tree. After an
+/// error, also where there was no memory, the sink took a beginning of it, never the whole.
+///
+/// With the places that reading it leaves, from empty places, the one solution is the one that was written exactly where
+/// no visible tristate symbol outside a choice stands above both its visibility and its reverse dependency. This asks
+/// that the user's places hold what is allowed, that no int or hex value that is written ends in a blank or a carriage
+/// return, and that neither the main menu's text nor that of a menu or comment that is shown is written as a line that
+/// reads as an unset line. Where the user's places hold what is allowed, no line is too long to be read again.
+pub fn write_config<S: Sink>(
+    alloc: Global,
+    tree: &Tree,
+    solved: &Solved<'_>,
+    prefix: &Prefix,
+    sink: &mut S,
+) -> Result<(), WriteFault>
+    requires { solved.now.tree ≡ tree.now }
+    ensures written { Writes S.Sink (config_text tree.now prefix.now (solution_view solved.now)) result sink.old sink.new }
+    ensures short { ArePlaces tree.now solved.now.places → HasShortLines (config_text tree.now prefix.now (solution_view solved.now)) }
+    ensures idempotent { ArePlaces tree.now solved.now.places → ConfigGivesBack tree.now prefix.now solved.now.places (value_of solved.now) }
+{
+    config_is_idempotent();
+    written_texts_are_short();
+    solved.is_solution();
+    solved.is_accepted();
+    let _prefix = prefix.as_bytes();
+    let _count = tree.symbol_count();
+    put_config(alloc, tree, solved, prefix, sink)
+}

@@ -1,0 +1,62 @@
+//! Why reading stopped.
+ghost use Rattle.std.specs.Prelude.{◌≡◌};
+ghost use Rattle.kc_config_file.specs.declared.fault.InputFault.TheVariants.{Memory};
+ghost use Rattle.kc_config_file.specs.declared.fault.WriteFault.TheVariants as write;
+
+use crate::sink::Fault;
+use std::alloc::{AllocError, AllocFailed};
+use thiserror::Error;
+
+/// Why a `.config` could not be read on.
+#[derive(Clone, Copy, Debug, PartialEq, Eq, Error)]
+pub enum InputFault {
+    /// The line of this number has more than 65,535 bytes (E17).
+    #[error("line {0} is longer than 65535 bytes")]
+    InputLineTooLong(u64),
+    /// No memory was to be had (E20).
+    #[error("out of memory")]
+    Memory,
+}
+
+impl From<AllocError> for InputFault {
+    ghost from_gives = { λ _ e. e ≡ Memory };
+
+    fn from(_e: AllocError) -> InputFault {
+        InputFault::Memory
+    }
+}
+
+impl<T: Drop> From<AllocFailed<T>> for InputFault {
+    ghost from_gives = { λ _ e. e ≡ Memory };
+
+    fn from(_e: AllocFailed<T>) -> InputFault {
+        InputFault::Memory
+    }
+}
+
+/// Why a text could not be written to its end. The sink took a beginning of it, never the whole.
+#[derive(Clone, Copy, Debug, PartialEq, Eq, Error)]
+pub enum WriteFault {
+    /// The sink failed (E19).
+    #[error("cannot write")]
+    Sink,
+    /// No memory was to be had (E20).
+    #[error("out of memory")]
+    Memory,
+}
+
+impl From<AllocError> for WriteFault {
+    ghost from_gives = { λ _ e. e ≡ write.Memory };
+
+    fn from(_e: AllocError) -> WriteFault {
+        WriteFault::Memory
+    }
+}
+
+impl From<Fault> for WriteFault {
+    ghost from_gives = { λ _ e. e ≡ write.Sink };
+
+    fn from(_e: Fault) -> WriteFault {
+        WriteFault::Sink
+    }
+}

@@ -1,0 +1,225 @@
+//! The line that is not yet ended, and what each byte does to it.
+ghost use Rattle.std.specs.Prelude.{◌≡◌, ◌<◌, ◌≤◌, ◌∷◌, ◌++◌, [], true, false, length, take, OnOk, OnErr, IfOk, IfErr, if◌then◌else◌, slice_index};
+ghost use Rattle.std.specs.Str.Lines.{strip_carriage_return};
+ghost use Rattle.kc_text.specs.Lines.{HoldsNoLineFeed, is_line_feed};
+ghost use Rattle.kc_user.specs.Places.{ArePlacesOf};
+ghost use Rattle.kc_config_file.specs.Feeding.{IsWithinLine, GoesOnBy, Refuses, StopsBecause, FinishesStream, fed, ended};
+ghost use Rattle.kc_text.specs.Limits.{one_more};
+ghost use Rattle.kc_config_file.specs.LineByLine.{line_at, after_line, warning_of, TakesPiece};
+ghost use Rattle.kc_config_file.specs.Reading.{line};
+ghost use Rattle.kc_config_file.specs.ReaderView.{position_of};
+
+use crate::fault::InputFault;
+use crate::step::{NamedStream, read_line};
+use crate::user_input::UserInput;
+use bstr::ByteSlice;
+use kc_text::without_carriage_return;
+use std::alloc::{AllocError, Global};
+
+/// The most bytes of a line.
+pub(crate) const LONGEST_DOT_LINE: usize = 65535;
+
+/// The number of the line that is not yet ended, and its bytes so far.
+#[derive(Drop)]
+pub(crate) struct LineBuffer {
+    pub number: u64,
+    pub pending: Vec<u8>,
+}
+
+// The line's text, without the carriage return that belongs to its end.
+fn text_of(bytes: &[u8], ended: bool) -> &[u8]
+    ensures { result.now ≡ (if ended then strip_carriage_return bytes.now else bytes.now) }
+{
+    if ended {
+        without_carriage_return(bytes)
+    } else {
+        bytes
+    }
+}
+
+// Reads the bytes as the line with this number, and goes on to the next number. Its only error is to be out of memory; then
+// all is as it was.
+fn read_numbered<'a>(
+    alloc: Global,
+    stream: &NamedStream<'a>,
+    number: &mut u64,
+    bytes: &[u8],
+    ended: bool,
+    user: &mut UserInput<'a>,
+    told: &mut Vec<u8>,
+) -> Result<(), AllocError>
+    requires { ArePlacesOf stream.now.tree.now user.old.places }
+    ensures places { OnOk result (user.new ≡ after_line stream.now user.old (line stream.now.name.now number.old bytes.now ended)) }
+    ensures warned { OnOk result (told.new.items ≡ told.old.items ++ warning_of stream.now user.old (line stream.now.name.now number.old bytes.now ended)) }
+    ensures next { OnOk result (number.new ≡ one_more number.old) }
+    ensures unchanged { OnErr result ((user.new ≡ user.old) × (number.new ≡ number.old) × (told.new.items ≡ told.old.items)) }
+{
+    let text = text_of(bytes, ended);
+    read_line(alloc, stream, *number, text, user, told)?;
+    *number = number.saturating_add(1);
+    Ok(())
+}
+
+/// Reads the pending bytes as a line, and goes on to the next. Its only error is to be out of memory; then all is as it was.
+pub(crate) fn end_line<'a>(
+    alloc: Global,
+    stream: &NamedStream<'a>,
+    line_buffer: &mut LineBuffer,
+    ended: bool,
+    user: &mut UserInput<'a>,
+    told: &mut Vec<u8>,
+) -> Result<(), AllocError>
+    requires { ArePlacesOf stream.now.tree.now user.old.places }
+    ensures places { OnOk result (user.new ≡ after_line stream.now user.old (line_at stream.now (position_of line_buffer.old) ended)) }
+    ensures warned { OnOk result (told.new.items ≡ told.old.items ++ warning_of stream.now user.old (line_at stream.now (position_of line_buffer.old) ended)) }
+    ensures next { OnOk result (position_of line_buffer.new ≡ record { number = one_more line_buffer.old.number; pending = [] }) }
+    ensures unchanged { OnErr result ((user.new ≡ user.old) × (position_of line_buffer.new ≡ position_of line_buffer.old) × (told.new.items ≡ told.old.items)) }
+{
+    read_numbered(
+        alloc,
+        stream,
+        &mut line_buffer.number,
+        &line_buffer.pending,
+        ended,
+        user,
+        told,
+    )?;
+    line_buffer.pending.clear();
+    Ok(())
+}
+
+// Takes one byte: an LF ends the line, another byte waits for it, unless it is the 65,536th of its line.
+fn take_byte<'a>(
+    alloc: Global,
+    stream: &NamedStream<'a>,
+    line_buffer: &mut LineBuffer,
+    byte: u8,
+    user: &mut UserInput<'a>,
+    told: &mut Vec<u8>,
+) -> Result<(), InputFault>
+    requires user { ArePlacesOf stream.now.tree.now user.old.places }
+    requires opened { IsWithinLine (position_of line_buffer.old) }
+    ensures ok { OnOk result (TakesPiece stream.now (byte ∷ []) (position_of line_buffer.old) (position_of line_buffer.new) user.old user.new told.old.items told.new.items) }
+    ensures position { OnOk result (position_of line_buffer.new ≡ fed (byte ∷ []) (position_of line_buffer.old)) }
+    ensures unchanged { OnErr result ((user.new ≡ user.old) × (position_of line_buffer.new ≡ position_of line_buffer.old) × (told.new.items ≡ told.old.items)) }
+    ensures err { IfErr result (λ fault. StopsBecause stream.now.tree.now stream.now.prefix.now stream.now.name.now fault (byte ∷ []) (position_of line_buffer.old) user.old) }
+    ensures user { OnOk result (ArePlacesOf stream.now.tree.now user.new.places) }
+    ensures opened { OnOk result (IsWithinLine (position_of line_buffer.new)) }
+{
+    if byte == b'\n' {
+        end_line(alloc, stream, line_buffer, true, user, told)?;
+        return Ok(());
+    }
+    if line_buffer.pending.len() >= LONGEST_DOT_LINE {
+        return Err(InputFault::InputLineTooLong(line_buffer.number));
+    }
+    line_buffer.pending.push(byte)?;
+    Ok(())
+}
+
+// How many bytes stand before the first LF, as far as they have room. No byte is looked at behind that room.
+fn bytes_before_lf(bytes: &[u8], room: usize) -> usize
+    ensures within { result ≤ length bytes.now }
+    ensures few { result ≤ room }
+    ensures none { HoldsNoLineFeed (take result bytes.now) }
+    ensures first { result < room → result < length bytes.now → is_line_feed (slice_index bytes.now result) ≡ true }
+{
+    let front = &bytes[..room.min(bytes.len())];
+    match front.find_byte(b'\n') {
+        Some(n) => n,
+        None => front.len(),
+    }
+}
+
+// Takes a beginning of the bytes, and answers how many: a line with its LF, which is read where it stands, where none of its
+// bytes is pending; else those before the next LF, as far as the line does not get too long by them, or where there are none,
+// one.
+fn take_front<'a>(
+    alloc: Global,
+    stream: &NamedStream<'a>,
+    line_buffer: &mut LineBuffer,
+    bytes: &[u8],
+    user: &mut UserInput<'a>,
+    told: &mut Vec<u8>,
+) -> Result<usize, InputFault>
+    requires some { 0 < length bytes.now }
+    requires user { ArePlacesOf stream.now.tree.now user.old.places }
+    requires opened { IsWithinLine (position_of line_buffer.old) }
+    ensures some { IfOk result (λ n. 0 < n) }
+    ensures within { IfOk result (λ n. n ≤ length bytes.now) }
+    ensures ok { IfOk result (λ n. TakesPiece stream.now (take n bytes.now) (position_of line_buffer.old) (position_of line_buffer.new) user.old user.new told.old.items told.new.items) }
+    ensures position { IfOk result (λ n. GoesOnBy (take n bytes.now) (position_of line_buffer.old) (position_of line_buffer.new)) }
+    ensures unchanged { OnErr result ((user.new ≡ user.old) × (position_of line_buffer.new ≡ position_of line_buffer.old) × (told.new.items ≡ told.old.items)) }
+    ensures err { IfErr result (λ fault. StopsBecause stream.now.tree.now stream.now.prefix.now stream.now.name.now fault bytes.now (position_of line_buffer.old) user.old) }
+    ensures user { OnOk result (ArePlacesOf stream.now.tree.now user.new.places) }
+    ensures opened { OnOk result (IsWithinLine (position_of line_buffer.new)) }
+{
+    let count = bytes_before_lf(bytes, LONGEST_DOT_LINE - line_buffer.pending.len());
+    if line_buffer.pending.is_empty() && count < bytes.len() && bytes[count] == b'\n' {
+        let whole = &bytes[..count];
+        read_numbered(
+            alloc,
+            stream,
+            &mut line_buffer.number,
+            whole,
+            true,
+            user,
+            told,
+        )?;
+        return Ok(count + 1);
+    }
+    if count > 0 {
+        line_buffer.pending.extend_from_slice(&bytes[..count])?;
+        return Ok(count);
+    }
+    take_byte(alloc, stream, line_buffer, bytes[0], user, told)?;
+    Ok(1)
+}
+
+/// Takes the piece.
+pub(crate) fn take_piece<'a>(
+    alloc: Global,
+    stream: &NamedStream<'a>,
+    line_buffer: &mut LineBuffer,
+    piece: &[u8],
+    user: &mut UserInput<'a>,
+    told: &mut Vec<u8>,
+) -> Result<(), InputFault>
+    requires user { ArePlacesOf stream.now.tree.now user.old.places }
+    requires opened { IsWithinLine (position_of line_buffer.old) }
+    ensures ok { OnOk result (TakesPiece stream.now piece.now (position_of line_buffer.old) (position_of line_buffer.new) user.old user.new told.old.items told.new.items) }
+    ensures position { OnOk result (position_of line_buffer.new ≡ fed piece.now (position_of line_buffer.old)) }
+    ensures err { IfErr result (λ fault. Refuses stream.now.tree.now stream.now.prefix.now stream.now.name.now fault piece.now (position_of line_buffer.old)
+        (position_of line_buffer.new) user.old user.new told.old.items told.new.items) }
+    ensures user { ArePlacesOf stream.now.tree.now user.new.places }
+    ensures opened { IsWithinLine (position_of line_buffer.new) }
+{
+    let mut at = 0;
+    while at < piece.len() {
+        at += take_front(alloc, stream, line_buffer, &piece[at..], user, told)?;
+    }
+    Ok(())
+}
+
+/// Ends the stream: pending bytes are its last line. Its only error is to be out of memory; then all is as it was.
+pub(crate) fn end_stream<'a>(
+    alloc: Global,
+    stream: &NamedStream<'a>,
+    line_buffer: &mut LineBuffer,
+    user: &mut UserInput<'a>,
+    told: &mut Vec<u8>,
+) -> Result<(), AllocError>
+    requires user { ArePlacesOf stream.now.tree.now user.old.places }
+    requires opened { IsWithinLine (position_of line_buffer.old) }
+    ensures ok { OnOk result (FinishesStream stream.now.tree.now stream.now.prefix.now stream.now.name.now (position_of line_buffer.old) user.old user.new told.old.items told.new.items) }
+    ensures position { OnOk result (position_of line_buffer.new ≡ ended (position_of line_buffer.old)) }
+    ensures unchanged { OnErr result ((user.new ≡ user.old) × (position_of line_buffer.new ≡ position_of line_buffer.old) × (told.new.items ≡ told.old.items)) }
+    ensures pending { OnErr result (0 < length line_buffer.old.pending.items) }
+    ensures user { OnOk result (ArePlacesOf stream.now.tree.now user.new.places) }
+    ensures opened { OnOk result (IsWithinLine (position_of line_buffer.new)) }
+{
+    if line_buffer.pending.is_empty() {
+        return Ok(());
+    }
+    end_line(alloc, stream, line_buffer, false, user, told)
+}

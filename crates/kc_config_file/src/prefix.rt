@@ -1,0 +1,71 @@
+//! What stands before the name of a symbol in the files that are read and written.
+ghost use Rattle.std.specs.Prelude.{◌≡◌, ◌<◌, length, true, IfOk, OnErr};
+ghost use Rattle.kc_config_file.specs.Prefixes as spec;
+
+use kc_expr::names::are_name_bytes;
+use std::alloc::{AllocError, Global};
+use std::marker::Model;
+
+/// The most bytes of a prefix.
+const LONGEST_PREFIX: usize = 64;
+
+/// What stands before each name, as `CONFIG_`: 0 to 64 of the bytes `A` to `Z`, `a` to `z`, `0` to `9` and `_`, of
+/// which the first is no digit. (Our own rule; the kernel's tools and kconfiglib take any text.)
+#[derive(Debug, Drop)]
+pub struct Prefix {
+    bytes: Vec<u8>,
+}
+
+impl Model for Prefix {
+    ghost use Rattle.std.specs.Prelude.{◌≡◌, true, ℕ, List};
+    ghost use Rattle.kc_config_file.specs.Prefixes.{is_prefix};
+
+    ghost Value = { List ℕ };
+
+    ghost view = { λ p. p.bytes.items };
+
+    ghost invariant = { λ p. is_prefix p.bytes.items ≡ true };
+}
+
+impl Prefix {
+    /// The text as a prefix, or None where it is none. Its only error is to be out of memory, for a prefix of a byte or more.
+    pub fn new(alloc: Global, text: &[u8]) -> Result<Option<Prefix>, AllocError>
+        ensures prefix { IfOk result (λ found. found ≡ spec.prefix_of text.now) }
+        ensures some { OnErr result ((0 < length text.now) × (spec.is_prefix text.now ≡ true)) }
+    {
+        if !is_prefix(text) {
+            return Ok(None);
+        }
+        let bytes = if text.is_empty() {
+            Vec::new(alloc)
+        } else {
+            Vec::from_slice(alloc, text)?
+        };
+        Ok(Some(Prefix { bytes }))
+    }
+
+    /// The bytes of the prefix.
+    pub fn as_bytes(&self) -> &[u8]
+        ensures bytes { result.now ≡ self.now }
+        ensures prefix { spec.is_prefix self.now ≡ true }
+    {
+        &self.bytes
+    }
+}
+
+// Whether the first byte is a digit.
+fn begins_with_digit(text: &[u8]) -> bool
+    ensures { result ≡ spec.begins_with_digit text.now }
+{
+    match text {
+        [first, ..] => first.is_ascii_digit(),
+        [] => false,
+    }
+}
+
+// Whether the text is a prefix.
+fn is_prefix(text: &[u8]) -> bool
+    ensures { result ≡ spec.is_prefix text.now }
+{
+    !begins_with_digit(text) && text.len() <= LONGEST_PREFIX && are_name_bytes(text)
+}

@@ -1,0 +1,96 @@
+//! Values and lines, as warnings tell them.
+ghost use Rattle.std.specs.Prelude.{◌≡◌, ◌++◌, OnOk};
+ghost use Rattle.kc_user.specs.GivenValue.{same_given};
+ghost use Rattle.kc_user.specs.ValueView.{given_of_value};
+ghost use Rattle.kc_config_file.specs.Changes.{location_text, value_text};
+ghost use Rattle.kc_config_file.specs.ShownView.{given_by, location_of};
+ghost use Rattle.kc_config_file.specs.SymbolLines.{text_in_config};
+
+use itoa::Buffer;
+use kc_expr::expression::{SymbolType, Tri};
+use kc_expr::values::tri_text;
+use kc_text::escape_into;
+use kc_user::value::UserValue;
+use std::alloc::AllocError;
+
+/// A line of an input file.
+#[derive(Clone, Copy, Debug, PartialEq, Eq)]
+pub struct InputLine<'a> {
+    /// The file's name, as it was given.
+    pub file: &'a [u8],
+    /// The line's number, from 1 on.
+    pub number: u64,
+}
+
+/// A symbol's value: of a bool or tristate, or the text of another.
+#[derive(Clone, Copy, Debug, PartialEq, Eq)]
+pub enum ShownValue<'a> {
+    Truth(Tri),
+    Text(&'a [u8]),
+}
+
+/// Returns a user value as it is shown.
+pub fn shown_given<'a>(given: &'a UserValue) -> ShownValue<'a>
+    ensures { given_by result ≡ given_of_value given.now }
+{
+    match given {
+        UserValue::Tri(tri) => ShownValue::Truth(*tri),
+        UserValue::Text(text) => ShownValue::Text(text),
+    }
+}
+
+/// Returns whether the two are one value: truths, or texts of the same bytes.
+pub fn is_same(given: ShownValue<'_>, value: ShownValue<'_>) -> bool
+    ensures { result ≡ same_given (given_by given.entry) (given_by value.entry) }
+{
+    match (given, value) {
+        (ShownValue::Truth(given), ShownValue::Truth(tri)) => given == tri,
+        (ShownValue::Text(given), ShownValue::Text(text)) => given == text,
+        (ShownValue::Truth(_), ShownValue::Text(_)) => false,
+        (ShownValue::Text(_), ShownValue::Truth(_)) => false,
+    }
+}
+
+// Adds a text as a `.config` writes it.
+fn add_text(symbol_type: SymbolType, text: &[u8], line: &mut Vec<u8>) -> Result<(), AllocError>
+    ensures { OnOk result (line.new.items ≡ line.old.items ++ text_in_config symbol_type text.now) }
+{
+    match symbol_type {
+        SymbolType::Str => {
+            line.extend_from_slice(b"\"")?;
+            escape_into(text, line)?;
+            line.extend_from_slice(b"\"")
+        }
+        SymbolType::Undefined
+        | SymbolType::Bool
+        | SymbolType::Tristate
+        | SymbolType::Int
+        | SymbolType::Hex => { line.extend_from_slice(text) }
+    }
+}
+
+/// Adds the value of a symbol of this type as a `.config` writes it: a string in quotes, with a `\` before each `"` and
+/// `\`. Its only error is to be out of memory.
+pub fn add_value(
+    symbol_type: SymbolType,
+    shown: ShownValue<'_>,
+    line: &mut Vec<u8>,
+) -> Result<(), AllocError>
+    ensures { OnOk result (line.new.items ≡ line.old.items ++ value_text symbol_type (given_by shown.entry)) }
+{
+    match shown {
+        ShownValue::Truth(tri) => line.extend_from_slice(tri_text(tri)),
+        ShownValue::Text(text) => add_text(symbol_type, text, line),
+    }
+}
+
+/// Adds `FILE:LINE`. Its only error is to be out of memory.
+pub fn add_location(at: InputLine<'_>, line: &mut Vec<u8>) -> Result<(), AllocError>
+    ensures { OnOk result (line.new.items ≡ line.old.items ++ location_text (location_of at.entry)) }
+{
+    let mut buffer = Buffer::new();
+    let digits = buffer.format(at.number).as_bytes();
+    line.extend_from_slice(at.file)?;
+    line.extend_from_slice(b":")?;
+    line.extend_from_slice(digits)
+}

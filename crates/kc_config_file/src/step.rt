@@ -1,0 +1,299 @@
+//! What one line of a stream does to the user's input.
+ghost use Rattle.std.specs.Prelude.{◌≡◌, ◌++◌, ◌<◌, true, [], ◌∷◌, length, map, slice_set, Some, None, IfOk, OnOk, OnErr, IfSome};
+ghost use Rattle.std.specs.Option.{option_map};
+ghost use Rattle.kc_user.specs.ValueView.{given_of_value};
+ghost use Rattle.kc_config_file.specs.Changes.{change_line, change_text, is_change};
+ghost use Rattle.kc_config_file.specs.ConfigFileLine.{meaning_of};
+ghost use Rattle.kc_config_file.specs.Effects.{Assigns, SetAgain, effect_of, warning_line};
+ghost use Rattle.kc_user.specs.Places.{ArePlacesOf, place_at};
+ghost use Rattle.kc_config_file.specs.LineSteps.{input_by, with_member};
+ghost use Rattle.kc_config_file.specs.Reading.{effect_text, choice_of, places_given};
+ghost use Rattle.kc_config_file.specs.ShownView.{given_by, location_of};
+ghost use Rattle.kc_user.specs.GivenValue.{SymbolPlace, is_yes};
+
+use crate::effect::{Effect, LineWarning, line_effect, type_of, warn};
+use crate::line::parse_config_file_line;
+use crate::prefix::Prefix;
+use crate::shown::{InputLine, ShownValue, add_location, add_value, is_same, shown_given};
+use crate::text::add_parts;
+use crate::user_input::UserInput;
+use kc_expr::expression::{SymId, SymbolType, Tri};
+use kc_tree::rows::ChoiceId;
+use kc_tree::tree::Tree;
+use kc_user::user::User;
+use kc_user::value::UserValue;
+use std::alloc::{AllocError, Global};
+
+/// A stream's name, and the tree and prefix that it is read for.
+#[derive(Clone, Copy)]
+pub(crate) struct NamedStream<'a> {
+    pub tree: &'a Tree,
+    pub prefix: &'a Prefix,
+    pub name: &'a [u8],
+}
+
+// The choice that the symbol is a member of.
+fn choice_of(tree: &Tree, id: SymId) -> Option<ChoiceId>
+    ensures choice { option_map (λ choice. choice.0) result ≡ choice_of tree.now id }
+    ensures there { IfSome result (λ choice. choice.0 < length tree.now.choices) }
+{
+    // The choice of a member is there: `name_count` says so.
+    let _ = tree.name_count();
+    match tree.facts(id) {
+        Some(symbol) => symbol.choice.get(),
+        None => None,
+    }
+}
+
+// Whether the value is y.
+fn is_yes(value: &UserValue) -> bool
+    ensures { result ≡ is_yes (given_of_value value.now) }
+{
+    match value {
+        UserValue::Tri(Tri::Y) => true,
+        UserValue::Tri(Tri::N | Tri::M) | UserValue::Text(_) => false,
+    }
+}
+
+// Makes the symbol the user's member of its choice.
+fn choose(tree: &Tree, id: SymId, user: &mut User)
+    requires { ArePlacesOf tree.now user.old }
+    ensures { user.new ≡ record user.old { choices = with_member true (choice_of tree.now id) id user.old.choices } }
+{
+    match choice_of(tree, id) {
+        Some(choice) => user.select(choice, id),
+        None => {}
+    }
+}
+
+// Gives the symbol the value; a member that is made y becomes the user's member of its choice.
+fn assign(tree: &Tree, id: SymId, value: UserValue, user: &mut User) -> Result<(), AllocError>
+    requires mentioned { id.0 < length tree.now.symbols }
+    requires user { ArePlacesOf tree.now user.old }
+    ensures done { OnOk result (user.new ≡ places_given tree.now user.old (record { symbol = id; given = given_of_value value } ∷ [])) }
+    ensures failed { OnErr result (user.new ≡ user.old) }
+{
+    let is_selected = is_yes(&value);
+    user.set(id, value)?;
+    if is_selected {
+        choose(tree, id, user);
+    }
+    Ok(())
+}
+
+// Whether a value stands in the place of another.
+fn is_change(user: &User, id: SymId, value: &UserValue) -> bool
+    requires { id.0 < length user.now.symbols }
+    ensures { result ≡ is_change (place_at user.now (SymbolPlace id.0)) (given_of_value value.now) }
+{
+    match user.get(id) {
+        Some(old) => !is_same(shown_given(old), shown_given(value)),
+        None => false,
+    }
+}
+
+// Puts the line into the symbol's place, where there is one.
+fn set_line<'a>(lines: &mut Vec<Option<InputLine<'a>>>, id: SymId, at: InputLine<'a>)
+    ensures { map (option_map location_of) lines.new.items ≡ slice_set (map (option_map location_of) lines.old.items) id.0 (Some (location_of at.entry)) }
+{
+    if id.0 < lines.len() {
+        lines[id.0] = Some(at);
+    }
+}
+
+// Gives the symbol the value, by this line.
+fn give<'a>(
+    tree: &Tree,
+    at: InputLine<'a>,
+    id: SymId,
+    value: UserValue,
+    input: &mut UserInput<'a>,
+) -> Result<(), AllocError>
+    requires mentioned { id.0 < length tree.now.symbols }
+    requires user { ArePlacesOf tree.now input.old.places }
+    ensures done { OnOk result (input.new ≡ input_by tree.now input.old (location_of at.entry) (Assigns id (given_of_value value))) }
+    ensures failed { OnErr result (input.new ≡ input.old) }
+{
+    let is_kept = !is_change(&input.user, id, &value);
+    assign(tree, id, value, &mut input.user)?;
+    set_line(&mut input.lines, id, at);
+    input.all_taken = input.all_taken && is_kept;
+    Ok(())
+}
+
+// Adds the line that tells that the symbol is set again.
+fn add_again(at: InputLine<'_>, name: &[u8], text: &mut Vec<u8>) -> Result<(), AllocError>
+    ensures { OnOk result (text.new.items ≡ text.old.items ++ warning_line at.entry.file.now at.entry.number (SetAgain name.now)) }
+{
+    add_location(at, text)?;
+    add_parts(&[b": warning K10: ", name, b" is set again\n"], text)
+}
+
+// A value, and the line that gave it.
+#[derive(Clone, Copy)]
+struct Given<'a> {
+    value: ShownValue<'a>,
+    at: InputLine<'a>,
+}
+
+// Adds the line that tells what the symbol was and is now.
+fn add_change(
+    name: &[u8],
+    symbol_type: SymbolType,
+    old: Given<'_>,
+    new: Given<'_>,
+    text: &mut Vec<u8>,
+) -> Result<(), AllocError>
+    ensures { OnOk result (text.new.items ≡ text.old.items
+        ++ change_line (location_of new.entry.at) name.now symbol_type (given_by old.entry.value) (location_of old.entry.at) (given_by new.entry.value)) }
+{
+    add_location(new.at, text)?;
+    add_parts(&[b": warning K15: ", name, b" was "], text)?;
+    add_value(symbol_type, old.value, text)?;
+    text.extend_from_slice(b" (")?;
+    add_location(old.at, text)?;
+    text.extend_from_slice(b") and is now ")?;
+    add_value(symbol_type, new.value, text)?;
+    add_parts(&[b"\n"], text)
+}
+
+// Tells that the symbol is set again.
+fn tell_again(at: InputLine<'_>, name: &[u8], told: &mut Vec<u8>) -> Result<(), AllocError>
+    ensures whole { OnOk result (told.new.items ≡ told.old.items ++ warning_line at.entry.file.now at.entry.number (SetAgain name.now)) }
+    ensures nothing { OnErr result (told.new.items ≡ told.old.items) }
+{
+    warn(at.file, at.number, LineWarning::SetAgain(name), told)
+}
+
+// Tells that the symbol is set again, and what it was and is now.
+fn tell_change(
+    alloc: Global,
+    name: &[u8],
+    symbol_type: SymbolType,
+    old: Given<'_>,
+    new: Given<'_>,
+    told: &mut Vec<u8>,
+) -> Result<(), AllocError>
+    ensures whole { OnOk result (told.new.items ≡ told.old.items ++ (warning_line new.entry.at.file.now new.entry.at.number (SetAgain name.now)
+        ++ change_line (location_of new.entry.at) name.now symbol_type (given_by old.entry.value) (location_of old.entry.at) (given_by new.entry.value))) }
+    ensures nothing { OnErr result (told.new.items ≡ told.old.items) }
+{
+    let mut text = Vec::new(alloc);
+    add_again(new.at, name, &mut text)?;
+    add_change(name, symbol_type, old, new, &mut text)?;
+    told.extend_from_slice(&text)
+}
+
+// Tells that the symbol is set again, and the change where there is one and its line is known.
+fn tell_both(
+    alloc: Global,
+    name: &[u8],
+    symbol_type: SymbolType,
+    old: ShownValue<'_>,
+    from: Option<InputLine<'_>>,
+    new: Given<'_>,
+    told: &mut Vec<u8>,
+) -> Result<(), AllocError>
+    ensures whole { OnOk result (told.new.items ≡ told.old.items ++ (warning_line new.entry.at.file.now new.entry.at.number (SetAgain name.now)
+        ++ change_text (location_of new.entry.at) name.now symbol_type (Some (given_by old.entry)) (option_map location_of from.entry) (given_by new.entry.value))) }
+    ensures nothing { OnErr result (told.new.items ≡ told.old.items) }
+{
+    match from {
+        None => tell_again(new.at, name, told),
+        Some(from) => {
+            if is_same(old, new.value) {
+                tell_again(new.at, name, told)
+            } else {
+                let old = Given {
+                    value: old,
+                    at: from,
+                };
+                tell_change(alloc, name, symbol_type, old, new, told)
+            }
+        }
+    }
+}
+
+// Warns where the symbol has a value already.
+fn warn_again(
+    alloc: Global,
+    tree: &Tree,
+    at: InputLine<'_>,
+    id: SymId,
+    value: &UserValue,
+    input: &UserInput<'_>,
+    told: &mut Vec<u8>,
+) -> Result<(), AllocError>
+    requires mentioned { id.0 < length tree.now.symbols }
+    requires user { ArePlacesOf tree.now input.now.places }
+    ensures whole { OnOk result (told.new.items ≡ told.old.items ++ effect_text tree.now input.now (location_of at.entry) (Assigns id (given_of_value value.now))) }
+    ensures nothing { OnErr result (told.new.items ≡ told.old.items) }
+{
+    if id.0 >= tree.name_count() {
+        return Ok(());
+    }
+    match input.user().get(id) {
+        None => Ok(()),
+        Some(old) => {
+            let new = Given {
+                value: shown_given(value),
+                at,
+            };
+            let from = input.line(id);
+            tell_both(
+                alloc,
+                tree.name(id),
+                type_of(tree, id),
+                shown_given(old),
+                from,
+                new,
+                told,
+            )
+        }
+    }
+}
+
+/// Reads one line, given without its end: tells its warning, and then changes the input. Its only error is to be out of
+/// memory; then the input is as it was, and nothing was told.
+pub(crate) fn read_line<'a>(
+    alloc: Global,
+    stream: &NamedStream<'a>,
+    number: u64,
+    text: &[u8],
+    user: &mut UserInput<'a>,
+    told: &mut Vec<u8>,
+) -> Result<(), AllocError>
+    requires { ArePlacesOf stream.now.tree.now user.old.places }
+    ensures places { OnOk result (user.new ≡ input_by stream.now.tree.now user.old (record { stream = stream.now.name.now; number = number })
+        (effect_of stream.now.tree.now (meaning_of stream.now.prefix.now text.now))) }
+    ensures warned { OnOk result (told.new.items ≡ told.old.items
+        ++ effect_text stream.now.tree.now user.old (record { stream = stream.now.name.now; number = number })
+        (effect_of stream.now.tree.now (meaning_of stream.now.prefix.now text.now))) }
+    ensures unchanged { OnErr result ((user.new ≡ user.old) × (told.new.items ≡ told.old.items)) }
+{
+    let at = InputLine {
+        file: stream.name,
+        number,
+    };
+    match line_effect(
+        alloc,
+        stream.tree,
+        parse_config_file_line(stream.prefix.as_bytes(), text),
+    )? {
+        Effect::Silent => Ok(()),
+        Effect::Warns(line_warning) => {
+            warn(stream.name, number, line_warning, told)?;
+            user.leave_out();
+            Ok(())
+        }
+        Effect::Assigns(id, value) => {
+            let before = told.len();
+            warn_again(alloc, stream.tree, at, id, &value, user, told)?;
+            let given = give(stream.tree, at, id, value, user);
+            if given.is_err() {
+                told.truncate(before);
+            }
+            given
+        }
+    }
+}

@@ -1,0 +1,130 @@
+//! A symbol's value, and the line that tells it.
+ghost use Rattle.std.specs.Prelude.{◌≡◌, ◌<◌, ◌++◌, length, OnOk, OnErr, codes, flat_map};
+ghost use Rattle.kc_text.specs.Escapes.{escape};
+ghost use Rattle.kc_config_file.specs.SolvedView.{solution_view};
+ghost use Rattle.kc_config_file.specs.SymbolLines.{config_file_line, header_line, hex_text};
+ghost use Rattle.kc_config_file.specs.KnownValue.{value_view};
+
+use crate::prefix::Prefix;
+use crate::text::add_parts;
+use kc_expr::expression::{SymId, SymbolType, Tri};
+use kc_expr::values::Values;
+use kc_solve::solved::Solved;
+use kc_text::{escape_into, has_hex_prefix};
+use std::alloc::AllocError;
+
+/// The value of a symbol: of a bool or tristate, or the text of another with its type.
+#[derive(Clone, Copy, Debug, PartialEq, Eq)]
+pub(crate) enum WrittenValue<'a> {
+    Truth(Tri),
+    TextValue(SymbolType, &'a [u8]),
+}
+
+/// The value that the solution gives to a symbol, and to a name that is not defined its own text. What its type has not is not
+/// looked at.
+pub(crate) fn symbol_value<'a>(solved: &'a Solved<'_>, id: SymId) -> WrittenValue<'a>
+    ensures { value_view result ≡ (solution_view solved.now).value id }
+{
+    solved.tells_known();
+    match solved.symbol_type(id) {
+        SymbolType::Bool => WrittenValue::Truth(solved.tri(id)),
+        SymbolType::Tristate => WrittenValue::Truth(solved.tri(id)),
+        SymbolType::Undefined => WrittenValue::TextValue(SymbolType::Undefined, solved.text(id)),
+        SymbolType::Str => WrittenValue::TextValue(SymbolType::Str, solved.text(id)),
+        SymbolType::Int => WrittenValue::TextValue(SymbolType::Int, solved.text(id)),
+        SymbolType::Hex => WrittenValue::TextValue(SymbolType::Hex, solved.text(id)),
+    }
+}
+
+// Adds the parts before a string, the string with a `\` before each `"` and `\`, and the end of its line.
+fn add_string_line(before: &[&[u8]], text: &[u8], file: &mut Vec<u8>) -> Result<(), AllocError>
+    ensures { OnOk result (file.new.items ≡ file.old.items ++ flat_map (λ part. part.now) before.now ++ escape text.now ++ codes "\"\n") }
+{
+    add_parts(before, file)?;
+    escape_into(text, file)?;
+    file.extend_from_slice(b"\"\n")
+}
+
+// What a header has before a hex.
+fn before_hex<'a>(text: &'a [u8]) -> &'a [u8]
+    ensures { result.now ++ text.now ≡ hex_text text.now }
+{
+    if has_hex_prefix(text) { b"" } else { b"0x" }
+}
+
+/// Adds the symbol's line of a `.config`. Its only error is to be out of memory, for a line of a byte or more.
+pub(crate) fn add_config_file_line<'a>(
+    prefix: &'a Prefix,
+    name: &'a [u8],
+    value: WrittenValue<'a>,
+    file: &mut Vec<u8>,
+) -> Result<(), AllocError>
+    ensures line { OnOk result (file.new.items ≡ file.old.items ++ config_file_line (prefix.now ++ name.now) (value_view value.entry)) }
+    ensures some { OnErr result (0 < length (config_file_line (prefix.now ++ name.now) (value_view value.entry))) }
+{
+    let prefix = prefix.as_bytes();
+    match value {
+        WrittenValue::Truth(Tri::N) => add_parts(&[b"# ", prefix, name, b" is not set\n"], file),
+        WrittenValue::Truth(Tri::M) => add_parts(&[prefix, name, b"=m\n"], file),
+        WrittenValue::Truth(Tri::Y) => add_parts(&[prefix, name, b"=y\n"], file),
+        WrittenValue::TextValue(SymbolType::Str, text) => add_string_line(
+            &[prefix, name, b"=\""],
+            text,
+            file,
+        ),
+        WrittenValue::TextValue(SymbolType::Int, text) => add_parts(
+            &[prefix, name, b"=", text, b"\n"],
+            file,
+        ),
+        WrittenValue::TextValue(SymbolType::Hex, text) => add_parts(
+            &[prefix, name, b"=", text, b"\n"],
+            file,
+        ),
+        WrittenValue::TextValue(
+            SymbolType::Undefined | SymbolType::Bool | SymbolType::Tristate,
+            _,
+        ) => Ok(()),
+    }
+}
+
+/// Adds the symbol's line of a header, where it has one.
+pub(crate) fn add_header_line<'a>(
+    prefix: &'a Prefix,
+    name: &'a [u8],
+    value: WrittenValue<'a>,
+    file: &mut Vec<u8>,
+) -> Result<(), AllocError>
+    ensures { OnOk result (file.new.items ≡ file.old.items ++ header_line (prefix.now ++ name.now) (value_view value.entry)) }
+{
+    let prefix = prefix.as_bytes();
+    match value {
+        WrittenValue::Truth(Tri::N) => Ok(()),
+        WrittenValue::Truth(Tri::M) => add_parts(
+            &[b"#define ", prefix, name, b"_MODULE 1\n"],
+            file,
+        ),
+        WrittenValue::Truth(Tri::Y) => add_parts(&[b"#define ", prefix, name, b" 1\n"], file),
+        WrittenValue::TextValue(SymbolType::Str, text) => {
+            add_string_line(&[b"#define ", prefix, name, b" \""], text, file)
+        }
+        WrittenValue::TextValue(SymbolType::Int, text) => {
+            add_parts(&[b"#define ", prefix, name, b" ", text, b"\n"], file)
+        }
+        WrittenValue::TextValue(SymbolType::Hex, text) => add_parts(
+            &[
+                b"#define ",
+                prefix,
+                name,
+                b" ",
+                before_hex(text),
+                text,
+                b"\n",
+            ],
+            file,
+        ),
+        WrittenValue::TextValue(
+            SymbolType::Undefined | SymbolType::Bool | SymbolType::Tristate,
+            _,
+        ) => Ok(()),
+    }
+}

@@ -1,0 +1,91 @@
+//! What the user's input files gave.
+ghost use Rattle.std.specs.Prelude.{◌≡◌, [], length, map, replicate, slice_index_or, false, None, IfOk, if◌then◌else◌};
+ghost use Rattle.std.specs.Option.{option_map};
+ghost use Rattle.kc_config_file.specs.Reading.{no_input};
+ghost use Rattle.kc_config_file.specs.ShownView.{location_of};
+
+use crate::shown::InputLine;
+use kc_expr::expression::SymId;
+use kc_tree::tree::Tree;
+use kc_user::user::{User, empty_places};
+use std::alloc::{AllocError, Global};
+use std::marker::Model;
+
+/// What the lines of a user's input files gave: the user's values; where this is wanted, for each symbol the line that gave
+/// its value last; and whether every line was taken as written. (Our own.)
+#[derive(Drop)]
+pub struct UserInput<'a> {
+    pub(crate) user: User,
+    pub(crate) lines: Vec<Option<InputLine<'a>>>,
+    pub(crate) all_taken: bool,
+}
+
+impl<'a> Model for UserInput<'a> {
+    ghost use Rattle.kc_config_file.specs.Reading.{UserInput};
+    ghost use Rattle.kc_config_file.specs.InputView.{input_of};
+
+    ghost Value = { UserInput };
+
+    ghost view = { input_of };
+}
+
+// For each symbol of the tree no line yet, or no list where lines are not kept.
+fn no_lines<'a>(
+    alloc: Global,
+    tree: &Tree,
+    keeps_lines: bool,
+) -> Result<Vec<Option<InputLine<'a>>>, AllocError>
+    ensures { IfOk result (λ lines. map (option_map location_of) lines.items ≡ (if keeps_lines then replicate (length tree.now.symbols) None else [])) }
+{
+    if !keeps_lines {
+        return Ok(Vec::new(alloc));
+    }
+    empty_places(alloc, tree.name_count())
+}
+
+impl<'a> UserInput<'a> {
+    /// Nothing given yet. With `keeps_lines` it keeps the line of each symbol's value. Its only error is to be out of memory.
+    pub fn new(alloc: Global, tree: &Tree, keeps_lines: bool) -> Result<UserInput<'a>, AllocError>
+        ensures { IfOk result (λ input. input ≡ no_input keeps_lines tree.now) }
+    {
+        let user = User::new(alloc, tree)?;
+        let lines = no_lines(alloc, tree, keeps_lines)?;
+        Ok(UserInput {
+            user,
+            lines,
+            all_taken: true,
+        })
+    }
+
+    /// The user's values.
+    pub fn user(&self) -> &User
+        ensures { result.now ≡ self.now.places }
+    {
+        &self.user
+    }
+
+    /// The line that gave the symbol its value last, where such lines are kept.
+    pub fn line(&self, id: SymId) -> Option<InputLine<'a>>
+        ensures { option_map location_of result ≡ slice_index_or self.now.lines id.0 None }
+    {
+        match self.lines.get(id.0) {
+            Some(line) => *line,
+            None => None,
+        }
+    }
+
+    /// Whether every line was taken as written: none was warned of (K7 to K9), and none gave a symbol a value where another
+    /// had been given before.
+    pub fn all_taken(&self) -> bool
+        ensures { result ≡ self.now.all_taken }
+    {
+        self.all_taken
+    }
+
+    // Notes that a line was not taken as written.
+    pub(crate) fn leave_out(&mut self)
+        ensures { self.new ≡ record self.old { all_taken = false } }
+    {
+        self.all_taken = false;
+    }
+}

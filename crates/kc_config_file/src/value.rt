@@ -1,0 +1,125 @@
+//! The value that the text right of a line's `=` gives.
+ghost use Rattle.std.specs.Prelude.{◌≡◌, slice_index, IfOk};
+ghost use Rattle.std.specs.Option.{option_map};
+ghost use Rattle.kc_user.specs.GivenValue.{GivenTruth};
+ghost use Rattle.kc_user.specs.ValueView.{given_of_value};
+ghost use Rattle.kc_config_file.specs.LineValue as spec;
+
+use kc_expr::expression::{SymbolType, Tri};
+use kc_text::{read_hex, read_int, unescape_into};
+use kc_user::value::{LONGEST_VALUE, UserValue};
+use std::alloc::{AllocError, Global};
+
+/// The value that the text gives to a symbol of this type, or None where it is not allowed: for a bool `y` or `n` as
+/// its first byte, for a tristate `y`, `m` or `n`, whatever follows that byte; for a string what stands between the `"` that
+/// it begins with and the next one that no `\` takes away, `\c` being c; for an int or hex the whole text, where it is a
+/// number of that type. A text of more than 65,000 bytes gives none, nor does one for a symbol without a type.
+pub fn line_value(
+    alloc: Global,
+    symbol_type: SymbolType,
+    text: &[u8],
+) -> Result<Option<UserValue>, AllocError>
+    ensures { IfOk result (λ found. option_map given_of_value found ≡ spec.line_value symbol_type text.now) }
+{
+    if text.len() > LONGEST_VALUE {
+        return Ok(None);
+    }
+    match symbol_type {
+        SymbolType::Undefined => Ok(None),
+        SymbolType::Bool => Ok(truth_value(yes_or_no(first_byte(text)))),
+        SymbolType::Tristate => Ok(truth_value(yes_m_or_no(first_byte(text)))),
+        SymbolType::Str => string_value(alloc, text),
+        SymbolType::Int => number_value(alloc, text, read_int(text).is_some()),
+        SymbolType::Hex => number_value(alloc, text, read_hex(text).is_some()),
+    }
+}
+
+// The first byte; 0 where there is none.
+fn first_byte(text: &[u8]) -> u8
+    ensures { result ≡ slice_index text.now 0 }
+{
+    match text {
+        [first, ..] => *first,
+        [] => 0,
+    }
+}
+
+fn yes_or_no(byte: u8) -> Option<Tri>
+    ensures { result ≡ spec.yes_or_no byte }
+{
+    match byte {
+        b'y' => Some(Tri::Y),
+        b'n' => Some(Tri::N),
+        _ => None,
+    }
+}
+
+fn yes_m_or_no(byte: u8) -> Option<Tri>
+    ensures { result ≡ spec.yes_m_or_no byte }
+{
+    if byte == b'm' {
+        return Some(Tri::M);
+    }
+    yes_or_no(byte)
+}
+
+fn truth_value(found: Option<Tri>) -> Option<UserValue>
+    ensures { option_map given_of_value result ≡ option_map GivenTruth found }
+{
+    match found {
+        Some(tri) => Some(UserValue::Tri(tri)),
+        None => None,
+    }
+}
+
+// The text as it is, where it is a number.
+fn number_value(
+    alloc: Global,
+    text: &[u8],
+    is_number: bool,
+) -> Result<Option<UserValue>, AllocError>
+    ensures { IfOk result (λ found. option_map given_of_value found ≡ spec.number_value text.now is_number) }
+{
+    if !is_number {
+        return Ok(None);
+    }
+    Ok(Some(UserValue::Text(Vec::from_slice(alloc, text)?)))
+}
+
+// The text of a string.
+fn string_value(alloc: Global, text: &[u8]) -> Result<Option<UserValue>, AllocError>
+    ensures { IfOk result (λ found. option_map given_of_value found ≡ spec.string_value text.now) }
+{
+    match quoted(text) {
+        Some(raw) => {
+            let mut value = Vec::new(alloc);
+            unescape_into(raw, &mut value)?;
+            Ok(Some(UserValue::Text(value)))
+        }
+        None => Ok(None),
+    }
+}
+
+// What stands between the `"` that the text begins with and the one that closes it.
+fn quoted(text: &[u8]) -> Option<&[u8]>
+    ensures { option_map (λ raw. raw.now) result ≡ spec.quoted text.now }
+{
+    match text {
+        [b'"', body @ ..] => until_quote(body),
+        _ => None,
+    }
+}
+
+// What stands before the first `"` that no `\` takes away.
+fn until_quote(body: &[u8]) -> Option<&[u8]>
+    ensures { option_map (λ raw. raw.now) result ≡ spec.until_quote body.now }
+{
+    let mut at = 0;
+    'bytes: while at < body.len() {
+        if body[at] == b'"' {
+            return Some(&body[..at]);
+        }
+        at += if body[at] == b'\\' { 2 } else { 1 };
+    }
+    None
+}

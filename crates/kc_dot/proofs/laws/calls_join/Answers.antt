@@ -1,5 +1,0 @@
-use Rattle.kc_dot.proofs.CallLemmas.{calls_join}
-use Rattle.kc_dot.proofs.laws.calls_join.Goals as goal
-
-pub returns : goal.returns
-returns c = calls_join

@@ -1,9 +1,0 @@
--- The view of the other places differs only in which symbols differ, and the text does not ask for it.
-use Rattle.kc_dot.specs.Reread.{valuation_view}
-use Rattle.kc_dot.proofs.EntryLemmas.{config_text-same}
-use Rattle.kc_dot.proofs.laws.config_is_of_values.Goals as goal
-
-pub returns : goal.returns
-returns c tree prefix user other V =
-    let view = valuation_view tree user V in
-    config_text-same tree prefix view.value view.written view.differs (valuation_view tree other V).differs view.truth

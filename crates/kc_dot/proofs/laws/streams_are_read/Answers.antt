@@ -1,5 +1,0 @@
-use Rattle.kc_dot.proofs.StreamLemmas.{streams_are_read}
-use Rattle.kc_dot.proofs.laws.streams_are_read.Goals as goal
-
-pub returns : goal.returns
-returns c = streams_are_read

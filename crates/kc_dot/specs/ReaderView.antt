@@ -1,6 +1,0 @@
--- Trusted: What the fields of a reader say.
-use Rattle.kc_dot.specs.Feeding.{StreamPosition}
-use Rattle.kc_dot.specs.declared.line_buffer.LineBuffer.{LineBuffer}
-
-abbrev pub position_of : LineBuffer → StreamPosition
-position_of line_buffer = record { number = line_buffer.number; pending = line_buffer.pending.items }
