@@ -20,7 +20,7 @@ pub(crate) struct StatedDefault<'a> {
     pub when: Option<&'a Rc<Expr>>,
 }
 
-/// Which of the two a line is: a reverse dependency (`select`) or a weak one (`imply`).
+/// Which of the two a line is: one that selects a symbol, or one that implies it.
 #[derive(Clone, Copy, Debug, PartialEq, Eq)]
 pub(crate) enum SelectOrImply {
     Select,

@@ -219,17 +219,14 @@ pub(crate) enum Output {
 // How a text is made, with values that are solved.
 fn end_of_text(
     alloc: Global,
-    tree: &Tree,
     solved: &Solved<'_>,
     prefix: &Prefix,
     output: Output,
-) -> CallEnd
-    requires { solved.now.tree ≡ tree.now }
-{
+) -> CallEnd {
     let (made, text) = match output {
-        Output::Config => (config_text(alloc, tree, solved, prefix), CONFIG),
-        Output::Header => (header_text(alloc, tree, solved, prefix), HEADER),
-        Output::Minimal => (minimal_text(alloc, tree, solved, prefix), MINIMAL),
+        Output::Config => (config_text(alloc, solved, prefix), CONFIG),
+        Output::Header => (header_text(alloc, solved, prefix), HEADER),
+        Output::Minimal => (minimal_text(alloc, solved, prefix), MINIMAL),
     };
     match made {
         Ok(made) => done(made.as_slice() == text),
@@ -262,7 +259,7 @@ fn end_in_order(
 {
     match (solve(alloc, tree, layout, order, user), work) {
         (Ok(solved), Work::Solve) => Ok(done(has_values(&solved))),
-        (Ok(solved), Work::Text(output)) => Ok(end_of_text(alloc, tree, &solved, prefix, output)),
+        (Ok(solved), Work::Text(output)) => Ok(end_of_text(alloc, &solved, prefix, output)),
         (Err(_), Work::Solve) => Ok(CallEnd::Refused),
         (Err(_), Work::Text(_)) => Err(AllocError),
     }

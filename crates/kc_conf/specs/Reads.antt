@@ -44,10 +44,10 @@ pub record ReadsInputs (options : Options) (tree : TreeFacts) (stopped : Option 
 -- why reading them was broken off, what was done and what was said (`told` is what the device told at first)
 pub data StopsInputs (told : Log) (options : Options) (tree : TreeFacts) (inputs : List InputFile) (warned : List ℕ) : Stop → List Event → List ℕ → Type 0 where
   no_memory : (done left : List Event) (front : List ℕ) → done ++ left ≡ reads inputs → AreLines front → BeginsWith warned front → StopsInputs told options tree inputs warned OutOfMemory done front
-  in_diagnostics : (f : Failure) (done left : List Event) (front : List ℕ) → f.action ≡ Report → f.name.now ≡ [] → done ++ left ≡ reads inputs → AreLines front → GoesBeyond warned front →
-      StopsInputs told options tree inputs warned (Failed f) done front
-  in_input : (f : Failure) (file : InputFile) (done : List Event) (front : List ℕ) → (f.action ≡ Open) ⊎ (f.action ≡ Read) → f.name.now ≡ file.name → ReadsUpTo told options tree inputs f.action file done front →
-      StopsInputs told options tree inputs warned (Failed f) done front
+  in_diagnostics : (f : Failure) (done left : List Event) (front : List ℕ) → f.action ≡ Report → f.name.now ≡ [] → done ++ left ≡ reads inputs → AreLines front →
+      GoesBeyond warned front → StopsInputs told options tree inputs warned (Failed f) done front
+  in_input : (f : Failure) (file : InputFile) (done : List Event) (front : List ℕ) → (f.action ≡ Open) ⊎ (f.action ≡ Read) → f.name.now ≡ file.name →
+      ReadsUpTo told options tree inputs f.action file done front → StopsInputs told options tree inputs warned (Failed f) done front
 
 pub record BreaksInputs (options : Options) (tree : TreeFacts) (stop : Stop) (before : UserInput) (old new : Log) : Type 0 where
   pub inputs : List InputFile

@@ -75,5 +75,6 @@ pub record AreAlone (options alone : Options) : Type 0 where
 -- refuses them may write nothing: what that file assigns may be warned of where the streams were not.)
 abbrev pub MinimalIsRunAgain : Type 0
 MinimalIsRunAgain =
-    (files : Files) (options alone : Options) (all : List (List ℕ)) (outcome later : Outcome) (text : List ℕ) → is_prefix options.prefix ≡ true → AreAlone options alone → alone.strict ≡ false → alone.strict_tree ≡ false → NamesAreRead files alone →
+    (files : Files) (options alone : Options) (all : List (List ℕ)) (outcome later : Outcome) (text : List ℕ) → is_prefix options.prefix ≡ true →
+    AreAlone options alone → alone.strict ≡ false → alone.strict_tree ≡ false → NamesAreRead files alone →
     IsOutcome files options all outcome → outcome.minimal ≡ Some text → IsOutcome files alone (text ∷ []) later → later.config ≡ outcome.config

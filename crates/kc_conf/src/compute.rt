@@ -164,18 +164,16 @@ pub(crate) fn names_listed(
 fn add_config<'o>(
     alloc: Global,
     options: &'o Options,
-    tree: &Tree,
     solved: &Solved<'_>,
     texts: &mut Vec<Text<'o>>,
 ) -> Result<(), AllocError>
-    requires { solved.now.tree ≡ tree.now }
     ensures { OnOk result (map text_view texts.new.items ≡ map text_view texts.old.items
-        ++ text_at options.now.out (text_if options.now.out (whole.config_text tree.now options.now.prefix (solution_view solved.now)))) }
+        ++ text_at options.now.out (text_if options.now.out (whole.config_text solved.now.tree options.now.prefix (solution_view solved.now)))) }
 {
     let Some(name) = &options.out else {
         return Ok(());
     };
-    let bytes = config_text(alloc, tree, solved, &options.prefix)?;
+    let bytes = config_text(alloc, solved, &options.prefix)?;
     texts.push(Text {
         name: name.as_str(),
         bytes,
@@ -187,18 +185,16 @@ fn add_config<'o>(
 fn add_header<'o>(
     alloc: Global,
     options: &'o Options,
-    tree: &Tree,
     solved: &Solved<'_>,
     texts: &mut Vec<Text<'o>>,
 ) -> Result<(), AllocError>
-    requires { solved.now.tree ≡ tree.now }
     ensures { OnOk result (map text_view texts.new.items ≡ map text_view texts.old.items
-        ++ text_at options.now.header (text_if options.now.header (whole.header_text tree.now options.now.prefix (solution_view solved.now)))) }
+        ++ text_at options.now.header (text_if options.now.header (whole.header_text solved.now.tree options.now.prefix (solution_view solved.now)))) }
 {
     let Some(name) = &options.header else {
         return Ok(());
     };
-    let bytes = header_text(alloc, tree, solved, &options.prefix)?;
+    let bytes = header_text(alloc, solved, &options.prefix)?;
     texts.push(Text {
         name: name.as_str(),
         bytes,
@@ -210,18 +206,16 @@ fn add_header<'o>(
 fn add_minimal<'o>(
     alloc: Global,
     options: &'o Options,
-    tree: &Tree,
     solved: &Solved<'_>,
     texts: &mut Vec<Text<'o>>,
 ) -> Result<(), AllocError>
-    requires { solved.now.tree ≡ tree.now }
     ensures { OnOk result (map text_view texts.new.items ≡ map text_view texts.old.items
-        ++ text_at options.now.minimal (text_if options.now.minimal (whole.minimal_text tree.now options.now.prefix (solution_view solved.now)))) }
+        ++ text_at options.now.minimal (text_if options.now.minimal (whole.minimal_text solved.now.tree options.now.prefix (solution_view solved.now)))) }
 {
     let Some(name) = &options.minimal else {
         return Ok(());
     };
-    let bytes = minimal_text(alloc, tree, solved, &options.prefix)?;
+    let bytes = minimal_text(alloc, solved, &options.prefix)?;
     texts.push(Text {
         name: name.as_str(),
         bytes,
@@ -257,17 +251,15 @@ fn add_rule<'o>(
 fn texts_of<'o>(
     alloc: Global,
     options: &'o Options,
-    tree: &Tree,
     solved: &Solved<'_>,
     names: &Option<Names>,
 ) -> Result<Vec<Text<'o>>, AllocError>
-    requires { solved.now.tree ≡ tree.now }
-    ensures { IfOk result (λ texts. map text_view texts.items ≡ texts_of options.now (ruled_files options.now tree.now solved.now names.now)) }
+    ensures { IfOk result (λ texts. map text_view texts.items ≡ texts_of options.now (ruled_files options.now solved.now.tree solved.now names.now)) }
 {
     let mut texts = Vec::new(alloc);
-    add_config(alloc, options, tree, solved, &mut texts)?;
-    add_header(alloc, options, tree, solved, &mut texts)?;
-    add_minimal(alloc, options, tree, solved, &mut texts)?;
+    add_config(alloc, options, solved, &mut texts)?;
+    add_header(alloc, options, solved, &mut texts)?;
+    add_minimal(alloc, options, solved, &mut texts)?;
     add_rule(alloc, options, names, &mut texts)?;
     Ok(texts)
 }
@@ -297,6 +289,6 @@ pub(crate) fn compute<'o>(
     if is_refused(options, input, &solved, &lost, is_warned) {
         return Ok(None);
     }
-    let texts = texts_of(alloc, options, tree, &solved, names)?;
+    let texts = texts_of(alloc, options, &solved, names)?;
     Ok(Some(texts))
 }

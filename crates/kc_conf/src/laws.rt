@@ -76,7 +76,7 @@ pub fn strict_takes_all()
 /// For every file map, options and streams whose run refuses nothing, the minimal file and the `.config` read again, each
 /// alone and from empty places: the minimal file gives the values back, and with any nonempty set of its lines left out it
 /// does not; the `.config` does exactly where no visible tristate symbol outside a choice stands above both its visibility
-/// and its reverse dependency, under the premises of `config_is_idempotent` of kc_config_file. No line of the two is too long to be
+/// and what it is selected to, under the premises of `config_is_idempotent` of kc_config_file. No line of the two is too long to be
 /// read again, whatever the numbers and titles. All this asks that the prefix is one. (Our own.)
 pub fn texts_are_read_again()
     ensures minimal { MinimalIsReadAgain }

@@ -1,4 +1,11 @@
 //! The run: from a map of files and a device to the texts delivered.
+//!
+//! - [`run`]: one run. [`run_each`]: many [`Configurations`] of one tree. [`run_in_folder`]: one run that loads its files.
+//! - [`AcceptedTree`]: a tree without errors.
+//! - [`Stop`]: why a run was broken off. [`say_load_fault`] prints why files could not be loaded.
+//! - [`laws`]: what holds of the outcomes of runs.
+//!
+//! From the crates below: [`Options`], [`Delivery`], [`Status`], [`FileMap`], [`Refusal`], [`Code`].
 #![tactic(auto)]
 
 mod accepted;

@@ -16,13 +16,8 @@ use Rattle.kc_config_file.specs.WrittenLaws.{IsSolutionOf}
 use Rattle.kc_config_file.specs.HasNames.{HasNames}
 use Rattle.kc_config_file.proofs.ShapeLemmas.{untyped_not}
 
-pub solution_of : (s : Solution) (tree : TreeFacts) → s.tree ≡ tree → IsWellFormed tree → IsAccepted s.tree → IsSolution s → ArePlaces tree s.places → IsSolutionOf tree s.places (value_of s)
-solution_of s tree same formed accepted is held = record {
-  formed = formed;
-  accepted = subst IsAccepted same accepted;
-  held = held;
-  solves = subst (λ t. Solves (name_count t) (equations t (place_at s.places)) (value_of s)) same is.solves;
-}
+pub solution_of : (s : Solution) → IsWellFormed s.tree → IsAccepted s.tree → IsSolution s → ArePlaces s.tree s.places → IsSolutionOf s.tree s.places (value_of s)
+solution_of s formed accepted is held = record { formed = formed; accepted = accepted; held = held; solves = is.solves }
 
 -- a defined symbol is one that is mentioned
 pub mentioned : (tree : TreeFacts) → IsWellFormed tree → (s : SymId) → Contains tree.defined s → s.0 < length tree.symbols

@@ -32,7 +32,7 @@ MinimalNeedsEach tree prefix places V =
     IsOneLine (symbol_config tree prefix view s) × (read.stopped ≡ None) × HasOtherSolution tree read.input.places V
 
 -- Reading the .config, from empty places, leaves places of which they are the one solution exactly where no visible
--- tristate symbol outside a choice stands above both its visibility and its reverse dependency.
+-- tristate symbol outside a choice stands above both its visibility and what it is selected to.
 abbrev pub ConfigGivesBack : TreeFacts → List ℕ → Places → (ℕ → SymbolValue) → Type 0
 ConfigGivesBack tree prefix places V =
     HasPlainNumbers tree V → HasPlainTitles tree prefix (valuation_view tree (place_at places) V) → (name : List ℕ) →

@@ -24,7 +24,6 @@ use kc_expr::expression::{SymId, Tri};
 use kc_solve::solved::Solved;
 use kc_tree::layout::Layout;
 use kc_tree::rows::{ShownEntry, TitleId};
-use kc_tree::tree::Tree;
 use std::alloc::{AllocError, Global};
 
 // Whether the value is not n.
@@ -78,11 +77,10 @@ fn text_of(layout: &Layout, title: TitleId) -> &[u8]
 }
 
 // The title of the menu of this number among the entries, where it is shown.
-fn shown_title<'a>(tree: &'a Tree, solved: &Solved<'_>, menu: usize) -> Option<&'a [u8]>
-    requires { solved.now.tree ≡ tree.now }
-    ensures { option_copied result ≡ shown_title (solution_view solved.now) (slice_get tree.now.entries menu) }
+fn shown_title<'a>(solved: &Solved<'a>, menu: usize) -> Option<&'a [u8]>
+    ensures { option_copied result ≡ shown_title (solution_view solved.now) (slice_get solved.now.tree.entries menu) }
 {
-    let layout = tree.layout();
+    let layout = solved.tree().layout();
     match layout.entries().get(menu) {
         Some(ShownEntry::Menu(title)) => {
             if is_shown(solved.shown(menu)) {
@@ -98,22 +96,21 @@ fn shown_title<'a>(tree: &'a Tree, solved: &Solved<'_>, menu: usize) -> Option<&
 // Adds the symbol's line where it is written, after an empty line where an end line stands before it. Answers whether
 // the last line is an end line now.
 fn add_symbol_if(
-    tree: &Tree,
     solved: &Solved<'_>,
     prefix: &Prefix,
     id: SymId,
     after_end: bool,
     file: &mut Vec<u8>,
 ) -> Result<bool, AllocError>
-    requires { id.0 < length tree.now.names }
-    ensures text { OnOk result (file.new.items ≡ file.old.items ++ entry_text tree.now prefix.now (solution_view solved.now) after_end (SymbolShown id)) }
-    ensures next { IfOk result (λ next. next ≡ ends_after tree.now (solution_view solved.now) after_end (SymbolShown id)) }
+    requires { id.0 < length solved.now.tree.names }
+    ensures text { OnOk result (file.new.items ≡ file.old.items ++ entry_text solved.now.tree prefix.now (solution_view solved.now) after_end (SymbolShown id)) }
+    ensures next { IfOk result (λ next. next ≡ ends_after solved.now.tree (solution_view solved.now) after_end (SymbolShown id)) }
 {
     if !solved.written(id) {
         return Ok(after_end);
     }
     add_gap(after_end, file)?;
-    add_config_file_line(prefix, tree.name(id), symbol_value(solved, id), file)?;
+    add_config_file_line(prefix, solved.tree().name(id), symbol_value(solved, id), file)?;
     Ok(false)
 }
 
@@ -142,7 +139,6 @@ fn add_end(title: Option<&[u8]>, after_end: bool, file: &mut Vec<u8>) -> Result<
 
 // Adds what an entry gives. Answers whether the last line is an end line now.
 fn add_entry(
-    tree: &Tree,
     layout: &Layout,
     solved: &Solved<'_>,
     prefix: &Prefix,
@@ -151,21 +147,20 @@ fn add_entry(
     after_end: bool,
     file: &mut Vec<u8>,
 ) -> Result<bool, AllocError>
-    requires there { slice_get tree.now.entries index ≡ Some (shown_of layout.now.tables entry.now) }
-    requires laid { IsLayoutOf tree.now layout.now }
-    requires name { HasName tree.now (shown_of layout.now.tables entry.now) }
-    requires same { solved.now.tree ≡ tree.now }
-    ensures text { OnOk result (file.new.items ≡ file.old.items ++ entry_text tree.now prefix.now (solution_view solved.now) after_end (shown_of layout.now.tables entry.now)) }
-    ensures next { IfOk result (λ next. next ≡ ends_after tree.now (solution_view solved.now) after_end (shown_of layout.now.tables entry.now)) }
+    requires there { slice_get solved.now.tree.entries index ≡ Some (shown_of layout.now.tables entry.now) }
+    requires laid { IsLayoutOf solved.now.tree layout.now }
+    requires name { HasName solved.now.tree (shown_of layout.now.tables entry.now) }
+    ensures text { OnOk result (file.new.items ≡ file.old.items ++ entry_text solved.now.tree prefix.now (solution_view solved.now) after_end (shown_of layout.now.tables entry.now)) }
+    ensures next { IfOk result (λ next. next ≡ ends_after solved.now.tree (solution_view solved.now) after_end (shown_of layout.now.tables entry.now)) }
 {
     match entry {
-        ShownEntry::Symbol(id) => add_symbol_if(tree, solved, prefix, *id, after_end, file),
+        ShownEntry::Symbol(id) => add_symbol_if(solved, prefix, *id, after_end, file),
         ShownEntry::Menu(title) | ShownEntry::Comment(title) => {
             let shown = is_shown(solved.shown(index));
             add_title(shown, text_of(layout, *title), after_end, file)
         }
         ShownEntry::End(menu) => add_end(
-            shown_title(tree, solved, *menu as usize),
+            shown_title(solved, *menu as usize),
             after_end,
             file,
         ),
@@ -174,21 +169,20 @@ fn add_entry(
 
 // Adds what the entries give.
 fn add_entries(
-    tree: &Tree,
     solved: &Solved<'_>,
     prefix: &Prefix,
     file: &mut Vec<u8>,
 ) -> Result<(), AllocError>
-    requires { solved.now.tree ≡ tree.now }
-    ensures { OnOk result (file.new.items ≡ file.old.items ++ entries_text tree.now prefix.now (solution_view solved.now) tree.now.entries) }
+    ensures { OnOk result (file.new.items ≡ file.old.items ++ entries_text solved.now.tree prefix.now (solution_view solved.now) solved.now.tree.entries) }
 {
     // The entries name symbols of the tree alone: `symbol_count` says so.
+    let tree = solved.tree();
     let _ = tree.symbol_count();
     let layout = tree.layout();
     let entries = layout.entries();
     let mut after_end = false;
     for (index, entry) in entries.iter().enumerate() {
-        after_end = add_entry(tree, layout, solved, prefix, index, entry, after_end, file)?;
+        after_end = add_entry(layout, solved, prefix, index, entry, after_end, file)?;
     }
     Ok(())
 }
@@ -212,62 +206,56 @@ fn add_heading(title: &[u8], file: &mut Vec<u8>) -> Result<(), AllocError>
 /// stands where a symbol's line directly follows such an end line. (Our own layout, in the manner of the kernel's conf
 /// and of kconfiglib.)
 ///
-/// The caller owes the solution of that tree. The only error is to be out of memory.
+/// The only error is to be out of memory.
 pub fn config_text(
     alloc: Global,
-    tree: &Tree,
     solved: &Solved<'_>,
     prefix: &Prefix,
 ) -> Result<Vec<u8>, AllocError>
-    requires { solved.now.tree ≡ tree.now }
-    ensures { IfOk result (λ text. text.items ≡ config_text tree.now prefix.now (solution_view solved.now)) }
+    ensures { IfOk result (λ text. text.items ≡ config_text solved.now.tree prefix.now (solution_view solved.now)) }
 {
     let mut file = new_text(alloc)?;
-    add_heading(tree.main_menu(), &mut file)?;
-    add_entries(tree, solved, prefix, &mut file)?;
+    add_heading(solved.tree().main_menu(), &mut file)?;
+    add_entries(solved, prefix, &mut file)?;
     Ok(file)
 }
 
 // Makes the full `.config`, and hands it out.
 fn put_config<S: Sink>(
     alloc: Global,
-    tree: &Tree,
     solved: &Solved<'_>,
     prefix: &Prefix,
     sink: &mut S,
 ) -> Result<(), WriteFault>
-    requires { solved.now.tree ≡ tree.now }
-    ensures { Writes S.Sink (config_text tree.now prefix.now (solution_view solved.now)) result sink.old sink.new }
+    ensures { Writes S.Sink (config_text solved.now.tree prefix.now (solution_view solved.now)) result sink.old sink.new }
 {
-    let text = config_text(alloc, tree, solved, prefix)?;
+    let text = config_text(alloc, solved, prefix)?;
     put_text(&text, sink)
 }
 
-/// Hands out the full `.config`, the text that `config_text` makes. The caller owes the solution of that tree. After an
-/// error, also where there was no memory, the sink took a beginning of it, never the whole.
+/// Hands out the full `.config`, the text that `config_text` makes. After an error, also out of memory, the sink took a
+/// proper prefix of it.
 ///
 /// With the places that reading it leaves, from empty places, the one solution is the one that was written exactly where
-/// no visible tristate symbol outside a choice stands above both its visibility and its reverse dependency. This asks
+/// no visible tristate symbol outside a choice stands above both its visibility and what it is selected to. This asks
 /// that the user's places hold what is allowed, that no int or hex value that is written ends in a blank or a carriage
 /// return, and that neither the main menu's text nor that of a menu or comment that is shown is written as a line that
 /// reads as an unset line. Where the user's places hold what is allowed, no line is too long to be read again.
 pub fn write_config<S: Sink>(
     alloc: Global,
-    tree: &Tree,
     solved: &Solved<'_>,
     prefix: &Prefix,
     sink: &mut S,
 ) -> Result<(), WriteFault>
-    requires { solved.now.tree ≡ tree.now }
-    ensures written { Writes S.Sink (config_text tree.now prefix.now (solution_view solved.now)) result sink.old sink.new }
-    ensures short { ArePlaces tree.now solved.now.places → HasShortLines (config_text tree.now prefix.now (solution_view solved.now)) }
-    ensures idempotent { ArePlaces tree.now solved.now.places → ConfigGivesBack tree.now prefix.now solved.now.places (value_of solved.now) }
+    ensures written { Writes S.Sink (config_text solved.now.tree prefix.now (solution_view solved.now)) result sink.old sink.new }
+    ensures short { ArePlaces solved.now.tree solved.now.places → HasShortLines (config_text solved.now.tree prefix.now (solution_view solved.now)) }
+    ensures idempotent { ArePlaces solved.now.tree solved.now.places → ConfigGivesBack solved.now.tree prefix.now solved.now.places (value_of solved.now) }
 {
     config_is_idempotent();
     written_texts_are_short();
     solved.is_solution();
     solved.is_accepted();
     let _prefix = prefix.as_bytes();
-    let _count = tree.symbol_count();
-    put_config(alloc, tree, solved, prefix, sink)
+    let _count = solved.tree().symbol_count();
+    put_config(alloc, solved, prefix, sink)
 }

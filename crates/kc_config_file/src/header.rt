@@ -17,56 +17,53 @@ use crate::symbol_line::{add_config_file_line, add_header_line, symbol_value};
 use crate::text::{add_parts, new_text};
 use kc_expr::expression::SymId;
 use kc_solve::solved::Solved;
-use kc_tree::tree::Tree;
 use std::alloc::{AllocError, Global};
 
 // Adds the symbol's header line where it is written.
 fn add_header_if(
-    tree: &Tree,
     solved: &Solved<'_>,
     prefix: &Prefix,
     id: SymId,
     file: &mut Vec<u8>,
 ) -> Result<(), AllocError>
-    requires { id.0 < length tree.now.names }
-    ensures { OnOk result (file.new.items ≡ file.old.items ++ header_if tree.now prefix.now (solution_view solved.now) id) }
+    requires { id.0 < length solved.now.tree.names }
+    ensures { OnOk result (file.new.items ≡ file.old.items ++ header_if solved.now.tree prefix.now (solution_view solved.now) id) }
 {
     if !solved.written(id) {
         return Ok(());
     }
-    add_header_line(prefix, tree.name(id), symbol_value(solved, id), file)
+    add_header_line(prefix, solved.tree().name(id), symbol_value(solved, id), file)
 }
 
 // Adds the symbol's line where it differs.
 fn add_minimal_if(
-    tree: &Tree,
     solved: &Solved<'_>,
     prefix: &Prefix,
     id: SymId,
     file: &mut Vec<u8>,
 ) -> Result<(), AllocError>
-    requires named { id.0 < length tree.now.names }
+    requires named { id.0 < length solved.now.tree.names }
     requires mentioned { id.0 < name_count solved.now.tree }
-    ensures line { OnOk result (file.new.items ≡ file.old.items ++ minimal_if tree.now prefix.now (solution_view solved.now) id) }
-    ensures some { OnErr result (0 < length (minimal_if tree.now prefix.now (solution_view solved.now) id)) }
+    ensures line { OnOk result (file.new.items ≡ file.old.items ++ minimal_if solved.now.tree prefix.now (solution_view solved.now) id) }
+    ensures some { OnErr result (0 < length (minimal_if solved.now.tree prefix.now (solution_view solved.now) id)) }
 {
     if !solved.differs(id) {
         return Ok(());
     }
-    add_config_file_line(prefix, tree.name(id), symbol_value(solved, id), file)
+    add_config_file_line(prefix, solved.tree().name(id), symbol_value(solved, id), file)
 }
 
 // Adds the header lines of the written symbols.
 fn add_header_lines(
-    tree: &Tree,
     solved: &Solved<'_>,
     prefix: &Prefix,
     file: &mut Vec<u8>,
 ) -> Result<(), AllocError>
-    ensures { OnOk result (file.new.items ≡ file.old.items ++ flat_map (header_if tree.now prefix.now (solution_view solved.now)) tree.now.defined) }
+    ensures { OnOk result (file.new.items ≡ file.old.items ++ flat_map (header_if solved.now.tree prefix.now (solution_view solved.now)) solved.now.tree.defined) }
 {
+    let tree = solved.tree();
     for i in 0..tree.symbol_count() {
-        add_header_if(tree, solved, prefix, tree.symbol(i), file)?;
+        add_header_if(solved, prefix, tree.symbol(i), file)?;
     }
     Ok(())
 }
@@ -88,55 +85,50 @@ fn add_heading(title: &[u8], file: &mut Vec<u8>) -> Result<(), AllocError>
 /// The header: the heading, and a `#define` line for each written symbol, in the order of their first definition. (The
 /// kernel's conf writes such lines; the heading is our own.)
 ///
-/// The caller owes the solution of that tree. The only error is to be out of memory.
+/// The only error is to be out of memory.
 pub fn header_text(
     alloc: Global,
-    tree: &Tree,
     solved: &Solved<'_>,
     prefix: &Prefix,
 ) -> Result<Vec<u8>, AllocError>
-    requires { solved.now.tree ≡ tree.now }
-    ensures { IfOk result (λ text. text.items ≡ header_text tree.now prefix.now (solution_view solved.now)) }
+    ensures { IfOk result (λ text. text.items ≡ header_text solved.now.tree prefix.now (solution_view solved.now)) }
 {
     let mut file = new_text(alloc)?;
-    add_heading(tree.main_menu(), &mut file)?;
-    add_header_lines(tree, solved, prefix, &mut file)?;
+    add_heading(solved.tree().main_menu(), &mut file)?;
+    add_header_lines(solved, prefix, &mut file)?;
     Ok(file)
 }
 
-/// Hands out the header, the text that `header_text` makes. The caller owes the solution of that tree. After an error,
-/// also where there was no memory, the sink took a beginning of it, never the whole.
+/// Hands out the header, the text that `header_text` makes. After an error, also out of memory, the sink took a proper
+/// prefix of it.
 pub fn write_header<S: Sink>(
     alloc: Global,
-    tree: &Tree,
     solved: &Solved<'_>,
     prefix: &Prefix,
     sink: &mut S,
 ) -> Result<(), WriteFault>
-    requires { solved.now.tree ≡ tree.now }
-    ensures { Writes S.Sink (header_text tree.now prefix.now (solution_view solved.now)) result sink.old sink.new }
+    ensures { Writes S.Sink (header_text solved.now.tree prefix.now (solution_view solved.now)) result sink.old sink.new }
 {
-    let text = header_text(alloc, tree, solved, prefix)?;
+    let text = header_text(alloc, solved, prefix)?;
     put_text(&text, sink)
 }
 
 /// The minimal file: the lines of the symbols that differ, in the order of their first definition. (Our own form.)
 ///
-/// The caller owes the solution of that tree. The only error is to be out of memory, for a file with a line: one without
+/// The only error is to be out of memory, for a file with a line: one without
 /// takes no memory.
 pub fn minimal_text(
     alloc: Global,
-    tree: &Tree,
     solved: &Solved<'_>,
     prefix: &Prefix,
 ) -> Result<Vec<u8>, AllocError>
-    requires { solved.now.tree ≡ tree.now }
-    ensures text { IfOk result (λ text. text.items ≡ minimal_text tree.now prefix.now (solution_view solved.now)) }
-    ensures some { OnErr result (0 < length (minimal_text tree.now prefix.now (solution_view solved.now))) }
+    ensures text { IfOk result (λ text. text.items ≡ minimal_text solved.now.tree prefix.now (solution_view solved.now)) }
+    ensures some { OnErr result (0 < length (minimal_text solved.now.tree prefix.now (solution_view solved.now))) }
 {
     let mut file = Vec::new(alloc);
+    let tree = solved.tree();
     for i in 0..tree.symbol_count() {
-        add_minimal_if(tree, solved, prefix, tree.symbol(i), &mut file)?;
+        add_minimal_if(solved, prefix, tree.symbol(i), &mut file)?;
     }
     Ok(file)
 }
@@ -144,15 +136,13 @@ pub fn minimal_text(
 // Makes the minimal file, and hands it out.
 fn put_minimal<S: Sink>(
     alloc: Global,
-    tree: &Tree,
     solved: &Solved<'_>,
     prefix: &Prefix,
     sink: &mut S,
 ) -> Result<(), WriteFault>
-    requires { solved.now.tree ≡ tree.now }
-    ensures { Writes S.Sink (minimal_text tree.now prefix.now (solution_view solved.now)) result sink.old sink.new }
+    ensures { Writes S.Sink (minimal_text solved.now.tree prefix.now (solution_view solved.now)) result sink.old sink.new }
 {
-    let text = minimal_text(alloc, tree, solved, prefix)?;
+    let text = minimal_text(alloc, solved, prefix)?;
     put_text(&text, sink)
 }
 
@@ -164,22 +154,20 @@ fn put_minimal<S: Sink>(
 /// All three ask that the user's places hold what is allowed.
 pub fn write_minimal<S: Sink>(
     alloc: Global,
-    tree: &Tree,
     solved: &Solved<'_>,
     prefix: &Prefix,
     sink: &mut S,
 ) -> Result<(), WriteFault>
-    requires { solved.now.tree ≡ tree.now }
-    ensures written { Writes S.Sink (minimal_text tree.now prefix.now (solution_view solved.now)) result sink.old sink.new }
-    ensures short { ArePlaces tree.now solved.now.places → HasShortLines (minimal_text tree.now prefix.now (solution_view solved.now)) }
-    ensures restores { ArePlaces tree.now solved.now.places → MinimalGivesBack tree.now prefix.now solved.now.places (value_of solved.now) }
-    ensures nothing_to_spare { ArePlaces tree.now solved.now.places → MinimalNeedsEach tree.now prefix.now solved.now.places (value_of solved.now) }
+    ensures written { Writes S.Sink (minimal_text solved.now.tree prefix.now (solution_view solved.now)) result sink.old sink.new }
+    ensures short { ArePlaces solved.now.tree solved.now.places → HasShortLines (minimal_text solved.now.tree prefix.now (solution_view solved.now)) }
+    ensures restores { ArePlaces solved.now.tree solved.now.places → MinimalGivesBack solved.now.tree prefix.now solved.now.places (value_of solved.now) }
+    ensures nothing_to_spare { ArePlaces solved.now.tree solved.now.places → MinimalNeedsEach solved.now.tree prefix.now solved.now.places (value_of solved.now) }
 {
     minimal_gives_back();
     written_texts_are_short();
     solved.is_solution();
     solved.is_accepted();
     let _prefix = prefix.as_bytes();
-    let _count = tree.symbol_count();
-    put_minimal(alloc, tree, solved, prefix, sink)
+    let _count = solved.tree().symbol_count();
+    put_minimal(alloc, solved, prefix, sink)
 }

@@ -113,7 +113,7 @@ pub fn minimal_gives_back()
 }
 
 /// With the places that reading the written `.config` leaves, from empty places, the values are the one solution exactly
-/// where no visible tristate symbol outside a choice stands above both its visibility and its reverse dependency. This
+/// where no visible tristate symbol outside a choice stands above both its visibility and what it is selected to. This
 /// asks that no int or hex value that is written ends in a blank or a carriage return, and that neither the main menu's
 /// text nor that of a menu or comment that is shown is written as a line that reads as an unset line. (Our own.)
 pub fn config_is_idempotent()

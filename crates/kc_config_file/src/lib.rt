@@ -1,4 +1,22 @@
-//! The `.config` reader and the writers of the three files.
+//! The `.config` file: the reader of input files, and the writers of the three output files.
+//!
+//! Reading:
+//!
+//! - [`reader`]: takes the input files in chunks of any size and gives the user values and the warnings.
+//! - [`line`] and [`value`]: what one line says, and the value on the right of its `=`.
+//! - [`effect`]: what a line does for a tree: nothing, a warning, or an assignment.
+//! - [`user_input`]: all that the input files gave.
+//! - [`shown`]: values and locations, as warnings print them.
+//! - [`fault`]: why reading stopped.
+//!
+//! Writing:
+//!
+//! - [`config`]: the text of the `.config`.
+//! - [`header`]: the texts of the C header and of the minimal file.
+//! - [`prefix`]: what stands before each name, `CONFIG_` by default.
+//! - [`batch`] and [`sink`]: [`put`] hands a text to a [`Sink`], which may fail with a [`Fault`].
+//!
+//! [`laws`]: what is written is read again as it was, and what holds of reading.
 #![tactic(auto)]
 
 pub mod batch;

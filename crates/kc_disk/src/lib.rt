@@ -1,4 +1,10 @@
-//! `kconf` over the files of a disk: the system's devices, and the work of the program.
+//! `kconf` over the files of a disk: the system calls, and the program.
+//!
+//! - [`kconf`]: the program; [`exit_status`] is the status that it ends with.
+//! - [`kconf_over`]: the same over any folder and device. An [`Ended`] says how it ended.
+//! - [`Arguments`]: the arguments of the process.
+//! - [`SystemDevice`] and [`SystemFolder`]: the system calls for files, diagnostics and the files of a tree.
+//! - [`laws`]: how runs of many configurations end.
 #![tactic(auto)]
 
 mod answer;

@@ -63,7 +63,8 @@ pub data Visits (folder_files : FolderFiles) (dir name : List ℕ) (old new : St
   no_text : (IsUtf8 name → ⊥) → new ≡ old → Visits folder_files dir name old new
   not_new : was_requested old.requested name ≡ true → new ≡ old → Visits folder_files dir name old new
   no_file : IsDue old name → AnswersAs folder_files (path_of dir name) None → AddsName name old new → Visits folder_files dir name old new
-  file : (middle : State) (bytes : List ℕ) → IsDue old name → AnswersAs folder_files (path_of dir name) (Some bytes) → AddsName name old middle → AddsFile name bytes middle new → Visits folder_files dir name old new
+  file : (middle : State) (bytes : List ℕ) → IsDue old name → AnswersAs folder_files (path_of dir name) (Some bytes) →
+      AddsName name old middle → AddsFile name bytes middle new → Visits folder_files dir name old new
 
 -- the file of a name that is due could not be read
 abbrev pub FailsAt : State → List ℕ → LoadFault → Type 0

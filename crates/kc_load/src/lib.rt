@@ -1,5 +1,11 @@
-//! The files of a tree: a folder that holds them, the loading of all that a first one reaches, and the dependency file that
-//! lists what a file was made from, as a rule for make.
+//! The files of a tree: loading all that the root file reaches, and the dependency file that lists them.
+//!
+//! - [`load`] reads the root file and all that it sources from a [`Folder`], which may fail with a [`FolderFault`]. A
+//!   [`LoadFault`] says why files could not be loaded.
+//! - [`begins_with_slash`] says whether a path is absolute.
+//! - [`prerequisites_of`] lists the files that a run read, [`rule_text`] is the text of the dependency file, and
+//!   [`unreadable_name`] finds a name that make cannot read.
+//! - [`laws`]: the order in which files are asked for, and what is loaded.
 #![tactic(auto)]
 
 mod fault;

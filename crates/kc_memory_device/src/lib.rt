@@ -1,4 +1,8 @@
-//! A device in memory, for tests: it tells all that was asked of it, gives and takes pieces, and fails at a call of choice.
+//! A device in memory, for tests. It records what was asked of it, splits reads and writes, and fails at a call of choice.
+//!
+//! - [`MemoryDevice`]: the device.
+//! - [`Plan`]: how it splits bytes and which call fails; [`SMOOTH`] fails nowhere.
+//! - [`Record`]: what was asked of it.
 #![tactic(auto)]
 
 mod device;

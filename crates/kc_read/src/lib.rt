@@ -1,4 +1,12 @@
 //! Reading Kconfig files: the statements of a file and of the files that it sources.
+//!
+//! - [`expand`] reads a root file: an [`Expansion`] holds the entries of all its files, or a [`Refusal`] says why not.
+//! - [`FileMap`]: the bytes of each file, by name.
+//! - [`sources_of`] finds the files that one file names in its `source` lines.
+//! - [`statement`] and [`entries`]: what a line says, and the lines of all entries.
+//! - [`refusal`]: the errors of a tree, each with its file and line.
+//! - [`MOST_LINES`]: the most lines that a tree may have.
+//! - [`laws`]: a root file has one expansion.
 #![tactic(auto)]
 
 pub mod entries;

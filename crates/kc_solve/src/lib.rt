@@ -1,4 +1,8 @@
-//! The solver: an order of a tree's symbols, and the one valuation that solves the equations under a user's places.
+//! The solver: an order of the symbols of a tree, and the one solution of its equations under the user values.
+//!
+//! - [`EvaluationOrder`]: an order in which each value comes after those that it needs, or the dependency loop.
+//! - [`solve`]: the values, computed once along that order.
+//! - [`Solved`]: the solution, and what follows from it: which symbols are written, which differ, and the warnings.
 #![tactic(auto)]
 
 mod compute;

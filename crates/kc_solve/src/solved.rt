@@ -99,7 +99,7 @@ impl<'a> Solved<'a> {
     }
 
     /// With the written values that are allowed as the user's, the values solve again exactly where no symbol outside a
-    /// choice has the type tristate, is visible, and is greater than both its visibility and its reverse dependency (our
+    /// choice has the type tristate, is visible, and is greater than both its visibility and what it is selected to (our
     /// own).
     pub fn is_idempotent_where(&self)
         ensures { IdempotentWhere self.now }
@@ -131,7 +131,7 @@ impl<'a> Solved<'a> {
     }
 
     /// Whether the symbol has a line in the `.config`: it is visible; or, outside a choice, a bool or tristate whose
-    /// default, reverse dependency, or weak one within its dependency is not n, or a string, int or hex one of whose
+    /// default, what it is selected to, or what it is implied to within its dependency is not n, or a string, int or hex one of whose
     /// defaults counts. A symbol without a type has none (kconfiglib's `config_string`).
     pub fn written(&self, id: SymId) -> bool
         ensures { result ≡ spec.written self.now id }

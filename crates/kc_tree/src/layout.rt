@@ -1,4 +1,4 @@
-//! The layout of a tree: its contexts, definitions, reverse dependencies, choices and entries, each in one table.
+//! The layout of a tree: its contexts, definitions, selectors, choices and entries, each in one table.
 
 ghost use Rattle.std.specs.Prelude.{◌≡◌, ◌<◌, ◌+◌, ◌^◌, None, length, option_map, slice_get, slice_index_or, IfSome};
 ghost use Rattle.kc_tree.specs.Contexts.{condition_in, mode_view, IsContext};

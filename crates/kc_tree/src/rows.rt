@@ -19,7 +19,7 @@ pub struct ContextId(pub u32);
 #[derive(Clone, Copy, PartialEq, Eq, Debug)]
 pub struct DefinitionId(pub u32);
 
-/// The number of a reverse dependency: its place among those of the tree (our own).
+/// The number of a `select` or `imply` line: its place among those of the tree (our own).
 #[derive(Clone, Copy, PartialEq, Eq, Debug)]
 pub struct SelectorId(pub u32);
 

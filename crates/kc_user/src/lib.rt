@@ -1,4 +1,9 @@
-//! The values that a user gives: one place for each symbol and one for each choice of a tree.
+//! User values: one for each symbol and one for each choice of a tree, where an input file sets it.
+//!
+//! - [`user`]: the user values of a tree.
+//! - [`value`]: what can be set for one symbol.
+//! - [`sparse`]: a row of optional values in which an absent one takes little memory.
+//! - [`laws`]: what holds of the user values of every tree.
 #![tactic(auto)]
 
 pub mod laws;

@@ -39,6 +39,6 @@ module _ (tree : TreeFacts) (user : UserPlace → Option GivenValue) (V : ℕ �
   abbrev pub differs : ℕ → Bool
   differs i = differs_at i (user_place tree i)
 
--- Outside a choice, of type tristate, visible, and greater than both its visibility and its reverse dependency, under values V.
+-- Outside a choice, of type tristate, visible, and greater than both its visibility and what it is selected to, under values V.
 abbrev pub changes_on_reread : TreeFacts → (ℕ → SymbolValue) → ℕ → Bool
 changes_on_reread tree V i = changes_on_reread_facts tree (known_from tree V) (facts tree (symbol i)) (truth_of_value (V i))

@@ -133,11 +133,11 @@ module _ (tree : TreeFacts) (known : SymId → SymbolValue) where
   abbrev pub selector_values : List (Guarded SymId) → Tri
   selector_values gs = greatest (map (λ g. lesser (truth_of_value (known g.what)) (condition g.when)) gs)
 
-  -- The reverse dependency, of the `select` lines that name it (the document's "reverse dependencies").
+  -- What the `select` lines that name it raise it to (the document's "reverse dependencies").
   abbrev pub selected_to : SymbolFacts → Tri
   selected_to f = upgraded f.symbol_type (selector_values f.selectors)
 
-  -- The weak reverse dependency, of the `imply` lines that name it (the document's "weak reverse dependencies").
+  -- What the `imply` lines that name it raise it to (the document's "weak reverse dependencies").
   abbrev pub implied_to : SymbolFacts → Tri
   implied_to f = upgraded f.symbol_type (selector_values f.impliers)
 
@@ -150,7 +150,7 @@ module _ (tree : TreeFacts) (known : SymId → SymbolValue) where
   abbrev pub implied_value : SymbolFacts → Tri
   implied_value f = implied (default_value (first_met f.defaults)) (implied_to f) (direct f)
 
-  -- Bool and tristate outside a choice: the user's value or the default, at least the reverse dependency, even against
+  -- Bool and tristate outside a choice: the user's value or the default, at least what it is selected to, even against
   -- its direct dependency (the document: "select should be used with care").
   abbrev pub truth_equation : SymbolFacts → Option GivenValue → Tri
   truth_equation f user = upgraded f.symbol_type (greater (user_or user (visibility f) (implied_value f)) (selected_to f))

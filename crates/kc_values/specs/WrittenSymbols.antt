@@ -27,7 +27,7 @@ module _ (tree : TreeFacts) (known : SymId → SymbolValue) where
   abbrev pub is_visible : SymbolFacts → Bool
   is_visible f = not (is_n (visibility tree known f))
 
-  -- a bool or tristate: visible, or its default, its reverse dependency, or its weak one within its dependency is not n
+  -- a bool or tristate: visible, or its default, what it is selected to, or what it is implied to within its dependency is not n
   abbrev pub written_truth : SymbolFacts → Bool
   written_truth f =
       is_visible f || (not (is_n (default_value tree known (first_met tree known f.defaults)))
@@ -67,7 +67,7 @@ module _ (tree : TreeFacts) (known : SymId → SymbolValue) where
   is_tristate Int = false
   is_tristate Hex = false
 
-  -- of type tristate, visible, and greater than both its visibility and its reverse dependency
+  -- of type tristate, visible, and greater than both its visibility and what it is selected to
   abbrev pub changes_on_reread_truth : SymbolFacts → Tri → Bool
   changes_on_reread_truth f t =
       is_tristate f.symbol_type && (is_visible f && (above t (visibility tree known f) && above t (selected_to tree known f)))

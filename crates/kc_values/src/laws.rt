@@ -48,7 +48,7 @@ pub fn minimal_restores()
 }
 
 /// The written lines that `allowed` accepts give the values again exactly where no symbol changes on rereading: where none
-/// outside a choice has the type tristate, is visible, and is greater than both its visibility and its reverse dependency
+/// outside a choice has the type tristate, is visible, and is greater than both its visibility and what it is selected to
 /// (our own).
 pub fn idempotent_where()
     ensures { IdempotentWhere }

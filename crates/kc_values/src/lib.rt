@@ -1,4 +1,13 @@
 //! What the symbols of a tree are worth: the equations of the language, one for each symbol, and what holds of them.
+//!
+//! - [`equation`]: the equation of any symbol; by type those of [`truths`] (bool and tristate), [`texts`] (string) and
+//!   [`numbers`] (int and hex); those of choices and their members in [`choices`].
+//! - [`conditions`]: conditions under the values that are known so far.
+//! - [`table`]: the values that are known so far.
+//! - [`needs`] and [`nodes`]: which values each equation asks for, as a graph.
+//! - [`written`] and [`differs`]: which symbols a file shows, and which a minimal file needs.
+//! - [`warnings`]: the warnings about values.
+//! - [`laws`]: what holds of the equations of every tree.
 #![tactic(auto)]
 
 pub mod choices;

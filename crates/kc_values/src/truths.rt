@@ -179,7 +179,7 @@ pub fn direct(table: &Table<'_>, symbol: &Symbol) -> Tri
     upgraded(table, symbol.symbol_type, greatest)
 }
 
-/// The reverse dependency of a symbol: the greatest min(value of the selecting symbol, condition), m being y where the symbol
+/// What a symbol is selected to: the greatest min(value of the selecting symbol, condition), m being y where the symbol
 /// can't be m (the kernel's kconfig-language document, "Menu attributes": reverse dependencies).
 pub(crate) fn selected_to(table: &Table<'_>, id: SymId, symbol: &Symbol) -> Tri
     ensures { result ≡ spec.selected_to table.now.tree.now (known_at table.now) (facts_of table.now.layout.now id.0 symbol.now) }
@@ -194,7 +194,7 @@ pub(crate) fn selected_to(table: &Table<'_>, id: SymId, symbol: &Symbol) -> Tri
     }
 }
 
-/// The weak reverse dependency of a symbol: the same over what implies it (the kernel's kconfig-language document, "Menu
+/// What a symbol is implied to: the same over what implies it (the kernel's kconfig-language document, "Menu
 /// attributes": weak reverse dependencies).
 pub(crate) fn implied_to(table: &Table<'_>, id: SymId, symbol: &Symbol) -> Tri
     ensures { result ≡ spec.implied_to table.now.tree.now (known_at table.now) (facts_of table.now.layout.now id.0 symbol.now) }
@@ -236,8 +236,8 @@ fn given_or_implied(table: &Table<'_>, id: SymId, symbol: &Symbol, user: Option<
 }
 
 /// The value of a bool or tristate symbol outside a choice: the user's up to the visibility where it is visible, else its
-/// default, which an imply raises up to the direct dependency (that order is our own); at least the reverse dependency,
-/// even against the direct one; m being y where the symbol can't be m (the kernel's kconfig-language document, "Menu
+/// default, which an imply raises up to the direct dependency (that order is our own); at least what it is selected to,
+/// even against its direct dependency; m being y where the symbol can't be m (the kernel's kconfig-language document, "Menu
 /// attributes"; kconfiglib's `tri_value`).
 pub(crate) fn truth_equation(
     table: &Table<'_>,

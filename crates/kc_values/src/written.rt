@@ -46,7 +46,7 @@ fn own_is_written(table: &Table<'_>, id: SymId, symbol: &Symbol, visibility: Tri
 }
 
 /// Whether a symbol of this visibility has a line in the `.config` under these values: it is visible; or, outside a
-/// choice, a bool or tristate whose default, reverse dependency, or weak one within its direct dependency is not n, or a
+/// choice, a bool or tristate whose default, what it is selected to, or what it is implied to within its direct dependency is not n, or a
 /// string, int or hex one of whose defaults has a condition that is not n. Without a type it has none (kconfiglib's
 /// `config_string`). The caller owes the visibility, so that it is found once for all that asks for it.
 pub fn written(table: &Table<'_>, id: SymId, symbol: &Symbol, visibility: Tri) -> bool

@@ -1,4 +1,7 @@
-//! The command line of `kconf`: what the words after the program's name ask for.
+//! The command line of `kconf`: what its arguments ask for.
+//!
+//! - [`request_of`] makes a [`Request`] of the arguments, or says by a [`UsageError`] why it cannot.
+//! - [`Each`]: many configurations of one tree, named in [`list_of`] a list or as arguments.
 #![tactic(auto)]
 
 mod apart;

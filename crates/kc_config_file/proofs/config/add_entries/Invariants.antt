@@ -9,5 +9,5 @@ use Rattle.kc_config_file.proofs.config.add_entries.Given as goal
 abbrev pub invariant-loop-index : goal.invariant-loop-index
 invariant-loop-index l =
     let told = solution_view l.solved in
-    l.file.items ++ entries_after l.tree l.prefix told l.after_end (map (shown_of l.layout.tables) (drop l.index l.entries))
-    ≡ l.fn.file.items ++ entries_text l.tree l.prefix told l.tree.entries
+    l.file.items ++ entries_after l.solved.tree l.prefix told l.after_end (map (shown_of l.layout.tables) (drop l.index l.entries))
+    ≡ l.fn.file.items ++ entries_text l.solved.tree l.prefix told l.solved.tree.entries

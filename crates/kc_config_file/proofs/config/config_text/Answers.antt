@@ -6,5 +6,5 @@ use Rattle.kc_config_file.proofs.config.config_text.Goals as goal
 pub returns : goal.returns
 unfolding config_text
 returns c =
-    let lines = entries_text c.args.tree.now c.args.prefix.now (solution_view c.args.solved.now) c.args.tree.now.entries in
+    let lines = entries_text c.args.solved.now.tree c.args.prefix.now (solution_view c.args.solved.now) c.args.solved.now.tree.entries in
     c.in_ok-add_entries.ensures ∙ ap (λ t. t ++ lines) (rw (c.in_ok-file.ensures, c.main_menu.ensures) at c.in_ok-add_heading.ensures)

@@ -8,7 +8,7 @@ use Rattle.kc_config_file.proofs.config.put_config.Goals as goal
 pub returns-in_err-text : goal.returns-in_err-text
 unfolding config_text
 returns-in_err-text g c =
-    writes_nothing g.S.Sink (config_text c.args.tree.now c.args.prefix.now (solution_view c.args.solved.now)) _ _ c.from_residual.ensures.1 (omega arith) (g.met.S.Sink.stays c.args.sink.now)
+    writes_nothing g.S.Sink (config_text c.args.solved.now.tree c.args.prefix.now (solution_view c.args.solved.now)) _ _ c.from_residual.ensures.1 (omega arith) (g.met.S.Sink.stays c.args.sink.now)
 
 pub returns : goal.returns
 returns g c =

@@ -1,21 +1,15 @@
-use Rattle.std.proofs.Common.{sym, subst}
-use Rattle.kc_tree.specs.TreeFacts.{TreeFacts}
-use Rattle.kc_user.specs.Places.{place_at}
+use Rattle.std.proofs.Common.{subst}
+use Rattle.kc_tree.specs.TreeFacts.{IsWellFormed}
 use Rattle.kc_solve.specs.Solved.{value_of}
-use Rattle.kc_config_file.specs.Laws.{HasShortLines}
-use Rattle.kc_config_file.specs.Reread.{valuation_view}
-use Rattle.kc_config_file.specs.Texts.{config_text}
 use Rattle.kc_config_file.proofs.SolutionLemmas.{solution_of}
 use Rattle.kc_config_file.proofs.config.write_config.Goals as goal
 
 pub returns-clause-idempotent : goal.returns-clause-idempotent
 returns-clause-idempotent g c held =
-    let is = solution_of c.args.solved.now c.args.tree.now c.requires c.symbol_count-count.ensures.formed c.is_accepted.ensures c.is_solution.ensures held in
-    c.config_is_idempotent.ensures c.args.tree.now c.args.prefix.now c.args.solved.now.places (value_of c.args.solved.now) c.as_bytes-prefix.ensures.prefix is
+    let is = solution_of c.args.solved.now (subst IsWellFormed c.tree.ensures c.symbol_count-count.ensures.formed) c.is_accepted.ensures c.is_solution.ensures held in
+    c.config_is_idempotent.ensures c.args.solved.now.tree c.args.prefix.now c.args.solved.now.places (value_of c.args.solved.now) c.as_bytes-prefix.ensures.prefix is
 
 pub returns-clause-short : goal.returns-clause-short
 returns-clause-short g c held =
-    let is = solution_of c.args.solved.now c.args.tree.now c.requires c.symbol_count-count.ensures.formed c.is_accepted.ensures c.is_solution.ensures held in
-    let V = value_of c.args.solved.now in
-    let P : TreeFacts → Type 0 = λ t. HasShortLines (config_text c.args.tree.now c.args.prefix.now (valuation_view t (place_at c.args.solved.now.places) V)) in
-    subst P (sym c.requires) (c.written_texts_are_short.ensures c.args.tree.now c.args.prefix.now c.args.solved.now.places V c.as_bytes-prefix.ensures.prefix is).0
+    let is = solution_of c.args.solved.now (subst IsWellFormed c.tree.ensures c.symbol_count-count.ensures.formed) c.is_accepted.ensures c.is_solution.ensures held in
+    (c.written_texts_are_short.ensures c.args.solved.now.tree c.args.prefix.now c.args.solved.now.places (value_of c.args.solved.now) c.as_bytes-prefix.ensures.prefix is).0

@@ -7,5 +7,5 @@ use Rattle.kc_config_file.proofs.header.header_text.Goals as goal
 pub returns : goal.returns
 unfolding header_text
 returns c =
-    let lines = flat_map (header_if c.args.tree.now c.args.prefix.now (solution_view c.args.solved.now)) c.args.tree.now.defined in
+    let lines = flat_map (header_if c.args.solved.now.tree c.args.prefix.now (solution_view c.args.solved.now)) c.args.solved.now.tree.defined in
     c.in_ok-add_header_lines.ensures ∙ ap (λ t. t ++ lines) (rw (c.in_ok-file.ensures, c.main_menu.ensures) at c.in_ok-add_heading.ensures)

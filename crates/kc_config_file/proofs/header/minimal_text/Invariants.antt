@@ -8,4 +8,4 @@ use Rattle.kc_config_file.proofs.header.minimal_text.Given as goal
 abbrev pub invariant-loop-i : goal.invariant-loop-i
 invariant-loop-i l =
     let told = solution_view l.solved in
-    l.file.items ++ flat_map (minimal_if l.tree l.prefix told) (drop l.i l.tree.defined) ≡ minimal_text l.tree l.prefix told
+    l.file.items ++ flat_map (minimal_if l.solved.tree l.prefix told) (drop l.i l.solved.tree.defined) ≡ minimal_text l.solved.tree l.prefix told
