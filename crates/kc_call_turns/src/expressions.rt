@@ -80,7 +80,7 @@ fn number_two(names: &mut Names) -> bool {
 // How many parts a chain of `&&` has.
 fn part_count(expression: &Expr) -> usize {
     match expression {
-        Expr::All(parts) => parts.len(),
+        Expr::All(parts) => parts.rest.len().saturating_add(2),
         _ => 0,
     }
 }

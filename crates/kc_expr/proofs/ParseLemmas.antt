@@ -1,20 +1,19 @@
 -- What the parser's functions need of tokens and names.
-use Rattle.std.proofs.Common.{◌≡◌, ◌≢◌, ℕ, suc, ◌+◌, ◌-◌, ◌≤◌, ◌<◌, false, List, [], ◌∷◌, ◌++◌, map, length, Result, IfErr, IsErrAnd, refl, sym, ap, ◌∙◌, subst, append_assoc, append-nil, arith, Bool}
+use Rattle.std.proofs.Common.{◌≡◌, ◌≢◌, ℕ, suc, ◌+◌, ◌-◌, ◌≤◌, true, false, List, [], ◌∷◌, ◌++◌, Result, IfErr, IsErrAnd, refl, sym, ap, ◌∙◌, subst, append_assoc, append-nil, arith, Bool}
 use Rattle.std.proofs.lemmas.Bool.{false≢true}
 use Rattle.std.proofs.lemmas.Result.{err_from_is_err_and}
 use Rattle.kc_text.specs.declared.tokens.Op.{Op}
-use Rattle.kc_expr.specs.declared.expression.Expr.{Expr}
 use Rattle.kc_text.specs.declared.tokens.Token.{Token}
 use Rattle.kc_expr.specs.declared.parse.ExprFault.{ExprFault}
-use Rattle.kc_expr.specs.Form.{Form, forms, form_of, Leaf, Related, Negated}
+use Rattle.kc_expr.specs.Form.{Form, forms, Leaf, Related, Negated}
 use Rattle.kc_expr.specs.Names.{number_of, all_mentioned, Extends}
 use Rattle.kc_expr.specs.declared.parse.Connective.{Connective}
 use Rattle.kc_expr.specs.declared.parse.Connective.TheVariants.{And, Or}
-use Rattle.kc_expr.specs.Grammar.{Atom, Terminal, OperandToken, Compares, Bang, Joins, Open, Close, Keyword, Chain, only, negation, conjunction, bang, group, lone, compare, spell, spell_part, spell_not, levels, levels_not, leaf, lone_form, names_in_atom, names_in_terminals, connected, meaning_part, parts, terminals_from}
-use Rattle.kc_expr.specs.Scan.{want, right}
-use Rattle.kc_expr.specs.Reading.{starts_compares, starts_joins, starts_close, starts_operand, starts_bang, starts_open, Refuses, Broken, Deep, Any_start, ParsedNot, ParsedPart, ParsedChain, FailsNot, FailsPart, FailsChain}
+use Rattle.kc_expr.specs.Grammar.{Atom, Terminal, OperandToken, Compares, Bang, Joins, Open, Close, Keyword, Chain, only, joined, negation, conjunction, bang, group, lone, compare, spell, spell_part, spell_not, levels, levels_not, leaf, lone_form, names_in_atom, names_in_terminals, connected, meaning, parts, terminals_from}
+use Rattle.kc_expr.specs.Scan.{want, right, lone_in}
+use Rattle.kc_expr.specs.Reading.{starts_compares, starts_joins, starts_close, starts_operand, starts_bang, starts_open, NoneWithin, Refuses, Broken, Deep, Any_start, ParsedNot, ParsedPart, ParsedChain, FailsNot, FailsPart, FailsChain}
 use Rattle.kc_expr.proofs.NamesLemmas.{extends_on, mentioned_on, mentioned_extends, names_in_terminals-append, names_in_terminals-closed}
-use Rattle.kc_expr.proofs.PushLemmas.{push, spell-push, levels-push, lone-push, parts-push, meaning-push}
+use Rattle.kc_expr.proofs.PushLemmas.{push, spell-push, levels-push, lone-push, parts-push}
 use Rattle.kc_expr.proofs.ReadingLemmas.{no_operand, no_right, unclosed, deep_bang_now, deep_group_now, fails_bang, fails_group, fails_next}
 
 refuses_want : (limit cur base : ℕ) (stack : List ℕ) (ts : List Terminal) → starts_operand ts ≡ false → starts_bang ts ≡ false → starts_open ts ≡ false → Refuses limit (want cur base stack) ts
@@ -75,15 +74,15 @@ parsed_compare condition ts rest old now names a b r l m e first second is js k 
       ap (λ y. Related r y m) p ∙ ap (λ y. Related r (leaf (number_of later) a) y) q;
 }
 
--- The parts that were read so far, where a connective stands at a place that joins another to them.
-pub record Parts (c : Connective) (condition : Bool) (k : ℕ) (tokens : List Token) (at place : ℕ) (old names : List (List ℕ)) (es : List Expr) : Type 0 where
+-- The parts that were read so far, which end at a place.
+pub record ReadParts (c : Connective) (condition : Bool) (k : ℕ) (tokens : List Token) (at place : ℕ) (old names : List (List ℕ)) (fs : List Form) : Type 0 where
   pub tree : Chain c
   pub after : at ≤ place
-  pub there : place < length tokens
-  pub whole : terminals_from tokens at ≡ spell tree ++ (Joins c ∷ terminals_from tokens (place + 1))
+  pub whole : terminals_from tokens at ≡ spell tree ++ terminals_from tokens place
   pub mentions : names ≡ all_mentioned old (names_in_terminals (spell tree))
   pub within : levels tree ≤ k
-  pub forms_are : (later : List (List ℕ)) → Extends names later → map form_of es ≡ parts condition (number_of later) tree
+  pub stops : (lone_in tree ≡ true → starts_compares (terminals_from tokens place) ≡ false) × NoneWithin c (terminals_from tokens place)
+  pub forms_are : (later : List (List ℕ)) → Extends names later → fs ≡ parts condition (number_of later) tree
 
 -- a fault that is passed on
 pub fault_passed : {X : Type 0} (r : Result X ExprFault) (P : ExprFault → Type 0) (e : ExprFault) → IsErrAnd r (λ y. y ≡ e) → P e → IfErr r P
@@ -175,77 +174,68 @@ parsed_only c condition k ts rest old names f p s = record {
   form = p.form;
 }
 
-map_form_push : (es : List Expr) (e : Expr) → map form_of (es ++ e ∷ []) ≡ map form_of es ++ form_of e ∷ []
-map_form_push [] e = refl
-map_form_push (x ∷ es) e = ap (λ l. form_of x ∷ l) (map_form_push es e)
+-- the first part
+pub parts_one : (c : Connective) (condition : Bool) (k : ℕ) (tokens : List Token) (at place : ℕ) (old names : List (List ℕ)) (f : Form) →
+    ParsedPart c condition k (terminals_from tokens at) (terminals_from tokens place) old names f → at ≤ place →
+    ReadParts c condition k tokens at place old names (f ∷ [])
+parts_one c condition k tokens at place old names f p a = record {
+  tree = only p.tree;
+  after = a;
+  whole = p.whole;
+  mentions = p.mentions;
+  within = p.within;
+  stops = p.stops;
+  forms_are = λ later x. ap (λ g. g ∷ []) (p.form later x);
+}
 
-module _ (c : Connective) (condition : Bool) (k : ℕ) (tokens : List Token) (at place end : ℕ) (old names names' : List (List ℕ)) (es es' : List Expr) (e : Expr) where
-  -- the first part, where the connective follows
-  pub parts_one : es' ≡ e ∷ [] → ParsedPart c condition k (terminals_from tokens at) (terminals_from tokens end) old names (form_of e) → at ≤ end →
-      end < length tokens → terminals_from tokens end ≡ Joins c ∷ terminals_from tokens (end + 1) → Parts c condition k tokens at end old names es'
-  parts_one items p a there is = record {
-    tree = only p.tree;
-    after = a;
-    there = there;
-    whole = p.whole ∙ ap (λ l. spell_part p.tree ++ l) is;
-    mentions = p.mentions;
-    within = p.within;
-    forms_are = λ later x. ap (map form_of) items ∙ ap (λ f. f ∷ []) (p.form later x);
-  }
-
-  forms_next : (s : Parts c condition k tokens at place old names es) → Extends names names' → es' ≡ es ++ e ∷ [] →
-      (q : ParsedPart c condition k (terminals_from tokens (place + 1)) (terminals_from tokens end) names names' (form_of e)) → (later : List (List ℕ)) →
-      Extends names' later → map form_of es' ≡ parts condition (number_of later) s.tree ++ meaning_part condition (number_of later) q.tree ∷ []
-  forms_next s ext items q later x =
-      ap (map form_of) items ∙ map_form_push es e ∙ ap (λ fs. fs ++ form_of e ∷ []) (s.forms_are later (extends_on names names' later ext x))
-      ∙ ap (λ f. parts condition (number_of later) s.tree ++ f ∷ []) (q.form later x)
-
-  whole_next : (s : Parts c condition k tokens at place old names es) →
-      (q : ParsedPart c condition k (terminals_from tokens (place + 1)) (terminals_from tokens end) names names' (form_of e)) →
-      terminals_from tokens at ≡ spell (push s.tree q.tree) ++ terminals_from tokens end
-  whole_next s q = s.whole ∙ ap (λ l. spell s.tree ++ (Joins c ∷ l)) q.whole
+-- one more part, where the connective stands at the place
+pub parts_next : (c : Connective) (condition : Bool) (k : ℕ) (tokens : List Token) (at place end : ℕ) (old names names' : List (List ℕ)) (fs gs : List Form) (f : Form) →
+    ReadParts c condition k tokens at place old names fs → terminals_from tokens place ≡ Joins c ∷ terminals_from tokens (place + 1) →
+    Extends names names' → ParsedPart c condition k (terminals_from tokens (place + 1)) (terminals_from tokens end) names names' f → place + 1 ≤ end →
+    gs ≡ fs ++ f ∷ [] → ReadParts c condition k tokens at end old names' gs
+parts_next c condition k tokens at place end old names names' fs gs f s is ext q a all = record {
+  tree = push s.tree q.tree;
+  after = let b = s.after in omega arith;
+  whole =
+      s.whole ∙ ap (λ l. spell s.tree ++ l) (is ∙ ap (λ l. Joins c ∷ l) q.whole)
       ∙ sym (append_assoc (spell s.tree) (Joins c ∷ spell_part q.tree) (terminals_from tokens end))
-      ∙ ap (λ l. l ++ terminals_from tokens end) (sym (spell-push s.tree q.tree))
-
-  mentions_next : (s : Parts c condition k tokens at place old names es) →
-      (q : ParsedPart c condition k (terminals_from tokens (place + 1)) (terminals_from tokens end) names names' (form_of e)) →
-      names' ≡ all_mentioned old (names_in_terminals (spell (push s.tree q.tree)))
-  mentions_next s q =
+      ∙ ap (λ l. l ++ terminals_from tokens end) (sym (spell-push s.tree q.tree));
+  mentions =
       mentioned_on old names names' (names_in_terminals (spell s.tree)) (names_in_terminals (spell_part q.tree)) s.mentions q.mentions
-      ∙ ap (all_mentioned old) (sym (ap names_in_terminals (spell-push s.tree q.tree) ∙ names_in_terminals-append (spell s.tree) (Joins c ∷ spell_part q.tree)))
+      ∙ ap (all_mentioned old) (sym (ap names_in_terminals (spell-push s.tree q.tree) ∙ names_in_terminals-append (spell s.tree) (Joins c ∷ spell_part q.tree)));
+  within = levels-push k s.tree q.tree s.within q.within;
+  stops = (λ h. q.stops.0 (sym (lone-push s.tree q.tree) ∙ h), q.stops.1);
+  forms_are = λ later x.
+      all ∙ ap (λ hs. hs ++ f ∷ []) (s.forms_are later (extends_on names names' later ext x))
+      ∙ ap (λ h. parts condition (number_of later) s.tree ++ h ∷ []) (q.form later x)
+      ∙ sym (parts-push condition (number_of later) s.tree q.tree);
+}
 
-  -- one more part, where the connective follows again
-  pub parts_next : Parts c condition k tokens at place old names es → Extends names names' → es' ≡ es ++ e ∷ [] →
-      ParsedPart c condition k (terminals_from tokens (place + 1)) (terminals_from tokens end) names names' (form_of e) → place + 1 ≤ end →
-      end < length tokens → terminals_from tokens end ≡ Joins c ∷ terminals_from tokens (end + 1) → Parts c condition k tokens at end old names' es'
-  parts_next s ext items q a there is = record {
-    tree = push s.tree q.tree;
-    after = let b = s.after in omega arith;
-    there = there;
-    whole = whole_next s q ∙ ap (λ l. spell (push s.tree q.tree) ++ l) is;
-    mentions = mentions_next s q;
-    within = levels-push k s.tree q.tree s.within q.within;
-    forms_are = λ later x. forms_next s ext items q later x ∙ sym (parts-push condition (number_of later) s.tree q.tree);
-  }
+-- two parts or more are their connection
+connected_parts : (c : Connective) (condition : Bool) (number : List ℕ → ℕ) (tree : Chain c) (f g : Form) (fs : List Form) →
+    f ∷ g ∷ fs ≡ parts condition number tree → connected c (forms (f ∷ g ∷ fs)) ≡ meaning condition number tree
+connected_parts c condition number (only p) f g fs e = cc
+connected_parts c condition number (joined p ps) f g fs e = ap (λ hs. connected c (forms hs)) e
 
-  -- the last part
-  pub parsed_last : (f : Form) → f ≡ connected c (forms (map form_of es')) → Parts c condition k tokens at place old names es → Extends names names' →
-      es' ≡ es ++ e ∷ [] → ParsedPart c condition k (terminals_from tokens (place + 1)) (terminals_from tokens end) names names' (form_of e) →
-      starts_joins c (terminals_from tokens end) ≡ false → ParsedChain c condition k (terminals_from tokens at) (terminals_from tokens end) old names' f
-  parsed_last f made s ext items q stop = record {
-    tree = push s.tree q.tree;
-    whole = whole_next s q;
-    mentions = mentions_next s q;
-    within = levels-push k s.tree q.tree s.within q.within;
-    stops = (λ h. q.stops.0 (sym (lone-push s.tree q.tree) ∙ h), q.stops.1, stop);
-    form = λ later x. made ∙ ap (λ fs. connected c (forms fs)) (forms_next s ext items q later x) ∙ meaning-push condition (number_of later) s.tree q.tree;
-  }
+-- the whole chain, which no connective joins to another part
+pub parsed_chain : (c : Connective) (condition : Bool) (k : ℕ) (tokens : List Token) (at place : ℕ) (old names : List (List ℕ)) (f g h : Form) (fs : List Form) →
+    h ≡ connected c (forms (f ∷ g ∷ fs)) → ReadParts c condition k tokens at place old names (f ∷ g ∷ fs) →
+    starts_joins c (terminals_from tokens place) ≡ false → ParsedChain c condition k (terminals_from tokens at) (terminals_from tokens place) old names h
+parsed_chain c condition k tokens at place old names f g h fs made s stop = record {
+  tree = s.tree;
+  whole = s.whole;
+  mentions = s.mentions;
+  within = s.within;
+  stops = (s.stops.0, s.stops.1, stop);
+  form = λ later x. made ∙ connected_parts c condition (number_of later) s.tree f g fs (s.forms_are later x);
+}
 
 -- the next part fails
-pub fails_after : (c : Connective) (condition : Bool) (k : ℕ) (tokens : List Token) (at place : ℕ) (old names : List (List ℕ)) (es : List Expr)
-    (f : ExprFault) → Parts c condition k tokens at place old names es → FailsPart c f k (terminals_from tokens (place + 1)) →
-    FailsChain c f k (terminals_from tokens at)
-fails_after c condition k tokens at place old names es f s h = subst (λ l. FailsChain c f k l) (sym s.whole) (fails_next f k s.tree (terminals_from tokens (place + 1)) s.within h)
+pub fails_after : (c : Connective) (condition : Bool) (k : ℕ) (tokens : List Token) (at place : ℕ) (old names : List (List ℕ)) (fs : List Form)
+    (f : ExprFault) → ReadParts c condition k tokens at place old names fs → terminals_from tokens place ≡ Joins c ∷ terminals_from tokens (place + 1) →
+    FailsPart c f k (terminals_from tokens (place + 1)) → FailsChain c f k (terminals_from tokens at)
+fails_after c condition k tokens at place old names fs f s is h =
+    subst (λ l. FailsChain c f k l) (sym (s.whole ∙ ap (λ l. spell s.tree ++ l) is)) (fails_next f k s.tree (terminals_from tokens (place + 1)) s.within h)
 
 -- how far a chain's rule stands above a negation's
 abbrev pub rank : Connective → ℕ

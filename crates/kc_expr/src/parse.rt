@@ -4,14 +4,14 @@ ghost use Rattle.std.specs.Prelude.{◌≡◌, ℕ, ◌≤◌, true, false, List
 ghost use Rattle.kc_expr.specs.declared.parse.ExprFault.TheVariants.{Memory};
 ghost use Rattle.kc_expr.specs.Limits.{most_levels};
 ghost use Rattle.kc_expr.specs.declared.parse.Connective.TheVariants.{Or};
-ghost use Rattle.kc_expr.specs.Form.{form_of, forms, leaf_of};
+ghost use Rattle.kc_expr.specs.Form.{form_of, forms, leaf_of, parts_of};
 ghost use Rattle.kc_expr.specs.Grammar as spec;
 ghost use Rattle.kc_expr.specs.Grammar.{terminals_from, is_m_leaf, lone_form, IsUnambiguous, Terminal, HasOneLongestFront};
 ghost use Rattle.kc_expr.specs.Parsing.{IsParsed, IsDetermined, IsRefused, OneAnswer};
 ghost use Rattle.kc_expr.specs.Reading.{ParsedNot, ParsedPart, ParsedChain, FailsNot, FailsPart, FailsChain, IsLone, IsNext, ReadsOperand, ReadsRelation, IsMemoryAt, IsOp, IsJoined, StartsNoOp, StartsNoOperand};
 ghost use Rattle.kc_expr.specs.Names.{Extends};
 
-use crate::expression::{Expr, Operand, Operands, Tri};
+use crate::expression::{Expr, Operand, Operands, Parts, Tri};
 use crate::names::Names;
 use crate::values::tristate_constant;
 use kc_text::{Op, Token, unescape_into};
@@ -183,10 +183,13 @@ fn chain(
     if !is_joined(tokens, end, connective) {
         return Ok((first, end));
     }
-    let mut parts = Vec::with_capacity(alloc, 2)?;
-    parts.push(first)?;
-    let mut place = end;
-    loop {
+    let (second, mut place) = part(alloc, tokens, end + 1, levels, connective, condition, names)?;
+    let mut parts = Parts {
+        first,
+        second,
+        rest: Vec::new(alloc),
+    };
+    'rest: while is_joined(tokens, place, connective) {
         let (next, end) = part(
             alloc,
             tokens,
@@ -196,12 +199,10 @@ fn chain(
             condition,
             names,
         )?;
-        parts.push(next)?;
-        if !is_joined(tokens, end, connective) {
-            return Ok((connected(connective, Box::new(alloc, parts)?), end));
-        }
+        parts.rest.push(next)?;
         place = end;
     }
+    Ok((connected(connective, Box::new(alloc, parts)?), place))
 }
 
 // One part of a chain: conjunctions are joined by `||`, negations by `&&`.
@@ -376,8 +377,8 @@ fn is_joined(tokens: &[Token], at: usize, connective: Connective) -> bool
 
 // Two parts or more, joined.
 #[tactic(auto, using(crate::proofs::FormLemmas::chain_forms))]
-fn connected(connective: Connective, parts: Box<Vec<Expr>>) -> Expr
-    ensures { form_of result ≡ spec.connected connective (forms (map form_of parts.value.items)) }
+fn connected(connective: Connective, parts: Box<Parts>) -> Expr
+    ensures { form_of result ≡ spec.connected connective (forms (map form_of (parts_of parts.value))) }
 {
     match connective {
         Connective::And => Expr::All(parts),

@@ -13,7 +13,7 @@ ghost use Rattle.kc_values.specs.Solution.{name_count};
 
 use crate::flags::{at_choice, at_symbol, visibility_at};
 use kc_expr::expression::{SymId, SymbolType, Tri};
-use kc_expr::values::{Values, tri_text};
+use kc_expr::values::{Values, tri_text, truth_of};
 use kc_tree::layout::Layout;
 use kc_tree::rows::{ChoiceId, ContextId, ShownEntry, Title};
 use kc_tree::tree::Tree;
@@ -21,7 +21,6 @@ use kc_user::user::User;
 use kc_values::conditions::title_condition;
 use kc_values::laws::{idempotent_where, minimal_restores};
 use kc_values::table::Table;
-use kc_values::truths::truth_of;
 use std::marker::Model;
 
 /// The one solution of a tree's equations under a user's places, as [`crate::solve::solve`] finds it, with the flags and

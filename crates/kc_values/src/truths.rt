@@ -1,7 +1,6 @@
 //! The equation of a bool or tristate symbol outside a choice.
 
 ghost use Rattle.std.specs.Prelude.{◌≡◌};
-ghost use Rattle.kc_expr.specs.Value.{values_by, truth_of_value};
 ghost use Rattle.kc_tree.specs.Common.{listed};
 ghost use Rattle.kc_tree.specs.Layouts.{definition_facts, facts_of, selector_facts, selectors_from};
 ghost use Rattle.kc_values.specs.TableFacts.{known_at, IsDefinitionOf};
@@ -13,20 +12,9 @@ ghost use Rattle.kc_values.specs.WrittenSymbols as written;
 use crate::conditions::{condition, context, is_n, prompt_condition};
 use crate::table::Table;
 use kc_expr::expression::{SymId, SymbolType, Tri};
-use kc_expr::values::{Values, eval, greater, lesser};
+use kc_expr::values::{eval, greater, lesser, truth_of};
 use kc_tree::rows::{Definition, Selector, SelectorId, Symbol, SymbolDefault};
 use kc_user::value::UserValue;
-
-/// The value of a symbol as a truth: n where it is no bool or tristate (the kernel's kconfig-language document, "Menu
-/// dependencies").
-pub fn truth_of<V: Values>(id: SymId, values: &V) -> Tri
-    ensures { result ≡ truth_of_value (values_by (V.type_of values.now) (V.tri_of values.now) (V.text_of values.now) id) }
-{
-    match values.symbol_type(id) {
-        SymbolType::Bool | SymbolType::Tristate => values.tri(id),
-        _ => Tri::N,
-    }
-}
 
 // Whether the type is tristate under the values: it is written as that, and the modules symbol is a bool or tristate that is
 // not n.

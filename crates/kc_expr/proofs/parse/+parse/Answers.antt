@@ -1,15 +1,15 @@
 -- What the check left open in the cycle of `parse`.
-use Rattle.std.proofs.Common.{ℕ, ◌≤◌, ◌+◌, ◌∙◌, ap, ◌++◌, ◌∷◌, [], length, map, arith}
+use Rattle.std.proofs.Common.{ℕ, ◌∙◌, ap, ◌∷◌, [], map}
+use Rattle.std.proofs.lemmas.List.{map-append}
 use Rattle.std.proofs.lemmas.Result.{IfOk-weaker}
-use Rattle.std.specs.declared.alloc.Global.{Global}
-use Rattle.std.specs.declared.vec.Vec.{Vec}
 use Rattle.kc_expr.specs.declared.expression.Expr.{Expr}
-use Rattle.kc_expr.specs.Form.{form_of, forms}
-use Rattle.kc_expr.specs.Grammar.{connected, terminals_from, spell, spell_not, spell_part, Bang}
-use Rattle.kc_expr.proofs.ParseLemmas.{fault_passed, deep_bang_at, deep_group_at, fails_bang_at, fails_group_at, parsed_bang, unclosed_at, parsed_group, parsed_negation, parsed_conjunction, parsed_only, parts_one, parts_next, parsed_last, fails_after}
+use Rattle.kc_expr.specs.declared.expression.Parts.{Parts}
+use Rattle.kc_expr.specs.Form.{form_of, forms, parts_of}
+use Rattle.kc_expr.specs.Grammar.{connected, terminals_from, spell, spell_not, Bang}
+use Rattle.kc_expr.proofs.ParseLemmas.{fault_passed, deep_bang_at, deep_group_at, fails_bang_at, fails_group_at, parsed_bang, unclosed_at, parsed_group, parsed_negation, parsed_conjunction, parsed_only, parts_one, parts_next, parsed_chain, fails_after}
 use Rattle.kc_expr.specs.declared.parse.ExprFault.TheVariants.{Memory}
 use Rattle.kc_expr.specs.Reading.{FailsNot, ParsedNot}
-use Rattle.kc_expr.proofs.OperandLemmas.{chain_operand, not_operand, operand_in, operand_on, part_operand}
+use Rattle.kc_expr.proofs.OperandLemmas.{chain_operand, not_operand, operand_in, operand_on}
 use Rattle.kc_expr.proofs.NamesLemmas.{extends_on}
 use Rattle.kc_expr.proofs.ReadingLemmas.{fails_negation, fails_conjunction, fails_first}
 use Rattle.kc_expr.proofs.TopLemmas.{IfErr-weaker}
@@ -28,33 +28,59 @@ chain-returns-in_err-first-clause-fails t c =
 pub chain-returns-then-not-is_joined-clause-parsed : goal.chain-returns-then-not-is_joined-clause-parsed
 chain-returns-then-not-is_joined-clause-parsed t c = parsed_only _ _ _ _ _ _ _ _ c.in_ok-first.ensures.parsed c.if-not-is_joined.ensures
 
-pub chain-loop-parts-init : goal.chain-loop-parts-init
-chain-loop-parts-init t c = record {
-  parts = parts_one c.args.connective c.args.condition c.args.levels c.args.tokens.now c.args.at 0 c.in_ok-first.end c.args.names.now c.part.new.names [] []
-      c.push.new.self.items c.in_ok-first.first (c.in_ok-push.ensures.items ∙ ap (λ l. l ++ c.in_ok-first.first ∷ []) c.in_ok-parts.ensures.items)
-      c.in_ok-first.ensures.parsed c.in_ok-first.ensures.within.0 c.if-not-is_joined.ensures.0 c.if-not-is_joined.ensures.1;
-  names = c.part.ensures.names;
-}
+pub chain-returns-in_err-second-clause-fails : goal.chain-returns-in_err-second-clause-fails
+chain-returns-in_err-second-clause-fails t c =
+    let first = parts_one c.args.connective c.args.condition c.args.levels c.args.tokens.now c.args.at c.in_ok-first.end c.args.names.now c.part.new.names
+    (form_of c.in_ok-first.first) c.in_ok-first.ensures.parsed c.in_ok-first.ensures.within.0 in
+    fault_passed c.from_residual-in_err-second.result _ _ c.from_residual-in_err-second.ensures.1
+    (fails_after _ _ _ _ _ _ _ _ _ _ first c.if-not-is_joined.ensures.1 c.in_err-second.ensures.fails)
+
+pub chain-rest-init : goal.chain-rest-init
+chain-rest-init t c =
+    let first = parts_one c.args.connective c.args.condition c.args.levels c.args.tokens.now c.args.at c.in_ok-first.end c.args.names.now c.part.new.names
+    (form_of c.in_ok-first.first) c.in_ok-first.ensures.parsed c.in_ok-first.ensures.within.0 in
+    record {
+      parts = parts_next c.args.connective c.args.condition c.args.levels c.args.tokens.now c.args.at c.in_ok-first.end c.in_ok-second.place c.args.names.now
+          c.part.new.names c.part-2.new.names (form_of c.in_ok-first.first ∷ []) _ (form_of c.in_ok-second.second) first c.if-not-is_joined.ensures.1
+          c.in_ok-second.ensures.names c.in_ok-second.ensures.parsed c.in_ok-second.ensures.within.0
+          (ap (λ es. form_of c.in_ok-first.first ∷ form_of c.in_ok-second.second ∷ map form_of es) c.new.ensures.items);
+      names = extends_on _ _ _ c.in_ok-first.ensures.names c.in_ok-second.ensures.names;
+      within = c.in_ok-second.ensures.within.1;
+    }
 
 pub chain-returns-in_err-next-clause-fails : goal.chain-returns-in_err-next-clause-fails
 chain-returns-in_err-next-clause-fails t c =
-    fault_passed c.from_residual-in_err-next.result _ _ c.from_residual-in_err-next.ensures.1 (fails_after _ _ _ _ _ _ _ _ _ _ c.loop-parts.invariant.parts c.in_err-next.ensures.fails)
+    fault_passed c.from_residual-in_err-next.result _ _ c.from_residual-in_err-next.ensures.1
+    (fails_after _ _ _ _ _ _ _ _ _ _ c.rest.invariant.parts c.rest-test.ensures.1 c.in_err-next.ensures.fails)
 
-pub chain-loop-parts-preserved : goal.chain-loop-parts-preserved
-chain-loop-parts-preserved t c = record {
-  parts = parts_next c.args.connective c.args.condition c.args.levels c.args.tokens.now c.args.at c.loop-parts.place c.in_ok-next.end c.args.names.now
-      c.loop-parts.names c.part-in-loop-parts.new.names c.loop-parts.parts.items c.push-in-loop-parts.new.self.items c.in_ok-next.next
-      c.loop-parts.invariant.parts c.in_ok-next.ensures.names c.in_ok-push-2.ensures.items c.in_ok-next.ensures.parsed c.in_ok-next.ensures.within.0
-      c.if-not-is_joined-2.ensures.0 c.if-not-is_joined-2.ensures.1;
-  names = extends_on _ _ _ c.loop-parts.invariant.names c.in_ok-next.ensures.names;
-}
+pub chain-rest-preserved : goal.chain-rest-preserved
+chain-rest-preserved t c =
+    let parts = c.rest.parts in
+    record {
+      parts = parts_next c.args.connective c.args.condition c.args.levels c.args.tokens.now c.args.at c.rest.place c.in_ok-next.end c.args.names.now
+          c.rest.names c.part-in-rest.new.names (map form_of (parts_of parts)) _ (form_of c.in_ok-next.next) c.rest.invariant.parts c.rest-test.ensures.1
+          c.in_ok-next.ensures.names c.in_ok-next.ensures.parsed c.in_ok-next.ensures.within.0
+          (ap (λ es. form_of parts.first ∷ form_of parts.second ∷ map form_of es) c.in_ok-push.ensures.items
+          ∙ ap (λ fs. form_of parts.first ∷ form_of parts.second ∷ fs) (map-append form_of parts.rest.items (c.in_ok-next.next ∷ [])));
+      names = extends_on _ _ _ c.rest.invariant.names c.in_ok-next.ensures.names;
+      within = c.in_ok-next.ensures.within.1;
+    }
 
-pub chain-returns-then-not-is_joined-2-clause-parsed : goal.chain-returns-then-not-is_joined-2-clause-parsed
-chain-returns-then-not-is_joined-2-clause-parsed t c =
-    parsed_last c.args.connective c.args.condition c.args.levels c.args.tokens.now c.args.at c.loop-parts.place c.in_ok-next.end c.args.names.now
-    c.loop-parts.names c.part-in-loop-parts.new.names c.loop-parts.parts.items c.push-in-loop-parts.new.self.items c.in_ok-next.next
-    (form_of c.connected.result) (c.connected.ensures ∙ ap (λ (v : Vec Expr Global). connected c.args.connective (forms (map form_of v.items))) c.in_ok-new.ensures.ok) c.loop-parts.invariant.parts c.in_ok-next.ensures.names c.in_ok-push-2.ensures.items
-    c.in_ok-next.ensures.parsed c.if-not-is_joined-2.ensures
+pub chain-returns-clause-parsed : goal.chain-returns-clause-parsed
+chain-returns-clause-parsed t c =
+    parsed_chain c.args.connective c.args.condition c.args.levels c.args.tokens.now c.args.at c.rest.place c.args.names.now c.rest.names
+    (form_of c.rest.parts.first) (form_of c.rest.parts.second) (form_of c.connected.result) (map form_of c.rest.parts.rest.items)
+    (c.connected.ensures ∙ ap (λ (p : Parts). connected c.args.connective (forms (map form_of (parts_of p)))) c.in_ok-new.ensures.ok) c.rest.invariant.parts c.rest-test.ensures
+
+pub chain-returns-in_err-push-clause-fails : goal.chain-returns-in_err-push-clause-fails
+chain-returns-in_err-push-clause-fails t c =
+    let p = c.rest.invariant.parts in
+    fault_passed c.from_residual-in_err-push.result _ Memory c.from_residual-in_err-push.ensures.1 (operand_in _ (spell p.tree) _ p.whole (chain_operand p.tree))
+
+pub chain-returns-in_err-new-clause-fails : goal.chain-returns-in_err-new-clause-fails
+chain-returns-in_err-new-clause-fails t c =
+    let p = c.rest.invariant.parts in
+    fault_passed c.from_residual-in_err-new.result _ Memory c.from_residual-in_err-new.ensures.1 (operand_in _ (spell p.tree) _ p.whole (chain_operand p.tree))
 
 pub negation-returns-in_err-operand-clause-fails : goal.negation-returns-in_err-operand-clause-fails
 negation-returns-in_err-operand-clause-fails t c =
@@ -96,31 +122,11 @@ pub part-returns-in-Or-clause-fails : goal.part-returns-in-Or-clause-fails
 part-returns-in-Or-clause-fails t c =
     rw c.in-Or.is (IfErr-weaker _ _ _ (λ f h. fails_conjunction f c.args.levels (terminals_from c.args.tokens.now c.args.at) h) c.chain.ensures.fails)
 
-pub chain-returns-in_err-parts-clause-fails : goal.chain-returns-in_err-parts-clause-fails
-chain-returns-in_err-parts-clause-fails t c =
-    let p = c.in_ok-first.ensures.parsed in
-    fault_passed c.from_residual-in_err-parts.result _ Memory c.from_residual-in_err-parts.ensures.1 (operand_in _ (spell_part p.tree) _ p.whole (part_operand p.tree))
-
-pub chain-returns-in_err-push-2-clause-fails : goal.chain-returns-in_err-push-2-clause-fails
-chain-returns-in_err-push-2-clause-fails t c =
-    let p = c.loop-parts.invariant.parts in
-    fault_passed c.from_residual-in_err-push-2.result _ Memory c.from_residual-in_err-push-2.ensures.1 (operand_in _ (spell p.tree) _ p.whole (chain_operand p.tree))
-
 pub negation-returns-in_err-new-clause-fails : goal.negation-returns-in_err-new-clause-fails
 negation-returns-in_err-new-clause-fails t c =
     let p = c.in_ok-operand.ensures.parsed in
     fault_passed c.from_residual-in_err-new.result _ Memory c.from_residual-in_err-new.ensures.1
     (operand_on _ (Bang ∷ []) _ c.if-is_op.ensures.1 (operand_in _ (spell_not p.tree) _ p.whole (not_operand p.tree)))
-
-pub chain-returns-in_err-new-clause-fails : goal.chain-returns-in_err-new-clause-fails
-chain-returns-in_err-new-clause-fails t c =
-    let p = c.loop-parts.invariant.parts in
-    fault_passed c.from_residual-in_err-new.result _ Memory c.from_residual-in_err-new.ensures.1 (operand_in _ (spell p.tree) _ p.whole (chain_operand p.tree))
-
-pub chain-returns-in_err-push-clause-fails : goal.chain-returns-in_err-push-clause-fails
-chain-returns-in_err-push-clause-fails t c =
-    let p = c.in_ok-first.ensures.parsed in
-    fault_passed c.from_residual-in_err-push.result _ Memory c.from_residual-in_err-push.ensures.1 (operand_in _ (spell_part p.tree) _ p.whole (part_operand p.tree))
 
 pub negation-relation-requires : goal.negation-relation-requires
 negation-relation-requires t c = record { no_op = (c.if-is_op.ensures, c.if-is_op-2.ensures) }
@@ -137,21 +143,3 @@ negation-returns-clause-fails t c =
     let ts = terminals_from c.args.tokens.now c.args.at in
     let k = c.args.levels in
     IfErr-weaker c.relation.result (λ f. (n : ℕ) → FailsNot f n ts) (λ f. FailsNot f k ts) (λ f p. p k) c.relation.ensures.fails
-
--- a part ends behind where its first begins
-within_from : (at begin end n : ℕ) → at ≤ begin → begin + 1 ≤ end → end ≤ n → (at ≤ end) × (end ≤ n)
-within_from at begin end n h i j = (omega arith, j)
-
-pub chain-returns-then-not-is_joined-2-clause-within : goal.chain-returns-then-not-is_joined-2-clause-within
-chain-returns-then-not-is_joined-2-clause-within t c =
-    within_from c.args.at c.loop-parts.place c.in_ok-next.end (length c.args.tokens.now)
-    c.loop-parts.invariant.parts.after c.in_ok-next.ensures.within.0 c.in_ok-next.ensures.within.1
-
-pub chain-returns-in_err-next-clause-names : goal.chain-returns-in_err-next-clause-names
-chain-returns-in_err-next-clause-names t c = extends_on c.args.names.now c.loop-parts.names c.part-in-loop-parts.new.names c.loop-parts.invariant.names c.in_err-next.ensures.names
-
-pub chain-returns-in_err-push-2-clause-names : goal.chain-returns-in_err-push-2-clause-names
-chain-returns-in_err-push-2-clause-names t c = extends_on c.args.names.now c.loop-parts.names c.part-in-loop-parts.new.names c.loop-parts.invariant.names c.in_ok-next.ensures.names
-
-pub chain-returns-then-not-is_joined-2-clause-names : goal.chain-returns-then-not-is_joined-2-clause-names
-chain-returns-then-not-is_joined-2-clause-names t c = extends_on c.args.names.now c.loop-parts.names c.part-in-loop-parts.new.names c.loop-parts.invariant.names c.in_ok-next.ensures.names

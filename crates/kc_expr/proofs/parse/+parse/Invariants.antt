@@ -1,7 +1,8 @@
 -- The invariants and measures of the cycle of `parse`.
-use Rattle.std.proofs.Common.{◌+◌, ◌-◌, ◌*◌, length}
+use Rattle.std.proofs.Common.{◌+◌, ◌-◌, ◌*◌, ◌≤◌, length, map}
+use Rattle.kc_expr.specs.Form.{form_of, parts_of}
 use Rattle.kc_expr.specs.Names.{Extends}
-use Rattle.kc_expr.proofs.ParseLemmas.{Parts, rank}
+use Rattle.kc_expr.proofs.ParseLemmas.{ReadParts, rank}
 use Rattle.kc_expr.proofs.parse.+parse.Given as goal
 
 abbrev pub decreases-negation : goal.decreases-negation
@@ -13,11 +14,12 @@ decreases-part l = 5 * l.levels + rank l.connective + 1
 abbrev pub decreases-chain : goal.decreases-chain
 decreases-chain l = 5 * l.levels + rank l.connective + 2
 
-abbrev pub invariant-chain-loop-parts : goal.invariant-chain-loop-parts
-invariant-chain-loop-parts l = record {
-  parts : Parts l.connective l.condition l.levels l.tokens l.fn.at l.place l.fn.names l.names l.parts.items;
+abbrev pub invariant-chain-rest : goal.invariant-chain-rest
+invariant-chain-rest l = record {
+  parts : ReadParts l.connective l.condition l.levels l.tokens l.fn.at l.place l.fn.names l.names (map form_of (parts_of l.parts));
   names : Extends l.fn.names l.names;
+  within : l.place ≤ length l.tokens;
 }
 
-abbrev pub decreases-chain-loop-parts : goal.decreases-chain-loop-parts
-decreases-chain-loop-parts l = length l.tokens - l.place
+abbrev pub decreases-chain-rest : goal.decreases-chain-rest
+decreases-chain-rest l = length l.tokens - l.place

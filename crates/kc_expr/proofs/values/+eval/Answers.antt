@@ -25,12 +25,12 @@ pub loop-part-preserved : goal.loop-part-preserved
 loop-part-preserved g t c =
     let known = values_by (g.V.Values.type_of c.args.values.now) (g.V.Values.tri_of c.args.values.now) (g.V.Values.text_of c.args.values.now) in
     taken lesser least (λ e. value known (g.V.Values.modules_of c.args.values.now) (form_of e)) c.deref-part-items.result.now c.loop-part.part-index c.part-item.result c.loop-part.all
-    c.eval-in-loop-part.result c.lesser-all.result (value known (g.V.Values.modules_of c.args.values.now) (form_of c.args.e.now)) lesser-assoc (λ t ts. refl) c.loop-part-test.true
-    c.part-item.is c.eval-in-loop-part.ensures c.lesser-all.ensures c.loop-part.invariant
+    c.eval-in-loop-part.result c.lesser-all-in-loop-part.result (value known (g.V.Values.modules_of c.args.values.now) (form_of c.args.e.now)) lesser-assoc (λ t ts. refl) c.loop-part-test.true
+    c.part-item.is c.eval-in-loop-part.ensures c.lesser-all-in-loop-part.ensures c.loop-part.invariant
 
 pub loop-part-2-preserved : goal.loop-part-2-preserved
 loop-part-2-preserved g t c =
     let known = values_by (g.V.Values.type_of c.args.values.now) (g.V.Values.tri_of c.args.values.now) (g.V.Values.text_of c.args.values.now) in
     taken greater greatest (λ e. value known (g.V.Values.modules_of c.args.values.now) (form_of e)) c.deref-part-items-in-Any.result.now c.loop-part-2.part-index c.part-item-in-loop-part-2.result c.loop-part-2.any
-    c.eval-in-loop-part-2.result c.greater-any.result (value known (g.V.Values.modules_of c.args.values.now) (form_of c.args.e.now)) greater-assoc (λ t ts. refl) c.loop-part-2-test.true
-    c.part-item-in-loop-part-2.is c.eval-in-loop-part-2.ensures c.greater-any.ensures c.loop-part-2.invariant
+    c.eval-in-loop-part-2.result c.greater-any-in-loop-part-2.result (value known (g.V.Values.modules_of c.args.values.now) (form_of c.args.e.now)) greater-assoc (λ t ts. refl) c.loop-part-2-test.true
+    c.part-item-in-loop-part-2.is c.eval-in-loop-part-2.ensures c.greater-any-in-loop-part-2.ensures c.loop-part-2.invariant
