@@ -2,26 +2,19 @@
 use Rattle.std.specs.Prelude.{ℕ, List, Option, Some, None, if◌then◌else◌}
 use Rattle.std.specs.Option.{option_map, option_and_then}
 use Rattle.kc_expr.specs.declared.expression.SymId.{SymId}
-use Rattle.kc_expr.specs.Form.{Form, Leaf, form_of, leaf_of}
+use Rattle.kc_expr.specs.Form.{Form, Leaf}
 use Rattle.kc_expr.specs.When.{when_view}
 use Rattle.kc_read.specs.Statements.{Numbered, RangeLine}
 use Rattle.kc_tree.specs.declared.rows.ChoiceDefault.{ChoiceDefault}
 use Rattle.kc_tree.specs.declared.rows.EntryPrompt.{EntryPrompt}
 use Rattle.kc_tree.specs.declared.rows.Symbol.{Symbol}
-use Rattle.kc_tree.specs.declared.rows.SymbolDefault.{SymbolDefault}
-use Rattle.kc_tree.specs.declared.rows.SymbolRange.{SymbolRange}
 use Rattle.kc_build.specs.Facts.{StatedDefault, stated_default, single_symbol}
 use Rattle.kc_build.specs.SymbolRows.{member_by}
+pub use Rattle.kc_tree.specs.OwnRows.{default_row, range_row}
 
--- a prompt by the number of its context; a default, a range, a choice's default
+-- a prompt by the number of its context; a choice's default
 abbrev pub prompt_line : EntryPrompt → ℕ × Option Form
 prompt_line p = (p.visible.0, when_view p.when)
-
-abbrev pub default_row : SymbolDefault → Form × Option Form
-default_row d = (form_of d.value.value, when_view d.when)
-
-abbrev pub range_row : SymbolRange → Leaf × Leaf × Option Form
-range_row r = (leaf_of r.low, leaf_of r.high, when_view r.when)
 
 abbrev pub choice_default_line : ChoiceDefault → SymId × Option Form
 choice_default_line d = (d.member, when_view d.when)

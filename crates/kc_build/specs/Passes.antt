@@ -2,10 +2,9 @@
 use Rattle.std.specs.Prelude.{ℕ, zero, suc, List, [], ◌∷◌, map, Option, Some, None}
 use Rattle.std.specs.Prelude.{option_map}
 use Rattle.kc_expr.specs.declared.expression.SymId.{SymId}
-use Rattle.kc_expr.specs.Form.{Form, Leaf, form_of, leaf_of}
-use Rattle.kc_build.specs.declared.lines.StatedDefault.{StatedDefault}
+use Rattle.kc_expr.specs.Form.{Form, form_of}
+use Rattle.kc_expr.specs.When.{when_view}
 use Rattle.kc_build.specs.declared.lines.Target.{Target}
-use Rattle.kc_build.specs.declared.lines.Range.{Range}
 use Rattle.kc_build.specs.declared.lines.SelectOrImply.{SelectOrImply}
 use Rattle.kc_build.specs.Facts as spec
 use Rattle.kc_read.specs.declared.entries.AttributeLine.{AttributeLine}
@@ -13,6 +12,7 @@ use Rattle.kc_read.specs.declared.entries.Entries.{Entries}
 use Rattle.kc_read.specs.Entries.{lines_in}
 use Rattle.kc_read.specs.StatementViews.{attribute_view}
 use Rattle.kc_read.specs.Statements.{Numbered, statements}
+use Rattle.kc_tree.specs.declared.rows.SymbolDefault.{SymbolDefault}
 
 -- the statements of attributes; those of entries
 abbrev pub statements_of : List AttributeLine → List Numbered
@@ -21,15 +21,13 @@ statements_of = map (λ l. attribute_view l.attribute)
 abbrev pub statements_in : Entries → List Numbered
 statements_in es = statements (lines_in es)
 
-abbrev pub stated_default_view : StatedDefault → spec.StatedDefault
-stated_default_view g = record { value = form_of g.value.now.value; when = option_map (λ e. form_of e.now.value) g.when }
+-- a default as a line states it
+abbrev pub stated_default_view : SymbolDefault → spec.StatedDefault
+stated_default_view d = record { value = form_of d.value.value; when = when_view d.when }
 
 -- a line that selects or implies: which, whom, when
 abbrev pub target_view : Target → SelectOrImply × SymId × Option Form
 target_view t = (t.word, t.symbol, option_map (λ e. form_of e.now.value) t.when)
-
-abbrev pub range_view : Range → Leaf × Leaf × Option Form
-range_view r = (leaf_of r.low.now, leaf_of r.high.now, option_map (λ e. form_of e.now.value) r.when)
 
 -- the element at a place, changed
 abbrev pub change : {A : Type 0} → (A → A) → ℕ → List A → List A

@@ -2,9 +2,7 @@
 
 ghost use Rattle.std.specs.Prelude.{◌≡◌, ◌<◌, ◌≤◌, ◌+◌, ◌++◌, ◌^◌, length, map, option_map, IfOk, OnErr, OnOk};
 ghost use Rattle.std.specs.List.{filter_map};
-ghost use Rattle.kc_expr.specs.Form.{form_of};
 ghost use Rattle.kc_read.specs.Blocks as blocks;
-ghost use Rattle.kc_expr.specs.When.{when_view};
 ghost use Rattle.kc_read.specs.StatementViews.{attribute_view, input_prompt_view};
 ghost use Rattle.kc_tree.specs.Common.{listed};
 ghost use Rattle.kc_tree.specs.Contexts.{condition_in};
@@ -15,12 +13,11 @@ ghost use Rattle.kc_build.specs.Passes.{statements_of};
 ghost use Rattle.kc_tree.specs.Layouts.{with_conjuncts};
 
 use crate::blocks::BlockScope;
-use crate::copies::operand_copy;
 use crate::lines::{
     depends_of, prompt_of, range_of, single_symbol, stated_default, stated_type, visible_of,
 };
 use crate::symbols::is_member;
-use kc_expr::expression::{Expr, SymbolType};
+use kc_expr::expression::{SymbolType, shared_condition};
 use kc_read::entries::AttributeLine;
 use kc_read::statement;
 use kc_read::statement::Attribute;
@@ -29,7 +26,6 @@ use kc_tree::rows::{
     ChoiceDefault, ChoiceId, ContextId, EntryPrompt, RowSpan, Symbol, SymbolDefault, SymbolRange,
 };
 use std::alloc::{AllocError, Global};
-use std::rc::Rc;
 
 /// The first type that attributes give.
 pub(crate) fn first_type(attributes: &[AttributeLine]) -> Option<SymbolType>
@@ -52,16 +48,6 @@ fn last_prompt(attributes: &[AttributeLine]) -> Option<&statement::Prompt>
         last = prompt_of(&line.attribute).or(last);
     }
     last
-}
-
-/// The condition of a line, shared.
-pub(crate) fn shared_condition(when: Option<&Rc<Expr>>) -> Result<Option<Rc<Expr>>, AllocError>
-    ensures { IfOk result (λ o. when_view o ≡ option_map (λ e. form_of e.now.value) when.entry) }
-{
-    match when {
-        Some(e) => Ok(Some(e.clone()?)),
-        None => Ok(None),
-    }
 }
 
 // The prompt of an entry whose last prompt this is; `visible` is what the enclosing menus ask of what is visible.
@@ -154,9 +140,7 @@ fn add_default(attribute: &Attribute, defaults: &mut Vec<SymbolDefault>) -> Resu
 {
     match stated_default(attribute) {
         Some(stated) => {
-            let value = stated.value.clone()?;
-            let when = shared_condition(stated.when)?;
-            defaults.push(SymbolDefault { value, when })?;
+            defaults.push(stated.shared()?)?;
             Ok(())
         }
         None => Ok(()),
@@ -169,10 +153,7 @@ fn add_range(attribute: &Attribute, ranges: &mut Vec<SymbolRange>) -> Result<(),
 {
     match range_of(attribute) {
         Some(range) => {
-            let low = operand_copy(range.low)?;
-            let high = operand_copy(range.high)?;
-            let when = shared_condition(range.when)?;
-            ranges.push(SymbolRange { low, high, when })?;
+            ranges.push(range.shared()?)?;
             Ok(())
         }
         None => Ok(()),
@@ -249,9 +230,9 @@ pub(crate) fn choice_defaults(
     let mut defaults = Vec::new(alloc);
     for line in attributes {
         if let Some(stated) = stated_default(&line.attribute) {
-            if let Some(member) = single_symbol(stated.value) {
+            if let Some(member) = single_symbol(&stated.value) {
                 if is_member(symbols, choice, member) {
-                    let when = shared_condition(stated.when)?;
+                    let when = shared_condition(stated.when.as_ref())?;
                     defaults.push(ChoiceDefault { member, when })?;
                 }
             }

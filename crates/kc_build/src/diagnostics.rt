@@ -145,7 +145,7 @@ fn default_symbol(attribute: &Attribute) -> Option<SymId>
     ensures { result ≡ default_symbol (attribute_view attribute.now) }
 {
     match stated_default(attribute) {
-        Some(stated) => single_symbol(stated.value),
+        Some(stated) => single_symbol(&stated.value),
         None => None,
     }
 }
@@ -182,8 +182,8 @@ fn warnings_of(
             prompt_redefined(attribute, entry, prompted),
         ),
         Attribute::Prompt(_) => (prompt_redefined(attribute, entry, prompted), None),
-        Attribute::Default(_, _) => (default_not_member(attribute, entry, symbols), None),
-        Attribute::Def(_, _, _) => (
+        Attribute::Default(_) => (default_not_member(attribute, entry, symbols), None),
+        Attribute::Def(_, _) => (
             type_redefined(attribute, entry, symbols),
             default_not_member(attribute, entry, symbols),
         ),
@@ -224,8 +224,8 @@ fn is_bad_default(attribute: &Attribute, entry: MenuEntry, symbols: &[Symbol]) -
 {
     match stated_default(attribute) {
         Some(stated) => {
-            (is_text_entry(entry, symbols) && !is_single(stated.value))
-                || (entry_choice(entry).is_some() && single_symbol(stated.value).is_none())
+            (is_text_entry(entry, symbols) && !is_single(&stated.value))
+                || (entry_choice(entry).is_some() && single_symbol(&stated.value).is_none())
         }
         None => false,
     }
@@ -295,9 +295,10 @@ fn is_odd_attribute(
             (prompt.is_some() && prompted) || is_other_type(*symbol_type, entry, symbols)
         }
         Attribute::Prompt(_) => prompted,
-        Attribute::Default(value, _) => is_odd_default(value, entry, symbols),
-        Attribute::Def(symbol_type, value, _) => {
-            is_other_type(*symbol_type, entry, symbols) || is_odd_default(value, entry, symbols)
+        Attribute::Default(stated) => is_odd_default(&stated.value, entry, symbols),
+        Attribute::Def(symbol_type, stated) => {
+            is_other_type(*symbol_type, entry, symbols)
+                || is_odd_default(&stated.value, entry, symbols)
         }
         Attribute::Select(symbol, _) => is_odd_target(*symbol, symbols),
         Attribute::Imply(symbol, _) => is_odd_target(*symbol, symbols),
@@ -482,7 +483,7 @@ impl Diagnostics {
             | Attribute::Imply(_, _) => warn_attribute(
                 alloc, names, symbols, summary, prompted, place, attribute, warnings,
             ),
-            Attribute::Default(_, _) | Attribute::Def(_, _, _) => {
+            Attribute::Default(_) | Attribute::Def(_, _) => {
                 warn_attribute(
                     alloc, names, symbols, summary, prompted, place, attribute, warnings,
                 )?;

@@ -9,7 +9,6 @@
 mod attributes;
 mod blocks;
 mod build;
-mod copies;
 mod diagnostics;
 mod entries;
 pub mod laws;

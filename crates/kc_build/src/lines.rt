@@ -5,20 +5,15 @@ ghost use Rattle.kc_expr.specs.Form.{form_of};
 ghost use Rattle.kc_expr.specs.When.{when_view};
 ghost use Rattle.kc_read.specs.StatementViews.{attribute_view, head_view, input_prompt_view};
 ghost use Rattle.kc_build.specs.Facts as facts;
-ghost use Rattle.kc_build.specs.Passes.{stated_default_view, target_view, range_view};
+ghost use Rattle.kc_tree.specs.OwnRows.{range_row};
+ghost use Rattle.kc_build.specs.Passes.{stated_default_view, target_view};
 ghost use Rattle.kc_build.specs.EntryLines.{range_line};
 ghost use Rattle.kc_build.specs.Targets as targets;
 
 use kc_expr::expression::{Expr, Operand, SymId, SymbolType};
 use kc_read::statement::{Attribute, Head, Prompt};
+use kc_tree::rows::{SymbolDefault, SymbolRange};
 use std::rc::Rc;
-
-/// A default: its value and its condition.
-#[derive(Clone, Copy)]
-pub(crate) struct StatedDefault<'a> {
-    pub value: &'a Rc<Expr>,
-    pub when: Option<&'a Rc<Expr>>,
-}
 
 /// Which of the two a line is: one that selects a symbol, or one that implies it.
 #[derive(Clone, Copy, Debug, PartialEq, Eq)]
@@ -32,14 +27,6 @@ pub(crate) enum SelectOrImply {
 pub(crate) struct Target<'a> {
     pub word: SelectOrImply,
     pub symbol: SymId,
-    pub when: Option<&'a Rc<Expr>>,
-}
-
-/// A `range` line.
-#[derive(Clone, Copy)]
-pub(crate) struct Range<'a> {
-    pub low: &'a Operand,
-    pub high: &'a Operand,
     pub when: Option<&'a Rc<Expr>>,
 }
 
@@ -59,7 +46,7 @@ pub(crate) fn stated_type(attribute: &Attribute) -> Option<SymbolType>
 {
     match attribute {
         Attribute::Type(k, _) => Some(*k),
-        Attribute::Def(k, _, _) => Some(*k),
+        Attribute::Def(k, _) => Some(*k),
         _ => None,
     }
 }
@@ -86,18 +73,12 @@ pub(crate) fn condition(when: &Option<Rc<Expr>>) -> Option<&Rc<Expr>>
 }
 
 /// The default of a line.
-pub(crate) fn stated_default(attribute: &Attribute) -> Option<StatedDefault<'_>>
-    ensures { option_map stated_default_view result ≡ facts.stated_default (attribute_view attribute.now) }
+pub(crate) fn stated_default(attribute: &Attribute) -> Option<&SymbolDefault>
+    ensures { option_map (λ d. stated_default_view d.now) result ≡ facts.stated_default (attribute_view attribute.now) }
 {
     match attribute {
-        Attribute::Default(value, when) => Some(StatedDefault {
-            value,
-            when: condition(when),
-        }),
-        Attribute::Def(_, value, when) => Some(StatedDefault {
-            value,
-            when: condition(when),
-        }),
+        Attribute::Default(stated) => Some(stated),
+        Attribute::Def(_, stated) => Some(stated),
         _ => None,
     }
 }
@@ -141,16 +122,12 @@ pub(crate) fn target_of(attribute: &Attribute) -> Option<Target<'_>>
     }
 }
 
-/// The bounds of a `range` line.
-pub(crate) fn range_of(attribute: &Attribute) -> Option<Range<'_>>
-    ensures { option_map range_view result ≡ range_line (attribute_view attribute.now) }
+/// The range of a `range` line.
+pub(crate) fn range_of(attribute: &Attribute) -> Option<&SymbolRange>
+    ensures { option_map (λ r. range_row r.now) result ≡ range_line (attribute_view attribute.now) }
 {
     match attribute {
-        Attribute::Range(bounds, when) => Some(Range {
-            low: &bounds.low,
-            high: &bounds.high,
-            when: condition(when),
-        }),
+        Attribute::Range(range) => Some(range),
         _ => None,
     }
 }

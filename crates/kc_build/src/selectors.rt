@@ -6,10 +6,9 @@ ghost use Rattle.kc_build.specs.Passes.{statements_of};
 ghost use Rattle.kc_build.specs.SelectorRows.{IsAdded, AreAdded, KeepSources};
 ghost use Rattle.kc_expr.specs.Form.{form_of};
 
-use crate::attributes::shared_condition;
 use crate::lines::{SelectOrImply, Target, target_of};
 use crate::symbols::{choice_of, has_text, type_of};
-use kc_expr::expression::{Expr, SymId};
+use kc_expr::expression::{Expr, SymId, shared_condition};
 use kc_read::entries::AttributeLine;
 use kc_tree::rows::{DefinitionId, Selector, SelectorId, Symbol};
 use kc_tree::selector_rows::SelectorRows;

@@ -132,7 +132,7 @@ abbrev pub is_m_leaf : Leaf → Bool
 is_m_leaf (Symbol s) = false
 is_m_leaf (Text t) = same_name t m_word
 
--- in a condition a plain m also asks for the modules symbol
+-- in a condition a lone m also asks for the modules symbol
 abbrev pub lone_form : Bool → Leaf → Form
 lone_form condition l = if condition && is_m_leaf l then LoneM else Single l
 

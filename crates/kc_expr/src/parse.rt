@@ -301,7 +301,7 @@ fn relation(
     Ok((Expr::Rel(op, operands), at + 3))
 }
 
-// An operand that is alone: a plain m of a condition is also asked of the modules symbol.
+// An operand that is alone: a lone m of a condition is also asked of the modules symbol.
 fn lone_expression(operand: Operand, condition: bool) -> Expr
     ensures { form_of result ≡ lone_form condition (leaf_of operand) }
 {

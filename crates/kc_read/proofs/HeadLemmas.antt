@@ -43,13 +43,13 @@ parts s = (is_attribute s, bracket s, is_source s, defined_name s)
 of_attribute : (a : Attribute) → parts (attribute_view a) ≡ (true, NoBracket, false, None)
 of_attribute (attribute.Type k p) = refl
 of_attribute (attribute.Prompt p) = refl
-of_attribute (attribute.Default v w) = refl
-of_attribute (attribute.Def k v w) = refl
+of_attribute (attribute.Default d) = refl
+of_attribute (attribute.Def k d) = refl
 of_attribute (attribute.Depends e) = refl
 of_attribute (attribute.Visible e) = refl
 of_attribute (attribute.Select s w) = refl
 of_attribute (attribute.Imply s w) = refl
-of_attribute (attribute.Range b w) = refl
+of_attribute (attribute.Range r) = refl
 of_attribute attribute.Help = refl
 of_attribute attribute.Modules = refl
 of_attribute attribute.Ignored = refl

@@ -30,13 +30,13 @@ head_view (head.MainMenu t) = MainMenuLine t.value.items
 abbrev pub attribute_view : Attribute → Numbered
 attribute_view (attribute.Type k p) = TypeLine k (option_map input_prompt_view p)
 attribute_view (attribute.Prompt p) = PromptLine (input_prompt_view p)
-attribute_view (attribute.Default v w) = DefaultLine (form_of v.value) (when_view w)
-attribute_view (attribute.Def k v w) = DefLine k (form_of v.value) (when_view w)
+attribute_view (attribute.Default d) = DefaultLine (form_of d.value.value) (when_view d.when)
+attribute_view (attribute.Def k d) = DefLine k (form_of d.value.value) (when_view d.when)
 attribute_view (attribute.Depends e) = DependsLine (form_of e.value)
 attribute_view (attribute.Visible e) = VisibleLine (form_of e.value)
 attribute_view (attribute.Select s w) = SelectLine s (when_view w)
 attribute_view (attribute.Imply s w) = ImplyLine s (when_view w)
-attribute_view (attribute.Range b w) = RangeLine (leaf_of b.value.low) (leaf_of b.value.high) (when_view w)
+attribute_view (attribute.Range r) = RangeLine (leaf_of r.value.low) (leaf_of r.value.high) (when_view r.value.when)
 attribute_view attribute.Help = HelpLine
 attribute_view attribute.Modules = ModulesLine
 attribute_view attribute.Ignored = IgnoredLine

@@ -44,13 +44,13 @@ Named = Statement Disjunction Atom (List ℕ)
 abbrev pub Numbered : Type 0
 Numbered = Statement Form Leaf SymId
 
--- a value: a plain m is m
+-- a value: a lone m is m
 abbrev pub value_form : (List ℕ → ℕ) → Disjunction → Form
 value_form number d = meaning_or false number d
 
 -- Where names have these numbers.
 module _ (number : List ℕ → ℕ) where
-  -- a condition: a plain m in it asks for the modules symbol too
+  -- a condition: a lone m in it asks for the modules symbol too
   abbrev pub condition_form : Disjunction → Form
   condition_form d = meaning_or true number d
 

@@ -18,10 +18,11 @@ use crate::line_parts::{
 use crate::placement::{left_out, placement_fault};
 use crate::progress::Progress;
 use crate::refusal::Code;
-use crate::statement::{Attribute, Bounds, Head, Keyword, LineFault, Prompt, Statement};
+use crate::statement::{Attribute, Head, Keyword, LineFault, Prompt, Statement};
 use kc_expr::expression::{SymId, SymbolType};
 use kc_expr::names::Names;
 use kc_text::Token;
+use kc_tree::rows::{SymbolDefault, SymbolRange};
 use std::alloc::Global;
 use std::rc::Rc;
 
@@ -101,7 +102,10 @@ fn default_line<'a>(
 {
     let (value, after) = front(alloc, tokens, 1, false, names)?;
     let when = condition(alloc, tokens, after, names)?;
-    Ok(Statement::Attribute(Attribute::Default(Rc::new(alloc, value)?, when)))
+    Ok(Statement::Attribute(Attribute::Default(SymbolDefault {
+        value: Rc::new(alloc, value)?,
+        when,
+    })))
 }
 
 fn prompt_line<'a>(
@@ -178,8 +182,8 @@ fn range_line<'a>(
     let low = operand_at(alloc, tokens, 1, names)?;
     let high = operand_at(alloc, tokens, 2, names)?;
     let when = condition(alloc, tokens, 3, names)?;
-    let bounds = Box::new(alloc, Bounds { low, high })?;
-    Ok(Statement::Attribute(Attribute::Range(bounds, when)))
+    let range = Box::new(alloc, SymbolRange { low, high, when })?;
+    Ok(Statement::Attribute(Attribute::Range(range)))
 }
 
 fn option_line<'a>(tokens: &[Token<'a>]) -> Result<Statement, LineFault<'a>>
@@ -259,7 +263,11 @@ fn def_line<'a>(
 {
     let (value, after) = front(alloc, tokens, 1, false, names)?;
     let when = condition(alloc, tokens, after, names)?;
-    Ok(Statement::Attribute(Attribute::Def(symbol_type, Rc::new(alloc, value)?, when)))
+    let stated = SymbolDefault {
+        value: Rc::new(alloc, value)?,
+        when,
+    };
+    Ok(Statement::Attribute(Attribute::Def(symbol_type, stated)))
 }
 
 fn prompted_type<'a>(

@@ -4,8 +4,10 @@ ghost use Rattle.std.specs.Prelude.{◌≡◌};
 ghost use Rattle.kc_read.specs.declared.refusal.Code.TheVariants.{Memory};
 
 use crate::refusal::Code;
-use kc_expr::expression::{Expr, Operand, SymId, SymbolType};
+use kc_expr::expression::{Expr, SymId, SymbolType};
+use kc_tree::rows::{SymbolDefault, SymbolRange};
 use std::alloc::{AllocError, AllocFailed};
+use std::mem::size_of;
 use std::rc::Rc;
 
 /// A prompt (the kernel's kconfig-language document, "Menu attributes": input prompt). It is its condition: what it asks
@@ -13,14 +15,6 @@ use std::rc::Rc;
 #[derive(Debug, Drop)]
 pub struct Prompt {
     pub when: Option<Rc<Expr>>,
-}
-
-/// The bounds of a range, each a number or a symbol (the kernel's kconfig-language document, "Menu attributes":
-/// numerical ranges).
-#[derive(Debug, Drop)]
-pub struct Bounds {
-    pub low: Operand,
-    pub high: Operand,
 }
 
 /// The line that begins an entry, or that opens or closes a block (the kernel's kconfig-language document, "Menu entries").
@@ -38,23 +32,27 @@ pub enum Head {
     MainMenu(Box<Vec<u8>>),
 }
 
-/// A further line of an entry (the kernel's kconfig-language document, "Menu attributes"). Expressions and what few lines have
-/// are apart, so that a list of lines stays small; a condition is shared with what is made of the line.
+/// A further line of an entry (the kernel's kconfig-language document, "Menu attributes"). Defaults and ranges are those of
+/// the tree's tables. Expressions and what few lines have are apart, so that a list of lines stays small; expressions are
+/// shared with what is made of the line.
 #[derive(Debug, Drop)]
 pub enum Attribute {
     Type(SymbolType, Option<Prompt>),
     Prompt(Prompt),
-    Default(Rc<Expr>, Option<Rc<Expr>>),
-    Def(SymbolType, Rc<Expr>, Option<Rc<Expr>>),
+    Default(SymbolDefault),
+    Def(SymbolType, SymbolDefault),
     Depends(Rc<Expr>),
     Visible(Rc<Expr>),
     Select(SymId, Option<Rc<Expr>>),
     Imply(SymId, Option<Rc<Expr>>),
-    Range(Box<Bounds>, Option<Rc<Expr>>),
+    Range(Box<SymbolRange>),
     Help,
     Modules,
     Ignored,
 }
+
+// A list of lines holds very many attributes.
+const _: () = prove!(size_of::<Attribute>() == 32);
 
 /// A line's statement: a line of the expanded list, or one that stands for the lines of another file.
 #[derive(Debug, Drop)]

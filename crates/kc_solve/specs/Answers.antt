@@ -23,7 +23,7 @@ tri_of s id = truth_of_value (known s id)
 abbrev pub text_of : Solution → SymId → List ℕ
 text_of s id = text_of_value (known s id)
 
--- the modules symbol, by which a plain m of a condition counts
+-- the modules symbol, by which a lone m of a condition counts
 abbrev pub modules_of : Solution → Option SymId
 modules_of s = s.tree.modules
 

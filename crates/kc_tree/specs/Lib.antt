@@ -1,6 +1,7 @@
 pub mod Chains
 pub mod Contexts
 pub mod Empty
+pub mod OwnRows
 pub mod RowFacts
 pub mod Layouts
 pub mod MaybeChoices

@@ -1,9 +1,13 @@
 //! What a tree is made of: contexts, definitions, symbols, choices and entries, each in one table. What the lines of a Kconfig
 //! file say of them is the kernel's kconfig-language document's; where it is silent, kconfiglib's documentation decides.
 
+ghost use Rattle.std.specs.Prelude.{◌≡◌, IfOk};
+ghost use Rattle.kc_tree.specs.OwnRows.{default_row, range_row};
+
 use crate::definitions::SymbolDefinitions;
 use crate::maybe_choice::MaybeChoice;
-use kc_expr::expression::{Expr, Operand, SymId, SymbolType};
+use kc_expr::expression::{Expr, Operand, SymId, SymbolType, shared_condition};
+use std::alloc::AllocError;
 use std::rc::Rc;
 
 /// The number of a choice: its place among the tree's choices, in the order in which they open. The numbers are our
@@ -52,12 +56,35 @@ pub struct SymbolDefault {
     pub when: Option<Rc<Expr>>,
 }
 
+impl SymbolDefault {
+    /// Returns a copy that shares the expressions. Fails only when it is out of memory (our own).
+    pub fn shared(&self) -> Result<SymbolDefault, AllocError>
+        ensures { IfOk result (λ copy. default_row copy ≡ default_row self.now) }
+    {
+        let value = self.value.clone()?;
+        let when = shared_condition(self.when.as_ref())?;
+        Ok(SymbolDefault { value, when })
+    }
+}
+
 /// A range: its bounds and its own `if` (the kernel's kconfig-language document, "Menu attributes": numerical ranges).
 #[derive(Debug, Drop)]
 pub struct SymbolRange {
     pub low: Operand,
     pub high: Operand,
     pub when: Option<Rc<Expr>>,
+}
+
+impl SymbolRange {
+    /// Returns a copy that shares the texts and the condition. Fails only when it is out of memory (our own).
+    pub fn shared(&self) -> Result<SymbolRange, AllocError>
+        ensures { IfOk result (λ copy. range_row copy ≡ range_row self.now) }
+    {
+        let low = self.low.shared()?;
+        let high = self.high.shared()?;
+        let when = shared_condition(self.when.as_ref())?;
+        Ok(SymbolRange { low, high, when })
+    }
 }
 
 /// Consecutive places of a table, from `start` up to `end`.

@@ -1,7 +1,7 @@
 use Rattle.kc_expr.specs.Grammar.{names_in_atom}
 use Rattle.std.proofs.Common.{◌++◌, ◌∙◌, ap}
 use Rattle.kc_expr.specs.Form.{leaf_of}
-use Rattle.kc_read.specs.declared.statement.Bounds.{Bounds}
+use Rattle.kc_tree.specs.declared.rows.SymbolRange.{SymbolRange}
 use Rattle.kc_expr.specs.When.{when_view}
 use Rattle.kc_read.specs.Statements.{names_in_condition}
 use Rattle.kc_read.specs.LineReads.{lexemes_from}
@@ -25,7 +25,7 @@ returns-clause-read c =
         mentions =
             mentioned_on c.args.names.now c.operand_at.new.names c.condition.new.names (names_in_atom a.atom) (names_in_atom b.atom ++ names_in_condition w.tree) a.mentions
             (mentioned_on c.operand_at.new.names c.operand_at-2.new.names c.condition.new.names (names_in_atom b.atom) (names_in_condition w.tree) b.mentions w.mentions);
-        form = λ later x. ap (λ (b : Bounds). RangeLine (leaf_of b.low) (leaf_of b.high) (when_view c.in_ok-when.when)) c.in_ok-bounds.ensures.ok
+        form = λ later x. ap (λ (r : SymbolRange). RangeLine (leaf_of r.low) (leaf_of r.high) (when_view r.when)) c.in_ok-range.ensures.ok
             ∙ (λ i. RangeLine (a.form later (extends_on c.operand_at.new.names c.operand_at-2.new.names later c.in_ok-high.ensures.names
             (mid later c.in_ok-when.ensures.names x)) i) (b.form later (mid later c.in_ok-when.ensures.names x) i) (w.form later x i));
       },
@@ -39,10 +39,10 @@ returns-in_err-when-clause-read c =
     read_passed c.args.names.now c.condition.new.names (ReadsRange (lexemes_from ts 1)) c.from_residual-in_err-when.result c.in_err-when.field-0.0 c.from_residual-in_err-when.ensures.1
     (range_fault (lexemes_from ts 1) (lexemes_from ts 2) (lexemes_from ts 3) a.atom b.atom c.in_err-when.field-0.0 a.part_is (after_one ts 1) b.part_is (after_two ts 1) c.in_err-when.ensures.fault)
 
-pub returns-in_err-bounds-clause-read : goal.returns-in_err-bounds-clause-read
-returns-in_err-bounds-clause-read c =
+pub returns-in_err-range-clause-read : goal.returns-in_err-range-clause-read
+returns-in_err-range-clause-read c =
     memory_passed c.args.names.now c.condition.new.names (ReadsRange (lexemes_from c.args.tokens.now 1))
-    c.from_residual-in_err-bounds.result c.from_residual-in_err-bounds.ensures.1
+    c.from_residual-in_err-range.result c.from_residual-in_err-range.ensures.1
 
 pub returns-in_err-high-clause-names : goal.returns-in_err-high-clause-names
 returns-in_err-high-clause-names c = extends_on c.args.names.now c.operand_at.new.names c.operand_at-2.new.names c.in_ok-low.ensures.names c.in_err-high.ensures.names
@@ -52,8 +52,8 @@ returns-in_err-when-clause-names c =
     extends_on c.args.names.now c.operand_at.new.names c.condition.new.names c.in_ok-low.ensures.names
     (extends_on c.operand_at.new.names c.operand_at-2.new.names c.condition.new.names c.in_ok-high.ensures.names c.in_err-when.ensures.names)
 
-pub returns-in_err-bounds-clause-names : goal.returns-in_err-bounds-clause-names
-returns-in_err-bounds-clause-names c =
+pub returns-in_err-range-clause-names : goal.returns-in_err-range-clause-names
+returns-in_err-range-clause-names c =
     extends_on c.args.names.now c.operand_at.new.names c.condition.new.names c.in_ok-low.ensures.names
     (extends_on c.operand_at.new.names c.operand_at-2.new.names c.condition.new.names c.in_ok-high.ensures.names c.in_ok-when.ensures.names)
 
