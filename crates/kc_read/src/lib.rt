@@ -1,6 +1,7 @@
 //! Reading Kconfig files: the statements of a file and of the files that it sources.
 #![tactic(auto)]
 
+mod constants;
 pub mod entries;
 pub mod expansion;
 pub mod file_map;
