@@ -88,7 +88,7 @@ module _ (es : Entries) (i place : ℕ) (e : EntryLines) (at : IsAt es i place) 
       let behind : drop (suc place) (statements_in es) ≡ statements_of own ++ statements rest =
       drop-map (λ l. l.statement) (suc place) (lines_in es) ∙ ap (λ n. statements (drop n (lines_in es))) (sym (add-one place)) ∙ ap statements tail-is
       ∙ map-append (λ l. l.statement) (own_lines first own) rest ∙ ap (λ l. l ++ statements rest) (statements-own first own) in
-      ap (take_while is_attribute) behind ∙ run-stops own (statements rest) (lines-apart (drop (i + 1) es.entries.items) es.attributes.items)
+      ap (take_while is_attribute) behind ∙ run-stops own (statements rest) (lines-apart (drop (i + 1) es.first_lines.items) es.attributes.items)
 
   pub read-is : slice_get (statements_in es) place ≡ Some (head_view first.head)
   read-is =

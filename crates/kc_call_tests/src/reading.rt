@@ -101,7 +101,7 @@ fn outcome_into(alloc: Global, map: &FileMap, names: &mut Names, text: &mut Stri
     match expand(alloc, map, b"Kconfig", names) {
         Ok(expansion) => {
             let entries = &expansion.entries;
-            let lines = entries.entries.len() + entries.attributes.len();
+            let lines = entries.first_lines.len() + entries.attributes.len();
             let symbols = expansion.defined.count();
             let _ = write!(text, "{lines} lines, {symbols} symbols");
         }

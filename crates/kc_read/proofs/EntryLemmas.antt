@@ -1,12 +1,11 @@
 -- The lines of entries, one line more.
-use Rattle.std.proofs.Common.{◌≡◌, ℕ, zero, suc, Bool, true, false, if◌then◌else◌, ◌+◌, ◌-◌, ◌≤◌, List, [], ◌∷◌, ◌++◌, length, map, take, drop, slice_get, Option, Some, None, refl, ap, sym, ◌∙◌, subst, arith, append-nil, append_assoc, length-append}
+use Rattle.std.proofs.Common.{◌≡◌, ℕ, zero, suc, Bool, true, false, if◌then◌else◌, ◌-◌, ◌≤◌, List, [], ◌∷◌, ◌++◌, length, take, drop, slice_get, Some, None, refl, ap, sym, ◌∙◌, subst, arith, append-nil, append_assoc, length-append}
 use Rattle.std.proofs.lemmas.List.{map-append}
 use Rattle.kc_read.specs.declared.entries.AttributeLine.{AttributeLine}
 use Rattle.kc_read.specs.declared.entries.Entry.{Entry}
 use Rattle.kc_read.specs.Blocks.{last_of}
 use Rattle.kc_read.specs.Entries.{attribute_line, first_line, lines_of, own_lines, own_of}
 use Rattle.kc_read.specs.EntryStarts.{AreInOrder, start_of}
-use Rattle.kc_read.specs.Statements.{Numbered, Located}
 
 start-push : (es : List Entry) (e : Entry) (n : ℕ) → e.start ≡ n → start_of (es ++ e ∷ []) n ≡ start_of es n
 start-push [] e n at = at

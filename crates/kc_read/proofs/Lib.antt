@@ -1,4 +1,5 @@
 pub mod BlockLemmas
+pub mod ConstantLemmas
 pub mod EntryLemmas
 pub mod ExpansionThere
 pub mod FileLemmas

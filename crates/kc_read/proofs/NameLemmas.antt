@@ -1,5 +1,5 @@
 -- Names and their numbers, as more names are mentioned.
-use Rattle.std.proofs.Common.{◌≡◌, ◌≢◌, ℕ, suc, ◌+◌, ◌<◌, ◌≤◌, nat_lt, Bool, true, false, not, cond, ◌||◌, ◌==◌, List, [], ◌∷◌, ◌++◌, length, map, Option, Some, None, option_map, slice_get, refl, sym, ap, ◌∙◌, append-nil, length-append, inl, inr, arith}
+use Rattle.std.proofs.Common.{◌≡◌, ◌≢◌, ℕ, suc, ◌+◌, nat_lt, Bool, true, false, not, cond, ◌||◌, ◌==◌, List, [], ◌∷◌, ◌++◌, length, map, Option, Some, None, option_map, slice_get, refl, sym, ap, ◌∙◌, append-nil, length-append, inl, inr, arith}
 use Rattle.std.specs.List.{list_any}
 use Rattle.std.specs.Option.{option_or}
 use Rattle.std.proofs.lemmas.Bool.{cases_eq, eq-eqb, ne_eqb}
@@ -7,13 +7,12 @@ use Rattle.std.proofs.lemmas.List.Folds.{list_any-append}
 use Rattle.std.proofs.lemmas.List.{length-map, map-append}
 use Rattle.kc_expr.specs.declared.expression.SymId.{SymId}
 use Rattle.kc_expr.specs.Names.{IsNumber, same_name, number_of, symbol, mention, Extends}
-use Rattle.std.proofs.lemmas.Bool.Decides.{nat_tests}
 use Rattle.kc_read.specs.declared.refusal.Code.TheVariants as code
 use Rattle.kc_read.specs.Lines.{cause}
 use Rattle.kc_expr.specs.DistinctSymbols.{added, stands_in}
 use Rattle.kc_expr.proofs.NamesLemmas.{extends_on, same_name-refl}
 use Rattle.kc_read.specs.Expansion.{names_match}
-use Rattle.kc_read.specs.Progress.{defined_after, defining_cause, ids_match, naming_cause, order_after, symbol_limit_cause}
+use Rattle.kc_read.specs.Progress.{defined_after, defining_cause, ids_match, naming_cause, order_after}
 use Rattle.kc_read.specs.Expanded.{AreNumbers, IsNamed}
 use Rattle.kc_read.proofs.FileLemmas.{same_name_eq}
 
@@ -151,16 +150,3 @@ defining_same known names ids ns None (Some n) e h k = absurd k
 defining_same known names ids ns (Some id) None e h k = absurd k
 defining_same known names ids ns (Some id) (Some n) e h k =
     ap (λ (l : ℕ). cond (nat_lt 65535 l) (Some (cause code.TooManySymbols)) None) (as_many names (added ids id) (mention ns n) (numbers_placed known names ids ns n id e h k))
-
--- whether one more is one too many
-pub too_many : (ids now : List SymId) (id : SymId) (count : ℕ) → count ≡ length now → now ≡ added ids id → 65535 < count → symbol_limit_cause ids id ≡ Some (cause code.TooManySymbols)
-too_many ids now id count e f h =
-    let long = ap length f in
-    let t : nat_lt 65535 (length (added ids id)) ≡ true = grind (arith, nat_tests) in
-    rw t refl
-
-pub not_too_many : (ids now : List SymId) (id : SymId) (count : ℕ) → count ≡ length now → now ≡ added ids id → count ≤ 65535 → symbol_limit_cause ids id ≡ None
-not_too_many ids now id count e f h =
-    let long = ap length f in
-    let t : nat_lt 65535 (length (added ids id)) ≡ false = grind (arith, nat_tests) in
-    rw t refl

@@ -36,14 +36,14 @@ lines_of (e ∷ es) ls = first_line e ∷ own_lines e (own_of e (start_of es (le
 
 -- the lines of all, and those of the entries from a number on
 abbrev pub lines_in : Entries → List (Located Numbered)
-lines_in es = lines_of es.entries.items es.attributes.items
+lines_in es = lines_of es.first_lines.items es.attributes.items
 
 abbrev pub lines_from : Entries → ℕ → List (Located Numbered)
-lines_from es i = lines_of (drop i es.entries.items) es.attributes.items
+lines_from es i = lines_of (drop i es.first_lines.items) es.attributes.items
 
 -- the lines of an entry stand before those of the entries behind it
 pub record BeginsAt (es : Entries) (i : ℕ) (e : EntryLines) : Type 0 where
-  pub there : i < length es.entries.items
+  pub there : i < length es.first_lines.items
   pub lines : lines_from es i ≡ first_line e.first.now ∷ own_lines e.first.now e.attributes.now ++ lines_from es (i + 1)
 
 abbrev pub IsEntryAt : Entries → ℕ → Option EntryLines → Type 0
@@ -52,4 +52,4 @@ IsEntryAt es i (Some e) = BeginsAt es i e
 
 -- the last entry stands in this file
 abbrev pub IsLastFile : Entries → List ℕ → Type 0
-IsLastFile es file = (e : Entry) × (last_of es.entries.items ≡ Some e) × (e.file.value.items ≡ file)
+IsLastFile es file = (e : Entry) × (last_of es.first_lines.items ≡ Some e) × (e.file.value.items ≡ file)

@@ -1,5 +1,6 @@
 -- The definitions that the contracts speak in.
 pub mod Blocks
+pub mod Constants
 pub mod Entries
 pub mod EntryStarts
 pub mod Expansion

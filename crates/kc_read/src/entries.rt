@@ -1,37 +1,44 @@
 //! The entries of the expanded list, as they are read.
 
-ghost use Rattle.std.specs.Prelude.{◌≡◌, ◌≤◌, ◌-◌, drop, length, option_map, slice_get, take};
+ghost use Rattle.std.specs.Prelude.{◌≡◌, ◌≤◌, ◌-◌, drop, length, option_map, slice_get, take, IfOk};
 ghost use Rattle.kc_read.specs.EntryStarts.{AreInOrder, order-prop, start_of};
 
 use crate::statement::{Attribute, Head};
 use std::alloc::{AllocError, Global};
+use std::mem::size_of;
 use std::rc::Rc;
 
-/// The line that begins an entry, with its file and its number, and the place of the entry's first attribute.
+/// The line that begins an entry (the kernel's kconfig-language document, "Menu entries"), with its file and its number.
+/// `start` is the place of the entry's first attribute among all attributes (our own).
 #[derive(Debug, Drop)]
 pub struct Entry {
     pub head: Head,
     pub file: Rc<Vec<u8>>,
     pub line: u32,
-    pub start: usize,
+    pub start: u32,
 }
 
-/// An attribute and the number of its line. Its file is that of its entry.
+// A list of entries is long in a large tree.
+const _: () = prove!(size_of::<Entry>() == 32);
+
+/// An attribute (the kernel's kconfig-language document, "Menu attributes") and the number of its line. Its file is that of
+/// its entry.
 #[derive(Debug, Drop)]
 pub struct AttributeLine {
     pub line: u32,
     pub attribute: Attribute,
 }
 
-/// The entries of the expanded list in order, and the attributes of all of them, one entry's behind the other's.
+/// The entries of the expanded list in order: the first line of each, and the attributes of all of them, one entry's behind
+/// the other's (our own).
 #[derive(Debug, Drop)]
 pub struct Entries {
-    pub entries: Vec<Entry>,
+    pub first_lines: Vec<Entry>,
     pub attributes: Vec<AttributeLine>,
-    ghost in_order: { AreInOrder entries.items (length attributes.items) } by { order-prop entries.items (length attributes.items) },
+    ghost in_order: { AreInOrder first_lines.items (length attributes.items) } by { order-prop first_lines.items (length attributes.items) },
 }
 
-/// An entry: its first line, and its attributes.
+/// An entry: its first line, and its attributes (the kernel's kconfig-language document, "Menu entries").
 #[derive(Clone, Copy, Debug)]
 pub struct EntryLines<'a> {
     pub first: &'a Entry,
@@ -50,7 +57,7 @@ fn start_at(entries: &[Entry], i: usize, count: usize) -> usize
     ensures { result ≡ start_of (drop i entries.now) count }
 {
     match entries.get(i) {
-        Some(entry) => entry.start,
+        Some(entry) => entry.start as usize,
         None => count,
     }
 }
@@ -64,8 +71,18 @@ fn between(attributes: &[AttributeLine], start: usize, end: usize) -> &[Attribut
     &attributes[start..end]
 }
 
+// Where the attributes of one more entry begin. There are fewer than 2^32 lines, so this fails for no tree.
+fn next_start(attributes: &[AttributeLine]) -> Result<u32, AllocError>
+    ensures { IfOk result (λ start. start ≡ length attributes.now) }
+{
+    match u32::try_from(attributes.len()) {
+        Ok(start) => Ok(start),
+        Err(_) => Err(AllocError),
+    }
+}
+
 impl Entries {
-    ghost use Rattle.std.specs.Prelude.{◌++◌, ◌∷◌, [], ℕ, List, OnOk};
+    ghost use Rattle.std.specs.Prelude.{◌++◌, ◌∷◌, [], ℕ, List, OnErr, OnOk};
     ghost use Rattle.kc_read.specs.Entries.{attribute_line, head_line, lines_in, IsEntryAt, IsLastFile};
 
     /// No entries.
@@ -73,12 +90,12 @@ impl Entries {
         ensures { lines_in result ≡ [] }
     {
         Entries {
-            entries: Vec::new(alloc),
+            first_lines: Vec::new(alloc),
             attributes: Vec::new(alloc),
         }
     }
 
-    /// Begins an entry. Where it is out of memory, nothing changes.
+    /// Begins an entry. Fails only when it is out of memory, and then nothing changes.
     pub(crate) fn begin(
         &mut self,
         file: Rc<Vec<u8>>,
@@ -87,9 +104,10 @@ impl Entries {
     ) -> Result<(), AllocError>
         ensures lines { OnOk result (lines_in self.new ≡ lines_in self.old ++ head_line file.value.items line head ∷ []) }
         ensures last { OnOk result (IsLastFile self.new file.value.items) }
+        ensures unchanged { OnErr result (lines_in self.new ≡ lines_in self.old) }
     {
-        let start = self.attributes.len();
-        self.entries.push(Entry {
+        let start = next_start(&self.attributes)?;
+        self.first_lines.push(Entry {
             head,
             file,
             line,
@@ -98,23 +116,24 @@ impl Entries {
         Ok(())
     }
 
-    /// Adds an attribute to the last entry. Where it is out of memory, nothing changes.
+    /// Adds an attribute to the last entry. Fails only when it is out of memory, and then nothing changes.
     pub(crate) fn add(&mut self, line: u32, attribute: Attribute) -> Result<(), AllocError>
-        ensures { OnOk result ((file : List ℕ) → IsLastFile self.old file
+        ensures added { OnOk result ((file : List ℕ) → IsLastFile self.old file
             → (lines_in self.new ≡ lines_in self.old ++ attribute_line file line attribute ∷ []) × IsLastFile self.new file) }
+        ensures unchanged { OnErr result (lines_in self.new ≡ lines_in self.old) }
     {
         self.attributes.push(AttributeLine { line, attribute })?;
         Ok(())
     }
 
-    /// The entry with a number, counted from 0; `None` past the last.
+    /// The entry with a number, counted from 0; `None` past the last (the numbers are our own).
     pub fn entry(&self, i: usize) -> Option<EntryLines<'_>>
         ensures { IsEntryAt self.now i result }
     {
-        match first_at(&self.entries, i) {
+        match first_at(&self.first_lines, i) {
             Some(first) => {
-                let end = start_at(&self.entries, i + 1, self.attributes.len());
-                let attributes = between(&self.attributes, first.start, end);
+                let end = start_at(&self.first_lines, i + 1, self.attributes.len());
+                let attributes = between(&self.attributes, first.start as usize, end);
                 Some(EntryLines { first, attributes })
             }
             None => None,

@@ -10,6 +10,7 @@ ghost use Rattle.kc_read.specs.Expanded.{IsExpansion};
 ghost use Rattle.kc_read.specs.RefusalView.{IsMemory, refusal_view};
 ghost use Rattle.kc_read.specs.declared.refusal.Code.TheVariants.{Memory};
 
+use crate::constants::Constants;
 use crate::entries::Entries;
 use crate::file_map::FileMap;
 use crate::files::{Reader, open, read_file};
@@ -99,11 +100,18 @@ pub fn expand(
         Ok(opened) => opened,
         Err(fault) => return Err(refuse(alloc, fault, root, 0)),
     };
+    let Ok(constants) = Constants::new(alloc) else {
+        return Err(Refusal::out_of_memory(alloc));
+    };
     let (frame, mut progress) = match begin(alloc, root, total_lines) {
         Ok(begun) => begun,
         Err(_) => return Err(Refusal::out_of_memory(alloc)),
     };
-    let reader = Reader { alloc, map };
+    let reader = Reader {
+        alloc,
+        map,
+        constants,
+    };
     read_file(&reader, bytes, frame, &mut progress, names)?;
     Ok(Expansion {
         entries: progress.entries,

@@ -17,6 +17,7 @@ ghost use Rattle.kc_read.specs.LineReads.{IsFault, IsMade, cause_of};
 ghost use Rattle.kc_read.specs.Statements.{Located, Named, SourceLine};
 ghost use Rattle.kc_read.specs.RefusalView.{IsMemory, refusal_view};
 
+use crate::constants::Constants;
 use crate::file_map::FileMap;
 use crate::frame::Frame;
 use crate::progress::Progress;
@@ -37,11 +38,12 @@ pub const MOST_LINES: usize = 1_000_000;
 // The most files that may be open at once.
 const MOST_FILES: usize = 64;
 
-/// What stays the same while files are read: the files.
+/// What stays the same while files are read: the files, and the expressions of the constants.
 #[derive(Drop)]
 pub(crate) struct Reader<'a> {
     pub alloc: Global,
     pub map: &'a FileMap,
+    pub constants: Constants,
 }
 
 /// The bytes of a file, and the total of physical lines with those of the file.
@@ -274,6 +276,7 @@ fn read_next<'a>(
 {
     let position = Position {
         alloc: reader.alloc,
+        constants: &reader.constants,
         frame,
         progress,
     };

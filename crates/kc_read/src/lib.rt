@@ -9,6 +9,7 @@
 //! - [`laws`]: a root file has one expansion.
 #![tactic(auto)]
 
+mod constants;
 pub mod entries;
 pub mod expansion;
 pub mod file_map;

@@ -1,6 +1,6 @@
 //! The parts of a line: texts, names, operands and expressions.
 
-ghost use Rattle.std.specs.Prelude.{◌≡◌, ◌≤◌, [], length, IfOk, IfErr, OnOk, Err, IsTrue, ◌<◌};
+ghost use Rattle.std.specs.Prelude.{◌≡◌, ◌≤◌, [], false, length, IfOk, IfErr, OnOk, Err, IsTrue, ◌<◌};
 ghost use Rattle.kc_expr.specs.Form.{form_of, leaf_of};
 ghost use Rattle.kc_expr.specs.Grammar.{if_word, is_tristate_constant};
 ghost use Rattle.kc_expr.specs.Names.{IsNumber, same_name, mention, Extends};
@@ -10,6 +10,7 @@ ghost use Rattle.kc_read.specs.Lines.{syntax_cause, IsMore, ExpressionFault, Who
 ghost use Rattle.kc_expr.specs.When.{when_view};
 ghost use Rattle.kc_read.specs.LineReads.{IsToken, IsFault, IsPart, IsFront, IsWholeForm, IsConditionForm, IsOperand, cause_of, code_of, unquoted_text, lexemes_from};
 
+use crate::constants::Constants;
 use crate::keywords::same_word;
 use crate::refusal::Code;
 use crate::statement::LineFault;
@@ -184,6 +185,25 @@ pub(crate) fn front<'a>(
         Ok((expr, end)) => Ok((expr, end)),
         Err(fault) => Err(fault_of(fault)),
     }
+}
+
+/// The value of a default at a place, and the place after it. It is shared with what is made of the line.
+pub(crate) fn value_at<'a>(
+    alloc: Global,
+    constants: &Constants,
+    tokens: &[Token<'a>],
+    at: usize,
+    names: &mut Names,
+) -> Result<(Rc<Expr>, usize), LineFault<'a>>
+    requires { at ≤ length tokens.now }
+    ensures front { IfOk result (λ r. IsFront false names.old names.new (lexemes_from tokens.now at) (lexemes_from tokens.now r.1) (form_of r.0.value)) }
+    ensures within { IfOk result (λ r. r.1 ≤ length tokens.now) }
+    ensures fault { IfErr result (λ f. IsFault f (ExpressionFault (lexemes_from tokens.now at))) }
+    ensures names { Extends names.old names.new }
+{
+    let (value, after) = front(alloc, tokens, at, false, names)?;
+    let shared = constants.shared(alloc, value)?;
+    Ok((shared, after))
 }
 
 /// A condition up to the end of the line. It is shared with what is made of the line.

@@ -9,11 +9,12 @@ ghost use Rattle.kc_read.specs.Statements.{Named, SourceLine, IfLine, CommentLin
 ghost use Rattle.kc_read.specs.LineReads.{IsFault, IsRead, IsMade, lexemes_from};
 ghost use Rattle.kc_read.specs.Progress.{context_in};
 
+use crate::constants::Constants;
 use crate::frame::Frame;
 use crate::keywords::keyword_of;
 use crate::line_parts::{
-    begins_with, condition, end, front, is_good_name, is_pattern, name_number, next, operand_at,
-    raw_text, syntax, target_at, text_at, whole, word_at,
+    begins_with, condition, end, is_good_name, is_pattern, name_number, next, operand_at, raw_text,
+    syntax, target_at, text_at, value_at, whole, word_at,
 };
 use crate::placement::{left_out, placement_fault};
 use crate::progress::Progress;
@@ -24,12 +25,12 @@ use kc_expr::names::Names;
 use kc_text::Token;
 use kc_tree::rows::{SymbolDefault, SymbolRange};
 use std::alloc::Global;
-use std::rc::Rc;
 
 /// Where the next line stands: in a file that is open, behind what was read so far.
 #[derive(Drop)]
 pub(crate) struct Position<'p> {
     pub alloc: Global,
+    pub constants: &'p Constants,
     pub frame: &'p Frame,
     pub progress: &'p Progress,
 }
@@ -93,6 +94,7 @@ fn source_line<'a>(alloc: Global, tokens: &[Token<'a>]) -> Result<Statement, Lin
 
 fn default_line<'a>(
     alloc: Global,
+    constants: &Constants,
     tokens: &[Token<'a>],
     names: &mut Names,
 ) -> Result<Statement, LineFault<'a>>
@@ -100,12 +102,9 @@ fn default_line<'a>(
     ensures read { IsRead names.old names.new (ReadsValue DefaultLine (lexemes_from tokens.now 1)) result }
     ensures names { Extends names.old names.new }
 {
-    let (value, after) = front(alloc, tokens, 1, false, names)?;
+    let (value, after) = value_at(alloc, constants, tokens, 1, names)?;
     let when = condition(alloc, tokens, after, names)?;
-    Ok(Statement::Attribute(Attribute::Default(SymbolDefault {
-        value: Rc::new(alloc, value)?,
-        when,
-    })))
+    Ok(Statement::Attribute(Attribute::Default(SymbolDefault { value, when })))
 }
 
 fn prompt_line<'a>(
@@ -253,6 +252,7 @@ fn visible_line<'a>(
 
 fn def_line<'a>(
     alloc: Global,
+    constants: &Constants,
     tokens: &[Token<'a>],
     symbol_type: SymbolType,
     names: &mut Names,
@@ -261,13 +261,9 @@ fn def_line<'a>(
     ensures read { IsRead names.old names.new (ReadsValue (DefLine symbol_type) (lexemes_from tokens.now 1)) result }
     ensures names { Extends names.old names.new }
 {
-    let (value, after) = front(alloc, tokens, 1, false, names)?;
+    let (value, after) = value_at(alloc, constants, tokens, 1, names)?;
     let when = condition(alloc, tokens, after, names)?;
-    let stated = SymbolDefault {
-        value: Rc::new(alloc, value)?,
-        when,
-    };
-    Ok(Statement::Attribute(Attribute::Def(symbol_type, stated)))
+    Ok(Statement::Attribute(Attribute::Def(symbol_type, SymbolDefault { value, when })))
 }
 
 fn prompted_type<'a>(
@@ -302,7 +298,7 @@ fn type_line<'a>(
 
 // What follows the first word.
 fn rest_of_line<'a>(
-    alloc: Global,
+    position: &Position<'_>,
     tokens: &[Token<'a>],
     word: &'a [u8],
     keyword: Keyword,
@@ -312,6 +308,8 @@ fn rest_of_line<'a>(
     ensures read { IsRead names.old names.new (ReadsRest word.now keyword (lexemes_from tokens.now 1)) result }
     ensures names { Extends names.old names.new }
 {
+    let alloc = position.alloc;
+    let constants = position.constants;
     match keyword {
         Keyword::Config => config_line(tokens, names),
         Keyword::If => if_line(alloc, tokens, names),
@@ -325,8 +323,8 @@ fn rest_of_line<'a>(
         Keyword::MainMenu => main_menu_line(alloc, tokens),
         Keyword::Type(symbol_type) => type_line(alloc, tokens, symbol_type, names),
         Keyword::Prompt => prompt_line(alloc, tokens, names),
-        Keyword::Default => default_line(alloc, tokens, names),
-        Keyword::Def(symbol_type) => def_line(alloc, tokens, symbol_type, names),
+        Keyword::Default => default_line(alloc, constants, tokens, names),
+        Keyword::Def(symbol_type) => def_line(alloc, constants, tokens, symbol_type, names),
         Keyword::Depends => depends_line(alloc, tokens, names),
         Keyword::Visible => visible_line(alloc, tokens, names),
         Keyword::Select => select_line(alloc, tokens, names),
@@ -355,5 +353,5 @@ pub(crate) fn read_line<'a>(
     if let Some(fault) = placement_fault(position.frame, position.progress, word, tokens, keyword) {
         return Err(fault);
     }
-    rest_of_line(position.alloc, tokens, word, keyword, names)
+    rest_of_line(position, tokens, word, keyword, names)
 }

@@ -16,4 +16,4 @@ invariant-entries l = record {
 }
 
 abbrev pub decreases-entries : goal.decreases-entries
-decreases-entries l = length l.entries.entries.items - l.at
+decreases-entries l = length l.entries.first_lines.items - l.at

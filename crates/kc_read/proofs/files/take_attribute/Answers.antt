@@ -10,7 +10,7 @@ pub returns-clause-taken : goal.returns-clause-taken
 returns-clause-taken c = λ f last.
     let r = c.remember_attribute.ensures in
     let file = f.file.value.items in
-    let added = c.in_ok-add.ensures file (subst (λ es. IsLastFile es file) (sym r.entries) last) in
+    let added = c.in_ok-add.ensures.added file (subst (λ es. IsLastFile es file) (sym r.entries) last) in
     record {
       defined_is = r.defined_is;
       config = r.config;

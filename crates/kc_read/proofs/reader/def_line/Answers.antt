@@ -1,7 +1,7 @@
 use Rattle.kc_expr.specs.Form.{form_of}
 use Rattle.std.proofs.Common.{false}
 use Rattle.kc_read.specs.Lines.{ReadsValue}
-use Rattle.kc_read.proofs.PartLemmas.{read_passed, value_fault, value_refused, memory_passed}
+use Rattle.kc_read.proofs.PartLemmas.{read_passed, value_fault, value_refused}
 use Rattle.std.proofs.Common.{refl}
 use Rattle.kc_expr.specs.Grammar.{names_in}
 use Rattle.kc_read.specs.Statements.{names_in_condition}
@@ -19,9 +19,9 @@ returns-clause-read c =
       DefLine c.args.symbol_type v.tree w.tree,
       (front v.tree rest, w.tree, v.starts, w.condition_is, refl),
       record {
-        mentions = mentioned_on c.args.names.now c.front.new.names c.condition.new.names (names_in v.tree) (names_in_condition w.tree) v.mentions w.mentions;
-        form = λ later x. rw c.in_ok-new.ensures.ok (λ i. DefLine c.args.symbol_type
-            (v.form later (extends_on c.front.new.names c.condition.new.names later c.in_ok-when.ensures.names x) i) (w.form later x i));
+        mentions = mentioned_on c.args.names.now c.value_at.new.names c.condition.new.names (names_in v.tree) (names_in_condition w.tree) v.mentions w.mentions;
+        form = λ later x. λ i. DefLine c.args.symbol_type
+            (v.form later (extends_on c.value_at.new.names c.condition.new.names later c.in_ok-when.ensures.names x) i) (w.form later x i);
       },
     )
 
@@ -30,24 +30,16 @@ returns-in_err-when-clause-read c =
     let ls = lexemes_from c.args.tokens.now 1 in
     read_passed c.args.names.now c.condition.new.names (ReadsValue (DefLine c.args.symbol_type) ls)
     c.from_residual-in_err-when.result c.in_err-when.field-0.0 c.from_residual-in_err-when.ensures.1
-    (value_fault (DefLine c.args.symbol_type) false c.args.names.now c.front.new.names ls (lexemes_from c.args.tokens.now c.in_ok-value.after)
-    (form_of c.in_ok-value.value) c.in_err-when.field-0.0 c.in_ok-value.ensures.front c.in_err-when.ensures.fault)
+    (value_fault (DefLine c.args.symbol_type) false c.args.names.now c.value_at.new.names ls (lexemes_from c.args.tokens.now c.in_ok-value.after)
+    (form_of c.in_ok-value.value.value) c.in_err-when.field-0.0 c.in_ok-value.ensures.front c.in_err-when.ensures.fault)
 
 pub returns-in_err-value-clause-read : goal.returns-in_err-value-clause-read
 returns-in_err-value-clause-read c =
-    value_refused c.args.names.now c.front.new.names (DefLine c.args.symbol_type) (lexemes_from c.args.tokens.now 1) c.from_residual.result
+    value_refused c.args.names.now c.value_at.new.names (DefLine c.args.symbol_type) (lexemes_from c.args.tokens.now 1) c.from_residual.result
     c.in_err-value.field-0.0 c.from_residual.ensures.1 c.in_err-value.ensures.fault
 
-pub returns-in_err-new-clause-read : goal.returns-in_err-new-clause-read
-returns-in_err-new-clause-read c =
-    memory_passed c.args.names.now c.condition.new.names (ReadsValue (DefLine c.args.symbol_type) (lexemes_from c.args.tokens.now 1))
-    c.from_residual-in_err-new.result c.from_residual-in_err-new.ensures.1
-
 pub returns-in_err-when-clause-names : goal.returns-in_err-when-clause-names
-returns-in_err-when-clause-names c = extends_on c.args.names.now c.front.new.names c.condition.new.names c.in_ok-value.ensures.names c.in_err-when.ensures.names
-
-pub returns-in_err-new-clause-names : goal.returns-in_err-new-clause-names
-returns-in_err-new-clause-names c = extends_on c.args.names.now c.front.new.names c.condition.new.names c.in_ok-value.ensures.names c.in_ok-when.ensures.names
+returns-in_err-when-clause-names c = extends_on c.args.names.now c.value_at.new.names c.condition.new.names c.in_ok-value.ensures.names c.in_err-when.ensures.names
 
 pub returns-clause-names : goal.returns-clause-names
-returns-clause-names c = extends_on c.args.names.now c.front.new.names c.condition.new.names c.in_ok-value.ensures.names c.in_ok-when.ensures.names
+returns-clause-names c = extends_on c.args.names.now c.value_at.new.names c.condition.new.names c.in_ok-value.ensures.names c.in_ok-when.ensures.names

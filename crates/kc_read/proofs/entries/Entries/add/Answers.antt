@@ -11,16 +11,16 @@ invariant_of-self c =
     let old = c.args.self.now in
     let added : AttributeLine = record { line = c.args.line; attribute = c.args.attribute } in
     record {
-      in_order = subst (λ (ls : List AttributeLine). AreInOrder old.entries.items (length ls)) (sym c.push.ensures.items)
-          (order-add_if (is_ok c.push.result) old.entries.items old.attributes.items added old.in_order);
+      in_order = subst (λ (ls : List AttributeLine). AreInOrder old.first_lines.items (length ls)) (sym c.push.ensures.items)
+          (order-add_if (is_ok c.push.result) old.first_lines.items old.attributes.items added old.in_order);
     }
 
-pub returns : goal.returns
-returns c = λ file last.
+pub returns-clause-added : goal.returns-clause-added
+returns-clause-added c = λ file last.
     let old = c.args.self.now in
     let added : AttributeLine = record { line = c.args.line; attribute = c.args.attribute } in (
-      ap (λ (ls : List AttributeLine). lines_of old.entries.items ls) c.in_ok-push.ensures.items
-          ∙ lines-add old.entries.items last.0 old.attributes.items added old.in_order last.1
+      ap (λ (ls : List AttributeLine). lines_of old.first_lines.items ls) c.in_ok-push.ensures.items
+          ∙ lines-add old.first_lines.items last.0 old.attributes.items added old.in_order last.1
           ∙ ap (λ (f : List ℕ). lines_in old ++ attribute_line f c.args.line c.args.attribute ∷ []) last.2,
       last,
     )

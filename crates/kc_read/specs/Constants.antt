@@ -1,0 +1,25 @@
+-- For proofs: The expressions that are one of the constants n, m and y alone.
+use Rattle.std.specs.Prelude.{Bool, true, false}
+use Rattle.kc_expr.specs.declared.expression.Tri.{Tri}
+use Rattle.kc_expr.specs.declared.expression.Tri.TheVariants.{N, M, Y}
+use Rattle.kc_expr.specs.declared.expression.Operand.{Operand}
+use Rattle.kc_expr.specs.declared.expression.Operand.TheVariants.{TristateConstant}
+use Rattle.kc_expr.specs.declared.expression.Expr.{Expr}
+use Rattle.kc_expr.specs.declared.expression.Expr.TheVariants.{One}
+
+-- both are the same constant
+abbrev pub same_tri : Tri → Tri → Bool
+same_tri N N = true
+same_tri M M = true
+same_tri Y Y = true
+same_tri _ _ = false
+
+-- an operand is this constant
+abbrev pub is_tri : Tri → Operand → Bool
+is_tri t (TristateConstant u) = same_tri t u
+is_tri t _ = false
+
+-- an expression is this constant alone
+abbrev pub is_constant : Tri → Expr → Bool
+is_constant t (One o) = is_tri t o
+is_constant t _ = false
