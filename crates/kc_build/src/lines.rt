@@ -138,8 +138,13 @@ pub(crate) fn single_symbol(value: &Expr) -> Option<SymId>
 {
     match value {
         Expr::One(Operand::Sym(s)) => Some(*s),
-        Expr::One(_) | Expr::Rel(..) | Expr::Not(_) | Expr::Module | Expr::All(_) | Expr::Any(_) =>
-            None,
+        Expr::One(_)
+        | Expr::Rel(..)
+        | Expr::NotOne(_)
+        | Expr::Not(_)
+        | Expr::Module
+        | Expr::All(_)
+        | Expr::Any(_) => None,
     }
 }
 
@@ -149,6 +154,11 @@ pub(crate) fn is_single(value: &Expr) -> bool
 {
     match value {
         Expr::One(_) => true,
-        Expr::Rel(..) | Expr::Not(_) | Expr::Module | Expr::All(_) | Expr::Any(_) => false,
+        Expr::Rel(..)
+        | Expr::NotOne(_)
+        | Expr::Not(_)
+        | Expr::Module
+        | Expr::All(_)
+        | Expr::Any(_) => false,
     }
 }

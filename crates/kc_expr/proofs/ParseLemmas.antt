@@ -111,14 +111,14 @@ fails_group_at f k ts rest n w h =
     subst (λ l. FailsNot f k l) (sym w) (subst (λ m. FailsNot f m (Open ∷ rest)) (sym e) (fails_group f (k - 1) rest h))
 
 pub parsed_bang : (condition : Bool) (k : ℕ) (ts inside rest : List Terminal) (old names : List (List ℕ)) (f g : Form) → k ≢ 0 → ts ≡ Bang ∷ inside →
-    f ≡ g → ParsedNot condition (k - 1) inside rest old names g → ParsedNot condition k ts rest old names (Negated f)
+    f ≡ Negated g → ParsedNot condition (k - 1) inside rest old names g → ParsedNot condition k ts rest old names f
 parsed_bang condition k ts inside rest old names f g n w e p = record {
   tree = bang p.tree;
   whole = w ∙ ap (λ l. Bang ∷ l) p.whole;
   mentions = p.mentions;
   within = let v = p.within in omega arith;
   stops = p.stops;
-  form = λ later x. ap Negated (e ∙ p.form later x);
+  form = λ later x. e ∙ ap Negated (p.form later x);
 }
 
 pub unclosed_at : (condition : Bool) (k : ℕ) (ts inside rest : List Terminal) (old names : List (List ℕ)) (f : Form) → k ≢ 0 → ts ≡ Open ∷ inside →

@@ -4,7 +4,7 @@ ghost use Rattle.std.specs.Prelude.{◌≡◌, ℕ, ◌≤◌, true, false, List
 ghost use Rattle.kc_expr.specs.declared.parse.ExprFault.TheVariants.{Memory};
 ghost use Rattle.kc_expr.specs.Limits.{most_levels};
 ghost use Rattle.kc_expr.specs.declared.parse.Connective.TheVariants.{Or};
-ghost use Rattle.kc_expr.specs.Form.{form_of, forms, leaf_of, parts_of};
+ghost use Rattle.kc_expr.specs.Form.{form_of, forms, leaf_of, parts_of, Negated};
 ghost use Rattle.kc_expr.specs.Grammar as spec;
 ghost use Rattle.kc_expr.specs.Grammar.{terminals_from, is_m_leaf, lone_form, IsUnambiguous, Terminal, HasOneLongestFront};
 ghost use Rattle.kc_expr.specs.Parsing.{IsParsed, IsDetermined, IsRefused, OneAnswer};
@@ -250,7 +250,7 @@ fn negation(
             return Err(ExprFault::TooDeep);
         }
         let (operand, end) = negation(alloc, tokens, at + 1, levels - 1, condition, names)?;
-        return Ok((Expr::Not(Box::new(alloc, operand)?), end));
+        return Ok((negated(alloc, operand)?, end));
     }
     if is_op(tokens, at, Op::LParen) {
         if levels == 0 {
@@ -271,6 +271,16 @@ fn negation(
         return Ok((inner, end + 1));
     }
     relation(alloc, tokens, at, condition, names)
+}
+
+// `!` before an expression.
+fn negated(alloc: Global, inner: Expr) -> Result<Expr, AllocError>
+    ensures { IfOk result (λ e. form_of e ≡ Negated (form_of inner)) }
+{
+    match inner {
+        Expr::One(operand) => Ok(Expr::NotOne(operand)),
+        other => Ok(Expr::Not(Box::new(alloc, other)?)),
+    }
 }
 
 // An operand, perhaps with an operator and another.

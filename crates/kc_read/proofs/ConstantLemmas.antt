@@ -5,7 +5,7 @@ use Rattle.kc_expr.specs.declared.expression.Tri.TheVariants.{N, M, Y}
 use Rattle.kc_expr.specs.declared.expression.Operand.{Operand}
 use Rattle.kc_expr.specs.declared.expression.Operand.TheVariants.{Const, TristateConstant, Sym}
 use Rattle.kc_expr.specs.declared.expression.Expr.{Expr}
-use Rattle.kc_expr.specs.declared.expression.Expr.TheVariants.{One, Rel, Not', Module, All', Any'}
+use Rattle.kc_expr.specs.declared.expression.Expr.TheVariants.{One, Rel, NotOne, Not', Module, All', Any'}
 use Rattle.kc_expr.specs.Form.{form_of, leaf_of, tri_text, Single, Text}
 use Rattle.kc_read.specs.Constants.{is_constant, is_tri}
 
@@ -26,6 +26,7 @@ leaf-tri Y (TristateConstant Y) h = refl
 pub form-constant : (t : Tri) (e : Expr) → is_constant t e ≡ true → form_of e ≡ Single (Text (tri_text t))
 form-constant t (One o) h = ap Single (leaf-tri t o h)
 form-constant t (Rel op operands) h = absurd cc
+form-constant t (NotOne o) h = absurd cc
 form-constant t (Not' p e) h = absurd cc
 form-constant t Module h = absurd cc
 form-constant t (All' p shape es) h = absurd cc

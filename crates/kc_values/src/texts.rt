@@ -26,7 +26,12 @@ pub fn single_text<'a, V: Values>(expr: &'a Expr, values: &'a V) -> &'a [u8]
 {
     match expr {
         Expr::One(operand) => text(operand, values),
-        Expr::Rel(..) | Expr::Not(_) | Expr::Module | Expr::All(_) | Expr::Any(_) => b"",
+        Expr::Rel(..)
+        | Expr::NotOne(_)
+        | Expr::Not(_)
+        | Expr::Module
+        | Expr::All(_)
+        | Expr::Any(_) => b"",
     }
 }
 

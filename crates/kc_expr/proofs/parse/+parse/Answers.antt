@@ -92,7 +92,7 @@ negation-returns-in_err-inner-clause-fails t c =
 
 pub negation-returns-then-is_op-clause-parsed : goal.negation-returns-then-is_op-clause-parsed
 negation-returns-then-is_op-clause-parsed t c =
-    parsed_bang _ _ _ _ _ _ _ _ _ c.if-levels-eq0.false c.if-is_op.ensures.1 (ap form_of c.in_ok-new.ensures.ok) c.in_ok-operand.ensures.parsed
+    parsed_bang _ _ _ _ _ _ _ _ _ c.if-levels-eq0.false c.if-is_op.ensures.1 c.in_ok-negated.ensures c.in_ok-operand.ensures.parsed
 
 pub negation-returns-then-not-is_op-clause-fails : goal.negation-returns-then-not-is_op-clause-fails
 negation-returns-then-not-is_op-clause-fails t c =
@@ -122,10 +122,10 @@ pub part-returns-in-Or-clause-fails : goal.part-returns-in-Or-clause-fails
 part-returns-in-Or-clause-fails t c =
     rw c.in-Or.is (IfErr-weaker _ _ _ (λ f h. fails_conjunction f c.args.levels (terminals_from c.args.tokens.now c.args.at) h) c.chain.ensures.fails)
 
-pub negation-returns-in_err-new-clause-fails : goal.negation-returns-in_err-new-clause-fails
-negation-returns-in_err-new-clause-fails t c =
+pub negation-returns-in_err-negated-clause-fails : goal.negation-returns-in_err-negated-clause-fails
+negation-returns-in_err-negated-clause-fails t c =
     let p = c.in_ok-operand.ensures.parsed in
-    fault_passed c.from_residual-in_err-new.result _ Memory c.from_residual-in_err-new.ensures.1
+    fault_passed c.from_residual-in_err-negated.result _ Memory c.from_residual-in_err-negated.ensures.1
     (operand_on _ (Bang ∷ []) _ c.if-is_op.ensures.1 (operand_in _ (spell_not p.tree) _ p.whole (not_operand p.tree)))
 
 pub negation-relation-requires : goal.negation-relation-requires
