@@ -1,23 +1,20 @@
 -- What the attributes of an entry give to the tables, line by line.
-use Rattle.std.proofs.Common.{◌≡◌, ℕ, ◌+◌, ◌<◌, ◌≤◌, true, false, List, [], ◌∷◌, ◌++◌, length, drop, Option, Some, None, refl, ap, sym, ◌∙◌, arith, get_or, append_assoc, inl, inr}
+use Rattle.std.proofs.Common.{◌≡◌, ℕ, ◌+◌, ◌<◌, ◌≤◌, List, [], ◌∷◌, ◌++◌, length, drop, Option, Some, None, refl, ap, sym, ◌∙◌, arith, get_or, append_assoc, inl, inr}
 use Rattle.std.specs.Prelude.{◌⊎◌}
 use Rattle.std.specs.List.{filter_map}
 use Rattle.std.proofs.lemmas.Bool.{cases_lt}
 use Rattle.std.proofs.lemmas.List.{append-nil, get_or_append_left, get_or_push, length_push}
-use Rattle.kc_expr.specs.declared.expression.SymId.{SymId}
 use Rattle.kc_expr.specs.Form.{Form}
 use Rattle.kc_expr.specs.When.{when_view}
 use Rattle.kc_read.specs.declared.entries.AttributeLine.{AttributeLine}
 use Rattle.kc_read.specs.StatementViews.{attribute_view}
 use Rattle.kc_read.specs.Statements.{Numbered}
 use Rattle.kc_tree.specs.declared.rows.ChoiceDefault.{ChoiceDefault}
-use Rattle.kc_tree.specs.declared.rows.Symbol.{Symbol}
 use Rattle.kc_tree.specs.Contexts.{and_also, condition_in, top}
 use Rattle.kc_tree.specs.TreeFacts.{Condition}
-use Rattle.kc_build.specs.EntryLines.{choice_default_line, member_line}
+use Rattle.kc_build.specs.EntryLines.{choice_default_line, named_line}
 use Rattle.kc_build.specs.Facts.{StatedDefault, stated_default, single_symbol}
 use Rattle.kc_build.specs.Growth.{IsGrown, IsInside, Stands}
-use Rattle.kc_build.specs.SymbolRows.{member_by}
 use Rattle.kc_build.specs.Passes.{statements_of}
 use Rattle.kc_build.proofs.ScanLemmas.{statements_end, statements_from}
 use Rattle.kc_tree.specs.Layouts.{with_conjuncts}
@@ -107,16 +104,13 @@ module _ (f : Numbered → Option Form) (old : List Condition) (outer : ℕ) whe
       record { there = a.there; is = sym (all_asked (condition_in now at)) ∙ (rw (statements_end ls i h) at s) }
 
 -- A default of a choice.
-module _ (symbols : List Symbol) (k : ℕ) (s : Numbered) where
-  pub member_made : (g : StatedDefault) (d : ChoiceDefault) → Some g ≡ stated_default s → Some d.member ≡ single_symbol g.value →
-      true ≡ member_by symbols k d.member → when_view d.when ≡ g.when → member_line symbols k s ≡ Some (choice_default_line d)
-  member_made g d h n m w = rw (← h, ← n, ← m) (λ i. Some (d.member, sym w i))
+module _ (s : Numbered) where
+  pub default_named : (g : StatedDefault) (d : ChoiceDefault) → Some g ≡ stated_default s → Some d.member ≡ single_symbol g.value →
+      when_view d.when ≡ g.when → named_line s ≡ Some (choice_default_line d)
+  default_named g d h n w = rw (← h, ← n) (λ i. Some (d.member, sym w i))
 
-  pub member_other : (g : StatedDefault) (t : SymId) → Some g ≡ stated_default s → Some t ≡ single_symbol g.value → false ≡ member_by symbols k t → member_line symbols k s ≡ None
-  member_other g t h n m = rw (← h, ← n, ← m) refl
+  pub default_unnamed : (g : StatedDefault) → Some g ≡ stated_default s → None ≡ single_symbol g.value → named_line s ≡ None
+  default_unnamed g h n = rw (← h, ← n) refl
 
-  pub member_unnamed : (g : StatedDefault) → Some g ≡ stated_default s → None ≡ single_symbol g.value → member_line symbols k s ≡ None
-  member_unnamed g h n = rw (← h, ← n) refl
-
-  pub member_missing : None ≡ stated_default s → member_line symbols k s ≡ None
-  member_missing h = rw (← h) refl
+  pub default_missing : None ≡ stated_default s → named_line s ≡ None
+  default_missing h = rw (← h) refl

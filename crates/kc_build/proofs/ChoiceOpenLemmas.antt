@@ -17,23 +17,21 @@ use Rattle.kc_tree.specs.declared.rows.ChoiceDefault.{ChoiceDefault}
 use Rattle.kc_tree.specs.declared.rows.ContextId.{ContextId}
 use Rattle.kc_tree.specs.declared.rows.Definition.{Definition}
 use Rattle.kc_tree.specs.declared.rows.EntryPrompt.{EntryPrompt}
-use Rattle.kc_tree.specs.declared.rows.Symbol.{Symbol}
 use Rattle.kc_tree.specs.declared.rows.Title.{Title}
 use Rattle.kc_tree.specs.Contexts.{HasNoMode, condition_in, in_choice, top}
 use Rattle.kc_tree.specs.Layouts.{choice_default_view, choice_facts as choice_in, prompt_view, with_when, with_conjuncts}
 use Rattle.kc_tree.specs.TreeFacts.{Condition, ChoiceFacts, Guarded}
 use Rattle.kc_tree.specs.Common.{listed}
-use Rattle.kc_build.specs.Before.{choice_before, choices_before, default_by, members_before}
-use Rattle.kc_build.specs.EntryLines.{choice_default_line, member_line, named_line, prompt_line}
+use Rattle.kc_build.specs.Before.{choice_before, choices_before, members_before, named_default}
+use Rattle.kc_build.specs.EntryLines.{choice_default_line, named_line, named_symbol, prompt_line}
 use Rattle.kc_build.specs.Facts.{StatedDefault, prompt_of, prompt_condition, block_conjuncts, choice_number, enclosing_choice, dependency, depends_form, shown_number, stated_default, is_member_index, of_block, prompt_at, single_symbol, symbol_at, enclosing_visible}
 use Rattle.kc_build.specs.Growth.{IsGrown, Stands}
-use Rattle.kc_build.specs.SymbolRows.{member_by}
 use Rattle.kc_build.specs.Scopes.{block_visible}
 use Rattle.kc_build.specs.WalkResult.{IsEntryThere, IsTitleThere}
 use Rattle.kc_build.specs.Stacks.{AreTitlesWithin, block_facts_at, block_view}
 use Rattle.kc_build.specs.Walks.{Enters, index_after}
 use Rattle.kc_build.specs.declared.blocks.BlockScope.{BlockScope}
-use Rattle.kc_build.specs.declared.entries.EntryWalk.{EntryWalk}
+use Rattle.kc_build.specs.declared.walk.EntryWalk.{EntryWalk}
 use Rattle.kc_build.proofs.CloserLemmas.{extends_equal, no_fewer}
 use Rattle.kc_build.proofs.DefineLemmas.{by_asked, prompt_by_line, line_prompt, prompt_visible}
 use Rattle.kc_build.proofs.GrownLemmas.{AreKept, Extends, carries_grown, choice_extends, further, get_front, get_pushed_if, grown_push, kept_by, kept_carries, map_alike, open_extends, plain_carries, modeless_extends, pushed}
@@ -199,24 +197,18 @@ module _ (ss : List Numbered) where
       (not_yet i j (last_of (filter (of_block ss block.Choice) (enclosing ss j))) (omega arith) refl)))
 
 -- What the row of a choice says.
-module _ (symbols : List Symbol) (k : ℕ) (c : Condition) where
+module _ (c : Condition) where
   abbrev named_of : SymId × Option Form → Guarded SymId
   named_of r = record { what = r.0; when = with_when c r.1 }
 
   abbrev default_of : StatedDefault → Option (Guarded SymId)
-  default_of g = option_and_then (λ (s : SymId). if member_by symbols k s then Some (named_of (s, g.when)) else None) (single_symbol g.value)
+  default_of g = option_map (λ (s : SymId). named_of (s, g.when)) (single_symbol g.value)
 
-  if_member : (b : Bool) (s : SymId) (w : Option Form) → option_map named_of (if b then Some (s, w) else None) ≡ (if b then Some (named_of (s, w)) else None)
-  if_member true s w = refl
-  if_member false s w = refl
-
-  by_symbol : (o : Option SymId) (w : Option Form) →
-      option_map named_of (option_and_then (λ (s : SymId). if member_by symbols k s then Some (s, w) else None) o) ≡
-      option_and_then (λ (s : SymId). if member_by symbols k s then Some (named_of (s, w)) else None) o
+  by_symbol : (o : Option SymId) (w : Option Form) → option_map named_of (option_map (λ (s : SymId). (s, w)) o) ≡ option_map (λ (s : SymId). named_of (s, w)) o
   by_symbol None w = refl
-  by_symbol (Some s) w = if_member (member_by symbols k s) s w
+  by_symbol (Some s) w = refl
 
-  by_given : (o : Option StatedDefault) → option_map named_of (option_and_then (named_line symbols k) o) ≡ option_and_then default_of o
+  by_given : (o : Option StatedDefault) → option_map named_of (option_and_then named_symbol o) ≡ option_and_then default_of o
   by_given None = refl
   by_given (Some g) = by_symbol (single_symbol g.value) g.when
 
@@ -228,10 +220,10 @@ module _ (symbols : List Symbol) (k : ℕ) (c : Condition) where
   each None gs = refl
   each (Some g) gs = refl
 
-  defaults_named : (own : List Numbered) → map named_of (filter_map (member_line symbols k) own) ≡ filter_map default_of (filter_map stated_default own)
+  defaults_named : (own : List Numbered) → map named_of (filter_map named_line own) ≡ filter_map default_of (filter_map stated_default own)
   defaults_named [] = refl
   defaults_named (s ∷ own) =
-      map_cons (member_line symbols k s) (filter_map (member_line symbols k) own)
+      map_cons (named_line s) (filter_map named_line own)
       ∙ (rw (by_given (stated_default s), defaults_named own) refl)
       ∙ sym (each (stated_default s) (filter_map stated_default own))
 
@@ -249,7 +241,7 @@ pub record IsRest (old new : EntryWalk) : Type 0 where
   pub entries : new.tables.entries ≡ old.tables.entries
   pub main_menu : new.main_menu ≡ old.main_menu
 
-module _ (symbols : List Symbol) (own : List Numbered) (old new : EntryWalk) (rest : IsRest old new) (middle : List Condition) (c : Choice) (b : BlockScope) (number id : ℕ) where
+module _ (own : List Numbered) (old new : EntryWalk) (rest : IsRest old new) (middle : List Condition) (c : Choice) (b : BlockScope) (number id : ℕ) where
   abbrev block_outside : BlockScope
   block_outside = old.blocks.innermost
 
@@ -258,10 +250,10 @@ module _ (symbols : List Symbol) (own : List Numbered) (old new : EntryWalk) (re
       new.tables.contexts ≡ middle ++ in_choice (condition_in middle old.blocks.innermost.within.0) id ∷ [] → id ≡ length old.tables.choices.items →
       new.tables.choices.items ≡ old.tables.choices.items ++ c ∷ [] →
       option_map prompt_line c.prompt ≡ option_map (λ (p : InputPrompt Form). (old.blocks.innermost.visible.0, p.when)) (last_of (filter_map prompt_of own)) →
-      map choice_default_line c.defaults.items ≡ filter_map (member_line symbols id) own → c.members.items ≡ [] → b.within.0 ≡ length middle →
+      map choice_default_line c.defaults.items ≡ filter_map named_line own → c.members.items ≡ [] → b.within.0 ≡ length middle →
       b.visible ≡ old.blocks.innermost.visible → b.entry ≡ Some number → number ≡ length old.tables.entries.items → new.blocks.innermost ≡ b →
-      new.blocks.outside.items ≡ old.blocks.outside.items ++ old.blocks.innermost ∷ [] → Enters symbols ChoiceLine own old new
-  choice_enters grown stands added id_is pushed_is prompt_is defaults_are members_are within visible entry number_is inner outside ss i a h w =
+      new.blocks.outside.items ≡ old.blocks.outside.items ++ old.blocks.innermost ∷ [] → (first : Bool) → Enters first ChoiceLine own old new
+  choice_enters grown stands added id_is pushed_is prompt_is defaults_are members_are within visible entry number_is inner outside first ss count i a h w =
       let o = old.tables.contexts in
       let there = old.within 0 block_outside refl in
       let seen = old.visible 0 block_outside refl in
@@ -272,7 +264,7 @@ module _ (symbols : List Symbol) (own : List Numbered) (old new : EntryWalk) (re
       record { keeps = λ n l. k.keeps n (let m = f.longer in omega arith) ∙ f.keeps n l; longer = (let m = f.longer in let n = k.longer in omega arith) } in
       let innermost_is = w.blocks.innermost in
       let opens : of_block ss block.Choice i ≡ true = rw (h.at) refl in
-      let counted : id ≡ choice_number ss i = id_is ∙ choice_count ss symbols i old w in
+      let counted : id ≡ choice_number ss i = id_is ∙ choice_count ss count i old w in
       let depends : condition_in new.tables.contexts c.within.0 ≡ dependency ss i = k.keeps c.within.0 stands.there ∙ stands.is
       ∙ dependency_is ss i own o block_outside innermost_is h.attributes_are in
       let shows : (condition_in new.tables.contexts block_outside.visible.0).conjuncts ≡ enclosing_visible ss i =
@@ -287,22 +279,21 @@ module _ (symbols : List Symbol) (own : List Numbered) (old new : EntryWalk) (re
       (last_of (filter_map prompt_of own))) shows
       ∙ ap (λ (l : List Numbered). option_map (prompt_condition ss i) (last_of (filter_map prompt_of l))) (sym h.attributes_are) in
       let given : map (choice_default_view (condition_in new.tables.contexts c.within.0)) c.defaults.items ≡
-      filter_map (default_by ss symbols i) (filter_map stated_default (attributes ss i)) =
+      filter_map (named_default ss i) (filter_map stated_default (attributes ss i)) =
       ap (λ (y : Condition). map (choice_default_view y) c.defaults.items) depends
-      ∙ defaults_rows symbols id (dependency ss i) c.defaults.items
-      ∙ ap (map (named_of symbols id (dependency ss i))) defaults_are
-      ∙ defaults_named symbols id (dependency ss i) own
-      ∙ ap (λ (n : ℕ). filter_map (default_of symbols n (dependency ss i)) (filter_map stated_default own)) counted
-      ∙ ap (λ (l : List Numbered). filter_map (default_by ss symbols i) (filter_map stated_default l)) (sym h.attributes_are) in
+      ∙ defaults_rows (dependency ss i) c.defaults.items
+      ∙ ap (map (named_of (dependency ss i))) defaults_are
+      ∙ defaults_named (dependency ss i) own
+      ∙ ap (λ (l : List Numbered). filter_map (named_default ss i) (filter_map stated_default l)) (sym h.attributes_are) in
       let members : c.members.items ≡ members_before ss i (choice_number ss i) = members_are ∙ sym (no_members_yet ss i) in
-      let row : choice_in new.tables c ≡ choice_before ss symbols i i = λ j. record { prompt = asked j; defaults = given j; members = members j } in
-      let choices : map (choice_in new.tables) new.tables.choices.items ≡ choices_before ss symbols (index_after i own) =
+      let row : choice_in new.tables c ≡ choice_before ss i i = λ j. record { prompt = asked j; defaults = given j; members = members j } in
+      let choices : map (choice_in new.tables) new.tables.choices.items ≡ choices_before ss (index_after i own) =
       ap (map (choice_in new.tables)) pushed_is
       ∙ map_push (choice_in new.tables) old.tables.choices.items c
       ∙ ap (λ (l : List ChoiceFacts). l ++ choice_in new.tables c ∷ [])
       (map_alike (choice_in new.tables) (choice_in old.tables) old.tables.choices.items (choice_extends old.tables new.tables g) ∙ w.choices)
-      ∙ ap (λ (y : ChoiceFacts). choices_before ss symbols i ++ y ∷ []) row
-      ∙ sym (choice_passed ss i ChoiceLine own h refl symbols opens) in
+      ∙ ap (λ (y : ChoiceFacts). choices_before ss i ++ y ∷ []) row
+      ∙ sym (choice_passed ss i ChoiceLine own h refl opens) in
       let made : condition_in new.tables.contexts b.within.0 ≡ in_choice x id = ap (λ (n : ℕ). condition_in new.tables.contexts n) within
       ∙ ap (λ (l : List Condition). condition_in l (length middle)) added ∙ get_or_push middle (in_choice x id) top (length middle) refl in
       let nothing : block_conjuncts ss i ≡ [] = rw (h.at) refl in
@@ -315,9 +306,9 @@ module _ (symbols : List Symbol) (own : List Numbered) (old new : EntryWalk) (re
       ∙ sym (ap (λ (l : List Form). (block_facts_at ss i).visible ++ l) unseen ∙ append-nil (block_facts_at ss i).visible) in
       let mode : (condition_in new.tables.contexts b.within.0).mode ≡ (if of_block ss block.Choice i then Some (choice_number ss i) else (block_facts_at ss i).mode) =
       ap (λ (y : Condition). y.mode) made ∙ ap Some counted ∙ sym (ap (λ (t : Bool). if t then Some (choice_number ss i) else (block_facts_at ss i).mode) opens) in
-      let named : b.entry ≡ Some (shown_number ss i) = entry ∙ ap Some (number_is ∙ entry_count ss symbols i old w a.ends) in
+      let named : b.entry ≡ Some (shown_number ss i) = entry ∙ ap Some (number_is ∙ entry_count ss count i old w a.ends) in
       let inside = ap (block_view new.tables.contexts) inner ∙ block_inside ss i new.tables.contexts b conjuncts visible_conjuncts mode named in
-      walk_passes ss i ChoiceLine own h symbols old new w
+      walk_passes ss i ChoiceLine own h old new count w
       (record {
         contexts = g;
         few_contexts = (let n = ap length added ∙ length_push middle (in_choice x id) in let m = grown.few in omega arith);

@@ -9,7 +9,6 @@ use Rattle.kc_read.specs.declared.statement.Block.TheVariants as block
 use Rattle.kc_read.specs.Statements.{Numbered, EndMenuLine}
 use Rattle.kc_read.specs.Blocks.{Closes, bracket, numbers}
 use Rattle.kc_tree.specs.declared.rows.ShownEntry.TheVariants as entry
-use Rattle.kc_tree.specs.declared.rows.Symbol.{Symbol}
 use Rattle.kc_tree.specs.Layouts.{shown_of}
 use Rattle.kc_tree.specs.TreeFacts.{Condition, EndShown}
 use Rattle.kc_build.specs.Facts.{shown_at, shown_number, shows_entry, of_block, enclosing_block, symbol_of, title_of}
@@ -17,7 +16,7 @@ use Rattle.kc_build.specs.WalkResult.{IsEntryThere, IsTitleThere}
 use Rattle.kc_build.specs.Stacks.{AreOpen, IsClosed}
 use Rattle.kc_build.specs.Walks.{Enters}
 use Rattle.kc_build.specs.WalkSteps.{ends_of}
-use Rattle.kc_build.specs.declared.entries.EntryWalk.{EntryWalk}
+use Rattle.kc_build.specs.declared.walk.EntryWalk.{EntryWalk}
 use Rattle.kc_build.proofs.BlockLemmas.{last_is_nested}
 use Rattle.kc_build.proofs.GrownLemmas.{Extends, carries_same, extends}
 use Rattle.kc_build.proofs.ListLemmas.{count_next}
@@ -47,9 +46,9 @@ no_fewer p k n h =
 -- The end of an `if` or of a choice.
 pub closer_enters : (head : Numbered) (old new : EntryWalk) → bracket head ≡ Closes → symbol_of (Some head) ≡ None → title_of head ≡ None →
     ((ss : List Numbered) (i : ℕ) → shown_at ss i (Some head) ≡ None) → AreSame old new → new.tables.contexts ≡ old.tables.contexts → new.main_menu ≡ old.main_menu →
-    IsClosed old.blocks new.blocks → (symbols : List Symbol) (own : List Numbered) → Enters symbols head own old new
-closer_enters head old new b none untitled no_entry same contexts menu closed symbols own ss i a h w =
-    quiet_passes ss symbols i head own h old new w same
+    IsClosed old.blocks new.blocks → (first : Bool) (own : List Numbered) → Enters first head own old new
+closer_enters head old new b none untitled no_entry same contexts menu closed first own ss count i a h w =
+    quiet_passes ss count i head own h old new w same
     (record { symbol = none; choice = rw (h.at, b) refl; entry = no_entry ss i })
     (extends_equal old.tables.contexts new.tables.contexts contexts)
     (let n : length new.tables.contexts ≡ length old.tables.contexts = ap length contexts in omega arith)
@@ -75,9 +74,9 @@ module _ (ss : List Numbered) where
       All-cons (IsEntryThere m n) (entry.End (shown_number ss k)) [] (omega arith) (All-nil (IsEntryThere m n))
 
 pub end_enters : (old new : EntryWalk) → AreRest old new → new.tables.contexts ≡ old.tables.contexts → new.tables.titles ≡ old.tables.titles →
-    new.tables.entries.items ≡ old.tables.entries.items ++ ends_of old.blocks.innermost.entry → IsClosed old.blocks new.blocks → (symbols : List Symbol) (own : List Numbered) →
-    Enters symbols EndMenuLine own old new
-end_enters old new r contexts titles entries closed symbols own ss i a h w =
+    new.tables.entries.items ≡ old.tables.entries.items ++ ends_of old.blocks.innermost.entry → IsClosed old.blocks new.blocks → (first : Bool) (own : List Numbered) →
+    Enters first EndMenuLine own old new
+end_enters old new r contexts titles entries closed first own ss count i a h w =
     let opener : old.blocks.innermost.entry ≡ option_map (shown_number ss) (enclosing_block ss i) = ap (λ x. x.entry) w.blocks.innermost in
     let ends : new.tables.entries.items ≡ old.tables.entries.items ++ ends_of (option_map (shown_number ss) (enclosing_block ss i)) = entries
     ∙ ap (λ (o : Option ℕ). old.tables.entries.items ++ ends_of o) opener in
@@ -85,8 +84,8 @@ end_enters old new r contexts titles entries closed symbols own ss i a h w =
     let g = extends_equal old.tables.contexts new.tables.contexts contexts in
     let many : length new.tables.entries.items ≡ shown_number ss i + length (ends_of (option_map (shown_number ss) (enclosing_block ss i))) = ap length ends
     ∙ length-append old.tables.entries.items (ends_of (option_map (shown_number ss) (enclosing_block ss i)))
-    ∙ ap (λ (n : ℕ). n + length (ends_of (option_map (shown_number ss) (enclosing_block ss i)))) (entry_count ss symbols i old w a.ends) in
-    walk_passes ss i EndMenuLine own h symbols old new w
+    ∙ ap (λ (n : ℕ). n + length (ends_of (option_map (shown_number ss) (enclosing_block ss i)))) (entry_count ss count i old w a.ends) in
+    walk_passes ss i EndMenuLine own h old new count w
     (record {
       contexts = g;
       few_contexts = (let n : length new.tables.contexts ≡ length old.tables.contexts = ap length contexts in omega arith);
@@ -96,7 +95,7 @@ end_enters old new r contexts titles entries closed symbols own ss i a h w =
       selector_rows = r.selector_rows;
       blocks = open_closes ss i EndMenuLine h.at new.tables.contexts old.blocks new.blocks refl
           (subst (λ (l : List Condition). AreOpen ss i l old.blocks) (sym contexts) w.blocks) closed;
-      choices = choices_say_same ss i EndMenuLine own h symbols old new g r.choices ∙ w.choices ∙ sym (no_choice_passed ss i EndMenuLine own h refl symbols other);
+      choices = choices_say_same ss i EndMenuLine own h old new g r.choices ∙ w.choices ∙ sym (no_choice_passed ss i EndMenuLine own h refl other);
       few_choices = (let e : length new.tables.choices.items ≡ length old.tables.choices.items = ap (λ v. length v.items) r.choices in omega arith);
       titles_more = [];
       titles = ap (λ v. v.items) titles ∙ sym (append-nil old.tables.titles.items);

@@ -4,7 +4,6 @@ use Rattle.std.specs.List.{All, cons_option, filter_map, flat_map, slice_get}
 use Rattle.std.specs.Option.{option_map}
 use Rattle.std.proofs.lemmas.List.{append-nil, length-map, map-append}
 use Rattle.std.proofs.lemmas.List.Elements.{All-append, All-cons, All-nil, All-weaker, filter_map-append}
-use Rattle.std.proofs.lemmas.Option.{slice_get_within}
 use Rattle.kc_expr.specs.declared.expression.SymId.{SymId}
 use Rattle.kc_expr.specs.Form.{Form}
 use Rattle.kc_expr.specs.Names.{symbol}
@@ -18,34 +17,31 @@ use Rattle.kc_tree.specs.declared.rows.DefinitionId.{DefinitionId}
 use Rattle.kc_tree.specs.declared.rows.ShownEntry.{ShownEntry}
 use Rattle.kc_tree.specs.declared.rows.ShownEntry.TheVariants as entry
 use Rattle.kc_tree.specs.declared.rows.Selector.{Selector}
-use Rattle.kc_tree.specs.declared.rows.Symbol.{Symbol}
 use Rattle.kc_tree.specs.declared.rows.SymbolDefault.{SymbolDefault}
 use Rattle.kc_tree.specs.declared.rows.SymbolRange.{SymbolRange}
 use Rattle.kc_tree.specs.Contexts.{condition_in}
 use Rattle.kc_tree.specs.Layouts.{DefinitionFacts, choice_default_view, choice_facts as choice_in, default_view, definition_facts, impliers_at, prompt_view, range_view, selectors_at, shown_of, with_when}
 use Rattle.kc_tree.specs.Spans.{slice_of}
 use Rattle.kc_tree.specs.TreeFacts.{ChoiceFacts, Condition, Guarded, SymbolShown}
-use Rattle.kc_build.specs.declared.entries.EntryWalk.{EntryWalk}
+use Rattle.kc_build.specs.declared.walk.EntryWalk.{EntryWalk}
 use Rattle.kc_build.specs.declared.lines.SelectOrImply.TheVariants as select_or_imply
 use Rattle.kc_build.specs.Before.{choices_before, definition_facts_at, definitions_before, entries_before, impliers_before, selectors_before}
 use Rattle.kc_build.specs.EntryLines.{default_line, range_line}
 use Rattle.kc_build.specs.Facts as facts
 use Rattle.kc_build.specs.Facts.{StatedDefault, enclosing_choice, defaults_at, dependency, stated_default, imply_of, is_first_definition, naming_at, guarded_range, select_of, symbol_at, symbol_of}
-use Rattle.kc_build.specs.SymbolRows.{HasSymbols, can_be_target, definition_number, first_by}
+use Rattle.kc_build.specs.FirstDefinitions.{first_of_symbol}
 use Rattle.kc_build.specs.Passes.{change}
 use Rattle.kc_build.specs.SelectorRows.{AreAdded, HaveSources, KeepSources, added_lines, selects_of, implies_of}
 use Rattle.kc_build.specs.WalkResult.{AreRowsThere, HasHeads, IsEntryThere, IsSmall, IsSpanBelow, IsTitleThere}
 use Rattle.kc_build.specs.Stacks.{AreOpen, BlockFacts, block_facts_at, block_view}
-use Rattle.kc_build.specs.Walks.{IsHead, IsWalk, index_after}
+use Rattle.kc_build.specs.Walks.{IsEntryKnown, IsHead, IsWalk, index_after}
 use Rattle.kc_build.specs.WalkSteps.{AddsDefinition, KeepsAllButChoices, made_definition, one_more, with_member}
 use Rattle.kc_build.proofs.BlockLemmas.{enclosing-no}
 use Rattle.kc_build.proofs.DefineLemmas.{entry_carries}
 use Rattle.kc_build.proofs.EnterLemmas.{definitions_passed, enclosing_passed, entries_passed, names_passed}
-use Rattle.kc_build.proofs.FirstNumberLemmas.{first_by_number}
 use Rattle.kc_build.proofs.GrownLemmas.{Carries, choice_carries, guarded_default, guarded_bounds, entries_stay, map_alike, open_carries, pushed, shown_carries, titles_stay}
-use Rattle.kc_build.proofs.LayoutLemmas.{length-given}
 use Rattle.kc_build.proofs.MembersLemmas.{members_added}
-use Rattle.kc_build.proofs.NamedLemmas.{added_named, impliers_by_rows, named_in, named_more, naming_is, rows_low, selectors_by_rows, target_known}
+use Rattle.kc_build.proofs.NamedLemmas.{added_named, impliers_by_rows, named_in, named_more, naming_is, rows_low, selectors_by_rows}
 use Rattle.kc_build.proofs.OpenLemmas.{open_moves}
 use Rattle.kc_build.proofs.WalkLemmas.{all_at, main_menu_stays}
 
@@ -86,7 +82,7 @@ by_tables conditions defaults ranges d = record {
   ranges = map (range_view (condition_in conditions d.within.0)) (slice_of ranges d.ranges);
 }
 
-same_definitions : (t u : Tables) → u.contexts ≡ t.contexts → u.definitions ≡ t.definitions → u.defaults ≡ t.defaults → u.ranges ≡ t.ranges →
+pub same_definitions : (t u : Tables) → u.contexts ≡ t.contexts → u.definitions ≡ t.definitions → u.defaults ≡ t.defaults → u.ranges ≡ t.ranges →
     map (definition_facts u) u.definitions.items ≡ map (definition_facts t) t.definitions.items
 same_definitions t u c d e f = λ i. map (by_tables (c i) ((e i).items) ((f i).items)) ((d i).items)
 
@@ -102,10 +98,10 @@ same_choices : (t u : Tables) → u.contexts ≡ t.contexts → u.choices ≡ t.
 same_choices t u c d = λ i. map (choice_by_contexts (c i)) ((d i).items)
 
 -- What such an entry does to the walk, step by step.
-pub record Defines (symbols : List Symbol) (symbol : SymId) (own : List Numbered) (source : DefinitionId) (old made last new : EntryWalk) : Type 0 where
+pub record Defines (first : Bool) (symbol : SymId) (own : List Numbered) (source : DefinitionId) (old made last new : EntryWalk) : Type 0 where
   pub number : source.0 ≡ length old.tables.definitions.items
   pub added : AddsDefinition symbol own old made
-  pub selector_rows : AreAdded symbols source made.tables.selector_rows own last.tables.selector_rows
+  pub selector_rows : AreAdded source made.tables.selector_rows own last.tables.selector_rows
   pub sources : KeepSources source.0 made.tables.selector_rows.lines.items last.tables.selector_rows.lines.items
   pub contexts : last.tables.contexts ≡ made.tables.contexts
   pub definitions : last.tables.definitions ≡ made.tables.definitions
@@ -113,26 +109,20 @@ pub record Defines (symbols : List Symbol) (symbol : SymId) (own : List Numbered
   pub ranges : last.tables.ranges ≡ made.tables.ranges
   pub choices : last.tables.choices ≡ made.tables.choices
   pub titles : last.tables.titles ≡ made.tables.titles
-  pub entries : last.tables.entries.items ≡ pushed (first_by symbols symbol source.0) made.tables.entries.items (entry.Symbol symbol)
+  pub entries : last.tables.entries.items ≡ pushed first made.tables.entries.items (entry.Symbol symbol)
   pub blocks : last.blocks ≡ made.blocks
   pub main_menu : last.main_menu ≡ made.main_menu
   pub member : map (choice_in new.tables) new.tables.choices.items ≡ with_member (condition_in last.tables.contexts last.blocks.innermost.within.0).mode symbol
       (map (choice_in last.tables) last.tables.choices.items)
   pub others : KeepsAllButChoices last new
 
-module _ (ss : List Numbered) (symbols : List Symbol) (i : ℕ) (s : SymId) (own : List Numbered) (source : DefinitionId) (old made last new : EntryWalk)
-    (whole : HasSymbols ss symbols) (h : IsHead ss i (ConfigLine s) own) (w : IsWalk ss symbols i old) (m : Defines symbols s own source old made last new) where
+module _ (ss : List Numbered) (count i : ℕ) (first : Bool) (s : SymId) (own : List Numbered) (source : DefinitionId) (old made last new : EntryWalk)
+    (known : IsEntryKnown ss i first) (h : IsHead ss i (ConfigLine s) own) (w : IsWalk ss count i old) (m : Defines first s own source old made last new) where
   abbrev after : ℕ
   after = index_after i own
 
   symbol_here : symbol_at ss i ≡ Some s
   symbol_here = ap symbol_of h.at
-
-  within : i < length ss
-  within = slice_get_within ss i (ConfigLine s) h.at
-
-  below : s.0 < length symbols
-  below = whole.below i s symbol_here
 
   contexts_are : new.tables.contexts ≡ made.tables.contexts
   contexts_are = m.others.contexts ∙ m.contexts
@@ -164,81 +154,70 @@ module _ (ss : List Numbered) (symbols : List Symbol) (i : ℕ) (s : SymId) (own
       ∙ ap (λ l. l ++ here ∷ []) w.definitions
       ∙ sym (definitions_passed ss i (ConfigLine s) own h ∙ ap (λ o. definitions_before ss i ++ cons_option (option_map (definition_facts_at ss i) o) []) symbol_here)
 
-  count : length before ≡ length old.tables.definitions.items
-  count = length-map old.tables.definitions.items (definition_facts old.tables)
+  many_before : length before ≡ length old.tables.definitions.items
+  many_before = length-map old.tables.definitions.items (definition_facts old.tables)
 
   more_definitions : length new.tables.definitions.items ≡ length old.tables.definitions.items + 1
   more_definitions =
-      sym (length-map new.tables.definitions.items (definition_facts new.tables)) ∙ ap length definitions_made ∙ length-append before (here ∷ []) ∙ ap (λ n. n + 1) count
-
-  number_is : source.0 ≡ definition_number ss i
-  number_is =
-      m.number ∙ sym count ∙ ap length w.definitions ∙ length-given (symbol_at ss) (definition_facts_at ss) (numbers i)
+      sym (length-map new.tables.definitions.items (definition_facts new.tables)) ∙ ap length definitions_made ∙ length-append before (here ∷ []) ∙ ap (λ n. n + 1) many_before
 
   -- Reverse dependencies.
   lines_made : new.tables.selector_rows ≡ last.tables.selector_rows
   lines_made = m.others.selector_rows
 
-  can : (k : ℕ) → k < length symbols → can_be_target symbols (symbol k) ≡ facts.can_be_target ss (symbol k)
-  can k l = target_known ss symbols (symbol k) whole.below whole.symbols_are l
-
   abbrev named : Option Form → Guarded SymId
   named v = record { what = here.symbol; when = with_when here.dependency v }
-
-  join : (b : Bool) (xs ys : List (Guarded SymId)) → (if b then xs else []) ++ (if b then ys else []) ≡ (if b then xs ++ ys else [])
-  join true xs ys = refl
-  join false xs ys = refl
 
   naming_here : (line : Numbered → Option (Option Form)) → map named (filter_map line own) ≡ naming_at ss line i
   naming_here line =
       ap (λ l. map named (filter_map line l)) (sym h.attributes_are) ∙ sym (naming_is ss line i s symbol_here)
 
   -- what names a symbol, by the lines of a kind
-  names_now : (k : ℕ) (line : Numbered → Option (Option Form)) (old_rows new_rows more : List (ℕ × Option Form)) → new_rows ≡ old_rows ++ more →
-      All (λ (x : ℕ × Option Form). x.0 < length before) old_rows →
-      filter_map (named_in before) old_rows ≡ (if facts.can_be_target ss (symbol k) then flat_map (naming_at ss line) (numbers i) else []) →
-      filter_map (named_in (before ++ here ∷ [])) more ≡ (if facts.can_be_target ss (symbol k) then map named (filter_map line own) else []) →
-      filter_map (named_in (before ++ here ∷ [])) new_rows ≡ (if facts.can_be_target ss (symbol k) then flat_map (naming_at ss line) (numbers after) else [])
-  names_now k line old_rows new_rows more e low was adds =
-      let test = facts.can_be_target ss (symbol k) in
+  names_now : (line : Numbered → Option (Option Form)) (old_rows new_rows more : List (ℕ × Option Form)) → new_rows ≡ old_rows ++ more →
+      All (λ (x : ℕ × Option Form). x.0 < length before) old_rows → filter_map (named_in before) old_rows ≡ flat_map (naming_at ss line) (numbers i) →
+      filter_map (named_in (before ++ here ∷ [])) more ≡ map named (filter_map line own) →
+      filter_map (named_in (before ++ here ∷ [])) new_rows ≡ flat_map (naming_at ss line) (numbers after)
+  names_now line old_rows new_rows more e low was adds =
       ap (filter_map (named_in (before ++ here ∷ []))) e
       ∙ filter_map-append (named_in (before ++ here ∷ [])) old_rows more
       ∙ ap (λ l. l ++ filter_map (named_in (before ++ here ∷ [])) more) (named_more before here old_rows low ∙ was)
-      ∙ ap (λ l. (if test then flat_map (naming_at ss line) (numbers i) else []) ++ l) (adds ∙ ap (λ l. if test then l else []) (naming_here line))
-      ∙ join test (flat_map (naming_at ss line) (numbers i)) (naming_at ss line i)
-      ∙ ap (λ l. if test then l else []) (sym (names_passed ss i (ConfigLine s) own h line))
+      ∙ ap (λ l. flat_map (naming_at ss line) (numbers i) ++ l) (adds ∙ naming_here line)
+      ∙ sym (names_passed ss i (ConfigLine s) own h line)
 
   old_sources : HaveSources (length before) old.tables.selector_rows.lines.items
-  old_sources = subst (λ n. HaveSources n old.tables.selector_rows.lines.items) (sym count) w.rows.sources
+  old_sources = subst (λ n. HaveSources n old.tables.selector_rows.lines.items) (sym many_before) w.rows.sources
 
   number_before : source.0 ≡ length before
-  number_before = m.number ∙ sym count
+  number_before = m.number ∙ sym many_before
 
-  rows_made : (k : ℕ) → selects_of new.tables.selector_rows k ≡ selects_of old.tables.selector_rows k ++ added_lines symbols source select_or_imply.Select k own
-  rows_made k =
-      ap (λ r. selects_of r k) lines_made ∙ m.selector_rows.selects k ∙ ap (λ r. selects_of r k ++ added_lines symbols source select_or_imply.Select k own) m.added.selector_rows
+  below : (k : ℕ) → k < count → k < length made.tables.selector_rows.selects.items
+  below k l = let e = ap (λ r. length r.selects.items) m.added.selector_rows ∙ w.heads.selects in omega arith
 
-  imply_rows_made : (k : ℕ) → implies_of new.tables.selector_rows k ≡ implies_of old.tables.selector_rows k ++ added_lines symbols source select_or_imply.Imply k own
-  imply_rows_made k =
-      ap (λ r. implies_of r k) lines_made ∙ m.selector_rows.implies k ∙ ap (λ r. implies_of r k ++ added_lines symbols source select_or_imply.Imply k own) m.added.selector_rows
+  rows_made : (k : ℕ) → k < count → selects_of new.tables.selector_rows k ≡ selects_of old.tables.selector_rows k ++ added_lines source select_or_imply.Select k own
+  rows_made k l =
+      ap (λ r. selects_of r k) lines_made ∙ m.selector_rows.selects k (below k l) ∙ ap (λ r. selects_of r k ++ added_lines source select_or_imply.Select k own) m.added.selector_rows
 
-  selectors_now : (k : ℕ) → k < length symbols → selectors_at new.tables k ≡ selectors_before ss after (symbol k)
+  imply_rows_made : (k : ℕ) → k < count → implies_of new.tables.selector_rows k ≡ implies_of old.tables.selector_rows k ++ added_lines source select_or_imply.Imply k own
+  imply_rows_made k l =
+      ap (λ r. implies_of r k) lines_made ∙ m.selector_rows.implies k (below k l) ∙ ap (λ r. implies_of r k ++ added_lines source select_or_imply.Imply k own) m.added.selector_rows
+
+  selectors_now : (k : ℕ) → k < count → selectors_at new.tables k ≡ selectors_before ss after (symbol k)
   selectors_now k l =
       selectors_by_rows new.tables k
       ∙ ap (λ ds. filter_map (named_in ds) (selects_of new.tables.selector_rows k)) definitions_made
-      ∙ names_now k (select_of (symbol k)) (selects_of old.tables.selector_rows k) (selects_of new.tables.selector_rows k) (added_lines symbols source select_or_imply.Select k own) (rows_made k)
+      ∙ names_now (select_of (symbol k)) (selects_of old.tables.selector_rows k) (selects_of new.tables.selector_rows k) (added_lines source select_or_imply.Select k own) (rows_made k l)
       (rows_low (length before) old.tables.selector_rows.lines.items _ old_sources)
       (sym (selectors_by_rows old.tables k) ∙ w.selectors k l)
-      (added_named symbols source before here number_before k (facts.can_be_target ss (symbol k)) (can k l) select_or_imply.Select own)
+      (added_named source before here number_before k select_or_imply.Select own)
 
-  impliers_now : (k : ℕ) → k < length symbols → impliers_at new.tables k ≡ impliers_before ss after (symbol k)
+  impliers_now : (k : ℕ) → k < count → impliers_at new.tables k ≡ impliers_before ss after (symbol k)
   impliers_now k l =
       impliers_by_rows new.tables k
       ∙ ap (λ ds. filter_map (named_in ds) (implies_of new.tables.selector_rows k)) definitions_made
-      ∙ names_now k (imply_of (symbol k)) (implies_of old.tables.selector_rows k) (implies_of new.tables.selector_rows k) (added_lines symbols source select_or_imply.Imply k own) (imply_rows_made k)
+      ∙ names_now (imply_of (symbol k)) (implies_of old.tables.selector_rows k) (implies_of new.tables.selector_rows k) (added_lines source select_or_imply.Imply k own) (imply_rows_made k l)
       (rows_low (length before) old.tables.selector_rows.lines.items _ old_sources)
       (sym (impliers_by_rows old.tables k) ∙ w.impliers k l)
-      (added_named symbols source before here number_before k (facts.can_be_target ss (symbol k)) (can k l) select_or_imply.Imply own)
+      (added_named source before here number_before k select_or_imply.Imply own)
 
   -- Choices.
   mode_is : (condition_in last.tables.contexts last.blocks.innermost.within.0).mode ≡ enclosing_choice ss i
@@ -249,7 +228,7 @@ module _ (ss : List Numbered) (symbols : List Symbol) (i : ℕ) (s : SymId) (own
       ∙ ap (λ (c : Condition). c.mode) (m.added.contexts.keeps inner (old.within 0 old.blocks.innermost refl))
       ∙ ap (λ (a : BlockFacts). a.mode) w.blocks.innermost
 
-  choices_last : map (choice_in last.tables) last.tables.choices.items ≡ choices_before ss symbols i
+  choices_last : map (choice_in last.tables) last.tables.choices.items ≡ choices_before ss i
   choices_last =
       same_choices made.tables last.tables m.contexts m.choices
       ∙ ap (λ v. map (choice_in made.tables) v.items) m.added.choices
@@ -257,18 +236,17 @@ module _ (ss : List Numbered) (symbols : List Symbol) (i : ℕ) (s : SymId) (own
       (choice_carries old.tables made.tables (entry_carries old made.tables.contexts (length own) m.added.contexts))
       ∙ w.choices
 
-  choices_now : map (choice_in new.tables) new.tables.choices.items ≡ choices_before ss symbols after
+  choices_now : map (choice_in new.tables) new.tables.choices.items ≡ choices_before ss after
   choices_now =
       m.member ∙ ap (λ o. with_member o s (map (choice_in last.tables) last.tables.choices.items)) mode_is
-      ∙ ap (with_member (enclosing_choice ss i) s) choices_last ∙ members_added ss symbols i s own h
+      ∙ ap (with_member (enclosing_choice ss i) s) choices_last ∙ members_added ss i s own h
 
   -- Entries.
   abbrev more_entries : List ShownEntry
   more_entries = if is_first_definition ss i s then entry.Symbol s ∷ [] else []
 
-  first_is : first_by symbols s source.0 ≡ is_first_definition ss i s
-  first_is =
-      ap (first_by symbols s) number_is ∙ first_by_number ss symbols s i whole.symbols_are below symbol_here within
+  first_is : first ≡ is_first_definition ss i s
+  first_is = known.first_is ∙ ap (first_of_symbol ss i) symbol_here
 
   pushed_as : (b : Bool) (xs : List ShownEntry) (x : ShownEntry) → pushed b xs x ≡ xs ++ (if b then x ∷ [] else [])
   pushed_as true xs x = refl
@@ -376,7 +354,7 @@ module _ (ss : List Numbered) (symbols : List Symbol) (i : ℕ) (s : SymId) (own
     choices = (let a = w.small.choices in let b = choices_many in omega arith);
   }
 
-  heads_now : HasHeads symbols new.tables
+  heads_now : HasHeads count new.tables
   heads_now = record {
     selects = ap (λ r. length r.selects.items) lines_made ∙ m.selector_rows.count ∙ ap (λ r. length r.selects.items) m.added.selector_rows ∙ w.heads.selects;
     implies = ap (λ r. length r.implies.items) lines_made ∙ m.selector_rows.same ∙ ap (λ r. length r.implies.items) m.added.selector_rows ∙ w.heads.implies;
@@ -390,7 +368,7 @@ module _ (ss : List Numbered) (symbols : List Symbol) (i : ℕ) (s : SymId) (own
       open_moves ss i after new.tables.contexts new.blocks (enclosing_passed ss i (ConfigLine s) own h ∙ enclosing-no ss i (ConfigLine s) h.at refl)
       (subst (AreOpen ss i new.tables.contexts) (sym blocks_same) (open_carries ss i old.tables.contexts new.tables.contexts old.blocks carried old.within old.visible w.blocks))
 
-  pub walk_defines : IsWalk ss symbols (index_after i own) new
+  pub walk_defines : IsWalk ss count (index_after i own) new
   walk_defines = record {
     blocks = blocks_now;
     definitions = definitions_now;

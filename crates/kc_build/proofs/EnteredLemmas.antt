@@ -1,5 +1,5 @@
 -- What an entry does to the walk that is no symbol, block or comment: the ends of an `if` and of a choice, a main menu.
-use Rattle.std.proofs.Common.{◌≡◌, ℕ, List, [], ◌∷◌, ◌++◌, length, take, Some, None, codes, unwrap_or, refl, ap, sym, ◌∙◌, arith, inl, inr}
+use Rattle.std.proofs.Common.{Bool, ◌≡◌, ℕ, List, [], ◌∷◌, ◌++◌, length, take, Some, None, codes, unwrap_or, refl, ap, sym, ◌∙◌, arith, inl, inr}
 use Rattle.std.specs.Prelude.{◌⊎◌}
 use Rattle.std.specs.List.{filter_map}
 use Rattle.kc_read.specs.declared.statement.Head.{Head}
@@ -7,10 +7,9 @@ use Rattle.kc_read.specs.declared.statement.Head.TheVariants as made
 use Rattle.kc_read.specs.StatementViews.{head_view}
 use Rattle.kc_read.specs.Statements.{Numbered, MainMenuLine}
 use Rattle.kc_read.specs.Blocks.{Closes, bracket, last_of}
-use Rattle.kc_tree.specs.declared.rows.Symbol.{Symbol}
 use Rattle.kc_build.specs.Facts.{shown_at, symbol_of, title_of}
 use Rattle.kc_build.specs.Walks.{Enters}
-use Rattle.kc_build.specs.declared.entries.EntryWalk.{EntryWalk}
+use Rattle.kc_build.specs.declared.walk.EntryWalk.{EntryWalk}
 use Rattle.kc_build.proofs.CloserLemmas.{extends_equal}
 use Rattle.kc_build.proofs.EnterLemmas.{titles_passed}
 use Rattle.kc_build.proofs.OpenLemmas.{open_passes}
@@ -33,9 +32,9 @@ last_snoc (y ∷ []) x = refl
 last_snoc (y ∷ z ∷ xs) x = last_snoc (z ∷ xs) x
 
 pub main_menu_enters : (text : List ℕ) (old new : EntryWalk) → AreSame old new → new.tables.contexts ≡ old.tables.contexts → new.blocks ≡ old.blocks → new.main_menu.items ≡ text →
-    (symbols : List Symbol) (own : List Numbered) → Enters symbols (MainMenuLine text) own old new
-main_menu_enters text old new same contexts blocks says symbols own ss i a h k =
-    quiet_passes ss symbols i (MainMenuLine text) own h old new k same
+    (first : Bool) (own : List Numbered) → Enters first (MainMenuLine text) own old new
+main_menu_enters text old new same contexts blocks says first own ss count i a h k =
+    quiet_passes ss count i (MainMenuLine text) own h old new k same
     (record { symbol = refl; choice = rw (h.at) refl; entry = refl })
     (extends_equal old.tables.contexts new.tables.contexts contexts)
     (let n : length new.tables.contexts ≡ length old.tables.contexts = ap length contexts in omega arith)

@@ -17,13 +17,14 @@ use Rattle.kc_tree.specs.Layouts.{definition_facts}
 use Rattle.kc_build.specs.Before.{definition_facts_at}
 use Rattle.kc_build.specs.declared.blocks.BlockScope.{BlockScope}
 use Rattle.kc_build.specs.declared.diagnostics.MenuEntry.TheVariants as menu_entry
-use Rattle.kc_build.specs.declared.entries.EntryWalk.{EntryWalk}
+use Rattle.kc_build.specs.declared.walk.EntryWalk.{EntryWalk}
 use Rattle.kc_build.specs.Facts.{choice_number, enclosing_choice, symbol_at, symbol_of}
 use Rattle.kc_build.specs.FirstDefinitions.{first_of_symbol, is_first_definition_at}
-use Rattle.kc_build.specs.SymbolRows.{HasSymbols, definition_number, first_by}
+use Rattle.kc_build.specs.SymbolRows.{AreBelow, definition_number, is_new_by}
+use Rattle.kc_build.specs.SymbolWalk.{AreRowsBefore}
 use Rattle.kc_build.specs.Walks.{IsHead, IsWalk}
 use Rattle.kc_build.specs.Warnings.{begun, menu_entry_at, menu_entry_before}
-use Rattle.kc_build.proofs.FirstNumberLemmas.{first_by_number}
+use Rattle.kc_build.proofs.FirstNumberLemmas.{new_is_first}
 use Rattle.kc_build.proofs.MenuEntryLemmas.{entry_begins, entry_goes_on, entry_here}
 use Rattle.kc_build.proofs.WalkLemmas.{choice_count}
 use Rattle.kc_build.proofs.LayoutLemmas.{length-given}
@@ -35,8 +36,8 @@ other_begins n (made.Config t) a b = absurd (a t refl)
 other_begins n made.Choice a b = absurd (b refl)
 other_begins n _ a b = (refl, refl)
 
-module _ (ss : List Numbered) (symbols : List Symbol) (i : ℕ) (head : Numbered) (own : List Numbered) (whole : HasSymbols ss symbols) (h : IsHead ss i head own) (w : EntryWalk)
-    (k : IsWalk ss symbols i w) where
+-- The entry that a line begins.
+module _ (ss : List Numbered) (i : ℕ) (head : Numbered) (own : List Numbered) (h : IsHead ss i head own) where
   attribute_begins : (n : ℕ) (s : Numbered) → is_attribute s ≡ true → begun n s ≡ menu_entry.Other
   attribute_begins n (ConfigLine s) e = absurd cc
   attribute_begins n ChoiceLine e = absurd cc
@@ -51,6 +52,7 @@ module _ (ss : List Numbered) (symbols : List Symbol) (i : ℕ) (head : Numbered
   pub entry_is : menu_entry_at ss i ≡ begun (choice_number ss i) head
   entry_is = by_type (is_attribute head) refl h.begins
 
+module _ (ss : List Numbered) (count i : ℕ) (head : Numbered) (own : List Numbered) (h : IsHead ss i head own) (w : EntryWalk) (k : IsWalk ss count i w) where
   -- the choice that the entry stands in
   pub within_choice_is : (b : BlockScope) (o : Option ChoiceId) → b ≡ w.blocks.innermost → mode_view o ≡ (condition_in w.tables.contexts b.within.0).mode →
       option_map (λ (c : ChoiceId). c.0) o ≡ enclosing_choice ss i
@@ -63,15 +65,14 @@ module _ (ss : List Numbered) (symbols : List Symbol) (i : ℕ) (head : Numbered
       sym (length-map w.tables.definitions.items (definition_facts w.tables)) ∙ ap length k.definitions ∙ length-given (symbol_at ss) (definition_facts_at ss) (numbers i)
 
   -- it is the first definition of its symbol
-  pub first_is : (s : SymId) (n : ℕ) → head ≡ ConfigLine s → n ≡ length w.tables.definitions.items → first_by symbols s n ≡ is_first_definition_at ss i
-  first_is s n e m =
+  pub first_is : (symbols : List Symbol) (s : SymId) → head ≡ ConfigLine s → AreBelow (length symbols) ss → AreRowsBefore ss i symbols →
+      is_new_by symbols s ≡ is_first_definition_at ss i
+  first_is symbols s e below are =
       let named : symbol_at ss i ≡ Some s = ap symbol_of (h.at ∙ ap Some e) in
-      ap (first_by symbols s) (m ∙ definition_count)
-      ∙ first_by_number ss symbols s i whole.symbols_are (whole.below i s named) named (slice_get_within ss i head h.at)
-      ∙ sym (ap (first_of_symbol ss i) named)
+      new_is_first ss symbols s i are (below i s named) (slice_get_within ss i head h.at) ∙ sym (ap (first_of_symbol ss i) named)
 
   pub not_first : symbol_of (Some head) ≡ None → false ≡ is_first_definition_at ss i
   not_first e = sym (ap (first_of_symbol ss i) (ap symbol_of h.at ∙ e))
 
   pub choice_is : (n : ℕ) → n ≡ length w.tables.choices.items → n ≡ choice_number ss i
-  choice_is n e = e ∙ choice_count ss symbols i w k
+  choice_is n e = e ∙ choice_count ss count i w k

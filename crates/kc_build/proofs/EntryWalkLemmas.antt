@@ -13,12 +13,7 @@ use Rattle.kc_read.specs.Statements.{Numbered, statements}
 use Rattle.kc_read.specs.Blocks.{attributes, is_attribute}
 use Rattle.kc_read.proofs.HeadLemmas.{attribute_is, no_attribute}
 use Rattle.kc_build.specs.Passes.{statements_in, statements_of}
-use Rattle.kc_build.specs.Walks.{IsHead, index_after}
-
--- the lines from a place on are those of the entries from a number on
-pub record IsAt (es : Entries) (i place : ℕ) : Type 0 where
-  pub rest : drop place (lines_in es) ≡ lines_from es i
-  pub within : place ≤ length (lines_in es)
+use Rattle.kc_build.specs.Walks.{IsAt, IsHead, index_after}
 
 pub at-start : (es : Entries) → IsAt es 0 0
 at-start es = record { rest = refl; within = omega arith }

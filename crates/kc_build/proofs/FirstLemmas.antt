@@ -1,5 +1,5 @@
 -- Where a definition is the first of its symbol.
-use Rattle.std.proofs.Common.{◌≡◌, ℕ, zero, suc, ◌+◌, ◌≤◌, Bool, true, false, not, cond, ◌||◌, if◌then◌else◌, List, [], ◌∷◌, ◌++◌, length, filter, take, Some, None, refl, ap, sym, ◌∙◌, arith, add-one, nat_lt}
+use Rattle.std.proofs.Common.{◌≡◌, ℕ, zero, suc, ◌+◌, ◌≤◌, Bool, true, false, not, cond, ◌||◌, if◌then◌else◌, List, [], ◌∷◌, ◌++◌, length, take, Some, None, refl, ap, sym, ◌∙◌, arith, add-one, nat_lt}
 use Rattle.std.specs.List.{list_any, position, position_or_len, cons_option}
 use Rattle.std.specs.Option.{is_none}
 use Rattle.std.proofs.lemmas.Bool.Decides.{nat_tests}
@@ -8,9 +8,10 @@ use Rattle.std.proofs.lemmas.List.Folds.{list_any-append}
 use Rattle.kc_expr.specs.declared.expression.SymId.{SymId}
 use Rattle.kc_expr.specs.Names.{symbol, same_symbol}
 use Rattle.kc_read.specs.Statements.{Numbered, ConfigLine}
-use Rattle.kc_read.specs.Blocks.{numbers, definitions, defined_name}
+use Rattle.kc_read.specs.Blocks.{definitions, defined_name}
 use Rattle.kc_tree.specs.Common.{is_symbol_of}
 use Rattle.kc_build.specs.Facts.{symbol_at, symbol_of, is_first_definition}
+use Rattle.kc_build.specs.SymbolWalk.{defined_before}
 use Rattle.kc_build.proofs.BlockLemmas.{take-next, there}
 use Rattle.kc_build.proofs.PlaceLemmas.{filter-next}
 
@@ -52,10 +53,6 @@ by_name s (ConfigLine t) = or_false (same_symbol s t)
     or_false true = refl
     or_false false = refl
 by_name s _ = refl
-
--- the places before one that define the symbol with a number
-abbrev pub defined_before : List Numbered → ℕ → ℕ → List ℕ
-defined_before ss i s = filter (λ j. is_symbol_of (symbol s) (symbol_at ss j)) (numbers i)
 
 module _ (ss : List Numbered) where
   any-before : (i : ℕ) (s : ℕ) → i ≤ length ss → list_any (same_symbol (symbol s)) (definitions (take i ss)) ≡ some_places (defined_before ss i s)

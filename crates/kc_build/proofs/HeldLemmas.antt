@@ -14,7 +14,7 @@ use Rattle.kc_build.specs.Growth.{IsGrown, Stands}
 use Rattle.kc_build.specs.Stacks.{AreBlocksModeless, AreBlocksVisible, AreBlocksWithin, AreTitlesWithin, IsTopEmpty, IsClosed, open_scopes}
 use Rattle.kc_build.specs.declared.blocks.BlockScope.{BlockScope}
 use Rattle.kc_build.specs.declared.blocks.Blocks.{Blocks}
-use Rattle.kc_build.specs.declared.entries.EntryWalk.{EntryWalk}
+use Rattle.kc_build.specs.declared.walk.EntryWalk.{EntryWalk}
 use Rattle.kc_build.proofs.GrownLemmas.{AreHeld, Carries, Holding, Keeping, carries_grown, carries_push, carries_same, further, get_front, get_last, get_pushed, held_by, held_carries, holding, keeping_carries, plain_carries}
 use Rattle.kc_build.proofs.OpenLemmas.{ends}
 use Rattle.kc_tree.specs.Layouts.{with_conjuncts}

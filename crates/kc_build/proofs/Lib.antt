@@ -39,7 +39,6 @@ mod NamedLemmas
 mod NestLemmas
 mod NumberingLemmas
 mod SymbolListLemmas
-mod OddLemmas
 mod OpenLemmas
 mod OpenerLemmas
 mod PlaceLemmas
@@ -52,10 +51,12 @@ mod ShapeLemmas
 mod ShownLemmas
 mod SoundLemmas
 mod StackLemmas
-mod ChoiceScopeLemmas
 mod SymbolRowLemmas
 mod TableLemmas
 mod TitleLemmas
 mod TreeTextLemmas
 mod WalkLemmas
 mod WholeLemmas
+mod QuietLemmas
+mod SuspectLemmas
+mod SettleLemmas

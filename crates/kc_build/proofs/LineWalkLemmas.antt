@@ -1,10 +1,9 @@
 -- The walk over all entries: where it starts, and what it needs before each entry.
-use Rattle.std.proofs.Common.{◌≡◌, ℕ, ◌+◌, ◌<◌, Bool, true, false, if◌then◌else◌, List, [], codes, length, map, reverse, Option, Some, None, refl, ap, sym, ◌∙◌, subst, arith}
+use Rattle.std.proofs.Common.{◌≡◌, ℕ, ◌+◌, ◌<◌, List, [], codes, length, map, reverse, Option, Some, None, refl, ap, sym, ◌∙◌, subst, arith}
 use Rattle.std.specs.Prelude.{slice_index_or}
 use Rattle.std.specs.List.{slice_get, filter_map}
 use Rattle.std.proofs.lemmas.List.{length-map}
 use Rattle.std.proofs.lemmas.List.Elements.{All-nil}
-use Rattle.kc_expr.specs.Names.{symbol}
 use Rattle.kc_read.specs.declared.entries.Entries.{Entries}
 use Rattle.kc_read.specs.declared.entries.EntryLines.{EntryLines}
 use Rattle.kc_read.specs.Entries.{BeginsAt, first_line, lines_from, lines_in, own_lines}
@@ -19,23 +18,22 @@ use Rattle.kc_tree.specs.Layouts.{choice_facts as choice_in, definition_facts, i
 use Rattle.kc_tree.specs.TreeFacts.{Condition}
 use Rattle.kc_build.specs.declared.diagnostics.Diagnostics.{Diagnostics}
 use Rattle.kc_build.specs.declared.diagnostics.EntrySummary.{EntrySummary}
-use Rattle.kc_build.specs.declared.entries.EntryWalk.{EntryWalk}
+use Rattle.kc_build.specs.declared.walk.EntryWalk.{EntryWalk}
 use Rattle.kc_build.specs.Diagnosed.{AreLinesDiagnosed}
-use Rattle.kc_build.specs.Facts.{can_be_target}
 use Rattle.kc_build.specs.SymbolRows.{AreChoicesApart, IsEntrySummary, HasSymbols}
 use Rattle.kc_build.specs.Passes.{statements_in, statements_of}
 use Rattle.kc_build.specs.WalkResult.{IsDiagnosed, IsEntryThere, IsTitleThere}
 use Rattle.kc_build.specs.Stacks.{BlockFacts, IsModelessHead, block_view}
-use Rattle.kc_build.specs.Walks.{IsWalk, index_after}
+use Rattle.kc_build.specs.Walks.{IsAt, IsWalk, index_after}
 use Rattle.kc_build.proofs.DiagnosedLemmas.{entry_diagnosed}
-use Rattle.kc_build.proofs.EntryWalkLemmas.{IsAt, head-is, line-is, statements-own, tail-is}
+use Rattle.kc_build.proofs.EntryWalkLemmas.{head-is, line-is, statements-own, tail-is}
 
 -- The start.
 no_chain : (o : Option SelectorId) → chain_of [] o ≡ []
 no_chain None = refl
 no_chain (Some id) = refl
 
-module _ (ss : List Numbered) (symbols : List Symbol) (w : EntryWalk) (empty : AreEmpty w.tables) where
+module _ (ss : List Numbered) (count : ℕ) (w : EntryWalk) (empty : AreEmpty w.tables) where
   none_from : (o : Option SelectorId) → selectors_from w.tables o ≡ []
   none_from o =
       ap (λ (l : List Selector). filter_map (selector_at w.tables) (chain_of (chains_of l) o)) empty.lines ∙ ap (filter_map (selector_at w.tables)) (no_chain o)
@@ -46,12 +44,8 @@ module _ (ss : List Numbered) (symbols : List Symbol) (w : EntryWalk) (empty : A
   no_impliers : (s : ℕ) → impliers_at w.tables s ≡ []
   no_impliers s = ap reverse (none_from (slice_index_or w.tables.selector_rows.implies.items s None))
 
-  if_none : {A : Type 0} (b : Bool) → ◌≡◌ {A = List A} (if b then [] else []) []
-  if_none true = refl
-  if_none false = refl
-
   pub walk-starts : w.blocks.innermost ≡ record { within = record { 0 = 0 }; visible = record { 0 = 0 }; entry = None } → w.blocks.outside.items ≡ [] →
-      w.main_menu.items ≡ codes "Main menu" → length w.tables.selector_rows.selects.items ≡ length symbols → length w.tables.selector_rows.implies.items ≡ length symbols → IsWalk ss symbols 0 w
+      w.main_menu.items ≡ codes "Main menu" → length w.tables.selector_rows.selects.items ≡ count → length w.tables.selector_rows.implies.items ≡ count → IsWalk ss count 0 w
   walk-starts innermost outside menu selects implies = record {
     blocks = record {
       innermost = ap (block_view w.tables.contexts) innermost
@@ -59,8 +53,8 @@ module _ (ss : List Numbered) (symbols : List Symbol) (w : EntryWalk) (empty : A
       outside = ap (map (block_view w.tables.contexts)) outside;
     };
     definitions = ap (map (definition_facts w.tables)) empty.definitions;
-    selectors = λ s h. no_selectors s ∙ sym (if_none (can_be_target ss (symbol s)));
-    impliers = λ s h. no_impliers s ∙ sym (if_none (can_be_target ss (symbol s)));
+    selectors = λ s h. no_selectors s;
+    impliers = λ s h. no_impliers s;
     choices = ap (map (choice_in w.tables)) empty.choices;
     entries = ap (map (shown_of w.tables)) empty.entries;
     main_menu = menu;
@@ -92,9 +86,9 @@ plain_by : (s : Numbered) (mode : Option ℕ) → (s ≡ ChoiceLine → mode ≡
 plain_by ChoiceLine mode h = h refl
 plain_by _ mode h = tt
 
-pub modeless-head : (ss : List Numbered) (symbols : List Symbol) (i : ℕ) (s : Numbered) (w : EntryWalk) → AreChoicesApart ss → slice_get ss i ≡ Some s → IsWalk ss symbols i w →
+pub modeless-head : (ss : List Numbered) (count i : ℕ) (s : Numbered) (w : EntryWalk) → AreChoicesApart ss → slice_get ss i ≡ Some s → IsWalk ss count i w →
     IsModelessHead s (condition_in w.tables.contexts w.blocks.innermost.within.0).mode
-modeless-head ss symbols i s w apart at walk =
+modeless-head ss count i s w apart at walk =
     plain_by s (condition_in w.tables.contexts w.blocks.innermost.within.0).mode (λ e. ap (λ (a : BlockFacts). a.mode) walk.blocks.innermost ∙ apart i (at ∙ ap Some e))
 
 -- One entry more.

@@ -9,7 +9,6 @@ use Rattle.kc_expr.specs.declared.expression.SymId.{SymId}
 use Rattle.kc_read.specs.declared.statement.Block.TheVariants as block
 use Rattle.kc_read.specs.Blocks.{bracket_of, numbers, opened}
 use Rattle.kc_read.specs.Statements.{ConfigLine, Numbered}
-use Rattle.kc_tree.specs.declared.rows.Symbol.{Symbol}
 use Rattle.kc_tree.specs.TreeFacts.{ChoiceFacts}
 use Rattle.kc_build.specs.Before.{choice_before, choices_before, members_before}
 use Rattle.kc_build.specs.Facts.{choice_number, enclosing_choice, is_block, of_block, symbol_at, symbol_of}
@@ -64,7 +63,7 @@ module _ {A : Type 0} (p : ℕ → Bool) (g : A → A) (f h : ℕ → A) (c : �
   change_passing (suc n) = change_by n (p n) refl (change_passing n)
 
 -- Behind a `config` entry.
-module _ (ss : List Numbered) (symbols : List Symbol) (i : ℕ) (s : SymId) (own : List Numbered) (h : IsHead ss i (ConfigLine s) own) where
+module _ (ss : List Numbered) (i : ℕ) (s : SymId) (own : List Numbered) (h : IsHead ss i (ConfigLine s) own) where
   abbrev after : ℕ
   after = index_after i own
 
@@ -95,14 +94,14 @@ module _ (ss : List Numbered) (symbols : List Symbol) (i : ℕ) (s : SymId) (own
   members_are k more e = members_passed ss i (ConfigLine s) own h k ∙ ap (λ l. members_before ss i k ++ l) e
 
   abbrev with_members : ℕ → List SymId → ChoiceFacts
-  with_members j l = record (choice_before ss symbols i j) { members = l }
+  with_members j l = record (choice_before ss i j) { members = l }
 
-  same_choice : (j : ℕ) → enclosing_choice ss i ≡ None → choice_before ss symbols after j ≡ choice_before ss symbols i j
+  same_choice : (j : ℕ) → enclosing_choice ss i ≡ None → choice_before ss after j ≡ choice_before ss i j
   same_choice j e =
       ap (with_members j) (members_are (choice_number ss j) [] (no_member (choice_number ss j) e) ∙ append-nil (members_before ss i (choice_number ss j)))
 
   one_by : (c j : ℕ) (b : Bool) → enclosing_choice ss i ≡ Some c → (c == choice_number ss j) ≡ b →
-      (if b then one_more s (choice_before ss symbols i j) else choice_before ss symbols i j) ≡ choice_before ss symbols after j
+      (if b then one_more s (choice_before ss i j) else choice_before ss i j) ≡ choice_before ss after j
   one_by c j true e t =
       sym (ap (with_members j) (members_are (choice_number ss j) (s ∷ []) (a_member (choice_number ss j) c e ∙ ap (λ (b : Bool). if b then s ∷ [] else []) t)))
   one_by c j false e t =
@@ -114,17 +113,17 @@ module _ (ss : List Numbered) (symbols : List Symbol) (i : ℕ) (s : SymId) (own
   turned a b false e = ne_eqb b a (λ q. false≢true (sym e ∙ eq-eqb a b (sym q)))
 
   one_more_by : (c j : ℕ) (b : Bool) → enclosing_choice ss i ≡ Some c → (length (filter opens (numbers j)) == c) ≡ b →
-      (if b then one_more s (choice_before ss symbols i j) else choice_before ss symbols i j) ≡ choice_before ss symbols after j
+      (if b then one_more s (choice_before ss i j) else choice_before ss i j) ≡ choice_before ss after j
   one_more_by c j b e t =
       one_by c j b e (turned (choice_number ss j) c b (sym (ap (λ k. k == c) (length-filter opens (numbers j))) ∙ t))
 
-  by_enclosing : (o : Option ℕ) → enclosing_choice ss i ≡ o → with_member o s (choices_before ss symbols i) ≡ map (choice_before ss symbols after) (filter opens (numbers i))
+  by_enclosing : (o : Option ℕ) → enclosing_choice ss i ≡ o → with_member o s (choices_before ss i) ≡ map (choice_before ss after) (filter opens (numbers i))
   by_enclosing None e =
-      map_alike (choice_before ss symbols i) (choice_before ss symbols after) (filter opens (numbers i)) (λ k j at. sym (same_choice j e))
+      map_alike (choice_before ss i) (choice_before ss after) (filter opens (numbers i)) (λ k j at. sym (same_choice j e))
   by_enclosing (Some c) e =
-      change_passing opens (one_more s) (choice_before ss symbols i) (choice_before ss symbols after) c (λ j. one_more_by c j (length (filter opens (numbers j)) == c) e refl) i
+      change_passing opens (one_more s) (choice_before ss i) (choice_before ss after) c (λ j. one_more_by c j (length (filter opens (numbers j)) == c) e refl) i
 
   -- the choices get the symbol as a member, where one encloses it
-  pub members_added : with_member (enclosing_choice ss i) s (choices_before ss symbols i) ≡ choices_before ss symbols after
+  pub members_added : with_member (enclosing_choice ss i) s (choices_before ss i) ≡ choices_before ss after
   members_added =
-      by_enclosing (enclosing_choice ss i) refl ∙ sym (ap (map (choice_before ss symbols after)) no_choice_more)
+      by_enclosing (enclosing_choice ss i) refl ∙ sym (ap (map (choice_before ss after)) no_choice_more)

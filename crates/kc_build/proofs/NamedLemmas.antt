@@ -2,7 +2,7 @@
 use Rattle.std.proofs.Common.{◌≡◌, ℕ, ◌<◌, Bool, true, false, if◌then◌else◌, ◌&&◌, ◌==◌, List, [], ◌∷◌, ◌++◌, length, map, reverse, Option, Some, None, refl, ap, sym, ◌∙◌, get_or, subst}
 use Rattle.std.specs.List.{All, cons_option, filter_map, flat_map, slice_get}
 use Rattle.std.specs.Option.{is_none, option_and_then, option_map}
-use Rattle.std.proofs.lemmas.Bool.{eqb-true, lt-ltb}
+use Rattle.std.proofs.lemmas.Bool.{lt-ltb}
 use Rattle.std.proofs.lemmas.List.{append-nil, reverse-append}
 use Rattle.std.proofs.lemmas.List.Elements.{All-cons, All-head, All-nil, All-push, All-tail, filter_map-append}
 use Rattle.std.proofs.lemmas.Option.{slice_get-map}
@@ -120,12 +120,7 @@ abbrev pub stated_default : SelectOrImply → ℕ → Numbered → Option (Optio
 stated_default select_or_imply.Select s = select_of (symbol s)
 stated_default select_or_imply.Imply s = imply_of (symbol s)
 
-if_nil : {A : Type 0} (b : Bool) → ◌≡◌ {A = List A} (if b then [] else []) []
-if_nil true = refl
-if_nil false = refl
-
-module _ (symbols : List Symbol) (source : DefinitionId) (ds : List DefinitionFacts) (d : DefinitionFacts) (n : source.0 ≡ length ds) (s : ℕ) (can : Bool)
-    (is : can_be_target symbols (symbol s) ≡ can) where
+module _ (source : DefinitionId) (ds : List DefinitionFacts) (d : DefinitionFacts) (n : source.0 ≡ length ds) (s : ℕ) where
   abbrev pub named : Option Form → Guarded SymId
   named w = record { what = d.symbol; when = with_when d.dependency w }
 
@@ -133,45 +128,28 @@ module _ (symbols : List Symbol) (source : DefinitionId) (ds : List DefinitionFa
   found w =
       ap (option_map (λ (x : DefinitionFacts). record { what = x.symbol; when = with_when x.dependency w })) (ap (slice_get (ds ++ d ∷ [])) n ∙ get_last ds d)
 
-  abbrev one : Option (Option Form) → List (Guarded SymId)
-  one o = if can then map named (cons_option o []) else []
-
   -- a line that names a symbol, or another one
-  by_name : (t : SymId) (w : Option Form) (b : Bool) → (t.0 == s) ≡ b →
-      filter_map (named_in (ds ++ d ∷ [])) ((if b && can_be_target symbols t then (source.0, w) ∷ [] else []) ++ []) ≡ one (if b then Some w else None)
-  by_name t w true e =
-      let same : t ≡ symbol s = (let k = eqb-true t.0 s e in λ i. record { 0 = k i }) in
-      ap (λ (c : Bool). filter_map (named_in (ds ++ d ∷ [])) ((if c then (source.0, w) ∷ [] else []) ++ [])) (ap (can_be_target symbols) same ∙ is) ∙ by_can can
-    where
-      by_can : (c : Bool) → filter_map (named_in (ds ++ d ∷ [])) ((if c then (source.0, w) ∷ [] else []) ++ []) ≡ (if c then named w ∷ [] else [])
-      by_can true = ap (λ o. cons_option o []) (found w)
-      by_can false = refl
-  by_name t w false e = sym (if_nil can)
+  by_name : (w : Option Form) (b : Bool) → filter_map (named_in (ds ++ d ∷ [])) ((if b then (source.0, w) ∷ [] else []) ++ []) ≡ map named (cons_option (if b then Some w else None) [])
+  by_name w true = ap (λ o. cons_option o []) (found w)
+  by_name w false = refl
 
-  by_line : (symbol_type : SelectOrImply) (x : Numbered) → filter_map (named_in (ds ++ d ∷ [])) (flat_map (added_line symbols source symbol_type s) (listed (target_of x))) ≡ one (stated_default symbol_type s x)
-  by_line select_or_imply.Select (SelectLine t w) = by_name t w (t.0 == s) refl
-  by_line select_or_imply.Imply (ImplyLine t w) = by_name t w (t.0 == s) refl
-  by_line select_or_imply.Select _ = sym (if_nil can)
-  by_line select_or_imply.Imply _ = sym (if_nil can)
+  by_line : (symbol_type : SelectOrImply) (x : Numbered) →
+      filter_map (named_in (ds ++ d ∷ [])) (flat_map (added_line source symbol_type s) (listed (target_of x))) ≡ map named (cons_option (stated_default symbol_type s x) [])
+  by_line select_or_imply.Select (SelectLine t w) = by_name w (t.0 == s)
+  by_line select_or_imply.Imply (ImplyLine t w) = by_name w (t.0 == s)
+  by_line select_or_imply.Select _ = refl
+  by_line select_or_imply.Imply _ = refl
 
-  abbrev all : List (Option Form) → List (Guarded SymId)
-  all ws = if can then map named ws else []
+  one_more : (o : Option (Option Form)) (ws : List (Option Form)) → map named (cons_option o []) ++ map named ws ≡ map named (cons_option o ws)
+  one_more None ws = refl
+  one_more (Some w) ws = refl
 
-  one_more : (o : Option (Option Form)) (ws : List (Option Form)) → one o ++ all ws ≡ all (cons_option o ws)
-  one_more o ws = by can o
-    where
-      by : (c : Bool) (o : Option (Option Form)) → (if c then map named (cons_option o []) else []) ++ (if c then map named ws else []) ≡ (if c then map named (cons_option o ws) else [])
-      by true None = refl
-      by true (Some w) = refl
-      by false None = refl
-      by false (Some w) = refl
-
-  pub added_named : (symbol_type : SelectOrImply) (own : List Numbered) → filter_map (named_in (ds ++ d ∷ [])) (added_lines symbols source symbol_type s own) ≡ all (filter_map (stated_default symbol_type s) own)
-  added_named symbol_type [] = sym (if_nil can)
+  pub added_named : (symbol_type : SelectOrImply) (own : List Numbered) → filter_map (named_in (ds ++ d ∷ [])) (added_lines source symbol_type s own) ≡ map named (filter_map (stated_default symbol_type s) own)
+  added_named symbol_type [] = refl
   added_named symbol_type (x ∷ own) =
-      filter_map-append (named_in (ds ++ d ∷ [])) (flat_map (added_line symbols source symbol_type s) (listed (target_of x))) (added_lines symbols source symbol_type s own)
-      ∙ ap (λ l. l ++ filter_map (named_in (ds ++ d ∷ [])) (added_lines symbols source symbol_type s own)) (by_line symbol_type x)
-      ∙ ap (λ l. one (stated_default symbol_type s x) ++ l) (added_named symbol_type own)
+      filter_map-append (named_in (ds ++ d ∷ [])) (flat_map (added_line source symbol_type s) (listed (target_of x))) (added_lines source symbol_type s own)
+      ∙ ap (λ l. l ++ filter_map (named_in (ds ++ d ∷ [])) (added_lines source symbol_type s own)) (by_line symbol_type x)
+      ∙ ap (λ l. map named (cons_option (stated_default symbol_type s x) []) ++ l) (added_named symbol_type own)
       ∙ one_more (stated_default symbol_type s x) (filter_map (stated_default symbol_type s) own)
 
 -- the lines of a definition that name a symbol, as the list has them

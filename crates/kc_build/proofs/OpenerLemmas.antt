@@ -6,7 +6,6 @@ use Rattle.std.proofs.lemmas.List.Elements.{All-nil}
 use Rattle.kc_expr.specs.Form.{Form}
 use Rattle.kc_read.specs.declared.statement.Block.TheVariants as block
 use Rattle.kc_read.specs.Statements.{Numbered, IfLine}
-use Rattle.kc_tree.specs.declared.rows.Symbol.{Symbol}
 use Rattle.kc_tree.specs.Contexts.{and_also, condition_in, top}
 use Rattle.kc_tree.specs.TreeFacts.{Condition}
 use Rattle.kc_build.specs.Before.{main_menu_before}
@@ -16,7 +15,7 @@ use Rattle.kc_build.specs.WalkResult.{IsEntryThere, IsTitleThere}
 use Rattle.kc_build.specs.Stacks.{AreOpen, block_facts_at, block_view}
 use Rattle.kc_build.specs.Walks.{Enters, IsHead, IsWalk, index_after}
 use Rattle.kc_build.specs.declared.blocks.BlockScope.{BlockScope}
-use Rattle.kc_build.specs.declared.entries.EntryWalk.{EntryWalk}
+use Rattle.kc_build.specs.declared.walk.EntryWalk.{EntryWalk}
 use Rattle.kc_build.proofs.GrownLemmas.{Extends, carries_push, extends, open_carries}
 use Rattle.kc_build.proofs.OpenLemmas.{asked_inside, open_opens}
 use Rattle.kc_build.proofs.WalkLemmas.{choices_say_same, entry_count, main_menu_stays, no_choice_passed, walk_passes}
@@ -37,12 +36,12 @@ pub record IsQuiet (ss : List Numbered) (i : ℕ) (head : Numbered) : Type 0 whe
   pub choice : of_block ss block.Choice i ≡ false
   pub entry : shown_at ss i (Some head) ≡ None
 
-module _ (ss : List Numbered) (symbols : List Symbol) (i : ℕ) (head : Numbered) (own : List Numbered) (h : IsHead ss i head own) (old new : EntryWalk) (w : IsWalk ss symbols i old) where
+module _ (ss : List Numbered) (count i : ℕ) (head : Numbered) (own : List Numbered) (h : IsHead ss i head own) (old new : EntryWalk) (w : IsWalk ss count i old) where
   pub quiet_passes : AreSame old new → IsQuiet ss i head → Extends old.tables.contexts new.tables.contexts →
       length new.tables.contexts ≤ length old.tables.contexts + 2 * length own + 2 → AreOpen ss (suc i) new.tables.contexts new.blocks →
-      new.main_menu.items ≡ main_menu_before ss (index_after i own) → IsWalk ss symbols (index_after i own) new
+      new.main_menu.items ≡ main_menu_before ss (index_after i own) → IsWalk ss count (index_after i own) new
   quiet_passes s q g few blocks menu =
-      walk_passes ss i head own h symbols old new w
+      walk_passes ss i head own h old new count w
       (record {
         contexts = g;
         few_contexts = few;
@@ -51,7 +50,7 @@ module _ (ss : List Numbered) (symbols : List Symbol) (i : ℕ) (head : Numbered
         ranges = s.ranges;
         selector_rows = s.selector_rows;
         blocks = blocks;
-        choices = choices_say_same ss i head own h symbols old new g s.choices ∙ w.choices ∙ sym (no_choice_passed ss i head own h q.symbol symbols q.choice);
+        choices = choices_say_same ss i head own h old new g s.choices ∙ w.choices ∙ sym (no_choice_passed ss i head own h q.symbol q.choice);
         few_choices = (let e : length new.tables.choices.items ≡ length old.tables.choices.items = ap (λ v. length v.items) s.choices in omega arith);
         titles_more = [];
         titles = ap (λ v. v.items) s.titles ∙ sym (append-nil old.tables.titles.items);
@@ -85,8 +84,8 @@ module _ (e : Form) (entry : ℕ) (b : BlockScope) (old new : EntryWalk) (same :
 
   pub if_enters : new.tables.contexts ≡ old.tables.contexts ++ and_also (condition_in old.tables.contexts old.blocks.innermost.within.0) e ∷ [] →
       b.within.0 ≡ length old.tables.contexts → b.visible ≡ old.blocks.innermost.visible → b.entry ≡ Some entry → new.blocks.innermost ≡ b →
-      new.blocks.outside.items ≡ old.blocks.outside.items ++ old.blocks.innermost ∷ [] → (symbols : List Symbol) (own : List Numbered) → Enters symbols (IfLine e) own old new
-  if_enters added within visible at inner outside symbols own ss i a h w =
+      new.blocks.outside.items ≡ old.blocks.outside.items ++ old.blocks.innermost ∷ [] → (first : Bool) (own : List Numbered) → Enters first (IfLine e) own old new
+  if_enters added within visible at inner outside first own ss count i a h w =
       let there = old.within 0 old.blocks.innermost refl in
       let shown = old.visible 0 old.blocks.innermost refl in
       let g = carries_push conditions new.tables.contexts old.blocks.innermost.within.0 e there added in
@@ -103,9 +102,9 @@ module _ (e : Form) (entry : ℕ) (b : BlockScope) (old new : EntryWalk) (same :
       ∙ sym (ap (λ (l : List Form). (block_facts_at ss i).visible ++ l) nothing ∙ append-nil (block_facts_at ss i).visible) in
       let mode : (condition_in new.tables.contexts b.within.0).mode ≡ (if of_block ss block.Choice i then Some (choice_number ss i) else (block_facts_at ss i).mode) =
       ap (λ (c : Condition). c.mode) made ∙ ap (λ x. x.mode) innermost_is ∙ sym (ap (λ (t : Bool). if t then Some (choice_number ss i) else (block_facts_at ss i).mode) other) in
-      let named : b.entry ≡ Some (shown_number ss i) = at ∙ ap Some (number ∙ entry_count ss symbols i old w a.ends) in
+      let named : b.entry ≡ Some (shown_number ss i) = at ∙ ap Some (number ∙ entry_count ss count i old w a.ends) in
       let inside = ap (block_view new.tables.contexts) inner ∙ block_inside ss i new.tables.contexts b conjuncts seen mode named in
-      quiet_passes ss symbols i (IfLine e) own h old new w same
+      quiet_passes ss count i (IfLine e) own h old new w same
       (record { symbol = refl; choice = other; entry = refl })
       (extends conditions new.tables.contexts g)
       (let n : length new.tables.contexts ≡ length conditions + 1 = ap length added ∙ length_push conditions (and_also outer e) in omega arith)

@@ -19,11 +19,11 @@ use Rattle.kc_tree.specs.TreeFacts.{ChoiceFacts}
 use Rattle.kc_tree.specs.Wholes.{tree_of}
 use Rattle.kc_tree.specs.Common.{listed}
 use Rattle.kc_build.specs.declared.diagnostics.Diagnostics.{Diagnostics}
-use Rattle.kc_build.specs.Before.{choices_before, main_menu_before}
+use Rattle.kc_build.specs.Before.{main_menu_before}
 use Rattle.kc_build.specs.Facts.{StatedDefault, choice_number, defined_symbols, choice_lines, choices, stated_default, is_member, members_of, guarded_symbol, prompt_at, single_symbol, symbol_facts, title_of}
 use Rattle.kc_build.specs.SymbolRows.{AreBelow, AreSymbols, member_by}
 use Rattle.kc_build.specs.Passes.{statements_in}
-use Rattle.kc_build.specs.WalkResult.{IsWalkResult, IsDiagnosed}
+use Rattle.kc_build.specs.WalkResult.{IsWalkResult, IsDiagnosed, choice_by}
 use Rattle.kc_build.specs.Trees.{facts_with, modules_symbol, symbol_if, tree_with, unless_refused}
 use Rattle.kc_build.specs.Warnings.{bad_members}
 use Rattle.kc_build.proofs.DiagnosedLemmas.{accepted, refused_tree}
@@ -51,7 +51,7 @@ module _ (ss : List Numbered) where
         λ k s. ap (λ f. list_any (λ d. d == k) (listed (f s))) (choices_known ss symbols below are) ∙ sym (member_is ss s none k) in
         λ i k s. at k s i
 
-    pub choices-are : choices_before ss symbols (length ss) ≡ choices ss
+    pub choices-are : map (choice_by ss symbols) (choice_lines ss) ≡ choices ss
     choices-are = ap choices_with members-known
 
 pub main_menu-is : (ss : List Numbered) → main_menu_before ss (length ss) ≡ unwrap_or (last_of (filter_map title_of ss)) (codes "Main menu")

@@ -1,11 +1,11 @@
 -- The lines of a definition that select and imply, as they are added.
-use Rattle.std.proofs.Common.{◌≡◌, ◌≢◌, ℕ, ◌+◌, ◌<◌, ◌≤◌, Bool, true, false, ◌&&◌, ◌==◌, if◌then◌else◌, List, [], ◌∷◌, ◌++◌, length, drop, Option, Some, None, refl, ap, sym, ◌∙◌, arith, get_or, slice_set, append_assoc, length-append, subst, inl, inr, nat_lt}
-use Rattle.std.specs.Prelude.{◌⊎◌, OnOk, OnErr, Result, Ok, Err}
+use Rattle.std.proofs.Common.{◌≡◌, ◌≢◌, ℕ, ◌+◌, ◌<◌, ◌≤◌, Bool, true, false, ◌&&◌, ◌==◌, if◌then◌else◌, List, [], ◌∷◌, ◌++◌, length, drop, Option, Some, None, refl, ap, sym, ◌∙◌, arith, get_or, slice_set, append_assoc, length-append, subst, inl, inr}
+use Rattle.std.specs.Prelude.{◌⊎◌, slice_index_or, OnOk, OnErr, Result, Ok, Err}
 use Rattle.std.specs.List.{slice_get}
 use Rattle.std.specs.Global.{Vec}
 use Rattle.std.specs.Vec.{with_items}
 use Rattle.std.specs.Option.{option_map}
-use Rattle.std.proofs.lemmas.Bool.{cases_lt, eq-eqb, eqb-true, false≢true, ltb-true}
+use Rattle.std.proofs.lemmas.Bool.{cases_lt, eq-eqb, eqb-true, false≢true, ne_eqb}
 use Rattle.std.proofs.lemmas.List.{append-nil, length-set, get_or-set_same, get_or-set_other, with_items_is}
 use Rattle.std.proofs.lemmas.List.Elements.{All-push}
 use Rattle.std.proofs.lemmas.Option.{none-some, same_Some}
@@ -15,6 +15,7 @@ use Rattle.std.specs.declared.rc.Rc.{Rc}
 use Rattle.kc_expr.specs.declared.expression.Expr.{Expr}
 use Rattle.kc_expr.specs.declared.expression.SymId.{SymId}
 use Rattle.kc_expr.specs.Form.{Form}
+use Rattle.kc_expr.specs.Names.{symbol}
 use Rattle.kc_expr.specs.When.{when_view}
 use Rattle.kc_read.specs.declared.entries.AttributeLine.{AttributeLine}
 use Rattle.kc_read.specs.StatementViews.{attribute_view}
@@ -29,7 +30,7 @@ use Rattle.kc_build.specs.declared.lines.SelectOrImply.TheVariants as select_or_
 use Rattle.kc_build.specs.SymbolRows.{can_be_target}
 use Rattle.kc_build.specs.Passes.{statements_of}
 use Rattle.kc_build.specs.Targets.{target_of}
-use Rattle.kc_build.specs.SelectorRows.{selector_row, rows_to, selects_of, implies_of, added_line, added_lines, HaveSources, KeepSources, IsAdded}
+use Rattle.kc_build.specs.SelectorRows.{selector_row, rows_to, same_selectors, selects_of, implies_of, added_line, added_lines, HaveSources, KeepSources, IsAdded}
 use Rattle.kc_build.proofs.ChainLemmas.{to-keeps, to-new, get_past}
 use Rattle.kc_build.proofs.GrownLemmas.{get_front, get_last}
 use Rattle.kc_build.proofs.ScanLemmas.{statements_from}
@@ -111,18 +112,7 @@ sources-push source old new row e s n l h =
 pub sources-both : (source : ℕ) (a b c : List Selector) → KeepSources source a b → KeepSources source b c → KeepSources source a c
 sources-both source a b c h k n l s = k n l (h n l s)
 
-and_true : (b c : Bool) (x : ℕ × Option Form) → c ≡ true → one_if (b && c) x ≡ one_if b x
-and_true true c x e = rw e refl
-and_true false c x e = refl
-
-pub target-there : (symbols : List Symbol) (s : SymId) → true ≡ can_be_target symbols s → s.0 < length symbols
-target-there symbols s h = ltb-true s.0 (length symbols) (first (nat_lt s.0 (length symbols)) _ (sym h))
-  where
-    first : (a b : Bool) → (a && b) ≡ true → a ≡ true
-    first true b e = refl
-    first false b e = e
-
-module _ (symbols : List Symbol) (source : DefinitionId) where
+module _ (source : DefinitionId) where
   -- a line of each word, by the row that stands for it
   pub record IsPushed (old : List Selector) (heads : List (Option SelectorId)) (s : SymId) (when : Option Form) (new : List Selector) (after : List (Option SelectorId)) : Type 0 where
     pub row : Selector
@@ -169,12 +159,12 @@ module _ (symbols : List Symbol) (source : DefinitionId) where
     pub pushed-stay : (others : List (Option SelectorId)) → AreHeads old others → AreHeads new others
     pushed-stay others h = subst (λ (xs : List Selector). AreHeads xs others) (sym p.lines_are) (heads-stay old p.row others h)
 
-  pub select_added : (old new : SelectorRows) (s : SymId) (when : Option Form) → true ≡ can_be_target symbols s → s.0 < length old.selects.items →
+  pub select_added : (old new : SelectorRows) (s : SymId) (when : Option Form) → s.0 < length old.selects.items →
       IsPushed old.lines.items old.selects.items s when new.lines.items new.selects.items → new.implies.items ≡ old.implies.items →
-      IsAdded symbols source old (select_or_imply.Select, s, when) new
-  select_added old new s when t l p q = record {
-    selects = λ k. pushed-rows _ _ s when _ _ p l old.selects_there k ∙ ap (λ x. selects_of old k ++ x) (sym (and_true (s.0 == k) (can_be_target symbols s) (source.0, when) (sym t)));
-    implies = λ k. ap (λ (hs : List (Option SelectorId)). rows_to new.lines.items (get_or hs k None)) q
+      IsAdded source old (select_or_imply.Select, s, when) new
+  select_added old new s when l p q = record {
+    selects = λ k m. pushed-rows _ _ s when _ _ p l old.selects_there k;
+    implies = λ k m. ap (λ (hs : List (Option SelectorId)). rows_to new.lines.items (get_or hs k None)) q
         ∙ pushed-others _ _ s when _ _ p old.implies.items old.implies_there k
         ∙ sym (append-nil (implies_of old k));
     few = pushed-few _ _ s when _ _ p;
@@ -182,14 +172,14 @@ module _ (symbols : List Symbol) (source : DefinitionId) where
     same = ap length q;
   }
 
-  pub imply_added : (old new : SelectorRows) (s : SymId) (when : Option Form) → true ≡ can_be_target symbols s → s.0 < length old.implies.items →
+  pub imply_added : (old new : SelectorRows) (s : SymId) (when : Option Form) → s.0 < length old.implies.items →
       IsPushed old.lines.items old.implies.items s when new.lines.items new.implies.items → new.selects.items ≡ old.selects.items →
-      IsAdded symbols source old (select_or_imply.Imply, s, when) new
-  imply_added old new s when t l p q = record {
-    selects = λ k. ap (λ (hs : List (Option SelectorId)). rows_to new.lines.items (get_or hs k None)) q
+      IsAdded source old (select_or_imply.Imply, s, when) new
+  imply_added old new s when l p q = record {
+    selects = λ k m. ap (λ (hs : List (Option SelectorId)). rows_to new.lines.items (get_or hs k None)) q
         ∙ pushed-others _ _ s when _ _ p old.selects.items old.selects_there k
         ∙ sym (append-nil (selects_of old k));
-    implies = λ k. pushed-rows _ _ s when _ _ p l old.implies_there k ∙ ap (λ x. implies_of old k ++ x) (sym (and_true (s.0 == k) (can_be_target symbols s) (source.0, when) (sym t)));
+    implies = λ k m. pushed-rows _ _ s when _ _ p l old.implies_there k;
     few = pushed-few _ _ s when _ _ p;
     count = ap length q;
     same = pushed-count _ _ s when _ _ p;
@@ -241,51 +231,71 @@ module _ (symbols : List Symbol) (source : DefinitionId) where
     sources_by (Err e) p = sources-same source.0 old new p.0
 
   pub select_by : (r : Result (Unit {0}) AllocError) (old new : SelectorRows) (s : SymId) (when : Option Form) (word : SelectOrImply) → word ≡ select_or_imply.Select →
-      true ≡ can_be_target symbols s → s.0 < length old.selects.items → Pushes old.lines.items old.selects.items s when new.lines.items new.selects.items r →
-      new.implies.items ≡ old.implies.items → OnOk r (IsAdded symbols source old (word, s, when) new)
-  select_by (Ok u) old new s when word k t l p q =
-      subst (λ (x : SelectOrImply). IsAdded symbols source old (x, s, when) new) (sym k) (select_added old new s when t l p q)
-  select_by (Err e) old new s when word k t l p q = tt
+      s.0 < length old.selects.items → Pushes old.lines.items old.selects.items s when new.lines.items new.selects.items r →
+      new.implies.items ≡ old.implies.items → OnOk r (IsAdded source old (word, s, when) new)
+  select_by (Ok u) old new s when word k l p q =
+      subst (λ (x : SelectOrImply). IsAdded source old (x, s, when) new) (sym k) (select_added old new s when l p q)
+  select_by (Err e) old new s when word k l p q = tt
 
   pub imply_by : (r : Result (Unit {0}) AllocError) (old new : SelectorRows) (s : SymId) (when : Option Form) (word : SelectOrImply) → word ≡ select_or_imply.Imply →
-      true ≡ can_be_target symbols s → s.0 < length old.implies.items → Pushes old.lines.items old.implies.items s when new.lines.items new.implies.items r →
-      new.selects.items ≡ old.selects.items → OnOk r (IsAdded symbols source old (word, s, when) new)
-  imply_by (Ok u) old new s when word k t l p q =
-      subst (λ (x : SelectOrImply). IsAdded symbols source old (x, s, when) new) (sym k) (imply_added old new s when t l p q)
-  imply_by (Err e) old new s when word k t l p q = tt
+      s.0 < length old.implies.items → Pushes old.lines.items old.implies.items s when new.lines.items new.implies.items r →
+      new.selects.items ≡ old.selects.items → OnOk r (IsAdded source old (word, s, when) new)
+  imply_by (Ok u) old new s when word k l p q =
+      subst (λ (x : SelectOrImply). IsAdded source old (x, s, when) new) (sym k) (imply_added old new s when l p q)
+  imply_by (Err e) old new s when word k l p q = tt
+
+  -- a line that names none of the symbols adds nothing
+  none_named : (b : Bool) (s t : ℕ) (x : ℕ × Option Form) → s < t → one_if (b && (t == s)) x ≡ []
+  none_named b s t x l = let other : (t == s) ≡ false = ne_eqb t s (λ q. omega arith) in rw other (by b)
+    where
+      by : (b : Bool) → one_if (b && false) x ≡ []
+      by true = refl
+      by false = refl
+
+  pub nothing_added : (old new : SelectorRows) (t : SelectOrImply × SymId × Option Form) → length old.selects.items ≤ t.1.0 →
+      new.lines ≡ old.lines → new.selects ≡ old.selects → new.implies ≡ old.implies → IsAdded source old t new
+  nothing_added old new t past a b c = record {
+    selects = λ s l. (λ i. rows_to ((a i).items) (get_or ((b i).items) s None))
+        ∙ sym (ap (λ xs. selects_of old s ++ xs) (none_named (same_selectors select_or_imply.Select t.0) s t.1.0 (source.0, t.2) (omega arith)) ∙ append-nil (selects_of old s));
+    implies = λ s l. (λ i. rows_to ((a i).items) (get_or ((c i).items) s None))
+        ∙ sym (ap (λ xs. implies_of old s ++ xs) (none_named (same_selectors select_or_imply.Imply t.0) s t.1.0 (source.0, t.2) (omega arith)) ∙ append-nil (implies_of old s));
+    few = (let e = ap (λ v. length v.items) a in omega arith);
+    count = ap (λ v. length v.items) b;
+    same = ap (λ v. length v.items) c;
+  }
 
   -- Along the lines of a definition.
   pub record IsAdding (own : List AttributeLine) (old : SelectorRows) (i : ℕ) (new : SelectorRows) : Type 0 where
-    pub selects : (s : ℕ) →
-        selects_of new s ++ added_lines symbols source select_or_imply.Select s (drop i (statements_of own)) ≡ selects_of old s ++ added_lines symbols source select_or_imply.Select s (statements_of own)
-    pub implies : (s : ℕ) →
-        implies_of new s ++ added_lines symbols source select_or_imply.Imply s (drop i (statements_of own)) ≡ implies_of old s ++ added_lines symbols source select_or_imply.Imply s (statements_of own)
+    pub selects : (s : ℕ) → s < length old.selects.items →
+        selects_of new s ++ added_lines source select_or_imply.Select s (drop i (statements_of own)) ≡ selects_of old s ++ added_lines source select_or_imply.Select s (statements_of own)
+    pub implies : (s : ℕ) → s < length old.selects.items →
+        implies_of new s ++ added_lines source select_or_imply.Imply s (drop i (statements_of own)) ≡ implies_of old s ++ added_lines source select_or_imply.Imply s (statements_of own)
     pub few : length new.lines.items ≤ length old.lines.items + i
     pub count : length new.selects.items ≡ length old.selects.items
     pub same : length new.implies.items ≡ length old.implies.items
     pub sources : KeepSources source.0 old.lines.items new.lines.items
 
   next_lines : (word : SelectOrImply) (s : ℕ) (own : List AttributeLine) (i : ℕ) (x : AttributeLine) (t : SelectOrImply × SymId × Option Form) (now next base : List (ℕ × Option Form)) →
-      i < length own → x ≡ get_or own i x → Some t ≡ target_of (attribute_view x.attribute) → now ++ added_lines symbols source word s (drop i (statements_of own)) ≡ base →
-      next ≡ now ++ added_line symbols source word s t → next ++ added_lines symbols source word s (drop (i + 1) (statements_of own)) ≡ base
+      i < length own → x ≡ get_or own i x → Some t ≡ target_of (attribute_view x.attribute) → now ++ added_lines source word s (drop i (statements_of own)) ≡ base →
+      next ≡ now ++ added_line source word s t → next ++ added_lines source word s (drop (i + 1) (statements_of own)) ≡ base
   next_lines word s own i x t now next base l at e h n =
-      let rest = added_lines symbols source word s (drop (i + 1) (statements_of own)) in
-      let line = added_line symbols source word s t in
-      let all : added_lines symbols source word s (drop i (statements_of own)) ≡ line ++ rest = rw (statements_from own i x l at, ← e) (ap (λ k. k ++ rest) (append-nil line)) in
+      let rest = added_lines source word s (drop (i + 1) (statements_of own)) in
+      let line = added_line source word s t in
+      let all : added_lines source word s (drop i (statements_of own)) ≡ line ++ rest = rw (statements_from own i x l at, ← e) (ap (λ k. k ++ rest) (append-nil line)) in
       ap (λ k. k ++ rest) n ∙ append_assoc now line rest ∙ ap (λ k. now ++ k) (sym all) ∙ h
 
   same_lines : (word : SelectOrImply) (s : ℕ) (own : List AttributeLine) (i : ℕ) (x : AttributeLine) (now base : List (ℕ × Option Form)) → i < length own → x ≡ get_or own i x →
-      None ≡ target_of (attribute_view x.attribute) → now ++ added_lines symbols source word s (drop i (statements_of own)) ≡ base →
-      now ++ added_lines symbols source word s (drop (i + 1) (statements_of own)) ≡ base
+      None ≡ target_of (attribute_view x.attribute) → now ++ added_lines source word s (drop i (statements_of own)) ≡ base →
+      now ++ added_lines source word s (drop (i + 1) (statements_of own)) ≡ base
   same_lines word s own i x now base l at e h =
-      let all : added_lines symbols source word s (drop i (statements_of own)) ≡ added_lines symbols source word s (drop (i + 1) (statements_of own)) = rw (statements_from own i x l at, ← e) refl in
+      let all : added_lines source word s (drop i (statements_of own)) ≡ added_lines source word s (drop (i + 1) (statements_of own)) = rw (statements_from own i x l at, ← e) refl in
       ap (λ k. now ++ k) (sym all) ∙ h
 
   pub adding_none : (own : List AttributeLine) (old now : SelectorRows) (i : ℕ) (x : AttributeLine) → IsAdding own old i now → i < length own → x ≡ get_or own i x →
       None ≡ target_of (attribute_view x.attribute) → IsAdding own old (i + 1) now
   adding_none own old now i x h l at e = record {
-    selects = λ s. same_lines select_or_imply.Select s own i x _ _ l at e (h.selects s);
-    implies = λ s. same_lines select_or_imply.Imply s own i x _ _ l at e (h.implies s);
+    selects = λ s b. same_lines select_or_imply.Select s own i x _ _ l at e (h.selects s b);
+    implies = λ s b. same_lines select_or_imply.Imply s own i x _ _ l at e (h.implies s b);
     few = let f = h.few in omega arith;
     count = h.count;
     same = h.same;
@@ -293,13 +303,60 @@ module _ (symbols : List Symbol) (source : DefinitionId) where
   }
 
   pub adding_one : (own : List AttributeLine) (old now new : SelectorRows) (i : ℕ) (x : AttributeLine) (t : SelectOrImply × SymId × Option Form) → IsAdding own old i now → i < length own →
-      x ≡ get_or own i x → Some t ≡ target_of (attribute_view x.attribute) → IsAdded symbols source now t new → KeepSources source.0 now.lines.items new.lines.items →
+      x ≡ get_or own i x → Some t ≡ target_of (attribute_view x.attribute) → IsAdded source now t new → KeepSources source.0 now.lines.items new.lines.items →
       IsAdding own old (i + 1) new
   adding_one own old now new i x t h l at e a k = record {
-    selects = λ s. next_lines select_or_imply.Select s own i x t _ _ _ l at e (h.selects s) (a.selects s);
-    implies = λ s. next_lines select_or_imply.Imply s own i x t _ _ _ l at e (h.implies s) (a.implies s);
+    selects = λ s b. next_lines select_or_imply.Select s own i x t _ _ _ l at e (h.selects s b) (a.selects s (let n = h.count in omega arith));
+    implies = λ s b. next_lines select_or_imply.Imply s own i x t _ _ _ l at e (h.implies s b) (a.implies s (let n = h.count in omega arith));
     few = let f = h.few in let g = a.few in omega arith;
     count = a.count ∙ h.count;
     same = a.same ∙ h.same;
     sources = sources-both source.0 _ _ _ h.sources k;
   }
+
+-- The last lines of the symbols, where those of the first symbols were looked at.
+pub record AreHeadsTo (symbols : List Symbol) (i : ℕ) (old new : List (Option SelectorId)) : Type 0 where
+  pub same : length new ≡ length old
+  pub looked_at : (s : ℕ) → s < i → slice_index_or new s None ≡ (if can_be_target symbols (symbol s) then slice_index_or old s None else None)
+  pub rest : (s : ℕ) → i ≤ s → slice_index_or new s None ≡ slice_index_or old s None
+
+module _ (symbols : List Symbol) (i : ℕ) (old new : List (Option SelectorId)) (h : AreHeadsTo symbols i old new) where
+  kept_at : (b : Bool) → can_be_target symbols (symbol i) ≡ b → b ≡ true → slice_index_or new i None ≡ (if b then slice_index_or old i None else None)
+  kept_at true e t = h.rest i (omega arith)
+  kept_at false e t = absurd cc
+
+  pub head_kept : can_be_target symbols (symbol i) ≡ true → AreHeadsTo symbols (i + 1) old new
+  head_kept can = record { same = h.same; looked_at = λ s l. by s (cases_lt s i) l; rest = λ s l. h.rest s (omega arith) }
+    where
+      by : (s : ℕ) → (s < i) ⊎ (i ≤ s) → s < i + 1 → slice_index_or new s None ≡ (if can_be_target symbols (symbol s) then slice_index_or old s None else None)
+      by s (inl l) m = h.looked_at s l
+      by s (inr g) m =
+          let here : s ≡ i = omega arith in
+          rw (here, can) (h.rest i (omega arith))
+
+  pub head_dropped : i < length old → can_be_target symbols (symbol i) ≡ false → AreHeadsTo symbols (i + 1) old (slice_set new i None)
+  head_dropped l can = record {
+    same = length-set new i None ∙ h.same;
+    looked_at = λ s m. by s (cases_lt s i) m;
+    rest = λ s m. (let other : s ≢ i = λ e. omega arith in get_or-set_other new i s None None other ∙ h.rest s (omega arith));
+  }
+    where
+      by : (s : ℕ) → (s < i) ⊎ (i ≤ s) → s < i + 1 → slice_index_or (slice_set new i None) s None ≡ (if can_be_target symbols (symbol s) then slice_index_or old s None else None)
+      by s (inl m) b = let other : s ≢ i = λ e. omega arith in get_or-set_other new i s None None other ∙ h.looked_at s m
+      by s (inr g) b =
+          let here : s ≡ i = omega arith in
+          let size = h.same in
+          let within : i < length new = omega arith in
+          rw (here, can) (get_or-set_same new i None None within)
+
+-- a symbol without a last line leads to none
+pub heads-less : (lines : List Selector) (heads : List (Option SelectorId)) (i : ℕ) → i < length heads → AreHeads lines heads → AreHeads lines (slice_set heads i None)
+heads-less lines heads i l h s id e = by (cases_lt s i) (cases_lt i s)
+  where
+    by : (s < i) ⊎ (i ≤ s) → (i < s) ⊎ (s ≤ i) → id.0 < length lines
+    by (inl m) b = let other : s ≢ i = λ q. omega arith in h s id (sym (get_or-set_other heads i s None None other) ∙ e)
+    by (inr g) (inl m) = let other : s ≢ i = λ q. omega arith in h s id (sym (get_or-set_other heads i s None None other) ∙ e)
+    by (inr g) (inr m) =
+        let here : s ≡ i = omega arith in
+        let none : None ≡ Some id = sym (get_or-set_same heads i None None l) ∙ ap (λ k. slice_index_or (slice_set heads i None) k None) (sym here) ∙ e in
+        absurd cc

@@ -12,7 +12,8 @@ use Rattle.kc_tree.specs.Common.{is_symbol_of}
 use Rattle.kc_build.specs.Facts.{entries, shown_at, is_first_definition, indices, symbol_at, symbol_of}
 use Rattle.kc_build.specs.Trees.{facts_with}
 use Rattle.kc_build.proofs.ElementLemmas.{kept_at, same_is}
-use Rattle.kc_build.proofs.FirstLemmas.{defined_before, first-is, some_places}
+use Rattle.kc_build.specs.SymbolWalk.{defined_before}
+use Rattle.kc_build.proofs.FirstLemmas.{first-is, some_places}
 use Rattle.kc_build.proofs.ListLemmas.{front_get}
 use Rattle.kc_build.proofs.PlaceLemmas.{filter-next, get-map_numbers}
 use Rattle.kc_build.proofs.SymbolListLemmas.{defined_line}

@@ -9,17 +9,20 @@ use Rattle.kc_expr.specs.declared.expression.SymbolType.TheVariants as symbol_ty
 use Rattle.kc_expr.specs.declared.expression.SymId.{SymId}
 use Rattle.kc_expr.specs.Names.{symbol}
 use Rattle.kc_read.specs.Blocks.{attributes, is_attribute, numbers}
+use Rattle.kc_read.specs.declared.statement.Head.{Head}
+use Rattle.kc_read.specs.declared.statement.Head.TheVariants as made
+use Rattle.kc_read.specs.StatementViews.{head_view}
 use Rattle.kc_read.specs.Statements.{Numbered}
 use Rattle.kc_tree.specs.declared.rows.ChoiceId.{ChoiceId}
 use Rattle.kc_tree.specs.declared.rows.Symbol.{Symbol}
 use Rattle.kc_tree.specs.Common.{is_symbol_of}
-use Rattle.kc_build.specs.Facts.{choice_of, enclosing_choice, definitions_of, first_of, symbol_at, symbol_of, stated_type}
+use Rattle.kc_build.specs.Facts.{choice_of, enclosing_choice, definitions_of, first_of, type_of, symbol_at, symbol_of, stated_type}
 use Rattle.kc_build.specs.SymbolRows.{AreSymbols, AreTypesDefined, SymbolRow, definition_number, row_of, row_view}
 use Rattle.kc_build.specs.Passes.{change, changed}
-use Rattle.kc_build.specs.SymbolWalk.{first_given_type, with_member_type, unknown, with_definition}
+use Rattle.kc_build.specs.SymbolWalk.{AreRowsBefore, HaveMemberTypes, defined_before, entry_type, first_given_type, row_before, row_by, with_member_type, unknown, with_definition}
 use Rattle.kc_build.proofs.EnterLemmas.{attribute_symbol, get_behind, over}
 use Rattle.kc_build.proofs.PlaceLemmas.{length-map_numbers}
-use Rattle.kc_build.proofs.TableLemmas.{defined_before, defined_next, not_defined, same_numbers}
+use Rattle.kc_build.proofs.TableLemmas.{defined_next, not_defined, same_numbers}
 use Rattle.kc_build.specs.Walks.{IsHead, index_after}
 use Rattle.kc_tree.specs.Contexts.{mode_view}
 
@@ -42,7 +45,7 @@ first_found {A} f g (x ∷ xs) =
     ∙ sym (first_cons (more x) (filter_map more xs))
 
 -- Types that stand for none.
-abbrev IsNot : Option SymbolType → Type 0
+abbrev pub IsNot : Option SymbolType → Type 0
 IsNot o = o ≡ Some symbol_type.Undefined → ⊥
 
 next_type : (k : Option SymbolType) (o : Option SymbolType) → IsNot o → first_given_type (unwrap_or o symbol_type.Undefined) k ≡ unwrap_or (option_or o k) symbol_type.Undefined
@@ -82,43 +85,28 @@ no_first f (x ∷ xs) h = by (f x) refl (no_first f xs (λ i. h (suc i)))
     by (Some k) e rest = λ q. h 0 x refl (e ∙ q)
 
 module _ (ss : List Numbered) where
-  -- the first type that the entry at a place gives
-  abbrev pub entry_type : ℕ → Option SymbolType
-  entry_type j = first_of (filter_map stated_type (attributes ss j))
-
-  -- what definitions at these places say of a symbol, and those before a place
-  abbrev pub row_by : List ℕ → SymbolRow
-  row_by ds = record {
-    symbol_type = unwrap_or (first_of (filter_map entry_type ds)) symbol_type.Undefined;
-    choice = first_of (filter_map (enclosing_choice ss) ds);
-    definitions = map (definition_number ss) ds;
-  }
-
-  abbrev pub row_before : ℕ → ℕ → SymbolRow
-  row_before i s = row_by (defined_before ss i s)
-
   -- before all lines nothing is known
-  pub rows_start : (count : ℕ) → map (λ (s : ℕ). unknown) (numbers count) ≡ map (row_before 0) (numbers count)
-  rows_start count = same_numbers (λ s. unknown) (row_before 0) count (λ s. refl)
+  pub rows_start : (count : ℕ) → map (λ (s : ℕ). unknown) (numbers count) ≡ map (row_before ss 0) (numbers count)
+  rows_start count = same_numbers (λ s. unknown) (row_before ss 0) count (λ s. refl)
 
   -- the attributes of an entry define nothing
-  pub rows_behind : (i : ℕ) (head : Numbered) (own : List Numbered) (count : ℕ) → IsHead ss i head own → map (row_before (i + 1)) (numbers count) ≡ map (row_before (index_after i own)) (numbers count)
+  pub rows_behind : (i : ℕ) (head : Numbered) (own : List Numbered) (count : ℕ) → IsHead ss i head own → map (row_before ss (i + 1)) (numbers count) ≡ map (row_before ss (index_after i own)) (numbers count)
   rows_behind i head own count h =
-      same_numbers (row_before (i + 1)) (row_before (index_after i own)) count
-      (λ s. ap row_by (sym (over ss i head own h (λ j. defined_before ss j s) (λ j x at e. not_defined ss j s (ap (is_symbol_of (symbol s)) (ap symbol_of at ∙ attribute_symbol x e))))))
+      same_numbers (row_before ss (i + 1)) (row_before ss (index_after i own)) count
+      (λ s. ap (row_by ss) (sym (over ss i head own h (λ j. defined_before ss j s) (λ j x at e. not_defined ss j s (ap (is_symbol_of (symbol s)) (ap symbol_of at ∙ attribute_symbol x e))))))
 
   module _ (typed : AreTypesDefined ss) where
-    entry_typed : (j : ℕ) → IsNot (entry_type j)
+    pub entry_typed : (j : ℕ) → IsNot (entry_type ss j)
     entry_typed j =
         no_first stated_type (attributes ss j) (λ i x at. typed (suc j + i) x (sym (get_behind ss (suc j) i) ∙ taken_at is_attribute (drop (suc j) ss) i x at))
 
-    all_typed : (ds : List ℕ) → IsNot (first_of (filter_map entry_type ds))
-    all_typed ds = no_first entry_type ds (λ i j at. entry_typed j)
+    all_typed : (ds : List ℕ) → IsNot (first_of (filter_map (entry_type ss) ds))
+    all_typed ds = no_first (entry_type ss) ds (λ i j at. entry_typed j)
 
     -- one definition more
-    row_next : (ds : List ℕ) (i : ℕ) → with_definition (definition_number ss i) (entry_type i) (enclosing_choice ss i) (row_by ds) ≡ row_by (ds ++ i ∷ [])
+    row_next : (ds : List ℕ) (i : ℕ) → with_definition (definition_number ss i) (entry_type ss i) (enclosing_choice ss i) (row_by ss ds) ≡ row_by ss (ds ++ i ∷ [])
     row_next ds i =
-        let type = next_type (entry_type i) (first_of (filter_map entry_type ds)) (all_typed ds) ∙ ap (λ o. unwrap_or o symbol_type.Undefined) (first_more entry_type) in
+        let type = next_type (entry_type ss i) (first_of (filter_map (entry_type ss) ds)) (all_typed ds) ∙ ap (λ o. unwrap_or o symbol_type.Undefined) (first_more (entry_type ss)) in
         let choice = first_more (enclosing_choice ss) in
         let numbers = sym (map-append (definition_number ss) ds (i ∷ [])) in
         λ k. record { symbol_type = type k; choice = choice k; definitions = numbers k }
@@ -131,32 +119,44 @@ module _ (ss : List Numbered) where
         first_more f =
             ap (option_or (first_of (filter_map f ds))) (single (f i)) ∙ sym (first_or (filter_map f ds) (cons_option (f i) [])) ∙ ap first_of (sym (filter_map-append f ds (i ∷ [])))
 
-    pub rows_next : (i count : ℕ) (table new : List SymbolRow) (o : Option SymId) → table ≡ map (row_before i) (numbers count) → symbol_at ss i ≡ o →
-        new ≡ changed (with_definition (definition_number ss i) (entry_type i) (enclosing_choice ss i)) o table → new ≡ map (row_before (i + 1)) (numbers count)
+    pub rows_next : (i count : ℕ) (table new : List SymbolRow) (o : Option SymId) → table ≡ map (row_before ss i) (numbers count) → symbol_at ss i ≡ o →
+        new ≡ changed (with_definition (definition_number ss i) (entry_type ss i) (enclosing_choice ss i)) o table → new ≡ map (row_before ss (i + 1)) (numbers count)
     rows_next i count table new o h e n =
-        n ∙ rw h (defined_next ss (λ s ds. row_by ds) (with_definition (definition_number ss i) (entry_type i) (enclosing_choice ss i)) i count o e (λ s ds q. row_next ds i))
+        n ∙ rw h (defined_next ss (λ s ds. row_by ss ds) (with_definition (definition_number ss i) (entry_type ss i) (enclosing_choice ss i)) i count o e (λ s ds q. row_next ds i))
 
     -- when all lines were walked over
-    row_with_member_type : (s : ℕ) → with_member_type (row_before (length ss) s) ≡ row_of ss s
+    row_with_member_type : (s : ℕ) → with_member_type (row_before ss (length ss) s) ≡ row_of ss s
     row_with_member_type s =
         let ds = definitions_of ss (symbol s) in
-        let type = type_with_member (is_some (choice_of ss (symbol s))) (first_of (filter_map entry_type ds)) (all_typed ds)
+        let type = type_with_member (is_some (choice_of ss (symbol s))) (first_of (filter_map (entry_type ss) ds)) (all_typed ds)
         ∙ ap (λ o. unwrap_or o (if is_some (choice_of ss (symbol s)) then symbol_type.Bool else symbol_type.Undefined)) (sym (first_found stated_type (attributes ss) ds))
         in
         λ k. record { symbol_type = type k; choice = choice_of ss (symbol s); definitions = map (definition_number ss) ds }
 
-    rows_with_member_types : (ns : List ℕ) → map with_member_type (map (row_before (length ss)) ns) ≡ map (row_of ss) ns
+    rows_with_member_types : (ns : List ℕ) → map with_member_type (map (row_before ss (length ss)) ns) ≡ map (row_of ss) ns
     rows_with_member_types [] = refl
     rows_with_member_types (s ∷ ns) = rw (row_with_member_type s, rows_with_member_types ns) refl
 
-    pub rows_end : (count : ℕ) (table new : List SymbolRow) → table ≡ map (row_before (length ss)) (numbers count) → new ≡ map with_member_type table → new ≡ map (row_of ss) (numbers count)
+    rows_end : (count : ℕ) (table new : List SymbolRow) → table ≡ map (row_before ss (length ss)) (numbers count) → new ≡ map with_member_type table → new ≡ map (row_of ss) (numbers count)
     rows_end count table new h n = n ∙ ap (map with_member_type) h ∙ rows_with_member_types (numbers count)
+
+-- the type of a symbol whose first definition gives one
+pub first_by_entry : (ss : List Numbered) (s : SymId) (i : ℕ) (rest : List ℕ) (k : SymbolType) → definitions_of ss s ≡ i ∷ rest → entry_type ss i ≡ Some k → type_of ss s ≡ k
+first_by_entry ss s i rest k e t =
+    ap (λ o. unwrap_or o (if is_some (choice_of ss s) then symbol_type.Bool else symbol_type.Undefined))
+    (first_found stated_type (attributes ss) (definitions_of ss s) ∙ ap (λ ds. first_of (filter_map (entry_type ss) ds)) e ∙ first_cons (entry_type ss i) (filter_map (entry_type ss) rest)
+    ∙ ap (λ o. option_or o (first_of (filter_map (entry_type ss) rest))) t)
+
+-- a line that is no `config` defines nothing
+pub no_definition : (s : Head) → ((x : SymId) → s ≡ made.Config x → ⊥) → symbol_of (Some (head_view s)) ≡ None
+no_definition (made.Config x) h = absurd (h x refl)
+no_definition _ h = refl
 
 -- as many as there are rows
 pub so_many : (f : ℕ → SymbolRow) (count : ℕ) (symbols : List Symbol) → map row_view symbols ≡ map f (numbers count) → length symbols ≡ count
 so_many f count symbols h = sym (length-map symbols row_view) ∙ ap length h ∙ length-map_numbers f count
 
-pub symbols_are : (ss : List Numbered) (count : ℕ) (symbols : List Symbol) → map row_view symbols ≡ map (row_of ss) (numbers count) → AreSymbols ss symbols
+symbols_are : (ss : List Numbered) (count : ℕ) (symbols : List Symbol) → map row_view symbols ≡ map (row_of ss) (numbers count) → AreSymbols ss symbols
 symbols_are ss count symbols h = h ∙ ap (λ n. map (row_of ss) (numbers n)) (sym (so_many (row_of ss) count symbols h))
 
 -- A walk along a table that changes each element.
@@ -223,3 +223,10 @@ pub same_item : {A : Type 0} (xs : List A) (i : ℕ) (a b : A) → i < length xs
 same_item [] i a b h e f = absurd (omega arith)
 same_item (x ∷ xs) zero a b h e f = e ∙ sym f
 same_item (x ∷ xs) (suc i) a b h e f = same_item xs i a b (omega arith) e f
+
+-- the rows of all symbols, once members have their types
+pub rows_settled : (ss : List Numbered) (typed : AreTypesDefined ss) (count : ℕ) (old new : List Symbol) → length old ≡ count → AreRowsBefore ss (length ss) old →
+    HaveMemberTypes (map row_view old) (map row_view new) → (length new ≡ count) × AreSymbols ss new
+rows_settled ss typed count old new many rows types =
+    let are = rows_end ss typed count (map row_view old) (map row_view new) (rows ∙ ap (λ n. map (row_before ss (length ss)) (numbers n)) many) types in
+    (so_many (row_of ss) count new are, symbols_are ss count new are)

@@ -1,5 +1,5 @@
 -- Tables by symbol, one place more.
-use Rattle.std.proofs.Common.{◌≡◌, ℕ, zero, suc, ◌+◌, ◌<◌, ◌≤◌, Bool, true, false, if◌then◌else◌, List, [], ◌∷◌, ◌++◌, length, filter, map, Option, Some, None, refl, ap, sym, ◌∙◌, arith, get_or, slice_set}
+use Rattle.std.proofs.Common.{◌≡◌, ℕ, zero, suc, ◌+◌, ◌<◌, ◌≤◌, Bool, true, false, if◌then◌else◌, List, [], ◌∷◌, ◌++◌, length, map, Option, Some, None, refl, ap, sym, ◌∙◌, arith, get_or, slice_set}
 use Rattle.std.proofs.lemmas.Bool.{eq-eqb, ne_eqb}
 use Rattle.std.specs.Prelude.{◌==◌}
 use Rattle.std.proofs.lemmas.List.{append-nil, length-map}
@@ -10,6 +10,7 @@ use Rattle.kc_read.specs.Blocks.{numbers}
 use Rattle.kc_tree.specs.Common.{is_symbol_of}
 use Rattle.kc_build.specs.Facts.{symbol_at}
 use Rattle.kc_build.specs.Passes.{change, changed}
+use Rattle.kc_build.specs.SymbolWalk.{defined_before}
 use Rattle.kc_build.proofs.BlockLemmas.{numbers_from, numbers-from}
 use Rattle.kc_build.proofs.PlaceLemmas.{filter-next}
 
@@ -62,14 +63,11 @@ unchanged_past v g xs k h = sym (change_past g (map v xs) k (omega (arith, lengt
 
 -- The definitions of a symbol among the first places.
 module _ (ss : List Numbered) where
-  abbrev pub defined_before : ℕ → ℕ → List ℕ
-  defined_before i s = filter (λ j. is_symbol_of (symbol s) (symbol_at ss j)) (numbers i)
+  before_next : (i s : ℕ) (b : Bool) → is_symbol_of (symbol s) (symbol_at ss i) ≡ b → defined_before ss (i + 1) s ≡ defined_before ss i s ++ (if b then i ∷ [] else [])
+  before_next i s b e = filter-next (λ j. is_symbol_of (symbol s) (symbol_at ss j)) i ∙ ap (λ c. defined_before ss i s ++ (if c then i ∷ [] else [])) e
 
-  before_next : (i s : ℕ) (b : Bool) → is_symbol_of (symbol s) (symbol_at ss i) ≡ b → defined_before (i + 1) s ≡ defined_before i s ++ (if b then i ∷ [] else [])
-  before_next i s b e = filter-next (λ j. is_symbol_of (symbol s) (symbol_at ss j)) i ∙ ap (λ c. defined_before i s ++ (if c then i ∷ [] else [])) e
-
-  pub not_defined : (i s : ℕ) → is_symbol_of (symbol s) (symbol_at ss i) ≡ false → defined_before (i + 1) s ≡ defined_before i s
-  not_defined i s e = before_next i s false e ∙ append-nil (defined_before i s)
+  pub not_defined : (i s : ℕ) → is_symbol_of (symbol s) (symbol_at ss i) ≡ false → defined_before ss (i + 1) s ≡ defined_before ss i s
+  not_defined i s e = before_next i s false e ∙ append-nil (defined_before ss i s)
 
   equal_self : (n : ℕ) → (n == n) ≡ true
   equal_self n = eq-eqb n n refl
@@ -77,10 +75,10 @@ module _ (ss : List Numbered) where
   -- what a table by symbol has when it goes by the definitions so far
   pub defined_next : {A : Type 0} (F : ℕ → List ℕ → A) (g : A → A) (i count : ℕ) (o : Option SymId) → symbol_at ss i ≡ o →
       ((s : ℕ) (ds : List ℕ) → o ≡ Some (symbol s) → g (F s ds) ≡ F s (ds ++ i ∷ [])) →
-      changed g o (map (λ s. F s (defined_before i s)) (numbers count)) ≡ map (λ s. F s (defined_before (i + 1) s)) (numbers count)
+      changed g o (map (λ s. F s (defined_before ss i s)) (numbers count)) ≡ map (λ s. F s (defined_before ss (i + 1) s)) (numbers count)
   defined_next F g i count None e step =
-      same_numbers (λ s. F s (defined_before i s)) (λ s. F s (defined_before (i + 1) s)) count (λ s. ap (F s) (sym (not_defined i s (rw e refl))))
+      same_numbers (λ s. F s (defined_before ss i s)) (λ s. F s (defined_before ss (i + 1) s)) count (λ s. ap (F s) (sym (not_defined i s (rw e refl))))
   defined_next F g i count (Some t) e step =
-      change_numbers g (λ s. F s (defined_before i s)) (λ s. F s (defined_before (i + 1) s)) count t.0
-      (step t.0 (defined_before i t.0) refl ∙ ap (F t.0) (sym (before_next i t.0 true (rw e (equal_self t.0)))))
+      change_numbers g (λ s. F s (defined_before ss i s)) (λ s. F s (defined_before ss (i + 1) s)) count t.0
+      (step t.0 (defined_before ss i t.0) refl ∙ ap (F t.0) (sym (before_next i t.0 true (rw e (equal_self t.0)))))
       (λ s ne. ap (F s) (sym (not_defined i s (rw e (ne_eqb s t.0 ne)))))

@@ -10,7 +10,6 @@ use Rattle.kc_read.specs.Statements.{Numbered, CommentLine, MenuLine}
 use Rattle.kc_tree.specs.declared.rows.ContextId.{ContextId}
 use Rattle.kc_tree.specs.declared.rows.ShownEntry.{ShownEntry}
 use Rattle.kc_tree.specs.declared.rows.ShownEntry.TheVariants as entry
-use Rattle.kc_tree.specs.declared.rows.Symbol.{Symbol}
 use Rattle.kc_tree.specs.declared.rows.Title.{Title}
 use Rattle.kc_tree.specs.declared.rows.TitleId.{TitleId}
 use Rattle.kc_tree.specs.Contexts.{condition_in}
@@ -23,7 +22,7 @@ use Rattle.kc_build.specs.WalkResult.{IsEntryThere, IsTitleThere}
 use Rattle.kc_build.specs.Stacks.{AreOpen, block_facts_at, block_view}
 use Rattle.kc_build.specs.Walks.{Enters, IsHead, IsWalk, index_after}
 use Rattle.kc_build.specs.declared.blocks.BlockScope.{BlockScope}
-use Rattle.kc_build.specs.declared.entries.EntryWalk.{EntryWalk}
+use Rattle.kc_build.specs.declared.walk.EntryWalk.{EntryWalk}
 use Rattle.kc_build.proofs.GrownLemmas.{Extends, carries_both, carries_grown, extends, get_last, open_carries}
 use Rattle.kc_build.proofs.OpenLemmas.{open_opens, open_passes}
 use Rattle.kc_build.proofs.OpenerLemmas.{block_inside}
@@ -72,14 +71,14 @@ pub record IsTitled (ss : List Numbered) (i : ℕ) (head : Numbered) : Type 0 wh
   pub title : title_of head ≡ None
 
 -- One title and one entry more.
-module _ (ss : List Numbered) (symbols : List Symbol) (i : ℕ) (head : Numbered) (own : List Numbered) (h : IsHead ss i head own) (old new : EntryWalk) (w : IsWalk ss symbols i old) where
+module _ (ss : List Numbered) (count i : ℕ) (head : Numbered) (own : List Numbered) (h : IsHead ss i head own) (old new : EntryWalk) (w : IsWalk ss count i old) where
   pub titled_passes : (t : Title) (e : ShownEntry) (s : Shown) → AreRest old new → IsTitled ss i head → Extends old.tables.contexts new.tables.contexts →
       length new.tables.contexts ≤ length old.tables.contexts + 2 * length own + 2 → AreOpen ss (suc i) new.tables.contexts new.blocks →
       new.tables.titles.items ≡ old.tables.titles.items ++ t ∷ [] → IsTitleThere new.tables.contexts t → new.tables.entries.items ≡ old.tables.entries.items ++ e ∷ [] →
       IsEntryThere (length new.tables.titles.items) (length new.tables.entries.items) e → shown_of new.tables e ≡ s → shown_at ss i (Some head) ≡ Some s →
-      IsWalk ss symbols (index_after i own) new
+      IsWalk ss count (index_after i own) new
   titled_passes t e s r q g few blocks titles title entries there shown says =
-      walk_passes ss i head own h symbols old new w
+      walk_passes ss i head own h old new count w
       (record {
         contexts = g;
         few_contexts = few;
@@ -88,7 +87,7 @@ module _ (ss : List Numbered) (symbols : List Symbol) (i : ℕ) (head : Numbered
         ranges = r.ranges;
         selector_rows = r.selector_rows;
         blocks = blocks;
-        choices = choices_say_same ss i head own h symbols old new g r.choices ∙ w.choices ∙ sym (no_choice_passed ss i head own h q.symbol symbols q.choice);
+        choices = choices_say_same ss i head own h old new g r.choices ∙ w.choices ∙ sym (no_choice_passed ss i head own h q.symbol q.choice);
         few_choices = (let e : length new.tables.choices.items ≡ length old.tables.choices.items = ap (λ v. length v.items) r.choices in omega arith);
         titles_more = t ∷ [];
         titles = titles;
@@ -109,8 +108,8 @@ module _ (text : List ℕ) (own : List Numbered) (old new : EntryWalk) (rest : A
   pub comment_enters : IsGrown old.tables.contexts new.tables.contexts (condition_in old.tables.contexts old.blocks.innermost.within.0).mode (length own) →
       Stands new.tables.contexts within.0 (with_conjuncts (condition_in old.tables.contexts old.blocks.innermost.within.0) (filter_map depends_form own)) → new.blocks ≡ old.blocks →
       new.tables.titles.items ≡ old.tables.titles.items ++ t ∷ [] → t.text.items ≡ text → t.within ≡ within → t.visible ≡ record { 0 = 0 } → id.0 ≡ length old.tables.titles.items →
-      new.tables.entries.items ≡ old.tables.entries.items ++ entry.Comment id ∷ [] → (symbols : List Symbol) → Enters symbols (CommentLine text) own old new
-  comment_enters grown stands blocks titles said shown_within shown_visible number entries symbols ss i a h w =
+      new.tables.entries.items ≡ old.tables.entries.items ++ entry.Comment id ∷ [] → (first : Bool) → Enters first (CommentLine text) own old new
+  comment_enters grown stands blocks titles said shown_within shown_visible number entries first ss count i a h w =
       let there = old.within 0 old.blocks.innermost refl in
       let g = carries_grown old.tables.contexts new.tables.contexts (condition_in old.tables.contexts old.blocks.innermost.within.0).mode
       (length own) old.blocks.innermost.within.0 there refl grown in
@@ -122,7 +121,7 @@ module _ (text : List ℕ) (own : List Numbered) (old new : EntryWalk) (rest : A
       ∙ nil_from_length (condition_in new.tables.contexts 0).conjuncts new.top_is_empty in
       let condition : title_condition new.tables t ≡ dependency ss i = (λ j. record { conjuncts = (depends j).conjuncts ++ nothing j; mode = (depends j).mode })
       ∙ (λ j. record { conjuncts = append-nil (dependency ss i).conjuncts j; mode = (dependency ss i).mode }) in
-      titled_passes ss symbols i (CommentLine text) own h old new w t (entry.Comment id) (CommentShown text (dependency ss i)) rest
+      titled_passes ss count i (CommentLine text) own h old new w t (entry.Comment id) (CommentShown text (dependency ss i)) rest
       (record { symbol = refl; choice = rw (h.at) refl; title = refl })
       (extends old.tables.contexts new.tables.contexts g)
       (let l = grown.few in omega arith)
@@ -150,8 +149,8 @@ module _ (text : List ℕ) (own : List Numbered) (old new : EntryWalk) (rest : A
       new.tables.titles.items ≡ old.tables.titles.items ++ t ∷ [] → t.text.items ≡ text → t.within ≡ within → t.visible ≡ visible → id.0 ≡ length old.tables.titles.items →
       number ≡ length old.tables.entries.items → new.tables.entries.items ≡ old.tables.entries.items ++ entry.Menu id ∷ [] →
       b ≡ record { within = within; visible = visible; entry = Some number } → new.blocks.innermost ≡ b →
-      new.blocks.outside.items ≡ old.blocks.outside.items ++ old.blocks.innermost ∷ [] → (symbols : List Symbol) → Enters symbols (MenuLine text) own old new
-  menu_enters grown stands further sees titles said shown_within shown_visible id_is number_is entries block_is inner outside symbols ss i a h w =
+      new.blocks.outside.items ≡ old.blocks.outside.items ++ old.blocks.innermost ∷ [] → (first : Bool) → Enters first (MenuLine text) own old new
+  menu_enters grown stands further sees titles said shown_within shown_visible id_is number_is entries block_is inner outside first ss count i a h w =
       let there = old.within 0 old.blocks.innermost refl in
       let seen = old.visible 0 old.blocks.innermost refl in
       let f = carries_grown old.tables.contexts middle (condition_in old.tables.contexts old.blocks.innermost.within.0).mode
@@ -181,10 +180,10 @@ module _ (text : List ℕ) (own : List Numbered) (old new : EntryWalk) (rest : A
       ∙ ap (λ (l : List Form). (block_facts_at ss i).visible ++ l) opens_visible in
       let mode : (condition_in new.tables.contexts within.0).mode ≡ (if of_block ss block.Choice i then Some (choice_number ss i) else (block_facts_at ss i).mode) =
       ap (λ (c : Condition). c.mode) depends ∙ sym (ap (λ (x : Bool). if x then Some (choice_number ss i) else (block_facts_at ss i).mode) other) in
-      let named : Some number ≡ Some (shown_number ss i) = ap Some (number_is ∙ entry_count ss symbols i old w a.ends) in
+      let named : Some number ≡ Some (shown_number ss i) = ap Some (number_is ∙ entry_count ss count i old w a.ends) in
       let inside = ap (block_view new.tables.contexts) (inner ∙ block_is)
       ∙ block_inside ss i new.tables.contexts (record { within = within; visible = visible; entry = Some number }) conjuncts visible_conjuncts mode named in
-      titled_passes ss symbols i (MenuLine text) own h old new w t (entry.Menu id) (MenuShown text (shown_when ss i)) rest
+      titled_passes ss count i (MenuLine text) own h old new w t (entry.Menu id) (MenuShown text (shown_when ss i)) rest
       (record { symbol = refl; choice = other; title = refl })
       (extends old.tables.contexts new.tables.contexts g)
       (let l = grown.few in let m = further.few in omega arith)

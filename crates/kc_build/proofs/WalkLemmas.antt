@@ -14,19 +14,18 @@ use Rattle.kc_read.specs.Statements.{Numbered, ConfigLine, CommentLine, MenuLine
 use Rattle.kc_read.specs.Blocks.{last_of, numbers}
 use Rattle.kc_tree.specs.declared.rows.Definition.{Definition}
 use Rattle.kc_tree.specs.declared.rows.ShownEntry.{ShownEntry}
-use Rattle.kc_tree.specs.declared.rows.Symbol.{Symbol}
 use Rattle.kc_tree.specs.declared.rows.Title.{Title}
 use Rattle.kc_tree.specs.declared.selector_rows.SelectorRows.{SelectorRows}
 use Rattle.kc_tree.specs.Layouts.{choice_facts as choice_in, definition_facts, shown_of}
-use Rattle.kc_tree.specs.TreeFacts.{Guarded, Shown, SymbolShown, EndShown}
+use Rattle.kc_tree.specs.TreeFacts.{Shown, SymbolShown, EndShown}
 use Rattle.kc_build.specs.Before.{choice_before, choices_before, definitions_before, entries_before, impliers_before, main_menu_before, members_before, selectors_before}
-use Rattle.kc_build.specs.Facts.{can_be_target, choice_number, shown_at, shown_number, imply_of, shows_entry, is_first_definition, naming_at, of_block, enclosing_block, select_of, symbol_at, symbol_of, title_of}
+use Rattle.kc_build.specs.Facts.{choice_number, shown_at, shown_number, imply_of, shows_entry, is_first_definition, naming_at, of_block, enclosing_block, select_of, symbol_at, symbol_of, title_of}
 use Rattle.kc_build.specs.SymbolRows.{AreMenusOpened}
 use Rattle.kc_build.specs.SelectorRows.{HaveSources}
 use Rattle.kc_build.specs.WalkResult.{AreRowsThere, IsEntryThere, IsSmall, IsSpanBelow, IsTitleThere}
 use Rattle.kc_build.specs.Stacks.{AreOpen}
 use Rattle.kc_build.specs.Walks.{IsHead, IsWalk, index_after}
-use Rattle.kc_build.specs.declared.entries.EntryWalk.{EntryWalk}
+use Rattle.kc_build.specs.declared.walk.EntryWalk.{EntryWalk}
 use Rattle.kc_build.proofs.EnterLemmas.{blocks_passed, definitions_passed, enclosing_passed, entries_passed, member_line, members_passed, names_passed, titles_passed}
 use Rattle.kc_build.proofs.GrownLemmas.{Extends, choice_extends, definition_extends_same, entries_stay, impliers_same, map_alike, selectors_same, shown_extends, titles_stay}
 use Rattle.kc_build.proofs.ListLemmas.{count_next}
@@ -74,11 +73,11 @@ module _ (ss : List Numbered) (ends : AreMenusOpened ss) where
       let all = count_next (λ j. shows_entry ss j (slice_get ss j)) n in
       omega arith
 
-module _ (ss : List Numbered) (symbols : List Symbol) (i : ℕ) (w : EntryWalk) (h : IsWalk ss symbols i w) where
+module _ (ss : List Numbered) (count i : ℕ) (w : EntryWalk) (h : IsWalk ss count i w) where
   pub choice_count : length w.tables.choices.items ≡ choice_number ss i
   choice_count =
       sym (length-map w.tables.choices.items (choice_in w.tables)) ∙ ap length h.choices
-      ∙ length-map (filter (of_block ss block.Choice) (numbers i)) (choice_before ss symbols i)
+      ∙ length-map (filter (of_block ss block.Choice) (numbers i)) (choice_before ss i)
       ∙ length-filter (of_block ss block.Choice) (numbers i)
 
   pub entry_count : AreMenusOpened ss → length w.tables.entries.items ≡ shown_number ss i
@@ -103,10 +102,10 @@ module _ (ss : List Numbered) (i : ℕ) (head : Numbered) (own : List Numbered) 
         names_passed ss i head own h line ∙ (rw no_symbol (append-nil (flat_map (naming_at ss line) (numbers i))))
 
     pub selectors_stay : (t : SymId) → selectors_before ss after t ≡ selectors_before ss i t
-    selectors_stay t = ap (λ (l : List (Guarded SymId)). if can_be_target ss t then l else []) (names_stay (select_of t))
+    selectors_stay t = names_stay (select_of t)
 
     pub impliers_stay : (t : SymId) → impliers_before ss after t ≡ impliers_before ss i t
-    impliers_stay t = ap (λ (l : List (Guarded SymId)). if can_be_target ss t then l else []) (names_stay (imply_of t))
+    impliers_stay t = names_stay (imply_of t)
 
     no_member : (k : ℕ) → member_line ss i head own h k i ≡ []
     no_member k = rw no_symbol refl
@@ -115,25 +114,25 @@ module _ (ss : List Numbered) (i : ℕ) (head : Numbered) (own : List Numbered) 
     members_stay k =
         members_passed ss i head own h k ∙ ap (λ (l : List SymId). members_before ss i k ++ l) (no_member k) ∙ append-nil (members_before ss i k)
 
-    choice_stays : (symbols : List Symbol) (j : ℕ) → choice_before ss symbols after j ≡ choice_before ss symbols i j
-    choice_stays symbols j = ap (λ (l : List SymId). record (choice_before ss symbols i j) { members = l }) (members_stay (choice_number ss j))
+    choice_stays : (j : ℕ) → choice_before ss after j ≡ choice_before ss i j
+    choice_stays j = ap (λ (l : List SymId). record (choice_before ss i j) { members = l }) (members_stay (choice_number ss j))
 
-    pub choices_stay : (symbols : List Symbol) (ks : List ℕ) → map (choice_before ss symbols after) ks ≡ map (choice_before ss symbols i) ks
-    choices_stay symbols ks = map_alike (choice_before ss symbols after) (choice_before ss symbols i) ks (λ n j e. choice_stays symbols j)
+    pub choices_stay : (ks : List ℕ) → map (choice_before ss after) ks ≡ map (choice_before ss i) ks
+    choices_stay ks = map_alike (choice_before ss after) (choice_before ss i) ks (λ n j e. choice_stays j)
 
-    pub no_choice_passed : (symbols : List Symbol) → of_block ss block.Choice i ≡ false → choices_before ss symbols after ≡ choices_before ss symbols i
-    no_choice_passed symbols o =
-        ap (map (choice_before ss symbols after))
+    pub no_choice_passed : of_block ss block.Choice i ≡ false → choices_before ss after ≡ choices_before ss i
+    no_choice_passed o =
+        ap (map (choice_before ss after))
         (blocks_passed ss i head own h block.Choice ∙ ap (λ (b : Bool). filter (of_block ss block.Choice) (numbers i) ++ (if b then i ∷ [] else [])) o
         ∙ append-nil (filter (of_block ss block.Choice) (numbers i)))
-        ∙ choices_stay symbols (filter (of_block ss block.Choice) (numbers i))
+        ∙ choices_stay (filter (of_block ss block.Choice) (numbers i))
 
-    pub choice_passed : (symbols : List Symbol) → of_block ss block.Choice i ≡ true → choices_before ss symbols after ≡ choices_before ss symbols i ++ choice_before ss symbols i i ∷ []
-    choice_passed symbols o =
-        ap (map (choice_before ss symbols after))
+    pub choice_passed : of_block ss block.Choice i ≡ true → choices_before ss after ≡ choices_before ss i ++ choice_before ss i i ∷ []
+    choice_passed o =
+        ap (map (choice_before ss after))
         (blocks_passed ss i head own h block.Choice ∙ ap (λ (b : Bool). filter (of_block ss block.Choice) (numbers i) ++ (if b then i ∷ [] else [])) o)
-        ∙ choices_stay symbols (filter (of_block ss block.Choice) (numbers i) ++ i ∷ [])
-        ∙ map-append (choice_before ss symbols i) (filter (of_block ss block.Choice) (numbers i)) (i ∷ [])
+        ∙ choices_stay (filter (of_block ss block.Choice) (numbers i) ++ i ∷ [])
+        ∙ map-append (choice_before ss i) (filter (of_block ss block.Choice) (numbers i)) (i ∷ [])
 
   pub main_menu_stays : title_of head ≡ None → main_menu_before ss after ≡ main_menu_before ss i
   main_menu_stays none =
@@ -141,7 +140,7 @@ module _ (ss : List Numbered) (i : ℕ) (head : Numbered) (own : List Numbered) 
       (titles_passed ss i head own h ∙ ap (λ (o : Option (List ℕ)). filter_map title_of (take i ss) ++ cons_option o []) none ∙ append-nil (filter_map title_of (take i ss)))
 
   -- What such an entry does to the walk.
-  module _ (symbols : List Symbol) (old new : EntryWalk) where
+  module _ (old new : EntryWalk) where
     pub record Passes : Type 0 where
       pub contexts : Extends old.tables.contexts new.tables.contexts
       pub few_contexts : length new.tables.contexts ≤ length old.tables.contexts + 2 * length own + 2
@@ -150,7 +149,7 @@ module _ (ss : List Numbered) (i : ℕ) (head : Numbered) (own : List Numbered) 
       pub ranges : new.tables.ranges ≡ old.tables.ranges
       pub selector_rows : new.tables.selector_rows ≡ old.tables.selector_rows
       pub blocks : AreOpen ss (suc i) new.tables.contexts new.blocks
-      pub choices : map (choice_in new.tables) new.tables.choices.items ≡ choices_before ss symbols (index_after i own)
+      pub choices : map (choice_in new.tables) new.tables.choices.items ≡ choices_before ss (index_after i own)
       pub few_choices : length new.tables.choices.items ≤ length old.tables.choices.items + 1
       pub titles_more : List Title
       pub titles : new.tables.titles.items ≡ old.tables.titles.items ++ titles_more
@@ -163,7 +162,7 @@ module _ (ss : List Numbered) (i : ℕ) (head : Numbered) (own : List Numbered) 
       pub shown : map (shown_of new.tables) entries_more ≡ cons_option (shown_at ss i (Some head)) []
       pub main_menu : new.main_menu.items ≡ main_menu_before ss (index_after i own)
 
-    module _ (w : IsWalk ss symbols i old) (p : Passes) (none : symbol_of (Some head) ≡ None) where
+    module _ (count : ℕ) (w : IsWalk ss count i old) (p : Passes) (none : symbol_of (Some head) ≡ None) where
       say_same : (k : ℕ) (d : Definition) → slice_get old.tables.definitions.items k ≡ Some d → definition_facts new.tables d ≡ definition_facts old.tables d
       say_same = definition_extends_same old.tables new.tables p.contexts (ap (λ v. v.items) p.defaults) (ap (λ v. v.items) p.ranges)
 
@@ -223,7 +222,7 @@ module _ (ss : List Numbered) (i : ℕ) (head : Numbered) (own : List Numbered) 
         choices = (let a = w.small.choices in let b = p.few_choices in omega arith);
       }
 
-      pub walk_passes : IsWalk ss symbols (index_after i own) new
+      pub walk_passes : IsWalk ss count (index_after i own) new
       walk_passes = record {
         blocks = open_moves ss (suc i) after new.tables.contexts new.blocks (enclosing_passed ss i head own h) p.blocks;
         definitions = definitions_now;

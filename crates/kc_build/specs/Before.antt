@@ -1,14 +1,12 @@
 -- For proofs: What the entries before a place say.
-use Rattle.std.specs.Prelude.{ℕ, List, [], codes, filter, map, take, if◌then◌else◌, Option, Some, None, slice_get, unwrap_or}
-use Rattle.std.specs.Option.{option_and_then, option_map}
+use Rattle.std.specs.Prelude.{ℕ, List, codes, filter, map, take, Option, slice_get, unwrap_or}
+use Rattle.std.specs.Option.{option_map}
 use Rattle.std.specs.List.{filter_map, flat_map}
 use Rattle.kc_expr.specs.declared.expression.SymId.{SymId}
 use Rattle.kc_read.specs.Blocks.{attributes, last_of, numbers}
 use Rattle.kc_read.specs.Statements.{Numbered}
 use Rattle.kc_read.specs.declared.statement.Block.TheVariants as block
-use Rattle.kc_tree.specs.declared.rows.Symbol.{Symbol}
-use Rattle.kc_build.specs.Facts.{StatedDefault, can_be_target, choice_number, defaults_at, dependency, shown_at, stated_default, imply_of, is_member_index, guarded_symbol, naming_at, of_block, prompt_at, guarded_range, select_of, single_symbol, symbol_at, title_of}
-use Rattle.kc_build.specs.SymbolRows.{member_by}
+use Rattle.kc_build.specs.Facts.{StatedDefault, choice_number, defaults_at, dependency, shown_at, stated_default, imply_of, is_member_index, guarded_symbol, naming_at, of_block, prompt_at, guarded_range, select_of, single_symbol, symbol_at, title_of}
 use Rattle.kc_tree.specs.Layouts.{DefinitionFacts}
 use Rattle.kc_tree.specs.TreeFacts.{Guarded, ChoiceFacts, Shown}
 
@@ -31,27 +29,27 @@ module _ (ss : List Numbered) where
 
   -- the lines before a place that select a symbol; that imply it
   abbrev pub selectors_before : ℕ → SymId → List (Guarded SymId)
-  selectors_before i t = if can_be_target ss t then flat_map (naming_at ss (select_of t)) (numbers i) else []
+  selectors_before i t = flat_map (naming_at ss (select_of t)) (numbers i)
 
   abbrev pub impliers_before : ℕ → SymId → List (Guarded SymId)
-  impliers_before i t = if can_be_target ss t then flat_map (naming_at ss (imply_of t)) (numbers i) else []
+  impliers_before i t = flat_map (naming_at ss (imply_of t)) (numbers i)
 
-  -- the choices that open before a place, with their members before it; what is a member is said by the symbols
+  -- the choices that open before a place, with their members before it, and with each default that names a symbol
   abbrev pub members_before : ℕ → ℕ → List SymId
   members_before i k = filter_map (symbol_at ss) (filter (is_member_index ss k) (numbers i))
 
-  abbrev pub default_by : List Symbol → ℕ → StatedDefault → Option (Guarded SymId)
-  default_by symbols j g = option_and_then (λ s. if member_by symbols (choice_number ss j) s then Some (guarded_symbol ss j s g.when) else None) (single_symbol g.value)
+  abbrev pub named_default : ℕ → StatedDefault → Option (Guarded SymId)
+  named_default j g = option_map (λ s. guarded_symbol ss j s g.when) (single_symbol g.value)
 
-  abbrev pub choice_before : List Symbol → ℕ → ℕ → ChoiceFacts
-  choice_before symbols i j = record {
+  abbrev pub choice_before : ℕ → ℕ → ChoiceFacts
+  choice_before i j = record {
     prompt = prompt_at ss j;
-    defaults = filter_map (default_by symbols j) (filter_map stated_default (attributes ss j));
+    defaults = filter_map (named_default j) (filter_map stated_default (attributes ss j));
     members = members_before i (choice_number ss j);
   }
 
-  abbrev pub choices_before : List Symbol → ℕ → List ChoiceFacts
-  choices_before symbols i = map (choice_before symbols i) (filter (of_block ss block.Choice) (numbers i))
+  abbrev pub choices_before : ℕ → List ChoiceFacts
+  choices_before i = map (choice_before i) (filter (of_block ss block.Choice) (numbers i))
 
   -- the entries before a place
   abbrev pub entries_before : ℕ → List Shown

@@ -1,5 +1,5 @@
 -- For proofs: What the attributes of an entry give to the tables.
-use Rattle.std.specs.Prelude.{ℕ, List, Option, Some, None, if◌then◌else◌}
+use Rattle.std.specs.Prelude.{ℕ, Option, Some, None}
 use Rattle.std.specs.Option.{option_map, option_and_then}
 use Rattle.kc_expr.specs.declared.expression.SymId.{SymId}
 use Rattle.kc_expr.specs.Form.{Form, Leaf}
@@ -7,9 +7,7 @@ use Rattle.kc_expr.specs.When.{when_view}
 use Rattle.kc_read.specs.Statements.{Numbered, RangeLine}
 use Rattle.kc_tree.specs.declared.rows.ChoiceDefault.{ChoiceDefault}
 use Rattle.kc_tree.specs.declared.rows.EntryPrompt.{EntryPrompt}
-use Rattle.kc_tree.specs.declared.rows.Symbol.{Symbol}
 use Rattle.kc_build.specs.Facts.{StatedDefault, stated_default, single_symbol}
-use Rattle.kc_build.specs.SymbolRows.{member_by}
 pub use Rattle.kc_tree.specs.OwnRows.{default_row, range_row}
 
 -- a prompt by the number of its context; a choice's default
@@ -27,8 +25,8 @@ abbrev pub range_line : Numbered → Option (Leaf × Leaf × Option Form)
 range_line (RangeLine a b w) = Some (a, b, w)
 range_line _ = None
 
-abbrev pub named_line : List Symbol → ℕ → StatedDefault → Option (SymId × Option Form)
-named_line symbols k g = option_and_then (λ s. if member_by symbols k s then Some (s, g.when) else None) (single_symbol g.value)
+abbrev pub named_symbol : StatedDefault → Option (SymId × Option Form)
+named_symbol g = option_map (λ s. (s, g.when)) (single_symbol g.value)
 
-abbrev pub member_line : List Symbol → ℕ → Numbered → Option (SymId × Option Form)
-member_line symbols k s = option_and_then (named_line symbols k) (stated_default s)
+abbrev pub named_line : Numbered → Option (SymId × Option Form)
+named_line s = option_and_then named_symbol (stated_default s)

@@ -9,7 +9,7 @@ pub mod SymbolRows
 pub mod WholeListRefusals
 pub mod Limits
 pub mod Listings
-pub mod Odd
+pub mod Quiet
 pub mod Passes
 pub mod SelectorRows
 pub mod Scopes
@@ -21,3 +21,6 @@ pub mod Trees
 pub mod WalkSteps
 pub mod Walks
 pub mod Warnings
+pub mod ChoiceRows
+pub mod Suspected
+pub mod Walked

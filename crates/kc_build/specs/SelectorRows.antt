@@ -4,6 +4,7 @@ use Rattle.std.specs.Option.{option_map}
 use Rattle.std.specs.List.{filter_map, flat_map}
 use Rattle.kc_expr.specs.declared.expression.SymId.{SymId}
 use Rattle.kc_expr.specs.Form.{Form}
+use Rattle.kc_expr.specs.Names.{symbol}
 use Rattle.kc_expr.specs.When.{when_view}
 use Rattle.kc_read.specs.Statements.{Numbered}
 use Rattle.kc_build.specs.declared.lines.SelectOrImply.{SelectOrImply}
@@ -38,12 +39,12 @@ same_selectors select_or_imply.Imply select_or_imply.Imply = true
 same_selectors _ _ = false
 
 -- what a line of a definition adds to those of one word that name a symbol
-abbrev pub added_line : List Symbol → DefinitionId → SelectOrImply → ℕ → SelectOrImply × SymId × Option Form → List (ℕ × Option Form)
-added_line symbols source word s t =
-    if same_selectors word t.0 && ((t.1.0 == s) && can_be_target symbols t.1) then (source.0, t.2) ∷ [] else []
+abbrev pub added_line : DefinitionId → SelectOrImply → ℕ → SelectOrImply × SymId × Option Form → List (ℕ × Option Form)
+added_line source word s t =
+    if same_selectors word t.0 && (t.1.0 == s) then (source.0, t.2) ∷ [] else []
 
-abbrev pub added_lines : List Symbol → DefinitionId → SelectOrImply → ℕ → List Numbered → List (ℕ × Option Form)
-added_lines symbols source word s own = flat_map (λ l. flat_map (added_line symbols source word s) (listed (target_of l))) own
+abbrev pub added_lines : DefinitionId → SelectOrImply → ℕ → List Numbered → List (ℕ × Option Form)
+added_lines source word s own = flat_map (λ l. flat_map (added_line source word s) (listed (target_of l))) own
 
 -- each line stands in a definition below this number
 abbrev pub HaveSources : ℕ → List Selector → Type 0
@@ -53,18 +54,23 @@ HaveSources n = All (λ (r : Selector). r.source.0 < n)
 abbrev pub KeepSources : ℕ → List Selector → List Selector → Type 0
 KeepSources source old new = (n : ℕ) → source < n → HaveSources n old → HaveSources n new
 
--- one line more, where it has an effect
-pub record IsAdded (symbols : List Symbol) (source : DefinitionId) (old : SelectorRows) (t : SelectOrImply × SymId × Option Form) (new : SelectorRows) : Type 0 where
-  pub selects : (s : ℕ) → selects_of new s ≡ selects_of old s ++ added_line symbols source select_or_imply.Select s t
-  pub implies : (s : ℕ) → implies_of new s ≡ implies_of old s ++ added_line symbols source select_or_imply.Imply s t
+-- one line more, as the symbols of the tables see it
+pub record IsAdded (source : DefinitionId) (old : SelectorRows) (t : SelectOrImply × SymId × Option Form) (new : SelectorRows) : Type 0 where
+  pub selects : (s : ℕ) → s < length old.selects.items → selects_of new s ≡ selects_of old s ++ added_line source select_or_imply.Select s t
+  pub implies : (s : ℕ) → s < length old.selects.items → implies_of new s ≡ implies_of old s ++ added_line source select_or_imply.Imply s t
   pub few : length new.lines.items ≤ length old.lines.items + 1
   pub count : length new.selects.items ≡ length old.selects.items
   pub same : length new.implies.items ≡ length old.implies.items
 
 -- those of a definition with these attributes
-pub record AreAdded (symbols : List Symbol) (source : DefinitionId) (old : SelectorRows) (own : List Numbered) (new : SelectorRows) : Type 0 where
-  pub selects : (s : ℕ) → selects_of new s ≡ selects_of old s ++ added_lines symbols source select_or_imply.Select s own
-  pub implies : (s : ℕ) → implies_of new s ≡ implies_of old s ++ added_lines symbols source select_or_imply.Imply s own
+pub record AreAdded (source : DefinitionId) (old : SelectorRows) (own : List Numbered) (new : SelectorRows) : Type 0 where
+  pub selects : (s : ℕ) → s < length old.selects.items → selects_of new s ≡ selects_of old s ++ added_lines source select_or_imply.Select s own
+  pub implies : (s : ℕ) → s < length old.selects.items → implies_of new s ≡ implies_of old s ++ added_lines source select_or_imply.Imply s own
   pub few : length new.lines.items ≤ length old.lines.items + length own
   pub count : length new.selects.items ≡ length old.selects.items
   pub same : length new.implies.items ≡ length old.implies.items
+
+-- the last line of a word that names each symbol, where the symbol is such that the line has an effect
+abbrev pub AreTargetHeads : List Symbol → List (Option SelectorId) → List (Option SelectorId) → Type 0
+AreTargetHeads symbols old new =
+    (s : ℕ) → s < length symbols → slice_index_or new s None ≡ (if can_be_target symbols (symbol s) then slice_index_or old s None else None)

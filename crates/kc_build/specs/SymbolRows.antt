@@ -1,4 +1,4 @@
--- For proofs: What the first walk finds of symbols, and the warnings about lines by it.
+-- For proofs: What is found of symbols, and the warnings about lines by it.
 use Rattle.std.specs.Prelude.{◌≡◌, ℕ, ◌<◌, List, map, length, Option, Some, None, slice_get, option_map, unwrap_or, ◌==◌, ◌&&◌, nat_lt, is_none, is_some, Bool, true}
 use Rattle.std.specs.List.{filter_map, list_any}
 use Rattle.std.specs.Option.{option_and_then}
@@ -35,7 +35,7 @@ AreChoicesApart ss = (i : ℕ) → slice_get ss i ≡ Some ChoiceLine → enclos
 abbrev pub AreMenusOpened : List Numbered → Type 0
 AreMenusOpened ss = (i : ℕ) → slice_get ss i ≡ Some EndMenuLine → is_some (enclosing_block ss i) ≡ true
 
--- What the first walk finds of a symbol: its type, its choice and the numbers of its definitions.
+-- What is found of a symbol: its type, its choice and the numbers of its definitions.
 pub record SymbolRow : Type 0 where
   pub symbol_type : SymbolType
   pub choice : Option ℕ
@@ -64,11 +64,10 @@ row_of ss s = record {
 abbrev pub AreSymbols : List Numbered → List Symbol → Type 0
 AreSymbols ss symbols = map row_view symbols ≡ map (row_of ss) (numbers (length symbols))
 
--- a list that is walked over whole, and the symbols that are known of it
+-- the symbols of a list that was walked over whole, with a row for each that is defined
 pub record HasSymbols (ss : List Numbered) (symbols : List Symbol) : Type 0 where
   pub symbols_are : AreSymbols ss symbols
   pub below : AreBelow (length symbols) ss
-  pub ends : AreMenusOpened ss
 
 -- the choice and the type of a symbol, by what is known of the symbols
 abbrev pub choice_by : List Symbol → SymId → Option ℕ
@@ -85,9 +84,9 @@ member_by symbols c s = list_any (λ d. d == c) (listed (choice_by symbols s))
 abbrev pub can_be_target : List Symbol → SymId → Bool
 can_be_target symbols s = nat_lt s.0 (length symbols) && (is_none (choice_by symbols s) && is_selectable (type_by symbols s))
 
--- the first definition of a symbol has this number, by the same
-abbrev pub first_by : List Symbol → SymId → ℕ → Bool
-first_by symbols s n = list_any (λ (d : DefinitionId). d.0 == n) (listed (option_and_then (λ (f : Symbol). slice_get (definition_ids f) 0) (slice_get symbols s.0)))
+-- the symbol is there and has no definition yet, by the same
+abbrev pub is_new_by : List Symbol → SymId → Bool
+is_new_by symbols s = list_any (λ (f : Symbol). is_none (slice_get (definition_ids f) 0)) (listed (slice_get symbols s.0))
 
 -- the summary of the entry at a place
 pub record IsEntrySummary (ss : List Numbered) (i : ℕ) (p : EntrySummary) : Type 0 where

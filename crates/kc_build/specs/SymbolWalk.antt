@@ -1,15 +1,17 @@
--- For proofs: The first walk, entry by entry.
-use Rattle.std.specs.Prelude.{◌≡◌, ℕ, ◌+◌, List, [], ◌∷◌, ◌++◌, map, if◌then◌else◌, is_some, Option, Some, None, slice_get, unwrap_or}
+-- For proofs: The rows of the symbols, entry by entry.
+use Rattle.std.specs.Prelude.{◌≡◌, ℕ, List, [], ◌∷◌, ◌++◌, filter, length, map, if◌then◌else◌, is_some, Option, Some, None, unwrap_or}
+use Rattle.std.specs.List.{filter_map}
 use Rattle.std.specs.Option.{option_or}
 use Rattle.kc_expr.specs.declared.expression.SymbolType.{SymbolType}
 use Rattle.kc_expr.specs.declared.expression.SymbolType.TheVariants as symbol_type
 use Rattle.kc_expr.specs.declared.expression.SymId.{SymId}
-use Rattle.kc_read.specs.Blocks.{enclosing}
+use Rattle.kc_expr.specs.Names.{symbol}
+use Rattle.kc_read.specs.Blocks.{attributes, numbers}
 use Rattle.kc_read.specs.Statements.{Numbered}
-use Rattle.kc_tree.specs.Contexts.{mode_view}
-use Rattle.kc_build.specs.declared.symbols.ChoiceScope.{ChoiceScope}
-use Rattle.kc_build.specs.Facts.{choice_number, enclosing_choice}
-use Rattle.kc_build.specs.SymbolRows.{SymbolRow, definition_number}
+use Rattle.kc_tree.specs.Common.{is_symbol_of}
+use Rattle.kc_tree.specs.declared.rows.Symbol.{Symbol}
+use Rattle.kc_build.specs.Facts.{enclosing_choice, first_of, symbol_at, stated_type}
+use Rattle.kc_build.specs.SymbolRows.{SymbolRow, definition_number, row_view}
 use Rattle.kc_build.specs.Passes.{changed}
 
 -- a symbol of which nothing is known
@@ -39,13 +41,26 @@ with_member_type r = record r { symbol_type = first_given_type r.symbol_type (if
 abbrev pub HaveMemberTypes : List SymbolRow → List SymbolRow → Type 0
 HaveMemberTypes old new = new ≡ map with_member_type old
 
--- the scope of a place, with the choices and definitions before it
-pub record IsScopeAt (ss : List Numbered) (i : ℕ) (r : ChoiceScope) : Type 0 where
-  pub choice : mode_view r.choice ≡ enclosing_choice ss i
-  pub outside : map mode_view r.outside.items ≡ map (enclosing_choice ss) (enclosing ss i)
-  pub choices : r.choices ≡ choice_number ss i
-  pub definitions : r.definitions ≡ definition_number ss i
+module _ (ss : List Numbered) where
+  -- the definitions of a symbol before a place
+  abbrev pub defined_before : ℕ → ℕ → List ℕ
+  defined_before i s = filter (λ j. is_symbol_of (symbol s) (symbol_at ss j)) (numbers i)
 
--- and of the place behind a line, in each list in which that line stands there
-abbrev pub IsPassed : ChoiceScope → Numbered → ChoiceScope → Type 0
-IsPassed old s new = (ss : List Numbered) (i : ℕ) → slice_get ss i ≡ Some s → IsScopeAt ss i old → IsScopeAt ss (i + 1) new
+  -- the first type that the entry at a place gives
+  abbrev pub entry_type : ℕ → Option SymbolType
+  entry_type j = first_of (filter_map stated_type (attributes ss j))
+
+  -- what definitions at these places say of a symbol, and those before a place
+  abbrev pub row_by : List ℕ → SymbolRow
+  row_by ds = record {
+    symbol_type = unwrap_or (first_of (filter_map entry_type ds)) symbol_type.Undefined;
+    choice = first_of (filter_map (enclosing_choice ss) ds);
+    definitions = map (definition_number ss) ds;
+  }
+
+  abbrev pub row_before : ℕ → ℕ → SymbolRow
+  row_before i s = row_by (defined_before i s)
+
+  -- the rows of the symbols, as the entries before a place have them
+  abbrev pub AreRowsBefore : ℕ → List Symbol → Type 0
+  AreRowsBefore i symbols = map row_view symbols ≡ map (row_before i) (numbers (length symbols))

@@ -1,10 +1,12 @@
 -- For proofs: What the tables say when all lines were gone over, and what the lines have against them.
-use Rattle.std.specs.Prelude.{◌≡◌, ◌<◌, ◌≤◌, ◌+◌, ◌*◌, ◌^◌, ℕ, List, [], All, Some, None, filter, map, length, nat_lt, slice_get}
-use Rattle.std.specs.List.{flat_map}
+use Rattle.std.specs.Prelude.{◌≡◌, ◌<◌, ◌≤◌, ◌+◌, ◌*◌, ◌^◌, ℕ, List, [], All, Option, Some, None, filter, if◌then◌else◌, map, length, nat_lt, slice_get}
+use Rattle.std.specs.List.{filter_map, flat_map}
+use Rattle.std.specs.Option.{option_and_then}
 use Rattle.std.specs.declared.alloc.Global.{Global}
 use Rattle.std.specs.declared.vec.Vec.{Vec}
 use Rattle.kc_expr.specs.Names.{symbol}
-use Rattle.kc_read.specs.Blocks.{numbers}
+use Rattle.kc_expr.specs.declared.expression.SymId.{SymId}
+use Rattle.kc_read.specs.Blocks.{attributes, numbers}
 use Rattle.kc_read.specs.Statements.{Numbered, Located, statements}
 use Rattle.kc_read.specs.declared.refusal.Code.TheVariants as code
 use Rattle.kc_build.specs.declared.diagnostics.Diagnostics.{Diagnostics}
@@ -15,12 +17,13 @@ use Rattle.kc_tree.specs.declared.rows.ShownEntry.TheVariants as entry
 use Rattle.kc_tree.specs.declared.rows.RowSpan.{RowSpan}
 use Rattle.kc_tree.specs.declared.rows.Symbol.{Symbol}
 use Rattle.kc_tree.specs.declared.rows.Title.{Title}
-use Rattle.kc_build.specs.Before.{choices_before, definitions_before, entries_before, impliers_before, main_menu_before, selectors_before}
+use Rattle.kc_build.specs.Before.{definitions_before, entries_before, main_menu_before}
 use Rattle.kc_build.specs.Diagnosed.{diagnosis_view}
-use Rattle.kc_build.specs.Facts.{first_of}
+use Rattle.kc_build.specs.Facts.{StatedDefault, choice_lines, choice_number, first_of, guarded_symbol, impliers_of, members_of, prompt_at, selectors_of, single_symbol, stated_default}
+use Rattle.kc_build.specs.SymbolRows.{member_by}
 use Rattle.kc_tree.specs.Layouts.{choice_facts as choice_in, definition_facts, impliers_at, selectors_at, shown_of}
 use Rattle.kc_build.specs.SelectorRows.{HaveSources}
-use Rattle.kc_tree.specs.TreeFacts.{Condition}
+use Rattle.kc_tree.specs.TreeFacts.{ChoiceFacts, Condition, Guarded}
 use Rattle.kc_build.specs.Warnings.{bad_defaults, bad_members, refused_at, warned_at}
 
 -- no table has more rows than twice the lines before a place, and one
@@ -69,10 +72,10 @@ pub record HasRoom (n : ℕ) (t : Tables) : Type 0 where
   pub choices : length t.choices.items + 1 < 2 ^ 32
   pub entries : length t.entries.items + 1 < 2 ^ 32
 
--- a last line of each kind, or none, for each symbol
-pub record HasHeads (symbols : List Symbol) (t : Tables) : Type 0 where
-  pub selects : length t.selector_rows.selects.items ≡ length symbols
-  pub implies : length t.selector_rows.implies.items ≡ length symbols
+-- a last line of each kind, or none, for each of so many symbols
+pub record HasHeads (count : ℕ) (t : Tables) : Type 0 where
+  pub selects : length t.selector_rows.selects.items ≡ count
+  pub implies : length t.selector_rows.implies.items ≡ count
 
 -- what the lines before a place have against them
 pub record IsDiagnosed (names : List (List ℕ)) (ls : List (Located Numbered)) (i : ℕ) (d : Diagnostics) : Type 0 where
@@ -84,11 +87,23 @@ pub record IsDiagnosed (names : List (List ℕ)) (ls : List (Located Numbered)) 
 abbrev pub HasOnlyWarnings : Diagnostics → List (Vec ℕ Global) → Type 0
 HasOnlyWarnings d warnings = (d.bad_member ≡ None) × (d.bad_default ≡ None) × (warnings ≡ d.warnings.items)
 
+-- the choice that begins at a place, where a default counts if it names a member by what is known of the symbols
+module _ (ss : List Numbered) (symbols : List Symbol) where
+  abbrev pub default_by : ℕ → StatedDefault → Option (Guarded SymId)
+  default_by j g = option_and_then (λ s. if member_by symbols (choice_number ss j) s then Some (guarded_symbol ss j s g.when) else None) (single_symbol g.value)
+
+  abbrev pub choice_by : ℕ → ChoiceFacts
+  choice_by j = record {
+    prompt = prompt_at ss j;
+    defaults = filter_map (default_by j) (filter_map stated_default (attributes ss j));
+    members = members_of ss (choice_number ss j);
+  }
+
 -- all that lines say
 pub record IsWalkResult (ss : List Numbered) (symbols : List Symbol) (t : Tables) (main_menu : List ℕ) : Type 0 where
   pub definitions : map (definition_facts t) t.definitions.items ≡ definitions_before ss (length ss)
-  pub selectors : (s : ℕ) → s < length symbols → selectors_at t s ≡ selectors_before ss (length ss) (symbol s)
-  pub impliers : (s : ℕ) → s < length symbols → impliers_at t s ≡ impliers_before ss (length ss) (symbol s)
-  pub choices : map (choice_in t) t.choices.items ≡ choices_before ss symbols (length ss)
+  pub selectors : (s : ℕ) → s < length symbols → selectors_at t s ≡ selectors_of ss (symbol s)
+  pub impliers : (s : ℕ) → s < length symbols → impliers_at t s ≡ impliers_of ss (symbol s)
+  pub choices : map (choice_in t) t.choices.items ≡ map (choice_by ss symbols) (choice_lines ss)
   pub entries : map (shown_of t) t.entries.items ≡ entries_before ss (length ss)
   pub main_menu_is : main_menu ≡ main_menu_before ss (length ss)

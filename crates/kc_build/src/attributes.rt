@@ -8,7 +8,7 @@ ghost use Rattle.kc_tree.specs.Common.{listed};
 ghost use Rattle.kc_tree.specs.Contexts.{condition_in};
 ghost use Rattle.kc_build.specs.Facts as facts;
 ghost use Rattle.kc_build.specs.Growth.{IsGrown, IsInside, Stands};
-ghost use Rattle.kc_build.specs.EntryLines.{prompt_line, default_line, range_line, member_line, choice_default_line, default_row, range_row};
+ghost use Rattle.kc_build.specs.EntryLines.{prompt_line, default_line, range_line, named_line, choice_default_line, default_row, range_row};
 ghost use Rattle.kc_build.specs.Passes.{statements_of};
 ghost use Rattle.kc_tree.specs.Layouts.{with_conjuncts};
 
@@ -16,15 +16,12 @@ use crate::blocks::BlockScope;
 use crate::lines::{
     depends_of, prompt_of, range_of, single_symbol, stated_default, stated_type, visible_of,
 };
-use crate::symbols::is_member;
 use kc_expr::expression::{SymbolType, shared_condition};
 use kc_read::entries::AttributeLine;
 use kc_read::statement;
 use kc_read::statement::Attribute;
 use kc_tree::contexts::Contexts;
-use kc_tree::rows::{
-    ChoiceDefault, ChoiceId, ContextId, EntryPrompt, RowSpan, Symbol, SymbolDefault, SymbolRange,
-};
+use kc_tree::rows::{ChoiceDefault, ContextId, EntryPrompt, RowSpan, SymbolDefault, SymbolRange};
 use std::alloc::{AllocError, Global};
 
 /// The first type that attributes give.
@@ -218,23 +215,19 @@ pub(crate) fn add_attributes(
     })
 }
 
-/// The defaults of a choice's entry that name a member of it.
+/// The defaults of a choice's entry that name a symbol, whether that is a member of the choice or not.
 pub(crate) fn choice_defaults(
     alloc: Global,
-    symbols: &[Symbol],
-    choice: ChoiceId,
     attributes: &[AttributeLine],
 ) -> Result<Vec<ChoiceDefault>, AllocError>
-    ensures { IfOk result (λ v. map choice_default_line v.items ≡ filter_map (member_line symbols.now choice.0) (statements_of attributes.now)) }
+    ensures { IfOk result (λ v. map choice_default_line v.items ≡ filter_map named_line (statements_of attributes.now)) }
 {
     let mut defaults = Vec::new(alloc);
     for line in attributes {
         if let Some(stated) = stated_default(&line.attribute) {
             if let Some(member) = single_symbol(&stated.value) {
-                if is_member(symbols, choice, member) {
-                    let when = shared_condition(stated.when.as_ref())?;
-                    defaults.push(ChoiceDefault { member, when })?;
-                }
+                let when = shared_condition(stated.when.as_ref())?;
+                defaults.push(ChoiceDefault { member, when })?;
             }
         }
     }

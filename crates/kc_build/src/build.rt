@@ -14,9 +14,9 @@ ghost use Rattle.kc_build.specs.Passes.{statements_in};
 ghost use Rattle.kc_build.specs.SymbolRows.{AreBelow, AreChoicesApart, AreMenusOpened, AreTypesDefined};
 ghost use Rattle.kc_build.specs.Trees.{IsTreeOf, modules_symbol, symbol_if, tree_with};
 
-use crate::entries::{WalkResult, walk_entries};
+use crate::entries::walk_entries;
 use crate::listing::{Listing, read_listing};
-use crate::symbols::symbols;
+use crate::settle::{Settled, settle};
 use kc_expr::expression::SymId;
 use kc_expr::names::Names;
 use kc_read::entries::Entries;
@@ -77,12 +77,13 @@ fn build_parts(
 {
     let count = names.count();
     check_names(count)?;
-    let symbols = symbols(alloc, entries, count)?;
-    let WalkResult {
+    let walked = walk_entries(alloc, entries, count, defined.len())?;
+    let Settled {
+        symbols,
         tables,
         main_menu,
         diagnostics,
-    } = walk_entries(alloc, names, entries, &symbols, defined.len())?;
+    } = settle(alloc, names, entries, walked)?;
     let modules = if_defined(&defined, modules);
     match diagnostics.into_warnings() {
         Err(refusal) => Ok(Err(refusal)),

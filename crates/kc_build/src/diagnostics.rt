@@ -1,14 +1,12 @@
 //! The warnings about the lines of a tree, and the refusals that the whole list of them shows.
 
-ghost use Rattle.std.specs.Prelude.{◌≡◌, ◌++◌, [], None, false, map, option_map, IfOk, OnOk, MatchResult, Some};
+ghost use Rattle.std.specs.Prelude.{◌≡◌, ◌++◌, ◌||◌, [], None, false, is_some, map, option_map, IfOk, OnOk, MatchResult, Some};
 ghost use Rattle.std.specs.List.{list_any};
 ghost use Rattle.std.specs.Option.{option_or};
-ghost use Rattle.kc_expr.specs.Form.{form_of};
 ghost use Rattle.kc_read.specs.Entries.{attribute_line, first_line, own_lines};
 ghost use Rattle.kc_read.specs.StatementViews.{attribute_view, head_view};
 ghost use Rattle.kc_read.specs.RefusalView.{refusal_view};
 ghost use Rattle.kc_build.specs.Diagnosed.{IsLineDiagnosed, AreLinesDiagnosed};
-ghost use Rattle.kc_build.specs.Odd as odd;
 ghost use Rattle.kc_build.specs.WalkResult.{HasOnlyWarnings};
 ghost use Rattle.kc_build.specs.Facts as facts;
 ghost use Rattle.kc_tree.specs.Common.{listed};
@@ -21,7 +19,7 @@ use crate::lines::{
 };
 use crate::symbols::{choice_of, has_text, is_member, type_of};
 use crate::warning::{Place, Warning, entry_name, line_of};
-use kc_expr::expression::{Expr, SymId, SymbolType};
+use kc_expr::expression::{SymId, SymbolType};
 use kc_expr::names::Names;
 use kc_read::entries::{Entry, EntryLines};
 use kc_read::refusal::{Code, Refusal};
@@ -94,6 +92,13 @@ fn prompt_redefined(attribute: &Attribute, entry: MenuEntry, prompted: bool) -> 
     (prompt_of(attribute).is_some() && prompted).then_some(Warning::PromptRedefined(entry_symbol(
         entry,
     )))
+}
+
+/// Whether a prompt stands among the lines of an entry up to this one; `prompted` says so of those before it.
+pub(crate) fn is_prompted(prompted: bool, attribute: &Attribute) -> bool
+    ensures { result ≡ (prompted || is_some (facts.prompt_of (attribute_view attribute.now))) }
+{
+    prompted || prompt_of(attribute).is_some()
 }
 
 // The symbol has a type, or is a member of a choice.
@@ -228,81 +233,6 @@ fn is_bad_default(attribute: &Attribute, entry: MenuEntry, symbols: &[Symbol]) -
                 || (entry_choice(entry).is_some() && single_symbol(&stated.value).is_none())
         }
         None => false,
-    }
-}
-
-// A type that is not that of the symbol whose entry it is.
-fn is_other_type(symbol_type: SymbolType, entry: MenuEntry, symbols: &[Symbol]) -> bool
-    ensures { result ≡ odd.is_other_type symbols.now entry symbol_type }
-{
-    match entry_symbol(entry) {
-        Some(symbol) => symbol_type != type_of(symbols, symbol),
-        None => false,
-    }
-}
-
-// A default of a choice, or one that a symbol whose value is a text may not have.
-fn is_odd_default(value: &Expr, entry: MenuEntry, symbols: &[Symbol]) -> bool
-    ensures { result ≡ odd.is_odd_default symbols.now entry (form_of value.now) }
-{
-    match entry {
-        MenuEntry::Symbol(symbol) => has_text(type_of(symbols, symbol)) && !is_single(value),
-        MenuEntry::Choice(_) => true,
-        MenuEntry::Other => false,
-    }
-}
-
-// A symbol that no line should select or imply: a member of a choice, or one whose value is a text.
-fn is_odd_target(symbol: SymId, symbols: &[Symbol]) -> bool
-    ensures { result ≡ odd.is_odd_target symbols.now symbol }
-{
-    match symbols.get(symbol.0) {
-        Some(found) => found.choice.is_some() || has_text(found.symbol_type),
-        None => false,
-    }
-}
-
-// Whether there may be a diagnostic about the line that begins an entry. Of most there is none.
-#[inline(always)]
-fn is_odd_head(head: &Head, summary: EntrySummary, symbols: &[Symbol]) -> bool
-    ensures { result ≡ odd.is_odd_head symbols.now summary (head_view head.now) }
-{
-    match head {
-        Head::Config(symbol) => match symbols.get(symbol.0) {
-            Some(found) => {
-                found.choice.is_some()
-                    || summary.within_choice.is_some()
-                    || found.symbol_type == SymbolType::Undefined
-            }
-            None => true,
-        },
-        _ => true,
-    }
-}
-
-// Whether there may be a diagnostic about an attribute. Of most there is none.
-#[inline(always)]
-fn is_odd_attribute(
-    attribute: &Attribute,
-    entry: MenuEntry,
-    prompted: bool,
-    symbols: &[Symbol],
-) -> bool
-    ensures { result ≡ odd.is_odd_attribute symbols.now entry prompted (attribute_view attribute.now) }
-{
-    match attribute {
-        Attribute::Type(symbol_type, prompt) => {
-            (prompt.is_some() && prompted) || is_other_type(*symbol_type, entry, symbols)
-        }
-        Attribute::Prompt(_) => prompted,
-        Attribute::Default(stated) => is_odd_default(&stated.value, entry, symbols),
-        Attribute::Def(symbol_type, stated) => {
-            is_other_type(*symbol_type, entry, symbols)
-                || is_odd_default(&stated.value, entry, symbols)
-        }
-        Attribute::Select(symbol, _) => is_odd_target(*symbol, symbols),
-        Attribute::Imply(symbol, _) => is_odd_target(*symbol, symbols),
-        _ => false,
     }
 }
 
@@ -505,19 +435,13 @@ impl Diagnostics {
         ensures { OnOk result (AreLinesDiagnosed names.now symbols.now summary (first_line lines.entry.first.now) (own_lines lines.entry.first.now lines.entry.attributes.now) self.old self.new) }
     {
         let first = lines.first;
-        if is_odd_head(&first.head, summary, symbols) {
-            self.diagnose_head(alloc, names, symbols, summary, first)?;
-        }
+        self.diagnose_head(alloc, names, symbols, summary, first)?;
         let mut prompted = false;
         for line in lines.attributes {
             let attribute = &line.attribute;
-            if is_odd_attribute(attribute, summary.entry, prompted, symbols) {
-                let place = place_in(first, line.line);
-                self.diagnose_attribute(
-                    alloc, names, symbols, summary, prompted, place, attribute,
-                )?;
-            }
-            prompted = prompted || prompt_of(attribute).is_some();
+            let place = place_in(first, line.line);
+            self.diagnose_attribute(alloc, names, symbols, summary, prompted, place, attribute)?;
+            prompted = is_prompted(prompted, attribute);
         }
         Ok(())
     }

@@ -15,7 +15,10 @@ pub mod laws;
 mod lines;
 mod listing;
 mod selectors;
+mod settle;
+mod suspects;
 mod symbols;
+mod walk;
 mod warning;
 
 pub use build::{build_tree, tree_of};

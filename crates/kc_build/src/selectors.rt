@@ -3,7 +3,7 @@
 ghost use Rattle.std.specs.Prelude.{◌≡◌, ◌<◌, ◌+◌, ◌^◌, ◌++◌, ◌∷◌, [], None, Some, length, option_map, slice_index_or, slice_set, OnOk, OnErr};
 ghost use Rattle.kc_build.specs.SymbolRows.{can_be_target};
 ghost use Rattle.kc_build.specs.Passes.{statements_of};
-ghost use Rattle.kc_build.specs.SelectorRows.{IsAdded, AreAdded, KeepSources};
+ghost use Rattle.kc_build.specs.SelectorRows.{IsAdded, AreAdded, AreTargetHeads, KeepSources};
 ghost use Rattle.kc_expr.specs.Form.{form_of};
 
 use crate::lines::{SelectOrImply, Target, target_of};
@@ -49,20 +49,18 @@ fn add_line(
     Ok(())
 }
 
-// Adds a line of an entry, where it has an effect.
+// Adds a line of an entry, where it names a symbol of the tables.
 fn add_selector(
     selector_rows: &mut SelectorRows,
-    symbols: &[Symbol],
     source: DefinitionId,
     target: Target<'_>,
 ) -> Result<(), AllocError>
-    requires count { length selector_rows.old.selects.items ≡ length symbols.now }
-    requires same { length selector_rows.old.implies.items ≡ length symbols.now }
+    requires same { length selector_rows.old.implies.items ≡ length selector_rows.old.selects.items }
     requires few { length selector_rows.old.lines.items < 2 ^ 32 }
-    ensures added { OnOk result (IsAdded symbols.now source selector_rows.old (target.entry.word, target.entry.symbol, option_map (λ e. form_of e.now.value) target.entry.when) selector_rows.new) }
+    ensures added { OnOk result (IsAdded source selector_rows.old (target.entry.word, target.entry.symbol, option_map (λ e. form_of e.now.value) target.entry.when) selector_rows.new) }
     ensures sources { KeepSources source.0 selector_rows.old.lines.items selector_rows.new.lines.items }
 {
-    if !is_target(symbols, target.symbol) {
+    if target.symbol.0 >= selector_rows.selects.len() {
         return Ok(());
     }
     let when = shared_condition(target.when)?;
@@ -85,23 +83,37 @@ fn add_selector(
     }
 }
 
-/// Adds what the attributes of a definition select and imply.
+/// Adds what the attributes of a definition select and imply, whether that has an effect or not.
 pub(crate) fn add_selectors(
     selector_rows: &mut SelectorRows,
-    symbols: &[Symbol],
     source: DefinitionId,
     attributes: &[AttributeLine],
 ) -> Result<(), AllocError>
-    requires count { length selector_rows.old.selects.items ≡ length symbols.now }
-    requires same { length selector_rows.old.implies.items ≡ length symbols.now }
+    requires same { length selector_rows.old.implies.items ≡ length selector_rows.old.selects.items }
     requires few { length selector_rows.old.lines.items + length attributes.now < 2 ^ 32 }
-    ensures added { OnOk result (AreAdded symbols.now source selector_rows.old (statements_of attributes.now) selector_rows.new) }
+    ensures added { OnOk result (AreAdded source selector_rows.old (statements_of attributes.now) selector_rows.new) }
     ensures sources { KeepSources source.0 selector_rows.old.lines.items selector_rows.new.lines.items }
 {
     for line in attributes {
         if let Some(target) = target_of(&line.attribute) {
-            add_selector(selector_rows, symbols, source, target)?;
+            add_selector(selector_rows, source, target)?;
         }
     }
     Ok(())
+}
+
+/// Drops the lines that select and imply symbols on which they have no effect. The symbols are known whole.
+pub(crate) fn keep_targets(selector_rows: &mut SelectorRows, symbols: &[Symbol])
+    requires count { length selector_rows.old.selects.items ≡ length symbols.now }
+    requires same { length selector_rows.old.implies.items ≡ length symbols.now }
+    ensures lines { selector_rows.new.lines.items ≡ selector_rows.old.lines.items }
+    ensures selects { AreTargetHeads symbols.now selector_rows.old.selects.items selector_rows.new.selects.items }
+    ensures implies { AreTargetHeads symbols.now selector_rows.old.implies.items selector_rows.new.implies.items }
+{
+    for i in 0..symbols.len() {
+        if !is_target(symbols, SymId(i)) {
+            selector_rows.selects[i] = None;
+            selector_rows.implies[i] = None;
+        }
+    }
 }

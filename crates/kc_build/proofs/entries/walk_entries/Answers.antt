@@ -1,25 +1,43 @@
-use Rattle.std.proofs.Common.{◌+◌, ◌≤◌, length, sym, ◌∙◌, subst, arith}
+use Rattle.std.proofs.Common.{◌≡◌, ◌+◌, ◌≤◌, List, Option, Some, None, ap, refl, length, map, sym, ◌∙◌, subst, arith}
+use Rattle.std.specs.List.{filter_map}
+use Rattle.std.specs.declared.alloc.Global.{Global}
+use Rattle.std.specs.declared.vec.Vec.{Vec}
 use Rattle.std.proofs.lemmas.List.{length-map}
+use Rattle.kc_expr.specs.declared.expression.SymId.{SymId}
+use Rattle.kc_read.specs.declared.statement.Head.{Head}
+use Rattle.kc_read.specs.Blocks.{numbers}
+use Rattle.kc_read.specs.StatementViews.{head_view}
+use Rattle.kc_tree.specs.declared.rows.Symbol.{Symbol}
+use Rattle.kc_build.specs.Facts.{enclosing_choice, first_of, symbol_at, symbol_of, stated_type}
+use Rattle.kc_build.specs.Suspected.{AreSuspects}
+use Rattle.kc_build.specs.SymbolRows.{AreBelow, definition_number, row_view}
+use Rattle.kc_build.specs.SymbolWalk.{AreRowsBefore, entry_type, row_before, with_definition}
+use Rattle.kc_build.specs.WalkResult.{IsSmall}
 use Rattle.kc_read.specs.Entries.{lines_in}
-use Rattle.kc_build.specs.SymbolRows.{HasSymbols}
-use Rattle.kc_build.specs.Passes.{statements_in, statements_of}
-use Rattle.kc_build.specs.WalkResult.{IsDiagnosed}
+use Rattle.kc_build.specs.Passes.{changed, statements_in, statements_of}
 use Rattle.kc_build.specs.Walks.{IsWalk, index_after}
-use Rattle.kc_build.proofs.DiagnosedLemmas.{diagnosed_start}
-use Rattle.kc_build.proofs.EntryWalkLemmas.{at-end, at-next, at-start, head-is}
-use Rattle.kc_build.proofs.LineWalkLemmas.{diagnosed-next, modeless-head, walk-starts}
+use Rattle.kc_build.proofs.EntryWalkLemmas.{at-end, at-next, at-start, attributes-are, head-is}
+use Rattle.kc_build.proofs.EntrySummaryLemmas.{definition_count}
+use Rattle.kc_build.proofs.LineWalkLemmas.{modeless-head}
 use Rattle.kc_build.proofs.PlaceLemmas.{length-statements_of}
+use Rattle.kc_build.proofs.SuspectLemmas.{suspects_next}
+use Rattle.kc_build.proofs.SymbolRowLemmas.{no_definition, rows_behind, rows_next, rows_start, so_many}
 use Rattle.kc_build.proofs.entries.walk_entries.Goals as goal
+use Rattle.kc_build.proofs.entries.walk_entries.Goals.{in-Config+in_ok-note_definition, in_default-head}
 
 pub entries-init : goal.entries-init
-entries-init c = record {
-  place = 0;
-  at = at-start c.args.entries.now;
-  walk = walk-starts (statements_in c.args.entries.now) c.args.symbols.now _ c.in_ok-empty.ensures.empty c.new.ensures.top c.new.ensures.outside c.in_ok-from_slice.ensures.items
-      c.in_ok-empty.ensures.selects c.in_ok-empty.ensures.implies;
-  diagnosed = diagnosed_start c.args.names.now (lines_in c.args.entries.now) c.new-diagnostics.result c.new-diagnostics.ensures.warnings
-      c.new-diagnostics.ensures.member c.new-diagnostics.ensures.default;
-}
+entries-init c =
+    let ss = statements_in c.args.entries.now in
+    let rows = c.in_ok-symbols.ensures ∙ rows_start ss c.args.names in
+    let many = so_many (row_before ss 0) c.args.names c.in_ok-symbols.symbols.items rows in
+    record {
+      place = 0;
+      at = at-start c.args.entries.now;
+      count_is = many;
+      rows = rows ∙ ap (λ n. map (row_before ss 0) (numbers n)) (sym many);
+      walk = c.in_ok-walk.ensures ss;
+      suspects = λ names symbols whole. subst (λ l. AreSuspects names c.args.entries.now l 0 0) (sym c.new-suspects.ensures.items) (λ d h. h);
+    }
 
 pub enter-requires-clause-room : goal.enter-requires-clause-room
 enter-requires-clause-room c =
@@ -45,49 +63,74 @@ pub enter-requires-clause-modeless : goal.enter-requires-clause-modeless
 enter-requires-clause-modeless c =
     let es = c.args.entries.now in
     let w = c.entries.invariant in
-    modeless-head (statements_in es) c.args.symbols.now w.place _ c.entries.walk c.requires.apart (head-is es c.entries.at w.place c.in-Some.entry w.at c.in-Some.ensures).at w.walk
+    modeless-head (statements_in es) c.args.names w.place _ c.entries.walk c.requires.apart (head-is es c.entries.at w.place c.in-Some.entry w.at c.in-Some.ensures).at w.walk
 
 pub entries-preserved : goal.entries-preserved
 entries-preserved c =
     let es = c.args.entries.now in
     let ss = statements_in es in
-    let symbols = c.args.symbols.now in
     let w = c.entries.invariant in
+    let i = w.place in
     let e = c.in-Some.entry in
+    let x = e.first.now.head in
+    let own = statements_of e.attributes.now in
     let begins = c.in-Some.ensures in
-    let whole : HasSymbols ss symbols = record { symbols_are = c.requires.symbols; below = c.requires.below; ends = c.requires.ends } in
-    let is = head-is es c.entries.at w.place e w.at begins in
-    let summary = c.summary_of-summary.ensures ss w.place _ whole is w.walk in
+    let head = head-is es c.entries.at i e w.at begins in
+    let lent = sym c.deref.ensures.value in
+    let many : c.args.names ≡ length c.deref.result.now = sym w.count_is ∙ ap (λ (l : List Symbol). length l) lent in
+    let summary = c.summary_of-summary.ensures ss i own (subst (λ n. AreBelow n ss) many c.requires.below) (subst (AreRowsBefore ss i) lent w.rows) head
+    (subst (λ n. IsWalk ss n i c.entries.walk) many w.walk) in
+    let type = c.first_type-symbol_type.ensures in
+    let old = c.entries.symbols.items in
+    let now = map row_view old in
+    let reported : Option SymId → Vec Symbol Global → Type 0 =
+    λ o v. map row_view v.items ≡ changed (with_definition (definition_number ss i) (entry_type ss i) (enclosing_choice ss i)) o now in
+    let made : (o : Option SymId) × (symbol_at ss i ≡ o) × reported o c.match-head.symbols = elim c.match-head.branch [
+      | in-Config+in_ok-note_definition v ↦
+          let t = v.in-Config.symbol in
+          let named : symbol_at ss i ≡ Some t = ap symbol_of head.at ∙ ap (λ (y : Head). symbol_of (Some (head_view y))) v.in-Config.is in
+          let number = v.next_definition-id.ensures ∙ definition_count ss c.args.names i (head_view x) own head c.entries.walk w.walk in
+          let found = type ∙ ap (λ l. first_of (filter_map stated_type l)) (sym (attributes-are es c.entries.at i e w.at begins)) in
+          let by = v.in_ok-note_definition.ensures ∙ (λ j. changed (with_definition (number j) (found j) (summary.within_choice j)) (Some t) now) in
+          (Some t, named, rw v.symbols-is by)
+      | in_default-head v ↦ (None, ap symbol_of head.at ∙ no_definition x v.in_default-head.not-Config, rw v.symbols-is refl)
+    ] in
+    let rows = rows_next ss c.requires.types i c.args.names now (map row_view c.match-head.symbols.items) made.0 (w.rows ∙ ap (λ n. map (row_before ss i) (numbers n)) w.count_is)
+    made.1 made.2 ∙ rows_behind ss i (head_view x) own c.args.names head in
+    let still = so_many (row_before ss (index_after i own)) c.args.names c.match-head.symbols.items rows in
     record {
-      place = index_after w.place (statements_of e.attributes.now);
-      at = at-next es c.entries.at w.place e w.at begins;
-      walk = c.in_ok-enter.ensures ss w.place whole is w.walk;
-      diagnosed = diagnosed-next es symbols c.entries.at w.place e w.at begins whole c.args.names.now c.summary_of-summary.result c.entries.diagnostics
-          c.diagnose_entry.new.self summary w.diagnosed c.in_ok-diagnose_entry.ensures;
+      place = index_after i own;
+      at = at-next es c.entries.at i e w.at begins;
+      count_is = still;
+      rows = rows ∙ ap (λ n. map (row_before ss (index_after i own)) (numbers n)) (sym still);
+      walk = c.in_ok-enter.ensures ss c.args.names i (record { first_is = summary.first; ends = c.requires.ends }) head w.walk;
+      suspects = λ names symbols whole. suspects_next names es c.entries.at i e w.at begins c.requires.types c.summary_of-summary.result summary c.first_type-symbol_type.result type symbols whole
+          c.entries.suspects.items _ c.in_ok-note_suspect.ensures (w.suspects names symbols whole);
     }
 
 -- behind the last entry
-walked : (c : goal.After-drop-walk-2) → IsWalk (statements_in c.args.entries.now) c.args.symbols.now (length (statements_in c.args.entries.now)) c.entries.walk
-walked c =
+ended : (c : goal.After-drop-walk-2) → c.entries.invariant.place ≡ length (statements_in c.args.entries.now)
+ended c =
     let es = c.args.entries.now in
     let w = c.entries.invariant in
-    subst (λ n. IsWalk (statements_in es) c.args.symbols.now n c.entries.walk)
-    (at-end es c.entries.at w.place w.at c.in_default.ensures ∙ sym (length-map (lines_in es) (λ l. l.statement))) w.walk
+    at-end es c.entries.at w.place w.at c.in_default.ensures ∙ sym (length-map (lines_in es) (λ l. l.statement))
 
-pub returns-clause-tables : goal.returns-clause-tables
-returns-clause-tables c =
-    let w = walked c in
+pub returns : goal.returns
+returns c =
+    let es = c.args.entries.now in
+    let ss = statements_in es in
+    let w = c.entries.invariant in
+    let walk = subst (λ n. IsWalk ss c.args.names n c.entries.walk) (ended c) w.walk in
     record {
-      definitions = w.definitions;
-      selectors = w.selectors;
-      impliers = w.impliers;
-      choices = w.choices;
-      entries = w.entries;
-      main_menu_is = w.main_menu;
+      definitions = walk.definitions;
+      selectors = walk.selectors;
+      impliers = walk.impliers;
+      choices = walk.choices;
+      entries = walk.entries;
+      main_menu = walk.main_menu;
+      heads = walk.heads;
+      small = subst (λ n. IsSmall n c.entries.walk.tables) (length-map (lines_in es) (λ l. l.statement)) walk.small;
+      count_is = w.count_is;
+      symbols = subst (λ n. AreRowsBefore ss n c.entries.symbols.items) (ended c) w.rows;
+      suspects = λ names symbols whole. subst (AreSuspects names es c.entries.suspects.items 0) (at-end es c.entries.at w.place w.at c.in_default.ensures) (w.suspects names symbols whole);
     }
-
-pub returns-clause-diagnosed : goal.returns-clause-diagnosed
-returns-clause-diagnosed c =
-    let es = c.args.entries.now in
-    let w = c.entries.invariant in
-    subst (λ n. IsDiagnosed c.args.names.now (lines_in es) n c.entries.diagnostics) (at-end es c.entries.at w.place w.at c.in_default.ensures) w.diagnosed

@@ -1,17 +1,20 @@
-use Rattle.std.proofs.Common.{ℕ, ◌-◌, length}
-use Rattle.kc_read.specs.Entries.{lines_in}
+use Rattle.std.proofs.Common.{◌≡◌, ℕ, ◌-◌, List, length}
+use Rattle.kc_tree.specs.declared.rows.Symbol.{Symbol}
 use Rattle.kc_build.specs.Passes.{statements_in}
-use Rattle.kc_build.specs.WalkResult.{IsDiagnosed}
-use Rattle.kc_build.specs.Walks.{IsWalk}
-use Rattle.kc_build.proofs.EntryWalkLemmas.{IsAt}
+use Rattle.kc_build.specs.Suspected.{AreSuspects}
+use Rattle.kc_build.specs.SymbolRows.{HasSymbols}
+use Rattle.kc_build.specs.SymbolWalk.{AreRowsBefore}
+use Rattle.kc_build.specs.Walks.{IsAt, IsWalk}
 use Rattle.kc_build.proofs.entries.walk_entries.Given as goal
 
 abbrev pub invariant-entries : goal.invariant-entries
 invariant-entries l = record {
   place : ℕ;
   at : IsAt l.entries l.at place;
-  walk : IsWalk (statements_in l.entries) l.symbols place l.walk;
-  diagnosed : IsDiagnosed l.names (lines_in l.entries) place l.diagnostics;
+  count_is : length l.symbols.items ≡ l.names;
+  rows : AreRowsBefore (statements_in l.entries) place l.symbols.items;
+  walk : IsWalk (statements_in l.entries) l.names place l.walk;
+  suspects : (names : List (List ℕ)) (symbols : List Symbol) → HasSymbols (statements_in l.entries) symbols → AreSuspects names l.entries l.suspects.items 0 place;
 }
 
 abbrev pub decreases-entries : goal.decreases-entries

@@ -9,16 +9,15 @@ returns-in_err-add_selector-clause-sources c =
 
 pub loop-line-preserved : goal.loop-line-preserved
 loop-line-preserved c =
-    let ss = c.args.symbols.now in
     let own = c.args.attributes.now in
     elim c.match-target_of.branch [
       | in-Some+in_ok-add_selector w ↦
           rw w.selector_rows-is
-          (adding_one ss c.args.source own c.args.selector_rows.now c.loop-line.selector_rows w.add_selector.new.selector_rows c.loop-line.line-index c.line-item.result
+          (adding_one c.args.source own c.args.selector_rows.now c.loop-line.selector_rows w.add_selector.new.selector_rows c.loop-line.line-index c.line-item.result
           (target_view w.in-Some.target) c.loop-line.invariant c.loop-line-test.true c.line-item.is w.in-Some.ensures w.in_ok-add_selector.ensures.added
           w.add_selector.ensures.sources)
       | in_default w ↦
           rw w.selector_rows-is
-          (adding_none ss c.args.source own c.args.selector_rows.now c.loop-line.selector_rows c.loop-line.line-index c.line-item.result c.loop-line.invariant
+          (adding_none c.args.source own c.args.selector_rows.now c.loop-line.selector_rows c.loop-line.line-index c.line-item.result c.loop-line.invariant
           c.loop-line-test.true c.line-item.is w.in_default.ensures)
     ]

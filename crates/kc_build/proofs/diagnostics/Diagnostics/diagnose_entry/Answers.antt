@@ -1,45 +1,18 @@
-use Rattle.std.proofs.Common.{◌≡◌, ◌∙◌, ◌||◌, ◌+◌, ◌<◌, ℕ, Bool, true, false, List, length, drop, get_or, refl, Option, Some, None, ap, sym}
-use Rattle.std.specs.Option.{option_map, is_some}
+use Rattle.std.proofs.Common.{◌≡◌, ◌∙◌, ◌||◌, ◌+◌, ◌<◌, ℕ, Bool, List, length, drop, get_or, Option, ap, sym}
+use Rattle.std.specs.Option.{is_some}
 use Rattle.kc_expr.specs.Form.{Form}
 use Rattle.kc_read.specs.declared.entries.AttributeLine.{AttributeLine}
 use Rattle.kc_read.specs.declared.entries.Entry.{Entry}
-use Rattle.kc_read.specs.declared.statement.Head.{Head}
-use Rattle.kc_read.specs.declared.statement.Head.TheVariants as head
 use Rattle.kc_read.specs.Entries.{attribute_line, first_line, own_lines}
 use Rattle.kc_read.specs.Statements.{InputPrompt}
-use Rattle.kc_read.specs.StatementViews.{attribute_view, head_view}
+use Rattle.kc_read.specs.StatementViews.{attribute_view}
 use Rattle.kc_tree.specs.declared.rows.Symbol.{Symbol}
 use Rattle.kc_build.specs.declared.diagnostics.EntrySummary.{EntrySummary}
 use Rattle.kc_build.specs.Diagnosed.{Diagnosis, lines_diagnosed, diagnosis_view, line_diagnosed}
 use Rattle.kc_build.specs.Facts.{prompt_of}
-use Rattle.kc_build.proofs.OddLemmas.{attribute_adds_nothing, head_adds_nothing}
+use Rattle.kc_build.proofs.QuietLemmas.{no_prompt}
 use Rattle.kc_build.proofs.ScanLemmas.{drop_at, drop_past}
 use Rattle.kc_build.proofs.diagnostics.Diagnostics.diagnose_entry.Goals as goal
-use Rattle.kc_build.proofs.diagnostics.Diagnostics.diagnose_entry.Goals.{then-prompted, else-prompted, then-is_odd_head+in_ok-diagnose_head, else-is_odd_head, then-is_odd_attribute+in_ok-diagnose_attribute, else-is_odd_attribute}
-
--- a prompt is there in the view as it is in the line
-is_some_alike : {A B : Type 0} (v : A → B) (o : Option A) (a : Option B) (b : Bool) → option_map v o ≡ a → b ≡ is_some o → b ≡ is_some a
-is_some_alike v None a b e h = h ∙ ap is_some e
-is_some_alike v (Some x) a b e h = h ∙ ap is_some e
-
-or_yes : (p q a : Bool) → q ≡ p → p ≡ true → q ≡ (p || a)
-or_yes true q a e h = e
-or_yes false q a e h = cc
-
-or_no : (p q a : Bool) → q ≡ a → p ≡ false → q ≡ (p || a)
-or_no true q a e h = cc
-or_no false q a e h = e
-
-no_prompt : (h : Head) → prompt_of (head_view h) ≡ None
-no_prompt (head.Config s) = refl
-no_prompt (head.If e) = refl
-no_prompt head.EndIf = refl
-no_prompt (head.Comment t) = refl
-no_prompt (head.Menu t) = refl
-no_prompt head.EndMenu = refl
-no_prompt head.Choice = refl
-no_prompt head.EndChoice = refl
-no_prompt (head.MainMenu t) = refl
 
 module _ (names : List (List ℕ)) (symbols : List Symbol) (summary : EntrySummary) (first : Entry) where
   next : (xs : List AttributeLine) (i : ℕ) (x : AttributeLine) (p q : Bool) (d e r : Diagnosis) → i < length xs → x ≡ get_or xs i x →
@@ -60,12 +33,8 @@ loop-line-init c =
     let first = first_line c.args.lines.first.now in
     let old = diagnosis_view c.args.self.now in
     let own = own_lines c.args.lines.first.now c.args.lines.attributes.now in
-    let head_is : diagnosis_view c.if-is_odd_head.self ≡ line_diagnosed names symbols summary false first old = elim c.if-is_odd_head.branch [
-      | then-is_odd_head+in_ok-diagnose_head w ↦ rw w.self-is w.in_ok-diagnose_head.ensures
-      | else-is_odd_head w ↦ rw w.self-is (head_adds_nothing names symbols summary false first old (sym c.is_odd_head.ensures ∙ w.if-is_odd_head.false))
-    ] in
-    ap (λ (o : Option (InputPrompt Form)). lines_diagnosed names symbols summary (is_some o) own (diagnosis_view c.if-is_odd_head.self)) (sym (no_prompt c.args.lines.first.now.head))
-    ∙ ap (lines_diagnosed names symbols summary (is_some (prompt_of first.statement)) own) head_is
+    ap (λ (o : Option (InputPrompt Form)). lines_diagnosed names symbols summary (is_some o) own (diagnosis_view c.diagnose_head.new.self)) (sym (no_prompt c.args.lines.first.now.head))
+    ∙ ap (lines_diagnosed names symbols summary (is_some (prompt_of first.statement)) own) c.in_ok-diagnose_head.ensures
 
 pub loop-line-preserved : goal.loop-line-preserved
 loop-line-preserved c =
@@ -76,21 +45,10 @@ loop-line-preserved c =
     let x = c.line-item.result in
     let line = attribute_line c.args.lines.first.now.file.value.items x.line x.attribute in
     let old = diagnosis_view c.loop-line.self in
-    let asked : c.if-prompted.prompted ≡ (prompted || is_some (prompt_of line.statement)) = elim c.if-prompted.branch [
-      | then-prompted w ↦ or_yes prompted c.if-prompted.prompted _ w.prompted-is w.if-prompted.true
-      | else-prompted w ↦
-          or_no prompted c.if-prompted.prompted _
-          (w.prompted-is ∙ is_some_alike _ w.prompt_of.result _ w.is_some-prompted.result w.prompt_of.ensures
-          w.is_some-prompted.ensures) w.if-prompted.false
-    ] in
-    let line_is : diagnosis_view c.if-is_odd_attribute.self ≡ line_diagnosed names symbols summary prompted line old = elim c.if-is_odd_attribute.branch [
-      | then-is_odd_attribute+in_ok-diagnose_attribute w ↦ rw w.self-is (w.in_ok-diagnose_attribute.ensures
-          ∙ (λ i. line_diagnosed names symbols summary prompted (attribute_line (w.place_in-place.ensures.file i) (w.place_in-place.ensures.line i) x.attribute) old))
-      | else-is_odd_attribute w ↦
-          rw w.self-is (attribute_adds_nothing names symbols summary prompted line old (sym c.is_odd_attribute.ensures ∙ w.if-is_odd_attribute.false))
-    ] in
-    next names symbols summary c.args.lines.first.now c.args.lines.attributes.now c.loop-line.line-index x prompted c.if-prompted.prompted _ _ _ c.loop-line-test.true
-    c.line-item.is line_is asked c.loop-line.invariant
+    let line_is : diagnosis_view c.diagnose_attribute.new.self ≡ line_diagnosed names symbols summary prompted line old = c.in_ok-diagnose_attribute.ensures
+    ∙ (λ i. line_diagnosed names symbols summary prompted (attribute_line (c.place_in-place.ensures.file i) (c.place_in-place.ensures.line i) x.attribute) old) in
+    next names symbols summary c.args.lines.first.now c.args.lines.attributes.now c.loop-line.line-index x prompted c.is_prompted-prompted.result _ _ _ c.loop-line-test.true
+    c.line-item.is line_is c.is_prompted-prompted.ensures c.loop-line.invariant
 
 pub returns : goal.returns
 returns c =
