@@ -317,25 +317,30 @@ same_rows cs k x y h at v p j z e =
       | inr made ↦ (y, made.0, sym v ∙ ap (λ (c : Choice). c.within) made.1, sym p ∙ ap (λ (c : Choice). c.prompt) made.1)
     ]
 
+-- the tables with other choices, each with the context and the prompt of one that was there
+pub kept_alike : (conditions : List Condition) (ds : List Definition) (cs new : List Choice) (ts : List Title) → length new ≡ length cs →
+    ((i : ℕ) (c : Choice) → slice_get new i ≡ Some c → (o : Choice) × (slice_get cs i ≡ Some o) × (o.within ≡ c.within) × (o.prompt ≡ c.prompt)) →
+    AreKept conditions ds cs ts → AreKept conditions ds new ts
+kept_alike conditions ds cs new ts many was kept = record {
+  within = kept.within;
+  prompts_within = kept.prompts_within;
+  prompts_modeless = kept.prompts_modeless;
+  choices_within = λ i c e. (let r = was i c e in subst (λ (o : ContextId). o.0 < length conditions) r.2 (kept.choices_within i r.0 r.1));
+  choices_modeless = λ i c e. (let r = was i c e in subst (λ (o : ContextId). HasNoMode conditions o.0) r.2 (kept.choices_modeless i r.0 r.1));
+  choice_prompts_within = λ i c q e f. (let r = was i c e in kept.choice_prompts_within i r.0 q r.1 (r.3 ∙ f));
+  choice_prompts_modeless = λ i c q e f. (let r = was i c e in kept.choice_prompts_modeless i r.0 q r.1 (r.3 ∙ f));
+  titles_modeless = kept.titles_modeless;
+  modes_below = λ i n e. (let l = kept.modes_below i n e in omega arith);
+  modes_behind = λ i n c e f. (let r = was n c f in subst (λ (o : ContextId). o.0 < i) r.2 (kept.modes_behind i n r.0 e r.1));
+  mode_prompts_behind = λ i n c q e f t. (let r = was n c f in kept.mode_prompts_behind i n r.0 q e r.1 (r.3 ∙ t));
+}
+
 pub keeping_member : (w : EntryWalk) (k : ℕ) (x y : Choice) → k < length w.tables.choices.items → y ≡ get_or w.tables.choices.items k y → x.within ≡ y.within → x.prompt ≡ y.prompt →
     Keeping w.tables.contexts w.tables.definitions.items (slice_set w.tables.choices.items k x) w.tables.titles.items × Holding w.tables.contexts w.tables.titles.items w.blocks
 keeping_member w k x y h is v p =
     let cs = w.tables.choices.items in
-    let kept = kept_by w.tables in
     let at : slice_get cs k ≡ Some y = slice_get_read cs (length cs) k y refl h is in (
       keeping w.tables.contexts w.tables.definitions.items (slice_set cs k x) w.tables.titles.items
-          (record {
-            within = kept.within;
-            prompts_within = kept.prompts_within;
-            prompts_modeless = kept.prompts_modeless;
-            choices_within = λ i c e. (let r = same_rows cs k x y h at v p i c e in subst (λ (o : ContextId). o.0 < length w.tables.contexts) r.2 (kept.choices_within i r.0 r.1));
-            choices_modeless = λ i c e. (let r = same_rows cs k x y h at v p i c e in subst (λ (o : ContextId). HasNoMode w.tables.contexts o.0) r.2 (kept.choices_modeless i r.0 r.1));
-            choice_prompts_within = λ i c q e f. (let r = same_rows cs k x y h at v p i c e in kept.choice_prompts_within i r.0 q r.1 (r.3 ∙ f));
-            choice_prompts_modeless = λ i c q e f. (let r = same_rows cs k x y h at v p i c e in kept.choice_prompts_modeless i r.0 q r.1 (r.3 ∙ f));
-            titles_modeless = kept.titles_modeless;
-            modes_below = λ i n e. (let l = kept.modes_below i n e in omega (arith, length-set cs k x));
-            modes_behind = λ i n c e f. (let r = same_rows cs k x y h at v p n c f in subst (λ (o : ContextId). o.0 < i) r.2 (kept.modes_behind i n r.0 e r.1));
-            mode_prompts_behind = λ i n c q e f t. (let r = same_rows cs k x y h at v p n c f in kept.mode_prompts_behind i n r.0 q e r.1 (r.3 ∙ t));
-          }),
+          (kept_alike w.tables.contexts w.tables.definitions.items cs (slice_set cs k x) w.tables.titles.items (length-set cs k x) (same_rows cs k x y h at v p) (kept_by w.tables)),
       holding w.tables.contexts w.tables.titles.items w.blocks (held_by w),
     )

@@ -1,7 +1,8 @@
 -- What an entry does to the walk that is no symbol, block or comment: the ends of an `if` and of a choice, a main menu.
-use Rattle.std.proofs.Common.{Bool, ◌≡◌, ℕ, List, [], ◌∷◌, ◌++◌, length, take, Some, None, codes, unwrap_or, refl, ap, sym, ◌∙◌, arith, inl, inr}
-use Rattle.std.specs.Prelude.{◌⊎◌}
+use Rattle.std.proofs.Common.{Bool, ◌≡◌, ℕ, List, [], ◌∷◌, ◌++◌, length, take, Some, None, codes, unwrap_or, refl, ap, sym, ◌∙◌, subst, arith, inl, inr}
+use Rattle.std.specs.Prelude.{◌⊎◌, OnOk, Result}
 use Rattle.std.specs.List.{filter_map}
+use Rattle.std.proofs.lemmas.Result.{on_ok_weaker}
 use Rattle.kc_read.specs.declared.statement.Head.{Head}
 use Rattle.kc_read.specs.declared.statement.Head.TheVariants as made
 use Rattle.kc_read.specs.StatementViews.{head_view}
@@ -14,6 +15,11 @@ use Rattle.kc_build.proofs.CloserLemmas.{extends_equal}
 use Rattle.kc_build.proofs.EnterLemmas.{titles_passed}
 use Rattle.kc_build.proofs.OpenLemmas.{open_passes}
 use Rattle.kc_build.proofs.OpenerLemmas.{AreSame, quiet_passes}
+
+-- By the line that a head stands for.
+pub enters_by : {T E P : Type 0} (r : Result T E) (first : Bool) (s t : Numbered) (own : List Numbered) (old new : EntryWalk) → s ≡ t → (P → Enters first t own old new) → OnOk r P →
+    OnOk r (Enters first s own old new)
+enters_by r first s t own old new e f = on_ok_weaker r (λ p. subst (λ x. Enters first x own old new) (sym e) (f p))
 
 -- A line that closes a block and is no entry.
 pub record IsEnd (s : Numbered) : Type 0 where

@@ -1,5 +1,5 @@
 -- The choices that open before a place, with the symbol of one entry more.
-use Rattle.std.proofs.Common.{◌≡◌, ℕ, zero, suc, Bool, true, false, ◌||◌, ◌==◌, if◌then◌else◌, List, [], ◌∷◌, ◌++◌, length, filter, map, Option, Some, None, refl, ap, sym, ◌∙◌, arith}
+use Rattle.std.proofs.Common.{◌≡◌, ℕ, zero, suc, ◌+◌, ◌<◌, Bool, true, false, ◌||◌, ◌==◌, if◌then◌else◌, List, [], ◌∷◌, ◌++◌, length, filter, map, Option, Some, None, refl, ap, sym, ◌∙◌, arith}
 use Rattle.std.specs.List.{cons_option, filter_map}
 use Rattle.std.proofs.lemmas.Bool.{eqb-true, eq-eqb, false≢true, ne_eqb}
 use Rattle.std.proofs.lemmas.List.{append-nil, length-map, map-append}
@@ -11,6 +11,7 @@ use Rattle.kc_read.specs.Blocks.{bracket_of, numbers, opened}
 use Rattle.kc_read.specs.Statements.{ConfigLine, Numbered}
 use Rattle.kc_tree.specs.TreeFacts.{ChoiceFacts}
 use Rattle.kc_build.specs.Before.{choice_before, choices_before, members_before}
+use Rattle.kc_build.specs.ChoiceRows.{map_from}
 use Rattle.kc_build.specs.Facts.{choice_number, enclosing_choice, is_block, of_block, symbol_at, symbol_of}
 use Rattle.kc_build.specs.Passes.{change}
 use Rattle.kc_build.specs.Walks.{IsHead, index_after}
@@ -18,49 +19,50 @@ use Rattle.kc_build.specs.WalkSteps.{one_more, with_member}
 use Rattle.kc_build.proofs.EnterLemmas.{blocks_passed, member_line, members_passed}
 use Rattle.kc_build.proofs.GrownLemmas.{map_alike}
 
--- The element that changes is the last one, or not.
-change_last : {A : Type 0} (g : A → A) (xs : List A) (k : ℕ) (y : A) → k ≡ length xs → change g k (xs ++ y ∷ []) ≡ change g k xs ++ g y ∷ []
-change_last g [] zero y e = refl
-change_last g [] (suc k) y e = absurd (omega arith)
-change_last g (x ∷ xs) zero y e = absurd (omega arith)
-change_last g (x ∷ xs) (suc k) y e = ap (λ l. x ∷ l) (change_last g xs k y (omega arith))
+-- Elements that change by their numbers.
+module _ {A : Type 0} (g : ℕ → A → A) where
+  pub length-map_from : (k : ℕ) (xs : List A) → length (map_from g k xs) ≡ length xs
+  length-map_from k [] = refl
+  length-map_from k (x ∷ xs) = ap suc (length-map_from (suc k) xs)
 
-change_before : {A : Type 0} (g : A → A) (xs : List A) (k : ℕ) (y : A) → (k ≡ length xs → ⊥) → change g k (xs ++ y ∷ []) ≡ change g k xs ++ y ∷ []
-change_before g [] zero y e = absurd (e refl)
-change_before g [] (suc k) y e = refl
-change_before g (x ∷ xs) zero y e = refl
-change_before g (x ∷ xs) (suc k) y e = ap (λ l. x ∷ l) (change_before g xs k y (λ q. e (ap suc q)))
+  map_from-push : (k : ℕ) (xs : List A) (y : A) → map_from g k (xs ++ y ∷ []) ≡ map_from g k xs ++ g (k + length xs) y ∷ []
+  map_from-push k [] y = let z : k + 0 ≡ k = omega arith in ap (λ n. g n y ∷ []) (sym z)
+  map_from-push k (x ∷ xs) y =
+      let z : suc k + length xs ≡ k + suc (length xs) = omega arith in
+      ap (λ l. g k x ∷ l) (map_from-push (suc k) xs y ∙ ap (λ n. map_from g (suc k) xs ++ g n y ∷ []) z)
 
-change_snoc : {A : Type 0} (g : A → A) (xs : List A) (k : ℕ) (y : A) (b : Bool) → (length xs == k) ≡ b → change g k (xs ++ y ∷ []) ≡ change g k xs ++ (if b then g y else y) ∷ []
-change_snoc g xs k y true e = change_last g xs k y (sym (eqb-true (length xs) k e))
-change_snoc g xs k y false e = change_before g xs k y (λ q. false≢true (sym e ∙ eq-eqb (length xs) k (sym q)))
+  -- what is made of the numbers that pass a test, changed by their places among them
+  pub map_from-passing : (p : ℕ → Bool) (f h : ℕ → A) (s : (n : ℕ) → g (length (filter p (numbers n))) (f n) ≡ h n) (n : ℕ) →
+      map_from g 0 (map f (filter p (numbers n))) ≡ map h (filter p (numbers n))
+  map_from-passing p f h s zero = refl
+  map_from-passing p f h s (suc n) =
+      ap (λ l. map_from g 0 (map f l)) (filter-append p (numbers n) (n ∷ [])) ∙ by (p n) (map_from-passing p f h s n) ∙ sym (ap (map h) (filter-append p (numbers n) (n ∷ [])))
+    where
+      by : (b : Bool) → map_from g 0 (map f (filter p (numbers n))) ≡ map h (filter p (numbers n)) →
+          map_from g 0 (map f (filter p (numbers n) ++ (if b then n ∷ [] else []))) ≡ map h (filter p (numbers n) ++ (if b then n ∷ [] else []))
+      by true e =
+          let passing = filter p (numbers n) in
+          let many : 0 + length (map f passing) ≡ length passing = (let m = length-map passing f in omega arith) in
+          ap (map_from g 0) (map-append f passing (n ∷ [])) ∙ map_from-push 0 (map f passing) (f n)
+          ∙ ap (λ k. map_from g 0 (map f passing) ++ g k (f n) ∷ []) many ∙ ap (λ l. l ++ g (length passing) (f n) ∷ []) e
+          ∙ ap (λ x. map h passing ++ x ∷ []) (s n) ∙ sym (map-append h passing (n ∷ []))
+      by false e = ap (λ l. map_from g 0 (map f l)) (append-nil (filter p (numbers n))) ∙ e ∙ sym (ap (map h) (append-nil (filter p (numbers n))))
 
--- What is made of the numbers that pass a test changes at one place among them.
-module _ {A : Type 0} (p : ℕ → Bool) (g : A → A) (f h : ℕ → A) (c : ℕ) (s : (n : ℕ) → (if length (filter p (numbers n)) == c then g (f n) else f n) ≡ h n) where
-  abbrev passing : ℕ → List ℕ
-  passing n = filter p (numbers n)
+-- a change of one element is one by numbers
+abbrev changes_at : {A : Type 0} → (A → A) → ℕ → ℕ → A → A
+changes_at g c k x = if k == c then g x else x
 
-  passing_next : (n : ℕ) (b : Bool) → p n ≡ b → passing (suc n) ≡ passing n ++ (if b then n ∷ [] else [])
-  passing_next n b e = filter-append p (numbers n) (n ∷ []) ∙ ap (λ (c : Bool). passing n ++ (if c then n ∷ [] else [])) e
+unchanged_behind : {A : Type 0} (g : A → A) (c k : ℕ) (xs : List A) → c < k → map_from (changes_at g c) k xs ≡ xs
+unchanged_behind g c k [] l = refl
+unchanged_behind g c k (x ∷ xs) l =
+    ap (λ b. (if b then g x else x) ∷ map_from (changes_at g c) (suc k) xs) (ne_eqb k c (λ e. omega arith)) ∙ ap (λ l. x ∷ l) (unchanged_behind g c (suc k) xs (omega arith))
 
-  change_by : (n : ℕ) (b : Bool) → p n ≡ b → change g c (map f (passing n)) ≡ map h (passing n) → change g c (map f (passing (suc n))) ≡ map h (passing (suc n))
-  change_by n true e r =
-      let next = passing_next n true e in
-      let test : (length (map f (passing n)) == c) ≡ (length (passing n) == c) = ap (λ k. k == c) (length-map (passing n) f) in
-      ap (λ l. change g c (map f l)) next
-      ∙ ap (change g c) (map-append f (passing n) (n ∷ []))
-      ∙ change_snoc g (map f (passing n)) c (f n) (length (passing n) == c) test
-      ∙ ap (λ l. l ++ (if length (passing n) == c then g (f n) else f n) ∷ []) r
-      ∙ ap (λ x. map h (passing n) ++ x ∷ []) (s n)
-      ∙ sym (map-append h (passing n) (n ∷ []))
-      ∙ sym (ap (map h) next)
-  change_by n false e r =
-      let next = passing_next n false e ∙ append-nil (passing n) in
-      ap (λ l. change g c (map f l)) next ∙ r ∙ sym (ap (map h) next)
-
-  pub change_passing : (n : ℕ) → change g c (map f (passing n)) ≡ map h (passing n)
-  change_passing zero = refl
-  change_passing (suc n) = change_by n (p n) refl (change_passing n)
+change_by_number : {A : Type 0} (g : A → A) (n c k : ℕ) (xs : List A) → c ≡ k + n → map_from (changes_at g c) k xs ≡ change g n xs
+change_by_number g n c k [] e = refl
+change_by_number g zero c k (x ∷ xs) e =
+    ap (λ b. (if b then g x else x) ∷ map_from (changes_at g c) (suc k) xs) (eq-eqb k c (omega arith)) ∙ ap (λ l. g x ∷ l) (unchanged_behind g c (suc k) xs (omega arith))
+change_by_number g (suc n) c k (x ∷ xs) e =
+    ap (λ b. (if b then g x else x) ∷ map_from (changes_at g c) (suc k) xs) (ne_eqb k c (λ q. omega arith)) ∙ ap (λ l. x ∷ l) (change_by_number g n c (suc k) xs (omega arith))
 
 -- Behind a `config` entry.
 module _ (ss : List Numbered) (i : ℕ) (s : SymId) (own : List Numbered) (h : IsHead ss i (ConfigLine s) own) where
@@ -121,7 +123,8 @@ module _ (ss : List Numbered) (i : ℕ) (s : SymId) (own : List Numbered) (h : I
   by_enclosing None e =
       map_alike (choice_before ss i) (choice_before ss after) (filter opens (numbers i)) (λ k j at. sym (same_choice j e))
   by_enclosing (Some c) e =
-      change_passing opens (one_more s) (choice_before ss i) (choice_before ss after) c (λ j. one_more_by c j (length (filter opens (numbers j)) == c) e refl) i
+      sym (change_by_number (one_more s) c c 0 (choices_before ss i) (omega arith))
+      ∙ map_from-passing (changes_at (one_more s) c) opens (choice_before ss i) (choice_before ss after) (λ j. one_more_by c j (length (filter opens (numbers j)) == c) e refl) i
 
   -- the choices get the symbol as a member, where one encloses it
   pub members_added : with_member (enclosing_choice ss i) s (choices_before ss i) ≡ choices_before ss after

@@ -92,56 +92,43 @@ module _ (symbols : List Symbol) (k : SymbolType) (prompted first : Bool) (withi
   abbrev IsQuiet : MenuEntry → Numbered → Type 0
   IsQuiet o s = IsQuietLine symbols o prompted first within_choice s
 
-  same_type : (t : SymId) (o : SymbolType) → type_by symbols t ≡ k → same_type o k ≡ true → not (same_type o (type_by symbols t)) ≡ false
-  same_type t o e h = ap (λ x. not (same_type o x)) e ∙ ap not h
+  of_same_type : (t : SymId) (o : SymbolType) → type_by symbols t ≡ k → same_type o k ≡ true → not (same_type o (type_by symbols t)) ≡ false
+  of_same_type t o e h = ap (λ x. not (same_type o x)) e ∙ ap not h
 
-  modeless : (t : SymId) (v : Form) → type_by symbols t ≡ k → may_have_default k v ≡ true → ((has_text (type_by symbols t) || false) && not (is_single v)) ≡ false
-  modeless t v e h = ap (λ x. (has_text x || false) && not (is_single v)) e ∙ no_text (has_text k) (is_single v) h
+  allowed : (t : SymId) (v : Form) → type_by symbols t ≡ k → may_have_default k v ≡ true → ((has_text (type_by symbols t) || false) && not (is_single v)) ≡ false
+  allowed t v e h = ap (λ x. (has_text x || false) && not (is_single v)) e ∙ no_text (has_text k) (is_single v) h
 
-  quiet_type : (o : MenuEntry) (x : SymbolType) (p : Option (InputPrompt Form)) → IsOfType symbols o k → (is_some p && prompted) ≡ false → same_type x k ≡ true → IsQuiet o (TypeLine x p)
-  quiet_type (menu_entry.Symbol t) x p e a h = let b = same_type t x e h in record { warnings = rw (a, b) refl; member = refl; default = refl }
-  quiet_type (menu_entry.Choice c) x p e a h = elim e [ ]
-  quiet_type menu_entry.Other x p e a h = record { warnings = rw a refl; member = refl; default = refl }
-
-  quiet_prompt : (o : MenuEntry) (p : InputPrompt Form) → IsOfType symbols o k → prompted ≡ false → IsQuiet o (PromptLine p)
-  quiet_prompt (menu_entry.Symbol t) p e a = record { warnings = rw a refl; member = refl; default = refl }
-  quiet_prompt (menu_entry.Choice c) p e a = elim e [ ]
-  quiet_prompt menu_entry.Other p e a = record { warnings = rw a refl; member = refl; default = refl }
-
-  quiet_default : (o : MenuEntry) (v : Form) (w : Option Form) → IsOfType symbols o k → may_have_default k v ≡ true → IsQuiet o (DefaultLine v w)
-  quiet_default (menu_entry.Symbol t) v w e h = let a = modeless t v e h in record { warnings = refl; member = refl; default = rw a refl }
-  quiet_default (menu_entry.Choice c) v w e h = elim e [ ]
-  quiet_default menu_entry.Other v w e h = record { warnings = refl; member = refl; default = refl }
-
-  quiet_def : (o : MenuEntry) (x : SymbolType) (v : Form) (w : Option Form) → IsOfType symbols o k → same_type x k ≡ true → may_have_default k v ≡ true → IsQuiet o (DefLine x v w)
-  quiet_def (menu_entry.Symbol t) x v w e g h =
-      let a = modeless t v e h in
-      let b = same_type t x e g in
+  of_symbol : (t : SymId) (s : Numbered) → type_by symbols t ≡ k → (prompted && is_some (prompt_of s)) ≡ false → is_quiet_attribute k s ≡ true → IsQuiet (menu_entry.Symbol t) s
+  of_symbol t (ConfigLine u) e q h = absurd cc
+  of_symbol t (TypeLine x p) e q h = let a = swapped (is_some p) prompted ∙ q in let b = of_same_type t x e h in record { warnings = rw (a, b) refl; member = refl; default = refl }
+  of_symbol t (PromptLine p) e q h = let a = swapped true prompted ∙ q in record { warnings = rw a refl; member = refl; default = refl }
+  of_symbol t (DefaultLine v w) e q h = let a = allowed t v e h in record { warnings = refl; member = refl; default = rw a refl }
+  of_symbol t (DefLine x v w) e q h =
+      let a = allowed t v e (right_true _ _ h) in
+      let b = of_same_type t x e (left_true _ _ h) in
       record { warnings = rw b refl; member = refl; default = rw a refl }
-  quiet_def (menu_entry.Choice c) x v w e g h = elim e [ ]
-  quiet_def menu_entry.Other x v w e g h = record { warnings = refl; member = refl; default = refl }
+  of_symbol t (SelectLine u w) e q h = absurd cc
+  of_symbol t (ImplyLine u w) e q h = absurd cc
+  of_symbol t _ e q h = record { warnings = refl; member = refl; default = refl }
+
+  of_other : (s : Numbered) → (prompted && is_some (prompt_of s)) ≡ false → is_quiet_attribute k s ≡ true → IsQuiet menu_entry.Other s
+  of_other (ConfigLine u) q h = absurd cc
+  of_other (TypeLine x p) q h = let a = swapped (is_some p) prompted ∙ q in record { warnings = rw a refl; member = refl; default = refl }
+  of_other (PromptLine p) q h = let a = swapped true prompted ∙ q in record { warnings = rw a refl; member = refl; default = refl }
+  of_other (SelectLine u w) q h = absurd cc
+  of_other (ImplyLine u w) q h = absurd cc
+  of_other _ q h = record { warnings = refl; member = refl; default = refl }
 
   quiet_attribute : (o : MenuEntry) (s : Numbered) → IsOfType symbols o k → (prompted && is_some (prompt_of s)) ≡ false → is_quiet_attribute k s ≡ true → IsQuiet o s
-  quiet_attribute o (ConfigLine u) e p h = absurd cc
-  quiet_attribute o (TypeLine x p) e q h = quiet_type o x p e (swapped (is_some p) prompted ∙ q) h
-  quiet_attribute o (PromptLine p) e q h = quiet_prompt o p e (swapped true prompted ∙ q)
-  quiet_attribute o (DefaultLine v w) e p h = quiet_default o v w e h
-  quiet_attribute o (DefLine x v w) e p h = quiet_def o x v w e (left_true _ _ h) (right_true _ _ h)
-  quiet_attribute o (SelectLine u w) e p h = absurd cc
-  quiet_attribute o (ImplyLine u w) e p h = absurd cc
-  quiet_attribute (menu_entry.Symbol t) _ e p h = record { warnings = refl; member = refl; default = refl }
-  quiet_attribute (menu_entry.Choice c) _ e p h = elim e [ ]
-  quiet_attribute menu_entry.Other _ e p h = record { warnings = refl; member = refl; default = refl }
+  quiet_attribute (menu_entry.Symbol t) s e q h = of_symbol t s e q h
+  quiet_attribute (menu_entry.Choice c) s e q h = elim e [ ]
+  quiet_attribute menu_entry.Other s e q h = of_other s q h
 
 -- the line that begins an entry: the first of a symbol, outside of choices, or one of no symbol and no choice
 module _ (symbols : List Symbol) (k : SymbolType) (typed : k ≡ symbol_type.Undefined → ⊥) where
   has_one : (x : SymbolType) (c : Option ℕ) → (x ≡ symbol_type.Undefined → ⊥) → has_type x c ≡ true
   has_one symbol_type.Undefined None h = absurd (h refl)
-  has_one symbol_type.Bool None h = refl
-  has_one symbol_type.Tristate None h = refl
-  has_one symbol_type.Str None h = refl
-  has_one symbol_type.Int None h = refl
-  has_one symbol_type.Hex None h = refl
+  has_one _ None h = refl
   has_one x (Some c) h = refl
 
   pub quiet_config : (t : SymId) (within_choice : Option ℕ) → type_by symbols t ≡ k → within_choice ≡ None →
@@ -159,14 +146,7 @@ quiet_other symbols n first w _ e = record { warnings = refl; member = refl; def
 
 pub no_prompt : (h : Head) → prompt_of (head_view h) ≡ None
 no_prompt (head.Config s) = refl
-no_prompt (head.If e) = refl
-no_prompt head.EndIf = refl
-no_prompt (head.Comment t) = refl
-no_prompt (head.Menu t) = refl
-no_prompt head.EndMenu = refl
-no_prompt head.Choice = refl
-no_prompt head.EndChoice = refl
-no_prompt (head.MainMenu t) = refl
+no_prompt _ = refl
 
 -- it leaves the diagnosis as it is
 module _ (names : List (List ℕ)) (symbols : List Symbol) (summary : EntrySummary) where

@@ -1,19 +1,17 @@
 -- The scope of a place.
-use Rattle.std.proofs.Common.{◌≡◌, ℕ, ◌+◌, Bool, true, false, cond, if◌then◌else◌, List, [], ◌∷◌, ◌++◌, filter, Some, refl, ap, sym, ◌∙◌, arith}
-use Rattle.std.specs.List.{slice_get, flat_map, count_by}
+use Rattle.std.proofs.Common.{◌≡◌, ℕ, Bool, true, false, cond, if◌then◌else◌, List, [], ◌∷◌, ◌++◌, filter, Some, refl, ap, ◌∙◌}
+use Rattle.std.specs.List.{flat_map}
 use Rattle.std.specs.Option.{option_map}
 use Rattle.std.proofs.lemmas.List.{append-nil}
 use Rattle.std.proofs.lemmas.List.Elements.{filter-append}
 use Rattle.std.proofs.lemmas.Grind.{flat_map-append}
 use Rattle.kc_expr.specs.Form.{Form}
 use Rattle.kc_read.specs.declared.statement.Block.TheVariants as block
-use Rattle.kc_read.specs.Statements.{Numbered, ChoiceLine}
-use Rattle.kc_read.specs.Blocks.{last_of, bracket, opened}
-use Rattle.kc_build.specs.Facts.{of_block, block_conjuncts, own_visible, choice_number, is_block}
-use Rattle.kc_build.specs.Scopes.{Scope, next_count, block_visible, scope_of_block}
+use Rattle.kc_read.specs.Statements.{Numbered}
+use Rattle.kc_read.specs.Blocks.{last_of}
+use Rattle.kc_build.specs.Facts.{of_block, block_conjuncts, own_visible, choice_number}
+use Rattle.kc_build.specs.Scopes.{Scope, block_visible, scope_of_block}
 use Rattle.kc_build.proofs.BlockLemmas.{last-snoc}
-use Rattle.kc_build.proofs.ListLemmas.{count_next}
-use Rattle.kc_build.proofs.PlaceLemmas.{numbers-next}
 
 module _ (ss : List Numbered) where
   abbrev pub scope_by : List ℕ → Scope
@@ -45,13 +43,3 @@ module _ (ss : List Numbered) where
       let m = ap (λ l. option_map (choice_number ss) (last_of l)) (filter-append (of_block ss block.Choice) indices (k ∷ []))
       ∙ chosen (of_block ss block.Choice k) (choice_number ss) (filter (of_block ss block.Choice) indices) k in
       λ i. record { conjuncts = p i; visible = v i; mode = m i; opened_at = last-snoc indices k i }
-
-  by_line : (s : Numbered) (n : ℕ) → next_count s n ≡ n + cond (is_block block.Choice (opened (bracket s))) 1 0
-  by_line ChoiceLine n = refl
-  by_line _ n = omega arith
-
-  pub choice_number-next : (i : ℕ) (s : Numbered) → slice_get ss i ≡ Some s → next_count s (choice_number ss i) ≡ choice_number ss (i + 1)
-  choice_number-next i s h =
-      let test : of_block ss block.Choice i ≡ is_block block.Choice (opened (bracket s)) = rw h refl in
-      by_line s (choice_number ss i) ∙ sym (ap (count_by (of_block ss block.Choice)) (numbers-next i)
-      ∙ count_next (of_block ss block.Choice) i ∙ ap (λ (b : Bool). choice_number ss i + cond b 1 0) test)

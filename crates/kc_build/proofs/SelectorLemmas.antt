@@ -321,10 +321,6 @@ pub record AreHeadsTo (symbols : List Symbol) (i : ℕ) (old new : List (Option 
   pub rest : (s : ℕ) → i ≤ s → slice_index_or new s None ≡ slice_index_or old s None
 
 module _ (symbols : List Symbol) (i : ℕ) (old new : List (Option SelectorId)) (h : AreHeadsTo symbols i old new) where
-  kept_at : (b : Bool) → can_be_target symbols (symbol i) ≡ b → b ≡ true → slice_index_or new i None ≡ (if b then slice_index_or old i None else None)
-  kept_at true e t = h.rest i (omega arith)
-  kept_at false e t = absurd cc
-
   pub head_kept : can_be_target symbols (symbol i) ≡ true → AreHeadsTo symbols (i + 1) old new
   head_kept can = record { same = h.same; looked_at = λ s l. by s (cases_lt s i) l; rest = λ s l. h.rest s (omega arith) }
     where
@@ -348,15 +344,3 @@ module _ (symbols : List Symbol) (i : ℕ) (old new : List (Option SelectorId)) 
           let size = h.same in
           let within : i < length new = omega arith in
           rw (here, can) (get_or-set_same new i None None within)
-
--- a symbol without a last line leads to none
-pub heads-less : (lines : List Selector) (heads : List (Option SelectorId)) (i : ℕ) → i < length heads → AreHeads lines heads → AreHeads lines (slice_set heads i None)
-heads-less lines heads i l h s id e = by (cases_lt s i) (cases_lt i s)
-  where
-    by : (s < i) ⊎ (i ≤ s) → (i < s) ⊎ (s ≤ i) → id.0 < length lines
-    by (inl m) b = let other : s ≢ i = λ q. omega arith in h s id (sym (get_or-set_other heads i s None None other) ∙ e)
-    by (inr g) (inl m) = let other : s ≢ i = λ q. omega arith in h s id (sym (get_or-set_other heads i s None None other) ∙ e)
-    by (inr g) (inr m) =
-        let here : s ≡ i = omega arith in
-        let none : None ≡ Some id = sym (get_or-set_same heads i None None l) ∙ ap (λ k. slice_index_or (slice_set heads i None) k None) (sym here) ∙ e in
-        absurd cc

@@ -3,17 +3,16 @@ use Rattle.std.proofs.Common.{◌≡◌, ℕ, zero, suc, ◌+◌, ◌<◌, ◌�
 use Rattle.std.specs.Prelude.{slice_index_or}
 use Rattle.std.specs.List.{cons_option, filter_map, slice_get}
 use Rattle.std.specs.Option.{option_and_then, option_map}
-use Rattle.std.proofs.lemmas.List.{append-nil, length-map, map-append}
-use Rattle.std.proofs.lemmas.List.Elements.{filter-append}
+use Rattle.std.proofs.lemmas.List.{length-map}
 use Rattle.std.proofs.lemmas.List.Sums.{length-filter}
 use Rattle.kc_expr.specs.declared.expression.SymId.{SymId}
 use Rattle.kc_expr.specs.Names.{symbol}
 use Rattle.kc_read.specs.declared.statement.Block.TheVariants as block
 use Rattle.kc_read.specs.Blocks.{attributes, numbers}
 use Rattle.kc_read.specs.Statements.{Numbered}
+use Rattle.kc_read.proofs.ListLemmas.{filter-map}
 use Rattle.kc_tree.specs.declared.layout.Tables.{Tables}
 use Rattle.kc_tree.specs.declared.rows.Choice.{Choice}
-use Rattle.kc_tree.specs.declared.rows.ChoiceDefault.{ChoiceDefault}
 use Rattle.kc_tree.specs.declared.rows.Definition.{Definition}
 use Rattle.kc_tree.specs.declared.rows.SelectorId.{SelectorId}
 use Rattle.kc_tree.specs.declared.rows.Symbol.{Symbol}
@@ -29,8 +28,10 @@ use Rattle.kc_build.specs.Passes.{change}
 use Rattle.kc_build.specs.SelectorRows.{AreTargetHeads, rows_to}
 use Rattle.kc_build.specs.SymbolRows.{AreBelow, AreSymbols, can_be_target, member_by}
 use Rattle.kc_build.specs.WalkResult.{IsWalkResult, choice_by, default_by}
+use Rattle.kc_build.proofs.DefineLemmas.{kept_alike}
 use Rattle.kc_build.proofs.DefineWalkLemmas.{same_definitions}
 use Rattle.kc_build.proofs.GrownLemmas.{AreKept}
+use Rattle.kc_build.proofs.MembersLemmas.{length-map_from, map_from-passing}
 use Rattle.kc_build.proofs.NamedLemmas.{impliers_by_rows, named_in, selectors_by_rows, target_known}
 
 -- Elements that change by their numbers.
@@ -38,16 +39,6 @@ module _ {A : Type 0} (g : ℕ → A → A) where
   -- those before a number did
   abbrev pub mapped_to : ℕ → List A → List A
   mapped_to i xs = map_from g 0 (take i xs) ++ drop i xs
-
-  length-map_from : (k : ℕ) (xs : List A) → length (map_from g k xs) ≡ length xs
-  length-map_from k [] = refl
-  length-map_from k (x ∷ xs) = ap suc (length-map_from (suc k) xs)
-
-  map_from-push : (k : ℕ) (xs : List A) (y : A) → map_from g k (xs ++ y ∷ []) ≡ map_from g k xs ++ g (k + length xs) y ∷ []
-  map_from-push k [] y = let z : k + 0 ≡ k = omega arith in ap (λ n. g n y ∷ []) (sym z)
-  map_from-push k (x ∷ xs) y =
-      let z : suc k + length xs ≡ k + suc (length xs) = omega arith in
-      ap (λ l. g k x ∷ l) (map_from-push (suc k) xs y ∙ ap (λ n. map_from g (suc k) xs ++ g n y ∷ []) z)
 
   pub mapped_next : (xs : List A) (i : ℕ) → i < length xs → change (g i) i (mapped_to i xs) ≡ mapped_to (i + 1) xs
   mapped_next xs i h =
@@ -97,22 +88,8 @@ module _ (symbols : List Symbol) where
   abbrev with_members_only : ℕ → ChoiceFacts → ChoiceFacts
   with_members_only k c = record c { defaults = filter (λ (g : Guarded SymId). member_by symbols k g.what) c.defaults }
 
-  defaults_kept : (k : ℕ) (c : Condition) (ds : List ChoiceDefault) →
-      map (choice_default_view c) (filter (λ (d : ChoiceDefault). member_by symbols k d.member) ds) ≡ filter (λ (g : Guarded SymId). member_by symbols k g.what) (map (choice_default_view c) ds)
-  defaults_kept k c [] = refl
-  defaults_kept k c (d ∷ ds) = by (member_by symbols k d.member) (defaults_kept k c ds)
-    where
-      by : (b : Bool) →
-          map (choice_default_view c) (filter (λ (d : ChoiceDefault). member_by symbols k d.member) ds) ≡
-          filter (λ (g : Guarded SymId). member_by symbols k g.what) (map (choice_default_view c) ds) →
-          map (choice_default_view c) (if b then d ∷ filter (λ (d : ChoiceDefault). member_by symbols k d.member) ds else filter (λ (d : ChoiceDefault). member_by symbols k d.member) ds) ≡
-          (if b then choice_default_view c d ∷ filter (λ (g : Guarded SymId). member_by symbols k g.what) (map (choice_default_view c) ds)
-          else filter (λ (g : Guarded SymId). member_by symbols k g.what) (map (choice_default_view c) ds))
-      by true e = ap (λ l. choice_default_view c d ∷ l) e
-      by false e = e
-
   row_kept : (conditions : List Condition) (k : ℕ) (r : ChoiceRow) → by_row conditions (with_member_defaults symbols k r) ≡ with_members_only k (by_row conditions r)
-  row_kept conditions k r = let e = defaults_kept k (condition_in conditions r.within.0) r.defaults in λ i. record (by_row conditions r) { defaults = e i }
+  row_kept conditions k r = let e = sym (filter-map (λ (g : Guarded SymId). member_by symbols k g.what) (choice_default_view (condition_in conditions r.within.0)) r.defaults) in λ i. record (by_row conditions r) { defaults = e i }
 
   rows_kept : (conditions : List Condition) (k : ℕ) (rs : List ChoiceRow) →
       map (by_row conditions) (map_from (with_member_defaults symbols) k rs) ≡ map_from with_members_only k (map (by_row conditions) rs)
@@ -146,32 +123,6 @@ module _ (symbols : List Symbol) where
         (length-filter opens (numbers j))
         ∙ given_kept j (filter_map stated_default (attributes ss j)) in
         λ i. record (choice_by ss symbols j) { defaults = e i }
-
-    choices_to : (n : ℕ) → map_from with_members_only 0 (map (choice_before ss (length ss)) (filter opens (numbers n))) ≡ map (choice_by ss symbols) (filter opens (numbers n))
-    choices_to zero = refl
-    choices_to (suc n) = by (opens n) refl (choices_to n)
-      where
-        passing_next : (b : Bool) → opens n ≡ b → filter opens (numbers (suc n)) ≡ filter opens (numbers n) ++ (if b then n ∷ [] else [])
-        passing_next b e = filter-append opens (numbers n) (n ∷ []) ∙ ap (λ (c : Bool). filter opens (numbers n) ++ (if c then n ∷ [] else [])) e
-
-        by : (b : Bool) → opens n ≡ b →
-            map_from with_members_only 0 (map (choice_before ss (length ss)) (filter opens (numbers n))) ≡ map (choice_by ss symbols) (filter opens (numbers n)) →
-            map_from with_members_only 0 (map (choice_before ss (length ss)) (filter opens (numbers (suc n)))) ≡ map (choice_by ss symbols) (filter opens (numbers (suc n)))
-        by true e h =
-            let next = passing_next true e in
-            let so_many : 0 + length (map (choice_before ss (length ss)) (filter opens (numbers n))) ≡ length (filter opens (numbers n)) =
-            (let m = length-map (filter opens (numbers n)) (choice_before ss (length ss)) in omega arith) in
-            ap (λ l. map_from with_members_only 0 (map (choice_before ss (length ss)) l)) next
-            ∙ ap (map_from with_members_only 0) (map-append (choice_before ss (length ss)) (filter opens (numbers n)) (n ∷ []))
-            ∙ map_from-push with_members_only 0 (map (choice_before ss (length ss)) (filter opens (numbers n))) (choice_before ss (length ss) n)
-            ∙ ap (λ k. map_from with_members_only 0 (map (choice_before ss (length ss)) (filter opens (numbers n))) ++ with_members_only k (choice_before ss (length ss) n) ∷ []) so_many
-            ∙ ap (λ l. l ++ with_members_only (length (filter opens (numbers n))) (choice_before ss (length ss) n) ∷ []) h
-            ∙ ap (λ x. map (choice_by ss symbols) (filter opens (numbers n)) ++ x ∷ []) (choice_kept n)
-            ∙ sym (map-append (choice_by ss symbols) (filter opens (numbers n)) (n ∷ []))
-            ∙ sym (ap (map (choice_by ss symbols)) next)
-        by false e h =
-            let next = passing_next false e ∙ append-nil (filter opens (numbers n)) in
-            ap (λ l. map_from with_members_only 0 (map (choice_before ss (length ss)) l)) next ∙ h ∙ sym (ap (map (choice_by ss symbols)) next)
 
 -- The tables before and after.
 pub record AreSettled (symbols : List Symbol) (old new : Tables) : Type 0 where
@@ -225,7 +176,7 @@ module _ (ss : List Numbered) (symbols : List Symbol) (old new : Tables) (h : Ar
       ∙ ap (map (by_row old.contexts)) h.choices
       ∙ rows_kept symbols old.contexts 0 (map choice_row old.choices.items)
       ∙ ap (map_from (with_members_only symbols) 0) (sym (rows_say old.contexts old refl old.choices.items) ∙ was)
-      ∙ choices_to symbols ss (length ss)
+      ∙ map_from-passing (with_members_only symbols) (of_block ss block.Choice) (choice_before ss (length ss)) (choice_by ss symbols) (choice_kept symbols ss) (length ss)
 
   -- all of it
   pub settled_result : AreBelow (length symbols) ss → AreSymbols ss symbols → (main_menu : List ℕ) →
@@ -265,18 +216,4 @@ was_there symbols k (o ∷ old) (x ∷ new) e (suc i) c at =
 
 pub kept_defaults : (symbols : List Symbol) (conditions : List Condition) (ds : List Definition) (old new : List Choice) (ts : List Title) → HaveMemberDefaults symbols old new →
     AreKept conditions ds old ts → AreKept conditions ds new ts
-kept_defaults symbols conditions ds old new ts e k =
-    let many = many_choices symbols old new e in
-    record {
-      within = k.within;
-      prompts_within = k.prompts_within;
-      prompts_modeless = k.prompts_modeless;
-      choices_within = λ i c at. (let r = was_there symbols 0 old new e i c at in rw (← r.2) (k.choices_within i r.0 r.1));
-      choices_modeless = λ i c at. (let r = was_there symbols 0 old new e i c at in rw (← r.2) (k.choices_modeless i r.0 r.1));
-      choice_prompts_within = λ i c q at f. (let r = was_there symbols 0 old new e i c at in k.choice_prompts_within i r.0 q r.1 (r.3 ∙ f));
-      choice_prompts_modeless = λ i c q at f. (let r = was_there symbols 0 old new e i c at in k.choice_prompts_modeless i r.0 q r.1 (r.3 ∙ f));
-      titles_modeless = k.titles_modeless;
-      modes_below = λ i n m. (let l = k.modes_below i n m in omega arith);
-      modes_behind = λ i n c m at. (let r = was_there symbols 0 old new e n c at in rw (← r.2) (k.modes_behind i n r.0 m r.1));
-      mode_prompts_behind = λ i n c q m at f. (let r = was_there symbols 0 old new e n c at in k.mode_prompts_behind i n r.0 q m r.1 (r.3 ∙ f));
-    }
+kept_defaults symbols conditions ds old new ts e = kept_alike conditions ds old new ts (many_choices symbols old new e) (was_there symbols 0 old new e)

@@ -1,5 +1,5 @@
 -- Stacks: the last of a list, and of what a function gives for a list.
-use Rattle.std.proofs.Common.{◌≡◌, ℕ, List, [], ◌∷◌, ◌++◌, length, map, Some, refl, ap, arith}
+use Rattle.std.proofs.Common.{◌≡◌, ℕ, List, [], ◌∷◌, ◌++◌, map, Some, refl, ap}
 use Rattle.kc_read.specs.Blocks.{last_of}
 use Rattle.kc_build.proofs.BlockLemmas.{front}
 
@@ -29,12 +29,3 @@ split_last (k ∷ l ∷ ks) f (y ∷ ys) x h =
     let head : y ≡ f k = cc in
     let rest = split_last (l ∷ ks) f ys x tail in
     record { k = rest.k; last = rest.last; before = rw head (ap (λ t. f k ∷ t) rest.before); here = rest.here }
-
--- nothing comes of nothing alone
-pub none_given : {Y : Type 0} (ks : List ℕ) (f : ℕ → Y) → [] ≡ map f ks → ks ≡ []
-none_given [] f h = refl
-none_given (k ∷ ks) f h = absurd cc
-
-pub no_length : {X : Type 0} (xs : List X) → length xs ≡ 0 → xs ≡ []
-no_length [] h = refl
-no_length (x ∷ xs) h = absurd (omega (arith, h))

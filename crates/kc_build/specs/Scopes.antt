@@ -1,9 +1,9 @@
 -- For proofs: The scope of a line: what its enclosing blocks ask for.
-use Rattle.std.specs.Prelude.{ℕ, ◌+◌, List, [], ◌++◌, Option, Some, if◌then◌else◌}
+use Rattle.std.specs.Prelude.{ℕ, List, [], ◌++◌, Option, Some, if◌then◌else◌}
 use Rattle.std.specs.List.{flat_map}
 use Rattle.kc_expr.specs.Form.{Form}
 use Rattle.kc_read.specs.declared.statement.Block.TheVariants as block
-use Rattle.kc_read.specs.Statements.{Numbered, ChoiceLine}
+use Rattle.kc_read.specs.Statements.{Numbered}
 use Rattle.kc_read.specs.Blocks.{enclosing}
 use Rattle.kc_build.specs.Facts.{of_block, block_conjuncts, own_visible, enclosing_visible, enclosing_choice, enclosing_block}
 
@@ -12,10 +12,6 @@ pub record Scope : Type 0 where
   pub visible : List Form
   pub mode : Option ℕ
   pub opened_at : Option ℕ
-
-abbrev pub next_count : Numbered → ℕ → ℕ
-next_count ChoiceLine n = n + 1
-next_count _ n = n
 
 module _ (ss : List Numbered) where
   -- what a block that begins at a place asks of the prompts and menus in it

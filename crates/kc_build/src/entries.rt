@@ -12,19 +12,16 @@ use crate::symbols::{note_definition, unknown_symbols};
 use crate::walk::EntryWalk;
 use kc_read::entries::Entries;
 use kc_read::statement::Head;
-use kc_tree::layout::Tables;
 use kc_tree::rows::Symbol;
 use std::alloc::{AllocError, Global};
 
 /// What the entries say, before anything is decided that needs all of them.
-#[derive(Debug, Drop)]
+#[derive(Drop)]
 pub(crate) struct Walked {
     /// A row for each name, by its definitions.
     pub symbols: Vec<Symbol>,
-    /// The tables, with each line that selects or implies a symbol, and each default of a choice that names one.
-    pub tables: Tables,
-    /// The title of the main menu.
-    pub main_menu: Vec<u8>,
+    /// The tables and the title of the main menu, behind the last entry.
+    pub walk: EntryWalk,
     /// The entries about which there may be a diagnostic, in order.
     pub suspects: Vec<Suspect>,
 }
@@ -67,15 +64,9 @@ pub(crate) fn walk_entries(
         walk.enter(alloc, summary.first, head, own)?;
         at += 1;
     }
-    let EntryWalk {
-        tables,
-        main_menu,
-        ..
-    } = walk;
     Ok(Walked {
         symbols,
-        tables,
-        main_menu,
+        walk,
         suspects,
     })
 }

@@ -13,6 +13,7 @@ use crate::entries::Walked;
 use crate::selectors::keep_targets;
 use crate::suspects::diagnose_suspects;
 use crate::symbols::{give_member_types, is_member};
+use crate::walk::EntryWalk;
 use kc_expr::names::Names;
 use kc_read::entries::Entries;
 use kc_tree::layout::Tables;
@@ -65,10 +66,14 @@ pub(crate) fn settle(
 {
     let Walked {
         mut symbols,
-        mut tables,
-        main_menu,
+        walk,
         suspects,
     } = walked;
+    let EntryWalk {
+        mut tables,
+        main_menu,
+        ..
+    } = walk;
     give_member_types(&mut symbols);
     keep_targets(&mut tables.selector_rows, &symbols);
     keep_member_defaults(&mut tables.choices, &symbols);

@@ -32,7 +32,7 @@ use std::rc::Rc;
 #[derive(Drop)]
 pub(crate) struct EntryWalk {
     pub tables: Tables,
-    pub blocks: Blocks,
+    blocks: Blocks,
     pub main_menu: Vec<u8>,
     ghost top_is_empty: { IsTopEmpty tables.contexts },
     ghost top_has_no_mode: { HasNoMode tables.contexts 0 },

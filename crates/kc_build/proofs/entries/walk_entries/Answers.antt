@@ -12,7 +12,6 @@ use Rattle.kc_build.specs.Facts.{enclosing_choice, first_of, symbol_at, symbol_o
 use Rattle.kc_build.specs.Suspected.{AreSuspects}
 use Rattle.kc_build.specs.SymbolRows.{AreBelow, definition_number, row_view}
 use Rattle.kc_build.specs.SymbolWalk.{AreRowsBefore, entry_type, row_before, with_definition}
-use Rattle.kc_build.specs.WalkResult.{IsSmall}
 use Rattle.kc_read.specs.Entries.{lines_in}
 use Rattle.kc_build.specs.Passes.{changed, statements_in, statements_of}
 use Rattle.kc_build.specs.Walks.{IsWalk, index_after}
@@ -108,29 +107,16 @@ entries-preserved c =
           c.entries.suspects.items _ c.in_ok-note_suspect.ensures (w.suspects names symbols whole);
     }
 
--- behind the last entry
-ended : (c : goal.After-drop-walk-2) → c.entries.invariant.place ≡ length (statements_in c.args.entries.now)
-ended c =
-    let es = c.args.entries.now in
-    let w = c.entries.invariant in
-    at-end es c.entries.at w.place w.at c.in_default.ensures ∙ sym (length-map (lines_in es) (λ l. l.statement))
-
 pub returns : goal.returns
 returns c =
     let es = c.args.entries.now in
     let ss = statements_in es in
     let w = c.entries.invariant in
-    let walk = subst (λ n. IsWalk ss c.args.names n c.entries.walk) (ended c) w.walk in
+    let lines = at-end es c.entries.at w.place w.at c.in_default.ensures in
+    let ended : w.place ≡ length ss = lines ∙ sym (length-map (lines_in es) (λ l. l.statement)) in
     record {
-      definitions = walk.definitions;
-      selectors = walk.selectors;
-      impliers = walk.impliers;
-      choices = walk.choices;
-      entries = walk.entries;
-      main_menu = walk.main_menu;
-      heads = walk.heads;
-      small = subst (λ n. IsSmall n c.entries.walk.tables) (length-map (lines_in es) (λ l. l.statement)) walk.small;
+      walk = subst (λ n. IsWalk ss c.args.names n c.entries.walk) ended w.walk;
       count_is = w.count_is;
-      symbols = subst (λ n. AreRowsBefore ss n c.entries.symbols.items) (ended c) w.rows;
-      suspects = λ names symbols whole. subst (AreSuspects names es c.entries.suspects.items 0) (at-end es c.entries.at w.place w.at c.in_default.ensures) (w.suspects names symbols whole);
+      symbols = subst (λ n. AreRowsBefore ss n c.entries.symbols.items) ended w.rows;
+      suspects = λ names symbols whole. subst (AreSuspects names es c.entries.suspects.items 0) lines (w.suspects names symbols whole);
     }

@@ -29,7 +29,7 @@ loop-k-preserved c =
     let x = c.index_mut.result.now in
     let kept : c.retain.new.self.items ≡ filter (λ (d : ChoiceDefault). member_by c.args.symbols.now k d.member) x.defaults.items =
     filter_same _ (λ (d : ChoiceDefault). member_by c.args.symbols.now k d.member) _ (λ d b f' h. search rules) _ _ c.retain.ensures.filtered in
-    set_changed choice_row (g k) now k x _ within c.index_mut.ensures.value (λ i. record (choice_row x) { defaults = kept i })
+    set_changed choice_row (g k) now k x (record x { defaults = c.retain.new.self }) within c.index_mut.ensures.value (λ i. record (choice_row x) { defaults = kept i })
     ∙ ap (change (g k) k) c.loop-k.invariant ∙ mapped_next g rows k (omega (arith, size, length-map old choice_row, within))
 
 pub returns : goal.returns

@@ -1,10 +1,12 @@
-use Rattle.std.proofs.Common.{ap, arith, length, refl, subst, sym}
+use Rattle.std.proofs.Common.{◌≡◌, ap, arith, length, refl, subst, sym}
+use Rattle.std.proofs.lemmas.List.{length-map}
 use Rattle.kc_read.specs.Entries.{lines_in}
 use Rattle.kc_build.specs.ChoiceRows.{HaveMemberDefaults}
 use Rattle.kc_build.specs.Passes.{statements_in}
 use Rattle.kc_build.specs.SelectorRows.{AreTargetHeads}
 use Rattle.kc_build.specs.Suspected.{AreSuspects}
 use Rattle.kc_build.specs.SymbolRows.{AreBelow, HasSymbols}
+use Rattle.kc_build.specs.WalkResult.{IsSmall}
 use Rattle.kc_build.proofs.GrownLemmas.{kept_by}
 use Rattle.kc_build.proofs.SettleLemmas.{kept_defaults, many_choices, settled_result}
 use Rattle.kc_build.proofs.SymbolRowLemmas.{rows_settled}
@@ -12,7 +14,7 @@ use Rattle.kc_build.proofs.settle.settle.Goals as goal
 
 pub invariant_of-tables : goal.invariant_of-tables
 invariant_of-tables c =
-    let t = c.args.walked.tables in
+    let t = c.args.walked.walk.tables in
     let k = kept_defaults c.deref-2.result.now t.contexts t.definitions.items t.choices.items c.keep_member_defaults.new.choices.items t.titles.items
     c.keep_member_defaults.ensures (kept_by t) in
     record {
@@ -58,7 +60,7 @@ pub returns-clause-tables : goal.returns-clause-tables
 returns-clause-tables c =
     let ss = statements_in c.args.entries.now in
     let w = c.requires.walked in
-    let old = c.args.walked.tables in
+    let old = c.args.walked.walk.tables in
     let symbols = c.give_member_types.new.symbols.items in
     let rows = rows_settled ss c.requires.types (length c.args.names.now) c.args.walked.symbols.items symbols w.count_is w.symbols c.give_member_types.ensures in
     let below = subst (λ n. AreBelow n ss) (sym rows.0) c.requires.below in
@@ -71,12 +73,13 @@ returns-clause-tables c =
       selects = subst (λ l. AreTargetHeads l old.selector_rows.selects.items c.keep_targets.new.selector_rows.selects.items) c.deref.ensures.value c.keep_targets.ensures.selects;
       implies = subst (λ l. AreTargetHeads l old.selector_rows.implies.items c.keep_targets.new.selector_rows.implies.items) c.deref.ensures.value c.keep_targets.ensures.implies;
       choices = subst (λ l. HaveMemberDefaults l old.choices.items c.keep_member_defaults.new.choices.items) c.deref-2.ensures.value c.keep_member_defaults.ensures;
-    }) below rows.1 c.args.walked.main_menu.items w.definitions (λ s l. w.selectors s (let n = rows.0 in omega arith)) (λ s l. w.impliers s (let n = rows.0 in omega arith))
-    w.choices w.entries w.main_menu
+    }) below rows.1 c.args.walked.walk.main_menu.items w.walk.definitions (λ s l. w.walk.selectors s (let n = rows.0 in omega arith)) (λ s l. w.walk.impliers s (let n = rows.0 in omega arith))
+    w.walk.choices w.walk.entries w.walk.main_menu
 
 pub returns-clause-small : goal.returns-clause-small
 returns-clause-small c =
-    let s = c.requires.walked.small in
+    let many : length (statements_in c.args.entries.now) ≡ length (lines_in c.args.entries.now) = length-map (lines_in c.args.entries.now) (λ l. l.statement) in
+    let s = subst (λ n. IsSmall n c.args.walked.walk.tables) many c.requires.walked.walk.small in
     record {
       contexts = s.contexts;
       definitions = s.definitions;
@@ -85,5 +88,5 @@ returns-clause-small c =
       lines = (let a = s.lines in let e = ap (λ l. length l) c.keep_targets.ensures.lines in omega arith);
       titles = s.titles;
       entries = s.entries;
-      choices = (let a = s.choices in let e = many_choices c.deref-2.result.now c.args.walked.tables.choices.items c.keep_member_defaults.new.choices.items c.keep_member_defaults.ensures in omega arith);
+      choices = (let a = s.choices in let e = many_choices c.deref-2.result.now c.args.walked.walk.tables.choices.items c.keep_member_defaults.new.choices.items c.keep_member_defaults.ensures in omega arith);
     }
