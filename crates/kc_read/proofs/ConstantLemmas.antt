@@ -29,5 +29,5 @@ form-constant t (Rel op operands) h = absurd cc
 form-constant t (NotOne o) h = absurd cc
 form-constant t (Not' p e) h = absurd cc
 form-constant t Module h = absurd cc
-form-constant t (All' p shape es) h = absurd cc
-form-constant t (Any' p shape es) h = absurd cc
+form-constant t (All' p first second shape rest) h = absurd cc
+form-constant t (Any' p first second shape rest) h = absurd cc
