@@ -7,7 +7,7 @@ use Rattle.kc_expr.specs.declared.expression.SymbolType.{SymbolType}
 use Rattle.kc_expr.specs.declared.expression.SymbolType.TheVariants as symbol_type
 use Rattle.kc_expr.specs.declared.expression.SymId.{SymId}
 use Rattle.kc_expr.specs.Form.{Form}
-use Rattle.kc_read.specs.declared.refusal.Code.TheVariants as code
+use Rattle.kc_diagnostics.specs.declared.cause.Cause.TheVariants as cause
 use Rattle.kc_read.specs.Statements.{InputPrompt, Numbered, Located, ConfigLine, TypeLine, PromptLine, DefaultLine, DefLine, SelectLine, ImplyLine}
 use Rattle.kc_tree.specs.declared.rows.ChoiceId.{ChoiceId}
 use Rattle.kc_tree.specs.declared.rows.Symbol.{Symbol}
@@ -124,9 +124,9 @@ module _ (names : List (List ℕ)) (symbols : List Symbol) (summary : EntrySumma
   quiet_line q =
       let warnings = sym (append-nil d.warnings) ∙ ap (λ ws. d.warnings ++ map (line_of names l.file l.line) ws) (sym q.warnings) in
       let member = sym (or_none d.member)
-      ∙ ap (λ (b : Bool). option_or d.member (if b then Some (entry_refusal names code.ChoiceMember summary.entry l.file l.line) else None)) (sym q.member) in
+      ∙ ap (λ (b : Bool). option_or d.member (if b then Some (entry_refusal names cause.ChoiceMember summary.entry l.file l.line) else None)) (sym q.member) in
       let default = sym (or_none d.default)
-      ∙ ap (λ (b : Bool). option_or d.default (if b then Some (entry_refusal names code.BadDefault summary.entry l.file l.line) else None)) (sym q.default) in
+      ∙ ap (λ (b : Bool). option_or d.default (if b then Some (entry_refusal names cause.BadDefault summary.entry l.file l.line) else None)) (sym q.default) in
       λ i. record { warnings = warnings i; member = member i; default = default i }
 
   pub attribute_adds_nothing : is_odd_attribute symbols summary.entry prompted l.statement ≡ false → d ≡ line_diagnosed names symbols summary prompted l d

@@ -15,7 +15,7 @@ mod stop;
 pub use accepted::AcceptedTree;
 pub use folder_run::{run_in_folder, say_load_fault};
 pub use kc_options::{Delivery, Options, Status};
-pub use kc_read::{Code, FileMap, Refusal};
+pub use kc_read::{Cause, FileMap, Refusal};
 pub use many::{Configurations, run_each};
 pub use runs::run;
 pub use stop::Stop;

@@ -8,8 +8,7 @@ use Rattle.std.proofs.lemmas.List.{length-map, map-append}
 use Rattle.kc_expr.specs.declared.expression.SymId.{SymId}
 use Rattle.kc_expr.specs.Names.{IsNumber, same_name, number_of, symbol, mention, Extends}
 use Rattle.std.proofs.lemmas.Bool.Decides.{nat_tests}
-use Rattle.kc_read.specs.declared.refusal.Code.TheVariants as code
-use Rattle.kc_read.specs.Lines.{cause}
+use Rattle.kc_diagnostics.specs.declared.cause.Cause.TheVariants as cause
 use Rattle.kc_expr.specs.DistinctSymbols.{added, stands_in}
 use Rattle.kc_expr.proofs.NamesLemmas.{extends_on, same_name-refl}
 use Rattle.kc_read.specs.Expansion.{names_match}
@@ -150,10 +149,10 @@ defining_same known names ids ns None None e h k = refl
 defining_same known names ids ns None (Some n) e h k = absurd k
 defining_same known names ids ns (Some id) None e h k = absurd k
 defining_same known names ids ns (Some id) (Some n) e h k =
-    ap (λ (l : ℕ). cond (nat_lt 65535 l) (Some (cause code.TooManySymbols)) None) (as_many names (added ids id) (mention ns n) (numbers_placed known names ids ns n id e h k))
+    ap (λ (l : ℕ). cond (nat_lt 65535 l) (Some cause.TooManySymbols) None) (as_many names (added ids id) (mention ns n) (numbers_placed known names ids ns n id e h k))
 
 -- whether one more is one too many
-pub too_many : (ids now : List SymId) (id : SymId) (count : ℕ) → count ≡ length now → now ≡ added ids id → 65535 < count → symbol_limit_cause ids id ≡ Some (cause code.TooManySymbols)
+pub too_many : (ids now : List SymId) (id : SymId) (count : ℕ) → count ≡ length now → now ≡ added ids id → 65535 < count → symbol_limit_cause ids id ≡ Some cause.TooManySymbols
 too_many ids now id count e f h =
     let long = ap length f in
     let t : nat_lt 65535 (length (added ids id)) ≡ true = grind (arith, nat_tests) in

@@ -21,5 +21,6 @@ mod step;
 pub use expansion::{Expansion, expand};
 pub use file_map::FileMap;
 pub use files::MOST_LINES;
-pub use refusal::{Code, Refusal};
+pub use kc_diagnostics::Cause;
+pub use refusal::Refusal;
 pub use sources::sources_of;

@@ -1,1 +1,0 @@
-use Rattle.kc_read.proofs.progress.Progress.define.Goals as goal
