@@ -5,8 +5,8 @@ use Rattle.std.specs.List.{slice_get, flat_map}
 use Rattle.std.specs.Option.{is_some}
 use Rattle.std.proofs.lemmas.List.Elements.{All-append, All-head}
 use Rattle.kc_expr.specs.Names.{AreDistinct, number_of}
-use Rattle.kc_read.specs.declared.refusal.Code.{Code}
-use Rattle.kc_read.specs.declared.refusal.Code.TheVariants as code
+use Rattle.kc_diagnostics.specs.Causes.{Cause, owned_cause}
+use Rattle.kc_diagnostics.specs.declared.cause.Cause.TheVariants as cause
 use Rattle.kc_read.specs.declared.refusal.Refusal.{Refusal}
 use Rattle.kc_read.specs.Expansion.{Expands, Log, OneExpansion, Refused, defined, refused}
 use Rattle.kc_read.specs.Files.{Files}
@@ -33,25 +33,25 @@ use Rattle.kc_build.proofs.ShapeLemmas.{nested}
 use Rattle.kc_build.proofs.WholeLemmas.{IsShaped, shaped, well_formed}
 
 -- Each refusal of the whole list is of a member or of a default.
-refusal_codes : (names : List (List ℕ)) (ls : List (Located Numbered)) → All (λ r. r.code ≢ code.Memory) (whole_list_refusals names ls)
+refusal_codes : (names : List (List ℕ)) (ls : List (Located Numbered)) → All (λ r. r.cause ≢ cause.Memory) (whole_list_refusals names ls)
 refusal_codes names ls =
-    All-append (λ r. r.code ≢ code.Memory) (flat_map (refused_at names ls code.ChoiceMember) (bad_members line_statements))
-    (flat_map (refused_at names ls code.BadDefault) (bad_defaults line_statements))
-    (All-flat_map (λ r. r.code ≢ code.Memory) (refused_at names ls code.ChoiceMember) (one_code code.ChoiceMember (λ h. cc)) (bad_members line_statements))
-    (All-flat_map (λ r. r.code ≢ code.Memory) (refused_at names ls code.BadDefault) (one_code code.BadDefault (λ h. cc)) (bad_defaults line_statements))
+    All-append (λ r. r.cause ≢ cause.Memory) (flat_map (refused_at names ls cause.ChoiceMember) (bad_members line_statements))
+    (flat_map (refused_at names ls cause.BadDefault) (bad_defaults line_statements))
+    (All-flat_map (λ r. r.cause ≢ cause.Memory) (refused_at names ls cause.ChoiceMember) (one_code cause.ChoiceMember (λ n h. cc)) (bad_members line_statements))
+    (All-flat_map (λ r. r.cause ≢ cause.Memory) (refused_at names ls cause.BadDefault) (one_code cause.BadDefault (λ n h. cc)) (bad_defaults line_statements))
   where
     line_statements : List Numbered
     line_statements = map (λ l. l.statement) ls
 
-    one_code : (c : Code) → c ≢ code.Memory → (i : ℕ) → All (λ r. r.code ≢ code.Memory) (refused_at names ls c i)
-    one_code c ne i = All-map_each (λ (r : Refused). r.code ≢ code.Memory)
-        (λ (l : Located Numbered). refused (record { code = c; detail = entry_name names (entry_symbol (menu_entry_at line_statements i)) }) l.file l.line) (λ l. ne) (listed (slice_get ls i))
+    one_code : (c : List ℕ → Cause) → ((n : List ℕ) → c n ≢ cause.Memory) → (i : ℕ) → All (λ r. r.cause ≢ cause.Memory) (refused_at names ls c i)
+    one_code c ne i = All-map_each (λ (r : Refused). r.cause ≢ cause.Memory)
+        (λ (l : Located Numbered). refused (c (entry_name names (entry_symbol (menu_entry_at line_statements i)))) l.file l.line) (λ l. ne (entry_name names (entry_symbol (menu_entry_at line_statements i)))) (listed (slice_get ls i))
 
-not_memory : (rs : List Refused) (t : TreeFacts) (v : Refused) → All (λ r. r.code ≢ code.Memory) rs → Err v ≡ unless_refused rs t → v.code ≢ code.Memory
+not_memory : (rs : List Refused) (t : TreeFacts) (v : Refused) → All (λ r. r.cause ≢ cause.Memory) rs → Err v ≡ unless_refused rs t → v.cause ≢ cause.Memory
 not_memory [] t v a h = absurd cc
 not_memory (r ∷ rs) t v a h =
     let same : v ≡ r = cc in
-    subst (λ (x : Refused). x.code ≢ code.Memory) (sym same) (All-head (λ (r : Refused). r.code ≢ code.Memory) r rs a)
+    subst (λ (x : Refused). x.cause ≢ cause.Memory) (sym same) (All-head (λ (r : Refused). r.cause ≢ cause.Memory) r rs a)
 
 whole_by : (rs : List Refused) (t u : TreeFacts) → Ok t ≡ unless_refused rs u → (rs ≡ []) × (t ≡ u)
 whole_by [] t u h = (refl, (let same : t ≡ u = cc in same))
@@ -61,7 +61,7 @@ pub refused-memory : (ls : List (Located Named)) (r : Refusal) → Err (refusal_
 refused-memory ls r h m =
     absurd (not_memory (whole_list_refusals (names_of (statements ls)) (numbered_lines ls))
     (facts_with (names_of (statements ls)) (numbered_lines ls)) (refusal_view r)
-    (refusal_codes (names_of (statements ls)) (numbered_lines ls)) h m)
+    (refusal_codes (names_of (statements ls)) (numbered_lines ls)) h (ap owned_cause m))
 
 -- the tree that lines give is well formed
 pub whole-formed : (ls : List (Located Named)) (t : TreeFacts) → AreNames (defined (statements ls)) → AreDistinct (names_of (statements ls)) → IsShaped ls → Ok t ≡ tree_of_lines ls → IsWellFormed t

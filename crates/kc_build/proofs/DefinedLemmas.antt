@@ -13,13 +13,14 @@ use Rattle.kc_expr.specs.Grammar.{Disjunction, if_word}
 use Rattle.kc_expr.specs.declared.expression.SymbolType.{SymbolType}
 use Rattle.kc_expr.specs.declared.expression.SymbolType.TheVariants as symbol_type
 use Rattle.kc_expr.proofs.NamesLemmas.{all_mentioned-append}
-use Rattle.kc_read.specs.declared.refusal.Code.TheVariants as code
+use Rattle.kc_diagnostics.specs.declared.cause.Cause.TheVariants as cause
 use Rattle.kc_read.specs.declared.statement.Keyword.{Keyword}
 use Rattle.kc_read.specs.declared.statement.Keyword.TheVariants as key
 use Rattle.kc_read.specs.Blocks.{definitions, defined_name}
 use Rattle.kc_read.specs.Expansion.{FileContext, Log, Refused, Rest, Expands, bytes_cause, context_of, limit_cause, with_file, nothing_read, refused, root_context, symbol_cause, with_line, defined, at_end, unclosed, too_long, no_tokens, blank, bad_line, over_limit, statement, bad_source, refused_inside, source}
 use Rattle.kc_read.specs.Files.{Files}
-use Rattle.kc_read.specs.Lines.{LineContext, After, Cause, ReadsTarget, ReadsType, begins_with, cause, left_out, syntax_cause, ReadsLine, ReadsPlaced, ReadsRest, attribute_words, block_words, left_out_words, type_words, ReadsWhole, ReadsCondition, ReadsValue, ReadsPrompt, choice_line, finish, good_name, in_place, is_good_name, keyword_in, keyword_of, keyword_words, keyword_or_refusal, operand_of, option_line, placement_cause, plain_text, named_target, text_of, word_of, expected}
+use Rattle.kc_diagnostics.specs.Causes.{Cause}
+use Rattle.kc_read.specs.Lines.{LineContext, After, ReadsTarget, ReadsType, begins_with, ReadsLine, ReadsPlaced, ReadsRest, attribute_words, block_words, left_out_words, type_words, ReadsWhole, ReadsCondition, ReadsValue, ReadsPrompt, choice_line, finish, good_name, in_place, is_good_name, keyword_in, keyword_of, keyword_words, keyword_or_refusal, operand_of, option_line, placement_cause, plain_text, named_target, text_of, word_of, expected}
 use Rattle.kc_read.specs.Progress.{defined_after, naming_cause}
 use Rattle.kc_read.specs.Numbering.{located_numbered}
 use Rattle.kc_read.specs.Statements.{InputPrompt, Named, Located, numbered, ConfigLine, IfLine, EndIfLine, CommentLine, SourceLine, MenuLine, EndMenuLine, ChoiceLine, EndChoiceLine, MainMenuLine, TypeLine, PromptLine, DefaultLine, DefLine, DependsLine, VisibleLine, SelectLine, ImplyLine, RangeLine, HelpLine, ModulesLine, IgnoredLine, statements}
@@ -109,7 +110,7 @@ value make ts s a h = same_allowed s (make h.0.tree h.1) h.4 (a h.0.tree h.1)
 good : (w : List ℕ) (s : Named) → Ok s ≡ good_name w → IsAllowed s
 good w s h = by (is_good_name w) refl h
   where
-    by : (b : Bool) → is_good_name w ≡ b → ◌≡◌ {A = Result Named Cause} (Ok s) (if b then Ok (ConfigLine w) else Err (record { code = code.BadName; detail = w })) → IsAllowed s
+    by : (b : Bool) → is_good_name w ≡ b → ◌≡◌ {A = Result Named Cause} (Ok s) (if b then Ok (ConfigLine w) else Err (cause.BadName w)) → IsAllowed s
     by true e f = same_allowed s (ConfigLine w) (let same : s ≡ ConfigLine w = cc in same) e
     by false e f = absurd cc
 
@@ -121,8 +122,8 @@ option : (ts : List Lexeme) (s : Named) → Ok s ≡ option_line ts → IsAllowe
 option ts s h = by (begins_with (codes "modules") ts) (begins_with (codes "allnoconfig_y") ts) (begins_with (codes "env") ts) (begins_with (codes "defconfig_list") ts) h
   where
     by : (a b c d : Bool) → ◌≡◌ {A = Result Named Cause} (Ok s)
-        (if a then finish ModulesLine (drop 1 ts) else if b then finish IgnoredLine (drop 1 ts) else if c then Err (left_out (codes "option env"))
-        else if d then Err (left_out (codes "option defconfig_list")) else Err syntax_cause) → IsAllowed s
+        (if a then finish ModulesLine (drop 1 ts) else if b then finish IgnoredLine (drop 1 ts) else if c then Err (cause.LeftOut (codes "option env"))
+        else if d then Err (cause.LeftOut (codes "option defconfig_list")) else Err cause.Syntax) → IsAllowed s
     by true b c d e = finished ModulesLine s (drop 1 ts) tt e
     by false true c d e = finished IgnoredLine s (drop 1 ts) tt e
     by false false true d e = absurd cc
@@ -176,7 +177,7 @@ rest_of w key.Range ts s g h =
 rest_of w key.Help ts s g h = finished HelpLine s ts tt h
 rest_of w key.Modules ts s g h = finished ModulesLine s ts tt h
 rest_of w key.«Option» ts s g h = option ts s h
-rest_of w key.LeftOut ts s g h = absurd (let e : ◌≡◌ {A = Result Named Cause} (Ok s) (Err (left_out w)) = h in cc)
+rest_of w key.LeftOut ts s g h = absurd (let e : ◌≡◌ {A = Result Named Cause} (Ok s) (Err (cause.LeftOut w)) = h in cc)
 
 placed_of : (c : LineContext) (w : List ℕ) (ts : List Lexeme) (k : Keyword) (s : Named) → AllowsKey k → ReadsPlaced c w ts k (Ok s) → IsAllowed s
 placed_of c w ts k s g h = by (placement_cause c w ts k) h
@@ -186,7 +187,7 @@ placed_of c w ts k s g h = by (placement_cause c w ts k) h
     by (Some why) e = absurd (let f : ◌≡◌ {A = Result Named Cause} (Ok s) (Err why) = e in cc)
 
 worded_of : (c : LineContext) (w : List ℕ) (ts : List Lexeme) (o : Option Keyword) (s : Named) → keyword_of w ≡ o → After (keyword_or_refusal o) (ReadsPlaced c w ts) (Ok s) → IsAllowed s
-worded_of c w ts None s e h = absurd (let f : ◌≡◌ {A = Result Named Cause} (Ok s) (Err syntax_cause) = h in cc)
+worded_of c w ts None s e h = absurd (let f : ◌≡◌ {A = Result Named Cause} (Ok s) (Err cause.Syntax) = h in cc)
 worded_of c w ts (Some k) s e h = placed_of c w ts k s (key_of w k e) h
 
 line_of : (c : LineContext) (ts : List Lexeme) (s : Named) → ReadsLine c ts (Ok s) → IsAllowed s
@@ -198,7 +199,7 @@ pub record AreNames (names : List (List ℕ)) : Type 0 where
   pub good : All (λ n. is_good_name n ≡ true) names
   pub few : length names ≤ 65535
 
-few_by : (b : Bool) (n : ℕ) → nat_lt 65535 n ≡ b → (if b then Some (cause code.TooManySymbols) else None) ≡ None → n ≤ 65535
+few_by : (b : Bool) (n : ℕ) → nat_lt 65535 n ≡ b → ◌≡◌ {A = Option Cause} (if b then Some cause.TooManySymbols else None) None → n ≤ 65535
 few_by true n e h = absurd cc
 few_by false n e h = grind (arith, nat_tests)
 

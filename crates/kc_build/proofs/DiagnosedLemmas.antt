@@ -11,8 +11,8 @@ use Rattle.std.proofs.lemmas.List.Elements.{filter-append, All-nil, All-cons, Al
 use Rattle.std.proofs.lemmas.List.Sums.{take_while-cons}
 use Rattle.kc_expr.specs.declared.expression.SymId.{SymId}
 use Rattle.kc_expr.specs.declared.expression.SymbolType.{SymbolType}
-use Rattle.kc_read.specs.declared.refusal.Code.{Code}
-use Rattle.kc_read.specs.declared.refusal.Code.TheVariants as code
+use Rattle.kc_diagnostics.specs.Causes.{Cause}
+use Rattle.kc_diagnostics.specs.declared.cause.Cause.TheVariants as cause
 use Rattle.kc_read.specs.Blocks.{attributes, is_attribute, numbers}
 use Rattle.kc_read.specs.Expansion.{Refused}
 use Rattle.kc_read.specs.Statements.{Numbered, Located, ConfigLine, TypeLine, PromptLine, statements}
@@ -134,8 +134,8 @@ module _ (names : List (List ℕ)) (ls : List (Located Numbered)) where
 
   -- the same as `IsDiagnosed`, by the places below one
   record Found (i : ℕ) (d : Diagnosis) : Type 0 where
-    member : d.member ≡ first_of (flat_map (refused_at names ls code.ChoiceMember) (filter bad_member_at (numbers i)))
-    default : d.default ≡ first_of (flat_map (refused_at names ls code.BadDefault) (filter bad_default_at (numbers i)))
+    member : d.member ≡ first_of (flat_map (refused_at names ls cause.ChoiceMember) (filter bad_member_at (numbers i)))
+    default : d.default ≡ first_of (flat_map (refused_at names ls cause.BadDefault) (filter bad_default_at (numbers i)))
     warnings : bad_members (statements ls) ≡ [] → d.warnings ≡ flat_map (λ j. warned_at names ls j (slice_get ls j)) (numbers i)
 
   statement_count : length (statements ls) ≡ length ls
@@ -149,15 +149,15 @@ module _ (names : List (List ℕ)) (ls : List (Located Numbered)) where
 
   found : (i : ℕ) (d : Diagnostics) → i ≤ length ls → IsDiagnosed names ls i d → Found i (diagnosis_view d)
   found i d h is = record {
-    member = is.member ∙ ap (λ l. first_of (flat_map (refused_at names ls code.ChoiceMember) l)) (members_below i h);
-    default = is.default ∙ ap (λ l. first_of (flat_map (refused_at names ls code.BadDefault) l)) (defaults_below i h);
+    member = is.member ∙ ap (λ l. first_of (flat_map (refused_at names ls cause.ChoiceMember) l)) (members_below i h);
+    default = is.default ∙ ap (λ l. first_of (flat_map (refused_at names ls cause.BadDefault) l)) (defaults_below i h);
     warnings = is.warnings;
   }
 
   diagnosed : (i : ℕ) (d : Diagnostics) → i ≤ length ls → Found i (diagnosis_view d) → IsDiagnosed names ls i d
   diagnosed i d h f = record {
-    member = f.member ∙ ap (λ l. first_of (flat_map (refused_at names ls code.ChoiceMember) l)) (sym (members_below i h));
-    default = f.default ∙ ap (λ l. first_of (flat_map (refused_at names ls code.BadDefault) l)) (sym (defaults_below i h));
+    member = f.member ∙ ap (λ l. first_of (flat_map (refused_at names ls cause.ChoiceMember) l)) (sym (members_below i h));
+    default = f.default ∙ ap (λ l. first_of (flat_map (refused_at names ls cause.BadDefault) l)) (sym (defaults_below i h));
     warnings = f.warnings;
   }
 
@@ -172,7 +172,7 @@ module _ (names : List (List ℕ)) (ls : List (Located Numbered)) where
   statement_read : (i : ℕ) (l : Located Numbered) → slice_get ls i ≡ Some l → slice_get (statements ls) i ≡ Some l.statement
   statement_read i l h = slice_get-map (λ (x : Located Numbered). x.statement) ls i ∙ ap (option_map (λ (x : Located Numbered). x.statement)) h
 
-  refused_one : (c : Code) (i : ℕ) (l : Located Numbered) → slice_get ls i ≡ Some l → refused_at names ls c i ≡ entry_refusal names c (menu_entry_at (statements ls) i) l.file l.line ∷ []
+  refused_one : (c : List ℕ → Cause) (i : ℕ) (l : Located Numbered) → slice_get ls i ≡ Some l → refused_at names ls c i ≡ entry_refusal names c (menu_entry_at (statements ls) i) l.file l.line ∷ []
   refused_one c i l h = ap (λ (o : Option (Located Numbered)). map (λ (x : Located Numbered). entry_refusal names c (menu_entry_at (statements ls) i) x.file x.line) (listed o)) h
 
 -- What is known of a line is what the list says of it, as far as it counts there.
@@ -229,15 +229,15 @@ module _ (names : List (List ℕ)) (ls : List (Located Numbered)) (symbols : Lis
       ap (λ (o : Option Numbered). list_any (is_bad_default (type_of ss) (menu_entry_at ss i)) (listed o)) read ∙ or_false _
       ∙ sym (ap (λ (g : SymId → SymbolType). is_bad_default g summary.entry l.statement) types
       ∙ ap (λ (o : MenuEntry). is_bad_default (type_of ss) o l.statement) k.entry) in
-      let refused_by : (c : Code) → refused_at names ls c i ≡ entry_refusal names c summary.entry l.file l.line ∷ [] = λ c. refused_one names ls c i l k.at
+      let refused_by : (c : List ℕ → Cause) → refused_at names ls c i ≡ entry_refusal names c summary.entry l.file l.line ∷ [] = λ c. refused_one names ls c i l k.at
       ∙ ap (λ (o : MenuEntry). entry_refusal names c o l.file l.line ∷ []) (sym k.entry) in
       let line = line_of names l.file l.line in
       let warned : warned_at names ls i (slice_get ls i) ≡ map line (line_warnings ss i l.statement) = ap (warned_at names ls i) k.at in
       record {
-        member = found_next (refused_at names ls code.ChoiceMember) (bad_member_at names ls) i member_b d.member
-            (entry_refusal names code.ChoiceMember summary.entry l.file l.line) member_at (refused_by code.ChoiceMember) f.member;
-        default = found_next (refused_at names ls code.BadDefault) (bad_default_at names ls) i default_b d.default
-            (entry_refusal names code.BadDefault summary.entry l.file l.line) default_at (refused_by code.BadDefault) f.default;
+        member = found_next (refused_at names ls cause.ChoiceMember) (bad_member_at names ls) i member_b d.member
+            (entry_refusal names cause.ChoiceMember summary.entry l.file l.line) member_at (refused_by cause.ChoiceMember) f.member;
+        default = found_next (refused_at names ls cause.BadDefault) (bad_default_at names ls) i default_b d.default
+            (entry_refusal names cause.BadDefault summary.entry l.file l.line) default_at (refused_by cause.BadDefault) f.default;
         warnings = λ none.
             ap (λ w. w ++ map line (line_warnings_in symbols summary prompted l.statement)) (f.warnings none)
             ∙ ap (λ w. flat_map (λ j. warned_at names ls j (slice_get ls j)) (numbers i) ++ w) (ap (map line) (k.says none) ∙ sym warned)
@@ -409,19 +409,19 @@ module _ (names : List (List ℕ)) (ls : List (Located Numbered)) (d : Diagnosti
   all_found : Found names ls (length ls) (diagnosis_view d)
   all_found = found names ls (length ls) d (omega arith) is
 
-  first_member : first_of (flat_map (refused_at names ls code.ChoiceMember) (bad_members (statements ls))) ≡ option_map refusal_view d.bad_member
-  first_member = ap (λ n. first_of (flat_map (refused_at names ls code.ChoiceMember) (filter (bad_member_at names ls) (numbers n)))) (statement_count names ls) ∙ sym all_found.member
+  first_member : first_of (flat_map (refused_at names ls cause.ChoiceMember) (bad_members (statements ls))) ≡ option_map refusal_view d.bad_member
+  first_member = ap (λ n. first_of (flat_map (refused_at names ls cause.ChoiceMember) (filter (bad_member_at names ls) (numbers n)))) (statement_count names ls) ∙ sym all_found.member
 
-  first_default : first_of (flat_map (refused_at names ls code.BadDefault) (bad_defaults (statements ls))) ≡ option_map refusal_view d.bad_default
-  first_default = ap (λ n. first_of (flat_map (refused_at names ls code.BadDefault) (filter (bad_default_at names ls) (numbers n)))) (statement_count names ls) ∙ sym all_found.default
+  first_default : first_of (flat_map (refused_at names ls cause.BadDefault) (bad_defaults (statements ls))) ≡ option_map refusal_view d.bad_default
+  first_default = ap (λ n. first_of (flat_map (refused_at names ls cause.BadDefault) (filter (bad_default_at names ls) (numbers n)))) (statement_count names ls) ∙ sym all_found.default
 
   first_refusal : first_of (whole_list_refusals names ls) ≡ option_or (option_map refusal_view d.bad_member) (option_map refusal_view d.bad_default)
   first_refusal =
-      first_append (flat_map (refused_at names ls code.ChoiceMember) (bad_members (statements ls))) (flat_map (refused_at names ls code.BadDefault) (bad_defaults (statements ls)))
-      ∙ ap (λ (o : Option Refused). option_or o (first_of (flat_map (refused_at names ls code.BadDefault) (bad_defaults (statements ls))))) first_member
+      first_append (flat_map (refused_at names ls cause.ChoiceMember) (bad_members (statements ls))) (flat_map (refused_at names ls cause.BadDefault) (bad_defaults (statements ls)))
+      ∙ ap (λ (o : Option Refused). option_or o (first_of (flat_map (refused_at names ls cause.BadDefault) (bad_defaults (statements ls))))) first_member
       ∙ ap (option_or (option_map refusal_view d.bad_member)) first_default
 
-  refused_some : (c : Code) (i : ℕ) → i < length (statements ls) → refused_at names ls c i ≡ [] → ⊥
+  refused_some : (c : List ℕ → Cause) (i : ℕ) → i < length (statements ls) → refused_at names ls c i ≡ [] → ⊥
   refused_some c i h none =
       let l = there_in ls i (omega (arith, statement_count names ls)) in
       let some = refused_one names ls c i l.0 l.1 in
@@ -430,8 +430,8 @@ module _ (names : List (List ℕ)) (ls : List (Located Numbered)) (d : Diagnosti
   -- no member is refused where none is found
   no_bad_member : d.bad_member ≡ None → bad_members (statements ls) ≡ []
   no_bad_member none =
-      none_kept (refused_at names ls code.ChoiceMember) (bad_member_at names ls) (length (statements ls)) (refused_some code.ChoiceMember)
-      (none_first (flat_map (refused_at names ls code.ChoiceMember) (bad_members (statements ls)))
+      none_kept (refused_at names ls cause.ChoiceMember) (bad_member_at names ls) (length (statements ls)) (refused_some cause.ChoiceMember)
+      (none_first (flat_map (refused_at names ls cause.ChoiceMember) (bad_members (statements ls)))
       (first_member ∙ ap (option_map refusal_view) none))
 
   by_option : (o p : Option Refusal) → option_map refusal_view (option_or o p) ≡ option_or (option_map refusal_view o) (option_map refusal_view p)

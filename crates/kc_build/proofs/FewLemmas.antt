@@ -5,11 +5,11 @@ use Rattle.std.proofs.lemmas.Bool.Decides.{nat_tests}
 use Rattle.std.proofs.lemmas.List.{length-map}
 use Rattle.kc_expr.specs.Names.{mention, same_name}
 use Rattle.kc_text.specs.Lines.{UnreadLines, unread_lines}
-use Rattle.kc_read.specs.declared.refusal.Code.TheVariants as code
-use Rattle.kc_read.specs.Expansion.{FileContext, Expands, Log, Refused, Rest, bytes_cause, lines_of, nothing_read, of_file, with_file, refused, root_context, sourcing_cause, at_end, unclosed, too_long, no_tokens, blank, bad_line, over_limit, statement, bad_source, refused_inside, source}
+use Rattle.kc_diagnostics.specs.declared.cause.Cause.TheVariants as cause
+use Rattle.kc_read.specs.Expansion.{FileContext, Expands, Log, Refused, Rest, bytes_cause, lines_of, nothing_read, with_file, refused, root_context, sourcing_cause, at_end, unclosed, too_long, no_tokens, blank, bad_line, over_limit, statement, bad_source, refused_inside, source}
 use Rattle.kc_read.specs.Files.{Files}
 use Rattle.kc_read.specs.Limits.{most_files, most_lines}
-use Rattle.kc_read.specs.Lines.{Cause, cause}
+use Rattle.kc_diagnostics.specs.Causes.{Cause}
 use Rattle.kc_read.specs.Numbering.{number_line}
 use Rattle.kc_read.specs.Entries.{lines_in}
 use Rattle.kc_read.specs.Statements.{Located, Named, statements}
@@ -21,7 +21,7 @@ use Rattle.kc_build.specs.Listings.{IsListing}
 few_opened : (name : List ℕ) (n : ℕ) (bytes : List ℕ) → bytes_cause name n (Some bytes) ≡ None → n + lines_of bytes ≤ most_lines
 few_opened name n bytes h = by (nat_lt most_lines (n + lines_of bytes)) refl h
   where
-    by : (b : Bool) → nat_lt most_lines (n + lines_of bytes) ≡ b → cond b (Some (cause code.TooManyLines)) None ≡ None → n + lines_of bytes ≤ most_lines
+    by : (b : Bool) → nat_lt most_lines (n + lines_of bytes) ≡ b → ◌≡◌ {A = Option Cause} (cond b (Some cause.TooManyLines) None) None → n + lines_of bytes ≤ most_lines
     by true e f = absurd cc
     by false e f = grind (arith, nat_tests)
 
@@ -29,7 +29,7 @@ few_sourced : (files : Files) (names : List (List ℕ)) (n : ℕ) (name bytes : 
 few_sourced files names n name bytes h there = by (list_any (same_name name) names) (nat_le most_files (length names)) h
   where
     by : (open_now full : Bool) →
-        cond open_now (Some (of_file code.InclusionLoop name)) (cond full (Some (cause code.TooDeep)) (bytes_cause name n (files name))) ≡ None → n + lines_of bytes ≤ most_lines
+        cond open_now (Some (cause.InclusionLoop name)) (cond full (Some cause.TooDeep) (bytes_cause name n (files name))) ≡ None → n + lines_of bytes ≤ most_lines
     by true full f = absurd cc
     by false true f = absurd cc
     by false false f = few_opened name n bytes (ap (bytes_cause name n) (sym there) ∙ f)

@@ -9,7 +9,7 @@ use Rattle.kc_expr.specs.declared.expression.SymId.{SymId}
 use Rattle.kc_expr.specs.Form.{Form}
 use Rattle.kc_read.specs.declared.entries.AttributeLine.{AttributeLine}
 use Rattle.kc_read.specs.declared.entries.Entry.{Entry}
-use Rattle.kc_read.specs.declared.refusal.Code.TheVariants as code
+use Rattle.kc_diagnostics.specs.declared.cause.Cause.TheVariants as cause
 use Rattle.kc_read.specs.declared.statement.Head.{Head}
 use Rattle.kc_read.specs.declared.statement.Head.TheVariants as head
 use Rattle.kc_read.specs.Entries.{first_line, own_lines}
@@ -157,8 +157,8 @@ module _ (names : List (List ℕ)) (symbols : List Symbol) (summary : EntrySumma
       line_diagnosed names symbols summary prompted l d ≡ d
   quiet_line prompted l d q =
       let warnings = ap (λ ws. d.warnings ++ map (line_of names l.file l.line) ws) q.warnings ∙ append-nil d.warnings in
-      let member = ap (λ (b : Bool). option_or d.member (if b then Some (entry_refusal names code.ChoiceMember summary.entry l.file l.line) else None)) q.member ∙ or_none d.member in
-      let default = ap (λ (b : Bool). option_or d.default (if b then Some (entry_refusal names code.BadDefault summary.entry l.file l.line) else None)) q.default ∙ or_none d.default in
+      let member = ap (λ (b : Bool). option_or d.member (if b then Some (entry_refusal names cause.ChoiceMember summary.entry l.file l.line) else None)) q.member ∙ or_none d.member in
+      let default = ap (λ (b : Bool). option_or d.default (if b then Some (entry_refusal names cause.BadDefault summary.entry l.file l.line) else None)) q.default ∙ or_none d.default in
       λ i. record { warnings = warnings i; member = member i; default = default i }
 
   quiet_lines : (k : SymbolType) (e : Entry) (prompted : Bool) (own : List AttributeLine) (d : Diagnosis) → IsOfType symbols summary.entry k → are_quiet k prompted (statements_of own) ≡ true →

@@ -10,12 +10,13 @@ use Rattle.kc_text.specs.Lines.{UnreadLines, unread_lines}
 use Rattle.kc_expr.specs.declared.expression.SymbolType.{SymbolType}
 use Rattle.kc_expr.specs.Grammar.{Disjunction, Atom, WordAtom, QuotedAtom, names_in_atom, if_word, is_tristate_constant, spell, terminals, names_in}
 use Rattle.kc_expr.specs.Names.{same_name}
-use Rattle.kc_read.specs.declared.refusal.Code.TheVariants as code
+use Rattle.kc_diagnostics.specs.declared.cause.Cause.TheVariants as cause
 use Rattle.kc_read.specs.declared.statement.Keyword.{Keyword}
 use Rattle.kc_read.specs.declared.statement.Keyword.TheVariants as key
 use Rattle.kc_read.specs.Expansion.{FileContext, Log, Refused, Rest, Expands, NextLine, bytes_cause, context_of, with_file, nothing_read, refused, root_context, with_line, is_help, without_help, at_end, unclosed, too_long, no_tokens, blank, bad_line, over_limit, statement, bad_source, refused_inside, source}
 use Rattle.kc_read.specs.Files.{Files}
-use Rattle.kc_read.specs.Lines.{LineContext, After, Cause, Front, IsCondition, IsWhole, ReadsTarget, ReadsType, ReadsLine, ReadsPlaced, ReadsRest, ReadsWhole, ReadsCondition, ReadsTextLine, ReadsValue, ReadsPrompt, StartsExpression, begins_with, choice_line, expected, finish, front, good_name, in_place, is_good_name, keyword_of, keyword_or_refusal, left_out, operand_of, option_line, placement_cause, plain_text, syntax_cause, named_target, text_of, word_of}
+use Rattle.kc_diagnostics.specs.Causes.{Cause}
+use Rattle.kc_read.specs.Lines.{LineContext, After, Front, IsCondition, IsWhole, ReadsTarget, ReadsType, ReadsLine, ReadsPlaced, ReadsRest, ReadsWhole, ReadsCondition, ReadsTextLine, ReadsValue, ReadsPrompt, StartsExpression, begins_with, choice_line, expected, finish, front, good_name, in_place, is_good_name, keyword_of, keyword_or_refusal, operand_of, option_line, placement_cause, plain_text, named_target, text_of, word_of}
 use Rattle.kc_read.specs.Statements.{Statement, InputPrompt, Named, Located, ConfigLine, IfLine, EndIfLine, CommentLine, SourceLine, MenuLine, EndMenuLine, ChoiceLine, EndChoiceLine, MainMenuLine, TypeLine, PromptLine, DefaultLine, DefLine, DependsLine, VisibleLine, SelectLine, ImplyLine, RangeLine, HelpLine, ModulesLine, IgnoredLine, names_in_condition, names_in_statement, value_form, statements}
 use Rattle.kc_tree.specs.TreeFacts.{IsLineText, IsLineForm}
 use Rattle.kc_build.proofs.LineTextLemmas.{AreOneLine, IsLineAtom, IsLineLexeme, IsLineTerminal, all_front, atom_lines, cut_line, file_lines, helped, taken_line, terminal_lines, value_line, word_lines}
@@ -46,7 +47,7 @@ after (Err c) Next b P r f = absurd cc
 abbrev AreInLine : List Lexeme → Type 0
 AreInLine = All IsLineLexeme
 
-unless_word : (w t : List ℕ) (b : Bool) → IsLineText w → ◌≡◌ {A = Result (List ℕ) Cause} (if b then Err syntax_cause else Ok w) (Ok t) → IsLineText t
+unless_word : (w t : List ℕ) (b : Bool) → IsLineText w → ◌≡◌ {A = Result (List ℕ) Cause} (if b then Err cause.Syntax else Ok w) (Ok t) → IsLineText t
 unless_word w t true h e = absurd cc
 unless_word w t false h e = let same : w ≡ t = cc in subst IsLineText same h
 
@@ -70,7 +71,7 @@ target_line (AWord v ∷ ts) w h e = unless_word v w (same_name v if_word || is_
 target_line (AQuoted q ∷ ts) w h e = absurd cc
 target_line (AnOp o ∷ ts) w h e = absurd cc
 
-unless_atom : (w : List ℕ) (a : Atom) (b : Bool) → IsLineText w → ◌≡◌ {A = Result Atom Cause} (if b then Err syntax_cause else Ok (WordAtom w)) (Ok a) → IsLineAtom a
+unless_atom : (w : List ℕ) (a : Atom) (b : Bool) → IsLineText w → ◌≡◌ {A = Result Atom Cause} (if b then Err cause.Syntax else Ok (WordAtom w)) (Ok a) → IsLineAtom a
 unless_atom w a true h e = absurd cc
 unless_atom w a false h e = let same : WordAtom w ≡ a = cc in subst IsLineAtom same h
 
@@ -97,7 +98,7 @@ condition_names : (ts : List Lexeme) (w : Option Disjunction) → AreInLine ts �
 condition_names ts None h c = All-nil IsLineText
 condition_names ts (Some d) h c = whole_names (drop 1 ts) d (All-drop IsLineLexeme 1 ts h) c.1
 
-expected_by : (ts us : List Lexeme) (b : Bool) → AreInLine ts → ◌≡◌ {A = Result (List Lexeme) Cause} (if b then Ok (drop 1 ts) else Err syntax_cause) (Ok us) → AreInLine us
+expected_by : (ts us : List Lexeme) (b : Bool) → AreInLine ts → ◌≡◌ {A = Result (List Lexeme) Cause} (if b then Ok (drop 1 ts) else Err cause.Syntax) (Ok us) → AreInLine us
 expected_by ts us true h e = let same : drop 1 ts ≡ us = cc in subst AreInLine same (All-drop IsLineLexeme 1 ts h)
 expected_by ts us false h e = absurd cc
 
@@ -146,7 +147,7 @@ typed k ts s l (inl h) =
     same_lines s (TypeLine k None) (let e : ◌≡◌ {A = Result Named Cause} (Ok s) (Ok (TypeLine k None)) = h.1 in let same : s ≡ TypeLine k None = cc in same) (without_names (TypeLine k None) tt refl)
 typed k ts s l (inr h) = asked (λ p. TypeLine k (Some p)) ts s l (λ p n. record { texts = tt; names = n }) h.1
 
-named : (w : List ℕ) (s : Named) (b : Bool) → IsLineText w → ◌≡◌ {A = Result Named Cause} (Ok s) (if b then Ok (ConfigLine w) else Err (record { code = code.BadName; detail = w })) → IsInLines s
+named : (w : List ℕ) (s : Named) (b : Bool) → IsLineText w → ◌≡◌ {A = Result Named Cause} (Ok s) (if b then Ok (ConfigLine w) else Err (cause.BadName w)) → IsInLines s
 named w s true h e =
     same_lines s (ConfigLine w) (let same : s ≡ ConfigLine w = cc in same) (record { texts = tt; names = All-cons IsLineText w [] h (All-nil IsLineText) })
 named w s false h e = absurd cc
@@ -163,8 +164,8 @@ option : (ts : List Lexeme) (s : Named) → Ok s ≡ option_line ts → IsInLine
 option ts s h = by (begins_with (codes "modules") ts) (begins_with (codes "allnoconfig_y") ts) (begins_with (codes "env") ts) (begins_with (codes "defconfig_list") ts) h
   where
     by : (a b c d : Bool) → ◌≡◌ {A = Result Named Cause} (Ok s)
-        (if a then finish ModulesLine (drop 1 ts) else if b then finish IgnoredLine (drop 1 ts) else if c then Err (left_out (codes "option env"))
-        else if d then Err (left_out (codes "option defconfig_list")) else Err syntax_cause) → IsInLines s
+        (if a then finish ModulesLine (drop 1 ts) else if b then finish IgnoredLine (drop 1 ts) else if c then Err (cause.LeftOut (codes "option env"))
+        else if d then Err (cause.LeftOut (codes "option defconfig_list")) else Err cause.Syntax) → IsInLines s
     by true b c d e = finished ModulesLine s (drop 1 ts) (without_names ModulesLine tt refl) e
     by false true c d e = finished IgnoredLine s (drop 1 ts) (without_names IgnoredLine tt refl) e
     by false false true d e = absurd cc
@@ -214,7 +215,7 @@ rest_of w key.Range ts s l h =
 rest_of w key.Help ts s l h = finished HelpLine s ts (without_names HelpLine tt refl) h
 rest_of w key.Modules ts s l h = finished ModulesLine s ts (without_names ModulesLine tt refl) h
 rest_of w key.«Option» ts s l h = option ts s h
-rest_of w key.LeftOut ts s l h = absurd (let e : ◌≡◌ {A = Result Named Cause} (Ok s) (Err (left_out w)) = h in cc)
+rest_of w key.LeftOut ts s l h = absurd (let e : ◌≡◌ {A = Result Named Cause} (Ok s) (Err (cause.LeftOut w)) = h in cc)
 
 line_of : (c : LineContext) (ts : List Lexeme) (s : Named) → AreInLine ts → ReadsLine c ts (Ok s) → IsInLines s
 line_of c ts s l h =

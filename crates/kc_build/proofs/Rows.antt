@@ -8,8 +8,8 @@ use Rattle.kc_expr.specs.declared.expression.SymbolType.TheVariants as symbol_ty
 use Rattle.kc_expr.specs.Form.{Form, Text, Symbol, Single, Related, Negated, LoneM, Every, NoForms, MoreForms}
 use Rattle.kc_expr.specs.Grammar.{Disjunction, Negation, WordAtom, QuotedAtom, only, joined, negation, conjunction, bang, group, lone, compare}
 use Rattle.kc_expr.specs.Names.{symbol}
-use Rattle.kc_read.specs.declared.refusal.Code.{Code}
-use Rattle.kc_read.specs.declared.refusal.Code.TheVariants as code
+use Rattle.kc_diagnostics.specs.Causes.{Cause}
+use Rattle.kc_diagnostics.specs.declared.cause.Cause.TheVariants as cause
 use Rattle.kc_read.specs.Statements.{Named, Numbered, InputPrompt, Located, ConfigLine, IfLine, EndIfLine, CommentLine, MenuLine, EndMenuLine, ChoiceLine, EndChoiceLine, MainMenuLine, TypeLine, PromptLine, DefaultLine, DefLine, DependsLine, VisibleLine, SelectLine, ImplyLine, RangeLine, ModulesLine, statements}
 use Rattle.kc_tree.specs.TreeFacts.{TreeFacts, Condition, Guarded, SymbolFacts, SymbolShown, MenuShown, EndShown, CommentShown}
 use Rattle.kc_build.specs.Facts.{symbol_facts, choices, entries}
@@ -296,11 +296,11 @@ choice_prompt_condition_choices = refl
 
 tristate_member_refused : tree_of_lines (in_root (ChoiceLine ∷ PromptLine (asked (codes "c") None) ∷ ConfigLine (codes "A") ∷
     TypeLine symbol_type.Tristate (Some (asked (codes "a") None)) ∷ EndChoiceLine ∷ [])) ≡ Err
-    (refused (record { code = code.ChoiceMember; detail = codes "A" }) (codes "Kconfig") 3)
+    (refused (cause.ChoiceMember (codes "A")) (codes "Kconfig") 3)
 tristate_member_refused = refl
 
 string_default_refused : tree_of_lines (in_root (ConfigLine (codes "S") ∷ TypeLine symbol_type.Str (Some (asked (codes "s") None)) ∷
-    DefaultLine (both (codes "A") (codes "B")) None ∷ [])) ≡ Err (refused (record { code = code.BadDefault; detail = codes "S" }) (codes "Kconfig") 3)
+    DefaultLine (both (codes "A") (codes "B")) None ∷ [])) ≡ Err (refused (cause.BadDefault (codes "S")) (codes "Kconfig") 3)
 string_default_refused = refl
 
 -- a range, and a default that is no symbol
@@ -464,17 +464,17 @@ abbrev refused_twice : List Named
 refused_twice = ConfigLine (codes "S") ∷ TypeLine symbol_type.Str None ∷ DefaultLine (both (codes "A") (codes "B")) None ∷ ChoiceLine ∷ PromptLine (asked (codes "c") None) ∷
     DefaultLine (word (codes "n")) None ∷ ConfigLine (codes "A") ∷ bool_line (codes "a") ∷ EndChoiceLine ∷ ConfigLine (codes "A") ∷ []
 
-abbrev at_line : Code → List ℕ → ℕ → Refused
-at_line c d n = refused (record { code = c; detail = d }) (codes "Kconfig") n
+abbrev at_line : (List ℕ → Cause) → List ℕ → ℕ → Refused
+at_line c d n = refused (c d) (codes "Kconfig") n
 
-refused_twice_all : refusals refused_twice ≡ at_line code.ChoiceMember (codes "A") 10 ∷ at_line code.BadDefault (codes "S") 3 ∷ at_line code.BadDefault (codes "choice") 6 ∷ []
+refused_twice_all : refusals refused_twice ≡ at_line cause.ChoiceMember (codes "A") 10 ∷ at_line cause.BadDefault (codes "S") 3 ∷ at_line cause.BadDefault (codes "choice") 6 ∷ []
 refused_twice_all = refl
 
-refused_twice_first : tree_of_lines (in_root refused_twice) ≡ Err (at_line code.ChoiceMember (codes "A") 10)
+refused_twice_first : tree_of_lines (in_root refused_twice) ≡ Err (at_line cause.ChoiceMember (codes "A") 10)
 refused_twice_first = refl
 
 -- the second `config` line is the member's
-later_member : refusals (ConfigLine (codes "A") ∷ bool_line (codes "a") ∷ ChoiceLine ∷ ConfigLine (codes "A") ∷ EndChoiceLine ∷ []) ≡ at_line code.ChoiceMember (codes "A") 4 ∷ []
+later_member : refusals (ConfigLine (codes "A") ∷ bool_line (codes "a") ∷ ChoiceLine ∷ ConfigLine (codes "A") ∷ EndChoiceLine ∷ []) ≡ at_line cause.ChoiceMember (codes "A") 4 ∷ []
 later_member = refl
 
 -- parentheses aside; a quoted text is no name
@@ -482,13 +482,13 @@ abbrev grouped : List ℕ → Disjunction
 grouped w = whole (group (word w))
 
 choice_defaults : refusals (ChoiceLine ∷ DefaultLine (grouped (codes "A")) None ∷ DefaultLine (whole (lone (QuotedAtom (codes "A")))) None ∷
-    DefaultLine (both (codes "A") (codes "A")) None ∷ ConfigLine (codes "A") ∷ EndChoiceLine ∷ []) ≡ at_line code.BadDefault (codes "choice") 3 ∷
-    at_line code.BadDefault (codes "choice") 4 ∷ []
+    DefaultLine (both (codes "A") (codes "A")) None ∷ ConfigLine (codes "A") ∷ EndChoiceLine ∷ []) ≡ at_line cause.BadDefault (codes "choice") 3 ∷
+    at_line cause.BadDefault (codes "choice") 4 ∷ []
 choice_defaults = refl
 
 -- a def_bool of a symbol whose first type is string
 compound_default : refusals (ConfigLine (codes "S") ∷ DefLine symbol_type.Bool (both (codes "A") (codes "B")) None ∷ ConfigLine (codes "T") ∷ TypeLine symbol_type.Hex None ∷
-    DefLine symbol_type.Bool (both (codes "A") (codes "B")) None ∷ []) ≡ at_line code.BadDefault (codes "T") 5 ∷ []
+    DefLine symbol_type.Bool (both (codes "A") (codes "B")) None ∷ []) ≡ at_line cause.BadDefault (codes "T") 5 ∷ []
 compound_default = refl
 
 -- m is m in a default's value, also where it is one of several parts, and with the modules symbol in its condition
@@ -533,12 +533,12 @@ unfolding digits
 outside_default = refl
 
 -- A member that is defined outside first, with a type that is not bool: the second line alone is refused.
-outside_first : refusals (ConfigLine (codes "A") ∷ TypeLine symbol_type.Tristate None ∷ ChoiceLine ∷ ConfigLine (codes "A") ∷ EndChoiceLine ∷ []) ≡ at_line code.ChoiceMember (codes "A") 4 ∷ []
+outside_first : refusals (ConfigLine (codes "A") ∷ TypeLine symbol_type.Tristate None ∷ ChoiceLine ∷ ConfigLine (codes "A") ∷ EndChoiceLine ∷ []) ≡ at_line cause.ChoiceMember (codes "A") 4 ∷ []
 outside_first = refl
 
 -- one that gets such a type outside later: both lines
 outside_later : refusals (ChoiceLine ∷ ConfigLine (codes "A") ∷ EndChoiceLine ∷ ConfigLine (codes "A") ∷ TypeLine symbol_type.Tristate None ∷ [])
-    ≡ at_line code.ChoiceMember (codes "A") 2 ∷ at_line code.ChoiceMember (codes "A") 4 ∷ []
+    ≡ at_line cause.ChoiceMember (codes "A") 2 ∷ at_line cause.ChoiceMember (codes "A") 4 ∷ []
 outside_later = refl
 
 -- the last `mainmenu` counts

@@ -12,8 +12,8 @@ use Rattle.kc_expr.specs.DistinctSymbols.{stands_in}
 use Rattle.kc_expr.specs.Grammar.{if_word, is_tristate_constant}
 use Rattle.kc_expr.proofs.NamesLemmas.{same_name-refl}
 use Rattle.kc_expr.specs.declared.expression.SymbolType.TheVariants as symbol_type
-use Rattle.kc_read.specs.declared.refusal.Code.{Code}
-use Rattle.kc_read.specs.declared.refusal.Code.TheVariants as code
+use Rattle.kc_diagnostics.specs.Causes.{Cause}
+use Rattle.kc_diagnostics.specs.declared.cause.Cause.TheVariants as cause
 use Rattle.kc_read.specs.declared.statement.Block.TheVariants as block
 use Rattle.kc_read.specs.Files.{Files}
 use Rattle.kc_read.specs.Expansion.{Expands, Log, Refused, refused, defined}
@@ -104,26 +104,26 @@ module _ (names : List (List ℕ)) (ls : List (Located Numbered)) where
   abbrev bad_at : ℕ → Option Numbered → Bool
   bad_at i o = list_any (is_bad_member (type_of numbered) (choice_of numbered) (is_first_definition_at numbered i) (enclosing_choice numbered i)) (listed o)
 
-  not_refused : (c : Code) (i : ℕ) → bad_at i (slice_get numbered i) ≡ true → refused_at names ls c i ≡ [] → ⊥
+  not_refused : (c : List ℕ → Cause) (i : ℕ) → bad_at i (slice_get numbered i) ≡ true → refused_at names ls c i ≡ [] → ⊥
   not_refused c i h n =
       let gone : slice_get ls i ≡ None = listed_none (slice_get ls i)
-      (map_none (λ l. refused (record { code = c; detail = entry_name names (entry_symbol (menu_entry_at numbered i)) }) l.file l.line)
+      (map_none (λ l. refused (c (entry_name names (entry_symbol (menu_entry_at numbered i)))) l.file l.line)
       (listed (slice_get ls i)) n) in
       let none : slice_get numbered i ≡ None = slice_get-map (λ l. l.statement) ls i ∙ ap (option_map (λ l. l.statement)) gone in
       let no : bad_at i (slice_get numbered i) ≡ false = ap (bad_at i) none in
       (let e : true ≡ false = sym h ∙ no in cc)
 
-  none_by : (ms : List ℕ) (rest : List Refused) → bad_members numbered ≡ ms → flat_map (refused_at names ls code.ChoiceMember) ms ++ rest ≡ [] → ms ≡ []
+  none_by : (ms : List ℕ) (rest : List Refused) → bad_members numbered ≡ ms → flat_map (refused_at names ls cause.ChoiceMember) ms ++ rest ≡ [] → ms ≡ []
   none_by [] rest e h = refl
   none_by (i ∷ is) rest e h =
       let bad = All-head (λ (j : ℕ). bad_at j (slice_get numbered j) ≡ true) i is
       (subst (λ (js : List ℕ). All (λ (j : ℕ). bad_at j (slice_get numbered j) ≡ true) js) e
       (filter_passes (λ (j : ℕ). bad_at j (slice_get numbered j)) (indices numbered))) in
-      let all : flat_map (refused_at names ls code.ChoiceMember) (i ∷ is) ≡ [] = append_none (flat_map (refused_at names ls code.ChoiceMember) (i ∷ is)) rest h in
-      absurd (not_refused code.ChoiceMember i bad (append_none (refused_at names ls code.ChoiceMember i) (flat_map (refused_at names ls code.ChoiceMember) is) all))
+      let all : flat_map (refused_at names ls cause.ChoiceMember) (i ∷ is) ≡ [] = append_none (flat_map (refused_at names ls cause.ChoiceMember) (i ∷ is)) rest h in
+      absurd (not_refused cause.ChoiceMember i bad (append_none (refused_at names ls cause.ChoiceMember i) (flat_map (refused_at names ls cause.ChoiceMember) is) all))
 
   pub none_bad : whole_list_refusals names ls ≡ [] → bad_members numbered ≡ []
-  none_bad h = none_by (bad_members numbered) (flat_map (refused_at names ls code.BadDefault) (bad_defaults numbered)) refl h
+  none_bad h = none_by (bad_members numbered) (flat_map (refused_at names ls cause.BadDefault) (bad_defaults numbered)) refl h
 
 modules_by : (defined : List SymId) (modules : Option SymId) (s : SymId) → symbol_if (stands_in defined) modules ≡ Some s → Contains defined s
 modules_by defined None s h = absurd cc

@@ -8,7 +8,7 @@ use Rattle.kc_expr.specs.Names.{symbol}
 use Rattle.kc_expr.specs.declared.expression.SymId.{SymId}
 use Rattle.kc_read.specs.Blocks.{attributes, numbers}
 use Rattle.kc_read.specs.Statements.{Numbered, Located, statements}
-use Rattle.kc_read.specs.declared.refusal.Code.TheVariants as code
+use Rattle.kc_diagnostics.specs.declared.cause.Cause.TheVariants as cause
 use Rattle.kc_build.specs.declared.diagnostics.Diagnostics.{Diagnostics}
 use Rattle.kc_tree.specs.declared.layout.Tables.{Tables}
 use Rattle.kc_tree.specs.declared.rows.Definition.{Definition}
@@ -79,8 +79,8 @@ pub record HasHeads (count : ℕ) (t : Tables) : Type 0 where
 
 -- what the lines before a place have against them
 pub record IsDiagnosed (names : List (List ℕ)) (ls : List (Located Numbered)) (i : ℕ) (d : Diagnostics) : Type 0 where
-  pub member : (diagnosis_view d).member ≡ first_of (flat_map (refused_at names ls code.ChoiceMember) (filter (λ j. nat_lt j i) (bad_members (statements ls))))
-  pub default : (diagnosis_view d).default ≡ first_of (flat_map (refused_at names ls code.BadDefault) (filter (λ j. nat_lt j i) (bad_defaults (statements ls))))
+  pub member : (diagnosis_view d).member ≡ first_of (flat_map (refused_at names ls cause.ChoiceMember) (filter (λ j. nat_lt j i) (bad_members (statements ls))))
+  pub default : (diagnosis_view d).default ≡ first_of (flat_map (refused_at names ls cause.BadDefault) (filter (λ j. nat_lt j i) (bad_defaults (statements ls))))
   pub warnings : bad_members (statements ls) ≡ [] → (diagnosis_view d).warnings ≡ flat_map (λ j. warned_at names ls j (slice_get ls j)) (numbers i)
 
 -- nothing is refused, and these are the warnings

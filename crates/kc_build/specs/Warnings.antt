@@ -1,11 +1,11 @@
 -- Trusted: The warnings about a tree, and the refusals that are found after its last line.
-use Rattle.std.specs.Prelude.{ℕ, suc, List, [], ◌∷◌, ◌++◌, take, filter, map, reverse, Bool, false, not, ◌&&◌, ◌||◌, codes, decimal, Option, Some, None, slice_get, is_some, is_none, if◌then◌else◌, option_map, unwrap_or}
+use Rattle.std.specs.Prelude.{ℕ, suc, List, [], ◌∷◌, ◌++◌, take, filter, map, reverse, Bool, false, not, ◌&&◌, ◌||◌, codes, Option, Some, None, slice_get, is_some, is_none, if◌then◌else◌, option_map, unwrap_or}
 use Rattle.std.specs.List.{flat_map, list_any, take_while}
 use Rattle.kc_expr.specs.declared.expression.SymId.{SymId}
 use Rattle.kc_expr.specs.declared.expression.SymbolType.{SymbolType}
 use Rattle.kc_expr.specs.declared.expression.SymbolType.TheVariants as symbol_type
-use Rattle.kc_read.specs.declared.refusal.Code.{Code}
-use Rattle.kc_read.specs.declared.refusal.Code.TheVariants as code
+use Rattle.kc_diagnostics.specs.Causes.{Cause}
+use Rattle.kc_diagnostics.specs.declared.cause.Cause.TheVariants as cause
 use Rattle.kc_read.specs.Statements.{Numbered, Located, ConfigLine, ChoiceLine, statements}
 use Rattle.kc_read.specs.Blocks.{numbers, last_of, is_attribute, is_no_attribute}
 use Rattle.kc_read.specs.Expansion.{Refused, refused}
@@ -13,6 +13,8 @@ use Rattle.kc_build.specs.declared.lines.SelectOrImply.{SelectOrImply}
 use Rattle.kc_build.specs.declared.lines.SelectOrImply.TheVariants as select_or_imply
 use Rattle.kc_build.specs.declared.diagnostics.MenuEntry.{MenuEntry}
 use Rattle.kc_build.specs.declared.diagnostics.MenuEntry.TheVariants as menu_entry
+use Rattle.kc_diagnostics.specs.Warnings.{Warning as Told, located_warning}
+use Rattle.kc_diagnostics.specs.declared.warning.Warning.TheVariants as told
 use Rattle.kc_build.specs.declared.warning.Warning.{Warning}
 use Rattle.kc_build.specs.declared.warning.Warning.TheVariants as warning
 use Rattle.kc_build.specs.FirstDefinitions.{is_first_definition_at}
@@ -123,7 +125,7 @@ module _ (ss : List Numbered) where
   abbrev pub bad_defaults : List ℕ
   bad_defaults = filter (λ i. list_any (is_bad_default (type_of ss) (menu_entry_at ss i)) (listed (slice_get ss i))) (indices ss)
 
--- Texts.
+-- Names and words.
 abbrev pub keyword_text : SelectOrImply → List ℕ
 keyword_text select_or_imply.Select = codes "select"
 keyword_text select_or_imply.Imply = codes "imply"
@@ -133,17 +135,18 @@ module _ (names : List (List ℕ)) where
   abbrev pub entry_name : Option SymId → List ℕ
   entry_name o = unwrap_or (option_map (name_by names) o) (codes "choice")
 
-  abbrev pub text_of : Warning → List ℕ
-  text_of (warning.TypeRedefined t) = codes "K1: type of " ++ name_by names t ++ codes " redefined, the first is kept"
-  text_of (warning.PromptRedefined o) = codes "K2: prompt of " ++ entry_name o ++ codes " redefined, the last is kept"
-  text_of (warning.WithoutType t) = codes "K3: " ++ name_by names t ++ codes " has no type"
-  text_of (warning.TextTarget t r) = codes "K4: " ++ name_by names t ++ codes " is not bool or tristate, the " ++ keyword_text r ++ codes " has no effect"
-  text_of (warning.DefaultNotMember t) = codes "K5: " ++ name_by names t ++ codes " is not a member of the choice"
-  text_of (warning.MemberTarget t r) = codes "K6: " ++ name_by names t ++ codes " is a choice member, the " ++ keyword_text r ++ codes " has no effect"
+  -- a warning with the names of its symbols
+  abbrev pub named : Warning → Told
+  named (warning.TypeRedefined t) = told.TypeRedefined (name_by names t)
+  named (warning.PromptRedefined o) = told.PromptRedefined (entry_name o)
+  named (warning.WithoutType t) = told.WithoutType (name_by names t)
+  named (warning.TextTarget t r) = told.TextTarget (name_by names t) (keyword_text r)
+  named (warning.DefaultNotMember t) = told.DefaultNotMember (name_by names t)
+  named (warning.MemberTarget t r) = told.MemberTarget (name_by names t) (keyword_text r)
 
   -- the whole line of a warning about a line
   abbrev pub line_of : List ℕ → ℕ → Warning → List ℕ
-  line_of file line w = file ++ codes ":" ++ decimal line ++ codes ": warning " ++ text_of w
+  line_of file line w = located_warning file line (named w)
 
 -- Of these lines, where names have these numbers.
 module _ (names : List (List ℕ)) (ls : List (Located Numbered)) where
@@ -155,8 +158,8 @@ module _ (names : List (List ℕ)) (ls : List (Located Numbered)) where
   warnings = flat_map (λ i. warned_at i (slice_get ls i)) (indices (statements ls))
 
   -- the refusal of a line, which names its entry
-  abbrev pub refused_at : Code → ℕ → List Refused
-  refused_at c i = map (λ l. refused (record { code = c; detail = entry_name names (entry_symbol (menu_entry_at (statements ls) i)) }) l.file l.line) (listed (slice_get ls i))
+  abbrev pub refused_at : (List ℕ → Cause) → ℕ → List Refused
+  refused_at c i = map (λ l. refused (c (entry_name names (entry_symbol (menu_entry_at (statements ls) i)))) l.file l.line) (listed (slice_get ls i))
 
   abbrev pub whole_list_refusals : List Refused
-  whole_list_refusals = flat_map (refused_at code.ChoiceMember) (bad_members (statements ls)) ++ flat_map (refused_at code.BadDefault) (bad_defaults (statements ls))
+  whole_list_refusals = flat_map (refused_at cause.ChoiceMember) (bad_members (statements ls)) ++ flat_map (refused_at cause.BadDefault) (bad_defaults (statements ls))

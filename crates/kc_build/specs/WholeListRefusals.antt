@@ -1,7 +1,7 @@
 -- For proofs: Refusals that the whole list shows, as the code makes them.
 use Rattle.std.specs.Prelude.{ℕ, List, Option, Some, None, option_map, if◌then◌else◌}
-use Rattle.kc_read.specs.declared.refusal.Code.{Code}
-use Rattle.kc_read.specs.declared.refusal.Code.TheVariants as code
+use Rattle.kc_diagnostics.specs.Causes.{Cause}
+use Rattle.kc_diagnostics.specs.declared.cause.Cause.TheVariants as cause
 use Rattle.kc_read.specs.Expansion.{Refused, refused}
 use Rattle.kc_read.specs.Statements.{Numbered, Located}
 use Rattle.kc_build.specs.declared.diagnostics.MenuEntry.{MenuEntry}
@@ -12,15 +12,15 @@ use Rattle.kc_build.specs.SymbolRows.{choice_by, type_by}
 use Rattle.kc_build.specs.Warnings.{entry_name, entry_symbol, is_bad_default, is_bad_member}
 
 -- the refusal of a line at a place, which names its entry
-abbrev pub entry_refusal : List (List ℕ) → Code → MenuEntry → List ℕ → ℕ → Refused
-entry_refusal names c o file line = refused (record { code = c; detail = entry_name names (entry_symbol o) }) file line
+abbrev pub entry_refusal : List (List ℕ) → (List ℕ → Cause) → MenuEntry → List ℕ → ℕ → Refused
+entry_refusal names c o file line = refused (c (entry_name names (entry_symbol o))) file line
 
 -- the refusal of a line that defines a member it may not, by what is known of the symbols and by the summary of its entry
 abbrev pub bad_member_of : List (List ℕ) → List Symbol → EntrySummary → Located Numbered → Option Refused
 bad_member_of names symbols p l =
     if is_bad_member (type_by symbols) (choice_by symbols) p.first (option_map (λ (k : ChoiceId). k.0) p.within_choice) l.statement
-    then Some (entry_refusal names code.ChoiceMember p.entry l.file l.line) else None
+    then Some (entry_refusal names cause.ChoiceMember p.entry l.file l.line) else None
 
 -- and of a default that may not be
 abbrev pub bad_default_of : List (List ℕ) → List Symbol → EntrySummary → Located Numbered → Option Refused
-bad_default_of names symbols p l = if is_bad_default (type_by symbols) p.entry l.statement then Some (entry_refusal names code.BadDefault p.entry l.file l.line) else None
+bad_default_of names symbols p l = if is_bad_default (type_by symbols) p.entry l.statement then Some (entry_refusal names cause.BadDefault p.entry l.file l.line) else None

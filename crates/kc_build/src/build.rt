@@ -5,7 +5,7 @@ ghost use Rattle.kc_expr.specs.DistinctSymbols.{stands_in};
 ghost use Rattle.kc_read.specs.Files.{Files, bytes_in};
 ghost use Rattle.kc_read.specs.RefusalView.{IsMemory, refusal_view};
 ghost use Rattle.kc_read.specs.Entries.{lines_in};
-ghost use Rattle.kc_read.specs.declared.refusal.Code.TheVariants.{Memory};
+ghost use Rattle.kc_diagnostics.specs.declared.cause.Cause.TheVariants.{Memory};
 ghost use Rattle.kc_build.specs.Facts.{defined_symbols};
 ghost use Rattle.kc_build.specs.Limits.{most_names};
 ghost use Rattle.kc_build.specs.Listings.{IsListingOf};
@@ -107,13 +107,13 @@ fn build_parts(
 /// stands in a choice while its symbol is no bool. So of a symbol that is defined once outside and then in its choice the
 /// line is the one in the choice. Without such a line E14 comes at the first default line of a string, int or hex symbol that is no
 /// single operand, or of a choice that is no single name, parentheses aside. Both name the symbol, or `choice`. E20, which
-/// has no location and no detail, is being out of memory.
+/// has no location, is being out of memory.
 ///
 /// The caller owes lines as [`read_listing`] gives them.
 pub fn tree_of(alloc: Global, listing: Listing) -> Result<Tree, Refusal>
     requires { (files : Files) × (root : List ℕ) × IsListingOf files root listing }
     ensures built { IfOk result (λ t. (files : Files) (root : List ℕ) → IsListingOf files root listing → IsTreeOf files root (Ok t)) }
-    ensures refused { IfErr result (λ r. r.code ≢ Memory → (files : Files) (root : List ℕ) → IsListingOf files root listing → IsTreeOf files root (Err (refusal_view r))) }
+    ensures refused { IfErr result (λ r. r.cause ≢ Memory → (files : Files) (root : List ℕ) → IsListingOf files root listing → IsTreeOf files root (Err (refusal_view r))) }
     ensures memory { IfErr result IsMemory }
 {
     let Listing {
@@ -124,7 +124,7 @@ pub fn tree_of(alloc: Global, listing: Listing) -> Result<Tree, Refusal>
     } = listing;
     let outcome = match build_parts(alloc, &names, &entries, defined, modules) {
         Ok(outcome) => outcome,
-        Err(_) => return Err(Refusal::out_of_memory(alloc)),
+        Err(_) => return Err(Refusal::out_of_memory()),
     };
     match outcome {
         Err(refusal) => Err(refusal),
@@ -144,7 +144,7 @@ pub fn tree_of(alloc: Global, listing: Listing) -> Result<Tree, Refusal>
 /// documentation; the limits, the order of checks and the warnings are our own.
 pub fn build_tree(alloc: Global, map: &FileMap, root: &[u8]) -> Result<Tree, Refusal>
     ensures built { IfOk result (λ t. IsTreeOf (bytes_in map.now) root.now (Ok t)) }
-    ensures refused { IfErr result (λ r. r.code ≢ Memory → IsTreeOf (bytes_in map.now) root.now (Err (refusal_view r))) }
+    ensures refused { IfErr result (λ r. r.cause ≢ Memory → IsTreeOf (bytes_in map.now) root.now (Err (refusal_view r))) }
     ensures memory { IfErr result IsMemory }
 {
     let reading = read_listing(alloc, map, root)?;

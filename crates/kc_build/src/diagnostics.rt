@@ -19,10 +19,11 @@ use crate::lines::{
 };
 use crate::symbols::{choice_of, has_text, is_member, type_of};
 use crate::warning::{Place, Warning, entry_name, line_of};
+use kc_diagnostics::Cause;
 use kc_expr::expression::{SymId, SymbolType};
 use kc_expr::names::Names;
 use kc_read::entries::{Entry, EntryLines};
-use kc_read::refusal::{Code, Refusal};
+use kc_read::refusal::Refusal;
 use kc_read::statement::{Attribute, Head};
 use kc_tree::rows::{ChoiceId, Symbol};
 use std::alloc::{AllocError, Global};
@@ -236,23 +237,6 @@ fn is_bad_default(attribute: &Attribute, entry: MenuEntry, symbols: &[Symbol]) -
     }
 }
 
-// The refusal of a line, which names its entry.
-fn refusal(
-    alloc: Global,
-    names: &Names,
-    place: Place<'_>,
-    entry: MenuEntry,
-    code: Code,
-) -> Result<Refusal, AllocError>
-    ensures { IfOk result (λ r. refusal_view r ≡ entry_refusal.entry_refusal names.now code entry place.entry.file.now place.entry.line) }
-{
-    let file = Vec::from_slice(alloc, place.file)?;
-    let detail = Vec::from_slice(alloc, entry_name(names, entry_symbol(entry)))?;
-    Ok(Refusal {
-        code,
-        location: Some((file, place.line)),
-        detail,
-    })
 }
 
 // A line of an entry.
@@ -340,7 +324,8 @@ impl Diagnostics {
     {
         if self.bad_member.is_none() && is_bad_member(&head.head, summary, symbols) {
             let place = place_in(head, head.line);
-            let found = refusal(alloc, names, place, summary.entry, Code::ChoiceMember)?;
+            let cause = Cause::ChoiceMember(entry_name(names, entry_symbol(summary.entry)));
+            let found = Refusal::located(alloc, cause, place.file, place.line)?;
             self.bad_member = Some(found);
         }
         Ok(())
@@ -363,7 +348,8 @@ impl Diagnostics {
         ensures warnings { OnOk result (self.new.warnings ≡ self.old.warnings) }
     {
         if self.bad_default.is_none() && is_bad_default(attribute, summary.entry, symbols) {
-            let found = refusal(alloc, names, place, summary.entry, Code::BadDefault)?;
+            let cause = Cause::BadDefault(entry_name(names, entry_symbol(summary.entry)));
+            let found = Refusal::located(alloc, cause, place.file, place.line)?;
             self.bad_default = Some(found);
         }
         Ok(())

@@ -8,7 +8,7 @@ ghost use Rattle.kc_read.specs.Expansion.{Log, Expands};
 ghost use Rattle.kc_read.specs.Files.{bytes_in};
 ghost use Rattle.kc_read.specs.OpenedFiles.{AreOpened};
 ghost use Rattle.kc_read.specs.RefusalView.{IsMemory, refusal_view};
-ghost use Rattle.kc_read.specs.declared.refusal.Code.TheVariants.{Memory};
+ghost use Rattle.kc_diagnostics.specs.declared.cause.Cause.TheVariants.{Memory};
 ghost use Rattle.kc_build.specs.Listings.{IsListing, IsListingOf};
 
 use kc_expr::expression::SymId;
@@ -75,11 +75,11 @@ fn listing_of(names: Names, expansion: Expansion) -> RootReading
 
 /// The lines of a root file, and the files that were opened for them, or its first refusal: E1 to E12 and E16, each at the
 /// first line with a fault, as `expand` of kc_read answers them. The files are not looked at again afterwards. E20, which has
-/// no location and no detail, is being out of memory.
+/// no location, is being out of memory.
 pub fn read_listing(alloc: Global, map: &FileMap, root: &[u8]) -> Result<RootReading, Refusal>
     ensures listed { IfOk result (λ r. IsListingOf (bytes_in map.now) root.now r.listing) }
     ensures opened { IfOk result (λ r. AreOpened (bytes_in map.now) root.now r.opened) }
-    ensures refused { IfErr result (λ r. r.code ≢ Memory → Expands (bytes_in map.now) root.now (Err (refusal_view r))) }
+    ensures refused { IfErr result (λ r. r.cause ≢ Memory → Expands (bytes_in map.now) root.now (Err (refusal_view r))) }
     ensures memory { IfErr result IsMemory }
 {
     let mut names = Names::new(alloc);

@@ -1,11 +1,12 @@
-//! A warning about a tree, and its text.
+//! A warning about a tree, and its line.
 
-ghost use Rattle.std.specs.Prelude.{◌≡◌, ◌++◌, codes, IfOk};
+ghost use Rattle.std.specs.Prelude.{◌≡◌, IfOk};
+ghost use Rattle.kc_diagnostics.specs.Warnings.{shown_warning};
 ghost use Rattle.kc_tree.specs.Common.{name_by};
 ghost use Rattle.kc_build.specs.Warnings as spec;
 
 use crate::lines::SelectOrImply;
-use itoa::Buffer;
+use kc_diagnostics::{Warning as NamedWarning, add_located};
 use kc_expr::expression::SymId;
 use kc_expr::names::Names;
 use std::alloc::{AllocError, Global};
@@ -55,7 +56,7 @@ pub(crate) fn entry_name(names: &Names, symbol: Option<SymId>) -> &[u8]
 }
 
 // The word of the line.
-fn keyword_text(word: SelectOrImply) -> &'static [u8]
+fn keyword_text<'a>(word: SelectOrImply) -> &'a [u8]
     ensures { result.now ≡ spec.keyword_text word }
 {
     match word {
@@ -64,70 +65,23 @@ fn keyword_text(word: SelectOrImply) -> &'static [u8]
     }
 }
 
-// The parts of a text, one after the other.
-fn joined_text(alloc: Global, head: &[u8], name: &[u8], tail: &[u8]) -> Result<Vec<u8>, AllocError>
-    ensures { IfOk result (λ v. v.items ≡ head.now ++ name.now ++ tail.now) }
-{
-    let mut text = Vec::from_slice(alloc, head)?;
-    text.extend_from_slice(name)?;
-    text.extend_from_slice(tail)?;
-    Ok(text)
-}
-
-// The same, with the word of a line and what has no effect after it.
-fn target_text(
-    alloc: Global,
-    head: &[u8],
-    name: &[u8],
-    fault: &[u8],
-    word: SelectOrImply,
-) -> Result<Vec<u8>, AllocError>
-    ensures { IfOk result (λ v. v.items ≡ head.now ++ name.now ++ fault.now ++ spec.keyword_text word ++ codes " has no effect") }
-{
-    let mut text = joined_text(alloc, head, name, fault)?;
-    text.extend_from_slice(keyword_text(word))?;
-    text.extend_from_slice(b" has no effect")?;
-    Ok(text)
-}
-
-/// The text of a warning, without its line.
-pub(crate) fn text_of(alloc: Global, names: &Names, warning: Warning) -> Result<Vec<u8>, AllocError>
-    ensures { IfOk result (λ v. v.items ≡ spec.text_of names.now warning) }
+// The warning, with the names of its symbols.
+fn named<'n>(names: &'n Names, warning: Warning) -> NamedWarning<&'n [u8]>
+    ensures { shown_warning result ≡ spec.named names.now warning }
 {
     match warning {
-        Warning::TypeRedefined(s) => joined_text(
-            alloc,
-            b"K1: type of ",
-            name_of(names, s),
-            b" redefined, the first is kept",
-        ),
-        Warning::PromptRedefined(s) => joined_text(
-            alloc,
-            b"K2: prompt of ",
-            entry_name(names, s),
-            b" redefined, the last is kept",
-        ),
-        Warning::WithoutType(s) => joined_text(alloc, b"K3: ", name_of(names, s), b" has no type"),
-        Warning::TextTarget(s, word) => target_text(
-            alloc,
-            b"K4: ",
-            name_of(names, s),
-            b" is not bool or tristate, the ",
-            word,
-        ),
-        Warning::DefaultNotMember(s) => joined_text(
-            alloc,
-            b"K5: ",
-            name_of(names, s),
-            b" is not a member of the choice",
-        ),
-        Warning::MemberTarget(s, word) => target_text(
-            alloc,
-            b"K6: ",
-            name_of(names, s),
-            b" is a choice member, the ",
-            word,
-        ),
+        Warning::TypeRedefined(s) => NamedWarning::TypeRedefined(name_of(names, s)),
+        Warning::PromptRedefined(s) => NamedWarning::PromptRedefined(entry_name(names, s)),
+        Warning::WithoutType(s) => NamedWarning::WithoutType(name_of(names, s)),
+        Warning::TextTarget(s, word) => NamedWarning::TextTarget {
+            name: name_of(names, s),
+            word: keyword_text(word),
+        },
+        Warning::DefaultNotMember(s) => NamedWarning::DefaultNotMember(name_of(names, s)),
+        Warning::MemberTarget(s, word) => NamedWarning::MemberTarget {
+            name: name_of(names, s),
+            word: keyword_text(word),
+        },
     }
 }
 
@@ -140,12 +94,12 @@ pub(crate) fn line_of(
 ) -> Result<Vec<u8>, AllocError>
     ensures { IfOk result (λ v. v.items ≡ spec.line_of names.now place.entry.file.now place.entry.line warning) }
 {
-    let text = text_of(alloc, names, warning)?;
-    let mut buffer = Buffer::new();
-    let mut whole = Vec::from_slice(alloc, place.file)?;
-    whole.extend_from_slice(b":")?;
-    whole.extend_from_slice(buffer.format(place.line).as_bytes())?;
-    whole.extend_from_slice(b": warning ")?;
-    whole.extend_from_slice(&text)?;
-    Ok(whole)
+    let mut line = Vec::new(alloc);
+    add_located(
+        place.file,
+        u64::from(place.line),
+        named(names, warning),
+        &mut line,
+    )?;
+    Ok(line)
 }

@@ -106,15 +106,13 @@ pub(crate) fn letters_into(bytes: &[u8], text: &mut String) {
     }
 }
 
-/// Adds the refusal as `FILE:LINE CODE DETAIL`; without a location or a detail it has less.
+/// Adds the refusal as `FILE:LINE TEXT`; without a location it has less.
 pub(crate) fn refusal_into(refusal: &Refusal, text: &mut String) {
     if let Some((file, line)) = &refusal.location {
         letters_into(file, text);
         let _ = write!(text, ":{line} ");
     }
-    let _ = write!(text, "{:?}", refusal.code);
-    if !refusal.detail.is_empty() {
-        let _ = text.push(' ');
-        letters_into(&refusal.detail, text);
+    for part in refusal.cause.parts() {
+        letters_into(part, text);
     }
 }

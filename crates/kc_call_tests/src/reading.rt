@@ -148,9 +148,9 @@ fn lines_and_symbols_are_counted(rt: HostRuntime) {
     }
 }
 
-const MISPLACED: &str = "Kconfig:2 Misplaced";
+const MISPLACED: &str = "Kconfig:2 E10: misplaced";
 
-const LEFT_OUT: &str = "Kconfig:2 LeftOut tristate choice";
+const LEFT_OUT: &str = "Kconfig:2 E7: tristate choice is left out";
 
 // Whether a line is taken as the sign says after an entry, beside an empty file `a`.
 fn is_taken(alloc: Global, entry: &str, line: &str, sign: u8) -> bool {
@@ -273,7 +273,7 @@ const LIMITS: &[Case] = &[
         "2 lines, 1 symbols",
     ),
     // Over memory a file may have the empty name.
-    (&[(1, b"source \"\"")], &[], "Kconfig:1 NoFile"),
+    (&[(1, b"source \"\"")], &[], "Kconfig:1 E1: no file "),
 ];
 
 // Forty blocks around the file `a`, which opens up to 25 in them.
@@ -352,22 +352,22 @@ const CHAINS: &[Chain] = &[
     LONG,
     Chain {
         text: "\nsource b",
-        want: "aaaaaaaaaaaaaaaaaaaaaaaaaaaaaaaaaaaaaaaaaaaaaaaaaaaaaaaaaaaaaaaKconfig:2 TooDeep",
+        want: "aaaaaaaaaaaaaaaaaaaaaaaaaaaaaaaaaaaaaaaaaaaaaaaaaaaaaaaaaaaaaaaKconfig:2 E12: too deep",
         ..LONG
     },
     Chain {
         text: "source long",
-        want: "aaaaaaaaaaaaaaaaaaaaaaaaaaaaaaaaaaaaaaaaaaaaaaaaaaaaaaaaaaaaaaaKconfig:1 TooDeep",
+        want: "aaaaaaaaaaaaaaaaaaaaaaaaaaaaaaaaaaaaaaaaaaaaaaaaaaaaaaaaaaaaaaaKconfig:1 E12: too deep",
         ..LONG
     },
     Chain {
         text: "source aaaKconfig",
-        want: "aaaaaaaaaaaaaaaaaaaaaaaaaaaaaaaaaaaaaaaaaaaaaaaaaaaaaaaaaaaaaaaKconfig:1 InclusionLoop aaaKconfig",
+        want: "aaaaaaaaaaaaaaaaaaaaaaaaaaaaaaaaaaaaaaaaaaaaaaaaaaaaaaaaaaaaaaaKconfig:1 E2: file aaaKconfig includes itself",
         ..LONG
     },
     Chain {
         text: "source 'b?'",
-        want: "aaaaaaaaaaaaaaaaaaaaaaaaaaaaaaaaaaaaaaaaaaaaaaaaaaaaaaaaaaaaaaaKconfig:1 LeftOut pattern",
+        want: "aaaaaaaaaaaaaaaaaaaaaaaaaaaaaaaaaaaaaaaaaaaaaaaaaaaaaaaaaaaaaaaKconfig:1 E7: pattern is left out",
         ..LONG
     },
     // Twenty-one files, of which each sources the next twice.
@@ -376,7 +376,7 @@ const CHAINS: &[Chain] = &[
         twice: true,
         text: "",
         long: &[],
-        want: "aaaaaaaaaaaaaaaaaaKconfig:2 TooManyLines",
+        want: "aaaaaaaaaaaaaaaaaaKconfig:2 E3: more than 1000000 lines",
     },
 ];
 
@@ -393,22 +393,26 @@ const TWICE: &[Piece] = &[(2, b"source \"a\"~")];
 // A million lines and one.
 const MILLIONS: &[Case] = &[
     (TWICE, &[(499_999, b"~")], "0 lines, 0 symbols"),
-    (TWICE, &[(500_000, b"~")], "Kconfig:2 TooManyLines"),
+    (
+        TWICE,
+        &[(500_000, b"~")],
+        "Kconfig:2 E3: more than 1000000 lines",
+    ),
     (&[(1_000_000, b"~")], &[], "0 lines, 0 symbols"),
     (
         &[(1_000_000, b"~"), (1, b"#")],
         &[],
-        "Kconfig:0 TooManyLines",
+        "Kconfig:0 E3: more than 1000000 lines",
     ),
     (
         &[(1, b"source Kconfig~"), (1_000_000, b"~")],
         &[],
-        "Kconfig:0 TooManyLines",
+        "Kconfig:0 E3: more than 1000000 lines",
     ),
     (
         &[(1, b"source Kconfig~"), (500_000, b"~")],
         &[],
-        "Kconfig:1 InclusionLoop Kconfig",
+        "Kconfig:1 E2: file Kconfig includes itself",
     ),
 ];
 
@@ -430,17 +434,17 @@ const SYMBOLS: &[Case] = &[
     (
         &[(65_535, b"config %~"), (1, b"config Z")],
         &[],
-        "Kconfig:65536 TooManySymbols",
+        "Kconfig:65536 E16: more than 65535 symbols",
     ),
     (
         &[(65_535, b"config %~"), (1, b"config Z-Z")],
         &[],
-        "Kconfig:65536 BadName Z-Z",
+        "Kconfig:65536 E11: bad name Z-Z",
     ),
     (
         &[(65_535, b"config %~"), (1, b"config Z Z")],
         &[],
-        "Kconfig:65536 Syntax",
+        "Kconfig:65536 E8: syntax",
     ),
 ];
 

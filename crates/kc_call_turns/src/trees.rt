@@ -2,9 +2,10 @@
 
 use crate::end::{CallEnd, done, refused};
 use kc_build::build_tree;
+use kc_diagnostics::Cause;
 use kc_expr::expression::SymId;
 use kc_read::file_map::FileMap;
-use kc_read::refusal::{Code, Refusal};
+use kc_read::refusal::Refusal;
 use kc_read::sources_of;
 use kc_solve::evaluation_order::EvaluationOrder;
 use kc_tree::tree::Tree;
@@ -146,9 +147,9 @@ pub(crate) fn on_tree(
     call.end(alloc, &tree)
 }
 
-// Being out of memory, with no location and no detail.
+// Being out of memory, with no location.
 fn is_memory(refusal: &Refusal) -> bool {
-    refusal.code == Code::Memory && refusal.location.is_none() && refusal.detail.is_empty()
+    refusal.cause == Cause::Memory && refusal.location.is_none()
 }
 
 // Whether the tree of `KCONFIG` has its symbols and its warning.
@@ -183,11 +184,13 @@ fn is_order(nodes: &[u32]) -> bool {
 
 // How the refusal of a tree whose loop is named ends the call.
 fn loop_end(refusal: &Refusal) -> CallEnd {
-    if refusal.code == Code::Memory {
-        return refused(is_memory(refusal));
+    match &refusal.cause {
+        Cause::Loop(names) => {
+            let is_named = names.as_slice() == b"A -> B -> A".as_slice();
+            done(is_named && refusal.location.is_none())
+        }
+        _ => refused(is_memory(refusal)),
     }
-    let is_named = refusal.detail.as_slice() == b"A -> B -> A".as_slice();
-    done(refusal.code == Code::Loop && refusal.location.is_none() && is_named)
 }
 
 /// `EvaluationOrder::of`.

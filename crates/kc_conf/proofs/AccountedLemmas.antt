@@ -22,7 +22,9 @@ use Rattle.kc_values.specs.Differs.{given_of}
 use Rattle.kc_values.specs.Lookups.{facts, name}
 use Rattle.kc_solve.specs.Solved.{Solution, known, warnings as value_warnings}
 use Rattle.kc_config_file.specs.Changes.{StreamLocation, change_line, change_text}
-use Rattle.kc_config_file.specs.Effects.{Effect, Silent, Warns, Assigns, SetAgain, LineWarning, type_in, type_of, warning_line}
+use Rattle.kc_diagnostics.specs.Warnings.{Warning}
+use Rattle.kc_diagnostics.specs.declared.warning.Warning.TheVariants.{SetAgain}
+use Rattle.kc_config_file.specs.Effects.{Effect, Silent, Warns, Assigns, type_in, type_of, warning_line}
 use Rattle.kc_config_file.specs.Reading.{Line, UserInput, before_too_long, effect, effect_text, input_after, is_within, lines_of, reading, stream_location, warning, warning_line_if, warnings}
 use Rattle.kc_config_file.specs.ReadingLaws.{LinesGiveInTurn, LinesInTurn}
 use Rattle.kc_config_file.specs.SolvedView.{solution_view}
@@ -224,7 +226,7 @@ module _ (tree : TreeFacts) (prefix : List ℕ) (turn : LinesInTurn tree prefix)
       let here = turn.says.silent p l is in
       (ap (λ (q : UserInput). value_in i q.places.symbols) here ∙ has.0, ap (λ (q : UserInput). line_in i q.lines) here ∙ has.1)
 
-  warns : (p : UserInput) (l : Line) (line_warning : LineWarning) (i : ℕ) (given : GivenValue) (at : StreamLocation) → effect tree prefix l ≡ Warns line_warning → Has p i given at →
+  warns : (p : UserInput) (l : Line) (line_warning : Warning) (i : ℕ) (given : GivenValue) (at : StreamLocation) → effect tree prefix l ≡ Warns line_warning → Has p i given at →
       Has (input_after tree prefix p (l ∷ [])) i given at
   warns p l line_warning i given at is has =
       let here = turn.says.warned p l line_warning is in

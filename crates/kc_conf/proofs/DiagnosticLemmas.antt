@@ -1,16 +1,16 @@
 -- What an outcome adds to the notes is whole lines.
 use Rattle.std.proofs.Common.{◌≡◌, ℕ, map, Bool, true, false, List, [], ◌∷◌, ◌++◌, codes, refl, sym, ap, subst, ◌∙◌, append_assoc, append-nil, Option, Some, None}
 use Rattle.std.specs.Prelude.{decimal, if◌then◌else◌, ◌&&◌}
+use Rattle.kc_diagnostics.specs.Causes.{cause_text}
+use Rattle.kc_diagnostics.specs.RunErrors.{run_error_text}
+use Rattle.kc_diagnostics.specs.declared.run_error.RunError.TheVariants as run
 use Rattle.kc_read.specs.Expansion.{Refused}
 use Rattle.kc_read.specs.Files.{Files}
-use Rattle.kc_read.specs.declared.refusal.Code.{Code}
-use Rattle.kc_read.specs.declared.refusal.Code.TheVariants as code
 use Rattle.kc_tree.specs.TreeFacts.{TreeFacts}
 use Rattle.kc_solve.specs.Solved.{warnings}
-use Rattle.kc_config_file.specs.Limits.{longest_input_line}
 use Rattle.kc_config_file.specs.Reading.{StreamLocation, lines_of}
 use Rattle.kc_options.specs.Asked.{lead}
-use Rattle.kc_conf.specs.ErrorLines.{error_if_at, first_line, message_before, message_behind, refusal_line, strict_line, too_long_line, unreadable_line}
+use Rattle.kc_conf.specs.ErrorLines.{error_if_at, first_line, refusal_line, strict_line, too_long_line, unreadable_line}
 use Rattle.kc_conf.specs.Outcome.{AreLines, IsLenientOutcome, IsOutcomeOfReading, DiagnosticsAreLines, Outcome, accepted_tree, depfile_text, has_text, is_done, lines_text, long_line, lost_warnings, names_of, reported, outcome_of, read_of, refused, refused_name, refused_tree, streams, strictly, whole, fresh_input, refused_if, warned_files}
 use Rattle.kc_conf.specs.Taken.{refuses_input}
 use Rattle.kc_options.specs.declared.options.Options.{Options}
@@ -19,42 +19,20 @@ use Rattle.kc_conf.proofs.PartLemmas.{AreLines-append, AreLines-nothing, AreLine
 AreLines-line : (text : List ℕ) → AreLines (text ++ codes "\n")
 AreLines-line text = (text ∷ [], sym (append-nil (text ++ codes "\n")))
 
--- what an error line ends with
-behind_ends : (c : Code) → (text : List ℕ) × (message_behind c ≡ text ++ codes "\n")
-behind_ends code.NoFile = ([], refl)
-behind_ends code.InclusionLoop = (codes " includes itself", refl)
-behind_ends code.TooManyLines = ([], refl)
-behind_ends code.LineTooLong = ([], refl)
-behind_ends code.BadToken = ([], refl)
-behind_ends code.Macro = ([], refl)
-behind_ends code.LeftOut = (codes " is left out", refl)
-behind_ends code.Syntax = ([], refl)
-behind_ends code.Block = ([], refl)
-behind_ends code.Misplaced = ([], refl)
-behind_ends code.BadName = ([], refl)
-behind_ends code.TooDeep = ([], refl)
-behind_ends code.ChoiceMember = ([], refl)
-behind_ends code.BadDefault = ([], refl)
-behind_ends code.Loop = ([], refl)
-behind_ends code.TooManySymbols = ([], refl)
-behind_ends code.Memory = ([], refl)
-
 -- a text is whole lines where it ends so
 AreLines-ended : (text end : List ℕ) → (front : List ℕ) × (end ≡ front ++ codes "\n") → AreLines (text ++ end)
 AreLines-ended text end (front, is) =
     subst AreLines (append_assoc text front (codes "\n") ∙ ap (λ e. text ++ e) (sym is)) (AreLines-line (text ++ front))
 
-AreLines-at : (location : Option (List ℕ × ℕ)) (text end : List ℕ) → (front : List ℕ) × (end ≡ front ++ codes "\n") → AreLines (error_if_at location (text ++ end))
-AreLines-at None text end ends = subst AreLines (append_assoc (codes "error ") text end) (AreLines-ended (codes "error " ++ text) end ends)
-AreLines-at (Some place) text end ends =
-    let front = place.0 ++ codes ":" ++ decimal place.1 ++ codes ": error " in
-    subst AreLines (append_assoc front text end) (AreLines-ended (front ++ text) end ends)
+AreLines-at : (location : Option (List ℕ × ℕ)) (text : List ℕ) → AreLines (error_if_at location text)
+AreLines-at None text = AreLines-line (codes "error " ++ text)
+AreLines-at (Some place) text = AreLines-line (place.0 ++ codes ":" ++ decimal place.1 ++ codes ": error " ++ text)
 
 AreLines-refusal : (r : Refused) → AreLines (refusal_line r)
-AreLines-refusal r = AreLines-at r.location (message_before r.code ++ r.detail) (message_behind r.code) (behind_ends r.code)
+AreLines-refusal r = AreLines-at r.location (cause_text r.cause)
 
 AreLines-too_long : (stop : StreamLocation) → AreLines (too_long_line stop)
-AreLines-too_long stop = AreLines-at (Some (stop.stream, stop.number)) (codes "E17: line longer than " ++ decimal longest_input_line) (codes " bytes\n") (codes " bytes", refl)
+AreLines-too_long stop = AreLines-at (Some (stop.stream, stop.number)) (run_error_text run.LineTooLong)
 
 -- ---- an outcome
 

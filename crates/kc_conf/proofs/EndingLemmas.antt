@@ -21,7 +21,8 @@ use Rattle.kc_io.proofs.LogLemmas.{leads_as, leads_both, leads_nothing, leads_sa
 use Rattle.kc_options.specs.Asked.{lead}
 use Rattle.kc_conf.specs.Endings.{BreaksEnd, EndStops, Ends, HandsBy, IsChecked, IsEnded, in_delivery, in_diagnostics}
 use Rattle.kc_conf.specs.Ends.{delivered_by, delivers, stale_by, stale_lines, stale_texts, status_with}
-use Rattle.kc_conf.specs.ErrorLines.{error_at, error_if_at, first_line, message_behind, message_before, refusal_line, stale_line, strict_line, too_long_line, unreadable_line}
+use Rattle.kc_diagnostics.specs.Causes.{cause_text, error_at}
+use Rattle.kc_conf.specs.ErrorLines.{error_if_at, first_line, refusal_line, stale_line, strict_line, too_long_line, unreadable_line}
 use Rattle.kc_conf.specs.Given.{still_told}
 use Rattle.kc_conf.specs.Outcome.{AreLines, lines_text}
 use Rattle.kc_conf.specs.Reads.{IsReportStop}
@@ -62,7 +63,7 @@ some-unreadable options name e =
     some-after (lead options) (unreadable_line name) (λ e. some-after (codes "error E23: make cannot read the name " ++ first_line name) (codes "\n") (λ e. cc) e) e
 
 some-at : (file : List ℕ) (number : ℕ) (text : List ℕ) → error_at file number text ≢ []
-some-at file number text e = some-before (file ++ codes ":" ++ decimal number ++ codes ": error ") text (some-after (file ++ codes ":" ++ decimal number) (codes ": error ") (λ e. cc)) e
+some-at file number text e = some-after (file ++ codes ":" ++ decimal number ++ codes ": error " ++ text) (codes "\n") (λ e. cc) e
 
 pub some-too_long : (stop : StreamLocation) → too_long_line stop ≢ []
 some-too_long stop e = some-at stop.stream stop.number _ e
@@ -71,7 +72,7 @@ pub some-refusal : (r : RefusedTree) → refusal_line r ≢ []
 some-refusal r e = by r.location e
   where
     text : List ℕ
-    text = message_before r.code ++ r.detail ++ message_behind r.code
+    text = cause_text r.cause
 
     by : (place : Option (List ℕ × ℕ)) → error_if_at place text ≢ []
     by None e = cc
@@ -381,7 +382,7 @@ module _ (options : Options) (old mid : Log) (front : List NamedText) (status : 
             GoesBeyond (stale_lines options (stale_texts options (front ++ text ∷ behind) journal)) (stale_lines options so_far.found)
         goes journal found old_here =
             let here = lead options ++ stale_line text.name in
-            let (b, rest, is) = beyond-nothing here (stale_lines options (stale behind journal)) (some-after (lead options) (stale_line text.name) (λ e. some-after (codes "error E22: " ++ text.name) (codes " is not up to date\n") (λ e. cc) e)) in (
+            let (b, rest, is) = beyond-nothing here (stale_lines options (stale behind journal)) (some-after (lead options) (stale_line text.name) (λ e. some-after (codes "error E22: " ++ text.name ++ codes " is not up to date") (codes "\n") (λ e. cc) e)) in (
               b,
               rest,
               ap (λ (by : Delivery). stale_lines options (stale_by by (front ++ text ∷ behind) journal)) checks

@@ -14,8 +14,10 @@ use Rattle.kc_tree.specs.TreeFacts.{TreeFacts}
 use Rattle.kc_expr.specs.declared.expression.SymbolType.{SymbolType}
 use Rattle.kc_user.specs.GivenValue.{GivenValue, SymbolPlace, same_given}
 use Rattle.kc_user.specs.Places.{place_at}
-use Rattle.kc_config_file.specs.Changes.{StreamLocation, change_line, change_text, location_text, value_text}
-use Rattle.kc_config_file.specs.Effects.{Effect, Silent, Warns, Assigns, LineWarning, type_of, name_of, warning_line, warning_text}
+use Rattle.kc_config_file.specs.Changes.{StreamLocation, change_line, change_text, value_text}
+use Rattle.kc_diagnostics.specs.Warnings.{Warning, located_warning}
+use Rattle.kc_diagnostics.specs.declared.warning.Warning.TheVariants.{Changed}
+use Rattle.kc_config_file.specs.Effects.{Effect, Silent, Warns, Assigns, type_of, name_of, warning_line}
 use Rattle.kc_config_file.specs.Feeding.{StreamPosition, stream_start, ReadsPiece}
 use Rattle.kc_config_file.specs.Laws.{HasShortLines}
 use Rattle.kc_config_file.specs.Reading.{UserInput, Line, ReadResult, before_too_long, effect, effect_change, effect_text, effect_warning, is_within, last_line, line, lines_from, lines_in_stream, input_after, reading, stream_location, warning, warning_line_if, warnings, with_warnings}
@@ -36,10 +38,10 @@ AreLines-each : {X : Type 0} (f : X → List ℕ) (xs : List X) → ((x : X) →
 AreLines-each f [] each = AreLines-nothing
 AreLines-each f (x ∷ xs) each = AreLines-append (f x) (flat_map f xs) (each x) (AreLines-each f xs each)
 
-pub AreLines-warning_if : (stream : List ℕ) (number : ℕ) (told : Option LineWarning) → AreLines (warning_line_if stream number told)
+pub AreLines-warning_if : (stream : List ℕ) (number : ℕ) (told : Option Warning) → AreLines (warning_line_if stream number told)
 AreLines-warning_if stream number None = AreLines-nothing
 AreLines-warning_if stream number (Some told) =
-    ((stream ++ codes ":" ++ decimal number ++ codes ": warning " ++ warning_text told) ∷ [], sym (append-nil (warning_line stream number told)))
+    (located_warning stream number told ∷ [], sym (append-nil (warning_line stream number told)))
 
 AreLines-change : (at : StreamLocation) (name : List ℕ) (symbol_type : SymbolType) (old : Option GivenValue) (from : Option StreamLocation) (given : GivenValue) →
     AreLines (change_text at name symbol_type old from given)
@@ -48,10 +50,10 @@ AreLines-change at name symbol_type (Some old) None given = AreLines-nothing
 AreLines-change at name symbol_type (Some old) (Some from) given = by (same_given old given)
   where
     front : List ℕ
-    front = location_text at ++ codes ": warning K15: " ++ name ++ codes " was " ++ value_text symbol_type old ++ codes " (" ++ location_text from ++ codes ") and is now " ++ value_text symbol_type given
+    front = located_warning at.stream at.number (Changed name (value_text symbol_type old) from.stream from.number (value_text symbol_type given))
 
     whole : change_line at name symbol_type old from given ≡ (front ++ codes "\n") ++ []
-    whole = simp append_assoc refl
+    whole = sym (append-nil (front ++ codes "\n"))
 
     by : (b : Bool) → AreLines (if b then [] else change_line at name symbol_type old from given)
     by true = AreLines-nothing

@@ -17,9 +17,8 @@ use Rattle.kc_conf.specs.Endings as tail
 use Rattle.kc_read.specs.Expansion.{Refused as RefusedTree}
 use Rattle.kc_read.specs.OpenedFiles.{AreOpened, OpenedAreOneList}
 use Rattle.kc_read.specs.RefusalView.{refusal_view}
-use Rattle.kc_read.specs.declared.refusal.Code.{Code}
-use Rattle.kc_read.specs.declared.refusal.Code.TheVariants as code
-use Rattle.kc_read.specs.declared.refusal.Code.TheVariants.{Memory as NoMemory}
+use Rattle.kc_diagnostics.proofs.CauseLemmas.{memory_or_not}
+use Rattle.kc_diagnostics.specs.declared.cause.Cause.TheVariants.{Memory as NoMemory}
 use Rattle.kc_read.specs.declared.refusal.Refusal.{Refusal}
 use Rattle.kc_conf.specs.ErrorLines.{refusal_line, unreadable_line}
 use Rattle.kc_options.specs.declared.options.Status.TheVariants.{Refused}
@@ -394,30 +393,11 @@ LeavesRun-tree opens files options r result old new why ends =
     LeavesRun-refused files options (refused (refusal_line r)) result old new (λ inputs log. tree_refused r why)
     (λ all. (refused (refusal_line r), opened, refused_tree r why refl, are, refl)) refl (texts-none options) ends
 
-is_memory : (code : Code) → (code ≡ NoMemory) ⊎ (code ≢ NoMemory)
-is_memory code.NoFile = inr (λ e. cc)
-is_memory code.InclusionLoop = inr (λ e. cc)
-is_memory code.TooManyLines = inr (λ e. cc)
-is_memory code.LineTooLong = inr (λ e. cc)
-is_memory code.BadToken = inr (λ e. cc)
-is_memory code.Macro = inr (λ e. cc)
-is_memory code.LeftOut = inr (λ e. cc)
-is_memory code.Syntax = inr (λ e. cc)
-is_memory code.Block = inr (λ e. cc)
-is_memory code.Misplaced = inr (λ e. cc)
-is_memory code.BadName = inr (λ e. cc)
-is_memory code.TooDeep = inr (λ e. cc)
-is_memory code.ChoiceMember = inr (λ e. cc)
-is_memory code.BadDefault = inr (λ e. cc)
-is_memory code.Loop = inr (λ e. cc)
-is_memory code.TooManySymbols = inr (λ e. cc)
-is_memory code.Memory = inl refl
-
 -- or there was no memory for it
 pub LeavesRun-refusal : OpenedAreOneList → ExactlyOneOutcome → (files : Files) (options : Options) (r : Refusal) (result : Result Status Stop) (old new : Log) →
-    (r.code ≢ NoMemory → IsRefusedTree files (root_file options) (refusal_view r)) → (r.code ≡ NoMemory → (result ≡ Err OutOfMemory) × (new ≡ old)) →
-    (r.code ≢ NoMemory → (any : Options) → Ends any [] (refusal_line (refusal_view r)) [] Refused result old new) → LeavesRun files options result old new
-LeavesRun-refusal opens outcomes files options r result old new why memory said = elim (is_memory r.code) [
+    (r.cause ≢ NoMemory → IsRefusedTree files (root_file options) (refusal_view r)) → (r.cause ≡ NoMemory → (result ≡ Err OutOfMemory) × (new ≡ old)) →
+    (r.cause ≢ NoMemory → (any : Options) → Ends any [] (refusal_line (refusal_view r)) [] Refused result old new) → LeavesRun files options result old new
+LeavesRun-refusal opens outcomes files options r result old new why memory said = elim (memory_or_not r.cause) [
   | inl none ↦
       let (is, same) = memory none in
       subst (λ (x : Result Status Stop). LeavesRun files options x old new) (sym is)

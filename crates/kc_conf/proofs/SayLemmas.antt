@@ -12,9 +12,7 @@ use Rattle.kc_io.specs.declared.device.Fault.TheVariants.{Refused, Memory}
 use Rattle.kc_io.specs.declared.steps.Failure.{Failure}
 use Rattle.kc_io.specs.WholeLines.{ends_line, is_whole_lines}
 use Rattle.kc_config_file.specs.WholeLines.{AddsWholeLines}
-use Rattle.kc_read.specs.declared.refusal.Code.{Code}
-use Rattle.kc_read.specs.declared.refusal.Code.TheVariants as code
-use Rattle.kc_conf.specs.ErrorLines.{first_line, message_behind}
+use Rattle.kc_conf.specs.ErrorLines.{cannot_read_line, first_line}
 use Rattle.kc_conf.specs.Outcome.{AreLines, lines_text}
 use Rattle.kc_options.specs.Asked.{lead}
 use Rattle.kc_conf.specs.Reads.{IsWholeEnd, LastEndsLine, SaysIf, failure_line}
@@ -92,26 +90,6 @@ pub AreLines-added : (told told_after added : List ℕ) → told_after ≡ told 
 AreLines-added told told_after added is (whole, is', lines) =
     subst AreLines (append_cancel_left told whole added (sym is' ∙ is)) (AreLines-whole whole lines)
 
--- what an error line ends with
-pub behind_ends : (c : Code) → IsWholeEnd (message_behind c)
-behind_ends code.NoFile = ([], refl)
-behind_ends code.InclusionLoop = (codes " includes itself", refl)
-behind_ends code.TooManyLines = ([], refl)
-behind_ends code.LineTooLong = ([], refl)
-behind_ends code.BadToken = ([], refl)
-behind_ends code.Macro = ([], refl)
-behind_ends code.LeftOut = (codes " is left out", refl)
-behind_ends code.Syntax = ([], refl)
-behind_ends code.Block = ([], refl)
-behind_ends code.Misplaced = ([], refl)
-behind_ends code.BadName = ([], refl)
-behind_ends code.TooDeep = ([], refl)
-behind_ends code.ChoiceMember = ([], refl)
-behind_ends code.BadDefault = ([], refl)
-behind_ends code.Loop = ([], refl)
-behind_ends code.TooManySymbols = ([], refl)
-behind_ends code.Memory = ([], refl)
-
 -- ---- parts
 
 ends-parts : (part : Bor (List ℕ)) (parts : List (Bor (List ℕ))) → LastEndsLine (part ∷ parts) → IsWholeEnd (flat_map (λ (p : Bor (List ℕ)). p.now) (part ∷ parts))
@@ -126,18 +104,18 @@ whole-parts (part ∷ parts) ends = whole-ends (flat_map (λ (p : Bor (List ℕ)
 -- ---- what failed
 
 -- a file that could not be opened or read on is told
-reports-open : (options : Options) (name : Bor (List ℕ)) (fault : Fault) (is_told : Bool) (old new : Log) → SaysIf (lead options ++ failure_line fault (codes "error E18: cannot read " ++ name.now ++ codes "\n")) is_told old new →
+reports-open : (options : Options) (name : Bor (List ℕ)) (fault : Fault) (is_told : Bool) (old new : Log) → SaysIf (lead options ++ failure_line fault (cannot_read_line name.now)) is_told old new →
     Reports options (Failed (record { action = Open; name = name; fault = fault })) is_told old new
 reports-open options name Refused is_told old new (report, told, log) = (report, tt, told, log)
 reports-open options name Memory is_told old new (report, told, log) = (report, tt, told, log)
 
-reports-read : (options : Options) (name : Bor (List ℕ)) (fault : Fault) (is_told : Bool) (old new : Log) → SaysIf (lead options ++ failure_line fault (codes "error E18: cannot read " ++ name.now ++ codes "\n")) is_told old new →
+reports-read : (options : Options) (name : Bor (List ℕ)) (fault : Fault) (is_told : Bool) (old new : Log) → SaysIf (lead options ++ failure_line fault (cannot_read_line name.now)) is_told old new →
     Reports options (Failed (record { action = Read; name = name; fault = fault })) is_told old new
 reports-read options name Refused is_told old new (report, told, log) = (report, tt, told, log)
 reports-read options name Memory is_told old new (report, told, log) = (report, tt, told, log)
 
 pub reports-input : (options : Options) (f : Failure) (is_told : Bool) (old new : Log) → (f.action ≡ Open) ⊎ (f.action ≡ Read) →
-    SaysIf (lead options ++ failure_line f.fault (codes "error E18: cannot read " ++ f.name.now ++ codes "\n")) is_told old new → Reports options (Failed f) is_told old new
+    SaysIf (lead options ++ failure_line f.fault (cannot_read_line f.name.now)) is_told old new → Reports options (Failed f) is_told old new
 reports-input options f is_told old new (inl is) tries =
     subst (λ (a : Action). Reports options (Failed (record { action = a; name = f.name; fault = f.fault })) is_told old new) (sym is) (reports-open options f.name f.fault is_told old new tries)
 reports-input options f is_told old new (inr is) tries =

@@ -4,7 +4,7 @@ use Rattle.kc_build.specs.Trees.{IsTreeOf}
 use Rattle.kc_read.specs.Files.{Files}
 use Rattle.kc_read.specs.OpenedFiles.{AreOpened}
 use Rattle.kc_read.specs.RefusalView.{refusal_view}
-use Rattle.kc_read.specs.declared.refusal.Code.TheVariants.{Memory}
+use Rattle.kc_diagnostics.specs.declared.cause.Cause.TheVariants.{Memory}
 use Rattle.kc_read.specs.declared.refusal.Refusal.{Refusal}
 use Rattle.kc_solve.specs.Graphs.{IsGraphOf}
 use Rattle.kc_tree.specs.Layouts.{IsLayoutOf}
@@ -22,7 +22,7 @@ pub record IsReadOf (files : Files) (root : List ℕ) (read : TreeReading) : Typ
 -- or why there is none, unless there was no memory
 pub record IsReadingOf (files : Files) (root : List ℕ) (reading : Result TreeReading Refusal) : Type 0 where
   pub read : IfOk reading (IsReadOf files root)
-  pub refused : IfErr reading (λ r. r.code ≢ Memory → IsTreeOf files root (Err (refusal_view r)))
+  pub refused : IfErr reading (λ r. r.cause ≢ Memory → IsTreeOf files root (Err (refusal_view r)))
 
 -- its symbols are in order
 pub record IsReady (accepted : OrderedTree) : Type 0 where

@@ -8,7 +8,8 @@ use Rattle.kc_user.specs.GivenValue.{GivenValue, same_given}
 use Rattle.kc_values.specs.Differs.{given_of}
 use Rattle.kc_values.specs.Lookups.{facts, name}
 use Rattle.kc_solve.specs.Solved.{Solution, known}
-use Rattle.kc_config_file.specs.Effects.{Effect, Silent, Warns, Assigns, SetAgain, warning_line}
+use Rattle.kc_diagnostics.specs.declared.warning.Warning.TheVariants.{SetAgain}
+use Rattle.kc_config_file.specs.Effects.{Effect, Silent, Warns, Assigns, warning_line}
 use Rattle.kc_config_file.specs.Reading.{Line, effect, lines_of, stream_location}
 use Rattle.kc_config_file.specs.Changes.{change_line}
 use Rattle.kc_config_file.specs.SolvedView.{solution_view}

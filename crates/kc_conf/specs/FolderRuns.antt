@@ -10,7 +10,7 @@ use Rattle.kc_read.specs.Files.{Files}
 use Rattle.kc_options.specs.Asked.{root_file}
 use Rattle.kc_conf.specs.Ends.{Runs}
 use Rattle.kc_conf.specs.ErrorLines.{cannot_read_line}
-use Rattle.kc_options.specs.ErrorLines.{out_of_memory_line}
+use Rattle.kc_diagnostics.specs.RunErrors.{out_of_memory_line}
 use Rattle.kc_conf.specs.Stops.{TriesToSay}
 use Rattle.kc_options.specs.declared.options.Options.{Options}
 use Rattle.kc_options.specs.declared.options.Status.{Status}

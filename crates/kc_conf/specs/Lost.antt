@@ -1,6 +1,8 @@
 -- Trusted: The values that were given and are not the symbols': whole lines, without the line feed (our own).
-use Rattle.std.specs.Prelude.{ℕ, Bool, true, false, if◌then◌else◌, List, [], ◌∷◌, ◌++◌, codes, slice_index_or, Option, Some, None}
+use Rattle.std.specs.Prelude.{ℕ, Bool, true, false, if◌then◌else◌, List, [], ◌∷◌, slice_index_or, Option, Some, None}
 use Rattle.std.specs.List.{flat_map}
+use Rattle.kc_diagnostics.specs.Warnings.{located_warning}
+use Rattle.kc_diagnostics.specs.declared.warning.Warning.TheVariants as warning
 use Rattle.kc_expr.specs.Names.{symbol}
 use Rattle.kc_expr.specs.declared.expression.SymbolType.{SymbolType}
 use Rattle.kc_tree.specs.TreeFacts.{Condition, SymbolFacts}
@@ -9,12 +11,12 @@ use Rattle.kc_user.specs.Places.{place_at}
 use Rattle.kc_values.specs.Differs.{given_of}
 use Rattle.kc_values.specs.Lookups.{facts, name}
 use Rattle.kc_solve.specs.Solved.{Solution, known}
-use Rattle.kc_config_file.specs.Changes.{StreamLocation, location_text, value_text}
+use Rattle.kc_config_file.specs.Changes.{StreamLocation, value_text}
 
--- `FILE:LINE: warning K14: NAME was given VALUE and is VALUE`, where this line gave the value
+-- the line of a value that was given by this line and is not the symbol's
 abbrev pub lost_line : StreamLocation → List ℕ → SymbolType → GivenValue → GivenValue → List ℕ
 lost_line at name symbol_type given value =
-    location_text at ++ codes ": warning K14: " ++ name ++ codes " was given " ++ value_text symbol_type given ++ codes " and is " ++ value_text symbol_type value
+    located_warning at.stream at.number (warning.Lost name (value_text symbol_type given) (value_text symbol_type value))
 
 -- what was given, by a line that is known, is not the symbol's value
 abbrev pub lost_by : List ℕ → SymbolType → Option StreamLocation → Option GivenValue → GivenValue → List (List ℕ)

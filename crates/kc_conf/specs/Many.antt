@@ -12,7 +12,7 @@ use Rattle.kc_io.specs.declared.device.Fault.{Fault}
 use Rattle.kc_io.specs.declared.device.Fault.TheVariants as fault
 use Rattle.kc_conf.specs.Ends.{Broken, Completes, nothing_said}
 use Rattle.kc_conf.specs.ErrorLines.{refusal_line}
-use Rattle.kc_options.specs.ErrorLines.{out_of_memory_line}
+use Rattle.kc_diagnostics.specs.RunErrors.{out_of_memory_line}
 use Rattle.kc_conf.specs.Given.{AreInputs, InputFile, bytes_of, still_told}
 use Rattle.kc_conf.specs.Outcome.{IsAcceptedTree, IsOutcome, IsRefusedName, IsRefusedTree, Outcome, lines_text, reported, root_file, unreadable_name}
 use Rattle.kc_conf.specs.Stops.{TriesToSay}

@@ -11,7 +11,7 @@ use Rattle.kc_io.specs.declared.steps.Failure.{Failure}
 use Rattle.kc_config_file.specs.Reading.{ReadResult, StreamLocation, UserInput, lines_of, reading}
 use Rattle.kc_config_file.specs.Sink.{BeginsWith, GoesBeyond}
 use Rattle.kc_options.specs.Asked.{names_of}
-use Rattle.kc_options.specs.ErrorLines.{out_of_memory_line}
+use Rattle.kc_diagnostics.specs.RunErrors.{out_of_memory_line}
 use Rattle.kc_conf.specs.Stops.{event_of}
 use Rattle.kc_conf.specs.Given.{AreInputs, AreThere, InputFile, ReadsTo, ReadsUpTo, bytes_of, reads, still_told}
 use Rattle.kc_conf.specs.Outcome.{AreLines, streams}

@@ -8,7 +8,7 @@ use Rattle.kc_io.specs.declared.device.Fault.{Fault}
 use Rattle.kc_io.specs.declared.device.Fault.TheVariants as fault
 use Rattle.kc_options.specs.Asked.{lead}
 use Rattle.kc_conf.specs.ErrorLines.{cannot_read_line, cannot_write_line}
-use Rattle.kc_options.specs.ErrorLines.{out_of_memory_line}
+use Rattle.kc_diagnostics.specs.RunErrors.{out_of_memory_line}
 use Rattle.kc_options.specs.declared.options.Delivery.{Delivery}
 use Rattle.kc_options.specs.declared.options.Delivery.TheVariants as delivered
 use Rattle.kc_options.specs.declared.options.Options.{Options}

@@ -1,23 +1,26 @@
 //! What a run says on the diagnostics, besides warnings.
 
-ghost use Rattle.std.specs.Prelude.{◌≡◌, ◌++◌, [], codes, map, IfErr, OnOk};
+ghost use Rattle.std.specs.Prelude.{◌≡◌, ◌++◌, [], map, IfErr, OnOk};
 ghost use Rattle.std.specs.List.{flat_map};
+ghost use Rattle.kc_diagnostics.specs.Causes.{error_at, error_line};
+ghost use Rattle.kc_diagnostics.specs.RunErrors.{run_error_text, shown_run_error};
 ghost use Rattle.kc_read.specs.RefusalView.{refusal_view};
 ghost use Rattle.kc_options.specs.Asked.{lead};
 ghost use Rattle.kc_io.specs.Log.{Leads};
-ghost use Rattle.kc_conf.specs.ErrorLines.{error_at, first_line, message_before, message_behind, refusal_line, stale_line, strict_line, too_long_line, unreadable_line};
-ghost use Rattle.kc_options.specs.ErrorLines.{out_of_memory_line};
+ghost use Rattle.kc_conf.specs.ErrorLines.{first_line, refusal_line, too_long_line};
+ghost use Rattle.kc_diagnostics.specs.RunErrors.{out_of_memory_line};
 ghost use Rattle.kc_conf.specs.Outcome.{lines_text};
-ghost use Rattle.kc_conf.specs.Reads.{IsReportOrMemory, IsWholeEnd, LastEndsLine, Says, SaysIf, failure_line, stop_of};
+ghost use Rattle.kc_conf.specs.Reads.{IsReportOrMemory, LastEndsLine, Says, SaysIf, failure_line, stop_of};
 ghost use Rattle.kc_conf.specs.Stops.{Reports, event_of, TriesToSay};
 
 use crate::compute::add_lines;
 use crate::reading::LongLine;
 use crate::stop::Stop;
 use itoa::Buffer;
+use kc_diagnostics::RunError;
 use kc_io::{Action, Device, Failure, Fault};
 use kc_options::Options;
-use kc_read::refusal::{Code, Refusal};
+use kc_read::refusal::Refusal;
 use std::alloc::Global;
 
 // Says whole lines, all parts in one piece.
@@ -52,105 +55,48 @@ pub(crate) fn say_lines<D: Device>(
     say_parts(device, &[&text])
 }
 
-// What an error line says of a refusal, before the word or the name that it is about.
-fn message_before(code: Code) -> &'static [u8]
-    ensures { result.now ≡ message_before code }
-{
-    match code {
-        Code::NoFile => b"E1: no file ",
-        Code::InclusionLoop => b"E2: file ",
-        Code::TooManyLines => b"E3: more than 1000000 lines",
-        Code::LineTooLong => b"E4: line longer than 8191 bytes",
-        Code::BadToken => b"E5: bad token",
-        Code::Macro => b"E6: macro",
-        Code::LeftOut => b"E7: ",
-        Code::Syntax => b"E8: syntax",
-        Code::Block => b"E9: unbalanced block",
-        Code::Misplaced => b"E10: misplaced",
-        Code::BadName => b"E11: bad name ",
-        Code::TooDeep => b"E12: too deep",
-        Code::ChoiceMember => b"E13: choice member ",
-        Code::BadDefault => b"E14: bad default of ",
-        Code::Loop => b"E15: dependency loop: ",
-        Code::TooManySymbols => b"E16: more than 65535 symbols",
-        Code::Memory => b"E20: out of memory",
-    }
-}
-
-// What an error line says behind the name, word or loop that it is about.
-fn message_behind(code: Code) -> &'static [u8]
-    ensures { result.now ≡ message_behind code }
-{
-    match code {
-        Code::InclusionLoop => b" includes itself\n",
-        Code::LeftOut => b" is left out\n",
-        Code::NoFile
-        | Code::TooManyLines
-        | Code::LineTooLong
-        | Code::BadToken
-        | Code::Macro
-        | Code::Syntax
-        | Code::Block
-        | Code::Misplaced
-        | Code::BadName
-        | Code::TooDeep
-        | Code::ChoiceMember
-        | Code::BadDefault
-        | Code::Loop
-        | Code::TooManySymbols
-        | Code::Memory => b"\n",
-    }
-}
-
 // Says an error line at a location.
 fn say_at<'a, D: Device>(
     device: &mut D,
     file: &'a [u8],
     line: u64,
-    before: &'a [u8],
-    detail: &'a [u8],
-    behind: &'a [u8],
+    text: [&'a [u8]; 3],
 ) -> Result<(), Stop<'static>>
-    requires { IsWholeEnd behind.now }
-    ensures { Says (error_at file.now line (before.now ++ detail.now ++ behind.now)) result (D.log device.old) (D.log device.new) }
+    ensures { Says (error_at file.now line (flat_map (λ part. part.now) text.entry)) result (D.log device.old) (D.log device.new) }
 {
     let mut buffer = Buffer::new();
     let number = buffer.format(line).as_bytes();
+    let [before, name, after] = text;
     say_parts(
         device,
-        &[file, b":", number, b": error ", before, detail, behind],
+        &[file, b":", number, b": error ", before, name, after, b"\n"],
     )
 }
 
-// Says an error line without a location.
-fn say_without_location<'a, D: Device>(
+// Says an error line without a location, behind what it begins with.
+fn say_behind<'a, D: Device>(
     device: &mut D,
-    before: &'a [u8],
-    detail: &'a [u8],
-    behind: &'a [u8],
+    lead: [&'a [u8]; 2],
+    text: [&'a [u8]; 3],
 ) -> Result<(), Stop<'static>>
-    requires { IsWholeEnd behind.now }
-    ensures { Says (codes "error " ++ before.now ++ detail.now ++ behind.now) result (D.log device.old) (D.log device.new) }
+    ensures { Says (flat_map (λ part. part.now) lead.entry ++ error_line (flat_map (λ part. part.now) text.entry)) result (D.log device.old) (D.log device.new) }
 {
-    say_parts(device, &[b"error ", before, detail, behind])
+    let [config, colon] = lead;
+    let [before, name, after] = text;
+    say_parts(
+        device,
+        &[config, colon, b"error ", before, name, after, b"\n"],
+    )
 }
 
 /// Says why a tree is refused.
 pub(crate) fn say_refusal<D: Device>(device: &mut D, refusal: &Refusal) -> Result<(), Stop<'static>>
     ensures { Says (refusal_line (refusal_view refusal.now)) result (D.log device.old) (D.log device.new) }
 {
-    let before = message_before(refusal.code);
-    let behind = message_behind(refusal.code);
+    let text = refusal.cause.parts();
     match &refusal.location {
-        Some((file, line)) => say_at(
-            device,
-            file,
-            u64::from(*line),
-            before,
-            &refusal.detail,
-            behind,
-        ),
-        None => say_without_location(device, before, &refusal.detail, behind),
+        Some((file, line)) => say_at(device, file, u64::from(*line), text),
+        None => say_behind(device, [b"", b""], text),
     }
 }
 
@@ -165,25 +111,23 @@ pub(crate) fn say_long_line<D: Device>(
         device,
         long.stream,
         long.number,
-        b"E17: line longer than 65535 bytes",
-        b"",
-        b"\n",
+        RunError::LineTooLong.parts(),
     )
 }
 
-/// Says that warnings are refused.
-pub(crate) fn say_strict<D: Device>(device: &mut D, options: &Options) -> Result<(), Stop<'static>>
-    ensures { Says (lead options.now ++ strict_line) result (D.log device.old) (D.log device.new) }
+/// Says an error of a run.
+pub(crate) fn say_error<'a, D: Device>(
+    device: &mut D,
+    options: &'a Options,
+    error: RunError<&'a [u8]>,
+) -> Result<(), Stop<'static>>
+    ensures { Says (lead options.now ++ error_line (run_error_text (shown_run_error error.entry))) result (D.log device.old) (D.log device.new) }
 {
-    let [config, colon] = options.lead();
-    say_parts(
-        device,
-        &[config, colon, b"error E21: warnings are refused\n"],
-    )
+    say_behind(device, options.lead(), error.parts())
 }
 
-// The bytes before the first line feed.
-fn first_line(name: &[u8]) -> &[u8]
+/// Returns the bytes before the first line feed.
+pub(crate) fn first_line(name: &[u8]) -> &[u8]
     ensures { result.now ≡ first_line name.now }
 {
     for i in 0..name.len() {
@@ -192,48 +136,6 @@ fn first_line(name: &[u8]) -> &[u8]
         }
     }
     name
-}
-
-/// Says that make cannot read a name.
-pub(crate) fn say_unreadable<D: Device>(
-    device: &mut D,
-    options: &Options,
-    name: &[u8],
-) -> Result<(), Stop<'static>>
-    ensures { Says (lead options.now ++ unreadable_line name.now) result (D.log device.old) (D.log device.new) }
-{
-    let [config, colon] = options.lead();
-    say_parts(
-        device,
-        &[
-            config,
-            colon,
-            b"error E23: make cannot read the name ",
-            first_line(name),
-            b"\n",
-        ],
-    )
-}
-
-/// Says that a file is not up to date.
-pub(crate) fn say_stale<D: Device>(
-    device: &mut D,
-    options: &Options,
-    name: &str,
-) -> Result<(), Stop<'static>>
-    ensures { Says (lead options.now ++ stale_line name.now) result (D.log device.old) (D.log device.new) }
-{
-    let [config, colon] = options.lead();
-    say_parts(
-        device,
-        &[
-            config,
-            colon,
-            b"error E22: ",
-            name.as_bytes(),
-            b" is not up to date\n",
-        ],
-    )
 }
 
 // Says whole lines, all parts in one piece, and answers whether the diagnostics took them.
@@ -255,37 +157,63 @@ pub(crate) fn try_to_say<D: Device>(device: &mut D, parts: &[&[u8]])
     let _ = device.report(parts);
 }
 
+// Says an error line without a location, unless the diagnostics fail.
+fn try_to_say_text<'a, D: Device>(device: &mut D, text: [&'a [u8]; 3])
+    ensures { TriesToSay (error_line (flat_map (λ part. part.now) text.entry)) (D.log device.old) (D.log device.new) }
+{
+    let [before, name, after] = text;
+    try_to_say(device, &[b"error ", before, name, after, b"\n"]);
+}
+
+/// Says an error of a run that has no configuration, unless the diagnostics fail.
+pub(crate) fn try_to_say_error<D: Device>(device: &mut D, error: RunError<&[u8]>)
+    ensures { TriesToSay (error_line (run_error_text (shown_run_error error.entry))) (D.log device.old) (D.log device.new) }
+{
+    try_to_say_text(device, error.parts());
+}
+
 /// Says that there was no memory for what configurations share.
 pub(crate) fn say_no_memory<D: Device>(device: &mut D)
     ensures { TriesToSay out_of_memory_line (D.log device.old) (D.log device.new) }
 {
-    try_to_say(device, &[b"error E20: out of memory\n"]);
+    try_to_say_error(device, RunError::Memory);
 }
 
-// Says that there was no memory.
-fn tell_memory<D: Device>(device: &mut D, options: &Options) -> bool
-    ensures { SaysIf (lead options.now ++ out_of_memory_line) result (D.log device.old) (D.log device.new) }
+// Says an error line without a location, behind what it begins with, and answers whether the diagnostics took it.
+fn tell_behind<'a, D: Device>(device: &mut D, lead: [&'a [u8]; 2], text: [&'a [u8]; 3]) -> bool
+    ensures { SaysIf (flat_map (λ part. part.now) lead.entry ++ error_line (flat_map (λ part. part.now) text.entry)) result (D.log device.old) (D.log device.new) }
 {
-    let [config, colon] = options.lead();
-    tell(device, &[config, colon, b"error E20: out of memory\n"])
+    let [config, colon] = lead;
+    let [before, name, after] = text;
+    tell(
+        device,
+        &[config, colon, b"error ", before, name, after, b"\n"],
+    )
+}
+
+// Says an error of a run, and answers whether the diagnostics took it.
+fn tell_error<'a, D: Device>(
+    device: &mut D,
+    options: &'a Options,
+    error: RunError<&'a [u8]>,
+) -> bool
+    ensures { SaysIf (lead options.now ++ error_line (run_error_text (shown_run_error error.entry))) result (D.log device.old) (D.log device.new) }
+{
+    tell_behind(device, options.lead(), error.parts())
 }
 
 // Says that a file could not be read or written, or that there was no memory for it.
-fn tell_failure<D: Device>(
+fn tell_failure<'a, D: Device>(
     device: &mut D,
-    options: &Options,
-    before: &[u8],
-    name: &str,
+    options: &'a Options,
+    error: RunError<&'a [u8]>,
     fault: Fault,
 ) -> bool
-    ensures { SaysIf (lead options.now ++ failure_line fault (before.now ++ name.now ++ codes "\n")) result (D.log device.old) (D.log device.new) }
+    ensures { SaysIf (lead options.now ++ failure_line fault (error_line (run_error_text (shown_run_error error.entry)))) result (D.log device.old) (D.log device.new) }
 {
     match fault {
-        Fault::Memory => tell_memory(device, options),
-        Fault::Refused => {
-            let [config, colon] = options.lead();
-            tell(device, &[config, colon, before, name.as_bytes(), b"\n"])
-        }
+        Fault::Memory => tell_error(device, options, RunError::Memory),
+        Fault::Refused => tell_error(device, options, error),
     }
 }
 
@@ -294,29 +222,22 @@ pub(crate) fn report<D: Device>(device: &mut D, options: &Options, stop: Stop<'_
     ensures { Reports options.now stop.entry result (D.log device.old) (D.log device.new) }
 {
     let failure = match stop {
-        Stop::OutOfMemory => return tell_memory(device, options),
+        Stop::OutOfMemory => return tell_error(device, options, RunError::Memory),
         Stop::Failed(failure) => failure,
     };
+    let name = failure.name.as_bytes();
     match failure.action {
         Action::Report => true,
-        Action::Open | Action::Read => tell_failure(
-            device,
-            options,
-            b"error E18: cannot read ",
-            failure.name,
-            failure.fault,
-        ),
+        Action::Open | Action::Read => {
+            tell_failure(device, options, RunError::CannotRead(name), failure.fault)
+        }
         Action::Miss
         | Action::Create(_)
         | Action::Write(_)
         | Action::Close(_)
         | Action::Move
-        | Action::Clear => tell_failure(
-            device,
-            options,
-            b"error E19: cannot write ",
-            failure.name,
-            failure.fault,
-        ),
+        | Action::Clear => {
+            tell_failure(device, options, RunError::CannotWrite(name), failure.fault)
+        }
     }
 }

@@ -3,8 +3,9 @@ ghost use Rattle.kc_conf.specs.FolderRuns.{FolderRuns, load_line};
 ghost use Rattle.kc_conf.specs.Stops.{TriesToSay};
 
 use crate::accepted::AcceptedTree;
-use crate::diagnostics::try_to_say;
+use crate::diagnostics::try_to_say_error;
 use crate::runs::run;
+use kc_diagnostics::RunError;
 use kc_io::Device;
 use kc_load::{Folder, LoadFault, load};
 use kc_options::{Options, Status};
@@ -15,11 +16,8 @@ pub fn say_load_fault<D: Device>(fault: &LoadFault, device: &mut D)
     ensures { TriesToSay (load_line fault.now) (D.log device.old) (D.log device.new) }
 {
     match fault {
-        LoadFault::CannotRead(name) => try_to_say(
-            device,
-            &[b"error E18: cannot read ", name, b"\n"],
-        ),
-        LoadFault::Memory => try_to_say(device, &[b"error E20: out of memory\n"]),
+        LoadFault::CannotRead(name) => try_to_say_error(device, RunError::CannotRead(name)),
+        LoadFault::Memory => try_to_say_error(device, RunError::Memory),
     }
 }
 

@@ -5,7 +5,7 @@
 //! - [`Stop`]: why a run was broken off. [`say_load_fault`] prints why files could not be loaded.
 //! - [`laws`]: what holds of the outcomes of runs.
 //!
-//! From the crates below: [`Options`], [`Delivery`], [`Status`], [`FileMap`], [`Refusal`], [`Code`].
+//! From the crates below: [`Options`], [`Delivery`], [`Status`], [`FileMap`], [`Refusal`], [`Cause`].
 #![tactic(auto)]
 
 mod accepted;
@@ -22,7 +22,7 @@ mod stop;
 pub use accepted::AcceptedTree;
 pub use folder_run::{run_in_folder, say_load_fault};
 pub use kc_options::{Delivery, Options, Status};
-pub use kc_read::{Code, FileMap, Refusal};
+pub use kc_read::{Cause, FileMap, Refusal};
 pub use many::{Configurations, run_each};
 pub use runs::run;
 pub use stop::Stop;

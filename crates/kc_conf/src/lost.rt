@@ -1,5 +1,7 @@
 //! The values that were given and are not the symbols'.
 ghost use Rattle.std.specs.Prelude.{◌≡◌, ◌++◌, ◌<◌, length, map, IfOk, OnOk};
+ghost use Rattle.kc_diagnostics.specs.Warnings.{located_warning};
+ghost use Rattle.kc_diagnostics.specs.declared.warning.Warning.TheVariants.{Lost};
 ghost use Rattle.kc_expr.specs.Value.{value_by_type};
 ghost use Rattle.kc_solve.specs.Solved.{known};
 ghost use Rattle.std.specs.Option.{option_and_then, option_map};
@@ -14,8 +16,9 @@ ghost use Rattle.kc_conf.specs.Lost as spec;
 ghost use Rattle.kc_conf.specs.LostView.{is_prompted};
 ghost use Rattle.kc_conf.specs.Taken.{lost_warnings};
 
-use kc_config_file::shown::{InputLine, ShownValue, add_location, add_value, is_same, shown_given};
+use kc_config_file::shown::{InputLine, ShownValue, add_value, is_same, shown_given};
 use kc_config_file::user_input::UserInput;
+use kc_diagnostics::{Warning, add_located};
 use kc_expr::expression::{SymId, SymbolType, Tri};
 use kc_expr::values::Values;
 use kc_options::Options;
@@ -47,6 +50,26 @@ fn shown_value<'a>(solved: &'a Solved<'_>, id: SymId) -> ShownValue<'a>
     shown_by(solved.symbol_type(id), solved.tri(id), solved.text(id))
 }
 
+// The line of a value that was given and is not the symbol's, both as texts.
+fn line_of<'a>(
+    alloc: Global,
+    at: InputLine<'_>,
+    name: &'a [u8],
+    given: &'a [u8],
+    value: &'a [u8],
+) -> Result<Vec<u8>, AllocError>
+    ensures { IfOk result (λ line. line.items ≡ located_warning at.entry.file.now at.entry.number (Lost name.now given.now value.now)) }
+{
+    let mut line = Vec::new(alloc);
+    add_located(
+        at.file,
+        at.number,
+        Warning::Lost { name, given, value },
+        &mut line,
+    )?;
+    Ok(line)
+}
+
 // The line of a value that was given and is not the symbol's.
 fn lost_line(
     alloc: Global,
@@ -58,15 +81,11 @@ fn lost_line(
 ) -> Result<Vec<u8>, AllocError>
     ensures { IfOk result (λ line. line.items ≡ spec.lost_line (location_of at.entry) name.now symbol_type (given_by given.entry) (given_by value.entry)) }
 {
-    let mut line = Vec::new(alloc);
-    add_location(at, &mut line)?;
-    line.extend_from_slice(b": warning K14: ")?;
-    line.extend_from_slice(name)?;
-    line.extend_from_slice(b" was given ")?;
-    add_value(symbol_type, given, &mut line)?;
-    line.extend_from_slice(b" and is ")?;
-    add_value(symbol_type, value, &mut line)?;
-    Ok(line)
+    let mut given_text = Vec::new(alloc);
+    add_value(symbol_type, given, &mut given_text)?;
+    let mut value_text = Vec::new(alloc);
+    add_value(symbol_type, value, &mut value_text)?;
+    line_of(alloc, at, name, &given_text, &value_text)
 }
 
 // The line of a symbol, behind those that are there.

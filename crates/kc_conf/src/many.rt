@@ -3,7 +3,7 @@ ghost use Rattle.std.specs.Prelude.{◌≡◌, ◌≢◌, ◌<◌, ℕ, List, If
 ghost use Rattle.kc_read.specs.Files.{Files, bytes_in};
 ghost use Rattle.kc_read.specs.OpenedFiles.{AreOpened};
 ghost use Rattle.kc_read.specs.RefusalView.{refusal_view};
-ghost use Rattle.kc_read.specs.declared.refusal.Code.TheVariants.{Memory};
+ghost use Rattle.kc_diagnostics.specs.declared.cause.Cause.TheVariants.{Memory};
 ghost use Rattle.kc_io.specs.Log.{Log};
 ghost use Rattle.kc_conf.specs.Accepted.{IsAcceptedOf, IsReadOf, IsReady};
 ghost use Rattle.kc_conf.specs.Many.{AreRootedAt, RunsEach, RunsTurn, StopsAtTree, TakeTurns, TakesTurn, ends_all, greater};
@@ -18,10 +18,11 @@ use crate::diagnostics::{report, say_no_memory, say_refusal};
 use crate::laws::{exactly_one_outcome, one_answer};
 use crate::runs::{refuse_name, run_inputs, say_tree, unreadable_among};
 use crate::stop::Stop;
+use kc_diagnostics::Cause;
 use kc_io::{Action, Device, Fault};
 use kc_options::{Options, Status};
 use kc_read::file_map::FileMap;
-use kc_read::refusal::{Code, Refusal};
+use kc_read::refusal::Refusal;
 use kc_solve::evaluation_order::EvaluationOrder;
 use std::alloc::{AllocError, Global};
 
@@ -199,10 +200,10 @@ fn take_turns<C: Configurations, D: Device>(
 
 // Says why no tree is accepted.
 fn refuse_all<D: Device>(refusal: &Refusal, device: &mut D) -> Status
-    ensures { (files : Files) (root : List ℕ) → (refusal.now.code ≢ Memory → IsRefusedTree files root (refusal_view refusal.now)) →
+    ensures { (files : Files) (root : List ℕ) → (refusal.now.cause ≢ Memory → IsRefusedTree files root (refusal_view refusal.now)) →
         StopsAtTree files root (D.log device.old) (D.log device.new) result }
 {
-    if let Code::Memory = refusal.code {
+    if let Cause::Memory = refusal.cause {
         say_no_memory(device);
         return Status::Faulted;
     }

@@ -2,7 +2,7 @@
 ghost use Rattle.std.specs.Prelude.{◌≡◌, ◌≢◌, ◌++◌, ℕ, List, [], map, option_map, Err};
 ghost use Rattle.kc_read.specs.Files.{Files, bytes_in};
 ghost use Rattle.kc_read.specs.RefusalView.{refusal_view};
-ghost use Rattle.kc_read.specs.declared.refusal.Code.TheVariants.{Memory};
+ghost use Rattle.kc_diagnostics.specs.declared.cause.Cause.TheVariants.{Memory};
 ghost use Rattle.kc_io.specs.TextViews.{text_view};
 ghost use Rattle.kc_conf.specs.Accepted.{IsAcceptedOf, IsReadOf, IsReady};
 ghost use Rattle.kc_options.specs.Asked.{lead};
@@ -16,19 +16,20 @@ ghost use Rattle.kc_conf.specs.Reads.{stop_of};
 use crate::accepted::{AcceptedTree, OrderedTree, TreeReading, read_tree};
 use crate::compute::{compute, names_listed};
 use crate::diagnostics::{
-    report, say_lines, say_long_line, say_parts, say_refusal, say_stale, say_strict, say_unreadable,
+    first_line, report, say_error, say_lines, say_long_line, say_parts, say_refusal,
 };
 use crate::laws::{exactly_one_outcome, one_answer};
 use crate::reading::{LongLine, Waiting, read_inputs, stream_names};
 use crate::stop::Stop;
 use kc_config_file::user_input::UserInput;
+use kc_diagnostics::{Cause, RunError};
 use kc_expr::names::Names;
 use kc_io::{Device, Manner, Text, deliver};
 use kc_load::unreadable_name;
 use kc_options::{Delivery, Options, Status};
 use kc_read::file_map::FileMap;
 use kc_read::laws::opened_are_one_list;
-use kc_read::refusal::{Code, Refusal};
+use kc_read::refusal::Refusal;
 use kc_solve::evaluation_order::EvaluationOrder;
 use kc_tree::tree::Tree;
 use std::alloc::Global;
@@ -47,7 +48,11 @@ fn check<D: Device>(
     let mut status = Status::Done;
     for text in texts {
         if !device.holds(text.name, &text.bytes) {
-            if let Err(stop) = say_stale(device, options, text.name) {
+            if let Err(stop) = say_error(
+                device,
+                options,
+                RunError::NotUpToDate(text.name.as_bytes()),
+            ) {
                 return Err(stop);
             }
             status = Status::Refused;
@@ -91,7 +96,7 @@ fn hand_out_by<'o, D: Device>(
 fn refuse_warnings<D: Device>(options: &Options, device: &mut D) -> Result<Status, Stop<'static>>
     ensures { Ends options.now [] (lead options.now ++ strict_line) [] Status.Refused result (D.log device.old) (D.log device.new) }
 {
-    match say_strict(device, options) {
+    match say_error(device, options, RunError::WarningsRefused) {
         Ok(()) => Ok(Status::Refused),
         Err(stop) => Err(stop),
     }
@@ -115,7 +120,7 @@ pub(crate) fn refuse_name<D: Device>(
 ) -> Result<Status, Stop<'static>>
     ensures { Ends options.now [] (lead options.now ++ unreadable_line name.now) [] Status.Refused result (D.log device.old) (D.log device.new) }
 {
-    match say_unreadable(device, options, name) {
+    match say_error(device, options, RunError::UnreadableName(first_line(name))) {
         Ok(()) => Ok(Status::Refused),
         Err(stop) => Err(stop),
     }
@@ -123,10 +128,10 @@ pub(crate) fn refuse_name<D: Device>(
 
 // Says why no tree is accepted.
 fn refuse<D: Device>(refusal: &Refusal, device: &mut D) -> Result<Status, Stop<'static>>
-    ensures memory { refusal.now.code ≡ Memory → (result ≡ Err Stop.OutOfMemory) × (D.log device.new ≡ D.log device.old) }
-    ensures said { refusal.now.code ≢ Memory → (options : Options) → Ends options [] (refusal_line (refusal_view refusal.now)) [] Status.Refused result (D.log device.old) (D.log device.new) }
+    ensures memory { refusal.now.cause ≡ Memory → (result ≡ Err Stop.OutOfMemory) × (D.log device.new ≡ D.log device.old) }
+    ensures said { refusal.now.cause ≢ Memory → (options : Options) → Ends options [] (refusal_line (refusal_view refusal.now)) [] Status.Refused result (D.log device.old) (D.log device.new) }
 {
-    if let Code::Memory = refusal.code {
+    if let Cause::Memory = refusal.cause {
         return Err(Stop::OutOfMemory);
     }
     match say_refusal(device, refusal) {

@@ -35,6 +35,5 @@ pub mod SymbolLineLemmas
 pub mod TextBytes
 pub mod TextLemmas
 pub mod ValueTextLemmas
-pub mod WarningLemmas
 pub mod WholeLinesLemmas
 pub mod WritingLemmas

@@ -6,8 +6,10 @@ use Rattle.kc_expr.specs.declared.expression.SymbolType.{SymbolType}
 use Rattle.kc_tree.specs.TreeFacts.{TreeFacts}
 use Rattle.kc_user.specs.GivenValue.{GivenValue, SymbolPlace, same_given}
 use Rattle.kc_user.specs.Places.{place_at}
-use Rattle.kc_config_file.specs.Changes.{StreamLocation, change_line, change_text, location_text, value_text}
-use Rattle.kc_config_file.specs.Effects.{Effect, Silent, Warns, Assigns, LineWarning, type_of, name_of, warning_text}
+use Rattle.kc_config_file.specs.Changes.{StreamLocation, change_line, change_text, value_text}
+use Rattle.kc_diagnostics.specs.Warnings.{Warning, located_warning}
+use Rattle.kc_diagnostics.specs.declared.warning.Warning.TheVariants.{Changed}
+use Rattle.kc_config_file.specs.Effects.{Effect, Silent, Warns, Assigns, type_of, name_of}
 use Rattle.kc_config_file.specs.declared.fault.InputFault.{InputFault}
 use Rattle.kc_config_file.specs.Feeding.{StreamPosition, ReadsPiece, EndsStream, Feeds, Refuses, FinishesStream, fed}
 use Rattle.kc_config_file.specs.Reading.{UserInput, Line, ReadResult, before_too_long, effect, effect_change, effect_text, effect_warning, input_after, reading, stream_location, warning, warning_line_if, warnings, with_warnings, lines_from}
@@ -45,9 +47,9 @@ pub AddsWholeLines-then : (old mid new : List ℕ) → AddsWholeLines old mid �
 AddsWholeLines-then old mid new (a, is_a, first) (b, is_b, second) =
     (a ++ b, is_b ∙ ap (λ t. t ++ b) is_a ∙ append_assoc old a b, is_whole_lines-append a b first second)
 
-whole-warning_if : (stream : List ℕ) (number : ℕ) (warned : Option LineWarning) → is_whole_lines (warning_line_if stream number warned) ≡ true
+whole-warning_if : (stream : List ℕ) (number : ℕ) (warned : Option Warning) → is_whole_lines (warning_line_if stream number warned) ≡ true
 whole-warning_if stream number None = refl
-whole-warning_if stream number (Some w) = is_whole_lines-line (stream ++ codes ":" ++ decimal number ++ codes ": warning " ++ warning_text w)
+whole-warning_if stream number (Some w) = is_whole_lines-line (located_warning stream number w)
 
 whole-change : (at : StreamLocation) (name : List ℕ) (symbol_type : SymbolType) (old : Option GivenValue) (from : Option StreamLocation) (given : GivenValue) →
     is_whole_lines (change_text at name symbol_type old from given) ≡ true
@@ -56,7 +58,7 @@ whole-change at name symbol_type (Some old) None given = refl
 whole-change at name symbol_type (Some old) (Some from) given = by (same_given old given)
   where
     front : List ℕ
-    front = location_text at ++ codes ": warning K15: " ++ name ++ codes " was " ++ value_text symbol_type old ++ codes " (" ++ location_text from ++ codes ") and is now " ++ value_text symbol_type given
+    front = located_warning at.stream at.number (Changed name (value_text symbol_type old) from.stream from.number (value_text symbol_type given))
 
     by : (b : Bool) → is_whole_lines (if b then [] else change_line at name symbol_type old from given) ≡ true
     by true = refl

@@ -1,5 +1,7 @@
 -- Trusted: What a line changes of what was given before it (our own).
-use Rattle.std.specs.Prelude.{ℕ, Bool, false, not, if◌then◌else◌, List, [], ◌++◌, codes, decimal, Option, Some, None}
+use Rattle.std.specs.Prelude.{ℕ, Bool, false, not, if◌then◌else◌, List, [], ◌++◌, codes, Option, Some, None}
+use Rattle.kc_diagnostics.specs.Warnings.{located_warning}
+use Rattle.kc_diagnostics.specs.declared.warning.Warning.TheVariants.{Changed}
 use Rattle.kc_expr.specs.Value.{tri_text}
 use Rattle.kc_expr.specs.declared.expression.SymbolType.{SymbolType}
 use Rattle.kc_user.specs.GivenValue.{GivenValue, GivenTruth, GivenText, Member, same_given}
@@ -9,10 +11,6 @@ use Rattle.kc_config_file.specs.SymbolLines.{text_in_config}
 pub record StreamLocation : Type 0 where
   pub stream : List ℕ
   pub number : ℕ
-
--- `FILE:LINE`
-abbrev pub location_text : StreamLocation → List ℕ
-location_text l = l.stream ++ codes ":" ++ decimal l.number
 
 -- a value as a .config writes it
 abbrev pub value_text : SymbolType → GivenValue → List ℕ
@@ -25,11 +23,10 @@ abbrev pub is_change : Option GivenValue → GivenValue → Bool
 is_change None given = false
 is_change (Some old) given = not (same_given old given)
 
--- `FILE:LINE: warning K15: NAME was VALUE (FILE:LINE) and is now VALUE`, with the line's LF
+-- the line of a change, with its line feed
 abbrev pub change_line : StreamLocation → List ℕ → SymbolType → GivenValue → StreamLocation → GivenValue → List ℕ
 change_line at name symbol_type old from given =
-    location_text at ++ codes ": warning K15: " ++ name ++ codes " was " ++ value_text symbol_type old ++ codes " (" ++ location_text from
-    ++ codes ") and is now " ++ value_text symbol_type given ++ codes "\n"
+    located_warning at.stream at.number (Changed name (value_text symbol_type old) from.stream from.number (value_text symbol_type given)) ++ codes "\n"
 
 -- the change from what stood there, where the line that gave it is known
 abbrev pub change_text : StreamLocation → List ℕ → SymbolType → Option GivenValue → Option StreamLocation → GivenValue → List ℕ

@@ -1,22 +1,15 @@
 -- Trusted: What an effect stands for, and what it may assign.
 use Rattle.std.specs.Prelude.{◌<◌, length}
+use Rattle.kc_diagnostics.specs.Warnings.{shown_warning}
 use Rattle.kc_tree.specs.TreeFacts.{TreeFacts}
 use Rattle.kc_user.specs.ValueView.{given_of_value}
 use Rattle.kc_config_file.specs.Effects as spec
-use Rattle.kc_config_file.specs.declared.effect.LineWarning.{LineWarning}
-use Rattle.kc_config_file.specs.declared.effect.LineWarning.TheVariants.{UnknownSymbol, NotAllowed, MalformedLine, SetAgain}
 use Rattle.kc_config_file.specs.declared.effect.Effect.{Effect}
 use Rattle.kc_config_file.specs.declared.effect.Effect.TheVariants.{Silent, Warns, Assigns}
 
-abbrev pub warning_view : LineWarning → spec.LineWarning
-warning_view (UnknownSymbol name) = spec.UnknownSymbol name.now
-warning_view (NotAllowed name) = spec.NotAllowed name.now
-warning_view MalformedLine = spec.MalformedLine
-warning_view (SetAgain name) = spec.SetAgain name.now
-
 abbrev pub effect_view : Effect → spec.Effect
 effect_view Silent = spec.Silent
-effect_view (Warns line_warning) = spec.Warns (warning_view line_warning)
+effect_view (Warns line_warning) = spec.Warns (shown_warning line_warning)
 effect_view (Assigns s value) = spec.Assigns s (given_of_value value)
 
 -- an assignment is to a symbol that is defined

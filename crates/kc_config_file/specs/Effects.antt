@@ -1,6 +1,8 @@
 -- Trusted: What a line does for a tree: nothing, a warning, or an assignment.
-use Rattle.std.specs.Prelude.{ℕ, ◌++◌, List, position, Option, Some, None, codes, decimal}
+use Rattle.std.specs.Prelude.{ℕ, ◌++◌, List, position, Option, Some, None, codes}
 use Rattle.std.specs.Option.{option_map}
+use Rattle.kc_diagnostics.specs.Warnings.{Warning, located_warning}
+use Rattle.kc_diagnostics.specs.declared.warning.Warning.TheVariants.{UnknownSymbol, NotAllowed, MalformedLine}
 use Rattle.kc_expr.specs.declared.expression.SymId.{SymId}
 use Rattle.kc_expr.specs.declared.expression.Tri.TheVariants.{N}
 use Rattle.kc_expr.specs.declared.expression.SymbolType.{SymbolType}
@@ -13,16 +15,9 @@ pub use Rattle.kc_values.specs.Lookups.{type_in, name as name_of}
 use Rattle.kc_config_file.specs.ConfigFileLine.{LineMeaning, Nothing, Unset, Set, Malformed}
 use Rattle.kc_config_file.specs.LineValue.{line_value}
 
--- what a warning tells
-pub data LineWarning : Type 0 where
-  UnknownSymbol : List ℕ → LineWarning
-  NotAllowed : List ℕ → LineWarning
-  MalformedLine : LineWarning
-  SetAgain : List ℕ → LineWarning
-
 pub data Effect : Type 0 where
   Silent : Effect
-  Warns : LineWarning → Effect
+  Warns : Warning → Effect
   Assigns : SymId → GivenValue → Effect
 
 -- the type of a symbol; a name that is not defined has none
@@ -67,14 +62,6 @@ effect_of tree (Unset name) = unset_effect tree name (symbol_named tree name)
 effect_of tree (Set name text) = set_effect tree name text (symbol_named tree name)
 effect_of tree Malformed = Warns MalformedLine
 
--- Warnings.
-abbrev pub warning_text : LineWarning → List ℕ
-warning_text (UnknownSymbol name) = codes "K7: unknown symbol " ++ name
-warning_text (NotAllowed name) = codes "K8: value not allowed for " ++ name
-warning_text MalformedLine = codes "K9: malformed line"
-warning_text (SetAgain name) = codes "K10: " ++ name ++ codes " is set again"
-
--- the whole line: the stream's name and the line's number stand first
-abbrev pub warning_line : List ℕ → ℕ → LineWarning → List ℕ
-warning_line stream number line_warning =
-    stream ++ codes ":" ++ decimal number ++ codes ": warning " ++ warning_text line_warning ++ codes "\n"
+-- the line of a warning, with its line feed: the stream's name and the line's number stand first
+abbrev pub warning_line : List ℕ → ℕ → Warning → List ℕ
+warning_line stream number w = located_warning stream number w ++ codes "\n"

@@ -14,7 +14,9 @@ use Rattle.kc_config_file.specs.ConfigFileLine.{meaning_of}
 use Rattle.kc_config_file.specs.Limits.{longest_input_line}
 pub use Rattle.kc_config_file.specs.Changes.{StreamLocation}
 use Rattle.kc_config_file.specs.Changes.{change_text, is_change}
-use Rattle.kc_config_file.specs.Effects.{Effect, Silent, Warns, Assigns, LineWarning, SetAgain, effect_of, type_of, name_of, warning_line}
+use Rattle.kc_diagnostics.specs.Warnings.{Warning}
+use Rattle.kc_diagnostics.specs.declared.warning.Warning.TheVariants.{SetAgain}
+use Rattle.kc_config_file.specs.Effects.{Effect, Silent, Warns, Assigns, effect_of, type_of, name_of, warning_line}
 
 -- A line of a stream: its bytes before the LF, and whether an LF ended it.
 pub record Line : Type 0 where
@@ -113,15 +115,15 @@ abbrev pub with_warnings : List ℕ → ReadResult → ReadResult
 with_warnings warned read = record { input = read.input; warned = warned ++ read.warned; stopped = read.stopped }
 
 -- the symbol's place is filled already
-abbrev pub set_again : TreeFacts → Places → SymId → Option LineWarning
+abbrev pub set_again : TreeFacts → Places → SymId → Option Warning
 set_again tree places s = if is_some (place_at places (SymbolPlace s.0)) then Some (SetAgain (name_of tree s)) else None
 
-abbrev pub effect_warning : TreeFacts → Places → Effect → Option LineWarning
+abbrev pub effect_warning : TreeFacts → Places → Effect → Option Warning
 effect_warning tree places Silent = None
 effect_warning tree places (Warns line_warning) = Some line_warning
 effect_warning tree places (Assigns s given) = set_again tree places s
 
-abbrev pub warning_line_if : List ℕ → ℕ → Option LineWarning → List ℕ
+abbrev pub warning_line_if : List ℕ → ℕ → Option Warning → List ℕ
 warning_line_if stream number None = []
 warning_line_if stream number (Some line_warning) = warning_line stream number line_warning
 

@@ -7,7 +7,8 @@ use Rattle.kc_text.specs.Lines.{HoldsNoLineFeed, is_line_feed}
 use Rattle.kc_tree.specs.TreeFacts.{TreeFacts}
 use Rattle.kc_user.specs.GivenValue.{GivenValue}
 use Rattle.kc_user.specs.Places.{ArePlacesOf, Places}
-use Rattle.kc_config_file.specs.Effects.{Silent, Warns, Assigns, LineWarning}
+use Rattle.kc_diagnostics.specs.Warnings.{Warning}
+use Rattle.kc_config_file.specs.Effects.{Silent, Warns, Assigns}
 use Rattle.kc_config_file.specs.Reading.{Line, UserInput, effect, input_after, is_within, last_line, line, lines_from, places_after, reading, stream_location, untaken, untaken_line, warning, warnings, with_warnings}
 
 -- The lines of a stream's bytes: a line feed ends a line, and the next line follows; bytes without one are the last line,
@@ -51,7 +52,7 @@ module _ (tree : TreeFacts) (prefix : List ℕ) where
   pub record LinesDoWhatTheySay : Type 0 where
     pub silent : (input : UserInput) (l : Line) → effect tree prefix l ≡ Silent → input_after tree prefix input (l ∷ []) ≡ input
     pub warned :
-        (input : UserInput) (l : Line) (line_warning : LineWarning) → effect tree prefix l ≡ Warns line_warning →
+        (input : UserInput) (l : Line) (line_warning : Warning) → effect tree prefix l ≡ Warns line_warning →
         input_after tree prefix input (l ∷ []) ≡ record input { all_taken = false }
     pub value :
         (input : UserInput) (l : Line) (s : SymId) (given : GivenValue) → effect tree prefix l ≡ Assigns s given →

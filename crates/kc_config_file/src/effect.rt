@@ -1,36 +1,23 @@
 //! What a line does for a tree: nothing, a warning, or an assignment.
 ghost use Rattle.std.specs.Prelude.{◌≡◌, ◌++◌, IfOk, OnOk, OnErr, Some};
+ghost use Rattle.kc_diagnostics.specs.Warnings.{shown_warning};
 ghost use Rattle.kc_config_file.specs.ConfigFileLine.{meaning_view};
 ghost use Rattle.kc_config_file.specs.Effects as spec;
-ghost use Rattle.kc_config_file.specs.EffectView.{AssignsDefined, warning_view, effect_view};
+ghost use Rattle.kc_config_file.specs.EffectView.{AssignsDefined, effect_view};
 
 use crate::line::ConfigFileLine;
-use crate::told::tell_parts;
 use crate::value::line_value;
-use itoa::Buffer;
+use kc_diagnostics::{Warning, add_located};
 use kc_expr::expression::{SymId, SymbolType, Tri};
 use kc_tree::tree::Tree;
 use kc_user::value::UserValue;
 use std::alloc::{AllocError, Global};
 
-/// What a warning tells, with the name that it tells it of.
-#[derive(Clone, Copy, Debug, PartialEq, Eq)]
-pub enum LineWarning<'a> {
-    /// No symbol of this name is defined and has a type (K7).
-    UnknownSymbol(&'a [u8]),
-    /// The symbol may not have the value (K8).
-    NotAllowed(&'a [u8]),
-    /// The line is none of those that a `.config` has (K9).
-    MalformedLine,
-    /// The symbol was given a value before (K10).
-    SetAgain(&'a [u8]),
-}
-
 /// What a line does.
 #[derive(Debug, Drop)]
 pub enum Effect<'a> {
     Silent,
-    Warns(LineWarning<'a>),
+    Warns(Warning<&'a [u8]>),
     Assigns(SymId, UserValue),
 }
 
@@ -48,7 +35,7 @@ pub fn line_effect<'a>(
         ConfigFileLine::Nothing => Ok(Effect::Silent),
         ConfigFileLine::Unset(name) => Ok(unset_effect(tree, name)),
         ConfigFileLine::Set(name, text) => set_effect(alloc, tree, name, text),
-        ConfigFileLine::Malformed => Ok(Effect::Warns(LineWarning::MalformedLine)),
+        ConfigFileLine::Malformed => Ok(Effect::Warns(Warning::MalformedLine)),
     }
 }
 
@@ -66,9 +53,9 @@ fn unset_effect<'a>(tree: &Tree, name: &'a [u8]) -> Effect<'a>
     ensures { effect_view result ≡ spec.unset_effect tree.now name.now (spec.symbol_named tree.now name.now) }
 {
     match tree.find(name) {
-        None => Effect::Warns(LineWarning::UnknownSymbol(name)),
+        None => Effect::Warns(Warning::UnknownSymbol(name)),
         Some(id) => match type_of(tree, id) {
-            SymbolType::Undefined => Effect::Warns(LineWarning::UnknownSymbol(name)),
+            SymbolType::Undefined => Effect::Warns(Warning::UnknownSymbol(name)),
             SymbolType::Bool | SymbolType::Tristate => Effect::Assigns(id, UserValue::Tri(Tri::N)),
             SymbolType::Str | SymbolType::Int | SymbolType::Hex => Effect::Silent,
         },
@@ -84,7 +71,7 @@ fn set_effect<'a>(
     ensures { IfOk result (λ effect. effect_view effect ≡ spec.set_effect tree.now name.now text.now (spec.symbol_named tree.now name.now)) }
 {
     match tree.find(name) {
-        None => Ok(Effect::Warns(LineWarning::UnknownSymbol(name))),
+        None => Ok(Effect::Warns(Warning::UnknownSymbol(name))),
         Some(id) => set_by_type(alloc, name, id, text, type_of(tree, id)),
     }
 }
@@ -99,23 +86,11 @@ fn set_by_type<'a>(
     ensures { IfOk result (λ effect. effect_view effect ≡ spec.set_by_type name.now id text.now symbol_type) }
 {
     if symbol_type == SymbolType::Undefined {
-        return Ok(Effect::Warns(LineWarning::UnknownSymbol(name)));
+        return Ok(Effect::Warns(Warning::UnknownSymbol(name)));
     }
     match line_value(alloc, symbol_type, text)? {
         Some(value) => Ok(Effect::Assigns(id, value)),
-        None => Ok(Effect::Warns(LineWarning::NotAllowed(name))),
-    }
-}
-
-// What stands before the name that a warning tells, the name, and what stands after it.
-fn message<'a>(line_warning: LineWarning<'a>) -> (&'a [u8], &'a [u8], &'a [u8])
-    ensures { result.0.now ++ result.1.now ++ result.2.now ≡ spec.warning_text (warning_view line_warning.entry) }
-{
-    match line_warning {
-        LineWarning::UnknownSymbol(name) => (b"K7: unknown symbol ", name, b""),
-        LineWarning::NotAllowed(name) => (b"K8: value not allowed for ", name, b""),
-        LineWarning::MalformedLine => (b"K9: malformed line", b"", b""),
-        LineWarning::SetAgain(name) => (b"K10: ", name, b" is set again"),
+        None => Ok(Effect::Warns(Warning::NotAllowed(name))),
     }
 }
 
@@ -124,26 +99,19 @@ fn message<'a>(line_warning: LineWarning<'a>) -> (&'a [u8], &'a [u8], &'a [u8])
 pub fn warn(
     stream: &[u8],
     number: u64,
-    line_warning: LineWarning<'_>,
+    line_warning: Warning<&[u8]>,
     told: &mut Vec<u8>,
 ) -> Result<(), AllocError>
-    ensures whole { OnOk result (told.new.items ≡ told.old.items ++ spec.warning_line stream.now number (warning_view line_warning.entry)) }
+    ensures whole { OnOk result (told.new.items ≡ told.old.items ++ spec.warning_line stream.now number (shown_warning line_warning.entry)) }
     ensures nothing { OnErr result (told.new.items ≡ told.old.items) }
 {
-    let mut buffer = Buffer::new();
-    let digits = buffer.format(number).as_bytes();
-    let (before, name, after) = message(line_warning);
-    tell_parts(
-        &[
-            stream,
-            b":",
-            digits,
-            b": warning ",
-            before,
-            name,
-            after,
-            b"\n",
-        ],
-        told,
-    )
+    let before = told.len();
+    add_located(stream, number, line_warning, told)?;
+    match told.extend_from_slice(b"\n") {
+        Ok(()) => Ok(()),
+        Err(fault) => {
+            told.truncate(before);
+            Err(fault)
+        }
+    }
 }

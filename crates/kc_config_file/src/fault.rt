@@ -5,16 +5,13 @@ ghost use Rattle.kc_config_file.specs.declared.fault.WriteFault.TheVariants as w
 
 use crate::sink::Fault;
 use std::alloc::{AllocError, AllocFailed};
-use thiserror::Error;
 
 /// Why a `.config` could not be read on.
-#[derive(Clone, Copy, Debug, PartialEq, Eq, Error)]
+#[derive(Clone, Copy, Debug, PartialEq, Eq)]
 pub enum InputFault {
     /// The line of this number has more than 65,535 bytes (E17).
-    #[error("line {0} is longer than 65535 bytes")]
     InputLineTooLong(u64),
     /// No memory was to be had (E20).
-    #[error("out of memory")]
     Memory,
 }
 
@@ -35,13 +32,11 @@ impl<T: Drop> From<AllocFailed<T>> for InputFault {
 }
 
 /// Why a text could not be written to its end. The sink took a beginning of it, never the whole.
-#[derive(Clone, Copy, Debug, PartialEq, Eq, Error)]
+#[derive(Clone, Copy, Debug, PartialEq, Eq)]
 pub enum WriteFault {
     /// The sink failed (E19).
-    #[error("cannot write")]
     Sink,
     /// No memory was to be had (E20).
-    #[error("out of memory")]
     Memory,
 }
 

@@ -34,7 +34,6 @@ pub mod sink;
 mod step;
 mod symbol_line;
 mod text;
-mod told;
 pub mod user_input;
 pub mod value;
 

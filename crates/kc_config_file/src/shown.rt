@@ -2,11 +2,10 @@
 ghost use Rattle.std.specs.Prelude.{◌≡◌, ◌++◌, OnOk};
 ghost use Rattle.kc_user.specs.GivenValue.{same_given};
 ghost use Rattle.kc_user.specs.ValueView.{given_of_value};
-ghost use Rattle.kc_config_file.specs.Changes.{location_text, value_text};
-ghost use Rattle.kc_config_file.specs.ShownView.{given_by, location_of};
+ghost use Rattle.kc_config_file.specs.Changes.{value_text};
+ghost use Rattle.kc_config_file.specs.ShownView.{given_by};
 ghost use Rattle.kc_config_file.specs.SymbolLines.{text_in_config};
 
-use itoa::Buffer;
 use kc_expr::expression::{SymbolType, Tri};
 use kc_expr::values::tri_text;
 use kc_text::escape_into;
@@ -82,15 +81,4 @@ pub fn add_value(
         ShownValue::Truth(tri) => line.extend_from_slice(tri_text(tri)),
         ShownValue::Text(text) => add_text(symbol_type, text, line),
     }
-}
-
-/// Adds `FILE:LINE`. Its only error is to be out of memory.
-pub fn add_location(at: InputLine<'_>, line: &mut Vec<u8>) -> Result<(), AllocError>
-    ensures { OnOk result (line.new.items ≡ line.old.items ++ location_text (location_of at.entry)) }
-{
-    let mut buffer = Buffer::new();
-    let digits = buffer.format(at.number).as_bytes();
-    line.extend_from_slice(at.file)?;
-    line.extend_from_slice(b":")?;
-    line.extend_from_slice(digits)
 }

@@ -4,19 +4,20 @@ ghost use Rattle.std.specs.Option.{option_map};
 ghost use Rattle.kc_user.specs.ValueView.{given_of_value};
 ghost use Rattle.kc_config_file.specs.Changes.{change_line, change_text, is_change};
 ghost use Rattle.kc_config_file.specs.ConfigFileLine.{meaning_of};
-ghost use Rattle.kc_config_file.specs.Effects.{Assigns, SetAgain, effect_of, warning_line};
+ghost use Rattle.kc_diagnostics.specs.declared.warning.Warning.TheVariants.{Changed, SetAgain};
+ghost use Rattle.kc_config_file.specs.Effects.{Assigns, effect_of, warning_line};
 ghost use Rattle.kc_user.specs.Places.{ArePlacesOf, place_at};
 ghost use Rattle.kc_config_file.specs.LineSteps.{input_by, with_member};
 ghost use Rattle.kc_config_file.specs.Reading.{effect_text, choice_of, places_given};
 ghost use Rattle.kc_config_file.specs.ShownView.{given_by, location_of};
 ghost use Rattle.kc_user.specs.GivenValue.{SymbolPlace, is_yes};
 
-use crate::effect::{Effect, LineWarning, line_effect, type_of, warn};
+use crate::effect::{Effect, line_effect, type_of, warn};
 use crate::line::parse_config_file_line;
 use crate::prefix::Prefix;
-use crate::shown::{InputLine, ShownValue, add_location, add_value, is_same, shown_given};
-use crate::text::add_parts;
+use crate::shown::{InputLine, ShownValue, add_value, is_same, shown_given};
 use crate::user_input::UserInput;
+use kc_diagnostics::Warning;
 use kc_expr::expression::{SymId, SymbolType, Tri};
 use kc_tree::rows::ChoiceId;
 use kc_tree::tree::Tree;
@@ -121,14 +122,6 @@ fn give<'a>(
     Ok(())
 }
 
-// Adds the line that tells that the symbol is set again.
-fn add_again(at: InputLine<'_>, name: &[u8], text: &mut Vec<u8>) -> Result<(), AllocError>
-    ensures { OnOk result (text.new.items ≡ text.old.items ++ warning_line at.entry.file.now at.entry.number (SetAgain name.now)) }
-{
-    add_location(at, text)?;
-    add_parts(&[b": warning K10: ", name, b" is set again\n"], text)
-}
-
 // A value, and the line that gave it.
 #[derive(Clone, Copy)]
 struct Given<'a> {
@@ -136,25 +129,45 @@ struct Given<'a> {
     at: InputLine<'a>,
 }
 
+// Tells what the symbol was and is now, given the two values as texts.
+fn tell_values<'a>(
+    name: &'a [u8],
+    from: InputLine<'a>,
+    before: &'a [u8],
+    at: InputLine<'a>,
+    now: &'a [u8],
+    told: &mut Vec<u8>,
+) -> Result<(), AllocError>
+    ensures { OnOk result (told.new.items ≡ told.old.items
+        ++ warning_line at.entry.file.now at.entry.number (Changed name.now before.now from.entry.file.now from.entry.number now.now)) }
+{
+    let warning = Warning::Changed {
+        name,
+        old: before,
+        file: from.file,
+        line: from.number,
+        new: now,
+    };
+    warn(at.file, at.number, warning, told)
+}
+
 // Adds the line that tells what the symbol was and is now.
-fn add_change(
-    name: &[u8],
+fn add_change<'a>(
+    alloc: Global,
+    name: &'a [u8],
     symbol_type: SymbolType,
-    old: Given<'_>,
-    new: Given<'_>,
+    old: Given<'a>,
+    new: Given<'a>,
     text: &mut Vec<u8>,
 ) -> Result<(), AllocError>
     ensures { OnOk result (text.new.items ≡ text.old.items
         ++ change_line (location_of new.entry.at) name.now symbol_type (given_by old.entry.value) (location_of old.entry.at) (given_by new.entry.value)) }
 {
-    add_location(new.at, text)?;
-    add_parts(&[b": warning K15: ", name, b" was "], text)?;
-    add_value(symbol_type, old.value, text)?;
-    text.extend_from_slice(b" (")?;
-    add_location(old.at, text)?;
-    text.extend_from_slice(b") and is now ")?;
-    add_value(symbol_type, new.value, text)?;
-    add_parts(&[b"\n"], text)
+    let mut before = Vec::new(alloc);
+    add_value(symbol_type, old.value, &mut before)?;
+    let mut now = Vec::new(alloc);
+    add_value(symbol_type, new.value, &mut now)?;
+    tell_values(name, old.at, &before, new.at, &now, text)
 }
 
 // Tells that the symbol is set again.
@@ -162,16 +175,16 @@ fn tell_again(at: InputLine<'_>, name: &[u8], told: &mut Vec<u8>) -> Result<(), 
     ensures whole { OnOk result (told.new.items ≡ told.old.items ++ warning_line at.entry.file.now at.entry.number (SetAgain name.now)) }
     ensures nothing { OnErr result (told.new.items ≡ told.old.items) }
 {
-    warn(at.file, at.number, LineWarning::SetAgain(name), told)
+    warn(at.file, at.number, Warning::SetAgain(name), told)
 }
 
 // Tells that the symbol is set again, and what it was and is now.
-fn tell_change(
+fn tell_change<'a>(
     alloc: Global,
-    name: &[u8],
+    name: &'a [u8],
     symbol_type: SymbolType,
-    old: Given<'_>,
-    new: Given<'_>,
+    old: Given<'a>,
+    new: Given<'a>,
     told: &mut Vec<u8>,
 ) -> Result<(), AllocError>
     ensures whole { OnOk result (told.new.items ≡ told.old.items ++ (warning_line new.entry.at.file.now new.entry.at.number (SetAgain name.now)
@@ -179,8 +192,8 @@ fn tell_change(
     ensures nothing { OnErr result (told.new.items ≡ told.old.items) }
 {
     let mut text = Vec::new(alloc);
-    add_again(new.at, name, &mut text)?;
-    add_change(name, symbol_type, old, new, &mut text)?;
+    tell_again(new.at, name, &mut text)?;
+    add_change(alloc, name, symbol_type, old, new, &mut text)?;
     told.extend_from_slice(&text)
 }
 

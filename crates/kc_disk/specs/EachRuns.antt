@@ -14,7 +14,7 @@ use Rattle.kc_words.specs.Patterns.{AreOptionsFor}
 use Rattle.kc_words.specs.declared.each.Each.{Each}
 use Rattle.kc_words.specs.declared.usage.UsageError.{UsageError}
 use Rattle.kc_conf.specs.ErrorLines.{cannot_read_line}
-use Rattle.kc_options.specs.ErrorLines.{out_of_memory_line}
+use Rattle.kc_diagnostics.specs.RunErrors.{out_of_memory_line}
 use Rattle.kc_conf.specs.FolderRuns.{load_line}
 use Rattle.kc_conf.specs.Stops.{TriesToSay}
 use Rattle.kc_conf.specs.Many.{RunsEach}

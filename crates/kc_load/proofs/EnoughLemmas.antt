@@ -7,10 +7,10 @@ use Rattle.std.specs.List.{list_any}
 use Rattle.std.specs.Str.{is_utf8}
 use Rattle.kc_text.specs.Lines.{UnreadLines, unread_lines}
 use Rattle.kc_expr.specs.Names.{same_name}
-use Rattle.kc_read.specs.declared.refusal.Code.TheVariants as code
-use Rattle.kc_read.specs.Expansion.{FileContext, Expands, Log, Refused, Rest, bytes_cause, nothing_read, of_file, with_file, refused, root_context, sourcing_cause, at_end, unclosed, too_long, no_tokens, blank, bad_line, over_limit, statement, bad_source, refused_inside, source}
+use Rattle.kc_diagnostics.specs.declared.cause.Cause.TheVariants as cause
+use Rattle.kc_read.specs.Expansion.{FileContext, Expands, Log, Refused, Rest, bytes_cause, nothing_read, with_file, refused, root_context, sourcing_cause, at_end, unclosed, too_long, no_tokens, blank, bad_line, over_limit, statement, bad_source, refused_inside, source}
 use Rattle.kc_read.specs.Files.{Files}
-use Rattle.kc_read.specs.Lines.{Cause, cause}
+use Rattle.kc_diagnostics.specs.Causes.{Cause}
 use Rattle.kc_read.specs.OpenedFiles.{sourced_files}
 use Rattle.kc_read.specs.Statements.{Located, Named}
 use Rattle.kc_read.proofs.ExpansionThere.{has_one_expansion}
@@ -32,7 +32,7 @@ here x xs = (0, omega arith, refl)
 module _ (files others : Files) where
   same_cause : (opens : List (List ℕ)) (n : ℕ) (name : List ℕ) (o : Option Cause) → others name ≡ files name → sourcing_cause files opens n name ≡ o → sourcing_cause others opens n name ≡ o
   same_cause opens n name o e h =
-      ap (λ f. cond (list_any (same_name name) opens) (Some (of_file code.InclusionLoop name)) (cond (nat_le 64 (length opens)) (Some (cause code.TooDeep)) (bytes_cause name n f))) e ∙ h
+      ap (λ f. cond (list_any (same_name name) opens) (Some (cause.InclusionLoop name)) (cond (nat_le 64 (length opens)) (Some cause.TooDeep) (bytes_cause name n f))) e ∙ h
 
   -- the expansion over the one is one over the other
   pub over : {a : FileContext} {l : UnreadLines} {own : List (Located Named)} {log : Log} {r : Result Log Refused} (d : Rest files a l own log r) →

@@ -11,10 +11,11 @@ use Rattle.kc_text.specs.Lexemes.{Lexeme}
 use Rattle.kc_text.specs.Lines.{UnreadLines}
 use Rattle.kc_expr.specs.Names.{same_name, mention}
 use Rattle.kc_expr.proofs.NamesLemmas.{same_name-refl}
-use Rattle.kc_read.specs.declared.refusal.Code.TheVariants as code
-use Rattle.kc_read.specs.Expansion.{FileContext, Log, Refused, Rest, NextStatement, bytes_cause, is_source, of_file, sourcing_cause, at_end, unclosed, too_long, no_tokens, blank, bad_line, over_limit, statement, bad_source, refused_inside, source, lines_of}
+use Rattle.kc_diagnostics.specs.declared.cause.Cause.TheVariants as cause
+use Rattle.kc_read.specs.Expansion.{FileContext, Log, Refused, Rest, NextStatement, bytes_cause, is_source, sourcing_cause, at_end, unclosed, too_long, no_tokens, blank, bad_line, over_limit, statement, bad_source, refused_inside, source, lines_of}
 use Rattle.kc_read.specs.Files.{Files}
-use Rattle.kc_read.specs.Lines.{LineContext, After, Cause, ReadsSource, begins_with, cause, finish, plain_text, text_of}
+use Rattle.kc_diagnostics.specs.Causes.{Cause}
+use Rattle.kc_read.specs.Lines.{LineContext, After, ReadsSource, begins_with, finish, plain_text, text_of}
 use Rattle.kc_read.specs.OpenedFiles.{sourced_files}
 use Rattle.kc_read.specs.Sources.{SourceNames}
 use Rattle.kc_read.specs.Statements.{Located, Named, SourceLine}
@@ -73,7 +74,7 @@ few_lines name bytes n (Some c) e f =
     let same : c ≡ bytes = cc in
     subst (λ b. n + lines_of b ≤ most_lines) same (by (nat_lt most_lines (n + lines_of c)) refl e)
   where
-    by : (b : Bool) → nat_lt most_lines (n + lines_of c) ≡ b → cond b (Some (cause code.TooManyLines)) None ≡ None → n + lines_of c ≤ most_lines
+    by : (b : Bool) → nat_lt most_lines (n + lines_of c) ≡ b → ◌≡◌ {A = Option Cause} (cond b (Some cause.TooManyLines) None) None → n + lines_of c ≤ most_lines
     by true g h = absurd cc
     by false g h = grind (arith, nat_tests)
 
@@ -83,7 +84,7 @@ may_open : (files : Files) (opens : List (List ℕ)) (n : ℕ) (name bytes : Lis
 may_open files opens n name bytes h there = by (list_any (same_name name) opens) (nat_le 64 (length opens)) refl h
   where
     by : (open_now full : Bool) → list_any (same_name name) opens ≡ open_now →
-        cond open_now (Some (of_file code.InclusionLoop name)) (cond full (Some (cause code.TooDeep)) (bytes_cause name n (files name))) ≡ None →
+        cond open_now (Some (cause.InclusionLoop name)) (cond full (Some cause.TooDeep) (bytes_cause name n (files name))) ≡ None →
         (list_any (same_name name) opens ≡ false) × (n + lines_of bytes ≤ most_lines)
     by true full e g = absurd cc
     by false true e g = absurd cc

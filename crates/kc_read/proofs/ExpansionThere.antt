@@ -10,13 +10,13 @@ use Rattle.kc_text.specs.Lexemes.{Lexeme}
 use Rattle.kc_text.proofs.Joins.{one_next_line_law}
 use Rattle.kc_text.proofs.There.{one_cutting_law}
 use Rattle.kc_expr.specs.Names.{same_name}
-use Rattle.kc_read.specs.declared.refusal.Code.TheVariants as code
+use Rattle.kc_diagnostics.specs.declared.cause.Cause.TheVariants as cause
 use Rattle.kc_read.specs.declared.statement.OpenBlock.{OpenBlock}
 use Rattle.kc_read.specs.Blocks.{last_of}
 use Rattle.kc_read.specs.Existing.{HasOneExpansion}
 use Rattle.kc_read.specs.Expansion.{FileContext, Log, Refused, Rest, NextLine, NextStatement, refused, bytes_cause, context_of, limit_cause, inside, is_help, is_source, logged, nothing_read, with_file, root_context, source_cause, sourcing_cause, text_cause, with_line, without_help, at_end, unclosed, too_long, no_tokens, blank, bad_line, over_limit, statement, bad_source, refused_inside, source}
 use Rattle.kc_read.specs.Files.{Files}
-use Rattle.kc_read.specs.Lines.{Cause, cause}
+use Rattle.kc_diagnostics.specs.Causes.{Cause}
 use Rattle.kc_read.specs.Progress.{located_blocks}
 use Rattle.kc_read.specs.Statements.{Located, Named, SourceLine, ConfigLine, IfLine, EndIfLine, CommentLine, MenuLine, EndMenuLine, ChoiceLine, EndChoiceLine, MainMenuLine, TypeLine, PromptLine, DefaultLine, DefLine, DependsLine, VisibleLine, SelectLine, ImplyLine, RangeLine, HelpLine, ModulesLine, IgnoredLine}
 use Rattle.kc_read.proofs.BlockLemmas as blocks
@@ -65,7 +65,7 @@ may_open : (files : Files) (names : List (List ℕ)) (n : ℕ) (name : List ℕ)
 may_open files names n name h = by (list_any (same_name name) names) (nat_le 64 (length names)) (files name) refl refl h
   where
     by : (open_now full : Bool) (o : Option (List ℕ)) → nat_le 64 (length names) ≡ full → files name ≡ o →
-        cond open_now (Some (record { code = code.InclusionLoop; detail = name })) (cond full (Some (cause code.TooDeep)) (bytes_cause name n o)) ≡ None →
+        cond open_now (Some (cause.InclusionLoop name)) (cond full (Some cause.TooDeep) (bytes_cause name n o)) ≡ None →
         MayOpen files names name
     by true full o e f g = absurd cc
     by false true o e f g = absurd cc
@@ -80,7 +80,7 @@ module _ (files : Files) (a : FileContext) (deeper : (own : List (Located Named)
     end_there none [] e = (Ok log, at_end a l own log none (sym (blocks.blocks_of_located own) ∙ ap (map (λ o. o.block)) e))
     end_there none (o ∷ os) e =
         let x = last_there o os in
-        (Err (refused (cause code.Block) a.file x.0.line), unclosed a l own log x.0.line none (blocks.unclosed own x.0 (ap last_of e ∙ x.1)))
+        (Err (refused cause.Block a.file x.0.line), unclosed a l own log x.0.line none (blocks.unclosed own x.0 (ap last_of e ∙ x.1)))
 
     plain_there : (m : UnreadLines) (s : Named) → NextStatement l m (context_of a own log) (Ok s) → is_source s ≡ false → length m.lines < length l.lines →
         (o : Option Cause) → limit_cause a own log s ≡ o → RestThere files a l own log
@@ -131,7 +131,7 @@ module _ (files : Files) (a : FileContext) (deeper : (own : List (Located Named)
     next_there : (next : Next) → IsNextLine l next → RestThere files a l own log
     next_there Ended g = end_there g (located_blocks own) refl
     next_there (Taken m text) g = taken_there m text g
-    next_there TooLong g = (Err (refused (cause code.LineTooLong) a.file l.number), too_long a l own log g)
+    next_there TooLong g = (Err (refused cause.LineTooLong a.file l.number), too_long a l own log g)
 
     turn_there : RestThere files a l own log
     turn_there = let next = one_next_line_law l in next_there next.0 next.1

@@ -8,9 +8,9 @@ use Rattle.kc_expr.specs.declared.parse.ExprFault.TheVariants as expr
 use Rattle.kc_expr.specs.Form.{Form}
 use Rattle.kc_expr.specs.Grammar.{LongestFront, terminal_of, terminals, terminals_from}
 use Rattle.kc_expr.specs.Parsing.{IsParsed, IsRefused}
-use Rattle.kc_read.specs.declared.statement.LineFault.{LineFault}
+use Rattle.kc_diagnostics.proofs.CauseLemmas.{no_other_memory}
 use Rattle.kc_read.specs.Lines.{ExpressionFault}
-use Rattle.kc_read.specs.LineReads.{IsFront, IsFault, lexemes_from, code_of}
+use Rattle.kc_read.specs.LineReads.{LineFault, IsFront, IsFault, cause_of, lexemes_from, expression_cause}
 
 terminals-map : (ts : List Token) → map terminal_of (lexemes ts) ≡ map (λ t. terminal_of (lexeme t)) ts
 terminals-map [] = refl
@@ -49,11 +49,11 @@ is_front condition old names tokens at end e h p = record {
   form = p.form;
 }
 
-pub is_expression_fault : (tokens : List Token) (at : ℕ) (e : ExprFault) (f : LineFault) → f.code ≡ code_of e → f.detail.now ≡ [] →
+pub is_expression_fault : (tokens : List Token) (at : ℕ) (e : ExprFault) (f : LineFault) → cause_of f ≡ expression_cause e →
     IsRefused e (terminals_from tokens at) → IsFault f (ExpressionFault (lexemes_from tokens at))
-is_expression_fault tokens at expr.Syntax f c d r n = inl (rw (terminals-lexemes_from tokens at) r, λ i. record { code = c i; detail = d i })
-is_expression_fault tokens at expr.TooDeep f c d r n = inr (rw (terminals-lexemes_from tokens at) r, λ i. record { code = c i; detail = d i })
-is_expression_fault tokens at expr.Memory f c d r n = absurd (n c)
+is_expression_fault tokens at expr.Syntax f is r n = inl (rw (terminals-lexemes_from tokens at) r, is)
+is_expression_fault tokens at expr.TooDeep f is r n = inr (rw (terminals-lexemes_from tokens at) r, is)
+is_expression_fault tokens at expr.Memory f is r n = absurd (n (no_other_memory (λ name. name.now) f is))
 
 pub after_one : (tokens : List Token) (at : ℕ) → drop 1 (lexemes_from tokens at) ≡ lexemes_from tokens (at + 1)
 after_one tokens at =

@@ -5,11 +5,12 @@ use Rattle.kc_expr.specs.Grammar.{Terminal, Disjunction, terminals, spell_or, Lo
 use Rattle.kc_expr.specs.Parsing.{Answer, Derived, NoExpression, TooManyLevels, Answers}
 use Rattle.kc_expr.proofs.OneAnswer.{one_answer_law}
 use Rattle.kc_text.specs.Lexemes.{Lexeme}
-use Rattle.kc_read.specs.declared.refusal.Code.TheVariants as code
+use Rattle.kc_diagnostics.specs.declared.cause.Cause.TheVariants as cause
 use Rattle.kc_read.specs.declared.statement.Keyword.{Keyword}
 use Rattle.kc_read.specs.declared.statement.Keyword.TheVariants as key
 use Rattle.kc_read.specs.Statements.{Named, InputPrompt, IfLine, EndIfLine, CommentLine, SourceLine, MenuLine, EndMenuLine, EndChoiceLine, MainMenuLine, TypeLine, PromptLine, DefaultLine, DefLine, DependsLine, VisibleLine, SelectLine, ImplyLine, RangeLine, HelpLine, ModulesLine}
-use Rattle.kc_read.specs.Lines.{LineContext, Cause, cause, syntax_cause, StartsExpression, ExpressionFault, front, IsWhole, WholeFault, ReadsWhole, begins_with, IsCondition, ConditionFault, ReadsCondition, After, text_of, word_of, named_target, operand_of, finish, ReadsTextLine, plain_text, ReadsSource, good_name, ReadsConfig, choice_line, ReadsPrompt, ReadsType, ReadsValue, expected, ReadsTarget, ReadsRange, option_line, left_out, ReadsRest, in_place, keyword_or_refusal, placement_cause, keyword_of, ReadsPlaced, ReadsLine, OneStatement}
+use Rattle.kc_diagnostics.specs.Causes.{Cause}
+use Rattle.kc_read.specs.Lines.{LineContext, StartsExpression, ExpressionFault, front, IsWhole, WholeFault, ReadsWhole, begins_with, IsCondition, ConditionFault, ReadsCondition, After, text_of, word_of, named_target, operand_of, finish, ReadsTextLine, plain_text, ReadsSource, good_name, ReadsConfig, choice_line, ReadsPrompt, ReadsType, ReadsValue, expected, ReadsTarget, ReadsRange, option_line, ReadsRest, in_place, keyword_or_refusal, placement_cause, keyword_of, ReadsPlaced, ReadsLine, OneStatement}
 use Rattle.kc_read.proofs.OneLine.{one_line}
 
 -- ---- Expressions and conditions
@@ -37,8 +38,8 @@ expression_of ts (Derived d rest) h =
         },
       ),
     )
-expression_of ts NoExpression h = inr (syntax_cause, inl (h, refl))
-expression_of ts TooManyLevels h = inr (cause code.TooDeep, inr (h, refl))
+expression_of ts NoExpression h = inr (cause.Syntax, inl (h, refl))
+expression_of ts TooManyLevels h = inr (cause.TooDeep, inr (h, refl))
 
 expression_there : (ts : List Lexeme) → Expression ts
 expression_there ts = let a = one_answer_law (terminals ts) in expression_of ts a.0 a.1
@@ -52,7 +53,7 @@ whole_of ts (inl x) = by x.0 x.1.0 x.1.1
   where
     by : (d : Disjunction) (rest : List Lexeme) → StartsExpression ts (front d rest) → Whole ts
     by d [] s = inl (d, s)
-    by d (t ∷ us) s = inr (syntax_cause, inr (front d (t ∷ us), s, (t, us, refl), refl))
+    by d (t ∷ us) s = inr (cause.Syntax, inr (front d (t ∷ us), s, (t, us, refl), refl))
 
 whole_there : (ts : List Lexeme) → Whole ts
 whole_there ts = whole_of ts (expression_there ts)
@@ -67,7 +68,7 @@ condition_there (t ∷ us) = by (begins_with if_word (t ∷ us)) refl (whole_the
     by : (b : Bool) → begins_with if_word (t ∷ us) ≡ b → Whole us → Condition (t ∷ us)
     by true e (inl x) = inl (Some x.0, (e, x.1))
     by true e (inr x) = inr (x.0, inl (e, x.1))
-    by false e x = inr (syntax_cause, inr ((t, us, refl), e, refl))
+    by false e x = inr (cause.Syntax, inr ((t, us, refl), e, refl))
 
 -- ---- Lines
 
@@ -158,7 +159,7 @@ rest_there w key.Range ts = range_line ts
 rest_there w key.Help ts = there_it_is (finish HelpLine ts)
 rest_there w key.Modules ts = there_it_is (finish ModulesLine ts)
 rest_there w key.«Option» ts = there_it_is (option_line ts)
-rest_there w key.LeftOut ts = there_it_is (Err (left_out w))
+rest_there w key.LeftOut ts = there_it_is (Err (cause.LeftOut w))
 
 placed_there : (c : LineContext) (w : List ℕ) (ts : List Lexeme) (k : Keyword) → IsThere (ReadsPlaced c w ts k)
 placed_there c w ts k = after (in_place k (placement_cause c w ts k)) (λ j. ReadsRest w j ts) (λ j. rest_there w j ts)

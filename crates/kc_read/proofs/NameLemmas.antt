@@ -7,8 +7,7 @@ use Rattle.std.proofs.lemmas.List.Folds.{list_any-append}
 use Rattle.std.proofs.lemmas.List.{length-map, map-append}
 use Rattle.kc_expr.specs.declared.expression.SymId.{SymId}
 use Rattle.kc_expr.specs.Names.{IsNumber, same_name, number_of, symbol, mention, Extends}
-use Rattle.kc_read.specs.declared.refusal.Code.TheVariants as code
-use Rattle.kc_read.specs.Lines.{cause}
+use Rattle.kc_diagnostics.specs.declared.cause.Cause.TheVariants as cause
 use Rattle.kc_expr.specs.DistinctSymbols.{added, stands_in}
 use Rattle.kc_expr.proofs.NamesLemmas.{extends_on, same_name-refl}
 use Rattle.kc_read.specs.Expansion.{names_match}
@@ -149,4 +148,4 @@ defining_same known names ids ns None None e h k = refl
 defining_same known names ids ns None (Some n) e h k = absurd k
 defining_same known names ids ns (Some id) None e h k = absurd k
 defining_same known names ids ns (Some id) (Some n) e h k =
-    ap (λ (l : ℕ). cond (nat_lt 65535 l) (Some (cause code.TooManySymbols)) None) (as_many names (added ids id) (mention ns n) (numbers_placed known names ids ns n id e h k))
+    ap (λ (l : ℕ). cond (nat_lt 65535 l) (Some cause.TooManySymbols) None) (as_many names (added ids id) (mention ns n) (numbers_placed known names ids ns n id e h k))

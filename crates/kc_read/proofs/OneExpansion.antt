@@ -6,11 +6,12 @@ use Rattle.kc_text.specs.Lexemes.{Lexeme}
 use Rattle.kc_text.specs.Tokens.{IsCut}
 use Rattle.kc_text.proofs.Joins.{takes_one, takes_less, taken_is_short, too_long_some}
 use Rattle.kc_text.proofs.Once.{same_cutting}
-use Rattle.kc_read.specs.declared.refusal.Code.TheVariants as code
+use Rattle.kc_diagnostics.specs.declared.cause.Cause.TheVariants as cause
 use Rattle.kc_read.specs.Blocks.{last_of, open_blocks}
 use Rattle.kc_read.specs.Expansion.{FileContext, Log, Refused, Rest, IsUnclosed, NextLine, NextStatement, OneExpansion, refused, bytes_cause, context_of, limit_cause, innermost, inside, is_help, is_source, logged, nothing_read, with_file, root_context, source_cause, text_cause, with_line, without_help, at_end, unclosed, too_long, no_tokens, blank, bad_line, over_limit, statement, bad_source, refused_inside, source}
 use Rattle.kc_read.specs.Files.{Files}
-use Rattle.kc_read.specs.Lines.{Cause, cause, ReadsLine}
+use Rattle.kc_diagnostics.specs.Causes.{Cause}
+use Rattle.kc_read.specs.Lines.{ReadsLine}
 use Rattle.kc_read.specs.Statements.{Located, Named, SourceLine, statements}
 use Rattle.kc_read.proofs.BlockLemmas.{blocks_of_located, located_blocks-opens, no_places, opens}
 use Rattle.kc_read.specs.Progress.{located_blocks}
@@ -99,8 +100,8 @@ module _ (files : Files) (a : FileContext) (l : UnreadLines) (own : List (Locate
   Says m (Err c) r = r ≡ Err (refused c a.file l.number)
 
   abbrev Gives : Turn → Result Log Refused → Type 0
-  Gives Ends r = ((open_blocks (statements own) ≡ []) × (r ≡ Ok log)) ⊎ ((line : ℕ) × IsUnclosed own line × (r ≡ Err (refused (cause code.Block) a.file line)))
-  Gives Long r = r ≡ Err (refused (cause code.LineTooLong) a.file l.number)
+  Gives Ends r = ((open_blocks (statements own) ≡ []) × (r ≡ Ok log)) ⊎ ((line : ℕ) × IsUnclosed own line × (r ≡ Err (refused cause.Block a.file line)))
+  Gives Long r = r ≡ Err (refused cause.LineTooLong a.file l.number)
   Gives (Line m ts (Some why)) r = r ≡ Err (refused (text_cause why) a.file l.number)
   Gives (Line m ts None) r = ((ts ≡ []) × Rest files a m own log r) ⊎ ((ts ≢ []) × ((s : Result Named Cause) × ReadsLine (context_of a own log) ts s × Says m s r))
 
@@ -230,15 +231,15 @@ pub one_rest : {files : Files} {a : FileContext} {l : UnreadLines} {own : List (
     Rest files a l own log r → (other : Result Log Refused) → Rest files a l own log other → r ≡ other
 one_rest {files} (at_end a l own log none closed) other e = by (gives files a l own log other Ends none e)
   where
-    by : ((open_blocks (statements own) ≡ []) × (other ≡ Ok log)) ⊎ ((line : ℕ) × IsUnclosed own line × (other ≡ Err (refused (cause code.Block) a.file line))) → Ok log ≡ other
+    by : ((open_blocks (statements own) ≡ []) × (other ≡ Ok log)) ⊎ ((line : ℕ) × IsUnclosed own line × (other ≡ Err (refused cause.Block a.file line))) → Ok log ≡ other
     by (inl x) = sym x.1
     by (inr x) = absurd (closed_or_not own x.0 closed x.1)
 one_rest {files} (unclosed a l own log line none unmatched) other e = by (gives files a l own log other Ends none e)
   where
-    by : ((open_blocks (statements own) ≡ []) × (other ≡ Ok log)) ⊎ ((n : ℕ) × IsUnclosed own n × (other ≡ Err (refused (cause code.Block) a.file n))) →
-        Err (refused (cause code.Block) a.file line) ≡ other
+    by : ((open_blocks (statements own) ≡ []) × (other ≡ Ok log)) ⊎ ((n : ℕ) × IsUnclosed own n × (other ≡ Err (refused cause.Block a.file n))) →
+        Err (refused cause.Block a.file line) ≡ other
     by (inl x) = absurd (closed_or_not own line x.0 unmatched)
-    by (inr x) = ap (λ n. Err (refused (cause code.Block) a.file n)) (one_unclosed own line x.0 unmatched x.1) ∙ sym x.2
+    by (inr x) = ap (λ n. Err (refused cause.Block a.file n)) (one_unclosed own line x.0 unmatched x.1) ∙ sym x.2
 one_rest {files} (too_long a l own log long) other e = sym (gives files a l own log other Long long e)
 one_rest {files} (no_tokens a l m own log ts why next) other e = sym (gives files a l own log other (Line m ts (Some why)) next e)
 one_rest {files} (blank a l m own log r next d) other e = elim (gives files a l own log other (Line m [] None) next e) [

@@ -1,4 +1,5 @@
 -- A line has one outcome.
+use Rattle.kc_diagnostics.specs.declared.cause.Cause.TheVariants as cause
 use Rattle.std.proofs.Common.{◌≡◌, ◌⊎◌, inl, inr, ℕ, zero, suc, Bool, true, false, List, [], ◌∷◌, length, drop, codes, Option, Some, None, Result, Ok, Err, refl, sym, ap, ◌∙◌, subst, append-nil, length-drop, arith}
 use Rattle.std.proofs.lemmas.List.{length-map}
 use Rattle.kc_text.specs.Lexemes.{Lexeme}
@@ -9,7 +10,8 @@ use Rattle.kc_expr.proofs.LongestLemmas.{one_longest, is_expression, not_too_dee
 use Rattle.kc_read.specs.declared.statement.Keyword.{Keyword}
 use Rattle.kc_read.specs.declared.statement.Keyword.TheVariants as key
 use Rattle.kc_read.specs.Statements.{Named, InputPrompt, IfLine, EndIfLine, CommentLine, SourceLine, MenuLine, EndMenuLine, EndChoiceLine, MainMenuLine, TypeLine, PromptLine, DefaultLine, DefLine, DependsLine, VisibleLine, SelectLine, ImplyLine, RangeLine, HelpLine, ModulesLine}
-use Rattle.kc_read.specs.Lines.{LineContext, Cause, Front, front, StartsExpression, ExpressionFault, IsMore, IsWhole, WholeFault, ReadsWhole, IsCondition, ConditionFault, ReadsCondition, After, finish, text_of, word_of, named_target, operand_of, plain_text, good_name, choice_line, option_line, expected, keyword_of, keyword_or_refusal, in_place, placement_cause, left_out, ReadsTextLine, ReadsSource, ReadsConfig, ReadsPrompt, ReadsType, ReadsValue, ReadsTarget, ReadsRange, ReadsRest, ReadsPlaced, ReadsLine, begins_with}
+use Rattle.kc_diagnostics.specs.Causes.{Cause}
+use Rattle.kc_read.specs.Lines.{LineContext, Front, front, StartsExpression, ExpressionFault, IsMore, IsWhole, WholeFault, ReadsWhole, IsCondition, ConditionFault, ReadsCondition, After, finish, text_of, word_of, named_target, operand_of, plain_text, good_name, choice_line, option_line, expected, keyword_of, keyword_or_refusal, in_place, placement_cause, ReadsTextLine, ReadsSource, ReadsConfig, ReadsPrompt, ReadsType, ReadsValue, ReadsTarget, ReadsRange, ReadsRest, ReadsPlaced, ReadsLine, begins_with}
 
 -- ---- Expressions
 
@@ -176,7 +178,7 @@ one_rest w key.Range ts = one_range ts
 one_rest w key.Help ts = this_one (finish HelpLine ts)
 one_rest w key.Modules ts = this_one (finish ModulesLine ts)
 one_rest w key.«Option» ts = this_one (option_line ts)
-one_rest w key.LeftOut ts = this_one (Err (left_out w))
+one_rest w key.LeftOut ts = this_one (Err (cause.LeftOut w))
 
 one_placed : (c : LineContext) (w : List ℕ) (ts : List Lexeme) (k : Keyword) → AtMostOne (ReadsPlaced c w ts k)
 one_placed c w ts k = one_after (in_place k (placement_cause c w ts k)) (λ j. ReadsRest w j ts) (λ j. one_rest w j ts)

@@ -9,7 +9,8 @@ use Rattle.kc_text.proofs.Joins.{one_next_line_law}
 use Rattle.kc_text.proofs.There.{one_cutting_law}
 use Rattle.kc_read.specs.Expansion.{FileContext, Log, Refused, Rest, NextLine, NextStatement, context_of, is_help, without_help, at_end, unclosed, too_long, no_tokens, blank, bad_line, over_limit, statement, bad_source, refused_inside, source}
 use Rattle.kc_read.specs.Files.{Files}
-use Rattle.kc_read.specs.Lines.{LineContext, After, Cause, ReadsSource, begins_with, finish, plain_text, text_of}
+use Rattle.kc_diagnostics.specs.Causes.{Cause}
+use Rattle.kc_read.specs.Lines.{LineContext, After, ReadsSource, begins_with, finish, plain_text, text_of}
 use Rattle.kc_read.specs.OpenedFiles.{sourced_files, IsNamedIn, IsNamedByOne, SourcedFilesAreNamed, HasOneListOfNames}
 use Rattle.kc_read.specs.Sources.{SourceNames}
 use Rattle.kc_read.specs.Statements.{Located, Named, SourceLine}

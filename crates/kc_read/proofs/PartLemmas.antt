@@ -11,14 +11,14 @@ use Rattle.kc_expr.specs.Value.{tristate_constant}
 use Rattle.kc_expr.proofs.ConstantLemmas.{constant_text}
 use Rattle.kc_expr.specs.Grammar.{Atom, Disjunction, WordAtom, QuotedAtom, is_tristate_constant, if_word}
 use Rattle.kc_expr.specs.Names.{IsNumber, same_name, mention}
-use Rattle.kc_read.specs.declared.refusal.Code.TheVariants as code
-use Rattle.kc_read.specs.declared.statement.LineFault.{LineFault}
-use Rattle.kc_read.specs.Lines.{LineContext, Cause, ReadsValue, front, syntax_cause, begins_with, operand_of, IsWhole, IsCondition, WholeFault, ConditionFault, ExpressionFault, text_of, word_of, named_target, is_pattern, is_good_name, ReadsTextLine, ReadsSource, ReadsConfig, ReadsPrompt, ReadsDepends, ReadsTarget, ReadsVisible, ReadsType, ReadsRange, ReadsRest, ReadsLine, IsMore, keyword_of, placement_cause, option_line}
+use Rattle.kc_diagnostics.specs.declared.cause.Cause.TheVariants as cause
+use Rattle.kc_diagnostics.specs.Causes.{Cause}
+use Rattle.kc_read.specs.Lines.{LineContext, ReadsValue, front, begins_with, operand_of, IsWhole, IsCondition, WholeFault, ConditionFault, ExpressionFault, text_of, word_of, named_target, is_pattern, is_good_name, ReadsTextLine, ReadsSource, ReadsConfig, ReadsPrompt, ReadsDepends, ReadsTarget, ReadsVisible, ReadsType, ReadsRange, ReadsRest, ReadsLine, IsMore, keyword_of, placement_cause, option_line}
 use Rattle.kc_expr.specs.declared.expression.SymbolType.{SymbolType}
 use Rattle.kc_read.specs.declared.statement.Keyword.{Keyword}
 use Rattle.kc_read.specs.Statements.{Named, InputPrompt, SourceLine, ConfigLine, DependsLine, VisibleLine, ModulesLine, IgnoredLine, TypeLine, RangeLine}
 use Rattle.kc_read.specs.declared.statement.Statement.{Statement}
-use Rattle.kc_read.specs.LineReads.{cause_of, IsFront, IsRead, IsFault, IsOperand, IsWholeForm, IsConditionForm}
+use Rattle.kc_read.specs.LineReads.{LineFault, cause_of, IsFront, IsRead, IsFault, IsOperand, IsWholeForm, IsConditionForm}
 
 pub fault_passed : {A : Type 0} (r : Result A LineFault) (P : LineFault → Type 0) (e : LineFault) → IsErrAnd r (λ y. y ≡ e) → P e → IfErr r P
 fault_passed r P e a h = let p = err_from_is_err_and r a in rw (p.1, p.2) h
@@ -70,7 +70,7 @@ read_passed old names Reads r e a h = let p = err_from_is_err_and r a in rw (p.1
 
 -- memory ran out
 pub memory_passed : (old names : List (List ℕ)) (Reads : Result Named Cause → Type 0) (r : Result Statement LineFault) →
-    IsErrAnd r (λ y. y.code ≡ code.Memory) → IsRead old names Reads r
+    IsErrAnd r (λ y. y ≡ cause.Memory) → IsRead old names Reads r
 memory_passed old names Reads r a = let p = err_from_is_err_and r a in rw p.1 (λ n. absurd (n p.2))
 
 -- a value is refused
@@ -146,7 +146,7 @@ line_place c ls us w k f e g d p n = rw (e, g, d, p) refl
 
 -- something is left after an expression
 pub whole_more : (condition : Bool) (old names : List (List ℕ)) (ts rest : List Lexeme) (e : Form) (f : LineFault) → IsFront condition old names ts rest e →
-    IsMore rest → cause_of f ≡ syntax_cause → IsFault f (WholeFault ts)
+    IsMore rest → cause_of f ≡ cause.Syntax → IsFault f (WholeFault ts)
 whole_more condition old names ts rest e f i more c n = inr (front i.tree rest, i.starts, more, c)
 
 -- the condition after a value is refused

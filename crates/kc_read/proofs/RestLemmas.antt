@@ -9,8 +9,9 @@ use Rattle.kc_text.proofs.Helps.{after_help-le}
 use Rattle.kc_text.proofs.Joins.{takes_less}
 use Rattle.kc_read.specs.declared.frame.Frame.{Frame}
 use Rattle.kc_read.specs.declared.progress.Progress.{Progress}
-use Rattle.kc_read.specs.declared.refusal.Code.TheVariants as code
+use Rattle.kc_diagnostics.specs.declared.cause.Cause.TheVariants as cause
 use Rattle.kc_read.specs.declared.refusal.Refusal.{Refusal}
+use Rattle.kc_diagnostics.proofs.CauseLemmas.{no_other_memory}
 use Rattle.kc_read.specs.declared.statement.EntryKind.TheVariants as entry
 use Rattle.kc_read.specs.declared.statement.Attribute.{Attribute}
 use Rattle.kc_read.specs.declared.statement.Statement.{Statement}
@@ -19,11 +20,11 @@ use Rattle.kc_read.specs.Blocks.{entry_of, is_attribute, last_no_attribute, last
 use Rattle.kc_read.specs.Entries.{IsLastFile}
 use Rattle.kc_read.specs.Expansion.{FileContext, Log, Rest, refused, context_of, inside, is_help, is_source, logged, with_file, source_cause, sourcing_cause, with_line, without_help, NextLine, NextStatement, at_end, unclosed, too_long, no_tokens, blank, bad_line, over_limit, statement, bad_source, refused_inside, source}
 use Rattle.kc_read.specs.Files.{Files}
-use Rattle.kc_read.specs.Lines.{LineContext, Cause, cause, is_config, is_entry}
+use Rattle.kc_diagnostics.specs.Causes.{Cause}
+use Rattle.kc_read.specs.Lines.{LineContext, is_config, is_entry}
 use Rattle.kc_read.specs.Progress.{HasAdvanced, IsNextRead, IsReading, IsStatementRead, IsEnded, IsFileRead, IsOpenAtEnd, IsProgress, IsRestRefusal, IsState, IsTaken, limit_view, open_names}
 use Rattle.kc_read.specs.StatementViews.{statement_view}
-use Rattle.kc_read.specs.LineReads.{IsMade, cause_of}
-use Rattle.kc_read.specs.declared.statement.LineFault.{LineFault}
+use Rattle.kc_read.specs.LineReads.{LineFault, IsMade, cause_of}
 use Rattle.kc_read.specs.Statements.{Located, Named, SourceLine, statements}
 use Rattle.kc_read.specs.RefusalView.{refusal_view}
 use Rattle.kc_read.specs.NextStep.{IsStepRefusal, StepFault}
@@ -85,7 +86,7 @@ pub end_refused : (files : Files) (first : List (List ℕ)) (names : List (List 
     (own : List (Located Named)) (log : Log) (p : Progress) (f : Frame) (r : Refusal) → IsState first names a own log p f → l.lines ≡ [] →
     IsOpenAtEnd f (refusal_view r) → Rest files a l own log (Err (refusal_view r))
 end_refused files first names a l own log p f r i e o =
-    subst (λ x. Rest files a l own log (Err x)) (sym (o.2 ∙ ap (λ n. refused (cause code.Block) n o.0.line) i.frame.file))
+    subst (λ x. Rest files a l own log (Err x)) (sym (o.2 ∙ ap (λ n. refused cause.Block n o.0.line) i.frame.file))
     (unclosed a l own log o.0.line e (blocks.unclosed own o.0 (ap last_of (sym i.frame.blocks) ∙ o.1)))
 
 -- a line without tokens
@@ -232,8 +233,8 @@ pub statement_passed : (files : Files) (first : List (List ℕ)) (names : List (
 statement_passed files first names a l m own log p f r e is h = let q = err_from_is_err_and r is in rw (q.1, q.2) h
 
 -- a cause that is not being out of memory
-pub no_memory : (r : Refusal) (f : LineFault) (file : List ℕ) (line : ℕ) → r.code ≢ code.Memory → (r.code ≢ code.Memory → refusal_view r ≡ refused (cause_of f) file line) → f.code ≢ code.Memory
-no_memory r f file line ne view e = ne (ap (λ v. v.code) (view ne) ∙ e)
+pub no_memory : (r : Refusal) (f : LineFault) (file : List ℕ) (line : ℕ) → r.cause ≢ cause.Memory → (r.cause ≢ cause.Memory → refusal_view r ≡ refused (cause_of f) file line) → f ≢ cause.Memory
+no_memory r f file line ne view e = ne (no_other_memory (λ name. name.items) r.cause (ap (λ v. v.cause) (view ne) ∙ ap cause_of e))
 
 -- what was put at the end is taken away again
 pub popped : {A : Type 0} (old mid new : List A) (n : ℕ) (x : A) → new ≡ take (n - 1) mid → n ≡ length mid → mid ≡ old ++ x ∷ [] → new ≡ old

@@ -8,7 +8,8 @@ use Rattle.kc_text.specs.Lexemes.{Lexeme, lexemes}
 use Rattle.kc_text.specs.Tokens.{IsCut, IsCutting, IsRefused}
 use Rattle.kc_read.specs.LineReads.{lexemes_from}
 use Rattle.kc_read.specs.Expansion.{NextLine, is_help, without_help}
-use Rattle.kc_read.specs.Lines.{Cause, ReadsSource, begins_with}
+use Rattle.kc_diagnostics.specs.Causes.{Cause}
+use Rattle.kc_read.specs.Lines.{ReadsSource, begins_with}
 use Rattle.kc_read.specs.Sources.{SourceNames}
 use Rattle.kc_read.specs.SourceSteps.{HasMoreLines, IsFound}
 use Rattle.kc_read.specs.Statements.{SourceLine}

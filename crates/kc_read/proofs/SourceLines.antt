@@ -6,7 +6,8 @@ use Rattle.kc_text.specs.Lines.{UnreadLines, IsTooLong}
 use Rattle.kc_text.specs.Lexemes.{Lexeme}
 use Rattle.kc_text.proofs.Joins.{takes_less, taken_is_short}
 use Rattle.kc_read.specs.Expansion.{NextLine}
-use Rattle.kc_read.specs.Lines.{Cause, ReadsSource, begins_with}
+use Rattle.kc_diagnostics.specs.Causes.{Cause}
+use Rattle.kc_read.specs.Lines.{ReadsSource, begins_with}
 use Rattle.kc_read.specs.Sources.{IsOther, IsSource, SourceNames, Passes, here, past, none, next}
 use Rattle.kc_read.specs.Statements.{SourceLine}
 use Rattle.kc_read.proofs.OneExpansion.{one_name, one_next, source_line}

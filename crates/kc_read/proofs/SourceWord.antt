@@ -10,8 +10,9 @@ use Rattle.kc_expr.specs.Names.{same_name}
 use Rattle.kc_read.specs.declared.statement.Keyword.{Keyword}
 use Rattle.kc_read.specs.declared.statement.Keyword.TheVariants as key
 use Rattle.kc_read.specs.Statements.{Named, InputPrompt, IfLine, EndIfLine, CommentLine, SourceLine, MenuLine, EndMenuLine, EndChoiceLine, MainMenuLine, TypeLine, PromptLine, DefaultLine, DefLine, DependsLine, VisibleLine, SelectLine, ImplyLine, RangeLine, HelpLine, ModulesLine, ConfigLine, IgnoredLine}
-use Rattle.kc_read.specs.declared.refusal.Code.TheVariants as code
-use Rattle.kc_read.specs.Lines.{LineContext, Cause, syntax_cause, After, ReadsWhole, ReadsCondition, ReadsTextLine, ReadsSource, ReadsConfig, ReadsPrompt, ReadsType, ReadsValue, ReadsTarget, ReadsRange, ReadsRest, ReadsPlaced, ReadsLine, finish, text_of, word_of, named_target, operand_of, good_name, is_good_name, choice_line, option_line, expected, block_words, type_words, attribute_words, left_out_words, keyword_in, keyword_of, keyword_or_refusal, in_place, placement_cause, begins_with}
+use Rattle.kc_diagnostics.specs.declared.cause.Cause.TheVariants as cause
+use Rattle.kc_diagnostics.specs.Causes.{Cause}
+use Rattle.kc_read.specs.Lines.{LineContext, After, ReadsWhole, ReadsCondition, ReadsTextLine, ReadsSource, ReadsConfig, ReadsPrompt, ReadsType, ReadsValue, ReadsTarget, ReadsRange, ReadsRest, ReadsPlaced, ReadsLine, finish, text_of, word_of, named_target, operand_of, good_name, is_good_name, choice_line, option_line, expected, block_words, type_words, attribute_words, left_out_words, keyword_in, keyword_of, keyword_or_refusal, in_place, placement_cause, begins_with}
 use Rattle.kc_read.proofs.FileLemmas.{same_name_eq}
 use Rattle.kc_read.proofs.KeywordLemmas.{keyword_in_turn}
 use Rattle.kc_read.proofs.OneExpansion.{source_line}
@@ -133,7 +134,7 @@ other_refused : (c : Cause) → IsOther (Err c)
 other_refused c name e = cc
 
 other_good : (w : List ℕ) → IsOther (good_name w)
-other_good w = other_if (is_good_name w) (Ok (ConfigLine w)) (Err (record { code = code.BadName; detail = w })) (λ name e. cc) (other_refused _)
+other_good w = other_if (is_good_name w) (Ok (ConfigLine w)) (Err (cause.BadName w)) (λ name e. cc) (other_refused _)
 
 none_config : (ts : List Lexeme) → NoSource (ReadsConfig ts)
 none_config ts = none_after (word_of ts) (λ w. After (finish w (drop 1 ts)) (λ v r. r ≡ good_name v)) (λ w. none_after (finish w (drop 1 ts)) (λ v r. r ≡ good_name v) other_good)
@@ -178,7 +179,7 @@ none_rest w key.«Option» ts e = other_option ts
 none_rest w key.LeftOut ts e = other_refused _
 
 none_placed : (c : LineContext) (w : List ℕ) (ts : List Lexeme) (o : Option Keyword) → is_source_key o ≡ false → NoSource (After (keyword_or_refusal o) (ReadsPlaced c w ts))
-none_placed c w ts None e name x = let f : Ok (source_line name) ≡ Err syntax_cause = x in cc
+none_placed c w ts None e name x = let f : Ok (source_line name) ≡ Err cause.Syntax = x in cc
 none_placed c w ts (Some k) e name x = by (placement_cause c w ts k) x
   where
     by : (o : Option Cause) → After (in_place k o) (λ j. ReadsRest w j ts) (Ok (SourceLine name)) → ⊥
@@ -187,9 +188,9 @@ none_placed c w ts (Some k) e name x = by (placement_cause c w ts k) x
 
 -- a `source` line begins with that word
 pub source_begins : (c : LineContext) (ts : List Lexeme) (name : List ℕ) → ReadsLine c ts (Ok (SourceLine name)) → begins_with (codes "source") ts ≡ true
-source_begins c [] name x = absurd (let e : Ok (source_line name) ≡ Err syntax_cause = x in cc)
-source_begins c (AQuoted t ∷ ts) name x = absurd (let e : Ok (source_line name) ≡ Err syntax_cause = x in cc)
-source_begins c (AnOp o ∷ ts) name x = absurd (let e : Ok (source_line name) ≡ Err syntax_cause = x in cc)
+source_begins c [] name x = absurd (let e : Ok (source_line name) ≡ Err cause.Syntax = x in cc)
+source_begins c (AQuoted t ∷ ts) name x = absurd (let e : Ok (source_line name) ≡ Err cause.Syntax = x in cc)
+source_begins c (AnOp o ∷ ts) name x = absurd (let e : Ok (source_line name) ≡ Err cause.Syntax = x in cc)
 source_begins c (AWord w ∷ ts) name x = elim (cases_Bool (same_name w (codes "source"))) [
   | inl e ↦ e
   | inr e ↦ absurd (none_placed c w ts (keyword_of w) (keyword_other w e) name x)

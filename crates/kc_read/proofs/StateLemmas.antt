@@ -16,7 +16,8 @@ use Rattle.kc_read.specs.Blocks.{bracket, definitions, entry_of, is_attribute, i
 use Rattle.kc_read.proofs.ModulesLemmas.{marked_push, modules_of_push}
 use Rattle.kc_read.specs.Expansion.{FileContext, Log, Rest, context_of, limit_cause, nesting_cause, defined, inside, is_choice, lines_of, logged, with_file, with_line, Expands, Refused, bytes_cause, nothing_read, refused, root_context}
 use Rattle.kc_read.specs.Files.{Files}
-use Rattle.kc_read.specs.Lines.{LineContext, Cause, is_config}
+use Rattle.kc_diagnostics.specs.Causes.{Cause}
+use Rattle.kc_read.specs.Lines.{LineContext, is_config}
 use Rattle.kc_text.specs.Lines.{unread_lines}
 use Rattle.kc_read.specs.Numbering.{located_numbered}
 use Rattle.kc_read.specs.Progress.{limit_view, IsEntered, IsFrame, IsSourcedFrame, IsProgress, IsState, IsTaken, IsBegun, defined_after, entry_after, ids_match, open_blocks_after}

@@ -7,15 +7,16 @@ use Rattle.kc_text.specs.Lines.{UnreadLines, TakesLine, IsLineFault}
 use Rattle.kc_text.specs.Help.{Drops, after_help}
 use Rattle.kc_text.specs.Tokens.{IsCut, IsCutting, IsRefused}
 use Rattle.kc_read.specs.declared.refusal.Refusal.{Refusal}
-use Rattle.kc_read.specs.declared.refusal.Code.TheVariants as code
+use Rattle.kc_diagnostics.proofs.CauseLemmas.{no_other_memory}
+use Rattle.kc_diagnostics.specs.declared.cause.Cause.TheVariants as cause
 use Rattle.kc_read.specs.Statements.{Named}
-use Rattle.kc_read.specs.declared.statement.LineFault.{LineFault}
-use Rattle.kc_read.specs.LineReads.{IsFault, cause_of, lexemes_from}
+use Rattle.kc_read.specs.LineReads.{LineFault, IsFault, cause_of, lexemes_from}
 use Rattle.kc_read.specs.RefusalView.{refusal_view}
 use Rattle.kc_read.specs.NextStep.{IsStepRefusal, StepFault, too_long, no_tokens, refused_line, long_line}
 use Rattle.kc_text.specs.Lexemes.{Lexeme, lexemes}
 use Rattle.kc_text.specs.declared.tokens.Token.{Token}
-use Rattle.kc_read.specs.Lines.{LineContext, Cause, cause, begins_with, ReadsLine}
+use Rattle.kc_diagnostics.specs.Causes.{Cause}
+use Rattle.kc_read.specs.Lines.{LineContext, begins_with, ReadsLine}
 use Rattle.kc_read.specs.Expansion.{is_help, without_help, NextStatement, refused, text_cause}
 
 pub help_first : (ls : List Lexeme) (b : Bool) → b ≡ begins_with (codes "help") ls → b ≡ true → b ≡ is_help ls
@@ -33,12 +34,12 @@ view_with r a b file m n e d h = h ∙ ap (λ c. refused c file m) e ∙ ap (λ 
 
 pub line_fault : (file : List ℕ) (c : LineContext) (old : UnreadLines) (why : TextFault) (r : Refusal) (line : ℕ) (a : Cause) → old.refusal ≡ None →
     MatchOption old.refusal (IsLineFault old why) (λ given. given ≡ why) → line ≡ long_line why → a ≡ text_cause why →
-    (r.code ≢ code.Memory → refusal_view r ≡ refused a file line) → IsStepRefusal file c old r
+    (r.cause ≢ cause.Memory → refusal_view r ≡ refused a file line) → IsStepRefusal file c old r
 line_fault file c old why r line a clear cause_is number_is a_is view = by why (cause_none old.refusal (IsLineFault old why) (λ given. given ≡ why) clear cause_is) number_is a_is
   where
     by : (w : TextFault) → IsLineFault old w → line ≡ long_line w → a ≡ text_cause w → IsStepRefusal file c old r
-    by (fault.LineTooLong n) h d e ne = (cause code.LineTooLong, too_long h.1, view_with r a (cause code.LineTooLong) file line old.number e (d ∙ h.0) (view ne))
-    by fault.Memory h d e ne = absurd (ne (ap (λ v. v.code) (view ne) ∙ ap (λ x. x.code) e))
+    by (fault.LineTooLong n) h d e ne = (cause.LineTooLong, too_long h.1, view_with r a cause.LineTooLong file line old.number e (d ∙ h.0) (view ne))
+    by fault.Memory h d e ne = absurd (ne (no_other_memory (λ name. name.items) r.cause (ap (λ v. v.cause) (view ne) ∙ e)))
     by fault.BadToken h d e ne = absurd h
     by fault.Macro h d e ne = absurd h
 
@@ -47,9 +48,9 @@ refused_tokens : (c : LineContext) (old mid : UnreadLines) (text : List ℕ) (ts
 refused_tokens c old mid text ts why t k = no_tokens (cond (is_help ts) (without_help mid) mid) ts why (record { middle = mid; text = text; taken = t; cut = k; left_after = refl })
 
 pub lex_fault : (file : List ℕ) (c : LineContext) (old mid : UnreadLines) (text : List ℕ) (why : TextFault) (r : Refusal) (line : ℕ) (a : Cause) →
-    TakesLine old mid text → IsRefused text why → line ≡ old.number → a ≡ text_cause why → (r.code ≢ code.Memory → refusal_view r ≡ refused a file line) →
+    TakesLine old mid text → IsRefused text why → line ≡ old.number → a ≡ text_cause why → (r.cause ≢ cause.Memory → refusal_view r ≡ refused a file line) →
     IsStepRefusal file c old r
-lex_fault file c old mid text fault.Memory r line a t k d e view ne = absurd (ne (ap (λ v. v.code) (view ne) ∙ ap (λ x. x.code) e))
+lex_fault file c old mid text fault.Memory r line a t k d e view ne = absurd (ne (no_other_memory (λ name. name.items) r.cause (ap (λ v. v.cause) (view ne) ∙ e)))
 lex_fault file c old mid text why r line a t k d e view ne = (text_cause why, refused_tokens c old mid text k.0 why t k.1, view_with r a (text_cause why) file line old.number e d (view ne))
 
 pub left_help : (ls : List Lexeme) (mid new : UnreadLines) → is_help ls ≡ true → Drops mid new (after_help mid.lines) → new ≡ cond (is_help ls) (without_help mid) mid
@@ -71,8 +72,8 @@ next_statement c old mid new text (x ∷ xs) r t k some reads e = record {
 
 pub read_refused : (file : List ℕ) (c : LineContext) (old mid new : UnreadLines) (text : List ℕ) (ts : List Token) (f : LineFault) (r : Refusal) (line : ℕ) →
     TakesLine old mid text → IsCutting text (lexemes ts) → ts ≢ [] → new ≡ cond (is_help (lexemes ts)) (without_help mid) mid →
-    IsFault f (λ y. ReadsLine c (lexemes_from ts 0) (Err y)) → line ≡ old.number → (r.code ≢ code.Memory → refusal_view r ≡ refused (cause_of f) file line) →
+    IsFault f (λ y. ReadsLine c (lexemes_from ts 0) (Err y)) → line ≡ old.number → (r.cause ≢ cause.Memory → refusal_view r ≡ refused (cause_of f) file line) →
     IsStepRefusal file c old r
 read_refused file c old mid new text ts f r line t k some e h d view ne =
-    let g : f.code ≢ code.Memory = λ p. ne (ap (λ v. v.code) (view ne) ∙ p) in
+    let g : f ≢ cause.Memory = λ p. ne (no_other_memory (λ name. name.items) r.cause (ap (λ v. v.cause) (view ne) ∙ ap cause_of p)) in
     (cause_of f, refused_line new (cause_of f) (next_statement c old mid new text ts (Err (cause_of f)) t k some (h g) e), view ne ∙ ap (λ n. refused (cause_of f) file n) d)

@@ -10,23 +10,22 @@ use Rattle.kc_text.specs.Lexemes.{Lexeme}
 use Rattle.kc_text.specs.Lines.{UnreadLines, TakesLine, IsTooLong, unread_lines, physical_lines, line_number}
 use Rattle.kc_text.specs.Tokens.{IsCut}
 use Rattle.kc_expr.specs.Names.{same_name, mention, all_mentioned}
-use Rattle.kc_read.specs.declared.refusal.Code.{Code}
-use Rattle.kc_read.specs.declared.refusal.Code.TheVariants as code
+use Rattle.kc_diagnostics.specs.declared.cause.Cause.TheVariants as cause
 use Rattle.kc_read.specs.declared.statement.Block.{Block}
 use Rattle.kc_read.specs.declared.statement.Block.TheVariants as block
 use Rattle.kc_read.specs.Files.{Files}
 use Rattle.kc_read.specs.Statements.{Statement, Named, Located, SourceLine, ConfigLine, statements}
-use Rattle.kc_read.specs.Lines.{LineContext, Cause, cause, begins_with, help_word, old_help_word, ReadsLine}
+use Rattle.kc_diagnostics.specs.Causes.{Cause}
+use Rattle.kc_read.specs.Lines.{LineContext, begins_with, help_word, old_help_word, ReadsLine}
 use Rattle.kc_read.specs.Blocks.{Bracket, Opens, Closes, NoBracket, bracket, open_blocks, open_block_indices, last_of, last_no_attribute, entry_of, modules_of, definitions}
 
 -- a refusal and its location
 pub record Refused : Type 0 where
-  pub code : Code
+  pub cause : Cause
   pub location : Option (List ℕ × ℕ)
-  pub detail : List ℕ
 
 abbrev pub refused : Cause → List ℕ → ℕ → Refused
-refused c file line = record { code = c.code; location = Some (file, line); detail = c.detail }
+refused c file line = record { cause = c; location = Some (file, line) }
 
 -- What surrounds a file: the open files, it last, and the blocks that are open in those that source it.
 pub record FileContext : Type 0 where
@@ -69,13 +68,13 @@ abbrev pub defined : List Named → List (List ℕ)
 defined ss = all_mentioned [] (definitions ss)
 
 abbrev pub nesting_cause : ℕ → Bracket → Option Cause
-nesting_cause depth (Opens b) = if nat_le most_blocks depth then Some (cause code.TooDeep) else None
+nesting_cause depth (Opens b) = if nat_le most_blocks depth then Some cause.TooDeep else None
 nesting_cause depth Closes = None
 nesting_cause depth NoBracket = None
 
 -- a name is defined, where these names are: there may not be too many
 abbrev pub symbol_cause : List (List ℕ) → List ℕ → Option Cause
-symbol_cause names n = if nat_lt most_symbols (length (mention names n)) then Some (cause code.TooManySymbols) else None
+symbol_cause names n = if nat_lt most_symbols (length (mention names n)) then Some cause.TooManySymbols else None
 
 -- the limit that the statement passes here, where it opens a block too many or defines a symbol too many
 abbrev pub limit_cause : FileContext → List (Located Named) → Log → Named → Option Cause
@@ -85,19 +84,16 @@ limit_cause a own log s = nesting_cause (length a.blocks + length (open_blocks (
 abbrev pub lines_of : List ℕ → ℕ
 lines_of bytes = length (physical_lines bytes)
 
-abbrev pub of_file : Code → List ℕ → Cause
-of_file c name = record { code = c; detail = name }
-
 -- why a file with these bytes, or with none, cannot be opened; n is the total of physical lines before
 abbrev pub bytes_cause : List ℕ → ℕ → Option (List ℕ) → Option Cause
-bytes_cause name n None = Some (of_file code.NoFile name)
-bytes_cause name n (Some bytes) = if nat_lt most_lines (n + lines_of bytes) then Some (cause code.TooManyLines) else None
+bytes_cause name n None = Some (cause.NoFile name)
+bytes_cause name n (Some bytes) = if nat_lt most_lines (n + lines_of bytes) then Some cause.TooManyLines else None
 
 -- why a file may not be sourced here, where these files are open
 abbrev pub sourcing_cause : Files → List (List ℕ) → ℕ → List ℕ → Option Cause
 sourcing_cause files names n name =
-    if list_any (same_name name) names then Some (of_file code.InclusionLoop name)
-    else if nat_le most_files (length names) then Some (cause code.TooDeep)
+    if list_any (same_name name) names then Some (cause.InclusionLoop name)
+    else if nat_le most_files (length names) then Some cause.TooDeep
     else bytes_cause name n (files name)
 
 abbrev pub source_cause : Files → FileContext → ℕ → List ℕ → Option Cause
@@ -143,10 +139,10 @@ is_source (SourceLine t) = true
 is_source _ = false
 
 abbrev pub text_cause : TextFault → Cause
-text_cause fault.Macro = cause code.Macro
-text_cause fault.BadToken = cause code.BadToken
-text_cause (fault.LineTooLong n) = cause code.LineTooLong
-text_cause fault.Memory = cause code.Memory
+text_cause fault.Macro = cause.Macro
+text_cause fault.BadToken = cause.BadToken
+text_cause (fault.LineTooLong n) = cause.LineTooLong
+text_cause fault.Memory = cause.Memory
 
 -- the place of the innermost open block's opener
 abbrev pub innermost : List (Located Named) → Option ℕ
@@ -164,8 +160,8 @@ pub record IsUnclosed (own : List (Located Named)) (line : ℕ) : Type 0 where
 pub data Rest (files : Files) : FileContext → UnreadLines → List (Located Named) → Log → Result Log Refused → Type 0 where
   at_end : (a : FileContext) (l : UnreadLines) (own : List (Located Named)) (log : Log) → l.lines ≡ [] → open_blocks (statements own) ≡ [] → Rest files a l own log (Ok log)
   unclosed : (a : FileContext) (l : UnreadLines) (own : List (Located Named)) (log : Log) (line : ℕ) → l.lines ≡ [] → IsUnclosed own line →
-      Rest files a l own log (Err (refused (cause code.Block) a.file line))
-  too_long : (a : FileContext) (l : UnreadLines) (own : List (Located Named)) (log : Log) → IsTooLong l → Rest files a l own log (Err (refused (cause code.LineTooLong) a.file l.number))
+      Rest files a l own log (Err (refused cause.Block a.file line))
+  too_long : (a : FileContext) (l : UnreadLines) (own : List (Located Named)) (log : Log) → IsTooLong l → Rest files a l own log (Err (refused cause.LineTooLong a.file l.number))
   no_tokens : (a : FileContext) (l m : UnreadLines) (own : List (Located Named)) (log : Log) (ts : List Lexeme) (why : TextFault) →
       NextLine l m ts (Some why) → Rest files a l own log (Err (refused (text_cause why) a.file l.number))
   blank : (a : FileContext) (l m : UnreadLines) (own : List (Located Named)) (log : Log) (r : Result Log Refused) → NextLine l m [] None → Rest files a m own log r → Rest files a l own log r

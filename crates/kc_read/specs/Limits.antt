@@ -1,9 +1,6 @@
 -- Trusted: The limits of Kconfig files.
 use Rattle.std.specs.Prelude.{ℕ}
-
--- the most physical lines of all files
-abbrev pub most_lines : ℕ
-most_lines = 1000000
+pub use Rattle.kc_diagnostics.specs.Limits.{most_lines}
 
 -- the most files that are open at once
 abbrev pub most_files : ℕ

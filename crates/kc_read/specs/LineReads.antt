@@ -1,4 +1,5 @@
 -- For proofs: What the calls that read a line answer.
+use Rattle.std.specs.Borrow.{Bor}
 use Rattle.std.specs.Prelude.{◌≡◌, ◌≢◌, ℕ, ◌+◌, ◌<◌, List, [], ◌∷◌, length, drop, Bool, true, false, Option, Some, None, Result, Ok, Err, option_map}
 use Rattle.kc_expr.specs.Form.{Form, Leaf}
 use Rattle.kc_expr.specs.Grammar.{Disjunction, Atom, leaf, meaning_or, names_in, names_in_atom}
@@ -8,36 +9,40 @@ use Rattle.kc_expr.specs.declared.parse.ExprFault.TheVariants as expr
 use Rattle.kc_text.specs.Escapes.{unescape}
 use Rattle.kc_text.specs.Lexemes.{Lexeme, lexeme, lexemes}
 use Rattle.kc_text.specs.declared.tokens.Token.{Token}
-use Rattle.kc_read.specs.declared.refusal.Code.{Code}
-use Rattle.kc_read.specs.declared.refusal.Code.TheVariants as code
-use Rattle.kc_read.specs.declared.statement.LineFault.{LineFault}
+use Rattle.kc_diagnostics.specs.declared.cause.Cause.TheVariants as cause
 use Rattle.kc_read.specs.declared.statement.Statement.{Statement}
 use Rattle.kc_read.specs.Statements.{Named, numbered, names_in_statement, names_in_condition}
-use Rattle.kc_read.specs.Lines.{Cause, front, StartsExpression, IsWhole, IsCondition}
+use Rattle.kc_diagnostics.specs.Causes.{Cause, shown_cause}
+use Rattle.kc_diagnostics.specs.declared.cause.Cause as declared
+use Rattle.kc_read.specs.Lines.{front, StartsExpression, IsWhole, IsCondition}
 use Rattle.kc_read.specs.StatementViews.{ForLater, statement_view}
 
 -- the tokens from a place on
 abbrev pub lexemes_from : List Token → ℕ → List Lexeme
 lexemes_from tokens at = lexemes (drop at tokens)
 
+-- why a line is refused, with what is borrowed from it
+abbrev pub LineFault : Type 0
+LineFault = declared.Cause (Bor (List ℕ))
+
 -- what a refusal of a line says, unless memory ran out
 abbrev pub cause_of : LineFault → Cause
-cause_of f = record { code = f.code; detail = f.detail.now }
+cause_of f = shown_cause f
 
 -- memory ran out, or the line is refused for this cause
 abbrev pub IsFault : LineFault → (Cause → Type 0) → Type 0
-IsFault f P = f.code ≢ code.Memory → P (cause_of f)
+IsFault f P = f ≢ cause.Memory → P (cause_of f)
 
 -- the token at a place, if there is one
 abbrev pub IsToken : Option Token → List Token → ℕ → Type 0
 IsToken None tokens at = lexemes_from tokens at ≡ []
 IsToken (Some t) tokens at = (at < length tokens) × (lexemes_from tokens at ≡ lexeme t ∷ lexemes_from tokens (at + 1))
 
--- the code of an expression's fault
-abbrev pub code_of : ExprFault → Code
-code_of expr.Syntax = code.Syntax
-code_of expr.TooDeep = code.TooDeep
-code_of expr.Memory = code.Memory
+-- why an expression is refused
+abbrev pub expression_cause : ExprFault → Cause
+expression_cause expr.Syntax = cause.Syntax
+expression_cause expr.TooDeep = cause.TooDeep
+expression_cause expr.Memory = cause.Memory
 
 -- the text that these bytes say, in quotes or as a word
 abbrev pub unquoted_text : Bool → List ℕ → List ℕ

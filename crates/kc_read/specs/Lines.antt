@@ -11,8 +11,8 @@ use Rattle.kc_expr.specs.Grammar.{Disjunction, Atom, WordAtom, QuotedAtom, spell
 use Rattle.kc_expr.specs.Limits.{longest_name, most_levels}
 use Rattle.kc_expr.specs.Names.{is_name_byte, same_name}
 use Rattle.kc_expr.specs.Parsing.{IsNoExpression, IsTooDeep}
-use Rattle.kc_read.specs.declared.refusal.Code.{Code}
-use Rattle.kc_read.specs.declared.refusal.Code.TheVariants as code
+use Rattle.kc_diagnostics.specs.declared.cause.Cause.TheVariants as cause
+use Rattle.kc_diagnostics.specs.Causes.{Cause}
 use Rattle.kc_read.specs.declared.statement.Keyword.{Keyword}
 use Rattle.kc_read.specs.declared.statement.Keyword.TheVariants as key
 use Rattle.kc_read.specs.declared.statement.Block.{Block}
@@ -20,23 +20,6 @@ use Rattle.kc_read.specs.declared.statement.Block.TheVariants as block
 use Rattle.kc_read.specs.declared.statement.EntryKind.{EntryKind}
 use Rattle.kc_read.specs.declared.statement.EntryKind.TheVariants as entry
 use Rattle.kc_read.specs.Statements.{Named, InputPrompt, ConfigLine, IfLine, EndIfLine, CommentLine, SourceLine, MenuLine, EndMenuLine, ChoiceLine, EndChoiceLine, MainMenuLine, TypeLine, PromptLine, DefaultLine, DefLine, DependsLine, VisibleLine, SelectLine, ImplyLine, RangeLine, HelpLine, ModulesLine, IgnoredLine}
-
--- why a line is refused
-pub record Cause : Type 0 where
-  pub code : Code
-  pub detail : List ℕ
-
-abbrev pub cause : Code → Cause
-cause c = record { code = c; detail = [] }
-
-abbrev pub syntax_cause : Cause
-syntax_cause = cause code.Syntax
-
-abbrev pub misplaced_cause : Cause
-misplaced_cause = cause code.Misplaced
-
-abbrev pub left_out : List ℕ → Cause
-left_out w = record { code = code.LeftOut; detail = w }
 
 -- the keyword of a word in a table of words, each with its keyword
 abbrev pub keyword_in : List (List ℕ × Keyword) → List ℕ → Option Keyword
@@ -136,11 +119,11 @@ abbrev pub closing_cause : Block → Option Block → Option Cause
 closing_cause block.If (Some block.If) = None
 closing_cause block.Menu (Some block.Menu) = None
 closing_cause block.Choice (Some block.Choice) = None
-closing_cause b _ = Some (cause code.Block)
+closing_cause b _ = Some cause.Block
 
 abbrev pub unless_placed : Bool → Option Cause
 unless_placed true = None
-unless_placed false = Some misplaced_cause
+unless_placed false = Some cause.Misplaced
 
 abbrev pub is_config : EntryKind → Bool
 is_config entry.Config = true
@@ -173,8 +156,8 @@ is_entry entry.Nothing = false
 abbrev pub type_placement : EntryKind → SymbolType → Option Cause
 type_placement entry.Config k = None
 type_placement entry.Choice symbol_type.Bool = None
-type_placement entry.Choice symbol_type.Tristate = Some (left_out (codes "tristate choice"))
-type_placement e k = Some misplaced_cause
+type_placement entry.Choice symbol_type.Tristate = Some (cause.LeftOut (codes "tristate choice"))
+type_placement e k = Some cause.Misplaced
 
 -- the next token is this word
 abbrev pub begins_with : List ℕ → List Lexeme → Bool
@@ -207,7 +190,7 @@ placement_cause c w ts key.Range = unless_placed (is_config c.entry)
 placement_cause c w ts key.Help = unless_placed (is_config c.entry || is_choice c.entry)
 placement_cause c w ts key.Modules = unless_placed (is_config c.entry && c.modules)
 placement_cause c w ts key.«Option» = if begins_with modules_word ts then unless_placed (is_config c.entry && c.modules) else unless_placed (is_config c.entry)
-placement_cause c w ts key.LeftOut = Some (left_out w)
+placement_cause c w ts key.LeftOut = Some (cause.LeftOut w)
 
 -- Parts of a line.
 
@@ -225,7 +208,7 @@ pub record StartsExpression (ts : List Lexeme) (f : Front) : Type 0 where
 
 -- it is none, or opens a level too many
 abbrev pub ExpressionFault : List Lexeme → Cause → Type 0
-ExpressionFault ts c = (IsNoExpression (terminals ts) × (c ≡ syntax_cause)) ⊎ (IsTooDeep (terminals ts) × (c ≡ cause code.TooDeep))
+ExpressionFault ts c = (IsNoExpression (terminals ts) × (c ≡ cause.Syntax)) ⊎ (IsTooDeep (terminals ts) × (c ≡ cause.TooDeep))
 
 -- something is left of the line
 abbrev pub IsMore : List Lexeme → Type 0
@@ -234,7 +217,7 @@ IsMore ts = (t : Lexeme) × (us : List Lexeme) × (ts ≡ t ∷ us)
 -- the line ends after a part
 abbrev pub finish : {A : Type 0} → A → List Lexeme → Result A Cause
 finish a [] = Ok a
-finish a (t ∷ ts) = Err syntax_cause
+finish a (t ∷ ts) = Err cause.Syntax
 
 abbrev pub front : Disjunction → List Lexeme → Front
 front d rest = record { tree = d; rest = rest }
@@ -244,7 +227,7 @@ abbrev pub IsWhole : List Lexeme → Disjunction → Type 0
 IsWhole ts d = StartsExpression ts (front d [])
 
 abbrev pub WholeFault : List Lexeme → Cause → Type 0
-WholeFault ts c = ExpressionFault ts c ⊎ ((f : Front) × StartsExpression ts f × IsMore f.rest × (c ≡ syntax_cause))
+WholeFault ts c = ExpressionFault ts c ⊎ ((f : Front) × StartsExpression ts f × IsMore f.rest × (c ≡ cause.Syntax))
 
 abbrev pub ReadsWhole : (Disjunction → Named) → List Lexeme → Result Named Cause → Type 0
 ReadsWhole make ts (Ok x) = (d : Disjunction) × IsWhole ts d × (x ≡ make d)
@@ -258,7 +241,7 @@ IsCondition ts (Some d) = (begins_with if_word ts ≡ true) × IsWhole (drop 1 t
 abbrev pub ConditionFault : List Lexeme → Cause → Type 0
 ConditionFault ts c =
     ((begins_with if_word ts ≡ true) × WholeFault (drop 1 ts) c)
-    ⊎ (IsMore ts × (begins_with if_word ts ≡ false) × (c ≡ syntax_cause))
+    ⊎ (IsMore ts × (begins_with if_word ts ≡ false) × (c ≡ cause.Syntax))
 
 abbrev pub ReadsCondition : (Option Disjunction → Named) → List Lexeme → Result Named Cause → Type 0
 ReadsCondition make ts (Ok x) = (w : Option Disjunction) × IsCondition ts w × (x ≡ make w)
@@ -266,31 +249,31 @@ ReadsCondition make ts (Err c) = ConditionFault ts c
 
 -- a text: a quoted text or a word other than `if`
 abbrev pub text_of : List Lexeme → Result (List ℕ) Cause
-text_of [] = Err syntax_cause
-text_of (AWord w ∷ ts) = if same_name w if_word then Err syntax_cause else Ok w
+text_of [] = Err cause.Syntax
+text_of (AWord w ∷ ts) = if same_name w if_word then Err cause.Syntax else Ok w
 text_of (AQuoted t ∷ ts) = Ok (unescape t)
-text_of (AnOp o ∷ ts) = Err syntax_cause
+text_of (AnOp o ∷ ts) = Err cause.Syntax
 
 -- a word
 abbrev pub word_of : List Lexeme → Result (List ℕ) Cause
-word_of [] = Err syntax_cause
+word_of [] = Err cause.Syntax
 word_of (AWord w ∷ ts) = Ok w
-word_of (AQuoted t ∷ ts) = Err syntax_cause
-word_of (AnOp o ∷ ts) = Err syntax_cause
+word_of (AQuoted t ∷ ts) = Err cause.Syntax
+word_of (AnOp o ∷ ts) = Err cause.Syntax
 
 -- the name that a select or an imply names
 abbrev pub named_target : List Lexeme → Result (List ℕ) Cause
-named_target [] = Err syntax_cause
-named_target (AWord w ∷ ts) = if same_name w if_word || is_tristate_constant w then Err syntax_cause else Ok w
-named_target (AQuoted t ∷ ts) = Err syntax_cause
-named_target (AnOp o ∷ ts) = Err syntax_cause
+named_target [] = Err cause.Syntax
+named_target (AWord w ∷ ts) = if same_name w if_word || is_tristate_constant w then Err cause.Syntax else Ok w
+named_target (AQuoted t ∷ ts) = Err cause.Syntax
+named_target (AnOp o ∷ ts) = Err cause.Syntax
 
 -- an operand
 abbrev pub operand_of : List Lexeme → Result Atom Cause
-operand_of [] = Err syntax_cause
-operand_of (AWord w ∷ ts) = if same_name w if_word then Err syntax_cause else Ok (WordAtom w)
+operand_of [] = Err cause.Syntax
+operand_of (AWord w ∷ ts) = if same_name w if_word then Err cause.Syntax else Ok (WordAtom w)
 operand_of (AQuoted t ∷ ts) = Ok (QuotedAtom t)
-operand_of (AnOp o ∷ ts) = Err syntax_cause
+operand_of (AnOp o ∷ ts) = Err cause.Syntax
 
 -- a part that is one token, and then what follows it
 abbrev pub After : {A B : Type 0} → Result A Cause → (A → Result B Cause → Type 0) → Result B Cause → Type 0
@@ -304,7 +287,7 @@ abbrev pub is_pattern : List ℕ → Bool
 is_pattern t = list_any (λ b. b == byte "*" || b == byte "?" || b == byte "[") t
 
 abbrev pub plain_text : List ℕ → Result (List ℕ) Cause
-plain_text t = if is_pattern t then Err (left_out (codes "pattern")) else Ok t
+plain_text t = if is_pattern t then Err (cause.LeftOut (codes "pattern")) else Ok t
 
 abbrev pub ReadsSource : List Lexeme → Result Named Cause → Type 0
 ReadsSource ts = After (text_of ts) (λ t. After (plain_text t) (λ u r. r ≡ finish (SourceLine u) (drop 1 ts)))
@@ -314,14 +297,14 @@ abbrev pub is_good_name : List ℕ → Bool
 is_good_name w = if same_name w if_word || is_tristate_constant w then false else (nat_le 1 (length w) && nat_le (length w) longest_name && list_all is_name_byte w)
 
 abbrev pub good_name : List ℕ → Result Named Cause
-good_name w = if is_good_name w then Ok (ConfigLine w) else Err (record { code = code.BadName; detail = w })
+good_name w = if is_good_name w then Ok (ConfigLine w) else Err (cause.BadName w)
 
 abbrev pub ReadsConfig : List Lexeme → Result Named Cause → Type 0
 ReadsConfig ts = After (word_of ts) (λ w. After (finish w (drop 1 ts)) (λ v r. r ≡ good_name v))
 
 abbrev pub choice_line : List Lexeme → Result Named Cause
 choice_line [] = Ok ChoiceLine
-choice_line (t ∷ ts) = Err (left_out (codes "named choice"))
+choice_line (t ∷ ts) = Err (cause.LeftOut (codes "named choice"))
 
 -- a text, and then a condition
 abbrev pub ReadsPrompt : (InputPrompt Disjunction → Named) → List Lexeme → Result Named Cause → Type 0
@@ -337,7 +320,7 @@ ReadsValue make ts (Err c) = ExpressionFault ts c ⊎ ((f : Front) × StartsExpr
 
 -- a word that has to stand there, and then an expression
 abbrev pub expected : List ℕ → List Lexeme → Result (List Lexeme) Cause
-expected w ts = if begins_with w ts then Ok (drop 1 ts) else Err syntax_cause
+expected w ts = if begins_with w ts then Ok (drop 1 ts) else Err cause.Syntax
 
 abbrev pub ReadsDepends : List Lexeme → Result Named Cause → Type 0
 ReadsDepends ts r = After (expected (codes "on") ts) (λ us. ReadsWhole DependsLine us) r
@@ -355,9 +338,9 @@ abbrev pub option_line : List Lexeme → Result Named Cause
 option_line ts =
     if begins_with modules_word ts then finish ModulesLine (drop 1 ts)
     else if begins_with (codes "allnoconfig_y") ts then finish IgnoredLine (drop 1 ts)
-    else if begins_with (codes "env") ts then Err (left_out (codes "option env"))
-    else if begins_with (codes "defconfig_list") ts then Err (left_out (codes "option defconfig_list"))
-    else Err syntax_cause
+    else if begins_with (codes "env") ts then Err (cause.LeftOut (codes "option env"))
+    else if begins_with (codes "defconfig_list") ts then Err (cause.LeftOut (codes "option defconfig_list"))
+    else Err cause.Syntax
 
 -- what follows the first word
 abbrev pub ReadsRest : List ℕ → Keyword → List Lexeme → Result Named Cause → Type 0
@@ -383,7 +366,7 @@ ReadsRest w key.Range ts r = ReadsRange ts r
 ReadsRest w key.Help ts r = r ≡ finish HelpLine ts
 ReadsRest w key.Modules ts r = r ≡ finish ModulesLine ts
 ReadsRest w key.«Option» ts r = r ≡ option_line ts
-ReadsRest w key.LeftOut ts r = r ≡ Err (left_out w)
+ReadsRest w key.LeftOut ts r = r ≡ Err (cause.LeftOut w)
 
 -- nothing is wrong with the placement
 abbrev pub in_place : Keyword → Option Cause → Result Keyword Cause
@@ -391,7 +374,7 @@ in_place k None = Ok k
 in_place k (Some why) = Err why
 
 abbrev pub keyword_or_refusal : Option Keyword → Result Keyword Cause
-keyword_or_refusal None = Err syntax_cause
+keyword_or_refusal None = Err cause.Syntax
 keyword_or_refusal (Some k) = Ok k
 
 -- the placement, and then the rest

@@ -2,11 +2,12 @@
 use Rattle.std.specs.Prelude.{◌≡◌, ◌≢◌, ℕ, List, [], Some, None, Ok, Err}
 use Rattle.kc_text.specs.Lines.{UnreadLines}
 use Rattle.kc_read.specs.declared.refusal.Refusal.{Refusal}
-use Rattle.kc_read.specs.declared.refusal.Code.TheVariants as code
+use Rattle.kc_diagnostics.specs.declared.cause.Cause.TheVariants as cause
 use Rattle.kc_read.specs.declared.step.Step.{Step}
 use Rattle.kc_read.specs.declared.step.Step.TheVariants as step
 use Rattle.kc_read.specs.Statements.{Named}
-use Rattle.kc_read.specs.Lines.{LineContext, Cause, cause}
+use Rattle.kc_diagnostics.specs.Causes.{Cause}
+use Rattle.kc_read.specs.Lines.{LineContext}
 use Rattle.kc_read.specs.Expansion.{refused, NextLine, NextStatement, text_cause}
 use Rattle.kc_read.specs.LineReads.{IsMade}
 use Rattle.kc_text.specs.Lines.{IsTooLong}
@@ -30,9 +31,9 @@ IsStep known names c old new (step.Next n s) = (x : Named) × (n ≡ old.number)
 
 -- the first fault of the line
 pub data StepFault (c : LineContext) (old : UnreadLines) : Cause → Type 0 where
-  too_long : IsTooLong old → StepFault c old (cause code.LineTooLong)
+  too_long : IsTooLong old → StepFault c old cause.LineTooLong
   no_tokens : (new : UnreadLines) (ts : List Lexeme) (why : TextFault) → NextLine old new ts (Some why) → StepFault c old (text_cause why)
   refused_line : (new : UnreadLines) (why : Cause) → NextStatement old new c (Err why) → StepFault c old why
 
 abbrev pub IsStepRefusal : List ℕ → LineContext → UnreadLines → Refusal → Type 0
-IsStepRefusal file c old r = r.code ≢ code.Memory → (why : Cause) × StepFault c old why × (refusal_view r ≡ refused why file old.number)
+IsStepRefusal file c old r = r.cause ≢ cause.Memory → (why : Cause) × StepFault c old why × (refusal_view r ≡ refused why file old.number)

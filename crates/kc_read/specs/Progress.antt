@@ -13,14 +13,15 @@ use Rattle.kc_expr.specs.Names.{all_mentioned, mention, same_symbol}
 use Rattle.kc_expr.specs.DistinctSymbols.{added}
 use Rattle.kc_read.specs.declared.frame.Frame.{Frame}
 use Rattle.kc_read.specs.declared.progress.Progress.{Progress}
-use Rattle.kc_read.specs.declared.refusal.Code.TheVariants as code
+use Rattle.kc_diagnostics.specs.declared.cause.Cause.TheVariants as cause
 use Rattle.kc_read.specs.declared.refusal.Refusal.{Refusal}
 use Rattle.kc_read.specs.declared.statement.EntryKind.{EntryKind}
 use Rattle.kc_read.specs.declared.statement.EntryKind.TheVariants as entry
 use Rattle.kc_read.specs.declared.statement.OpenBlock.{OpenBlock}
 use Rattle.kc_read.specs.Blocks.{Bracket, Opens, Closes, NoBracket, bracket, opened, open_block_indices, last_of, last_no_attribute, entry_of, is_attribute, definitions, modules_of, defined_name, is_modules}
 use Rattle.kc_read.specs.Expansion.{FileContext, Log, Refused, Rest, defined, is_choice, refused, symbol_cause, nesting_cause}
-use Rattle.kc_read.specs.Lines.{LineContext, Cause, cause, is_config, is_entry}
+use Rattle.kc_diagnostics.specs.Causes.{Cause}
+use Rattle.kc_read.specs.Lines.{LineContext, is_config, is_entry}
 use Rattle.kc_read.specs.Files.{Files}
 use Rattle.kc_read.specs.Numbering.{located_numbered}
 use Rattle.kc_read.specs.Entries.{lines_in, IsLastFile}
@@ -133,7 +134,7 @@ order_after ids None = ids
 order_after ids (Some id) = added ids id
 
 abbrev pub symbol_limit_cause : List SymId → SymId → Option Cause
-symbol_limit_cause ids id = if nat_lt most_symbols (length (added ids id)) then Some (cause code.TooManySymbols) else None
+symbol_limit_cause ids id = if nat_lt most_symbols (length (added ids id)) then Some cause.TooManySymbols else None
 
 abbrev pub defining_cause : List SymId → Option SymId → Option Cause
 defining_cause ids None = None
@@ -189,11 +190,11 @@ pub record IsEntered (name : List ℕ) (total_lines : ℕ) (old new : Progress) 
 
 -- a block of the file is open at its end
 abbrev pub IsOpenAtEnd : Frame → Refused → Type 0
-IsOpenAtEnd f r = (o : OpenBlock) × (last_of f.blocks.items ≡ Some o) × (r ≡ refused (cause code.Block) f.file.value.items o.line)
+IsOpenAtEnd f r = (o : OpenBlock) × (last_of f.blocks.items ≡ Some o) × (r ≡ refused cause.Block f.file.value.items o.line)
 
 -- a refusal of the rest of a file
 abbrev pub IsRestRefusal : Files → FileContext → UnreadLines → List (Located Named) → Log → Refusal → Type 0
-IsRestRefusal files a l own log r = r.code ≢ code.Memory → Rest files a l own log (Err (refusal_view r))
+IsRestRefusal files a l own log r = r.cause ≢ cause.Memory → Rest files a l own log (Err (refusal_view r))
 
 module _ (files : Files) (first : List (List ℕ)) (names : List (List ℕ)) (a : FileContext) where
   -- the reader has advanced in a file: what its rest gives from here on is what it gave from the line before on

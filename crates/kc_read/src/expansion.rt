@@ -8,7 +8,7 @@ ghost use Rattle.kc_read.specs.Files.{bytes_in};
 ghost use Rattle.kc_read.specs.Progress.{IsBegun, IsBounded, IsShallow};
 ghost use Rattle.kc_read.specs.Expanded.{IsExpansion};
 ghost use Rattle.kc_read.specs.RefusalView.{IsMemory, refusal_view};
-ghost use Rattle.kc_read.specs.declared.refusal.Code.TheVariants.{Memory};
+ghost use Rattle.kc_diagnostics.specs.declared.cause.Cause.TheVariants.{Memory};
 
 use crate::constants::Constants;
 use crate::entries::Entries;
@@ -46,7 +46,7 @@ fn begin(
     ensures begun { IfOk result (λ r. IsBegun root.now total_lines r.0 r.1) }
     ensures shallow { IfOk result (λ r. IsShallow r.0) }
     ensures bounded { IfOk result (λ r. IsBounded r.1) }
-    ensures memory { IfErr result (λ f. f.code ≡ Memory) }
+    ensures memory { IfErr result (λ f. f ≡ Memory) }
 {
     let mut opened = Names::new(alloc);
     opened.id(root)?;
@@ -81,8 +81,8 @@ fn begin(
 /// Each of the refusals E1 to E12 and E16 comes exactly for its cause, at the first line with a fault: E1 where a file
 /// is not in the map, E2 where it is open now, E3 where the physical lines of the files opened so far are more than
 /// 1,000,000, each file counted as often as it is sourced, E12 for the 65th block, file or level open at once, E16 for
-/// the 65,536th defined symbol; a refusal of the root file itself stands at its line 0. E20, which has no location and no
-/// detail, is out of memory. After a refusal the names are the old ones, after which further ones may have been added.
+/// the 65,536th defined symbol; a refusal of the root file itself stands at its line 0. E20, which has no location, is out
+/// of memory. After a refusal the names are the old ones, after which further ones may have been added.
 ///
 /// The statements are those of the kernel's kconfig-language document; the limits and the order of checks are our own.
 pub fn expand(
@@ -92,7 +92,7 @@ pub fn expand(
     names: &mut Names,
 ) -> Result<Expansion, Refusal>
     ensures expanded { IfOk result (λ e. (log : Log) × Expands (bytes_in map.now) root.now (Ok log) × IsExpansion names.old names.new log e) }
-    ensures refused { IfErr result (λ r. r.code ≢ Memory → Expands (bytes_in map.now) root.now (Err (refusal_view r))) }
+    ensures refused { IfErr result (λ r. r.cause ≢ Memory → Expands (bytes_in map.now) root.now (Err (refusal_view r))) }
     ensures memory { IfErr result IsMemory }
     ensures names { Extends names.old names.new }
 {
@@ -105,7 +105,7 @@ pub fn expand(
     };
     let (frame, mut progress) = match begin(alloc, root, total_lines) {
         Ok(begun) => begun,
-        Err(_) => return Err(Refusal::out_of_memory(alloc)),
+        Err(_) => return Err(Refusal::out_of_memory()),
     };
     let reader = Reader {
         alloc,

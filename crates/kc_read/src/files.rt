@@ -5,7 +5,7 @@ ghost use Rattle.kc_read.specs.Limits.{most_files, most_lines};
 ghost use Rattle.kc_text.specs.Lines.{UnreadLines, unread_lines};
 ghost use Rattle.std.specs.List.{list_any};
 ghost use Rattle.kc_expr.specs.Names.{Extends, same_name};
-ghost use Rattle.kc_read.specs.declared.refusal.Code.TheVariants.{Memory};
+ghost use Rattle.kc_diagnostics.specs.declared.cause.Cause.TheVariants.{Memory};
 ghost use Rattle.kc_read.specs.Expansion as spec;
 ghost use Rattle.kc_read.specs.Expansion.{FileContext, Log, NextStatement, sourcing_cause};
 ghost use Rattle.kc_read.specs.Files.{bytes_in};
@@ -22,10 +22,11 @@ use crate::file_map::FileMap;
 use crate::frame::Frame;
 use crate::progress::Progress;
 use crate::reader::Position;
-use crate::refusal::{Code, Refusal};
+use crate::refusal::Refusal;
 use crate::refuse::refuse;
 use crate::statement::{Attribute, EntryKind, Head, LineFault, Statement};
 use crate::step::{Step, next_step};
+use kc_diagnostics::Cause;
 use kc_expr::expression::SymId;
 use kc_expr::names::Names;
 use kc_text::{LogicalLines, Token, line_count};
@@ -59,17 +60,11 @@ pub(crate) fn open<'a, 'b>(
     ensures fault { IfErr result (λ f. spec.bytes_cause name.now total_lines (bytes_in map.now name.now) ≡ Some (cause_of f)) }
 {
     let Some(bytes) = map.get(name) else {
-        return Err(LineFault {
-            code: Code::NoFile,
-            detail: name,
-        });
+        return Err(Cause::NoFile(name));
     };
     let lines = line_count(bytes);
     if lines > MOST_LINES - total_lines {
-        return Err(LineFault {
-            code: Code::TooManyLines,
-            detail: b"",
-        });
+        return Err(Cause::TooManyLines);
     }
     Ok((bytes, total_lines + lines))
 }
@@ -102,16 +97,10 @@ fn open_source<'a, 'b>(
     ensures fault { IfErr result (λ f. sourcing_cause (bytes_in map.now) (open_names progress.now) progress.now.total_lines name.now ≡ Some (cause_of f)) }
 {
     if is_open(progress, name) {
-        return Err(LineFault {
-            code: Code::InclusionLoop,
-            detail: name,
-        });
+        return Err(Cause::InclusionLoop(name));
     }
     if progress.open_files.len() >= MOST_FILES {
-        return Err(LineFault {
-            code: Code::TooDeep,
-            detail: b"",
-        });
+        return Err(Cause::TooDeep);
     }
     open(map, name, progress.total_lines)
 }
@@ -182,7 +171,7 @@ fn enter(
     ensures progress { OnOk result (IsEntered name.items total_lines progress.old progress.new) }
     ensures shallow { IfOk result IsShallow }
     ensures bounded { OnOk result (IsBounded progress.new) }
-    ensures memory { IfErr result (λ f. f.code ≡ Memory) }
+    ensures memory { IfErr result (λ f. f ≡ Memory) }
 {
     progress.opened.id(&name)?;
     let file = Rc::new(alloc, name)?;
@@ -200,15 +189,12 @@ fn enter(
 // The end of a file, where no block of its own may be open.
 fn end(alloc: Global, frame: &Frame) -> Result<(), Refusal>
     ensures closed { OnOk result (frame.now.blocks.items ≡ []) }
-    ensures open { IfErr result (λ r. r.code ≢ Memory → IsOpenAtEnd frame.now (refusal_view r)) }
+    ensures open { IfErr result (λ r. r.cause ≢ Memory → IsOpenAtEnd frame.now (refusal_view r)) }
     ensures memory { IfErr result IsMemory }
 {
     match frame.innermost() {
         Some(opener) => {
-            let fault = LineFault {
-                code: Code::Block,
-                detail: b"",
-            };
+            let fault = Cause::Block;
             Err(refuse(alloc, fault, &frame.file, opener.line))
         }
         None => Ok(()),
@@ -323,7 +309,7 @@ fn read_statement(
         },
         Statement::Attribute(attribute) => match take_attribute(attribute, line, progress) {
             Ok(()) => Ok(()),
-            Err(_) => Err(Refusal::out_of_memory(reader.alloc)),
+            Err(_) => Err(Refusal::out_of_memory()),
         },
     }
 }
@@ -356,7 +342,7 @@ fn source(
     };
     let inside = match enter(reader.alloc, name, total_lines, frame, progress) {
         Ok(inside) => inside,
-        Err(_) => return Err(Refusal::out_of_memory(reader.alloc)),
+        Err(_) => return Err(Refusal::out_of_memory()),
     };
     read_file(reader, bytes, inside, progress, names)?;
     progress.open_files.pop();

@@ -8,8 +8,8 @@ ghost use Rattle.kc_read.specs.Progress.{IsShallow, is_closer, open_blocks_after
 ghost use Rattle.kc_read.specs.StatementViews.{head_view};
 ghost use Rattle.kc_read.specs.LineReads.{IsFault};
 
-use crate::refusal::Code;
 use crate::statement::{Block, EntryKind, Head, LineFault, OpenBlock};
+use kc_diagnostics::Cause;
 use std::rc::Rc;
 
 // The most blocks that may be open at once.
@@ -103,10 +103,7 @@ impl Frame {
     {
         if let Some(block) = opened(head) {
             if self.depth + self.blocks.len() >= MOST_BLOCKS {
-                return Err(LineFault {
-                    code: Code::TooDeep,
-                    detail: b"",
-                });
+                return Err(Cause::TooDeep);
             }
             self.blocks.push(OpenBlock { block, line })?;
         }

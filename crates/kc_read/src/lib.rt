@@ -4,7 +4,7 @@
 //! - [`FileMap`]: the bytes of each file, by name.
 //! - [`sources_of`] finds the files that one file names in its `source` lines.
 //! - [`statement`] and [`entries`]: what a line says, and the lines of all entries.
-//! - [`refusal`]: the errors of a tree, each with its file and line.
+//! - [`refusal`]: an error of a tree: its [`Cause`], with file and line.
 //! - [`MOST_LINES`]: the most lines that a tree may have.
 //! - [`laws`]: a root file has one expansion.
 #![tactic(auto)]
@@ -30,5 +30,6 @@ mod step;
 pub use expansion::{Expansion, expand};
 pub use file_map::FileMap;
 pub use files::MOST_LINES;
-pub use refusal::{Code, Refusal};
+pub use kc_diagnostics::Cause;
+pub use refusal::Refusal;
 pub use sources::sources_of;

@@ -4,16 +4,16 @@ ghost use Rattle.std.specs.Prelude.{◌≡◌, ◌≤◌, [], false, length, IfO
 ghost use Rattle.kc_expr.specs.Form.{form_of, leaf_of};
 ghost use Rattle.kc_expr.specs.Grammar.{if_word, is_tristate_constant};
 ghost use Rattle.kc_expr.specs.Names.{IsNumber, same_name, mention, Extends};
-ghost use Rattle.kc_read.specs.declared.refusal.Code.TheVariants.{Memory};
+ghost use Rattle.kc_diagnostics.specs.declared.cause.Cause.TheVariants.{Memory, Syntax};
 ghost use Rattle.kc_read.specs.Lines as spec;
-ghost use Rattle.kc_read.specs.Lines.{syntax_cause, IsMore, ExpressionFault, WholeFault, ConditionFault};
+ghost use Rattle.kc_read.specs.Lines.{IsMore, ExpressionFault, WholeFault, ConditionFault};
 ghost use Rattle.kc_expr.specs.When.{when_view};
-ghost use Rattle.kc_read.specs.LineReads.{IsToken, IsFault, IsPart, IsFront, IsWholeForm, IsConditionForm, IsOperand, cause_of, code_of, unquoted_text, lexemes_from};
+ghost use Rattle.kc_read.specs.LineReads.{IsToken, IsFault, IsPart, IsFront, IsWholeForm, IsConditionForm, IsOperand, cause_of, expression_cause, unquoted_text, lexemes_from};
 
 use crate::constants::Constants;
 use crate::keywords::same_word;
-use crate::refusal::Code;
 use crate::statement::LineFault;
+use kc_diagnostics::Cause;
 use kc_expr::expression::{Expr, Operand, SymId};
 use kc_expr::names::{Names, are_name_bytes};
 use kc_expr::parse::{ExprFault, parse};
@@ -64,18 +64,15 @@ pub(crate) fn is_tristate_constant(word: &[u8]) -> bool
 
 /// The refusal of a line that is no statement.
 pub(crate) fn syntax() -> LineFault<'static>
-    ensures { cause_of result ≡ syntax_cause }
+    ensures { cause_of result ≡ Syntax }
 {
-    LineFault {
-        code: Code::Syntax,
-        detail: b"",
-    }
+    Cause::Syntax
 }
 
 /// The line ends at a place.
 pub(crate) fn end<'a>(tokens: &[Token<'a>], at: usize) -> Result<(), LineFault<'a>>
     ensures end { OnOk result (lexemes_from tokens.now at ≡ []) }
-    ensures more { IfErr result (λ f. IsMore (lexemes_from tokens.now at) × (cause_of f ≡ syntax_cause)) }
+    ensures more { IfErr result (λ f. IsMore (lexemes_from tokens.now at) × (cause_of f ≡ Syntax)) }
 {
     match next(tokens, at) {
         Some(_) => Err(syntax()),
@@ -151,19 +148,12 @@ pub(crate) fn target_at<'a>(tokens: &[Token<'a>], at: usize) -> Result<&'a [u8],
 
 /// The refusal of a line whose expression is refused.
 pub(crate) fn fault_of<'a>(fault: ExprFault) -> LineFault<'a>
-    ensures code { result.code ≡ code_of fault }
-    ensures detail { result.detail.now ≡ [] }
+    ensures { cause_of result ≡ expression_cause fault }
 {
     match fault {
         ExprFault::Syntax => syntax(),
-        ExprFault::TooDeep => LineFault {
-            code: Code::TooDeep,
-            detail: b"",
-        },
-        ExprFault::Memory => LineFault {
-            code: Code::Memory,
-            detail: b"",
-        },
+        ExprFault::TooDeep => Cause::TooDeep,
+        ExprFault::Memory => Cause::Memory,
     }
 }
 
@@ -247,7 +237,7 @@ pub(crate) fn condition<'a>(
 pub(crate) fn name_number<'a>(names: &mut Names, word: &[u8]) -> Result<SymId, LineFault<'a>>
     ensures number { IfOk result (λ id. IsNumber names.new word.now id) }
     ensures mentions { OnOk result (names.new ≡ mention names.old word.now) }
-    ensures memory { IfErr result (λ f. f.code ≡ Memory) }
+    ensures memory { IfErr result (λ f. f ≡ Memory) }
     ensures names { Extends names.old names.new }
 {
     let id = names.id(word)?;

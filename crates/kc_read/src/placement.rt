@@ -1,6 +1,7 @@
 //! Whether a line stands in a right place.
 
 ghost use Rattle.std.specs.Prelude.{◌≡◌, option_map};
+ghost use Rattle.kc_diagnostics.specs.declared.cause.Cause.TheVariants.{LeftOut};
 ghost use Rattle.kc_read.specs.Lines as spec;
 ghost use Rattle.kc_read.specs.Lines.{placement_cause};
 ghost use Rattle.kc_read.specs.Progress.{context_in};
@@ -9,8 +10,8 @@ ghost use Rattle.kc_read.specs.LineReads.{cause_of, lexemes_from};
 use crate::frame::Frame;
 use crate::line_parts::begins_with;
 use crate::progress::Progress;
-use crate::refusal::Code;
 use crate::statement::{Block, EntryKind, Keyword, LineFault};
+use kc_diagnostics::Cause;
 use kc_expr::expression::SymbolType;
 use kc_text::Token;
 
@@ -56,26 +57,16 @@ pub(crate) fn placement_fault<'a>(
 
 /// The refusal of what is left out of the language: a word, or what `word` names.
 pub(crate) fn left_out(word: &[u8]) -> LineFault<'_>
-    ensures { cause_of result ≡ spec.left_out word.now }
+    ensures { cause_of result ≡ LeftOut word.now }
 {
-    LineFault {
-        code: Code::LeftOut,
-        detail: word,
-    }
+    Cause::LeftOut(word)
 }
 
 // A misplaced line, unless it stands in a right place.
 fn unless_placed<'a>(placed: bool) -> Option<LineFault<'a>>
     ensures { option_map cause_of result ≡ spec.unless_placed placed }
 {
-    if placed {
-        None
-    } else {
-        Some(LineFault {
-            code: Code::Misplaced,
-            detail: b"",
-        })
-    }
+    if placed { None } else { Some(Cause::Misplaced) }
 }
 
 // What is wrong with a closer: it closes the innermost open block of its file.
@@ -86,10 +77,7 @@ fn closing_fault<'a>(block: Block, own: Option<Block>) -> Option<LineFault<'a>>
         (Block::If, Some(Block::If)) => None,
         (Block::Menu, Some(Block::Menu)) => None,
         (Block::Choice, Some(Block::Choice)) => None,
-        _ => Some(LineFault {
-            code: Code::Block,
-            detail: b"",
-        }),
+        _ => Some(Cause::Block),
     }
 }
 

@@ -9,8 +9,8 @@ ghost use Rattle.kc_read.specs.LineReads.{IsFault};
 ghost use Rattle.kc_read.specs.Blocks.{defined_name};
 
 use crate::entries::Entries;
-use crate::refusal::Code;
 use crate::statement::{Attribute, Head, LineFault};
+use kc_diagnostics::Cause;
 use kc_expr::distinct_symbols::DistinctSymbols;
 use kc_expr::expression::SymId;
 use kc_expr::names::Names;
@@ -57,10 +57,7 @@ impl Progress {
     {
         self.defined.add(id)?;
         if self.defined.count() > MOST_SYMBOLS {
-            return Err(LineFault {
-                code: Code::TooManySymbols,
-                detail: b"",
-            });
+            return Err(Cause::TooManySymbols);
         }
         self.config = Some(id);
         Ok(())

@@ -18,8 +18,8 @@ use crate::line_parts::{
 };
 use crate::placement::{left_out, placement_fault};
 use crate::progress::Progress;
-use crate::refusal::Code;
 use crate::statement::{Attribute, Head, Keyword, LineFault, Prompt, Statement};
+use kc_diagnostics::Cause;
 use kc_expr::expression::{SymId, SymbolType};
 use kc_expr::names::Names;
 use kc_text::Token;
@@ -42,10 +42,7 @@ fn config_line<'a>(tokens: &[Token<'a>], names: &mut Names) -> Result<Statement,
     let word = word_at(tokens, 1)?;
     end(tokens, 2)?;
     if !is_good_name(word) {
-        return Err(LineFault {
-            code: Code::BadName,
-            detail: word,
-        });
+        return Err(Cause::BadName(word));
     }
     let id = name_number(names, word)?;
     Ok(Statement::Head(Head::Config(id)))

@@ -1,39 +1,27 @@
-//! Refusals with their locations.
+//! Refusals of lines.
 
-ghost use Rattle.std.specs.Prelude.{◌≡◌, ◌≢◌, IfOk};
-ghost use Rattle.kc_read.specs.declared.refusal.Code.TheVariants.{Memory};
+ghost use Rattle.std.specs.Prelude.{◌≡◌, ◌≢◌};
+ghost use Rattle.kc_diagnostics.specs.declared.cause.Cause.TheVariants.{Memory};
 ghost use Rattle.kc_read.specs.Expansion.{refused};
 ghost use Rattle.kc_read.specs.LineReads.{cause_of};
 ghost use Rattle.kc_read.specs.RefusalView.{IsMemory, refusal_view};
 
-use crate::refusal::{Code, Refusal};
+use crate::refusal::Refusal;
 use crate::statement::LineFault;
-use std::alloc::{AllocError, Global};
-
-// The refusal for a fault at a line.
-fn copied(alloc: Global, fault: LineFault, file: &[u8], line: u32) -> Result<Refusal, AllocError>
-    ensures { IfOk result (λ r. refusal_view r ≡ refused (cause_of fault.entry) file.now line) }
-{
-    let name = Vec::from_slice(alloc, file)?;
-    let detail = Vec::from_slice(alloc, fault.detail)?;
-    Ok(Refusal {
-        code: fault.code,
-        location: Some((name, line)),
-        detail,
-    })
-}
+use kc_diagnostics::Cause;
+use std::alloc::Global;
 
 /// The refusal for a fault at a line, or out of memory.
 pub(crate) fn refuse(alloc: Global, fault: LineFault, file: &[u8], line: u32) -> Refusal
-    ensures refused { result.code ≢ Memory → refusal_view result ≡ refused (cause_of fault.entry) file.now line }
+    ensures refused { result.cause ≢ Memory → refusal_view result ≡ refused (cause_of fault.entry) file.now line }
     ensures memory { IsMemory result }
 {
-    match fault.code {
-        Code::Memory => return Refusal::out_of_memory(alloc),
+    match fault {
+        Cause::Memory => return Refusal::out_of_memory(),
         _ => {}
     }
-    match copied(alloc, fault, file, line) {
+    match Refusal::located(alloc, fault, file, line) {
         Ok(refusal) => refusal,
-        Err(_) => Refusal::out_of_memory(alloc),
+        Err(_) => Refusal::out_of_memory(),
     }
 }

@@ -10,9 +10,9 @@ ghost use Rattle.kc_read.specs.SourceSteps.{HasMoreLines, IsFound};
 
 use crate::line_parts::begins_with;
 use crate::reader::source_name;
-use crate::refusal::Code;
 use crate::step::{begins_help, token_list};
 use bstr::ByteSlice;
+use kc_diagnostics::Cause;
 use kc_text::{LogicalLines, TextFault, Token, lex};
 use std::alloc::{AllocError, Global};
 
@@ -60,8 +60,8 @@ fn source_of_line<'l>(
     }
     match source_name(alloc, tokens) {
         Ok(name) => Ok(NextSource::Name(name)),
-        Err(fault) => match fault.code {
-            Code::Memory => Err(AllocError),
+        Err(fault) => match fault {
+            Cause::Memory => Err(AllocError),
             _ => Ok(NextSource::Nothing),
         },
     }

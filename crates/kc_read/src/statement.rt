@@ -1,12 +1,8 @@
 //! The statement of a line.
 
-ghost use Rattle.std.specs.Prelude.{◌≡◌};
-ghost use Rattle.kc_read.specs.declared.refusal.Code.TheVariants.{Memory};
-
-use crate::refusal::Code;
+use kc_diagnostics::Cause;
 use kc_expr::expression::{Expr, SymId, SymbolType};
 use kc_tree::rows::{SymbolDefault, SymbolRange};
-use std::alloc::{AllocError, AllocFailed};
 use std::mem::size_of;
 use std::rc::Rc;
 
@@ -115,31 +111,5 @@ pub enum EntryKind {
     Comment,
 }
 
-/// Why a line is refused: a kind, and the word or name that it is about.
-#[derive(Clone, Copy, Debug)]
-pub struct LineFault<'a> {
-    pub code: Code,
-    pub detail: &'a [u8],
-}
-
-impl<'a> From<AllocError> for LineFault<'a> {
-    ghost from_gives = { λ _ e. e.code ≡ Memory };
-
-    fn from(_e: AllocError) -> LineFault<'a> {
-        LineFault {
-            code: Code::Memory,
-            detail: b"",
-        }
-    }
-}
-
-impl<'a, T: Drop> From<AllocFailed<T>> for LineFault<'a> {
-    ghost from_gives = { λ _ e. e.code ≡ Memory };
-
-    fn from(_e: AllocFailed<T>) -> LineFault<'a> {
-        LineFault {
-            code: Code::Memory,
-            detail: b"",
-        }
-    }
-}
+/// Why a line is refused: the cause, with the word or name of the line that it is about.
+pub type LineFault<'a> = Cause<&'a [u8]>;

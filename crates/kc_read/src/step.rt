@@ -12,9 +12,10 @@ ghost use Rattle.kc_read.specs.NextStep.{IsStep, IsStepRefusal, long_line};
 
 use crate::line_parts::begins_with;
 use crate::reader::{Position, read_line};
-use crate::refusal::{Code, Refusal};
+use crate::refusal::Refusal;
 use crate::refuse::refuse;
 use crate::statement::{LineFault, Statement};
+use kc_diagnostics::Cause;
 use kc_expr::names::Names;
 use kc_text::{LogicalLines, TextFault, Token, lex};
 use std::alloc::{AllocError, Global};
@@ -30,13 +31,12 @@ pub(crate) enum Step {
 fn text_fault(fault: TextFault) -> LineFault<'static>
     ensures { cause_of result ≡ text_cause fault }
 {
-    let code = match fault {
-        TextFault::LineTooLong(_) => Code::LineTooLong,
-        TextFault::BadToken => Code::BadToken,
-        TextFault::Macro => Code::Macro,
-        TextFault::Memory => Code::Memory,
-    };
-    LineFault { code, detail: b"" }
+    match fault {
+        TextFault::LineTooLong(_) => Cause::LineTooLong,
+        TextFault::BadToken => Cause::BadToken,
+        TextFault::Macro => Cause::Macro,
+        TextFault::Memory => Cause::Memory,
+    }
 }
 
 // The number of the line that is too long.
@@ -136,7 +136,7 @@ fn next_joined(
         }
     };
     let Ok(mut own) = token_list(position.alloc, text) else {
-        return Err(Refusal::out_of_memory(position.alloc));
+        return Err(Refusal::out_of_memory());
     };
     step_of_line(position, number, text, &mut own, lines, names)
 }

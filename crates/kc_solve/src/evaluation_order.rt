@@ -4,7 +4,7 @@ ghost use Rattle.std.specs.Prelude.{◌≡◌, ◌≢◌, ◌<◌, ◌++◌, len
 ghost use Rattle.kc_order.specs.Needs.{needs_in, SomeUnordered};
 ghost use Rattle.kc_order.specs.Order.{Orders};
 ghost use Rattle.kc_read.specs.RefusalView.{IsMemory, refusal_view};
-ghost use Rattle.kc_read.specs.declared.refusal.Code.TheVariants.{Memory};
+ghost use Rattle.kc_diagnostics.specs.declared.cause.Cause.TheVariants.{Memory};
 ghost use Rattle.kc_solve.specs.LoopText.{arrows, loop_text};
 ghost use Rattle.kc_solve.specs.Graphs.{IsGraphOf};
 ghost use Rattle.kc_solve.specs.Refused as refused;
@@ -13,9 +13,10 @@ ghost use Rattle.kc_solve.specs.LoopFaults.{NamesTheLoop};
 ghost use Rattle.kc_tree.specs.Layouts.{IsLayoutOf};
 ghost use Rattle.kc_values.specs.Needs.{needs, IsAccepted};
 
+use kc_diagnostics::Cause;
 use kc_expr::expression::SymId;
 use kc_order::{NoOrder, alike_needs, order_of};
-use kc_read::refusal::{Code, Refusal};
+use kc_read::refusal::Refusal;
 use kc_tree::layout::Layout;
 use kc_tree::tree::Tree;
 use kc_values::laws::needs_are_symbols;
@@ -46,7 +47,7 @@ impl EvaluationOrder {
     /// # Errors
     ///
     /// `Loop` exactly where some symbol has no place in any order (is unordered): a walk along what is needed goes on for
-    /// ever. It has no location, and its detail is the loop that is named: the names of its symbols and its first again,
+    /// ever. It has no location, and its cause has the loop that is named: the names of its symbols and its first again,
     /// joined by ` -> `, where the walk goes from the first unordered symbol always on to the first unordered symbol that
     /// is needed. The first of several symbols is the one that is defined first (our own rule). `Memory` where no memory was
     /// to be had.
@@ -54,14 +55,14 @@ impl EvaluationOrder {
         requires { IsLayoutOf tree.now layout.now }
         ensures same { IfOk result (IsGraphOf tree.now layout.now) }
         ensures accepted { OnOk result (IsAccepted tree.now) }
-        ensures unordered { IfErr result (λ r. r.code ≢ Memory → SomeUnordered (length (needs tree.now)) (needs_in (needs tree.now))) }
+        ensures unordered { IfErr result (λ r. r.cause ≢ Memory → SomeUnordered (length (needs tree.now)) (needs_in (needs tree.now))) }
         ensures refused { IfErr result (NamesLoop tree.now) }
         ensures memory { IfErr result IsMemory }
     {
         match tree_order(alloc, tree, layout) {
             Ok(inner) => Ok(EvaluationOrder { inner }),
             Err(LoopFault::Loop(text)) => Err(loop_refusal(text)),
-            Err(LoopFault::Memory) => Err(Refusal::out_of_memory(alloc)),
+            Err(LoopFault::Memory) => Err(Refusal::out_of_memory()),
         }
     }
 
@@ -78,9 +79,8 @@ fn loop_refusal(text: Vec<u8>) -> Refusal
     ensures { refusal_view result ≡ refused.loop_refused text.items }
 {
     Refusal {
-        code: Code::Loop,
+        cause: Cause::Loop(text),
         location: None,
-        detail: text,
     }
 }
 

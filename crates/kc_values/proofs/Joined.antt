@@ -1,6 +1,5 @@
 -- Steps of the code, over plain values.
 use Rattle.std.proofs.Common.{◌≡◌, ℕ, List, [], ◌∷◌, ◌++◌, append_assoc, Bool, true, false, cond, is_some, Option, None, Some, refl, sym, ◌∙◌, ap}
-use Rattle.std.specs.Prelude.{codes}
 use Rattle.kc_expr.specs.declared.expression.SymId.{SymId}
 use Rattle.kc_expr.specs.declared.expression.Tri.{Tri}
 use Rattle.kc_expr.specs.declared.expression.SymbolType.{SymbolType}
@@ -10,7 +9,7 @@ use Rattle.kc_tree.specs.Contexts.{mode_view}
 use Rattle.kc_tree.specs.TreeFacts.{SymbolFacts, TreeFacts}
 use Rattle.kc_user.specs.GivenValue.{GivenValue}
 use Rattle.kc_values.specs.declared.numbers.Interval.{Interval}
-use Rattle.kc_values.specs.Numbers.{if_within_range, number_text}
+use Rattle.kc_values.specs.Numbers.{if_within_range}
 use Rattle.kc_values.specs.Values as v
 use Rattle.kc_values.specs.Warnings as w
 use Rattle.kc_values.specs.WrittenSymbols.{above}
@@ -54,13 +53,3 @@ module _ (tree : TreeFacts) (k : SymId → SymbolValue) where
       e7 ∙ ap (λ x. x ++ w.default_warnings f.symbol_type name range used default) (e6 ∙ ap (λ x. old ++ x) first_is)
       ∙ ap (λ x. (old ++ w.user_warnings f.symbol_type name r t) ++ x) second_is
       ∙ append_assoc old (w.user_warnings f.symbol_type name r t) (w.default_warnings f.symbol_type name r (if_within_range f.symbol_type r t) (w.met_text k (v.first_met tree k f.defaults)))
-
-pub outside_joined : (symbol_type : SymbolType) (r : Interval) (begin name first second third low high new : List ℕ) → first ≡ begin ++ codes " of " → second ≡ first ++ name →
-    third ≡ second ++ codes " is outside " → low ≡ number_text symbol_type r.low → high ≡ number_text symbol_type r.high → new ≡ third ++ low ++ codes " to " ++ high → new ≡ w.outside_line begin symbol_type r name
-outside_joined symbol_type r begin name first second third low high new e1 e2 e3 e4 e5 e6 =
-    let third_is : third ≡ begin ++ codes " of " ++ name ++ codes " is outside " =
-    e3 ∙ ap (λ x. x ++ codes " is outside ") (e2 ∙ ap (λ x. x ++ name) e1)
-    in
-    e6 ∙ ap (λ x. x ++ low ++ codes " to " ++ high) third_is
-    ∙ ap (λ x. begin ++ codes " of " ++ name ++ codes " is outside " ++ x ++ codes " to " ++ high) e4
-    ∙ ap (λ x. begin ++ codes " of " ++ name ++ codes " is outside " ++ number_text symbol_type r.low ++ codes " to " ++ x) e5

@@ -1,8 +1,10 @@
 -- Trusted: What the values are warned of: whole lines, without the line feed (our own).
-use Rattle.std.specs.Prelude.{ℕ, if◌then◌else◌, List, [], ◌∷◌, ◌++◌, map, codes, Option, Some, None}
+use Rattle.std.specs.Prelude.{ℕ, if◌then◌else◌, List, [], ◌∷◌, ◌++◌, map, Option, Some, None}
 use Rattle.std.specs.List.{flat_map}
 use Rattle.std.specs.declared.alloc.Global.{Global}
 use Rattle.std.specs.declared.vec.Vec.{Vec}
+use Rattle.kc_diagnostics.specs.Warnings.{warning_line}
+use Rattle.kc_diagnostics.specs.declared.warning.Warning.TheVariants as warning
 use Rattle.kc_expr.specs.Form.{Form}
 use Rattle.kc_expr.specs.Names.{symbol}
 use Rattle.kc_expr.specs.Value.{SymbolValue, tri_text}
@@ -23,24 +25,18 @@ use Rattle.kc_values.specs.declared.numbers.Interval.{Interval}
 abbrev pub texts : List (Vec ℕ Global) → List (List ℕ)
 texts lines = map (λ (l : Vec ℕ Global). l.items) lines
 
--- `NAME is selected to REV while its dependency is DIRECT`
+-- the line of a symbol that is selected above its dependency
 abbrev pub selected_line : List ℕ → Tri → Tri → List ℕ
-selected_line name selected_to direct =
-    codes "warning K11: " ++ name ++ codes " is selected to " ++ tri_text selected_to ++ codes " while its dependency is " ++ tri_text direct
+selected_line name selected_to direct = warning_line (warning.Selected name (tri_text selected_to) (tri_text direct))
 
--- ` of NAME is outside LOW to HIGH` after what stands before it
-abbrev pub outside_line : List ℕ → SymbolType → Interval → List ℕ → List ℕ
-outside_line begin symbol_type r name =
-    begin ++ codes " of " ++ name ++ codes " is outside " ++ number_text symbol_type r.low ++ codes " to " ++ number_text symbol_type r.high
-
--- `user value TEXT of NAME is outside LOW to HIGH`
+-- the line of a user's text outside the range
 abbrev pub user_warning_line : SymbolType → Interval → List ℕ → List ℕ → List ℕ
-user_warning_line symbol_type r name t = outside_line (codes "warning K12: user value " ++ t) symbol_type r name
+user_warning_line symbol_type r name t = warning_line (warning.UserOutside name t (number_text symbol_type r.low) (number_text symbol_type r.high))
 
--- `default TEXT of NAME is outside LOW to HIGH, VALUE is used`
+-- the line of a default outside the range
 abbrev pub default_warning_line : SymbolType → Interval → List ℕ → List ℕ → List ℕ
 default_warning_line symbol_type r name t =
-    outside_line (codes "warning K13: default " ++ t) symbol_type r name ++ codes ", " ++ clamped symbol_type (Some r) t ++ codes " is used"
+    warning_line (warning.DefaultOutside name t (number_text symbol_type r.low) (number_text symbol_type r.high) (clamped symbol_type (Some r) t))
 
 -- a visible user value outside the active range
 abbrev pub user_warnings : SymbolType → List ℕ → Option Interval → Option (List ℕ) → List (List ℕ)

@@ -1,6 +1,6 @@
 //! What the values of a tree are warned of.
 
-ghost use Rattle.std.specs.Prelude.{◌≡◌, ◌++◌, codes, Some, IfOk, IfSome, OnOk};
+ghost use Rattle.std.specs.Prelude.{◌≡◌, ◌++◌, Some, IfOk, IfSome, OnOk};
 ghost use Rattle.std.specs.Option.{option_copied};
 ghost use Rattle.kc_tree.specs.Layouts.{facts_of};
 ghost use Rattle.kc_values.specs.TableFacts.{facts_in, known_at};
@@ -18,6 +18,7 @@ use crate::numbers::{
 use crate::table::{Table, name};
 use crate::texts::{met_text, visible_text};
 use crate::truths::{direct, selected_to};
+use kc_diagnostics::{Warning, add_warning};
 use kc_expr::expression::{SymId, SymbolType, Tri};
 use kc_expr::values::tri_text;
 use kc_tree::rows::Symbol;
@@ -38,20 +39,21 @@ fn is_above(a: Tri, b: Tri) -> bool
 }
 
 // The line of a symbol that is selected above its dependency.
-fn selected_line(
+fn selected_line<'a>(
     alloc: Global,
-    name: &[u8],
+    name: &'a [u8],
     selected_to: Tri,
     direct: Tri,
 ) -> Result<Vec<u8>, AllocError>
     ensures { IfOk result (λ v. v.items ≡ spec.selected_line name.now selected_to direct) }
 {
-    let mut line = Vec::from_slice(alloc, b"warning K11: ")?;
-    line.extend_from_slice(name)?;
-    line.extend_from_slice(b" is selected to ")?;
-    line.extend_from_slice(tri_text(selected_to))?;
-    line.extend_from_slice(b" while its dependency is ")?;
-    line.extend_from_slice(tri_text(direct))?;
+    let mut line = Vec::new(alloc);
+    let warning = Warning::Selected {
+        name,
+        selected_to: tri_text(selected_to),
+        direct: tri_text(direct),
+    };
+    add_warning(warning, &mut line)?;
     Ok(line)
 }
 
@@ -73,71 +75,53 @@ fn high_text(alloc: Global, symbol_type: SymbolType, range: Interval) -> Result<
     Ok(text)
 }
 
-// `LOW to HIGH` behind what stands in the line.
-fn bounds_into(low: &[u8], high: &[u8], line: &mut Vec<u8>) -> Result<(), AllocError>
-    ensures { OnOk result (line.new.items ≡ line.old.items ++ low.now ++ codes " to " ++ high.now) }
-{
-    line.extend_from_slice(low)?;
-    line.extend_from_slice(b" to ")?;
-    line.extend_from_slice(high)?;
-    Ok(())
-}
-
-// ` of NAME is outside LOW to HIGH` behind what stands in the line.
-fn outside_into(
-    alloc: Global,
-    symbol_type: SymbolType,
-    range: Interval,
-    name: &[u8],
-    line: &mut Vec<u8>,
-) -> Result<(), AllocError>
-    requires { HasSmallBounds range }
-    ensures { OnOk result (line.new.items ≡ spec.outside_line line.old.items symbol_type range name.now) }
-{
-    let low = low_text(alloc, symbol_type, range)?;
-    let high = high_text(alloc, symbol_type, range)?;
-    line.extend_from_slice(b" of ")?;
-    line.extend_from_slice(name)?;
-    line.extend_from_slice(b" is outside ")?;
-    bounds_into(&low, &high, line)?;
-    Ok(())
-}
-
 // The line of a user's text outside the range.
-fn user_warning_line(
+fn user_warning_line<'a>(
     alloc: Global,
     symbol_type: SymbolType,
     range: Interval,
-    name: &[u8],
-    text: &[u8],
+    name: &'a [u8],
+    text: &'a [u8],
 ) -> Result<Vec<u8>, AllocError>
     requires { HasSmallBounds range }
     ensures { IfOk result (λ v. v.items ≡ spec.user_warning_line symbol_type range name.now text.now) }
 {
-    let mut line = Vec::from_slice(alloc, b"warning K12: user value ")?;
-    line.extend_from_slice(text)?;
-    outside_into(alloc, symbol_type, range, name, &mut line)?;
+    let low = low_text(alloc, symbol_type, range)?;
+    let high = high_text(alloc, symbol_type, range)?;
+    let mut line = Vec::new(alloc);
+    let warning = Warning::UserOutside {
+        name,
+        value: text,
+        low: &low,
+        high: &high,
+    };
+    add_warning(warning, &mut line)?;
     Ok(line)
 }
 
 // The line of a default outside the range.
-fn default_warning_line(
+fn default_warning_line<'a>(
     alloc: Global,
     symbol_type: SymbolType,
     range: Interval,
-    name: &[u8],
-    text: &[u8],
+    name: &'a [u8],
+    text: &'a [u8],
 ) -> Result<Vec<u8>, AllocError>
     requires { HasSmallBounds range }
     ensures { IfOk result (λ v. v.items ≡ spec.default_warning_line symbol_type range name.now text.now) }
 {
     let used = clamped(alloc, symbol_type, Some(range), text)?;
-    let mut line = Vec::from_slice(alloc, b"warning K13: default ")?;
-    line.extend_from_slice(text)?;
-    outside_into(alloc, symbol_type, range, name, &mut line)?;
-    line.extend_from_slice(b", ")?;
-    line.extend_from_slice(&used)?;
-    line.extend_from_slice(b" is used")?;
+    let low = low_text(alloc, symbol_type, range)?;
+    let high = high_text(alloc, symbol_type, range)?;
+    let mut line = Vec::new(alloc);
+    let warning = Warning::DefaultOutside {
+        name,
+        value: text,
+        low: &low,
+        high: &high,
+        used: &used,
+    };
+    add_warning(warning, &mut line)?;
     Ok(line)
 }
 

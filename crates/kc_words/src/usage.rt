@@ -5,7 +5,7 @@ ghost use Rattle.kc_words.specs.Refusals.{IsBadFor, text_of};
 ghost use Rattle.kc_words.specs.declared.usage.UsageError.TheVariants.{Memory};
 
 use crate::command::VERSION;
-use kc_options::error_lines::out_of_memory;
+use kc_diagnostics::run_error::out_of_memory;
 use std::alloc::{AllocError, Global};
 
 /// Why words give no options, or configurations are no runs.

@@ -1,6 +1,6 @@
 -- There was no memory, which is said, or the diagnostics failed.
 use Rattle.std.proofs.Common.{refl, subst}
-use Rattle.kc_options.specs.ErrorLines.{out_of_memory_line}
+use Rattle.kc_diagnostics.specs.RunErrors.{out_of_memory_line}
 use Rattle.kc_conf.specs.Many.{no_memory, unsaid_warnings}
 use Rattle.kc_conf.specs.Outcome.{lines_text}
 use Rattle.kc_conf.specs.PartRuns.{StopsLines}

@@ -31,7 +31,7 @@ loop-text-preserved g c =
           rw (w.device-is, w.status-is, more)
           (IsChecked-old c.args.options.now old mid front c.loop-text.status c.loop-text.invariant (text_view text)
           (λ journal e. sym w.if-not-holds.true ∙ c.holds.ensures journal e ∙ ap (is_held journal text.name.now) c.deref.ensures.value)
-          (g.D.Device.log w.say_stale.new.device) w.in_default.ensures)
+          (g.D.Device.log w.say_error.new.device) w.in_default.ensures)
       | else-not-holds w ↦
           rw (w.device-is, w.status-is, more)
           (IsChecked-fresh c.args.options.now old mid front c.loop-text.status c.loop-text.invariant (text_view text)
@@ -46,4 +46,4 @@ returns-in-Err g c =
     rw (texts-split texts i text c.loop-text-test.true c.text-item.is)
     (BreaksEnd-old c.args.options.now (g.D.Device.log c.args.device.now) (g.D.Device.log c.loop-text.device) (map text_view (take i texts)) c.loop-text.status c.loop-text.invariant (text_view text)
     (λ journal e. sym c.if-not-holds.true ∙ c.holds.ensures journal e ∙ ap (is_held journal text.name.now) c.deref.ensures.value)
-    c.requires (map text_view (drop (i + 1) texts)) c.in-Err.stop (g.D.Device.log c.say_stale.new.device) c.in-Err.ensures.0 c.in-Err.ensures.1)
+    c.requires (map text_view (drop (i + 1) texts)) c.in-Err.stop (g.D.Device.log c.say_error.new.device) c.in-Err.ensures.0 c.in-Err.ensures.1)

@@ -6,9 +6,9 @@ use Rattle.kc_conf.proofs.EndingLemmas.{BreaksEnd-report, IsEnded-line, some-unr
 use Rattle.kc_conf.proofs.runs.refuse_name.Goals as goal
 
 pub returns-in-Ok : goal.returns-in-Ok
-returns-in-Ok g c = IsEnded-line c.args.options.now (lead c.args.options.now ++ unreadable_line c.args.name.now) (g.D.Device.log c.args.device.now) (g.D.Device.log c.say_unreadable.new.device) c.in-Ok.ensures
+returns-in-Ok g c = IsEnded-line c.args.options.now (lead c.args.options.now ++ unreadable_line c.args.name.now) (g.D.Device.log c.args.device.now) (g.D.Device.log c.say_error.new.device) c.in-Ok.ensures
 
 pub returns-in-Err : goal.returns-in-Err
 returns-in-Err g c =
-    BreaksEnd-report c.args.options.now [] (lead c.args.options.now ++ unreadable_line c.args.name.now) [] c.in-Err.stop (g.D.Device.log c.args.device.now) (g.D.Device.log c.say_unreadable.new.device)
+    BreaksEnd-report c.args.options.now [] (lead c.args.options.now ++ unreadable_line c.args.name.now) [] c.in-Err.stop (g.D.Device.log c.args.device.now) (g.D.Device.log c.say_error.new.device)
     (some-unreadable c.args.options.now c.args.name.now) c.in-Err.ensures.0 c.in-Err.ensures.1

@@ -6,9 +6,9 @@ use Rattle.kc_conf.proofs.EndingLemmas.{BreaksEnd-report, IsEnded-line, some-str
 use Rattle.kc_conf.proofs.runs.refuse_warnings.Goals as goal
 
 pub returns-in-Ok : goal.returns-in-Ok
-returns-in-Ok g c = IsEnded-line c.args.options.now (lead c.args.options.now ++ strict_line) (g.D.Device.log c.args.device.now) (g.D.Device.log c.say_strict.new.device) c.in-Ok.ensures
+returns-in-Ok g c = IsEnded-line c.args.options.now (lead c.args.options.now ++ strict_line) (g.D.Device.log c.args.device.now) (g.D.Device.log c.say_error.new.device) c.in-Ok.ensures
 
 pub returns-in-Err : goal.returns-in-Err
 returns-in-Err g c =
-    BreaksEnd-report c.args.options.now [] (lead c.args.options.now ++ strict_line) [] c.in-Err.stop (g.D.Device.log c.args.device.now) (g.D.Device.log c.say_strict.new.device)
+    BreaksEnd-report c.args.options.now [] (lead c.args.options.now ++ strict_line) [] c.in-Err.stop (g.D.Device.log c.args.device.now) (g.D.Device.log c.say_error.new.device)
     (some-strict c.args.options.now) c.in-Err.ensures.0 c.in-Err.ensures.1

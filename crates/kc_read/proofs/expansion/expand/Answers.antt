@@ -3,7 +3,7 @@ use Rattle.kc_read.specs.Expansion.{Expands, nothing_read, with_file, root_conte
 use Rattle.kc_read.specs.Files.{bytes_in}
 use Rattle.kc_read.specs.LineReads.{cause_of}
 use Rattle.kc_read.specs.RefusalView.{refusal_view}
-use Rattle.kc_read.specs.declared.refusal.Code.TheVariants.{Memory}
+use Rattle.kc_diagnostics.specs.declared.cause.Cause.TheVariants.{Memory}
 use Rattle.kc_read.proofs.RestLemmas.{refusal_passed}
 use Rattle.kc_read.proofs.StateLemmas.{expands_read, expands_refused, state_begun}
 use Rattle.kc_read.proofs.expansion.expand.Goals as goal
@@ -18,7 +18,7 @@ returns-in_err-read_file-clause-refused c =
     let root = c.args.root.now in
     let bytes = c.in-Ok.opened.0.now in
     let state = state_begun c.args.names.now root bytes c.in-Ok.opened.1 c.in-Ok-begin.begun.0 c.in-Ok-begin.begun.1 c.in-Ok-begin.ensures.begun c.in-Ok.ensures.total_lines.0 in
-    refusal_passed c.from_residual.result (λ r. r.code ≢ Memory → Expands files root (Err (refusal_view r))) c.in_err-read_file.field-0.0 c.from_residual.ensures.1 (λ ne.
+    refusal_passed c.from_residual.result (λ r. r.cause ≢ Memory → Expands files root (Err (refusal_view r))) c.in_err-read_file.field-0.0 c.from_residual.ensures.1 (λ ne.
     expands_read files root bytes (Err (refusal_view c.in_err-read_file.field-0.0)) c.in-Ok.ensures.allowed c.in-Ok.ensures.bytes
     (c.in_err-read_file.ensures.read c.args.names.now (root_context root) (with_file nothing_read root bytes) state ne))
 

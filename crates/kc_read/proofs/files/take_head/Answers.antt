@@ -1,4 +1,4 @@
-use Rattle.std.proofs.Common.{ℕ, List, [], ◌∷◌, ◌++◌, if◌then◌else◌, ap, sym, ◌∙◌, subst}
+use Rattle.std.proofs.Common.{[], ◌∷◌, ◌++◌, if◌then◌else◌, ap, sym, ◌∙◌, subst}
 use Rattle.kc_read.specs.Blocks.{entry_of}
 use Rattle.kc_read.specs.Entries.{head_line, lines_in, IsLastFile}
 use Rattle.kc_read.proofs.HeadLemmas.{no_attribute}

@@ -7,4 +7,4 @@ returns-in-Ok-clause-front c = is_front c.args.condition c.args.names.now c.pars
     c.in-Ok.ensures.within.0 c.in-Ok.ensures.parsed
 
 pub returns-in-Err-clause-fault : goal.returns-in-Err-clause-fault
-returns-in-Err-clause-fault c = is_expression_fault c.args.tokens.now c.args.at c.in-Err.fault c.fault_of.result c.fault_of.ensures.code c.fault_of.ensures.detail c.in-Err.ensures.refused
+returns-in-Err-clause-fault c = is_expression_fault c.args.tokens.now c.args.at c.in-Err.fault c.fault_of.result c.fault_of.ensures c.in-Err.ensures.refused

@@ -1,0 +1,2 @@
+-- The lemmas, for this crate and for those above it.
+pub mod CauseLemmas

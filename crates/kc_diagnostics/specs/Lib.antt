@@ -1,0 +1,5 @@
+-- The definitions that the contracts speak in.
+pub mod Causes
+pub mod Limits
+pub mod RunErrors
+pub mod Warnings

@@ -1,0 +1,262 @@
+//! What there is to warn of.
+
+ghost use Rattle.std.specs.Prelude.{◌≡◌, ◌++◌, OnOk, OnErr, take};
+ghost use Rattle.kc_diagnostics.specs.declared.warning.Warning.TheVariants.{Changed};
+ghost use Rattle.kc_diagnostics.specs.Warnings.{located_warning, shown_warning, warning_line, warning_text};
+
+use crate::parts::add_parts;
+use itoa::Buffer;
+use std::alloc::AllocError;
+
+/// What there is to warn of (our own). A warning holds the texts that it is about, each kept as an `N`: names of symbols, and
+/// values as they are shown.
+#[derive(Clone, Copy, Debug, PartialEq, Eq)]
+pub enum Warning<N> {
+    /// K1: a type line of this symbol whose type is not that of its first type line, which is kept.
+    TypeRedefined(N),
+    /// K2: a second prompt in the entry of this name, of which the last is kept.
+    PromptRedefined(N),
+    /// K3: the symbol has no type and is no member of a choice.
+    WithoutType(N),
+    /// K4: a line of this word, `select` or `imply`, names a string, int or hex symbol and has no effect.
+    TextTarget {
+        name: N,
+        word: N,
+    },
+    /// K5: a default of a choice that names no member of it.
+    DefaultNotMember(N),
+    /// K6: a line of this word, `select` or `imply`, names a member of a choice and has no effect.
+    MemberTarget {
+        name: N,
+        word: N,
+    },
+    /// K7: no symbol of this name is defined and has a type.
+    UnknownSymbol(N),
+    /// K8: the symbol may not have the value.
+    NotAllowed(N),
+    /// K9: the line is none of those that a `.config` has.
+    MalformedLine,
+    /// K10: the symbol was set before.
+    SetAgain(N),
+    /// K11: the symbol is selected to a greater value than its direct dependency.
+    Selected {
+        name: N,
+        selected_to: N,
+        direct: N,
+    },
+    /// K12: the user value is outside the active range, and is dropped.
+    UserOutside {
+        name: N,
+        value: N,
+        low: N,
+        high: N,
+    },
+    /// K13: the default is outside the active range, and another value is used.
+    DefaultOutside {
+        name: N,
+        value: N,
+        low: N,
+        high: N,
+        used: N,
+    },
+    /// K14: the value that was given is not the symbol's value.
+    Lost {
+        name: N,
+        given: N,
+        value: N,
+    },
+    /// K15: the symbol had another value before, which the line `FILE:LINE` gave it.
+    Changed {
+        name: N,
+        old: N,
+        file: N,
+        line: u64,
+        new: N,
+    },
+}
+
+// Adds the number and the text of K15, or nothing.
+fn add_change<'a>(
+    name: &'a [u8],
+    old: &'a [u8],
+    file: &'a [u8],
+    line: u64,
+    new: &'a [u8],
+    text: &mut Vec<u8>,
+) -> Result<(), AllocError>
+    ensures whole { OnOk result (text.new.items ≡ text.old.items ++ warning_text (Changed name.now old.now file.now line new.now)) }
+    ensures nothing { OnErr result (text.new.items ≡ text.old.items) }
+{
+    let mut buffer = Buffer::new();
+    let digits = buffer.format(line).as_bytes();
+    add_parts(
+        &[
+            b"K15: ",
+            name,
+            b" was ",
+            old,
+            b" (",
+            file,
+            b":",
+            digits,
+            b") and is now ",
+            new,
+        ],
+        text,
+    )
+}
+
+// Adds the warning's number and text. Its only error is to be out of memory, and then nothing was added.
+fn add_text(warning: Warning<&[u8]>, text: &mut Vec<u8>) -> Result<(), AllocError>
+    ensures whole { OnOk result (text.new.items ≡ text.old.items ++ warning_text (shown_warning warning.entry)) }
+    ensures nothing { OnErr result (text.new.items ≡ text.old.items) }
+{
+    match warning {
+        Warning::TypeRedefined(name) => add_parts(
+            &[b"K1: type of ", name, b" redefined, the first is kept"],
+            text,
+        ),
+        Warning::PromptRedefined(name) => add_parts(
+            &[b"K2: prompt of ", name, b" redefined, the last is kept"],
+            text,
+        ),
+        Warning::WithoutType(name) => add_parts(&[b"K3: ", name, b" has no type"], text),
+        Warning::TextTarget { name, word } => add_parts(
+            &[
+                b"K4: ",
+                name,
+                b" is not bool or tristate, the ",
+                word,
+                b" has no effect",
+            ],
+            text,
+        ),
+        Warning::DefaultNotMember(name) => add_parts(
+            &[b"K5: ", name, b" is not a member of the choice"],
+            text,
+        ),
+        Warning::MemberTarget { name, word } => add_parts(
+            &[
+                b"K6: ",
+                name,
+                b" is a choice member, the ",
+                word,
+                b" has no effect",
+            ],
+            text,
+        ),
+        Warning::UnknownSymbol(name) => add_parts(&[b"K7: unknown symbol ", name], text),
+        Warning::NotAllowed(name) => add_parts(&[b"K8: value not allowed for ", name], text),
+        Warning::MalformedLine => add_parts(&[b"K9: malformed line"], text),
+        Warning::SetAgain(name) => add_parts(&[b"K10: ", name, b" is set again"], text),
+        Warning::Selected {
+            name,
+            selected_to,
+            direct,
+        } => add_parts(
+            &[
+                b"K11: ",
+                name,
+                b" is selected to ",
+                selected_to,
+                b" while its dependency is ",
+                direct,
+            ],
+            text,
+        ),
+        Warning::UserOutside {
+            name,
+            value,
+            low,
+            high,
+        } => add_parts(
+            &[
+                b"K12: user value ",
+                value,
+                b" of ",
+                name,
+                b" is outside ",
+                low,
+                b" to ",
+                high,
+            ],
+            text,
+        ),
+        Warning::DefaultOutside {
+            name,
+            value,
+            low,
+            high,
+            used,
+        } => add_parts(
+            &[
+                b"K13: default ",
+                value,
+                b" of ",
+                name,
+                b" is outside ",
+                low,
+                b" to ",
+                high,
+                b", ",
+                used,
+                b" is used",
+            ],
+            text,
+        ),
+        Warning::Lost { name, given, value } => add_parts(
+            &[b"K14: ", name, b" was given ", given, b" and is ", value],
+            text,
+        ),
+        Warning::Changed {
+            name,
+            old,
+            file,
+            line,
+            new,
+        } => add_change(name, old, file, line, new, text),
+    }
+}
+
+// Adds the warning's number and text to a text, or takes away from it what stands after a length.
+fn add_after(warning: Warning<&[u8]>, before: usize, text: &mut Vec<u8>) -> Result<(), AllocError>
+    ensures whole { OnOk result (text.new.items ≡ text.old.items ++ warning_text (shown_warning warning.entry)) }
+    ensures nothing { OnErr result (text.new.items ≡ take before text.old.items) }
+{
+    match add_text(warning, text) {
+        Ok(()) => Ok(()),
+        Err(fault) => {
+            text.truncate(before);
+            Err(fault)
+        }
+    }
+}
+
+/// Adds `warning TEXT`, the line of a warning without a location, without its end. Its only error is to be out of memory,
+/// and then nothing was added.
+pub fn add_warning(warning: Warning<&[u8]>, text: &mut Vec<u8>) -> Result<(), AllocError>
+    ensures whole { OnOk result (text.new.items ≡ text.old.items ++ warning_line (shown_warning warning.entry)) }
+    ensures nothing { OnErr result (text.new.items ≡ text.old.items) }
+{
+    let before = text.len();
+    add_parts(&[b"warning "], text)?;
+    add_after(warning, before, text)
+}
+
+/// Adds `FILE:LINE: warning TEXT`, the line of a warning about a line, without its end. Its only error is to be out of
+/// memory, and then nothing was added.
+pub fn add_located(
+    file: &[u8],
+    line: u64,
+    warning: Warning<&[u8]>,
+    text: &mut Vec<u8>,
+) -> Result<(), AllocError>
+    ensures whole { OnOk result (text.new.items ≡ text.old.items ++ located_warning file.now line (shown_warning warning.entry)) }
+    ensures nothing { OnErr result (text.new.items ≡ text.old.items) }
+{
+    let before = text.len();
+    let mut buffer = Buffer::new();
+    let digits = buffer.format(line).as_bytes();
+    add_parts(&[file, b":", digits, b": warning "], text)?;
+    add_after(warning, before, text)
+}
