@@ -237,8 +237,6 @@ fn is_bad_default(attribute: &Attribute, entry: MenuEntry, symbols: &[Symbol]) -
     }
 }
 
-}
-
 // A line of an entry.
 fn place_in(entry: &Entry, line: u32) -> Place<'_>
     ensures file { result.file.now ≡ entry.now.file.value.items }
