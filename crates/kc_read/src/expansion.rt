@@ -101,7 +101,7 @@ pub fn expand(
         Err(fault) => return Err(refuse(alloc, fault, root, 0)),
     };
     let Ok(constants) = Constants::new(alloc) else {
-        return Err(Refusal::out_of_memory(alloc));
+        return Err(Refusal::out_of_memory());
     };
     let (frame, mut progress) = match begin(alloc, root, total_lines) {
         Ok(begun) => begun,
