@@ -31,7 +31,7 @@ use Rattle.kc_build.specs.Facts as facts
 use Rattle.kc_build.specs.Facts.{StatedDefault, enclosing_choice, defaults_at, dependency, stated_default, imply_of, is_first_definition, naming_at, guarded_range, select_of, symbol_at, symbol_of}
 use Rattle.kc_build.specs.FirstDefinitions.{first_of_symbol}
 use Rattle.kc_build.specs.Passes.{change}
-use Rattle.kc_build.specs.SelectorRows.{AreAdded, HaveSources, KeepSources, added_lines, selects_of, implies_of}
+use Rattle.kc_build.specs.SelectorRows.{AreAdded, HaveSources, added_lines, selects_of, implies_of}
 use Rattle.kc_build.specs.WalkResult.{AreRowsThere, HasHeads, IsEntryThere, IsSmall, IsSpanBelow, IsTitleThere}
 use Rattle.kc_build.specs.Stacks.{AreOpen, BlockFacts, block_facts_at, block_view}
 use Rattle.kc_build.specs.Walks.{IsEntryKnown, IsHead, IsWalk, index_after}
@@ -97,21 +97,24 @@ choice_by_contexts conditions c = record {
 same_choices : (t u : Tables) → u.contexts ≡ t.contexts → u.choices ≡ t.choices → map (choice_in u) u.choices.items ≡ map (choice_in t) t.choices.items
 same_choices t u c d = λ i. map (choice_by_contexts (c i)) ((d i).items)
 
--- What such an entry does to the walk, step by step.
-pub record Defines (first : Bool) (symbol : SymId) (own : List Numbered) (source : DefinitionId) (old made last new : EntryWalk) : Type 0 where
-  pub number : source.0 ≡ length old.tables.definitions.items
-  pub added : AddsDefinition symbol own old made
-  pub selector_rows : AreAdded source made.tables.selector_rows own last.tables.selector_rows
-  pub sources : KeepSources source.0 made.tables.selector_rows.lines.items last.tables.selector_rows.lines.items
+-- Nothing changes but the lines that select and imply, and the entries.
+pub record KeepsAllButLines (made last : EntryWalk) : Type 0 where
   pub contexts : last.tables.contexts ≡ made.tables.contexts
   pub definitions : last.tables.definitions ≡ made.tables.definitions
   pub defaults : last.tables.defaults ≡ made.tables.defaults
   pub ranges : last.tables.ranges ≡ made.tables.ranges
   pub choices : last.tables.choices ≡ made.tables.choices
   pub titles : last.tables.titles ≡ made.tables.titles
-  pub entries : last.tables.entries.items ≡ pushed first made.tables.entries.items (entry.Symbol symbol)
   pub blocks : last.blocks ≡ made.blocks
   pub main_menu : last.main_menu ≡ made.main_menu
+
+-- What such an entry does to the walk, step by step.
+pub record Defines (first : Bool) (symbol : SymId) (own : List Numbered) (source : DefinitionId) (old made last new : EntryWalk) : Type 0 where
+  pub number : source.0 ≡ length old.tables.definitions.items
+  pub added : AddsDefinition symbol own old made
+  pub selector_rows : AreAdded source made.tables.selector_rows own last.tables.selector_rows
+  pub kept : KeepsAllButLines made last
+  pub entries : last.tables.entries.items ≡ pushed first made.tables.entries.items (entry.Symbol symbol)
   pub member : map (choice_in new.tables) new.tables.choices.items ≡ with_member (condition_in last.tables.contexts last.blocks.innermost.within.0).mode symbol
       (map (choice_in last.tables) last.tables.choices.items)
   pub others : KeepsAllButChoices last new
@@ -125,7 +128,7 @@ module _ (ss : List Numbered) (count i : ℕ) (first : Bool) (s : SymId) (own : 
   symbol_here = ap symbol_of h.at
 
   contexts_are : new.tables.contexts ≡ made.tables.contexts
-  contexts_are = m.others.contexts ∙ m.contexts
+  contexts_are = m.others.contexts ∙ m.kept.contexts
 
   carried : Carries old.tables.contexts new.tables.contexts
   carried =
@@ -144,7 +147,7 @@ module _ (ss : List Numbered) (count i : ℕ) (first : Bool) (s : SymId) (own : 
 
   definitions_made : map (definition_facts new.tables) new.tables.definitions.items ≡ before ++ here ∷ []
   definitions_made =
-      same_definitions made.tables new.tables contexts_are (m.others.definitions ∙ m.definitions) (m.others.defaults ∙ m.defaults) (m.others.ranges ∙ m.ranges)
+      same_definitions made.tables new.tables contexts_are (m.others.definitions ∙ m.kept.definitions) (m.others.defaults ∙ m.kept.defaults) (m.others.ranges ∙ m.kept.ranges)
       ∙ m.added.definitions w.rows
       ∙ ap (λ x. before ++ x ∷ []) made_here
 
@@ -223,14 +226,14 @@ module _ (ss : List Numbered) (count i : ℕ) (first : Bool) (s : SymId) (own : 
   mode_is : (condition_in last.tables.contexts last.blocks.innermost.within.0).mode ≡ enclosing_choice ss i
   mode_is =
       let inner = old.blocks.innermost.within.0 in
-      ap (λ bs. (condition_in last.tables.contexts bs.innermost.within.0).mode) (m.blocks ∙ m.added.blocks)
-      ∙ ap (λ cs. (condition_in cs inner).mode) m.contexts
+      ap (λ bs. (condition_in last.tables.contexts bs.innermost.within.0).mode) (m.kept.blocks ∙ m.added.blocks)
+      ∙ ap (λ cs. (condition_in cs inner).mode) m.kept.contexts
       ∙ ap (λ (c : Condition). c.mode) (m.added.contexts.keeps inner (old.within 0 old.blocks.innermost refl))
       ∙ ap (λ (a : BlockFacts). a.mode) w.blocks.innermost
 
   choices_last : map (choice_in last.tables) last.tables.choices.items ≡ choices_before ss i
   choices_last =
-      same_choices made.tables last.tables m.contexts m.choices
+      same_choices made.tables last.tables m.kept.contexts m.kept.choices
       ∙ ap (λ v. map (choice_in made.tables) v.items) m.added.choices
       ∙ map_alike (choice_in made.tables) (choice_in old.tables) old.tables.choices.items
       (choice_carries old.tables made.tables (entry_carries old made.tables.contexts (length own) m.added.contexts))
@@ -264,7 +267,7 @@ module _ (ss : List Numbered) (count i : ℕ) (first : Bool) (s : SymId) (own : 
   shown_more false = refl
 
   titles_same : new.tables.titles.items ≡ old.tables.titles.items ++ []
-  titles_same = ap (λ v. v.items) (m.others.titles ∙ m.titles ∙ m.added.titles) ∙ sym (append-nil old.tables.titles.items)
+  titles_same = ap (λ v. v.items) (m.others.titles ∙ m.kept.titles ∙ m.added.titles) ∙ sym (append-nil old.tables.titles.items)
 
   entries_now : map (shown_of new.tables) new.tables.entries.items ≡ entries_before ss after
   entries_now =
@@ -294,7 +297,7 @@ module _ (ss : List Numbered) (count i : ℕ) (first : Bool) (s : SymId) (own : 
   entries_there false n k = All-nil (IsEntryThere n k)
 
   definitions_same : new.tables.definitions ≡ made.tables.definitions
-  definitions_same = m.others.definitions ∙ m.definitions
+  definitions_same = m.others.definitions ∙ m.kept.definitions
 
   in_made : (k : ℕ) (d : Definition) → slice_get new.tables.definitions.items k ≡ Some d → slice_get made.tables.definitions.items k ≡ Some d
   in_made k d e = sym (ap (λ v. slice_get v.items k) definitions_same) ∙ e
@@ -305,12 +308,12 @@ module _ (ss : List Numbered) (count i : ℕ) (first : Bool) (s : SymId) (own : 
       let l : source.0 < n = (let a = m.number in let b = more_definitions in omega arith) in
       let more : HaveSources n old.tables.selector_rows.lines.items = All-weaker (λ (r : Selector). r.source.0 < length old.tables.definitions.items)
       (λ (r : Selector). r.source.0 < n) (λ r k. (let b = more_definitions in omega arith)) old.tables.selector_rows.lines.items w.rows.sources in
-      subst (λ r. HaveSources n r.lines.items) (sym lines_made) (m.sources n l (subst (λ r. HaveSources n r.lines.items) (sym m.added.selector_rows) more))
+      subst (λ r. HaveSources n r.lines.items) (sym lines_made) (m.selector_rows.sources n l (subst (λ r. HaveSources n r.lines.items) (sym m.added.selector_rows) more))
 
   rows_now : AreRowsThere new.tables
   rows_now = record {
-    defaults = λ k d e. subst (λ v. IsSpanBelow (length v.items) d.defaults) (sym (m.others.defaults ∙ m.defaults)) (made_rows.defaults k d (in_made k d e));
-    ranges = λ k d e. subst (λ v. IsSpanBelow (length v.items) d.ranges) (sym (m.others.ranges ∙ m.ranges)) (made_rows.ranges k d (in_made k d e));
+    defaults = λ k d e. subst (λ v. IsSpanBelow (length v.items) d.defaults) (sym (m.others.defaults ∙ m.kept.defaults)) (made_rows.defaults k d (in_made k d e));
+    ranges = λ k d e. subst (λ v. IsSpanBelow (length v.items) d.ranges) (sym (m.others.ranges ∙ m.kept.ranges)) (made_rows.ranges k d (in_made k d e));
     sources = sources_now;
     titles = subst (All (IsTitleThere new.tables.contexts)) (sym (titles_same ∙ append-nil old.tables.titles.items))
         (titles_stay old.tables.contexts new.tables.contexts old.tables.titles.items carried.longer w.rows.titles);
@@ -327,7 +330,7 @@ module _ (ss : List Numbered) (count i : ℕ) (first : Bool) (s : SymId) (own : 
       sym (length-map new.tables.choices.items (choice_in new.tables)) ∙ ap length m.member
       ∙ with_member_length (condition_in last.tables.contexts last.blocks.innermost.within.0).mode (map (choice_in last.tables) last.tables.choices.items)
       ∙ length-map last.tables.choices.items (choice_in last.tables)
-      ∙ ap (λ v. length v.items) (m.choices ∙ m.added.choices)
+      ∙ ap (λ v. length v.items) (m.kept.choices ∙ m.added.choices)
     where
       change_length : {A : Type 0} (g : A → A) (k : ℕ) (xs : List A) → length (change g k xs) ≡ length xs
       change_length g k [] = refl
@@ -343,9 +346,9 @@ module _ (ss : List Numbered) (count i : ℕ) (first : Bool) (s : SymId) (own : 
     contexts = (let a = w.small.contexts in let b = m.added.contexts.few in let c = ap length contexts_are in omega arith);
     definitions = (let a = w.small.definitions in let b = more_definitions in omega arith);
     defaults = (let a = w.small.defaults in let b = m.added.defaults in let c : length new.tables.defaults.items ≡ length made.tables.defaults.items =
-        ap (λ v. length v.items) (m.others.defaults ∙ m.defaults) in omega arith);
+        ap (λ v. length v.items) (m.others.defaults ∙ m.kept.defaults) in omega arith);
     ranges = (let a = w.small.ranges in let b = m.added.ranges in let c : length new.tables.ranges.items ≡ length made.tables.ranges.items =
-        ap (λ v. length v.items) (m.others.ranges ∙ m.ranges) in omega arith);
+        ap (λ v. length v.items) (m.others.ranges ∙ m.kept.ranges) in omega arith);
     lines = (let a = w.small.lines in let b = m.selector_rows.few in let c : length new.tables.selector_rows.lines.items ≡ length last.tables.selector_rows.lines.items =
         ap (λ r. length r.lines.items) lines_made in let d : length made.tables.selector_rows.lines.items ≡ length old.tables.selector_rows.lines.items =
         ap (λ r. length r.lines.items) m.added.selector_rows in omega arith);
@@ -361,7 +364,7 @@ module _ (ss : List Numbered) (count i : ℕ) (first : Bool) (s : SymId) (own : 
   }
 
   blocks_same : new.blocks ≡ old.blocks
-  blocks_same = m.others.blocks ∙ m.blocks ∙ m.added.blocks
+  blocks_same = m.others.blocks ∙ m.kept.blocks ∙ m.added.blocks
 
   blocks_now : AreOpen ss after new.tables.contexts new.blocks
   blocks_now =
@@ -376,7 +379,7 @@ module _ (ss : List Numbered) (count i : ℕ) (first : Bool) (s : SymId) (own : 
     impliers = impliers_now;
     choices = choices_now;
     entries = entries_now;
-    main_menu = ap (λ v. v.items) (m.others.main_menu ∙ m.main_menu ∙ m.added.main_menu) ∙ w.main_menu ∙ sym (main_menu_stays ss i (ConfigLine s) own h refl);
+    main_menu = ap (λ v. v.items) (m.others.main_menu ∙ m.kept.main_menu ∙ m.added.main_menu) ∙ w.main_menu ∙ sym (main_menu_stays ss i (ConfigLine s) own h refl);
     heads = heads_now;
     rows = rows_now;
     small = small_now;

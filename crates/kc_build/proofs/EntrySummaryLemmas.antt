@@ -65,11 +65,11 @@ module _ (ss : List Numbered) (count i : ℕ) (head : Numbered) (own : List Numb
       sym (length-map w.tables.definitions.items (definition_facts w.tables)) ∙ ap length k.definitions ∙ length-given (symbol_at ss) (definition_facts_at ss) (numbers i)
 
   -- it is the first definition of its symbol
-  pub first_is : (symbols : List Symbol) (s : SymId) → head ≡ ConfigLine s → AreBelow (length symbols) ss → AreRowsBefore ss i symbols →
+  pub first_is : (symbols : List Symbol) (s : SymId) → head ≡ ConfigLine s → AreBelow count ss → AreRowsBefore ss i count symbols →
       is_new_by symbols s ≡ is_first_definition_at ss i
   first_is symbols s e below are =
       let named : symbol_at ss i ≡ Some s = ap symbol_of (h.at ∙ ap Some e) in
-      new_is_first ss symbols s i are (below i s named) (slice_get_within ss i head h.at) ∙ sym (ap (first_of_symbol ss i) named)
+      new_is_first ss symbols s i count are (below i s named) (slice_get_within ss i head h.at) ∙ sym (ap (first_of_symbol ss i) named)
 
   pub not_first : symbol_of (Some head) ≡ None → false ≡ is_first_definition_at ss i
   not_first e = sym (ap (first_of_symbol ss i) (ap symbol_of h.at ∙ e))

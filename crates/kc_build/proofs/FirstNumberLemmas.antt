@@ -35,11 +35,11 @@ none_in ss ds (Some x) r e f =
     let same : row_view x ≡ r = cc in none_of (definition_ids x) ds (definition_number ss) (ap (λ (y : SymbolRow). y.definitions) same ∙ f)
 
 -- the symbol has no definition yet where the one at a place is its first
-pub new_is_first : (ss : List Numbered) (symbols : List Symbol) (s : SymId) (i : ℕ) → AreRowsBefore ss i symbols → s.0 < length symbols → i < length ss →
+pub new_is_first : (ss : List Numbered) (symbols : List Symbol) (s : SymId) (i count : ℕ) → AreRowsBefore ss i count symbols → s.0 < count → i < length ss →
     is_new_by symbols s ≡ is_first_definition ss i s
-new_is_first ss symbols s i are l within =
+new_is_first ss symbols s i count are l within =
     none_in ss (defined_before ss i s.0) (slice_get symbols s.0) (row_before ss i s.0)
-    (sym (slice_get-map row_view symbols s.0) ∙ ap (λ (rs : List SymbolRow). slice_get rs s.0) are ∙ get-map_numbers (row_before ss i) (length symbols) s.0 l) refl
+    (sym (slice_get-map row_view symbols s.0) ∙ ap (λ (rs : List SymbolRow). slice_get rs s.0) are ∙ get-map_numbers (row_before ss i) count s.0 l) refl
     ∙ sym (first-is ss i s (omega arith))
 
 -- Numbers that pass a test.

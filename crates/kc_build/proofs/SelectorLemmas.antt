@@ -101,9 +101,6 @@ module _ (lines : List Selector) (row : Selector) where
   rows-push heads t s id l n next h = rows-by heads t s id (t == s) refl l n next h
 
 -- Lines that stand in definitions below a number.
-pub sources-same : (source : ℕ) (old new : List Selector) → new ≡ old → KeepSources source old new
-sources-same source old new e n l h = subst (HaveSources n) (sym e) h
-
 pub sources-push : (source : ℕ) (old new : List Selector) (row : Selector) → new ≡ old ++ row ∷ [] → row.source.0 ≡ source → KeepSources source old new
 sources-push source old new row e s n l h =
     let below : row.source.0 < n = omega arith in
@@ -170,6 +167,7 @@ module _ (source : DefinitionId) where
     few = pushed-few _ _ s when _ _ p;
     count = pushed-count _ _ s when _ _ p;
     same = ap length q;
+    sources = pushed-sources _ _ s when _ _ p;
   }
 
   pub imply_added : (old new : SelectorRows) (s : SymId) (when : Option Form) → s.0 < length old.implies.items →
@@ -183,6 +181,7 @@ module _ (source : DefinitionId) where
     few = pushed-few _ _ s when _ _ p;
     count = ap length q;
     same = pushed-count _ _ s when _ _ p;
+    sources = pushed-sources _ _ s when _ _ p;
   }
 
   -- What one line more comes to: it is there, or nothing changed.
@@ -226,10 +225,6 @@ module _ (source : DefinitionId) where
     others_by (Ok u) others p k = pushed-stay old heads s when new after p others k
     others_by (Err e) others p k = subst (λ (xs : List Selector). AreHeads xs others) (sym p.0) k
 
-    pub sources_by : (r : Result (Unit {0}) AllocError) → Pushes old heads s when new after r → KeepSources source.0 old new
-    sources_by (Ok u) p = pushed-sources old heads s when new after p
-    sources_by (Err e) p = sources-same source.0 old new p.0
-
   pub select_by : (r : Result (Unit {0}) AllocError) (old new : SelectorRows) (s : SymId) (when : Option Form) (word : SelectOrImply) → word ≡ select_or_imply.Select →
       s.0 < length old.selects.items → Pushes old.lines.items old.selects.items s when new.lines.items new.selects.items r →
       new.implies.items ≡ old.implies.items → OnOk r (IsAdded source old (word, s, when) new)
@@ -262,6 +257,7 @@ module _ (source : DefinitionId) where
     few = (let e = ap (λ v. length v.items) a in omega arith);
     count = ap (λ v. length v.items) b;
     same = ap (λ v. length v.items) c;
+    sources = λ n l h. subst (λ v. HaveSources n v.items) (sym a) h;
   }
 
   -- Along the lines of a definition.
@@ -303,15 +299,14 @@ module _ (source : DefinitionId) where
   }
 
   pub adding_one : (own : List AttributeLine) (old now new : SelectorRows) (i : ℕ) (x : AttributeLine) (t : SelectOrImply × SymId × Option Form) → IsAdding own old i now → i < length own →
-      x ≡ get_or own i x → Some t ≡ target_of (attribute_view x.attribute) → IsAdded source now t new → KeepSources source.0 now.lines.items new.lines.items →
-      IsAdding own old (i + 1) new
-  adding_one own old now new i x t h l at e a k = record {
+      x ≡ get_or own i x → Some t ≡ target_of (attribute_view x.attribute) → IsAdded source now t new → IsAdding own old (i + 1) new
+  adding_one own old now new i x t h l at e a = record {
     selects = λ s b. next_lines select_or_imply.Select s own i x t _ _ _ l at e (h.selects s b) (a.selects s (let n = h.count in omega arith));
     implies = λ s b. next_lines select_or_imply.Imply s own i x t _ _ _ l at e (h.implies s b) (a.implies s (let n = h.count in omega arith));
     few = let f = h.few in let g = a.few in omega arith;
     count = a.count ∙ h.count;
     same = a.same ∙ h.same;
-    sources = sources-both source.0 _ _ _ h.sources k;
+    sources = sources-both source.0 _ _ _ h.sources a.sources;
   }
 
 -- The last lines of the symbols, where those of the first symbols were looked at.

@@ -225,8 +225,8 @@ same_item (x ∷ xs) zero a b h e f = e ∙ sym f
 same_item (x ∷ xs) (suc i) a b h e f = same_item xs i a b (omega arith) e f
 
 -- the rows of all symbols, once members have their types
-pub rows_settled : (ss : List Numbered) (typed : AreTypesDefined ss) (count : ℕ) (old new : List Symbol) → length old ≡ count → AreRowsBefore ss (length ss) old →
+pub rows_settled : (ss : List Numbered) (typed : AreTypesDefined ss) (count : ℕ) (old new : List Symbol) → AreRowsBefore ss (length ss) count old →
     HaveMemberTypes (map row_view old) (map row_view new) → (length new ≡ count) × AreSymbols ss new
-rows_settled ss typed count old new many rows types =
-    let are = rows_end ss typed count (map row_view old) (map row_view new) (rows ∙ ap (λ n. map (row_before ss (length ss)) (numbers n)) many) types in
+rows_settled ss typed count old new rows types =
+    let are = rows_end ss typed count (map row_view old) (map row_view new) rows types in
     (so_many (row_of ss) count new are, symbols_are ss count new are)

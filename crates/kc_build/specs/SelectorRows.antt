@@ -61,6 +61,7 @@ pub record IsAdded (source : DefinitionId) (old : SelectorRows) (t : SelectOrImp
   pub few : length new.lines.items ≤ length old.lines.items + 1
   pub count : length new.selects.items ≡ length old.selects.items
   pub same : length new.implies.items ≡ length old.implies.items
+  pub sources : KeepSources source.0 old.lines.items new.lines.items
 
 -- those of a definition with these attributes
 pub record AreAdded (source : DefinitionId) (old : SelectorRows) (own : List Numbered) (new : SelectorRows) : Type 0 where
@@ -69,6 +70,7 @@ pub record AreAdded (source : DefinitionId) (old : SelectorRows) (own : List Num
   pub few : length new.lines.items ≤ length old.lines.items + length own
   pub count : length new.selects.items ≡ length old.selects.items
   pub same : length new.implies.items ≡ length old.implies.items
+  pub sources : KeepSources source.0 old.lines.items new.lines.items
 
 -- the last line of a word that names each symbol, where the symbol is such that the line has an effect
 abbrev pub AreTargetHeads : List Symbol → List (Option SelectorId) → List (Option SelectorId) → Type 0

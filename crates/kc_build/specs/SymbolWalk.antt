@@ -1,5 +1,5 @@
 -- For proofs: The rows of the symbols, entry by entry.
-use Rattle.std.specs.Prelude.{◌≡◌, ℕ, List, [], ◌∷◌, ◌++◌, filter, length, map, if◌then◌else◌, is_some, Option, Some, None, unwrap_or}
+use Rattle.std.specs.Prelude.{◌≡◌, ℕ, List, [], ◌∷◌, ◌++◌, filter, map, if◌then◌else◌, is_some, Option, Some, None, unwrap_or}
 use Rattle.std.specs.List.{filter_map}
 use Rattle.std.specs.Option.{option_or}
 use Rattle.kc_expr.specs.declared.expression.SymbolType.{SymbolType}
@@ -61,6 +61,6 @@ module _ (ss : List Numbered) where
   abbrev pub row_before : ℕ → ℕ → SymbolRow
   row_before i s = row_by (defined_before i s)
 
-  -- the rows of the symbols, as the entries before a place have them
-  abbrev pub AreRowsBefore : ℕ → List Symbol → Type 0
-  AreRowsBefore i symbols = map row_view symbols ≡ map (row_before i) (numbers (length symbols))
+  -- the rows of so many symbols, as the entries before a place have them
+  abbrev pub AreRowsBefore : ℕ → ℕ → List Symbol → Type 0
+  AreRowsBefore i count symbols = map row_view symbols ≡ map (row_before i) (numbers count)

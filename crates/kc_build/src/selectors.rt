@@ -3,7 +3,7 @@
 ghost use Rattle.std.specs.Prelude.{◌≡◌, ◌<◌, ◌+◌, ◌^◌, ◌++◌, ◌∷◌, [], None, Some, length, option_map, slice_index_or, slice_set, OnOk, OnErr};
 ghost use Rattle.kc_build.specs.SymbolRows.{can_be_target};
 ghost use Rattle.kc_build.specs.Passes.{statements_of};
-ghost use Rattle.kc_build.specs.SelectorRows.{IsAdded, AreAdded, AreTargetHeads, KeepSources};
+ghost use Rattle.kc_build.specs.SelectorRows.{IsAdded, AreAdded, AreTargetHeads};
 ghost use Rattle.kc_expr.specs.Form.{form_of};
 
 use crate::lines::{SelectOrImply, Target, target_of};
@@ -57,8 +57,7 @@ fn add_selector(
 ) -> Result<(), AllocError>
     requires same { length selector_rows.old.implies.items ≡ length selector_rows.old.selects.items }
     requires few { length selector_rows.old.lines.items < 2 ^ 32 }
-    ensures added { OnOk result (IsAdded source selector_rows.old (target.entry.word, target.entry.symbol, option_map (λ e. form_of e.now.value) target.entry.when) selector_rows.new) }
-    ensures sources { KeepSources source.0 selector_rows.old.lines.items selector_rows.new.lines.items }
+    ensures { OnOk result (IsAdded source selector_rows.old (target.entry.word, target.entry.symbol, option_map (λ e. form_of e.now.value) target.entry.when) selector_rows.new) }
 {
     if target.symbol.0 >= selector_rows.selects.len() {
         return Ok(());
@@ -91,8 +90,7 @@ pub(crate) fn add_selectors(
 ) -> Result<(), AllocError>
     requires same { length selector_rows.old.implies.items ≡ length selector_rows.old.selects.items }
     requires few { length selector_rows.old.lines.items + length attributes.now < 2 ^ 32 }
-    ensures added { OnOk result (AreAdded source selector_rows.old (statements_of attributes.now) selector_rows.new) }
-    ensures sources { KeepSources source.0 selector_rows.old.lines.items selector_rows.new.lines.items }
+    ensures { OnOk result (AreAdded source selector_rows.old (statements_of attributes.now) selector_rows.new) }
 {
     for line in attributes {
         if let Some(target) = target_of(&line.attribute) {

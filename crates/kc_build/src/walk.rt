@@ -296,8 +296,8 @@ impl EntryWalk {
     /// the entry.
     pub(crate) fn summary_of(&self, symbols: &[Symbol], head: &Head) -> EntrySummary
         requires { length self.now.tables.choices.items < 2 ^ 32 }
-        ensures { (ss : List Numbered) (i : ℕ) (own : List Numbered) → AreBelow (length symbols.now) ss → AreRowsBefore ss i symbols.now → IsHead ss i (head_view head.now) own
-            → IsWalk ss (length symbols.now) i self.now → IsEntrySummary ss i result }
+        ensures { (ss : List Numbered) (count i : ℕ) (own : List Numbered) → AreBelow count ss → AreRowsBefore ss i count symbols.now → IsHead ss i (head_view head.now) own
+            → IsWalk ss count i self.now → IsEntrySummary ss i result }
     {
         let within_choice = self.tables.contexts.mode(self.blocks.innermost().within);
         match head {

@@ -1,17 +1,16 @@
-use Rattle.std.proofs.Common.{◌≡◌, ◌+◌, ◌≤◌, List, Option, Some, None, ap, refl, length, map, sym, ◌∙◌, subst, arith}
+use Rattle.std.proofs.Common.{◌≡◌, ◌+◌, ◌≤◌, Option, Some, None, ap, refl, length, map, sym, ◌∙◌, subst, arith}
 use Rattle.std.specs.List.{filter_map}
 use Rattle.std.specs.declared.alloc.Global.{Global}
 use Rattle.std.specs.declared.vec.Vec.{Vec}
 use Rattle.std.proofs.lemmas.List.{length-map}
 use Rattle.kc_expr.specs.declared.expression.SymId.{SymId}
 use Rattle.kc_read.specs.declared.statement.Head.{Head}
-use Rattle.kc_read.specs.Blocks.{numbers}
 use Rattle.kc_read.specs.StatementViews.{head_view}
 use Rattle.kc_tree.specs.declared.rows.Symbol.{Symbol}
 use Rattle.kc_build.specs.Facts.{enclosing_choice, first_of, symbol_at, symbol_of, stated_type}
 use Rattle.kc_build.specs.Suspected.{AreSuspects}
-use Rattle.kc_build.specs.SymbolRows.{AreBelow, definition_number, row_view}
-use Rattle.kc_build.specs.SymbolWalk.{AreRowsBefore, entry_type, row_before, with_definition}
+use Rattle.kc_build.specs.SymbolRows.{definition_number, row_view}
+use Rattle.kc_build.specs.SymbolWalk.{AreRowsBefore, entry_type, with_definition}
 use Rattle.kc_read.specs.Entries.{lines_in}
 use Rattle.kc_build.specs.Passes.{changed, statements_in, statements_of}
 use Rattle.kc_build.specs.Walks.{IsWalk, index_after}
@@ -20,23 +19,18 @@ use Rattle.kc_build.proofs.EntrySummaryLemmas.{definition_count}
 use Rattle.kc_build.proofs.LineWalkLemmas.{modeless-head}
 use Rattle.kc_build.proofs.PlaceLemmas.{length-statements_of}
 use Rattle.kc_build.proofs.SuspectLemmas.{suspects_next}
-use Rattle.kc_build.proofs.SymbolRowLemmas.{no_definition, rows_behind, rows_next, rows_start, so_many}
+use Rattle.kc_build.proofs.SymbolRowLemmas.{no_definition, rows_behind, rows_next, rows_start}
 use Rattle.kc_build.proofs.entries.walk_entries.Goals as goal
 use Rattle.kc_build.proofs.entries.walk_entries.Goals.{in-Config+in_ok-note_definition, in_default-head}
 
 pub entries-init : goal.entries-init
-entries-init c =
-    let ss = statements_in c.args.entries.now in
-    let rows = c.in_ok-symbols.ensures ∙ rows_start ss c.args.names in
-    let many = so_many (row_before ss 0) c.args.names c.in_ok-symbols.symbols.items rows in
-    record {
-      place = 0;
-      at = at-start c.args.entries.now;
-      count_is = many;
-      rows = rows ∙ ap (λ n. map (row_before ss 0) (numbers n)) (sym many);
-      walk = c.in_ok-walk.ensures ss;
-      suspects = λ names symbols whole. subst (λ l. AreSuspects names c.args.entries.now l 0 0) (sym c.new-suspects.ensures.items) (λ d h. h);
-    }
+entries-init c = record {
+  place = 0;
+  at = at-start c.args.entries.now;
+  rows = c.in_ok-symbols.ensures ∙ rows_start (statements_in c.args.entries.now) c.args.names;
+  walk = c.in_ok-walk.ensures (statements_in c.args.entries.now);
+  suspects = λ names symbols whole. subst (λ l. AreSuspects names c.args.entries.now l 0 0) (sym c.new-suspects.ensures.items) (λ d h. h);
+}
 
 pub enter-requires-clause-room : goal.enter-requires-clause-room
 enter-requires-clause-room c =
@@ -75,10 +69,8 @@ entries-preserved c =
     let own = statements_of e.attributes.now in
     let begins = c.in-Some.ensures in
     let head = head-is es c.entries.at i e w.at begins in
-    let lent = sym c.deref.ensures.value in
-    let many : c.args.names ≡ length c.deref.result.now = sym w.count_is ∙ ap (λ (l : List Symbol). length l) lent in
-    let summary = c.summary_of-summary.ensures ss i own (subst (λ n. AreBelow n ss) many c.requires.below) (subst (AreRowsBefore ss i) lent w.rows) head
-    (subst (λ n. IsWalk ss n i c.entries.walk) many w.walk) in
+    let rows = subst (AreRowsBefore ss i c.args.names) (sym c.deref.ensures.value) w.rows in
+    let summary = c.summary_of-summary.ensures ss c.args.names i own c.requires.below rows head w.walk in
     let type = c.first_type-symbol_type.ensures in
     let old = c.entries.symbols.items in
     let now = map row_view old in
@@ -94,14 +86,11 @@ entries-preserved c =
           (Some t, named, rw v.symbols-is by)
       | in_default-head v ↦ (None, ap symbol_of head.at ∙ no_definition x v.in_default-head.not-Config, rw v.symbols-is refl)
     ] in
-    let rows = rows_next ss c.requires.types i c.args.names now (map row_view c.match-head.symbols.items) made.0 (w.rows ∙ ap (λ n. map (row_before ss i) (numbers n)) w.count_is)
-    made.1 made.2 ∙ rows_behind ss i (head_view x) own c.args.names head in
-    let still = so_many (row_before ss (index_after i own)) c.args.names c.match-head.symbols.items rows in
     record {
       place = index_after i own;
       at = at-next es c.entries.at i e w.at begins;
-      count_is = still;
-      rows = rows ∙ ap (λ n. map (row_before ss (index_after i own)) (numbers n)) (sym still);
+      rows = rows_next ss c.requires.types i c.args.names now (map row_view c.match-head.symbols.items) made.0 w.rows made.1 made.2
+          ∙ rows_behind ss i (head_view x) own c.args.names head;
       walk = c.in_ok-enter.ensures ss c.args.names i (record { first_is = summary.first; ends = c.requires.ends }) head w.walk;
       suspects = λ names symbols whole. suspects_next names es c.entries.at i e w.at begins c.requires.types c.summary_of-summary.result summary c.first_type-symbol_type.result type symbols whole
           c.entries.suspects.items _ c.in_ok-note_suspect.ensures (w.suspects names symbols whole);
@@ -116,7 +105,6 @@ returns c =
     let ended : w.place ≡ length ss = lines ∙ sym (length-map (lines_in es) (λ l. l.statement)) in
     record {
       walk = subst (λ n. IsWalk ss c.args.names n c.entries.walk) ended w.walk;
-      count_is = w.count_is;
-      symbols = subst (λ n. AreRowsBefore ss n c.entries.symbols.items) ended w.rows;
+      symbols = subst (λ n. AreRowsBefore ss n c.args.names c.entries.symbols.items) ended w.rows;
       suspects = λ names symbols whole. subst (AreSuspects names es c.entries.suspects.items 0) lines (w.suspects names symbols whole);
     }

@@ -1,4 +1,4 @@
-use Rattle.std.proofs.Common.{◌≡◌, ℕ, ◌-◌, List, length}
+use Rattle.std.proofs.Common.{ℕ, ◌-◌, List, length}
 use Rattle.kc_tree.specs.declared.rows.Symbol.{Symbol}
 use Rattle.kc_build.specs.Passes.{statements_in}
 use Rattle.kc_build.specs.Suspected.{AreSuspects}
@@ -11,8 +11,7 @@ abbrev pub invariant-entries : goal.invariant-entries
 invariant-entries l = record {
   place : ℕ;
   at : IsAt l.entries l.at place;
-  count_is : length l.symbols.items ≡ l.names;
-  rows : AreRowsBefore (statements_in l.entries) place l.symbols.items;
+  rows : AreRowsBefore (statements_in l.entries) place l.names l.symbols.items;
   walk : IsWalk (statements_in l.entries) l.names place l.walk;
   suspects : (names : List (List ℕ)) (symbols : List Symbol) → HasSymbols (statements_in l.entries) symbols → AreSuspects names l.entries l.suspects.items 0 place;
 }

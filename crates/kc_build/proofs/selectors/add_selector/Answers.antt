@@ -1,5 +1,5 @@
 use Rattle.std.proofs.Common.{◌<◌, refl, arith, length}
-use Rattle.kc_build.proofs.SelectorLemmas.{nothing_added, pushes_in, chained_by, heads_by, others_by, sources_by, select_by, imply_by}
+use Rattle.kc_build.proofs.SelectorLemmas.{nothing_added, pushes_in, chained_by, heads_by, others_by, select_by, imply_by}
 use Rattle.kc_build.proofs.selectors.add_selector.Goals as goal
 
 pub invariant_of-selector_rows-in-Select : goal.invariant_of-selector_rows-in-Select
@@ -31,12 +31,12 @@ invariant_of-selector_rows-in-Imply c =
       implies_there = heads_by c.args.source _ _ s _ _ _ there old.implies_there c.add_line-in-Imply.result p;
     }
 
-pub returns-then-target-len-clause-added : goal.returns-then-target-len-clause-added
-returns-then-target-len-clause-added c =
+pub returns-then-target-len : goal.returns-then-target-len
+returns-then-target-len c =
     nothing_added c.args.source c.args.selector_rows.now _ _ (let n = c.if-target-len.true in let m = c.len.ensures in omega (arith, c.args.selector_rows.now.selects.ok)) refl refl refl
 
-pub returns-in-Select-clause-added : goal.returns-in-Select-clause-added
-returns-in-Select-clause-added c =
+pub returns-in-Select : goal.returns-in-Select
+returns-in-Select c =
     let old = c.args.selector_rows.now in
     let s = c.args.target.symbol in
     let there : s.0 < length old.selects.items = (let n = c.if-target-len.false in let m = c.len.ensures in let k = c.requires.same in omega (arith, c.args.selector_rows.now.selects.ok)) in
@@ -45,18 +45,8 @@ returns-in-Select-clause-added c =
     c.add_line.ensures.lines_stay c.add_line.ensures.heads_stay in
     select_by c.args.source c.add_line.result old _ s _ c.args.target.word c.in-Select.is there p refl
 
-pub returns-in-Select-clause-sources : goal.returns-in-Select-clause-sources
-returns-in-Select-clause-sources c =
-    let old = c.args.selector_rows.now in
-    let s = c.args.target.symbol in
-    let there : s.0 < length old.selects.items = (let n = c.if-target-len.false in let m = c.len.ensures in let k = c.requires.same in omega (arith, c.args.selector_rows.now.selects.ok)) in
-    let p = pushes_in c.args.source c.add_line.result old.lines.items c.add_line.new.lines.items old.selects c.deref_mut.result.now c.add_line.new.heads s
-    c.in_ok-when.when _ c.in_ok-when.ensures c.deref_mut.ensures.value c.add_line.auto.heads c.deref_mut.ensures.len c.add_line.ensures.line c.add_line.ensures.head
-    c.add_line.ensures.lines_stay c.add_line.ensures.heads_stay in
-    sources_by c.args.source _ _ s _ _ _ there old.selects_there c.add_line.result p
-
-pub returns-in-Imply-clause-added : goal.returns-in-Imply-clause-added
-returns-in-Imply-clause-added c =
+pub returns-in-Imply : goal.returns-in-Imply
+returns-in-Imply c =
     let old = c.args.selector_rows.now in
     let s = c.args.target.symbol in
     let there : s.0 < length old.implies.items = (let n = c.if-target-len.false in let m = c.len.ensures in let k = c.requires.same in omega (arith, c.args.selector_rows.now.selects.ok)) in
@@ -65,14 +55,3 @@ returns-in-Imply-clause-added c =
     c.deref_mut-in-Imply.ensures.len c.add_line-in-Imply.ensures.line c.add_line-in-Imply.ensures.head c.add_line-in-Imply.ensures.lines_stay
     c.add_line-in-Imply.ensures.heads_stay in
     imply_by c.args.source c.add_line-in-Imply.result old _ s _ c.args.target.word c.in-Imply.is there p refl
-
-pub returns-in-Imply-clause-sources : goal.returns-in-Imply-clause-sources
-returns-in-Imply-clause-sources c =
-    let old = c.args.selector_rows.now in
-    let s = c.args.target.symbol in
-    let there : s.0 < length old.implies.items = (let n = c.if-target-len.false in let m = c.len.ensures in let k = c.requires.same in omega (arith, c.args.selector_rows.now.selects.ok)) in
-    let p = pushes_in c.args.source c.add_line-in-Imply.result old.lines.items c.add_line-in-Imply.new.lines.items old.implies c.deref_mut-in-Imply.result.now
-    c.add_line-in-Imply.new.heads s c.in_ok-when.when _ c.in_ok-when.ensures c.deref_mut-in-Imply.ensures.value c.add_line-in-Imply.auto.heads
-    c.deref_mut-in-Imply.ensures.len c.add_line-in-Imply.ensures.line c.add_line-in-Imply.ensures.head c.add_line-in-Imply.ensures.lines_stay
-    c.add_line-in-Imply.ensures.heads_stay in
-    sources_by c.args.source _ _ s _ _ _ there old.implies_there c.add_line-in-Imply.result p

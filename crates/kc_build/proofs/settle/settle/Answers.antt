@@ -1,4 +1,4 @@
-use Rattle.std.proofs.Common.{◌≡◌, ap, arith, length, refl, subst, sym}
+use Rattle.std.proofs.Common.{◌∙◌, ◌≡◌, ap, arith, length, refl, subst, sym}
 use Rattle.std.proofs.lemmas.List.{length-map}
 use Rattle.kc_read.specs.Entries.{lines_in}
 use Rattle.kc_build.specs.ChoiceRows.{HaveMemberDefaults}
@@ -11,6 +11,16 @@ use Rattle.kc_build.proofs.GrownLemmas.{kept_by}
 use Rattle.kc_build.proofs.SettleLemmas.{kept_defaults, many_choices, settled_result}
 use Rattle.kc_build.proofs.SymbolRowLemmas.{rows_settled}
 use Rattle.kc_build.proofs.settle.settle.Goals as goal
+
+pub keep_targets-requires-clause-count : goal.keep_targets-requires-clause-count
+keep_targets-requires-clause-count c =
+    c.requires.walked.walk.heads.selects ∙ sym (rows_settled (statements_in c.args.entries.now) c.requires.types (length c.args.names.now) c.args.walked.symbols.items c.give_member_types.new.symbols.items c.requires.walked.symbols
+    c.give_member_types.ensures).0 ∙ ap (λ l. length l) (sym c.deref.ensures.value)
+
+pub keep_targets-requires-clause-same : goal.keep_targets-requires-clause-same
+keep_targets-requires-clause-same c =
+    c.requires.walked.walk.heads.implies ∙ sym (rows_settled (statements_in c.args.entries.now) c.requires.types (length c.args.names.now) c.args.walked.symbols.items c.give_member_types.new.symbols.items c.requires.walked.symbols
+    c.give_member_types.ensures).0 ∙ ap (λ l. length l) (sym c.deref.ensures.value)
 
 pub invariant_of-tables : goal.invariant_of-tables
 invariant_of-tables c =
@@ -35,7 +45,7 @@ pub diagnose_suspects-requires : goal.diagnose_suspects-requires
 diagnose_suspects-requires c =
     let ss = statements_in c.args.entries.now in
     let w = c.requires.walked in
-    let rows = rows_settled ss c.requires.types (length c.args.names.now) c.args.walked.symbols.items c.give_member_types.new.symbols.items w.count_is w.symbols c.give_member_types.ensures in
+    let rows = rows_settled ss c.requires.types (length c.args.names.now) c.args.walked.symbols.items c.give_member_types.new.symbols.items w.symbols c.give_member_types.ensures in
     let known : HasSymbols ss c.give_member_types.new.symbols.items = record { symbols_are = rows.1; below = subst (λ n. AreBelow n ss) (sym rows.0) c.requires.below } in
     let whole = subst (HasSymbols ss) (sym c.deref-3.ensures.value) known in
     record {
@@ -47,13 +57,13 @@ diagnose_suspects-requires c =
 pub returns-clause-count : goal.returns-clause-count
 returns-clause-count c =
     let w = c.requires.walked in
-    (rows_settled (statements_in c.args.entries.now) c.requires.types (length c.args.names.now) c.args.walked.symbols.items c.give_member_types.new.symbols.items w.count_is w.symbols
+    (rows_settled (statements_in c.args.entries.now) c.requires.types (length c.args.names.now) c.args.walked.symbols.items c.give_member_types.new.symbols.items w.symbols
     c.give_member_types.ensures).0
 
 pub returns-clause-rows : goal.returns-clause-rows
 returns-clause-rows c =
     let w = c.requires.walked in
-    (rows_settled (statements_in c.args.entries.now) c.requires.types (length c.args.names.now) c.args.walked.symbols.items c.give_member_types.new.symbols.items w.count_is w.symbols
+    (rows_settled (statements_in c.args.entries.now) c.requires.types (length c.args.names.now) c.args.walked.symbols.items c.give_member_types.new.symbols.items w.symbols
     c.give_member_types.ensures).1
 
 pub returns-clause-tables : goal.returns-clause-tables
@@ -62,7 +72,7 @@ returns-clause-tables c =
     let w = c.requires.walked in
     let old = c.args.walked.walk.tables in
     let symbols = c.give_member_types.new.symbols.items in
-    let rows = rows_settled ss c.requires.types (length c.args.names.now) c.args.walked.symbols.items symbols w.count_is w.symbols c.give_member_types.ensures in
+    let rows = rows_settled ss c.requires.types (length c.args.names.now) c.args.walked.symbols.items symbols w.symbols c.give_member_types.ensures in
     let below = subst (λ n. AreBelow n ss) (sym rows.0) c.requires.below in
     settled_result ss symbols old _ (record {
       contexts = refl;

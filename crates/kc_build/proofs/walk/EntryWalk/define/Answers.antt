@@ -1,9 +1,6 @@
-use Rattle.std.proofs.Common.{◌∙◌, ap, sym, subst, Bool}
+use Rattle.std.proofs.Common.{◌∙◌, ap, refl, sym, Bool}
 use Rattle.kc_tree.specs.declared.rows.ShownEntry.TheVariants as entry
-use Rattle.kc_tree.specs.declared.selector_rows.SelectorRows.{SelectorRows}
-use Rattle.kc_build.specs.declared.walk.EntryWalk.{EntryWalk}
 use Rattle.kc_build.specs.Passes.{statements_of}
-use Rattle.kc_build.specs.SelectorRows.{AreAdded, KeepSources}
 use Rattle.kc_build.proofs.GrownLemmas.{pushed}
 use Rattle.kc_build.proofs.HeldLemmas.{on_ok_both}
 use Rattle.kc_build.proofs.DefineWalkLemmas.{Defines, walk_defines}
@@ -23,39 +20,18 @@ returns c =
       | then-first+in_ok-push v ↦ record {
         number = c.next_definition-id.ensures;
         added = c.in_ok-add_definition.ensures;
-        selector_rows = subst (λ (r : SelectorRows). AreAdded source made.tables.selector_rows own r) (sym (ap (λ (x : EntryWalk). x.tables.selector_rows) v.self-is)) c.in_ok-add_selectors.ensures.added;
-        sources = subst (λ (r : SelectorRows). KeepSources source.0 made.tables.selector_rows.lines.items r.lines.items) (sym (ap (λ (x : EntryWalk). x.tables.selector_rows) v.self-is))
-            c.in_ok-add_selectors.ensures.sources;
-        contexts = ap (λ (x : EntryWalk). x.tables.contexts) v.self-is;
-        definitions = ap (λ (x : EntryWalk). x.tables.definitions) v.self-is;
-        defaults = ap (λ (x : EntryWalk). x.tables.defaults) v.self-is;
-        ranges = ap (λ (x : EntryWalk). x.tables.ranges) v.self-is;
-        choices = ap (λ (x : EntryWalk). x.tables.choices) v.self-is;
-        titles = ap (λ (x : EntryWalk). x.tables.titles) v.self-is;
-        entries = ap (λ (x : EntryWalk). x.tables.entries.items) v.self-is
-            ∙ v.in_ok-push.ensures.items
-            ∙ ap (λ (b : Bool). pushed b made.tables.entries.items (entry.Symbol c.args.symbol)) (sym v.if-first.true);
-        blocks = ap (λ (x : EntryWalk). x.blocks) v.self-is;
-        main_menu = ap (λ (x : EntryWalk). x.main_menu) v.self-is;
+        selector_rows = rw v.self-is c.in_ok-add_selectors.ensures;
+        kept = rw v.self-is (record { contexts = refl; definitions = refl; defaults = refl; ranges = refl; choices = refl; titles = refl; blocks = refl; main_menu = refl });
+        entries = rw v.self-is (v.in_ok-push.ensures.items ∙ ap (λ (b : Bool). pushed b made.tables.entries.items (entry.Symbol c.args.symbol)) (sym v.if-first.true));
         member = choices;
         others = others;
       }
       | else-first v ↦ record {
         number = c.next_definition-id.ensures;
         added = c.in_ok-add_definition.ensures;
-        selector_rows = subst (λ (r : SelectorRows). AreAdded source made.tables.selector_rows own r) (sym (ap (λ (x : EntryWalk). x.tables.selector_rows) v.self-is)) c.in_ok-add_selectors.ensures.added;
-        sources = subst (λ (r : SelectorRows). KeepSources source.0 made.tables.selector_rows.lines.items r.lines.items) (sym (ap (λ (x : EntryWalk). x.tables.selector_rows) v.self-is))
-            c.in_ok-add_selectors.ensures.sources;
-        contexts = ap (λ (x : EntryWalk). x.tables.contexts) v.self-is;
-        definitions = ap (λ (x : EntryWalk). x.tables.definitions) v.self-is;
-        defaults = ap (λ (x : EntryWalk). x.tables.defaults) v.self-is;
-        ranges = ap (λ (x : EntryWalk). x.tables.ranges) v.self-is;
-        choices = ap (λ (x : EntryWalk). x.tables.choices) v.self-is;
-        titles = ap (λ (x : EntryWalk). x.tables.titles) v.self-is;
-        entries = ap (λ (x : EntryWalk). x.tables.entries.items) v.self-is
-            ∙ ap (λ (b : Bool). pushed b made.tables.entries.items (entry.Symbol c.args.symbol)) (sym v.if-first.false);
-        blocks = ap (λ (x : EntryWalk). x.blocks) v.self-is;
-        main_menu = ap (λ (x : EntryWalk). x.main_menu) v.self-is;
+        selector_rows = rw v.self-is c.in_ok-add_selectors.ensures;
+        kept = rw v.self-is (record { contexts = refl; definitions = refl; defaults = refl; ranges = refl; choices = refl; titles = refl; blocks = refl; main_menu = refl });
+        entries = rw v.self-is (ap (λ (b : Bool). pushed b made.tables.entries.items (entry.Symbol c.args.symbol)) (sym v.if-first.false));
         member = choices;
         others = others;
       }
