@@ -18,7 +18,7 @@ pub struct MemoryDevice<'a> {
     first: &'a [(&'a str, &'a [u8])],
     records: Option<Vec<Record>>,
     said: Vec<u8>,
-    diagnostics: u64,
+    reports: u64,
     opened: Opened,
     turns: Turns,
 }
@@ -49,7 +49,7 @@ impl<'a> MemoryDevice<'a> {
             first: files,
             records: Some(Vec::new(alloc)),
             said: Vec::new(alloc),
-            diagnostics: 0,
+            reports: 0,
             opened: Opened::nothing(alloc),
             turns: Turns::new(plan),
         }
@@ -72,7 +72,7 @@ impl<'a> MemoryDevice<'a> {
         self.said.as_slice()
     }
 
-    /// What was asked, in order: each call but the notes that were written, or nothing where there was no memory for it.
+    /// What was asked, in order: each call but the diagnostics that were written, or nothing where there was no memory for it.
     pub fn records(&self) -> Option<&[Record]>
         ensures { option_map (λ records. events_of records.now) result ≡ option_map (λ journal. journal.events) (log_of self.now) }
     {
@@ -82,9 +82,9 @@ impl<'a> MemoryDevice<'a> {
         }
     }
 
-    /// How many notes were asked for.
-    pub fn diagnostics(&self) -> u64 {
-        self.diagnostics
+    /// How often diagnostics were reported.
+    pub fn reports(&self) -> u64 {
+        self.reports
     }
 
     /// How many calls were made of those that the plan counts.
@@ -199,7 +199,7 @@ impl<'a> Device for MemoryDevice<'a> {
     }
 
     fn report(&mut self, parts: &[&[u8]]) -> Result<(), Fault> {
-        self.diagnostics = self.diagnostics.saturating_add(1);
+        self.reports = self.reports.saturating_add(1);
         if let Some(fault) = self.turns.next(Action::Report) {
             self.record(Action::Report, "", b"", Some(fault));
             return Err(fault);

@@ -155,5 +155,5 @@ fn diagnostics_are_kept(rt: HostRuntime) {
     assert!(rt; device.report(&[b"one ", b"line\n"]) == Ok(()));
     assert!(rt; device.report(&[b"lost\n"]) == Err(Fault::Refused));
     assert!(rt; device.diagnostics() == b"one line\n".as_slice());
-    assert!(rt; device.diagnostics() == 2);
+    assert!(rt; device.reports() == 2);
 }

@@ -36,7 +36,7 @@ pub(crate) struct Case {
     /// The diagnostics.
     pub diagnostics: Text,
     /// In how many calls they are written, where that is looked at.
-    pub diagnostics: Option<u64>,
+    pub reports: Option<u64>,
     /// Whether the `.config` that is written is written again by a run on it.
     pub is_stable: bool,
 }
@@ -56,7 +56,7 @@ pub(crate) const PLAIN_CASE: Case = Case {
     config: None,
     minimal: None,
     diagnostics: EMPTY,
-    diagnostics: None,
+    reports: None,
     is_stable: false,
 };
 
@@ -113,7 +113,7 @@ fn has_left(device: &MemoryDevice<'_>, case: &Case, texts: &Texts) -> bool {
         && !is_made(device, "out.h")
         && device.diagnostics() == texts.diagnostics.as_bytes()
         && (case.calls.is_none() || case.calls == Some(device.calls()))
-        && (case.diagnostics.is_none() || case.diagnostics == Some(device.diagnostics()))
+        && (case.reports.is_none() || case.reports == Some(device.reports()))
 }
 
 // Whether the run leaves what the case says, where the first piece of the `.config` has so many bytes.

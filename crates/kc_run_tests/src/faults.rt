@@ -93,7 +93,7 @@ const CASES: &[Case] = &[
             fail_at: 1,
             ..SMALL
         },
-        diagnostics: Some(1),
+        reports: Some(1),
         ..STRUCK
     },
 ];
