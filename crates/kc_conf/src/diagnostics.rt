@@ -101,18 +101,14 @@ pub(crate) fn say_refusal<D: Device>(device: &mut D, refusal: &Refusal) -> Resul
 }
 
 /// Says that a line of an input file is too long. Its stream's name has the lead already.
-pub(crate) fn say_long_line<D: Device>(
+pub(crate) fn say_long_line<'a, D: Device>(
     device: &mut D,
-    long: &LongLine<'_>,
+    long: &LongLine<'a>,
 ) -> Result<(), Stop<'static>>
     ensures { Says (too_long_line (stop_of long.now)) result (D.log device.old) (D.log device.new) }
 {
-    say_at(
-        device,
-        long.stream,
-        long.number,
-        RunError::LineTooLong.parts(),
-    )
+    let error: RunError<&'a [u8]> = RunError::LineTooLong;
+    say_at(device, long.stream, long.number, error.parts())
 }
 
 /// Says an error of a run.

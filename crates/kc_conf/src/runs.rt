@@ -351,10 +351,11 @@ fn run_over<'o, D: Device>(
 {
     exactly_one_outcome();
     opened_are_one_list();
-    match read_tree(alloc, files, options.kconfig.as_bytes()) {
-        Ok(read) => run_tree(alloc, options, read, device, kept),
-        Err(refusal) => refuse(&refusal, device),
-    }
+    let read = match read_tree(alloc, files, options.kconfig.as_bytes()) {
+        Ok(read) => read,
+        Err(refusal) => return refuse(&refusal, device),
+    };
+    run_tree(alloc, options, read, device, kept)
 }
 
 // What a run answers: its status, or `Faulted` where it was broken off, which it says.

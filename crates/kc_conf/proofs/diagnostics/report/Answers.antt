@@ -10,4 +10,5 @@ returns-in-Report g c = rw (c.in-Failed.is, c.in-Report.is) (Ok tt, refl, refl, 
 pub returns-in-Open : goal.returns-in-Open
 returns-in-Open g c =
     rw c.in-Failed.is
-    (reports-input c.args.options.now c.in-Failed.failure c.tell_failure.result (g.D.Device.log c.args.device.now) (g.D.Device.log c.tell_failure.new.device) c.in-Open.is c.tell_failure.ensures)
+    (reports-input c.args.options.now c.in-Failed.failure c.tell_failure.result (g.D.Device.log c.args.device.now) (g.D.Device.log c.tell_failure.new.device)
+    c.in-Open.is (rw c.as_bytes-name.ensures.value at c.tell_failure.ensures))

@@ -31,7 +31,7 @@ loop-text-preserved g c =
           rw (w.device-is, w.status-is, more)
           (IsChecked-old c.args.options.now old mid front c.loop-text.status c.loop-text.invariant (text_view text)
           (λ journal e. sym w.if-not-holds.true ∙ c.holds.ensures journal e ∙ ap (is_held journal text.name.now) c.deref.ensures.value)
-          (g.D.Device.log w.say_error.new.device) w.in_default.ensures)
+          (g.D.Device.log w.say_error.new.device) (rw w.as_bytes.ensures.value at w.in_default.ensures))
       | else-not-holds w ↦
           rw (w.device-is, w.status-is, more)
           (IsChecked-fresh c.args.options.now old mid front c.loop-text.status c.loop-text.invariant (text_view text)
