@@ -13,7 +13,7 @@ use Rattle.kc_text.specs.Help.{after_help, after_text, column, from_other, is_he
 use Rattle.kc_text.specs.Lexemes.{Lexeme, AWord, AQuoted, AnOp, Spells}
 use Rattle.kc_text.specs.Lines.{Physical, UnreadLines, TakesLine, continues, joined_text, lines_of_parts, physical_lines, without_continuation}
 use Rattle.kc_text.specs.Tokens.{IsCut, ended, stuck, skipped, taken}
-use Rattle.kc_expr.specs.Grammar.{Atom, WordAtom, QuotedAtom, Terminal, Plain, Compares, Bang, Joins, Open, Close, Keyword, Chain, Part, Negation, only, joined, negation, conjunction, bang, group, lone, compare, names_in_atom, if_word, is_tristate_constant, leaf, meaning, meaning_not, meaning_part, op_terminal, lone_form, spell, spell_not, spell_part, terminal_of, names_in_terminal, terminals, names_in_terminals}
+use Rattle.kc_expr.specs.Grammar.{Atom, WordAtom, QuotedAtom, Terminal, OperandToken, Compares, Bang, Joins, Open, Close, Keyword, Chain, Part, Negation, only, joined, negation, conjunction, bang, group, lone, compare, names_in_atom, if_word, is_tristate_constant, leaf, meaning, meaning_not, meaning_part, op_terminal, lone_form, spell, spell_not, spell_part, terminal_of, names_in_terminal, terminals, names_in_terminals}
 use Rattle.kc_expr.specs.Names.{same_name}
 use Rattle.kc_tree.specs.TreeFacts.{IsLineText, IsLineForm}
 
@@ -176,7 +176,7 @@ IsLineAtom (WordAtom w) = IsLineText w
 IsLineAtom (QuotedAtom t) = IsLineText (unescape t)
 
 abbrev pub IsLineTerminal : Terminal → Type 0
-IsLineTerminal (Plain a) = IsLineAtom a
+IsLineTerminal (OperandToken a) = IsLineAtom a
 IsLineTerminal (Compares o) = Unit {0}
 IsLineTerminal Bang = Unit {0}
 IsLineTerminal (Joins c) = Unit {0}
@@ -200,7 +200,7 @@ op_line op.RParen = tt
 terminal_line : (x : Lexeme) → IsLineLexeme x → IsLineTerminal (terminal_of x)
 terminal_line (AWord w) h = by (same_name w if_word)
   where
-    by : (b : Bool) → IsLineTerminal (if b then Keyword else Plain (WordAtom w))
+    by : (b : Bool) → IsLineTerminal (if b then Keyword else OperandToken (WordAtom w))
     by true = tt
     by false = h
 terminal_line (AQuoted t) h = h
@@ -220,7 +220,7 @@ atom_lines (WordAtom w) h = word_line w (is_tristate_constant w) h
 atom_lines (QuotedAtom t) h = All-nil IsLineText
 
 mentioned_by : (t : Terminal) → IsLineTerminal t → All IsLineText (names_in_terminal t)
-mentioned_by (Plain a) h = atom_lines a h
+mentioned_by (OperandToken a) h = atom_lines a h
 mentioned_by (Compares o) h = All-nil IsLineText
 mentioned_by Bang h = All-nil IsLineText
 mentioned_by (Joins c) h = All-nil IsLineText
@@ -254,5 +254,5 @@ mutual
   not_value : (number : List ℕ → ℕ) (n : Negation) → All IsLineTerminal (spell_not n) → IsLineForm (meaning_not false number n)
   not_value number (bang n) h = tt
   not_value number (group d) h = value_line number d (all_front IsLineTerminal (spell d) (Close ∷ []) (All-tail IsLineTerminal Open (spell d ++ Close ∷ []) h))
-  not_value number (lone a) h = leaf_line number a (All-head IsLineTerminal (Plain a) [] h)
+  not_value number (lone a) h = leaf_line number a (All-head IsLineTerminal (OperandToken a) [] h)
   not_value number (compare o a b) h = tt
