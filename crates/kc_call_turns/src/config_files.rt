@@ -217,12 +217,7 @@ pub(crate) enum Output {
 }
 
 // How a text is made, with values that are solved.
-fn end_of_text(
-    alloc: Global,
-    solved: &Solved<'_>,
-    prefix: &Prefix,
-    output: Output,
-) -> CallEnd {
+fn end_of_text(alloc: Global, solved: &Solved<'_>, prefix: &Prefix, output: Output) -> CallEnd {
     let (made, text) = match output {
         Output::Config => (config_text(alloc, solved, prefix), CONFIG),
         Output::Header => (header_text(alloc, solved, prefix), HEADER),

@@ -110,7 +110,12 @@ fn add_symbol_if(
         return Ok(after_end);
     }
     add_gap(after_end, file)?;
-    add_config_file_line(prefix, solved.tree().name(id), symbol_value(solved, id), file)?;
+    add_config_file_line(
+        prefix,
+        solved.tree().name(id),
+        symbol_value(solved, id),
+        file,
+    )?;
     Ok(false)
 }
 
@@ -159,20 +164,12 @@ fn add_entry(
             let shown = is_shown(solved.shown(index));
             add_title(shown, text_of(layout, *title), after_end, file)
         }
-        ShownEntry::End(menu) => add_end(
-            shown_title(solved, *menu as usize),
-            after_end,
-            file,
-        ),
+        ShownEntry::End(menu) => add_end(shown_title(solved, *menu as usize), after_end, file),
     }
 }
 
 // Adds what the entries give.
-fn add_entries(
-    solved: &Solved<'_>,
-    prefix: &Prefix,
-    file: &mut Vec<u8>,
-) -> Result<(), AllocError>
+fn add_entries(solved: &Solved<'_>, prefix: &Prefix, file: &mut Vec<u8>) -> Result<(), AllocError>
     ensures { OnOk result (file.new.items ≡ file.old.items ++ entries_text solved.now.tree prefix.now (solution_view solved.now) solved.now.tree.entries) }
 {
     // The entries name symbols of the tree alone: `symbol_count` says so.

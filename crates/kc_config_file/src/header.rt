@@ -32,7 +32,12 @@ fn add_header_if(
     if !solved.written(id) {
         return Ok(());
     }
-    add_header_line(prefix, solved.tree().name(id), symbol_value(solved, id), file)
+    add_header_line(
+        prefix,
+        solved.tree().name(id),
+        symbol_value(solved, id),
+        file,
+    )
 }
 
 // Adds the symbol's line where it differs.
@@ -50,7 +55,12 @@ fn add_minimal_if(
     if !solved.differs(id) {
         return Ok(());
     }
-    add_config_file_line(prefix, solved.tree().name(id), symbol_value(solved, id), file)
+    add_config_file_line(
+        prefix,
+        solved.tree().name(id),
+        symbol_value(solved, id),
+        file,
+    )
 }
 
 // Adds the header lines of the written symbols.
