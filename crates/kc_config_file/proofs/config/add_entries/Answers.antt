@@ -13,15 +13,15 @@ pub add_entry-requires-clause-there : goal.add_entry-requires-clause-there
 add_entry-requires-clause-there c =
     let entries = c.entries-entries.result.now in
     let entry = get_or entries c.loop-index.index (Symbol (symbol 0)) in
-    entry_at c.args.solved.now.tree c.layout-layout.result.now entries c.loop-index.index entry c.layout-layout.ensures.laid c.entries-entries.ensures c.loop-index-test.true
+    entry_at c.args.solved.now.tree c.layout-layout.result.now entries c.loop-index.index entry (rw c.tree-tree.ensures at c.layout-layout.ensures.laid) c.entries-entries.ensures c.loop-index-test.true
     (get_or_default entries c.loop-index.index (Symbol (symbol 0)) entry c.loop-index-test.true)
 
 pub add_entry-requires-clause-name : goal.add_entry-requires-clause-name
 add_entry-requires-clause-name c =
     let entries = c.entries-entries.result.now in
     let entry = get_or entries c.loop-index.index (Symbol (symbol 0)) in
-    entry_has_name c.args.solved.now.tree c.symbol_count.ensures.formed c.loop-index.index (shown_of c.layout-layout.result.now.tables entry)
-    (entry_at c.args.solved.now.tree c.layout-layout.result.now entries c.loop-index.index entry c.layout-layout.ensures.laid c.entries-entries.ensures c.loop-index-test.true
+    entry_has_name c.args.solved.now.tree (rw c.tree-tree.ensures at c.symbol_count.ensures.formed) c.loop-index.index (shown_of c.layout-layout.result.now.tables entry)
+    (entry_at c.args.solved.now.tree c.layout-layout.result.now entries c.loop-index.index entry (rw c.tree-tree.ensures at c.layout-layout.ensures.laid) c.entries-entries.ensures c.loop-index-test.true
     (get_or_default entries c.loop-index.index (Symbol (symbol 0)) entry c.loop-index-test.true))
 
 pub loop-index-init : goal.loop-index-init
@@ -31,7 +31,7 @@ loop-index-init c =
     (sym
     (entries_text-after c.args.solved.now.tree c.args.prefix.now told c.args.solved.now.tree.entries
     ∙ ap (entries_after c.args.solved.now.tree c.args.prefix.now told false)
-    (entries_are c.args.solved.now.tree c.layout-layout.result.now c.entries-entries.result.now c.layout-layout.ensures.laid c.entries-entries.ensures)))
+    (entries_are c.args.solved.now.tree c.layout-layout.result.now c.entries-entries.result.now (rw c.tree-tree.ensures at c.layout-layout.ensures.laid) c.entries-entries.ensures)))
 
 pub loop-index-preserved : goal.loop-index-preserved
 loop-index-preserved c =

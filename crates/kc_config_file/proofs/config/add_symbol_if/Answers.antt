@@ -14,4 +14,4 @@ returns-clause-text c =
     ∙ append_assoc c.args.file.now.items (gap c.args.after_end) line
     ∙ ap (λ t. c.args.file.now.items ++ t)
     (symbol-written c.args.solved.now.tree c.args.prefix.now (solution_view c.args.solved.now) c.args.after_end c.args.id c.name.result.now
-    (value_view c.symbol_value.result) (sym c.if-not-written.ensures) c.name.ensures c.symbol_value.ensures)
+    (value_view c.symbol_value.result) (sym c.if-not-written.ensures) (rw c.tree.ensures at c.name.ensures) c.symbol_value.ensures)

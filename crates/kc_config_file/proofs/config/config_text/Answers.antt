@@ -7,4 +7,4 @@ pub returns : goal.returns
 unfolding config_text
 returns c =
     let lines = entries_text c.args.solved.now.tree c.args.prefix.now (solution_view c.args.solved.now) c.args.solved.now.tree.entries in
-    c.in_ok-add_entries.ensures ∙ ap (λ t. t ++ lines) (rw (c.in_ok-file.ensures, c.main_menu.ensures) at c.in_ok-add_heading.ensures)
+    c.in_ok-add_entries.ensures ∙ ap (λ t. t ++ lines) (rw (c.in_ok-file.ensures, c.main_menu.ensures, c.tree.ensures) at c.in_ok-add_heading.ensures)

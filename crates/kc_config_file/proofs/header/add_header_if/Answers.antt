@@ -13,5 +13,5 @@ pub returns : goal.returns
 returns c =
     let P : List ℕ → Type 0 = λ text. OnOk c.add_header_line.result (c.add_header_line.new.file.items ≡ c.args.file.now.items ++ text) in
     subst P (header_if-written c.args.solved.now.tree c.args.prefix.now (solution_view c.args.solved.now) c.args.id c.name.result.now
-    (value_view c.symbol_value.result) (sym c.if-not-written.ensures) c.name.ensures c.symbol_value.ensures)
+    (value_view c.symbol_value.result) (sym c.if-not-written.ensures) (rw c.tree.ensures at c.name.ensures) c.symbol_value.ensures)
     c.add_header_line.ensures

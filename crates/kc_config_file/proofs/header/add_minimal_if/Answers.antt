@@ -13,5 +13,5 @@ pub returns-clause-line : goal.returns-clause-line
 returns-clause-line c =
     let P : List ℕ → Type 0 = λ text. OnOk c.add_config_file_line.result (c.add_config_file_line.new.file.items ≡ c.args.file.now.items ++ text) in
     subst P (minimal_if-differs c.args.solved.now.tree c.args.prefix.now (solution_view c.args.solved.now) c.args.id c.name.result.now
-    (value_view c.symbol_value.result) (sym c.if-not-differs.ensures) c.name.ensures c.symbol_value.ensures)
+    (value_view c.symbol_value.result) (sym c.if-not-differs.ensures) (rw c.tree.ensures at c.name.ensures) c.symbol_value.ensures)
     c.add_config_file_line.ensures.line

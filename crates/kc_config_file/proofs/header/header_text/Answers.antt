@@ -8,4 +8,4 @@ pub returns : goal.returns
 unfolding header_text
 returns c =
     let lines = flat_map (header_if c.args.solved.now.tree c.args.prefix.now (solution_view c.args.solved.now)) c.args.solved.now.tree.defined in
-    c.in_ok-add_header_lines.ensures ∙ ap (λ t. t ++ lines) (rw (c.in_ok-file.ensures, c.main_menu.ensures) at c.in_ok-add_heading.ensures)
+    c.in_ok-add_header_lines.ensures ∙ ap (λ t. t ++ lines) (rw (c.in_ok-file.ensures, c.main_menu.ensures, c.tree.ensures) at c.in_ok-add_heading.ensures)
