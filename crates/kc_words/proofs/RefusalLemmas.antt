@@ -1,8 +1,8 @@
 -- How clap's faults and a prefix that is none are told.
 use Rattle.std.proofs.Common.{if◌then◌else◌, ◌==◌, ◌<◌, ◌∷◌, Bool, Option, length, arith, ◌≡◌, ◌⊎◌, inl, inr, ◌++◌, List, [], None, Some, refl, ap, sym, subst, ◌∙◌, true, false, codes, string_bytes}
 use Rattle.std.specs.Fmt.{decimal, digits}
-use Rattle.clap.specs.Words.{App, IsAmong, SymbolTypes, Row, Text, fault_of}
-use Rattle.clap.specs.SymbolTypes.{HasType}
+use Rattle.clap.specs.Words.{App, IsAmong, Kinds, Row, Text, fault_of}
+use Rattle.clap.specs.Kinds.{HasKind}
 use Rattle.clap.specs.Faults.{is_simple_and_free}
 use Rattle.clap.specs.declared.error.Error.{Error}
 use Rattle.clap.specs.declared.error.kind.ErrorKind.{ErrorKind}
@@ -21,8 +21,8 @@ use Rattle.kc_words.proofs.RowLemmas.{kconf_app-free}
 pub no_fault : (app : App) (words : List Text) → app ≡ kconf_app → (is_simple_and_free app ≡ true → fault_of app words ≡ []) → fault_of kconf_app words ≡ []
 no_fault app words is h = ap (λ a. fault_of a words) (sym is) ∙ h (ap is_simple_and_free is ∙ kconf_app-free)
 
-pub has_this_type : (app : App) (words : List Text) (e : Error) → app ≡ kconf_app → (is_simple_and_free app ≡ true → HasType (fault_of app words) e) → HasType (fault_of kconf_app words) e
-has_this_type app words e is h = subst (λ (a : App). HasType (fault_of a words) e) is (h (ap is_simple_and_free is ∙ kconf_app-free))
+pub has_kind : (app : App) (words : List Text) (e : Error) → app ≡ kconf_app → (is_simple_and_free app ≡ true → HasKind (fault_of app words) e) → HasKind (fault_of kconf_app words) e
+has_kind app words e is h = subst (λ (a : App). HasKind (fault_of a words) e) is (h (ap is_simple_and_free is ∙ kconf_app-free))
 
 -- ---- arguments that are refused for what they hold
 
@@ -38,11 +38,11 @@ excluded-no_request rows text usage.Version is h = absurd h
 excluded-no_request rows text (usage.Bad t) is h = rw is (ap Some (sym h))
 excluded-no_request rows text usage.Memory is h = tt
 
-pub refused_request : (types : SymbolTypes) (p q : List Row) → types ≡ [] → p ≡ q → (u : UsageError) → IsNoRequest p u → IsRefused types q u
-refused_request types p q none same (usage.Help t) h = absurd h
-refused_request types p q none same usage.Version h = absurd h
-refused_request types p q none same (usage.Bad t) h = inr (none, subst (λ (x : List Row). IsNoRequest x (usage.Bad t)) same h)
-refused_request types p q none same usage.Memory h = tt
+pub refused_request : (kinds : Kinds) (p q : List Row) → kinds ≡ [] → p ≡ q → (u : UsageError) → IsNoRequest p u → IsRefused kinds q u
+refused_request kinds p q none same (usage.Help t) h = absurd h
+refused_request kinds p q none same usage.Version h = absurd h
+refused_request kinds p q none same (usage.Bad t) h = inr (none, subst (λ (x : List Row). IsNoRequest x (usage.Bad t)) same h)
+refused_request kinds p q none same usage.Memory h = tt
 
 pub only_memory : (p q : List Row) → p ≡ q → refusal_of q ≡ None → (u : UsageError) → IsNoRequest p u → u ≡ usage.Memory
 only_memory p q same good (usage.Help t) h = absurd h
@@ -50,14 +50,14 @@ only_memory p q same good usage.Version h = absurd h
 only_memory p q same good (usage.Bad t) h = absurd (let e : None ≡ Some (string_bytes t) = sym good ∙ ap refusal_of (sym same) ∙ h in cc)
 only_memory p q same good usage.Memory h = λ i. usage.Memory
 
-pub refused_words : (types : SymbolTypes) (rows : List Row) (k : ErrorKind) (u : UsageError) → (k ≡ kind.OutOfMemory) ⊎ IsAmong k types → IsKindOf k u → IsRefused types rows u
-refused_words types rows k (usage.Help t) (inl m) is = absurd (let e : kind.OutOfMemory ≡ kind.DisplayHelp = sym m ∙ is in cc)
-refused_words types rows k (usage.Help t) (inr among) is = subst (λ (x : ErrorKind). IsAmong x types) is among
-refused_words types rows k usage.Version (inl m) is = absurd (let e : kind.OutOfMemory ≡ kind.DisplayVersion = sym m ∙ is in cc)
-refused_words types rows k usage.Version (inr among) is = subst (λ (x : ErrorKind). IsAmong x types) is among
-refused_words types rows k (usage.Bad t) (inl m) is = absurd (is.2 m)
-refused_words types rows k (usage.Bad t) (inr among) is = inl (k, is.0, is.1, among)
-refused_words types rows k usage.Memory among is = tt
+pub refused_words : (kinds : Kinds) (rows : List Row) (k : ErrorKind) (u : UsageError) → (k ≡ kind.OutOfMemory) ⊎ IsAmong k kinds → IsKindOf k u → IsRefused kinds rows u
+refused_words kinds rows k (usage.Help t) (inl m) is = absurd (let e : kind.OutOfMemory ≡ kind.DisplayHelp = sym m ∙ is in cc)
+refused_words kinds rows k (usage.Help t) (inr among) is = subst (λ (x : ErrorKind). IsAmong x kinds) is among
+refused_words kinds rows k usage.Version (inl m) is = absurd (let e : kind.OutOfMemory ≡ kind.DisplayVersion = sym m ∙ is in cc)
+refused_words kinds rows k usage.Version (inr among) is = subst (λ (x : ErrorKind). IsAmong x kinds) is among
+refused_words kinds rows k (usage.Bad t) (inl m) is = absurd (is.2 m)
+refused_words kinds rows k (usage.Bad t) (inr among) is = inl (k, is.0, is.1, among)
+refused_words kinds rows k usage.Memory among is = tt
 
 -- ---- what is told of a prefix that is none
 

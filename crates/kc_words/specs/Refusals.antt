@@ -1,6 +1,6 @@
 -- Trusted: Why words give no options.
 use Rattle.std.specs.Prelude.{◌≡◌, ◌≢◌, ◌<◌, ◌⊎◌, ◌++◌, List, [], Option, None, Some, false, if◌then◌else◌, codes, decimal, length, string_bytes}
-use Rattle.clap.specs.Words.{SymbolTypes, IsAmong, Row, Text}
+use Rattle.clap.specs.Words.{Kinds, IsAmong, Row, Text}
 use Rattle.clap.specs.declared.error.kind.ErrorKind.{ErrorKind}
 use Rattle.clap.specs.declared.error.kind.ErrorKind.TheVariants as kind
 use Rattle.kc_config_file.specs.Limits.{longest_prefix}
@@ -86,12 +86,12 @@ IsNoRequest rows (usage.Bad told) = refusal_of rows ≡ Some (string_bytes told)
 IsNoRequest rows usage.Memory = Unit {0}
 
 -- one of the faults is no call for help or the version
-abbrev pub HasOther : SymbolTypes → Type 0
-HasOther types = (k : ErrorKind) × (k ≢ kind.DisplayHelp) × (k ≢ kind.DisplayVersion) × IsAmong k types
+abbrev pub HasOther : Kinds → Type 0
+HasOther kinds = (k : ErrorKind) × (k ≢ kind.DisplayHelp) × (k ≢ kind.DisplayVersion) × IsAmong k kinds
 
 -- arguments with these faults, in which the command finds these rows, are refused so
-abbrev pub IsRefused : SymbolTypes → List Row → UsageError → Type 0
-IsRefused types rows (usage.Help _) = IsAmong kind.DisplayHelp types
-IsRefused types rows usage.Version = IsAmong kind.DisplayVersion types
-IsRefused types rows (usage.Bad told) = HasOther types ⊎ ((types ≡ []) × IsNoRequest rows (usage.Bad told))
-IsRefused types rows usage.Memory = Unit {0}
+abbrev pub IsRefused : Kinds → List Row → UsageError → Type 0
+IsRefused kinds rows (usage.Help _) = IsAmong kind.DisplayHelp kinds
+IsRefused kinds rows usage.Version = IsAmong kind.DisplayVersion kinds
+IsRefused kinds rows (usage.Bad told) = HasOther kinds ⊎ ((kinds ≡ []) × IsNoRequest rows (usage.Bad told))
+IsRefused kinds rows usage.Memory = Unit {0}

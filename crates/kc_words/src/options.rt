@@ -2,7 +2,7 @@
 
 ghost use Rattle.std.specs.Prelude.{◌≡◌, ◌++◌, ◌<◌, [], IfOk, IfErr, None, false, length, map, option_map, string_bytes, unwrap_or, true};
 ghost use Rattle.kc_config_file.specs.Prefixes.{is_prefix};
-ghost use Rattle.clap.specs.Words.{takes, rows_of, found_of, type_of, first_of, fault_of};
+ghost use Rattle.clap.specs.Words.{takes, rows_of, found_of, kind_of, first_of, fault_of};
 ghost use Rattle.kc_words.specs.Exclusions.{exclusion_of, has_value, is_each, is_given, values_of};
 ghost use Rattle.kc_words.specs.Fields.{AreOptionsOf, AreSharedOptions, AsksFor, IsEachOf, IsRequestOf, delivery_of, prefix_option};
 ghost use Rattle.kc_words.specs.Inputs.{HasInputs};
@@ -296,7 +296,7 @@ fn bad_words(alloc: Global, text: String) -> UsageError
 
 // What an error of the parse is.
 fn usage_of(alloc: Global, error: &Error) -> UsageError
-    ensures kind { IsKindOf (type_of error.now) result }
+    ensures kind { IsKindOf (kind_of error.now) result }
     ensures told { IsTold result }
 {
     if error.kind() == ErrorKind::OutOfMemory {

@@ -6,7 +6,7 @@ use Rattle.kc_conf.proofs.EndingLemmas.{BreaksEnd-report, IsEnded-line, some-unr
 use Rattle.kc_conf.proofs.runs.refuse_name.Goals as goal
 
 pub returns-in-Ok : goal.returns-in-Ok
-returns-in-Ok g c = IsEnded-line c.args.options.now (lead c.args.options.now ++ unreadable_line c.args.name.now) (g.D.Device.log c.args.device.now) (g.D.Device.log c.say_error.new.device) c.in-Ok.ensures
+returns-in-Ok g c = IsEnded-line c.args.options.now (lead c.args.options.now ++ unreadable_line c.args.name.now) (g.D.Device.log c.args.device.now) (g.D.Device.log c.say_error.new.device) (rw c.first_line.ensures at c.in-Ok.ensures)
 
 pub returns-in-Err : goal.returns-in-Err
 returns-in-Err g c =

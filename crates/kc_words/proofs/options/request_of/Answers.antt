@@ -4,7 +4,7 @@ use Rattle.clap.specs.Words.{Row, found_of, rows_of}
 use Rattle.kc_words.specs.Fields.{IsRequestOf}
 use Rattle.kc_words.specs.Kconf.{rows_for}
 use Rattle.kc_words.proofs.RowLemmas.{rows-matches}
-use Rattle.kc_words.proofs.RefusalLemmas.{no_fault, has_this_type, refused_request, only_memory, refused_words, told-request}
+use Rattle.kc_words.proofs.RefusalLemmas.{no_fault, has_kind, refused_request, only_memory, refused_words, told-request}
 use Rattle.kc_words.proofs.options.request_of.Goals as goal
 
 pub returns-in-Ok-clause-ok : goal.returns-in-Ok-clause-ok
@@ -13,11 +13,11 @@ returns-in-Ok-clause-ok c =
 
 pub returns-in-Ok-clause-faultless : goal.returns-in-Ok-clause-faultless
 returns-in-Ok-clause-faultless c =
-    IfOk-weaker _ _ _ (λ request h. no_fault _ _ c.in_ok-command.ensures c.in-Ok.ensures.types) c.read_request.ensures.ok
+    IfOk-weaker _ _ _ (λ request h. no_fault _ _ c.in_ok-command.ensures c.in-Ok.ensures.kinds) c.read_request.ensures.ok
 
 pub returns-in-Ok-clause-refused : goal.returns-in-Ok-clause-refused
 returns-in-Ok-clause-refused c =
-    IfErr-weaker _ _ _ (refused_request _ _ _ (no_fault _ _ c.in_ok-command.ensures c.in-Ok.ensures.types)
+    IfErr-weaker _ _ _ (refused_request _ _ _ (no_fault _ _ c.in_ok-command.ensures c.in-Ok.ensures.kinds)
     (rows-matches _ _ c.in-Ok.matches c.in_ok-command.ensures c.in-Ok.ensures.matches)) c.read_request.ensures.err
 
 pub returns-in-Ok-clause-taken : goal.returns-in-Ok-clause-taken
@@ -26,7 +26,7 @@ returns-in-Ok-clause-taken c = λ taken good.
 
 pub returns-in-Err-clause-refused : goal.returns-in-Err-clause-refused
 returns-in-Err-clause-refused c =
-    refused_words _ (rows_for c.args.words.now) _ c.usage_of.result (has_this_type _ _ c.in-Err.error c.in_ok-command.ensures c.in-Err.ensures.types) c.usage_of.ensures.kind
+    refused_words _ (rows_for c.args.words.now) _ c.usage_of.result (has_kind _ _ c.in-Err.error c.in_ok-command.ensures c.in-Err.ensures.kinds) c.usage_of.ensures.kind
 
 pub returns-in-Ok-clause-told : goal.returns-in-Ok-clause-told
 returns-in-Ok-clause-told c = IfErr-weaker _ _ _ (told-request (rows_of (found_of c.in-Ok.matches))) c.read_request.ensures.err
