@@ -22,6 +22,7 @@ pub(crate) enum WrittenValue<'a> {
 
 /// The value that the solution gives to a symbol, and to a name that is not defined its own text. What its type has not is not
 /// looked at.
+#[inline(always)]
 pub(crate) fn symbol_value<'a>(solved: &'a Solved<'_>, id: SymId) -> WrittenValue<'a>
     ensures { value_view result ≡ (solution_view solved.now).value id }
 {

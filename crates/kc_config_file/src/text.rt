@@ -14,6 +14,7 @@ pub(crate) fn new_text(alloc: Global) -> Result<Vec<u8>, AllocError>
 }
 
 /// Adds the parts, one after another.
+#[inline(always)]
 pub(crate) fn add_parts(parts: &[&[u8]], text: &mut Vec<u8>) -> Result<(), AllocError>
     ensures { OnOk result (text.new.items ≡ text.old.items ++ flat_map (λ part. part.now) parts.now) }
 {

@@ -9,6 +9,7 @@ use std::os::unix::fs::FileTypeExt;
 /// Reads the files of a tree from a disk by their paths (our own).
 ///
 /// A path where nothing is has no file. A folder, a device as `/dev/zero`, a path that runs through a file and a file that may
+/// not be read are failures of the device.
 #[derive(Drop)]
 pub struct SystemFolder<'a> {
     rt: &'a HostRuntime,
@@ -35,8 +36,8 @@ impl<'a> SystemFolder<'a> {
 // How many bytes are read at once.
 const BUFFER_SIZE: usize = 65_536;
 
-// How many bytes a pipe may give: it has no length of its own.
-const MOST_PIPE_BYTES: usize = 67_108_864;
+// How many bytes a file may give beyond its length. A pipe has no length.
+const MOST_FURTHER_BYTES: usize = 67_108_864;
 
 // Fails for a device: it may have no end, and to open one may do something.
 fn refuse_device(found: &Metadata) -> io::Result<()> {
@@ -47,18 +48,14 @@ fn refuse_device(found: &Metadata) -> io::Result<()> {
     Ok(())
 }
 
-// Opens a file of the tree, and returns how many bytes it may give.
+// Opens a file of the tree, and returns how many bytes it may give. The limit counts for a file that grows, too, and for a
+// device that takes the place of the file before it is opened.
 fn open_bounded(rt: &HostRuntime, path: &str) -> io::Result<(File, usize)> {
-    refuse_device(&fs::metadata(rt, path)?)?;
+    let found = fs::metadata(rt, path)?;
+    refuse_device(&found)?;
     let file = File::open(rt, path)?;
-    let opened = file.metadata()?;
-    refuse_device(&opened)?;
-    let most = if opened.is_file() {
-        usize::MAX
-    } else {
-        MOST_PIPE_BYTES
-    };
-    Ok((file, most))
+    let length = usize::try_from(found.len()).unwrap_or(usize::MAX);
+    Ok((file, length.saturating_add(MOST_FURTHER_BYTES)))
 }
 
 // The bytes of a file, read through the buffer. A read that was interrupted is tried again.

@@ -158,6 +158,7 @@ pub(crate) fn fault_of<'a>(fault: ExprFault) -> LineFault<'a>
 }
 
 /// The expression at a place, and the place after it.
+#[inline(always)]
 pub(crate) fn front<'a>(
     alloc: Global,
     tokens: &[Token<'a>],
@@ -178,6 +179,7 @@ pub(crate) fn front<'a>(
 }
 
 /// The value of a default at a place, and the place after it. It is shared with what is made of the line.
+#[inline(always)]
 pub(crate) fn value_at<'a>(
     alloc: Global,
     constants: &Constants,
@@ -197,6 +199,7 @@ pub(crate) fn value_at<'a>(
 }
 
 /// A condition up to the end of the line. It is shared with what is made of the line.
+#[inline(always)]
 pub(crate) fn whole<'a>(
     alloc: Global,
     tokens: &[Token<'a>],
@@ -214,6 +217,7 @@ pub(crate) fn whole<'a>(
 }
 
 /// Nothing, or `if` and an expression, up to the end of the line.
+#[inline(always)]
 pub(crate) fn condition<'a>(
     alloc: Global,
     tokens: &[Token<'a>],
@@ -245,6 +249,7 @@ pub(crate) fn name_number<'a>(names: &mut Names, word: &[u8]) -> Result<SymId, L
 }
 
 /// The operand at a place.
+#[inline(always)]
 pub(crate) fn operand_at<'a>(
     alloc: Global,
     tokens: &[Token<'a>],

@@ -11,7 +11,9 @@ use crate::statement::LineFault;
 use kc_diagnostics::Cause;
 use std::alloc::Global;
 
-/// The refusal for a fault at a line, or out of memory.
+/// The refusal for a fault at a line, or out of memory. It is inlined, and so is all that it calls: the compiler then keeps
+/// the parts of a result that may be a refusal in registers.
+#[inline(always)]
 pub(crate) fn refuse(alloc: Global, fault: LineFault, file: &[u8], line: u32) -> Refusal
     ensures refused { result.cause ≢ Memory → refusal_view result ≡ refused (cause_of fault.entry) file.now line }
     ensures memory { IsMemory result }

@@ -70,6 +70,7 @@ pub(crate) fn begins_help(tokens: &[Token]) -> bool
 }
 
 // What a line that was taken says; `tokens` holds the line's while it is read, in place of what it held.
+#[inline(always)]
 fn step_of_line<'l>(
     position: &Position<'_>,
     number: u32,

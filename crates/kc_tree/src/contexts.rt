@@ -79,6 +79,7 @@ impl Contexts {
     }
 
     /// A context inside another one, which asks for one thing more. Where it is out of memory, nothing changes.
+    #[inline(always)]
     pub fn inside(&mut self, outer: ContextId, condition: Rc<Expr>) -> Result<ContextId, AllocError>
         requires there { outer.0 < length self.old }
         requires few { length self.old < 2 ^ 32 }

@@ -101,6 +101,7 @@ fn mode_value(table: &Table<'_>, mode: Option<ChoiceId>) -> Tri
 
 /// What a context is worth: the `&&` of what it and those outside ask for, and of the mode of the enclosing choice (the
 /// kernel's kconfig-language document, "Menu dependencies").
+#[inline(always)]
 pub fn context(table: &Table<'_>, within: ContextId) -> Tri
     ensures { result ≡ spec.condition table.now.tree.now (known_at table.now) (condition_at table.now within.0) }
 {

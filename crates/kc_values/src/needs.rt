@@ -215,6 +215,7 @@ fn definition_into(
 }
 
 // Adds the definitions of a symbol.
+#[inline(always)]
 fn definitions_into(layout: &Layout, symbol: &Symbol, out: &mut NeedRow) -> Result<(), AllocError>
     ensures { OnOk result (Adds out.old out.new (rows.definitions_nodes layout.now symbol.now) (rows.definitions_names layout.now symbol.now)) }
 {

@@ -96,6 +96,7 @@ fn first_met<'t>(table: &Table<'t>, definition: &Definition) -> Option<(&'t Symb
 }
 
 /// The first default of a symbol whose condition is not n, and that condition.
+#[inline(always)]
 pub(crate) fn met_default<'t>(
     table: &Table<'t>,
     symbol: &Symbol,
@@ -227,6 +228,7 @@ fn given_or_implied(table: &Table<'_>, id: SymId, symbol: &Symbol, user: Option<
 /// default, which an imply raises up to the direct dependency (that order is our own); at least what it is selected to,
 /// even against its direct dependency; m being y where the symbol can't be m (the kernel's kconfig-language document, "Menu
 /// attributes"; kconfiglib's `tri_value`).
+#[inline(always)]
 pub(crate) fn truth_equation(
     table: &Table<'_>,
     id: SymId,
