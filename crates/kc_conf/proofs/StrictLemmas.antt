@@ -14,7 +14,7 @@ use Rattle.kc_user.specs.GivenValue.{GivenValue, SymbolPlace, same_given}
 use Rattle.kc_user.specs.Places.{ArePlacesOf, Places, place_at}
 use Rattle.kc_values.specs.Differs.{given_of}
 use Rattle.kc_values.specs.Lookups.{facts}
-use Rattle.kc_solve.specs.Solved.{Solution, known, warnings}
+use Rattle.kc_solve.specs.Solved.{Solution, known, value_warnings}
 use Rattle.kc_config_file.specs.Changes.{StreamLocation, is_change}
 use Rattle.kc_config_file.specs.Effects.{Effect, Silent, Warns, Assigns}
 use Rattle.kc_config_file.specs.Reading.{Line, UserInput, effect, input_after, lines_of, places_after, stream_location, untaken, untaken_line}
@@ -205,23 +205,23 @@ module _ (files : Files) (options : Options) (all : List (List ℕ)) (tree : Tre
       not_false (is_taken options last solution)
       (sym (ap (λ b. b && not (is_taken options last solution)) strict) ∙ ap (λ (i : UserInput). refuses_input options i solution) (sym (input_is files options all tree solution is_whole)) ∙ passed)
 
-  none_outside : list_any is_outside (warnings solution) ≡ false
+  none_outside : list_any is_outside (value_warnings solution) ≡ false
   none_outside =
-      not_is_true (list_any is_outside (warnings solution))
-      (and_left (not (list_any is_outside (warnings solution))) (length (lost_warnings options last solution) == 0)
-      (and_right last.all_taken (not (list_any is_outside (warnings solution)) && (length (lost_warnings options last solution) == 0)) all_is_taken))
+      not_is_true (list_any is_outside (value_warnings solution))
+      (and_left (not (list_any is_outside (value_warnings solution))) (length (lost_warnings options last solution) == 0)
+      (and_right last.all_taken (not (list_any is_outside (value_warnings solution)) && (length (lost_warnings options last solution) == 0)) all_is_taken))
 
   none_lost : options.warn_lost ≡ true → lost_lines last.lines solution ≡ []
   none_lost asked =
       sym (ap (λ b. if b then lost_lines last.lines solution else []) asked)
       ∙ nothing_left (lost_warnings options last solution)
-      (and_right (not (list_any is_outside (warnings solution))) (length (lost_warnings options last solution) == 0)
-      (and_right last.all_taken (not (list_any is_outside (warnings solution)) && (length (lost_warnings options last solution) == 0)) all_is_taken))
+      (and_right (not (list_any is_outside (value_warnings solution))) (length (lost_warnings options last solution) == 0)
+      (and_right last.all_taken (not (list_any is_outside (value_warnings solution)) && (length (lost_warnings options last solution) == 0)) all_is_taken))
 
   none_untaken : untaken tree prefix empty.places lines ≡ []
   none_untaken =
       nothing_left (untaken tree prefix empty.places lines)
-      (and_left last.all_taken (not (list_any is_outside (warnings solution)) && (length (lost_warnings options last solution) == 0)) all_is_taken)
+      (and_left last.all_taken (not (list_any is_outside (value_warnings solution)) && (length (lost_warnings options last solution) == 0)) all_is_taken)
 
   module _ (before later : List Line) (l : Line) (split : lines ≡ before ++ l ∷ later) where
     abbrev here : UserInput

@@ -5,7 +5,7 @@ use Rattle.kc_read.specs.Files.{Files}
 use Rattle.kc_tree.specs.TreeFacts.{SymbolFacts, TreeFacts}
 use Rattle.kc_values.specs.Differs.{given_of}
 use Rattle.kc_values.specs.Lookups.{facts}
-use Rattle.kc_solve.specs.Solved.{Solution, known, warnings}
+use Rattle.kc_solve.specs.Solved.{Solution, known, value_warnings}
 use Rattle.kc_user.specs.GivenValue.{GivenValue}
 use Rattle.kc_config_file.specs.Effects.{Effect, Silent, Warns, Assigns}
 use Rattle.kc_config_file.specs.Reading.{Line, effect, lines_of}
@@ -34,6 +34,6 @@ StrictTakesAll =
     options.strict ≡ true →
     (tree : TreeFacts) × (solution : Solution) × RefusesNothing files options all tree solution
     × (text ≡ config_text tree options.prefix (solution_view solution))
-    × (list_any is_outside (warnings solution) ≡ false)
+    × (list_any is_outside (value_warnings solution) ≡ false)
     × ((before later : List Line) (l : Line) → lines_of (streams (names_of options) all) ≡ before ++ l ∷ later →
     IsTakenAsWritten tree options.prefix options.warn_lost solution later (effect tree options.prefix l))

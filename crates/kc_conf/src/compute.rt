@@ -1,6 +1,7 @@
 //! What a run is to leave: its warnings and texts, whole in memory.
 ghost use Rattle.std.specs.Prelude.{◌≡◌, ◌++◌, ◌||◌, ◌&&◌, [], ◌∷◌, map, IfOk, OnOk, option_map};
 ghost use Rattle.std.specs.List.{flat_map, list_any};
+ghost use Rattle.kc_diagnostics.specs.Warnings.{owned_warning, warning_line};
 ghost use Rattle.kc_user.specs.Places.{ArePlacesOf};
 ghost use Rattle.kc_solve.specs.Solved.{warnings};
 ghost use Rattle.kc_config_file.specs.SolvedView.{solution_view};
@@ -19,6 +20,7 @@ use crate::lost::lost_warnings;
 use kc_config_file::config::config_text;
 use kc_config_file::header::{header_text, minimal_text};
 use kc_config_file::user_input::UserInput;
+use kc_diagnostics::{Warning, add_warning};
 use kc_expr::names::Names;
 use kc_io::Text;
 use kc_load::{prerequisites_of, rule_text};
@@ -64,6 +66,36 @@ pub(crate) fn add_lines(
     Ok(())
 }
 
+// Adds the line of a warning behind these parts.
+fn add_warning_line(
+    lead: &[&[u8]],
+    warning: &Warning<Vec<u8>>,
+    text: &mut Vec<u8>,
+) -> Result<(), AllocError>
+    ensures { OnOk result (text.new.items ≡ text.old.items
+        ++ lines_text ((flat_map (λ part. part.now) lead.now ++ warning_line (owned_warning warning.now)) ∷ [])) }
+{
+    add_parts(lead, text)?;
+    add_warning(warning.borrowed(), text)?;
+    text.push(b'\n')?;
+    Ok(())
+}
+
+// Adds the lines of these warnings, each behind these parts.
+fn add_warnings(
+    lead: &[&[u8]],
+    warnings: &[Warning<Vec<u8>>],
+    text: &mut Vec<u8>,
+) -> Result<(), AllocError>
+    ensures { OnOk result (text.new.items ≡ text.old.items
+        ++ lines_text (map (λ w. flat_map (λ part. part.now) lead.now ++ warning_line (owned_warning w)) warnings.now)) }
+{
+    for warning in warnings {
+        add_warning_line(lead, warning, text)?;
+    }
+    Ok(())
+}
+
 // Adds the warnings of the values, and the lines of the values that are lost.
 fn add_value_lines(
     options: &Options,
@@ -74,26 +106,26 @@ fn add_value_lines(
     ensures { OnOk result (text.new.items ≡ text.old.items
         ++ (lines_text (map (λ line. lead options.now ++ line) (warnings solved.now)) ++ lines_text (map (λ line. line.items) lost.now))) }
 {
-    add_lines(&options.lead(), solved.value_warnings(), text)?;
+    add_warnings(&options.lead(), solved.value_warnings(), text)?;
     add_lines(&[], lost, text)?;
     Ok(())
 }
 
 // ---- whether the texts are refused
 
-// Whether the line warns of a user value outside its range.
-fn is_outside(line: &[u8]) -> bool
-    ensures { result ≡ is_outside line.now }
+// Whether a warning is about a user value outside its range.
+fn is_outside(warning: &Warning<Vec<u8>>) -> bool
+    ensures { result ≡ is_outside (owned_warning warning.now) }
 {
-    line.starts_with(b"warning K12: ")
+    matches!(warning, Warning::UserOutside { .. })
 }
 
-// Whether one of the lines does.
-fn is_any_outside(lines: &[Vec<u8>]) -> bool
-    ensures { result ≡ list_any is_outside (map (λ line. line.items) lines.now) }
+// Whether one of the warnings is.
+fn is_any_outside(warnings: &[Warning<Vec<u8>>]) -> bool
+    ensures { result ≡ list_any is_outside (map owned_warning warnings.now) }
 {
-    for line in lines {
-        if is_outside(line) {
+    for warning in warnings {
+        if is_outside(warning) {
             return true;
         }
     }

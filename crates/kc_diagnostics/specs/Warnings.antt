@@ -1,6 +1,8 @@
 -- Trusted: What there is to warn of: the text of each warning, and its line (our own).
 use Rattle.std.specs.Borrow.{Bor}
 use Rattle.std.specs.Prelude.{ℕ, List, ◌++◌, codes, decimal}
+use Rattle.std.specs.declared.alloc.Global.{Global}
+use Rattle.std.specs.declared.vec.Vec.{Vec}
 use Rattle.kc_diagnostics.specs.declared.warning.Warning as declared
 use Rattle.kc_diagnostics.specs.declared.warning.Warning.TheVariants as warning
 
@@ -29,23 +31,31 @@ warning_text (warning.Lost name given value) = codes "K14: " ++ name ++ codes " 
 warning_text (warning.Changed name old file line new) =
     codes "K15: " ++ name ++ codes " was " ++ old ++ codes " (" ++ file ++ codes ":" ++ decimal line ++ codes ") and is now " ++ new
 
+-- the same warning, with its texts kept otherwise
+abbrev pub map_warning : {M N : Type 0} → (M → N) → declared.Warning M → declared.Warning N
+map_warning f (warning.TypeRedefined name) = warning.TypeRedefined (f name)
+map_warning f (warning.PromptRedefined name) = warning.PromptRedefined (f name)
+map_warning f (warning.WithoutType name) = warning.WithoutType (f name)
+map_warning f (warning.TextTarget name word) = warning.TextTarget (f name) (f word)
+map_warning f (warning.DefaultNotMember name) = warning.DefaultNotMember (f name)
+map_warning f (warning.MemberTarget name word) = warning.MemberTarget (f name) (f word)
+map_warning f (warning.UnknownSymbol name) = warning.UnknownSymbol (f name)
+map_warning f (warning.NotAllowed name) = warning.NotAllowed (f name)
+map_warning f warning.MalformedLine = warning.MalformedLine
+map_warning f (warning.SetAgain name) = warning.SetAgain (f name)
+map_warning f (warning.Selected name selected_to direct) = warning.Selected (f name) (f selected_to) (f direct)
+map_warning f (warning.UserOutside name value low high) = warning.UserOutside (f name) (f value) (f low) (f high)
+map_warning f (warning.DefaultOutside name value low high used) = warning.DefaultOutside (f name) (f value) (f low) (f high) (f used)
+map_warning f (warning.Lost name given value) = warning.Lost (f name) (f given) (f value)
+map_warning f (warning.Changed name old file line new) = warning.Changed (f name) (f old) (f file) line (f new)
+
 -- a warning that borrows its texts
 abbrev pub shown_warning : declared.Warning (Bor (List ℕ)) → Warning
-shown_warning (warning.TypeRedefined name) = warning.TypeRedefined name.now
-shown_warning (warning.PromptRedefined name) = warning.PromptRedefined name.now
-shown_warning (warning.WithoutType name) = warning.WithoutType name.now
-shown_warning (warning.TextTarget name word) = warning.TextTarget name.now word.now
-shown_warning (warning.DefaultNotMember name) = warning.DefaultNotMember name.now
-shown_warning (warning.MemberTarget name word) = warning.MemberTarget name.now word.now
-shown_warning (warning.UnknownSymbol name) = warning.UnknownSymbol name.now
-shown_warning (warning.NotAllowed name) = warning.NotAllowed name.now
-shown_warning warning.MalformedLine = warning.MalformedLine
-shown_warning (warning.SetAgain name) = warning.SetAgain name.now
-shown_warning (warning.Selected name selected_to direct) = warning.Selected name.now selected_to.now direct.now
-shown_warning (warning.UserOutside name value low high) = warning.UserOutside name.now value.now low.now high.now
-shown_warning (warning.DefaultOutside name value low high used) = warning.DefaultOutside name.now value.now low.now high.now used.now
-shown_warning (warning.Lost name given value) = warning.Lost name.now given.now value.now
-shown_warning (warning.Changed name old file line new) = warning.Changed name.now old.now file.now line new.now
+shown_warning w = map_warning (λ text. text.now) w
+
+-- a warning that owns its texts
+abbrev pub owned_warning : declared.Warning (Vec ℕ Global) → Warning
+owned_warning w = map_warning (λ text. text.items) w
 
 -- `warning TEXT`, without the line feed
 abbrev pub warning_line : Warning → List ℕ

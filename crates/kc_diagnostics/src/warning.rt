@@ -2,7 +2,7 @@
 
 ghost use Rattle.std.specs.Prelude.{◌≡◌, ◌++◌, OnOk, OnErr, take};
 ghost use Rattle.kc_diagnostics.specs.declared.warning.Warning.TheVariants.{Changed};
-ghost use Rattle.kc_diagnostics.specs.Warnings.{located_warning, shown_warning, warning_line, warning_text};
+ghost use Rattle.kc_diagnostics.specs.Warnings.{located_warning, owned_warning, shown_warning, warning_line, warning_text};
 
 use crate::parts::add_parts;
 use itoa::Buffer;
@@ -10,7 +10,7 @@ use std::alloc::AllocError;
 
 /// What there is to warn of (our own). A warning holds the texts that it is about, each kept as an `N`: names of symbols, and
 /// values as they are shown.
-#[derive(Clone, Copy, Debug, PartialEq, Eq)]
+#[derive(Clone, Copy, Debug, Drop, PartialEq, Eq)]
 pub enum Warning<N> {
     /// K1: a type line of this symbol whose type is not that of its first type line, which is kept.
     TypeRedefined(N),
@@ -73,6 +73,73 @@ pub enum Warning<N> {
         line: u64,
         new: N,
     },
+}
+
+impl Warning<Vec<u8>> {
+    /// Returns the same warning with its texts borrowed.
+    pub fn borrowed(&self) -> Warning<&[u8]>
+        ensures { shown_warning result ≡ owned_warning self.now }
+    {
+        match self {
+            Warning::TypeRedefined(name) => Warning::TypeRedefined(name),
+            Warning::PromptRedefined(name) => Warning::PromptRedefined(name),
+            Warning::WithoutType(name) => Warning::WithoutType(name),
+            Warning::TextTarget { name, word } => Warning::TextTarget { name, word },
+            Warning::DefaultNotMember(name) => Warning::DefaultNotMember(name),
+            Warning::MemberTarget { name, word } => Warning::MemberTarget { name, word },
+            Warning::UnknownSymbol(name) => Warning::UnknownSymbol(name),
+            Warning::NotAllowed(name) => Warning::NotAllowed(name),
+            Warning::MalformedLine => Warning::MalformedLine,
+            Warning::SetAgain(name) => Warning::SetAgain(name),
+            Warning::Selected {
+                name,
+                selected_to,
+                direct,
+            } => Warning::Selected {
+                name,
+                selected_to,
+                direct,
+            },
+            Warning::UserOutside {
+                name,
+                value,
+                low,
+                high,
+            } => Warning::UserOutside {
+                name,
+                value,
+                low,
+                high,
+            },
+            Warning::DefaultOutside {
+                name,
+                value,
+                low,
+                high,
+                used,
+            } => Warning::DefaultOutside {
+                name,
+                value,
+                low,
+                high,
+                used,
+            },
+            Warning::Lost { name, given, value } => Warning::Lost { name, given, value },
+            Warning::Changed {
+                name,
+                old,
+                file,
+                line,
+                new,
+            } => Warning::Changed {
+                name,
+                old,
+                file,
+                line: *line,
+                new,
+            },
+        }
+    }
 }
 
 // Adds the number and the text of K15, or nothing.

@@ -6,6 +6,7 @@ use Rattle.std.proofs.lemmas.Bool.{cases_Bool, ltb-false, ltb-true}
 use Rattle.std.proofs.lemmas.List.{get_or_past}
 use Rattle.std.proofs.lemmas.List.FromFn.{get_or-map-range_with_len, length-map-range_with_len}
 use Rattle.std.proofs.lemmas.Option.{slice_get_past}
+use Rattle.kc_diagnostics.specs.Warnings.{Warning}
 use Rattle.kc_expr.specs.Names.{symbol}
 use Rattle.kc_expr.specs.Value.{SymbolValue, TextValue, value_by_type, truth_of_value, text_of_value}
 use Rattle.kc_expr.specs.declared.expression.SymId.{SymId}
@@ -30,7 +31,7 @@ use Rattle.kc_values.specs.declared.table.Value.{Value}
 use Rattle.kc_solve.proofs.WarningSteps.{tables_known}
 use Rattle.kc_values.specs.Table.{known_in}
 use Rattle.kc_solve.specs.Answers as solved
-use Rattle.kc_solve.specs.Solved.{IsSolution, Solution, known, value_of, warnings}
+use Rattle.kc_solve.specs.Solved.{IsSolution, Solution, known, value_of, value_warnings}
 use Rattle.kc_solve.specs.Kept.{IsSolved, solution_in, valuation}
 use Rattle.kc_solve.specs.SolvedLaws.{IsMinimal, IdempotentWhere}
 use Rattle.kc_solve.specs.Answers.{TellsKnown}
@@ -117,8 +118,8 @@ module _ (tree : TreeFacts) (places : Places) (values : List (Option Value)) whe
             ∙ sym (ap (f (known_from tree W)) (slice_get_past tree.symbols s.0 past))
       ]
 
-  module _ (selections defaults : List (Option SymId)) (visibilities : List Tri) (differing written : List Bool) (lines : List (List ℕ))
-      (is : IsSolved tree places values selections defaults visibilities differing written lines) where
+  module _ (selections defaults : List (Option SymId)) (visibilities : List Tri) (differing written : List Bool) (kept_warnings : List Warning)
+      (is : IsSolved tree places values selections defaults visibilities differing written kept_warnings) where
     pub is_solution : IsSolution (solution_in tree places values)
     is_solution = record {
       places = is.user;
@@ -163,9 +164,9 @@ module _ (tree : TreeFacts) (places : Places) (values : List (Option Value)) whe
     written_at : (s : SymId) → slice_index_or written s.0 false ≡ solved.written (solution_in tree places values) s
     written_at = kept_at (writing.written_facts tree) false refl written is.written_are
 
-    pub lines_too : lines ≡ warnings (solution_in tree places values)
-    lines_too =
-        is.lines_are
+    pub warnings_too : kept_warnings ≡ value_warnings (solution_in tree places values)
+    warnings_too =
+        is.warnings_are
         ∙ ap (λ (k : SymId → SymbolValue). flat_map (λ (s : SymId). warnings_of tree k (name tree (symbol s.0)) (facts tree (symbol s.0)) (place_at places (SymbolPlace s.0))) tree.defined)
         (sym same_known)
 

@@ -4,6 +4,7 @@ use Rattle.std.specs.Prelude.{slice_index_or}
 use Rattle.std.specs.List.{flat_map, range_with_len}
 use Rattle.std.proofs.lemmas.List.{flat_map_more, take_more}
 use Rattle.std.proofs.lemmas.List.FromFn.{get_or-map-range_with_len}
+use Rattle.kc_diagnostics.specs.Warnings.{Warning}
 use Rattle.kc_expr.specs.Names.{symbol}
 use Rattle.kc_expr.specs.declared.expression.SymId.{SymId}
 use Rattle.kc_expr.specs.declared.expression.Tri.{Tri}
@@ -36,7 +37,7 @@ visibility_found tree values id f xs full below at e =
     ∙ ap (visibility_by tree (known_in tree values)) at
 
 -- the warnings of the symbol that stands at a place
-pub one_more_warned : (tree : TreeFacts) (values : List (Option Value)) (u : Places) (ids : List SymId) (i : ℕ) (f : SymbolFacts) (own : Option GivenValue) (old new : List (List ℕ)) →
+pub one_more_warned : (tree : TreeFacts) (values : List (Option Value)) (u : Places) (ids : List SymId) (i : ℕ) (f : SymbolFacts) (own : Option GivenValue) (old new : List Warning) →
     length values ≡ name_count tree → i < length ids → facts tree (get_or ids i (symbol 0)) ≡ Some f → own ≡ place_at u (SymbolPlace (get_or ids i (symbol 0)).0) →
     old ≡ flat_map (λ (s : SymId). warnings_at tree (place_at u) (valuation tree values) s.0) (take i ids) →
     new ≡ old ++ warnings_of tree (known_in tree values) (name tree (get_or ids i (symbol 0))) (Some f) own →

@@ -1,6 +1,7 @@
 -- Trusted: What is kept of a solution: the table of its values, and what was found from them.
 use Rattle.std.specs.Prelude.{◌≡◌, ℕ, Bool, List, map, length, Option}
 use Rattle.std.specs.List.{range_with_len}
+use Rattle.kc_diagnostics.specs.Warnings.{Warning}
 use Rattle.kc_expr.specs.Names.{symbol}
 use Rattle.kc_expr.specs.Value.{SymbolValue}
 use Rattle.kc_expr.specs.declared.expression.SymId.{SymId}
@@ -34,7 +35,7 @@ solution_in tree places table = record {
 -- What is kept of a solution: the full table, the selections, the default selections, the visibilities, which symbols
 -- differ, which are written, the warnings.
 pub record IsSolved (tree : TreeFacts) (places : Places) (table : List (Option Value)) (selections defaults : List (Option SymId))
-    (visibilities : List Tri) (differing written : List Bool) (lines : List (List ℕ)) : Type 0 where
+    (visibilities : List Tri) (differing written : List Bool) (warnings : List Warning) : Type 0 where
   pub accepted : IsAccepted tree
   pub user : ArePlacesOf tree places
   pub full : length table ≡ name_count tree
@@ -45,4 +46,4 @@ pub record IsSolved (tree : TreeFacts) (places : Places) (table : List (Option V
   pub visibilities_are : visibilities ≡ map (λ i. visibility_by tree (known_from tree (valuation tree table)) (facts tree (symbol i))) (range_with_len 0 (name_count tree))
   pub differing_are : differing ≡ map (values.differs tree (place_at places) (valuation tree table)) (range_with_len 0 (name_count tree))
   pub written_are : written ≡ map (λ i. writing.written tree (known_from tree (valuation tree table)) (symbol i)) (range_with_len 0 (name_count tree))
-  pub lines_are : lines ≡ warning.value_warnings tree (place_at places) (valuation tree table)
+  pub warnings_are : warnings ≡ warning.value_warnings tree (place_at places) (valuation tree table)

@@ -1,5 +1,6 @@
 -- Trusted: A solution: the values of a tree's symbols under a user's places, and what is warned of.
-use Rattle.std.specs.Prelude.{◌≡◌, ℕ, List, [], length, slice_index_or}
+use Rattle.std.specs.Prelude.{◌≡◌, ℕ, List, [], length, map, slice_index_or}
+use Rattle.kc_diagnostics.specs.Warnings.{Warning, warning_line}
 use Rattle.kc_expr.specs.Value.{SymbolValue, TextValue}
 use Rattle.kc_expr.specs.declared.expression.SymId.{SymId}
 use Rattle.kc_expr.specs.declared.expression.SymbolType.TheVariants.{Undefined}
@@ -30,6 +31,9 @@ pub record IsSolution (s : Solution) : Type 0 where
   pub solves : Solves (name_count s.tree) (equations s.tree (place_at s.places)) (value_of s)
   pub only : IsOnlySolution (name_count s.tree) (equations s.tree (place_at s.places)) (value_of s)
 
--- the warnings of the values
+-- the warnings of the values, and their lines
+abbrev pub value_warnings : Solution → List Warning
+value_warnings s = warning.value_warnings s.tree (place_at s.places) (value_of s)
+
 abbrev pub warnings : Solution → List (List ℕ)
-warnings s = warning.value_warnings s.tree (place_at s.places) (value_of s)
+warnings s = map warning_line (value_warnings s)

@@ -12,9 +12,11 @@ ghost use Rattle.kc_values.specs.Lookups.{choice_at};
 ghost use Rattle.kc_values.specs.TableFacts.{facts_in, known_at, AreSelected, IsRowOf};
 ghost use Rattle.kc_values.specs.User.{given_in};
 ghost use Rattle.kc_values.specs.Values as value;
+ghost use Rattle.kc_diagnostics.specs.Warnings.{owned_warning};
 ghost use Rattle.kc_values.specs.Warnings.{value_warnings};
 
 use crate::compute::symbol_row;
+use kc_diagnostics::Warning;
 use kc_expr::expression::{SymId, Tri};
 use kc_tree::rows::{ChoiceId, Symbol};
 use kc_tree::tree::Tree;
@@ -199,18 +201,18 @@ pub(crate) fn flags_of(
     })
 }
 
-/// The warnings of the defined symbols under the values of a full table and a user's places of that tree: whole lines without
-/// their end, in the order of the symbols' first definitions. The caller owes the visibilities.
+/// The warnings of the defined symbols under the values of a full table and a user's places of that tree, in the order of the
+/// symbols' first definitions. The caller owes the visibilities.
 pub(crate) fn warnings_of(
     alloc: Global,
     table: &Table,
     user: &User,
     visibilities: &[Tri],
-) -> Result<Vec<Vec<u8>>, AllocError>
+) -> Result<Vec<Warning<Vec<u8>>>, AllocError>
     requires full { length table.now.values ≡ name_count table.now.tree.now }
     requires user { ArePlacesOf table.now.tree.now user.now }
     requires visibilities { visibilities.now ≡ visibilities_in table.now }
-    ensures { IfOk result (λ v. map (λ w. w.items) v.items ≡ value_warnings table.now.tree.now (place_at user.now) (flag.values_in table.now)) }
+    ensures { IfOk result (λ v. map owned_warning v.items ≡ value_warnings table.now.tree.now (place_at user.now) (flag.values_in table.now)) }
 {
     let mut warnings = Vec::new(alloc);
     for id in table.layout.defined() {

@@ -4,7 +4,8 @@ ghost use Rattle.std.specs.Prelude.{◌≡◌, ◌<◌, length, map, slice_get};
 ghost use Rattle.kc_expr.specs.Value.{text_of_value};
 ghost use Rattle.kc_values.specs.TableFacts.{known_at};
 ghost use Rattle.kc_solve.specs.Answers as spec;
-ghost use Rattle.kc_solve.specs.Solved.{IsSolution, warnings};
+ghost use Rattle.kc_diagnostics.specs.Warnings.{owned_warning};
+ghost use Rattle.kc_solve.specs.Solved.{IsSolution, value_warnings};
 ghost use Rattle.kc_solve.specs.SolvedLaws.{IsMinimal, IdempotentWhere};
 ghost use Rattle.kc_solve.specs.Answers.{TellsKnown};
 ghost use Rattle.kc_solve.specs.Titles.{IsTitleAt};
@@ -12,6 +13,7 @@ ghost use Rattle.kc_values.specs.Needs.{IsAccepted};
 ghost use Rattle.kc_values.specs.Solution.{name_count};
 
 use crate::flags::{at_choice, at_symbol, visibility_at};
+use kc_diagnostics::Warning;
 use kc_expr::expression::{SymId, SymbolType, Tri};
 use kc_expr::values::{Values, tri_text, truth_of};
 use kc_tree::layout::Layout;
@@ -34,11 +36,12 @@ pub struct Solved<'a> {
     pub(crate) visibilities: Vec<Tri>,
     pub(crate) differing: Vec<bool>,
     pub(crate) written: Vec<bool>,
-    pub(crate) warnings: Vec<Vec<u8>>,
+    pub(crate) warnings: Vec<Warning<Vec<u8>>>,
 }
 
 impl<'a> Model for Solved<'a> {
     ghost use Rattle.std.specs.Prelude.{◌≡◌, map};
+    ghost use Rattle.kc_diagnostics.specs.Warnings.{owned_warning};
     ghost use Rattle.kc_solve.specs.Solved.{Solution};
     ghost use Rattle.kc_solve.specs.Kept.{IsSolved, solution_in};
     ghost use Rattle.kc_solve.specs.SolutionCode.{solution_code};
@@ -50,7 +53,7 @@ impl<'a> Model for Solved<'a> {
     ghost view = { λ s. solution_in s.table.tree.now s.user.now s.table.values };
 
     ghost invariant = { λ s. IsSolved s.table.tree.now s.user.now s.table.values s.selections.items s.default_selections.items
-        s.visibilities.items s.differing.items s.written.items (map (λ w. w.items) s.warnings.items) };
+        s.visibilities.items s.differing.items s.written.items (map owned_warning s.warnings.items) };
 }
 
 impl<'a> Solved<'a> {
@@ -166,11 +169,10 @@ impl<'a> Solved<'a> {
         at_symbol(&self.differing, id)
     }
 
-    /// The warnings of the values, whole lines without their end, in the order of the symbols' first definitions: selected
-    /// above its dependency (K11), a visible user value outside the active range (K12), a default that was clamped (K13)
-    /// (our own lines).
-    pub fn value_warnings(&self) -> &[Vec<u8>]
-        ensures { map (λ w. w.items) result.now ≡ warnings self.now }
+    /// The warnings of the values, in the order of the symbols' first definitions: selected above its dependency (K11), a
+    /// visible user value outside the active range (K12), a default that was clamped (K13) (our own).
+    pub fn value_warnings(&self) -> &[Warning<Vec<u8>>]
+        ensures { map owned_warning result.now ≡ value_warnings self.now }
     {
         &self.warnings
     }

@@ -1,5 +1,6 @@
 -- Steps of the code, over plain values.
 use Rattle.std.proofs.Common.{◌≡◌, ℕ, List, [], ◌∷◌, ◌++◌, append_assoc, Bool, true, false, cond, is_some, Option, None, Some, refl, sym, ◌∙◌, ap}
+use Rattle.kc_diagnostics.specs.Warnings.{Warning}
 use Rattle.kc_expr.specs.declared.expression.SymId.{SymId}
 use Rattle.kc_expr.specs.declared.expression.Tri.{Tri}
 use Rattle.kc_expr.specs.declared.expression.SymbolType.{SymbolType}
@@ -19,14 +20,14 @@ no_choice None e = refl
 no_choice (Some c) e = absurd cc
 
 module _ (tree : TreeFacts) (k : SymId → SymbolValue) where
-  pub select_joined : (name : List ℕ) (f : SymbolFacts) (selected_to direct : Tri) (over : Bool) (line : List ℕ) (old new : List (List ℕ)) → selected_to ≡ v.selected_to tree k f → direct ≡ v.direct tree k f →
-      over ≡ above selected_to direct → over ≡ true → line ≡ w.selected_line name selected_to direct → new ≡ old ++ line ∷ [] → new ≡ old ++ w.select_warnings tree k name f
-  select_joined name f selected_to direct over line old new e1 e2 e3 e4 e5 e6 =
+  pub select_joined : (name : List ℕ) (f : SymbolFacts) (selected_to direct : Tri) (over : Bool) (warning : Warning) (old new : List Warning) → selected_to ≡ v.selected_to tree k f → direct ≡ v.direct tree k f →
+      over ≡ above selected_to direct → over ≡ true → warning ≡ w.selected_warning name selected_to direct → new ≡ old ++ warning ∷ [] → new ≡ old ++ w.select_warnings tree k name f
+  select_joined name f selected_to direct over warning old new e1 e2 e3 e4 e5 e6 =
       let R = v.selected_to tree k f in
       let D = v.direct tree k f in
       let yes : above R D ≡ true = sym (e3 ∙ ap (λ x. above x direct) e1 ∙ ap (above R) e2) ∙ e4 in
-      let text : line ≡ w.selected_line name R D = e5 ∙ ap (λ x. w.selected_line name x direct) e1 ∙ ap (w.selected_line name R) e2 in
-      e6 ∙ ap (λ x. old ++ x ∷ []) text ∙ ap (λ b. old ++ cond b (w.selected_line name R D ∷ []) []) (sym yes)
+      let this : warning ≡ w.selected_warning name R D = e5 ∙ ap (λ x. w.selected_warning name x direct) e1 ∙ ap (w.selected_warning name R) e2 in
+      e6 ∙ ap (λ x. old ++ x ∷ []) this ∙ ap (λ b. old ++ cond b (w.selected_warning name R D ∷ []) []) (sym yes)
 
   -- a bool or tristate outside a choice
   pub truth_warned : (name told : List ℕ) (f : SymbolFacts) (choice : Option ℕ) (user : Option GivenValue) (symbol_type : SymbolType) →
@@ -36,7 +37,7 @@ module _ (tree : TreeFacts) (k : SymId → SymbolValue) where
       ap (λ n. w.select_warnings tree k n f) e3 ∙ sym by_type ∙ ap (λ x. w.warnings_by_type tree k told f x user) (sym e1) ∙ ap (λ c. w.warnings_by_choice tree k told f c user) (sym e2)
 
   pub range_joined : (name : List ℕ) (f : SymbolFacts) (user : Option GivenValue) (range : Option Interval) (vis : Tri) (given used default : Option (List ℕ))
-      (old mid new : List (List ℕ)) → range ≡ v.active_range tree k f → vis ≡ v.visibility tree k f → given ≡ v.visible_text user vis → used ≡ if_within_range f.symbol_type range given →
+      (old mid new : List Warning) → range ≡ v.active_range tree k f → vis ≡ v.visibility tree k f → given ≡ v.visible_text user vis → used ≡ if_within_range f.symbol_type range given →
       default ≡ w.met_text k (v.first_met tree k f.defaults) → mid ≡ old ++ w.user_warnings f.symbol_type name range given →
       new ≡ mid ++ w.default_warnings f.symbol_type name range used default → new ≡ old ++ w.range_warnings tree k name f user
   range_joined name f user range vis given used default old mid new e1 e2 e3 e4 e5 e6 e7 =

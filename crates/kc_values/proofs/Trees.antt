@@ -15,6 +15,7 @@ use Rattle.kc_values.specs.Needs.{needs}
 use Rattle.kc_values.specs.Solution.{equations, known_from}
 use Rattle.kc_values.specs.WrittenSymbols.{written}
 use Rattle.kc_values.specs.Differs.{differs}
+use Rattle.kc_diagnostics.specs.Warnings.{warning_line}
 use Rattle.kc_values.specs.Warnings.{value_warnings}
 
 abbrev pub always : Condition
@@ -102,7 +103,7 @@ module _ (t : TreeFacts) (user : UserPlace → Option GivenValue) (values : List
   differing = map (differs t user V) All
 
   abbrev pub warned : List (List ℕ)
-  warned = value_warnings t user V
+  warned = map warning_line (value_warnings t user V)
 
   abbrev pub needed : List (List ℕ)
   needed = needs t

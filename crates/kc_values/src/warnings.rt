@@ -2,6 +2,7 @@
 
 ghost use Rattle.std.specs.Prelude.{◌≡◌, ◌++◌, Some, IfOk, IfSome, OnOk};
 ghost use Rattle.std.specs.Option.{option_copied};
+ghost use Rattle.kc_diagnostics.specs.Warnings.{owned_warning};
 ghost use Rattle.kc_tree.specs.Layouts.{facts_of};
 ghost use Rattle.kc_values.specs.TableFacts.{facts_in, known_at};
 ghost use Rattle.kc_values.specs.Lookups as lookup;
@@ -18,7 +19,7 @@ use crate::numbers::{
 use crate::table::{Table, name};
 use crate::texts::{met_text, visible_text};
 use crate::truths::{direct, selected_to};
-use kc_diagnostics::{Warning, add_warning};
+use kc_diagnostics::Warning;
 use kc_expr::expression::{SymId, SymbolType, Tri};
 use kc_expr::values::tri_text;
 use kc_tree::rows::Symbol;
@@ -38,23 +39,20 @@ fn is_above(a: Tri, b: Tri) -> bool
     }
 }
 
-// The line of a symbol that is selected above its dependency.
-fn selected_line<'a>(
+// A symbol is selected above its dependency.
+fn selected_warning(
     alloc: Global,
-    name: &'a [u8],
+    name: &[u8],
     selected_to: Tri,
     direct: Tri,
-) -> Result<Vec<u8>, AllocError>
-    ensures { IfOk result (λ v. v.items ≡ spec.selected_line name.now selected_to direct) }
+) -> Result<Warning<Vec<u8>>, AllocError>
+    ensures { IfOk result (λ w. owned_warning w ≡ spec.selected_warning name.now selected_to direct) }
 {
-    let mut line = Vec::new(alloc);
-    let warning = Warning::Selected {
-        name,
-        selected_to: tri_text(selected_to),
-        direct: tri_text(direct),
-    };
-    add_warning(warning, &mut line)?;
-    Ok(line)
+    Ok(Warning::Selected {
+        name: Vec::from_slice(alloc, name)?,
+        selected_to: Vec::from_slice(alloc, tri_text(selected_to))?,
+        direct: Vec::from_slice(alloc, tri_text(direct))?,
+    })
 }
 
 // The low bound as it is written.
@@ -75,54 +73,43 @@ fn high_text(alloc: Global, symbol_type: SymbolType, range: Interval) -> Result<
     Ok(text)
 }
 
-// The line of a user's text outside the range.
-fn user_warning_line<'a>(
+// A user's text is outside the range.
+fn user_outside(
     alloc: Global,
     symbol_type: SymbolType,
     range: Interval,
-    name: &'a [u8],
-    text: &'a [u8],
-) -> Result<Vec<u8>, AllocError>
+    name: &[u8],
+    text: &[u8],
+) -> Result<Warning<Vec<u8>>, AllocError>
     requires { HasSmallBounds range }
-    ensures { IfOk result (λ v. v.items ≡ spec.user_warning_line symbol_type range name.now text.now) }
+    ensures { IfOk result (λ w. owned_warning w ≡ spec.user_warning symbol_type range name.now text.now) }
 {
-    let low = low_text(alloc, symbol_type, range)?;
-    let high = high_text(alloc, symbol_type, range)?;
-    let mut line = Vec::new(alloc);
-    let warning = Warning::UserOutside {
-        name,
-        value: text,
-        low: &low,
-        high: &high,
-    };
-    add_warning(warning, &mut line)?;
-    Ok(line)
+    Ok(Warning::UserOutside {
+        name: Vec::from_slice(alloc, name)?,
+        value: Vec::from_slice(alloc, text)?,
+        low: low_text(alloc, symbol_type, range)?,
+        high: high_text(alloc, symbol_type, range)?,
+    })
 }
 
-// The line of a default outside the range.
-fn default_warning_line<'a>(
+// A default is outside the range.
+fn default_outside(
     alloc: Global,
     symbol_type: SymbolType,
     range: Interval,
-    name: &'a [u8],
-    text: &'a [u8],
-) -> Result<Vec<u8>, AllocError>
+    name: &[u8],
+    text: &[u8],
+) -> Result<Warning<Vec<u8>>, AllocError>
     requires { HasSmallBounds range }
-    ensures { IfOk result (λ v. v.items ≡ spec.default_warning_line symbol_type range name.now text.now) }
+    ensures { IfOk result (λ w. owned_warning w ≡ spec.default_warning symbol_type range name.now text.now) }
 {
-    let used = clamped(alloc, symbol_type, Some(range), text)?;
-    let low = low_text(alloc, symbol_type, range)?;
-    let high = high_text(alloc, symbol_type, range)?;
-    let mut line = Vec::new(alloc);
-    let warning = Warning::DefaultOutside {
-        name,
-        value: text,
-        low: &low,
-        high: &high,
-        used: &used,
-    };
-    add_warning(warning, &mut line)?;
-    Ok(line)
+    Ok(Warning::DefaultOutside {
+        name: Vec::from_slice(alloc, name)?,
+        value: Vec::from_slice(alloc, text)?,
+        low: low_text(alloc, symbol_type, range)?,
+        high: high_text(alloc, symbol_type, range)?,
+        used: clamped(alloc, symbol_type, Some(range), text)?,
+    })
 }
 
 // The warning of a visible user value outside the active range.
@@ -132,10 +119,10 @@ fn user_warning(
     name: &[u8],
     range: Option<Interval>,
     given: Option<&[u8]>,
-    out: &mut Vec<Vec<u8>>,
+    out: &mut Vec<Warning<Vec<u8>>>,
 ) -> Result<(), AllocError>
     requires { IfSome range HasSmallBounds }
-    ensures { OnOk result (spec.texts out.new.items ≡ spec.texts out.old.items ++ spec.user_warnings symbol_type name.now range (option_copied given.entry)) }
+    ensures { OnOk result (spec.held out.new.items ≡ spec.held out.old.items ++ spec.user_warnings symbol_type name.now range (option_copied given.entry)) }
 {
     let Some(bounds) = range else {
         return Ok(());
@@ -146,8 +133,8 @@ fn user_warning(
     if is_within_range(symbol_type, Some(bounds), text) {
         return Ok(());
     }
-    let line = user_warning_line(alloc, symbol_type, bounds, name, text)?;
-    out.push(line)?;
+    let warning = user_outside(alloc, symbol_type, bounds, name, text)?;
+    out.push(warning)?;
     Ok(())
 }
 
@@ -159,10 +146,10 @@ fn default_warning(
     range: Option<Interval>,
     used: Option<&[u8]>,
     default: Option<&[u8]>,
-    out: &mut Vec<Vec<u8>>,
+    out: &mut Vec<Warning<Vec<u8>>>,
 ) -> Result<(), AllocError>
     requires { IfSome range HasSmallBounds }
-    ensures { OnOk result (spec.texts out.new.items ≡ spec.texts out.old.items ++ spec.default_warnings symbol_type name.now range (option_copied used.entry) (option_copied default.entry)) }
+    ensures { OnOk result (spec.held out.new.items ≡ spec.held out.old.items ++ spec.default_warnings symbol_type name.now range (option_copied used.entry) (option_copied default.entry)) }
 {
     if used.is_some() {
         return Ok(());
@@ -176,8 +163,8 @@ fn default_warning(
     if is_within_range(symbol_type, Some(bounds), text) {
         return Ok(());
     }
-    let line = default_warning_line(alloc, symbol_type, bounds, name, text)?;
-    out.push(line)?;
+    let warning = default_outside(alloc, symbol_type, bounds, name, text)?;
+    out.push(warning)?;
     Ok(())
 }
 
@@ -189,10 +176,10 @@ fn range_warnings(
     symbol: &Symbol,
     visibility: Tri,
     user: Option<&UserValue>,
-    out: &mut Vec<Vec<u8>>,
+    out: &mut Vec<Warning<Vec<u8>>>,
 ) -> Result<(), AllocError>
     requires { visibility ≡ value.visibility table.now.tree.now (known_at table.now) (facts_of table.now.layout.now 0 symbol.now) }
-    ensures { OnOk result (spec.texts out.new.items ≡ spec.texts out.old.items ++ spec.range_warnings table.now.tree.now (known_at table.now) name.now
+    ensures { OnOk result (spec.held out.new.items ≡ spec.held out.old.items ++ spec.range_warnings table.now.tree.now (known_at table.now) name.now
         (facts_of table.now.layout.now 0 symbol.now) (given_in user.entry)) }
 {
     let range = active_range(table, symbol);
@@ -211,9 +198,9 @@ fn select_warnings(
     name: &[u8],
     id: SymId,
     symbol: &Symbol,
-    out: &mut Vec<Vec<u8>>,
+    out: &mut Vec<Warning<Vec<u8>>>,
 ) -> Result<(), AllocError>
-    ensures { OnOk result (spec.texts out.new.items ≡ spec.texts out.old.items ++ spec.select_warnings table.now.tree.now (known_at table.now) name.now (facts_in table.now id symbol.now)) }
+    ensures { OnOk result (spec.held out.new.items ≡ spec.held out.old.items ++ spec.select_warnings table.now.tree.now (known_at table.now) name.now (facts_in table.now id symbol.now)) }
 {
     let selected_to = selected_to(table, id, symbol);
     // What nothing selects is above no direct dependency.
@@ -224,15 +211,15 @@ fn select_warnings(
     if !is_above(selected_to, direct) {
         return Ok(());
     }
-    let line = selected_line(alloc, name, selected_to, direct)?;
-    out.push(line)?;
+    let warning = selected_warning(alloc, name, selected_to, direct)?;
+    out.push(warning)?;
     Ok(())
 }
 
-/// The warnings of one symbol under these values, behind those that are there: whole lines without their end. A bool or
+/// The warnings of one symbol under these values, behind those that are there. A bool or
 /// tristate that is selected above its direct dependency; of an int or hex a visible user value outside the active range,
 /// then a default that was clamped; of a choice's member none (our own lines). The caller owes the symbol's visibility, so
-/// that it is found once for all that asks for it. Fails only when it is out of memory; some lines may then be there.
+/// that it is found once for all that asks for it. Fails only when it is out of memory; some warnings may then be there.
 pub fn warnings_into(
     alloc: Global,
     table: &Table<'_>,
@@ -240,10 +227,10 @@ pub fn warnings_into(
     symbol: &Symbol,
     visibility: Tri,
     user: Option<&UserValue>,
-    out: &mut Vec<Vec<u8>>,
+    out: &mut Vec<Warning<Vec<u8>>>,
 ) -> Result<(), AllocError>
     requires { visibility ≡ value.visibility table.now.tree.now (known_at table.now) (facts_in table.now id symbol.now) }
-    ensures { OnOk result (spec.texts out.new.items ≡ spec.texts out.old.items ++ spec.warnings_of table.now.tree.now (known_at table.now)
+    ensures { OnOk result (spec.held out.new.items ≡ spec.held out.old.items ++ spec.warnings_of table.now.tree.now (known_at table.now)
         (lookup.name table.now.tree.now id) (Some (facts_in table.now id symbol.now)) (given_in user.entry)) }
 {
     if symbol.choice.is_some() {

@@ -1,13 +1,16 @@
--- The lines of the values behind the lead, and then those of the lost values.
+-- The lines of the warnings behind the lead, and then those of the lost values.
 use Rattle.std.proofs.Common.{◌≡◌, ◌∙◌, ℕ, List, [], ◌∷◌, ◌++◌, ap, map, refl, append_assoc, Vec, Global}
 use Rattle.std.specs.List.{flat_map}
+use Rattle.kc_diagnostics.specs.Warnings.{owned_warning, warning_line}
+use Rattle.kc_diagnostics.specs.declared.warning.Warning.{Warning}
 use Rattle.kc_options.specs.Asked.{lead}
 use Rattle.kc_conf.specs.Outcome.{lines_text}
 use Rattle.kc_conf.proofs.compute.add_value_lines.Goals as goal
 
-led : (l : List ℕ) (lines : List (Vec ℕ Global)) → map (λ line. l ++ line.items) lines ≡ map (λ line. l ++ line) (map (λ line. line.items) lines)
+led : (l : List ℕ) (ws : List (Warning (Vec ℕ Global))) →
+    map (λ w. l ++ warning_line (owned_warning w)) ws ≡ map (λ line. l ++ line) (map warning_line (map owned_warning ws))
 led l [] = refl
-led l (line ∷ lines) = ap (λ rest. (l ++ line.items) ∷ rest) (led l lines)
+led l (w ∷ ws) = ap (λ rest. (l ++ warning_line (owned_warning w)) ∷ rest) (led l ws)
 
 pub returns : goal.returns
 returns c =
@@ -15,8 +18,8 @@ returns c =
     let warned = c.value_warnings.result.now in
     let lost = lines_text (map (λ (line : Vec ℕ Global). line.items) c.args.lost.now) in
     let front = flat_map (λ part. part.now) c.lead.result in
-    c.in_ok-add_lines-2.ensures ∙ ap (λ t. t ++ lost) c.in_ok-add_lines.ensures
-    ∙ append_assoc old (lines_text (map (λ (line : Vec ℕ Global). front ++ line.items) warned)) lost
+    c.in_ok-add_lines.ensures ∙ ap (λ t. t ++ lost) c.in_ok-add_warnings.ensures
+    ∙ append_assoc old (lines_text (map (λ w. front ++ warning_line (owned_warning w)) warned)) lost
     ∙ ap (λ l. old ++ (lines_text l ++ lost))
-    (ap (λ l. map (λ (line : Vec ℕ Global). l ++ line.items) warned) c.lead.ensures ∙ led (lead c.args.options.now) warned
-    ∙ ap (map (λ line. lead c.args.options.now ++ line)) c.value_warnings.ensures)
+    (ap (λ l. map (λ w. l ++ warning_line (owned_warning w)) warned) c.lead.ensures ∙ led (lead c.args.options.now) warned
+    ∙ ap (λ ws. map (λ line. lead c.args.options.now ++ line) (map warning_line ws)) c.value_warnings.ensures)

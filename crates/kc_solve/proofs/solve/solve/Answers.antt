@@ -24,7 +24,7 @@ invariant_of-solved c =
       visibilities_are = c.in_ok-visibilities.ensures.visibilities;
       differing_are = c.in_ok-visibilities.ensures.differing;
       written_are = c.in_ok-visibilities.ensures.written;
-      lines_are = c.in_ok-warnings.ensures;
+      warnings_are = c.in_ok-warnings.ensures;
     }
 
 pub returns-clause-only : goal.returns-clause-only

@@ -1,5 +1,6 @@
 use Rattle.std.proofs.Common.{[], ◌∷◌, map, ap, ◌∙◌}
 use Rattle.std.proofs.lemmas.List.{map-append}
+use Rattle.kc_diagnostics.specs.Warnings.{owned_warning}
 use Rattle.kc_tree.specs.Layouts.{facts_of}
 use Rattle.kc_values.specs.TableFacts.{known_at}
 use Rattle.kc_values.proofs.Joined.{select_joined}
@@ -9,10 +10,10 @@ pub returns : goal.returns
 returns c =
     let t = c.args.table.now in
     select_joined t.tree.now (known_at t) c.args.name.now (facts_of t.layout.now c.args.id.0 c.args.symbol.now)
-    c.selected_to-selected_to.result c.direct-direct.result c.is_above.result c.in_ok-line.line.items _ _
+    c.selected_to-selected_to.result c.direct-direct.result c.is_above.result (owned_warning c.in_ok-warning.warning) _ _
     c.selected_to-selected_to.ensures
     c.direct-direct.ensures
     c.is_above.ensures
     c.if-not-is_above.false
-    c.in_ok-line.ensures
-    (ap (map (λ w. w.items)) c.in_ok-push.ensures.items ∙ map-append (λ w. w.items) c.args.out.now.items (c.in_ok-line.line ∷ []))
+    c.in_ok-warning.ensures
+    (ap (map owned_warning) c.in_ok-push.ensures.items ∙ map-append owned_warning c.args.out.now.items (c.in_ok-warning.warning ∷ []))

@@ -1,4 +1,5 @@
 use Rattle.std.proofs.Common.{◌≡◌, ◌++◌, map, OnOk, subst, refl, ◌∙◌, sym}
+use Rattle.kc_diagnostics.specs.Warnings.{owned_warning}
 use Rattle.kc_expr.specs.declared.expression.SymbolType.TheVariants.{Bool as IsBool, Tristate}
 use Rattle.kc_tree.specs.Contexts.{mode_view}
 use Rattle.kc_tree.specs.Layouts.{facts_of}
@@ -15,7 +16,7 @@ returns-in-Bool c =
     let alone = no_choice c.args.symbol.now.choice (sym c.is_some.ensures ∙ c.if-is_some.false) in
     let e = truth_warned t.tree.now (known_at t) c.name-name.result.now (name t.tree.now c.args.id) f (mode_view c.args.symbol.now.choice)
     (given_in c.args.user) IsBool refl c.in-Bool.is alone c.name-name.ensures in
-    subst (λ x. OnOk c.select_warnings.result (map (λ w. w.items) c.select_warnings.new.out.items ≡ map (λ w. w.items) c.args.out.now.items ++ x)) e c.select_warnings.ensures
+    subst (λ x. OnOk c.select_warnings.result (map owned_warning c.select_warnings.new.out.items ≡ map owned_warning c.args.out.now.items ++ x)) e c.select_warnings.ensures
 
 pub returns-in-Tristate : goal.returns-in-Tristate
 returns-in-Tristate c =
@@ -25,4 +26,4 @@ returns-in-Tristate c =
     let e = truth_warned t.tree.now (known_at t) c.name-name.result.now (name t.tree.now c.args.id) f (mode_view c.args.symbol.now.choice)
     (given_in c.args.user) Tristate refl c.in-Tristate.is alone c.name-name.ensures in
     subst (λ x. OnOk c.select_warnings-in-Tristate.result
-    (map (λ w. w.items) c.select_warnings-in-Tristate.new.out.items ≡ map (λ w. w.items) c.args.out.now.items ++ x)) e c.select_warnings-in-Tristate.ensures
+    (map owned_warning c.select_warnings-in-Tristate.new.out.items ≡ map owned_warning c.args.out.now.items ++ x)) e c.select_warnings-in-Tristate.ensures
