@@ -4,6 +4,7 @@ pub mod Empty
 pub mod OwnRows
 pub mod RowFacts
 pub mod Layouts
+pub mod LaidTrees
 pub mod MaybeChoices
 pub mod Spans
 pub mod Soundness

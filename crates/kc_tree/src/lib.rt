@@ -1,7 +1,7 @@
 //! What a Kconfig tree says: its symbols, choices, entries and warnings, and the tables that they are laid out in.
 //!
 //! - [`tree`]: the tree, and the facts about each symbol, choice and entry.
-//! - [`layout`]: the tables that hold these facts.
+//! - [`layout`]: the tables that hold these facts; [`laid_tree`]: a tree with its tables.
 //! - [`rows`]: the rows of the tables, and their numbers.
 //! - [`definitions`]: the definitions of one symbol.
 //! - [`contexts`]: what an entry depends on, shared by all entries of a block.
@@ -11,6 +11,7 @@
 
 pub mod contexts;
 pub mod definitions;
+pub mod laid_tree;
 pub mod layout;
 pub mod maybe_choice;
 pub mod rows;

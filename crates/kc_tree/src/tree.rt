@@ -8,6 +8,7 @@ ghost use Rattle.kc_tree.specs.RowFacts.{IsSymbolRowOf, AreChoicesOf, AreEntries
 ghost use Rattle.kc_tree.specs.Layouts.{IsLayoutOf};
 ghost use Rattle.kc_tree.specs.TreeFacts.{IsWellFormed};
 
+use crate::laid_tree::LaidTree;
 use crate::layout::{Layout, TreeParts};
 use crate::rows::{Choice, ShownEntry, Symbol};
 use kc_expr::expression::SymId;
@@ -117,6 +118,17 @@ impl Tree {
         ensures formed { IsWellFormed self.now }
     {
         &self.layout
+    }
+
+    /// The tree with the tables that it is laid out in (our own).
+    pub fn laid(&self) -> LaidTree<'_>
+        ensures tree { result.tree.now ≡ self.now }
+        ensures formed { IsWellFormed self.now }
+    {
+        LaidTree {
+            tree: self,
+            layout: &self.layout,
+        }
     }
 
     /// What a configuration file shows, in order: the symbols, menus and comments among the menu entries of the kernel's
