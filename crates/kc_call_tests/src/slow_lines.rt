@@ -1,6 +1,7 @@
 //! What the plain slow solver finds, as lines.
 
 use crate::trial::{SymbolReport, choice_count, choice_into, symbol_into, warnings_into};
+use kc_diagnostics::Warning;
 use kc_expr::expression::{SymId, SymbolType};
 use kc_expr::values::{Values, tri_text};
 use kc_tree::rows::{ChoiceId, Symbol};
@@ -71,7 +72,7 @@ fn symbol_line(
     user: &User,
     id: SymId,
     out: &mut Vec<u8>,
-    lines: &mut Vec<Vec<u8>>,
+    warned: &mut Vec<Warning<Vec<u8>>>,
 ) -> Result<(), AllocError> {
     let Some(symbol) = table.tree.facts(id) else {
         return Ok(());
@@ -86,19 +87,19 @@ fn symbol_line(
     };
     symbol_into(report, out)?;
     let own = given(user, id);
-    warnings::warnings_into(alloc, table, id, symbol, shown, own, lines)
+    warnings::warnings_into(alloc, table, id, symbol, shown, own, warned)
 }
 
-/// Adds the lines of the values in a table; the warnings stand after those in the lines, and go into the text with them.
+/// Adds the lines of the values in a table; the warnings stand after those that were found, and go into the text with them.
 pub(crate) fn lines_into(
     alloc: Global,
     table: &Table<'_>,
     user: &User,
     out: &mut Vec<u8>,
-    lines: &mut Vec<Vec<u8>>,
+    warned: &mut Vec<Warning<Vec<u8>>>,
 ) -> Result<(), AllocError> {
     for id in table.layout.defined() {
-        symbol_line(alloc, table, user, *id, out, lines)?;
+        symbol_line(alloc, table, user, *id, out, warned)?;
     }
     for c in 0..choice_count(table.tree) {
         let choice = ChoiceId(c as u32);
@@ -106,5 +107,5 @@ pub(crate) fn lines_into(
         let default = selected_in(table, choice, None);
         choice_into(table.tree, selection, default, out)?;
     }
-    warnings_into(lines, out)
+    warnings_into(warned, out)
 }

@@ -4,6 +4,7 @@ ghost use Rattle.std.specs.Prelude.{◌≡◌, length};
 ghost use Rattle.kc_user.specs.Places.{ArePlacesOf};
 
 use kc_build::build_tree;
+use kc_diagnostics::{Warning, add_warning};
 use kc_expr::expression::{SymId, Tri};
 use kc_expr::values::tri_text;
 use kc_read::file_map::FileMap;
@@ -167,9 +168,12 @@ pub(crate) fn choice_into(
 }
 
 /// The warnings, after what stands in the text.
-pub(crate) fn warnings_into(lines: &[Vec<u8>], out: &mut Vec<u8>) -> Result<(), AllocError> {
-    for line in lines {
-        out.extend_from_slice(line)?;
+pub(crate) fn warnings_into(
+    warnings: &[Warning<Vec<u8>>],
+    out: &mut Vec<u8>,
+) -> Result<(), AllocError> {
+    for warning in warnings {
+        add_warning(warning.borrowed(), out)?;
         out.push(b'\n')?;
     }
     Ok(())
