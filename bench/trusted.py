@@ -123,7 +123,7 @@ def public_items(crate):
 def contracts(crate, calls=None):
     """The clauses of public functions, and what public types and traits tell of themselves (views, invariants, ghost fields and
     members), by file; of these calls alone, if some are named. How the logic stores a value (`coded`) says nothing of it, nor do
-    the proofs that an implementation of a trait brings (`stays`, `goes_on`)."""
+    the proofs that an implementation of a trait brings (`stays`, `goes_on`) and those beside ghost fields (`by`)."""
     modules, items = public_items(crate)
     folder = os.path.join(TOP, "crates", crate, "src")
     for name in sorted(os.listdir(folder)):
@@ -162,7 +162,7 @@ def contracts(crate, calls=None):
             elif part == "clause" and line.strip() in ("{", "{}", ""):
                 part = None
             if part is not None and not line.lstrip().startswith("//"):
-                clauses.append(line)
+                clauses.append(re.sub(r"(?<=\}) by \{.*\},$", ",", line) if part == "item" else line)
             if part == "item" and line.endswith(("};", "},")) or part == "clause" and line.endswith(";"):
                 part = None
         if clauses:

@@ -17,5 +17,6 @@ pub mod NeedRows
 pub mod MadeRows
 pub mod Computed
 pub mod TableFacts
+pub mod AtTable
 pub mod FoundRows
 pub mod Nodes

@@ -3,12 +3,10 @@
 ghost use Rattle.std.specs.Prelude.{◌≡◌, Some};
 ghost use Rattle.std.specs.List.{list_any};
 ghost use Rattle.kc_expr.specs.Names.{same_symbol};
-ghost use Rattle.kc_tree.specs.Layouts.{choice_facts};
 ghost use Rattle.kc_user.specs.Places.{member_place};
-ghost use Rattle.kc_values.specs.TableFacts.{known_at};
 ghost use Rattle.kc_values.specs.Lookups.{choice_at};
 ghost use Rattle.kc_values.specs.TableFacts.{IsSelected};
-ghost use Rattle.kc_values.specs.Values as spec;
+ghost use Rattle.kc_values.specs.AtTable as spec;
 
 use crate::conditions::{condition, is_n, mode_of};
 use crate::table::Table;
@@ -19,7 +17,7 @@ use kc_tree::rows::{Choice, ChoiceId};
 /// Whether a prompt of the symbol has a condition that is not n; a name that is not defined has none (kconfiglib's
 /// `visibility`).
 pub(crate) fn visible(table: &Table<'_>, id: SymId) -> bool
-    ensures { result ≡ spec.visible table.now.tree.now (known_at table.now) id }
+    ensures { result ≡ spec.visible table.now id }
 {
     match table.layout.symbol(id) {
         Some(symbol) => !is_n(prompts_condition(table, symbol)),
@@ -29,7 +27,7 @@ pub(crate) fn visible(table: &Table<'_>, id: SymId) -> bool
 
 // Whether it is a member of the choice with a visible prompt.
 fn visible_member(table: &Table<'_>, choice: &Choice, id: SymId) -> bool
-    ensures { result ≡ spec.visible_member table.now.tree.now (known_at table.now) (choice_facts table.now.layout.now.tables choice.now) id }
+    ensures { result ≡ spec.visible_member table.now choice.now id }
 {
     visible(table, id) && is_among(id, &choice.members)
 }
@@ -42,7 +40,7 @@ fn is_among(id: SymId, members: &[SymId]) -> bool
 
 // The first default whose condition is not n and that names a visible member.
 fn first_default(table: &Table<'_>, choice: &Choice) -> Option<SymId>
-    ensures { result ≡ spec.first_default table.now.tree.now (known_at table.now) (choice_facts table.now.layout.now.tables choice.now) (choice_facts table.now.layout.now.tables choice.now).defaults }
+    ensures { result ≡ spec.first_default table.now choice.now }
 {
     for default in &choice.defaults {
         if !is_n(condition(table, choice.within, &default.when))
@@ -55,7 +53,7 @@ fn first_default(table: &Table<'_>, choice: &Choice) -> Option<SymId>
 }
 
 fn first_visible(table: &Table<'_>, members: &[SymId]) -> Option<SymId>
-    ensures { result ≡ spec.first_visible table.now.tree.now (known_at table.now) members.now }
+    ensures { result ≡ spec.first_visible table.now members.now }
 {
     for member in members {
         if visible(table, *member) {
@@ -67,7 +65,7 @@ fn first_visible(table: &Table<'_>, members: &[SymId]) -> Option<SymId>
 
 // The default selection: that default, else the first visible member.
 fn unselected(table: &Table<'_>, choice: &Choice) -> Option<SymId>
-    ensures { result ≡ spec.unselected table.now.tree.now (known_at table.now) (choice_facts table.now.layout.now.tables choice.now) }
+    ensures { result ≡ spec.unselected table.now choice.now }
 {
     match first_default(table, choice) {
         Some(id) => Some(id),
@@ -78,8 +76,8 @@ fn unselected(table: &Table<'_>, choice: &Choice) -> Option<SymId>
 // The selection of a choice: none where its mode is n; else the user's member where it is a visible member of that choice,
 // else the first default whose condition is not n and that names a visible member, else the first visible member.
 fn selected(table: &Table<'_>, id: ChoiceId, choice: &Choice, user: Option<SymId>) -> Option<SymId>
-    requires { choice_at table.now.tree.now id.0 ≡ Some (choice_facts table.now.layout.now.tables choice.now) }
-    ensures { result ≡ spec.selected table.now.tree.now (known_at table.now) (Some (choice_facts table.now.layout.now.tables choice.now)) (member_place user) }
+    requires { choice_at table.now.tree.now id.0 ≡ Some (spec.choice_in table.now choice.now) }
+    ensures { result ≡ spec.selected_by table.now choice.now (member_place user) }
 {
     if is_n(mode_of(table, id)) {
         return None;
@@ -94,7 +92,7 @@ fn selected(table: &Table<'_>, id: ChoiceId, choice: &Choice, user: Option<SymId
 /// member where it is a visible member of that choice, else the first default whose condition is not n and that names a visible
 /// member, else the first visible member (kconfiglib's `selection`; the kernel's kconfig-language document on choices).
 pub fn selected_in(table: &Table<'_>, choice: ChoiceId, user: Option<SymId>) -> Option<SymId>
-    ensures { result ≡ spec.selected table.now.tree.now (known_at table.now) (choice_at table.now.tree.now choice.0) (member_place user) }
+    ensures { result ≡ spec.selected table.now choice.0 (member_place user) }
 {
     match table.layout.choice(choice) {
         Some(found) => selected(table, choice, found, user),
@@ -105,7 +103,7 @@ pub fn selected_in(table: &Table<'_>, choice: ChoiceId, user: Option<SymId>) -> 
 /// The same, where one that is computed is not found again (our own). The caller owes that it was computed under this member.
 pub fn selection(table: &Table<'_>, choice: ChoiceId, user: Option<SymId>) -> Option<SymId>
     requires { IsSelected table.now choice.0 user }
-    ensures { result ≡ spec.selected table.now.tree.now (known_at table.now) (choice_at table.now.tree.now choice.0) (member_place user) }
+    ensures { result ≡ spec.selected table.now choice.0 (member_place user) }
 {
     match table.computed_selection(choice) {
         Some(computed) => computed,
@@ -122,7 +120,7 @@ pub(crate) fn member_equation(
     user: Option<SymId>,
 ) -> Tri
     requires { IsSelected table.now choice.0 user }
-    ensures { result ≡ spec.member_equation table.now.tree.now (known_at table.now) id choice.0 (member_place user) }
+    ensures { result ≡ spec.member_equation table.now id choice.0 (member_place user) }
 {
     match selection(table, choice, user) {
         Some(member) if member.0 == id.0 => Tri::Y,

@@ -4,11 +4,10 @@ ghost use Rattle.std.specs.Prelude.{◌≡◌};
 ghost use Rattle.kc_expr.specs.Value.{lesser};
 ghost use Rattle.kc_expr.specs.When.{when_view};
 ghost use Rattle.kc_tree.specs.Contexts.{HasNoMode, mode_view};
-ghost use Rattle.kc_tree.specs.Layouts.{choice_facts, prompt_view, title_condition, with_when};
+ghost use Rattle.kc_tree.specs.Layouts.{prompt_view, title_condition, with_when};
 ghost use Rattle.kc_tree.specs.Soundness.{IsChoiceThere};
-ghost use Rattle.kc_values.specs.TableFacts.{known_at, condition_at};
-ghost use Rattle.kc_values.specs.Lookups.{choice_at};
-ghost use Rattle.kc_values.specs.Computed.{when_value};
+ghost use Rattle.kc_values.specs.AtTable as at;
+ghost use Rattle.kc_values.specs.TableFacts.{condition_at};
 ghost use Rattle.kc_values.specs.Values as spec;
 
 use crate::table::Table;
@@ -39,7 +38,7 @@ pub(crate) fn is_n(value: Tri) -> bool
 
 /// The value of an `if`, y where there is none.
 pub(crate) fn if_value(when: &Option<Rc<Expr>>, table: &Table<'_>) -> Tri
-    ensures { result ≡ when_value table.now.tree.now (known_at table.now) (when_view when.now) }
+    ensures { result ≡ at.when_value table.now (when_view when.now) }
 {
     match when {
         Some(e) => eval(e, table),
@@ -49,8 +48,8 @@ pub(crate) fn if_value(when: &Option<Rc<Expr>>, table: &Table<'_>) -> Tri
 
 // The least of a value and of what the contexts from this one outwards ask for, up to one that is computed.
 fn enclosing_least(table: &Table<'_>, within: ContextId, first: Tri) -> Tri
-    requires { lesser first (spec.mode_value table.now.tree.now (known_at table.now) (condition_at table.now within.0).mode) ≡ first }
-    ensures { result ≡ lesser first (spec.and_value table.now.tree.now (known_at table.now) (condition_at table.now within.0).conjuncts) }
+    requires { lesser first (at.mode_value table.now (condition_at table.now within.0).mode) ≡ first }
+    ensures { result ≡ lesser first (at.and_value table.now (condition_at table.now within.0).conjuncts) }
 {
     let mut least = first;
     let mut at = within;
@@ -67,7 +66,7 @@ fn enclosing_least(table: &Table<'_>, within: ContextId, first: Tri) -> Tri
 // The condition of the prompt of a choice, n without one.
 fn choice_prompt(table: &Table<'_>, choice: &Choice) -> Tri
     requires { IsChoiceThere table.now.layout.now.tables.contexts choice.now }
-    ensures { result ≡ spec.prompt_value table.now.tree.now (known_at table.now) (choice_facts table.now.layout.now.tables choice.now).prompt }
+    ensures { result ≡ at.prompt_value table.now choice.now }
 {
     match &choice.prompt {
         Some(prompt) => {
@@ -81,7 +80,7 @@ fn choice_prompt(table: &Table<'_>, choice: &Choice) -> Tri
 /// The mode of a choice: y where its prompt's condition is not n, else n; n without a prompt, and where there is no such choice
 /// (kconfiglib's `tri_value` of a choice; that its members are bools and that m counts as y is our own).
 pub fn mode_of(table: &Table<'_>, id: ChoiceId) -> Tri
-    ensures { result ≡ spec.mode_of table.now.tree.now (known_at table.now) (choice_at table.now.tree.now id.0) }
+    ensures { result ≡ at.mode_of table.now id.0 }
 {
     match table.layout.choice(id) {
         Some(choice) => upgrade(choice_prompt(table, choice)),
@@ -91,7 +90,7 @@ pub fn mode_of(table: &Table<'_>, id: ChoiceId) -> Tri
 
 // The value of the mode that counts in a context.
 fn mode_value(table: &Table<'_>, mode: Option<ChoiceId>) -> Tri
-    ensures { result ≡ spec.mode_value table.now.tree.now (known_at table.now) (mode_view mode) }
+    ensures { result ≡ at.mode_value table.now (mode_view mode) }
 {
     match mode {
         None => Tri::Y,
@@ -103,7 +102,7 @@ fn mode_value(table: &Table<'_>, mode: Option<ChoiceId>) -> Tri
 /// kernel's kconfig-language document, "Menu dependencies").
 #[inline(always)]
 pub fn context(table: &Table<'_>, within: ContextId) -> Tri
-    ensures { result ≡ spec.condition table.now.tree.now (known_at table.now) (condition_at table.now within.0) }
+    ensures { result ≡ at.condition table.now (condition_at table.now within.0) }
 {
     match table.computed_context(within) {
         Some(value) => value,
@@ -113,7 +112,7 @@ pub fn context(table: &Table<'_>, within: ContextId) -> Tri
 
 // A value up to an `if`, which is looked at only where the value is not n.
 fn guarded(first: Tri, when: &Option<Rc<Expr>>, table: &Table<'_>) -> Tri
-    ensures { result ≡ lesser first (when_value table.now.tree.now (known_at table.now) (when_view when.now)) }
+    ensures { result ≡ lesser first (at.when_value table.now (when_view when.now)) }
 {
     if is_n(first) {
         Tri::N
@@ -124,7 +123,7 @@ fn guarded(first: Tri, when: &Option<Rc<Expr>>, table: &Table<'_>) -> Tri
 
 /// What a line is worth that depends on a context and on its own `if`.
 pub(crate) fn condition(table: &Table<'_>, within: ContextId, when: &Option<Rc<Expr>>) -> Tri
-    ensures { result ≡ spec.condition table.now.tree.now (known_at table.now) (with_when (condition_at table.now within.0) (when_view when.now)) }
+    ensures { result ≡ at.condition table.now (with_when (condition_at table.now within.0) (when_view when.now)) }
 {
     guarded(context(table, within), when, table)
 }
@@ -132,7 +131,7 @@ pub(crate) fn condition(table: &Table<'_>, within: ContextId, when: &Option<Rc<E
 /// The condition of a prompt, whose entry depends on a context.
 pub(crate) fn prompt_condition(table: &Table<'_>, within: ContextId, prompt: &EntryPrompt) -> Tri
     requires { HasNoMode table.now.layout.now.tables.contexts prompt.now.visible.0 }
-    ensures { result ≡ spec.condition table.now.tree.now (known_at table.now) (prompt_view table.now.layout.now.tables.contexts (condition_at table.now within.0) prompt.now) }
+    ensures { result ≡ at.condition table.now (prompt_view table.now.layout.now.tables.contexts (condition_at table.now within.0) prompt.now) }
 {
     let first = lesser(context(table, within), context(table, prompt.visible));
     guarded(first, &prompt.when, table)
@@ -141,7 +140,7 @@ pub(crate) fn prompt_condition(table: &Table<'_>, within: ContextId, prompt: &En
 /// When a menu or comment is shown.
 pub fn title_condition(table: &Table<'_>, title: &Title) -> Tri
     requires { HasNoMode table.now.layout.now.tables.contexts title.now.visible.0 }
-    ensures { result ≡ spec.condition table.now.tree.now (known_at table.now) (title_condition table.now.layout.now.tables title.now) }
+    ensures { result ≡ at.condition table.now (title_condition table.now.layout.now.tables title.now) }
 {
     lesser(context(table, title.within), context(table, title.visible))
 }

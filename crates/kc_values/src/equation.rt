@@ -1,13 +1,11 @@
 //! The equation of any symbol.
 
 ghost use Rattle.std.specs.Prelude.{◌≡◌, None, slice_index_or, IfOk};
-ghost use Rattle.kc_tree.specs.Layouts.{facts_of};
-ghost use Rattle.kc_values.specs.TableFacts.{known_at, own_value};
+ghost use Rattle.kc_values.specs.AtTable as spec;
+ghost use Rattle.kc_values.specs.TableFacts.{own_value, AreSelected};
 ghost use Rattle.kc_values.specs.Selections.{given_for};
-ghost use Rattle.kc_values.specs.TableFacts.{AreSelected};
 ghost use Rattle.kc_values.specs.Table.{known_value};
 ghost use Rattle.kc_values.specs.User.{given_in};
-ghost use Rattle.kc_values.specs.Values as spec;
 
 use crate::choices::member_equation;
 use crate::numbers::number_equation;
@@ -76,8 +74,7 @@ pub fn equation(
 ) -> Result<Value, AllocError>
     requires selected { AreSelected table.now users.now }
     ensures { IfOk result (λ x. known_value symbol.now.symbol_type x
-        ≡ spec.by_choice table.now.tree.now (known_at table.now) id (facts_of table.now.layout.now id.0 symbol.now) (facts_of table.now.layout.now id.0 symbol.now).choice
-        (given_for symbol.now.choice (given_in user.entry) users.now)) }
+        ≡ spec.equation table.now id symbol.now (given_for symbol.now.choice (given_in user.entry) users.now)) }
 {
     match symbol.choice.get() {
         Some(choice) => {

@@ -6,8 +6,6 @@ ghost use Rattle.kc_expr.specs.Form.{leaf_of, leaf_symbols};
 ghost use Rattle.kc_order.specs.Graph.{IsGraph, needs_of};
 ghost use Rattle.kc_order.specs.Needs.{AreAlike};
 ghost use Rattle.kc_expr.specs.When.{when_view};
-ghost use Rattle.kc_tree.specs.Layouts.{IsLayoutOf};
-ghost use Rattle.kc_tree.specs.TreeFacts.{IsWellFormed};
 ghost use Rattle.kc_tree.specs.Soundness.{IsChoiceThere, IsDefinitionThere, IsPromptThere};
 ghost use Rattle.kc_values.specs.Needs as spec;
 ghost use Rattle.kc_values.specs.NeedRows as rows;
@@ -17,6 +15,7 @@ use crate::nodes::{choice_number, context_number, node_count};
 use kc_expr::expression::{Expr, Operand, SymId, SymbolType};
 use kc_expr::values::symbols_into;
 use kc_order::Graph;
+use kc_tree::laid_tree::LaidTree;
 use kc_tree::layout::Layout;
 use kc_tree::rows::{
     Choice, ChoiceId, Context, ContextId, Definition, EntryPrompt, SelectorId, Symbol,
@@ -268,39 +267,39 @@ fn modules_into(tree: &Tree, symbol_type: SymbolType, out: &mut NeedRow) -> Resu
 
 // Adds what the equation of a bool or tristate symbol outside a choice names.
 fn truth_into(
-    tree: &Tree,
-    layout: &Layout,
+    laid: &LaidTree<'_>,
     id: SymId,
     symbol: &Symbol,
     out: &mut NeedRow,
 ) -> Result<(), AllocError>
-    ensures { OnOk result (Adds out.old out.new (rows.truth_nodes layout.now id.0 symbol.now) (rows.truth_names tree.now layout.now id.0 symbol.now)) }
+    ensures { OnOk result (Adds out.old out.new (rows.truth_nodes laid.now.layout.now id.0 symbol.now) (rows.truth_names laid.now.tree.now laid.now.layout.now id.0 symbol.now)) }
 {
+    let layout = laid.layout;
     definitions_into(layout, symbol, out)?;
     selectors_into(layout, layout.last_select(id), out)?;
     selectors_into(layout, layout.last_imply(id), out)?;
-    modules_into(tree, symbol.symbol_type, out)
+    modules_into(laid.tree, symbol.symbol_type, out)
 }
 
 // Adds what the equation of a symbol names: of a member of a choice what its selection does.
 fn symbol_into(
-    tree: &Tree,
-    layout: &Layout,
+    laid: &LaidTree<'_>,
     id: SymId,
     symbol: &Symbol,
     out: &mut NeedRow,
 ) -> Result<(), AllocError>
-    requires choice { IfSome symbol.now.choice (λ c. c.0 < length layout.now.tables.choices.items) }
-    ensures { OnOk result (Adds out.old out.new (rows.symbol_nodes layout.now id.0 symbol.now) (rows.symbol_names tree.now layout.now id.0 symbol.now)) }
+    requires choice { IfSome symbol.now.choice (λ c. c.0 < length laid.now.layout.now.tables.choices.items) }
+    ensures { OnOk result (Adds out.old out.new (rows.symbol_nodes laid.now.layout.now id.0 symbol.now) (rows.symbol_names laid.now.tree.now laid.now.layout.now id.0 symbol.now)) }
 {
+    let layout = laid.layout;
     if let Some(choice) = symbol.choice.get() {
         out.nodes.push(choice_number(layout, choice))?;
         return Ok(());
     }
     match symbol.symbol_type {
         SymbolType::Undefined => Ok(()),
-        SymbolType::Bool => truth_into(tree, layout, id, symbol, out),
-        SymbolType::Tristate => truth_into(tree, layout, id, symbol, out),
+        SymbolType::Bool => truth_into(laid, id, symbol, out),
+        SymbolType::Tristate => truth_into(laid, id, symbol, out),
         SymbolType::Str => definitions_into(layout, symbol, out),
         SymbolType::Int => definitions_into(layout, symbol, out),
         SymbolType::Hex => definitions_into(layout, symbol, out),
@@ -357,20 +356,16 @@ fn close_row(count: usize, row: &mut NeedRow, graph: &mut Graph) -> Result<(), A
 }
 
 // Adds the nodes of the symbols. One that is not defined needs nothing.
-fn add_symbols(
-    tree: &Tree,
-    layout: &Layout,
-    row: &mut NeedRow,
-    graph: &mut Graph,
-) -> Result<(), AllocError>
-    requires choices { AreChoicesThere layout.now }
+fn add_symbols(laid: &LaidTree<'_>, row: &mut NeedRow, graph: &mut Graph) -> Result<(), AllocError>
+    requires choices { AreChoicesThere laid.now.layout.now }
     requires row { IsRow [] [] row.old }
-    ensures graph { OnOk result (graph.new ≡ record graph.old { rows = graph.old.rows ++ rows.symbol_rows tree.now layout.now }) }
+    ensures graph { OnOk result (graph.new ≡ record graph.old { rows = graph.old.rows ++ rows.symbol_rows laid.now.tree.now laid.now.layout.now }) }
     ensures row { OnOk result (IsRow [] [] row.new) }
 {
+    let layout = laid.layout;
     let count = layout.symbols().len();
     for (i, symbol) in layout.symbols().iter().enumerate() {
-        symbol_into(tree, layout, SymId(i), symbol, row)?;
+        symbol_into(laid, SymId(i), symbol, row)?;
         close_row(count, row, graph)?;
     }
     Ok(())
@@ -408,22 +403,23 @@ fn add_choices(layout: &Layout, row: &mut NeedRow, graph: &mut Graph) -> Result<
 
 /// What each symbol of a tree needs: the symbols that its equation names (the kernel's kconfig-language document
 /// forbids recursive dependencies and does not say which count). What contexts and choices name stands once, in their own nodes,
-/// so that nothing grows with the square of the symbols in a block or of a choice's members (our own). The caller owes the layout
-/// of that tree. Fails only when it is out of memory.
-pub fn tree_needs(alloc: Global, tree: &Tree, layout: &Layout) -> Result<Graph, AllocError>
-    requires laid { IsLayoutOf tree.now layout.now }
-    requires formed { IsWellFormed tree.now }
+/// so that nothing grows with the square of the symbols in a block or of a choice's members (our own). Fails only when it is out
+/// of memory.
+pub fn tree_needs(alloc: Global, laid: &LaidTree<'_>) -> Result<Graph, AllocError>
     ensures graph { IfOk result IsGraph }
     ensures few { IfOk result (λ g. length g.rows < 2 ^ 32) }
-    ensures alike { IfOk result (λ g. AreAlike (needs_of g) (spec.needs tree.now)) }
-    ensures nodes { IfOk result (rows.AreNodeRows tree.now layout.now) }
+    ensures alike { IfOk result (λ g. AreAlike (needs_of g) (spec.needs laid.now.tree.now)) }
+    ensures nodes { IfOk result (rows.AreNodeRows laid.now.tree.now laid.now.layout.now) }
 {
+    // The choices that the symbols name are there: `name_count` says so.
+    let _ = laid.tree.name_count();
+    let layout = laid.layout;
     let mut graph = Graph::with_room(alloc, layout.symbols().len(), node_count(layout))?;
     let mut row = NeedRow {
         nodes: Vec::new(alloc),
         names: Vec::new(alloc),
     };
-    add_symbols(tree, layout, &mut row, &mut graph)?;
+    add_symbols(laid, &mut row, &mut graph)?;
     add_contexts(layout, &mut row, &mut graph)?;
     add_choices(layout, &mut row, &mut graph)?;
     Ok(graph)

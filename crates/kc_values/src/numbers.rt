@@ -3,14 +3,11 @@
 ghost use Rattle.std.specs.Prelude.{◌≡◌, ◌<◌, None, Some, IfOk, IfSome, bytes_eq, not, unsigned_abs};
 ghost use Rattle.std.specs.Option.{option_copied};
 ghost use Rattle.kc_text.specs.Limits.{hex_limit};
-ghost use Rattle.kc_tree.specs.Layouts.{definition_facts, facts_of, range_view};
-ghost use Rattle.kc_tree.specs.Contexts.{condition_in};
-ghost use Rattle.kc_values.specs.TableFacts.{known_at};
+ghost use Rattle.kc_values.specs.AtTable as spec;
 ghost use Rattle.kc_values.specs.FoundRows.{IsMetRange};
 ghost use Rattle.kc_values.specs.Numbers as digits;
 ghost use Rattle.kc_values.specs.Small.{HasSmallBounds};
 ghost use Rattle.kc_values.specs.User.{given_in};
-ghost use Rattle.kc_values.specs.Values as spec;
 
 use crate::conditions::{condition, is_n};
 use crate::table::Table;
@@ -56,7 +53,7 @@ fn number_or_zero(symbol_type: SymbolType, text: &[u8]) -> i128
 
 // The bounds of a range.
 fn bounds_of(table: &Table<'_>, symbol_type: SymbolType, range: &SymbolRange) -> Interval
-    ensures range { Some result ≡ spec.interval (known_at table.now) symbol_type (Some (range_view (condition_in table.now.layout.now.tables.contexts 0) range.now)) }
+    ensures range { Some result ≡ spec.interval table.now symbol_type range.now }
     ensures small { HasSmallBounds result }
 {
     Interval {
@@ -67,7 +64,7 @@ fn bounds_of(table: &Table<'_>, symbol_type: SymbolType, range: &SymbolRange) ->
 
 // The first range of a definition whose condition is not n.
 fn first_met<'t>(table: &Table<'t>, definition: &Definition) -> Option<&'t SymbolRange>
-    ensures { IsMetRange table.now (spec.first_met table.now.tree.now (known_at table.now) (definition_facts table.now.layout.now.tables definition.now).ranges) result }
+    ensures { IsMetRange table.now (spec.first_met table.now (spec.definition_in table.now definition.now).ranges) result }
 {
     for range in table.layout.ranges(definition) {
         if !is_n(condition(table, definition.within, &range.when)) {
@@ -80,7 +77,7 @@ fn first_met<'t>(table: &Table<'t>, definition: &Definition) -> Option<&'t Symbo
 /// The active range of a symbol: the first whose condition is not n (the kernel's kconfig-language document, "Menu
 /// attributes": numerical ranges). A bound that is no number counts as 0 (our own).
 pub(crate) fn active_range(table: &Table<'_>, symbol: &Symbol) -> Option<Interval>
-    ensures range { result ≡ spec.active_range table.now.tree.now (known_at table.now) (facts_of table.now.layout.now 0 symbol.now) }
+    ensures range { result ≡ spec.active_range table.now symbol.now }
     ensures small { IfSome result HasSmallBounds }
 {
     for i in 0..symbol.definition_count() {
@@ -176,7 +173,7 @@ pub(crate) fn number_equation(
     symbol: &Symbol,
     user: Option<&UserValue>,
 ) -> Result<Vec<u8>, AllocError>
-    ensures { IfOk result (λ v. v.items ≡ spec.number_equation table.now.tree.now (known_at table.now) (facts_of table.now.layout.now 0 symbol.now) (given_in user.entry)) }
+    ensures { IfOk result (λ v. v.items ≡ spec.number_equation table.now symbol.now (given_in user.entry)) }
 {
     let range = active_range(table, symbol);
     let given = visible_text_of(table, symbol, user);
@@ -198,7 +195,7 @@ pub(crate) fn differs_from_default(
     symbol: &Symbol,
     text: &[u8],
 ) -> Result<bool, AllocError>
-    ensures { IfOk result (λ b. b ≡ not (bytes_eq text.now (spec.number_equation table.now.tree.now (known_at table.now) (facts_of table.now.layout.now 0 symbol.now) None))) }
+    ensures { IfOk result (λ b. b ≡ not (bytes_eq text.now (spec.number_equation table.now symbol.now None))) }
 {
     let range = active_range(table, symbol);
     let default = default_text(table, symbol);

@@ -11,6 +11,7 @@ ghost use Rattle.kc_values.specs.Lookups.{type_in};
 
 use kc_expr::expression::{SymId, SymbolType, Tri};
 use kc_expr::values::Values;
+use kc_tree::laid_tree::LaidTree;
 use kc_tree::layout::Layout;
 use kc_tree::rows::{ChoiceId, ContextId};
 use kc_tree::tree::Tree;
@@ -59,16 +60,15 @@ pub struct Table<'t> {
 }
 
 impl<'t> Table<'t> {
-    /// A table of empty places, where nothing is computed. The caller owes the layout of that tree. Fails only when it is out
-    /// of memory.
-    pub fn empty(alloc: Global, tree: &'t Tree, layout: &'t Layout) -> Result<Table<'t>, AllocError>
-        requires { IsLayoutOf tree.now layout.now }
-        ensures tree { IfOk result (λ t. t.tree.now ≡ tree.now) }
-        ensures layout { IfOk result (λ t. t.layout.now ≡ layout.now) }
-        ensures values { IfOk result (λ t. t.values ≡ replicate (length tree.now.symbols) None) }
-        ensures contexts { IfOk result (λ t. t.contexts.items ≡ replicate (length layout.now.tables.contexts) None) }
-        ensures selections { IfOk result (λ t. t.selections.items ≡ replicate (length layout.now.tables.choices.items) None) }
+    /// A table of empty places, where nothing is computed. Fails only when it is out of memory.
+    pub fn empty(alloc: Global, laid: &LaidTree<'t>) -> Result<Table<'t>, AllocError>
+        ensures tree { IfOk result (λ t. t.tree.now ≡ laid.now.tree.now) }
+        ensures layout { IfOk result (λ t. t.layout.now ≡ laid.now.layout.now) }
+        ensures values { IfOk result (λ t. t.values ≡ replicate (length laid.now.tree.now.symbols) None) }
+        ensures contexts { IfOk result (λ t. t.contexts.items ≡ replicate (length laid.now.layout.now.tables.contexts) None) }
+        ensures selections { IfOk result (λ t. t.selections.items ≡ replicate (length laid.now.layout.now.tables.choices.items) None) }
     {
+        let LaidTree { tree, layout } = *laid;
         let values = SparseVec::empty(alloc, tree.name_count())?;
         let contexts = vec![in alloc; None; layout.context_count()]?;
         let selections = vec![in alloc; None; layout.choices().len()]?;

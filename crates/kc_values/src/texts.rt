@@ -4,11 +4,9 @@ ghost use Rattle.std.specs.Prelude.{◌≡◌, IfOk};
 ghost use Rattle.std.specs.Option.{option_copied};
 ghost use Rattle.kc_expr.specs.Form.{form_of};
 ghost use Rattle.kc_expr.specs.Value.{values_by};
-ghost use Rattle.kc_tree.specs.Layouts.{facts_of};
-ghost use Rattle.kc_values.specs.TableFacts.{known_at};
+ghost use Rattle.kc_values.specs.AtTable as at;
 ghost use Rattle.kc_values.specs.User.{given_in};
 ghost use Rattle.kc_values.specs.Values as spec;
-ghost use Rattle.kc_values.specs.Warnings.{met_text};
 
 use crate::conditions::is_n;
 use crate::table::Table;
@@ -37,7 +35,7 @@ pub fn single_text<'a, V: Values>(expr: &'a Expr, values: &'a V) -> &'a [u8]
 
 /// The text of the first default whose condition is not n, if there is one.
 pub(crate) fn met_text<'a>(table: &'a Table<'_>, symbol: &Symbol) -> Option<&'a [u8]>
-    ensures { option_copied result ≡ met_text (known_at table.now) (spec.first_met table.now.tree.now (known_at table.now) (facts_of table.now.layout.now 0 symbol.now).defaults) }
+    ensures { option_copied result ≡ at.met_text table.now symbol.now }
 {
     match met_default(table, symbol) {
         Some((default, _)) => Some(single_text(&default.value, table)),
@@ -48,7 +46,7 @@ pub(crate) fn met_text<'a>(table: &'a Table<'_>, symbol: &Symbol) -> Option<&'a 
 /// The text of the first default whose condition is not n, or nothing (the kernel's kconfig-language document, "Menu
 /// attributes": default value).
 pub(crate) fn default_text<'a>(table: &'a Table<'_>, symbol: &Symbol) -> &'a [u8]
-    ensures { result.now ≡ spec.default_text (known_at table.now) (spec.first_met table.now.tree.now (known_at table.now) (facts_of table.now.layout.now 0 symbol.now).defaults) }
+    ensures { result.now ≡ at.default_text table.now symbol.now }
 {
     met_text(table, symbol).unwrap_or(b"")
 }
@@ -72,7 +70,7 @@ pub(crate) fn visible_text_of<'a>(
     symbol: &Symbol,
     user: Option<&'a UserValue>,
 ) -> Option<&'a [u8]>
-    ensures { option_copied result ≡ spec.visible_text (given_in user.entry) (spec.visibility table.now.tree.now (known_at table.now) (facts_of table.now.layout.now 0 symbol.now)) }
+    ensures { option_copied result ≡ spec.visible_text (given_in user.entry) (at.visibility table.now symbol.now) }
 {
     match user {
         Some(UserValue::Text(_)) => visible_text(user, visibility(table, symbol)),
@@ -88,7 +86,7 @@ pub(crate) fn text_equation(
     symbol: &Symbol,
     user: Option<&UserValue>,
 ) -> Result<Vec<u8>, AllocError>
-    ensures { IfOk result (λ v. v.items ≡ spec.text_equation table.now.tree.now (known_at table.now) (facts_of table.now.layout.now 0 symbol.now) (given_in user.entry)) }
+    ensures { IfOk result (λ v. v.items ≡ at.text_equation table.now symbol.now (given_in user.entry)) }
 {
     if let Some(bytes) = visible_text_of(table, symbol, user) {
         let copy = Vec::from_slice(alloc, bytes)?;

@@ -2,12 +2,12 @@
 
 ghost use Rattle.std.specs.Prelude.{◌≡◌};
 ghost use Rattle.kc_tree.specs.Common.{listed};
-ghost use Rattle.kc_tree.specs.Layouts.{definition_facts, facts_of, selector_facts, selectors_from};
-ghost use Rattle.kc_values.specs.TableFacts.{known_at, IsDefinitionOf};
+ghost use Rattle.kc_tree.specs.Layouts.{selector_facts, selectors_from};
+ghost use Rattle.kc_values.specs.AtTable as spec;
+ghost use Rattle.kc_values.specs.TableFacts.{IsDefinitionOf};
 ghost use Rattle.kc_values.specs.FoundRows.{IsDefinitionAt, IsMetDefault};
 ghost use Rattle.kc_values.specs.User.{given_in};
-ghost use Rattle.kc_values.specs.Values as spec;
-ghost use Rattle.kc_values.specs.WrittenSymbols as written;
+ghost use Rattle.kc_values.specs.Values.{user_or};
 
 use crate::conditions::{condition, context, is_n, prompt_condition};
 use crate::table::Table;
@@ -19,7 +19,7 @@ use kc_user::value::UserValue;
 // Whether the type is tristate under the values: it is written as that, and the modules symbol is a bool or tristate that is
 // not n.
 fn is_tristate(table: &Table<'_>, symbol_type: SymbolType) -> bool
-    ensures { result ≡ written.is_tristate table.now.tree.now (known_at table.now) symbol_type }
+    ensures { result ≡ spec.is_tristate table.now symbol_type }
 {
     if symbol_type != SymbolType::Tristate {
         return false;
@@ -35,7 +35,7 @@ fn is_tristate(table: &Table<'_>, symbol_type: SymbolType) -> bool
 /// looked at only where the value is m.
 #[tactic(auto, using(crate::proofs::UpgradeLemmas::n_stays, crate::proofs::UpgradeLemmas::y_stays, crate::proofs::UpgradeLemmas::m_upgraded, crate::proofs::UpgradeLemmas::m_kept))]
 pub(crate) fn upgraded(table: &Table<'_>, symbol_type: SymbolType, value: Tri) -> Tri
-    ensures { result ≡ spec.upgraded table.now.tree.now (known_at table.now) symbol_type value }
+    ensures { result ≡ spec.upgraded table.now symbol_type value }
 {
     match value {
         Tri::M if !is_tristate(table, symbol_type) => Tri::Y,
@@ -53,7 +53,7 @@ pub(crate) fn definition<'t>(table: &Table<'t>, symbol: &Symbol, i: usize) -> Op
 // The condition of the prompt of a definition; n without one.
 fn prompt_visibility(table: &Table<'_>, definition: &Definition) -> Tri
     requires { IsDefinitionAt table.now definition.now }
-    ensures { result ≡ spec.conditions table.now.tree.now (known_at table.now) (listed (definition_facts table.now.layout.now.tables definition.now).prompt) }
+    ensures { result ≡ spec.conditions table.now (listed (spec.definition_in table.now definition.now).prompt) }
 {
     match &definition.prompt {
         Some(prompt) => prompt_condition(table, definition.within, prompt),
@@ -63,7 +63,7 @@ fn prompt_visibility(table: &Table<'_>, definition: &Definition) -> Tri
 
 /// The greatest condition of the prompts of a symbol; n without a prompt.
 pub(crate) fn prompts_condition(table: &Table<'_>, symbol: &Symbol) -> Tri
-    ensures { result ≡ spec.conditions table.now.tree.now (known_at table.now) (facts_of table.now.layout.now 0 symbol.now).prompts }
+    ensures { result ≡ spec.conditions table.now (spec.own_lines table.now symbol.now).prompts }
 {
     let mut greatest = Tri::N;
     for i in 0..symbol.definition_count() {
@@ -77,14 +77,14 @@ pub(crate) fn prompts_condition(table: &Table<'_>, symbol: &Symbol) -> Tri
 /// The visibility of a symbol: the greatest condition of its prompts, m being y where the symbol can't be m; n without a prompt
 /// (kconfiglib's `visibility`).
 pub fn visibility(table: &Table<'_>, symbol: &Symbol) -> Tri
-    ensures { result ≡ spec.visibility table.now.tree.now (known_at table.now) (facts_of table.now.layout.now 0 symbol.now) }
+    ensures { result ≡ spec.visibility table.now symbol.now }
 {
     upgraded(table, symbol.symbol_type, prompts_condition(table, symbol))
 }
 
 // The first default of a definition whose condition is not n, and that condition.
 fn first_met<'t>(table: &Table<'t>, definition: &Definition) -> Option<(&'t SymbolDefault, Tri)>
-    ensures { IsMetDefault table.now (spec.first_met table.now.tree.now (known_at table.now) (definition_facts table.now.layout.now.tables definition.now).defaults) result }
+    ensures { IsMetDefault table.now (spec.first_met table.now (spec.definition_in table.now definition.now).defaults) result }
 {
     for default in table.layout.defaults(definition) {
         let when = condition(table, definition.within, &default.when);
@@ -101,7 +101,7 @@ pub(crate) fn met_default<'t>(
     table: &Table<'t>,
     symbol: &Symbol,
 ) -> Option<(&'t SymbolDefault, Tri)>
-    ensures { IsMetDefault table.now (spec.first_met table.now.tree.now (known_at table.now) (facts_of table.now.layout.now 0 symbol.now).defaults) result }
+    ensures { IsMetDefault table.now (spec.met_default table.now symbol.now) result }
 {
     for i in 0..symbol.definition_count() {
         if let Some(definition) = definition(table, symbol, i) {
@@ -116,7 +116,7 @@ pub(crate) fn met_default<'t>(
 /// min(value, condition) of the first default whose condition is not n, or n (the kernel's kconfig-language document, "Menu
 /// attributes": default value).
 pub(crate) fn default_truth(table: &Table<'_>, symbol: &Symbol) -> Tri
-    ensures { result ≡ spec.default_value table.now.tree.now (known_at table.now) (spec.first_met table.now.tree.now (known_at table.now) (facts_of table.now.layout.now 0 symbol.now).defaults) }
+    ensures { result ≡ spec.default_value table.now symbol.now }
 {
     match met_default(table, symbol) {
         Some((default, when)) => lesser(eval(&default.value, table), when),
@@ -126,7 +126,7 @@ pub(crate) fn default_truth(table: &Table<'_>, symbol: &Symbol) -> Tri
 
 // min(value of the other symbol, condition) of a line that selects or implies.
 fn selector_value(table: &Table<'_>, line: &Selector) -> Tri
-    ensures { result ≡ spec.selector_values table.now.tree.now (known_at table.now) (listed (selector_facts table.now.layout.now.tables line.now)) }
+    ensures { result ≡ spec.selector_values table.now (listed (selector_facts table.now.layout.now.tables line.now)) }
 {
     let Some(source) = table.layout.definition(line.source) else {
         return Tri::N;
@@ -140,7 +140,7 @@ fn selector_value(table: &Table<'_>, line: &Selector) -> Tri
 
 // The greatest of them, from the last line on.
 fn selector_values(table: &Table<'_>, last: Option<SelectorId>) -> Tri
-    ensures { result ≡ spec.selector_values table.now.tree.now (known_at table.now) (selectors_from table.now.layout.now.tables last) }
+    ensures { result ≡ spec.selector_values table.now (selectors_from table.now.layout.now.tables last) }
 {
     let mut greatest = Tri::N;
     let mut at = last;
@@ -157,7 +157,7 @@ fn selector_values(table: &Table<'_>, last: Option<SelectorId>) -> Tri
 /// The direct dependency of a symbol: the greatest that its definitions depend on, m being y where the symbol can't be m
 /// (kconfiglib's `direct_dep`).
 pub fn direct(table: &Table<'_>, symbol: &Symbol) -> Tri
-    ensures { result ≡ spec.direct table.now.tree.now (known_at table.now) (facts_of table.now.layout.now 0 symbol.now) }
+    ensures { result ≡ spec.direct table.now symbol.now }
 {
     let mut greatest = Tri::N;
     for i in 0..symbol.definition_count() {
@@ -171,7 +171,7 @@ pub fn direct(table: &Table<'_>, symbol: &Symbol) -> Tri
 /// What a symbol is selected to: the greatest min(value of the selecting symbol, condition), m being y where the symbol
 /// can't be m (the kernel's kconfig-language document, "Menu attributes": reverse dependencies).
 pub(crate) fn selected_to(table: &Table<'_>, id: SymId, symbol: &Symbol) -> Tri
-    ensures { result ≡ spec.selected_to table.now.tree.now (known_at table.now) (facts_of table.now.layout.now id.0 symbol.now) }
+    ensures { result ≡ spec.selected_to table.now id symbol.now }
 {
     match table.layout.last_select(id) {
         None => Tri::N,
@@ -186,7 +186,7 @@ pub(crate) fn selected_to(table: &Table<'_>, id: SymId, symbol: &Symbol) -> Tri
 /// What a symbol is implied to: the same over what implies it (the kernel's kconfig-language document, "Menu
 /// attributes": weak reverse dependencies).
 pub(crate) fn implied_to(table: &Table<'_>, id: SymId, symbol: &Symbol) -> Tri
-    ensures { result ≡ spec.implied_to table.now.tree.now (known_at table.now) (facts_of table.now.layout.now id.0 symbol.now) }
+    ensures { result ≡ spec.implied_to table.now id symbol.now }
 {
     match table.layout.last_imply(id) {
         None => Tri::N,
@@ -200,7 +200,7 @@ pub(crate) fn implied_to(table: &Table<'_>, id: SymId, symbol: &Symbol) -> Tri
 
 // The default, which an imply raises up to the direct dependency. That is looked at only where something implies the symbol.
 fn implied(table: &Table<'_>, id: SymId, symbol: &Symbol) -> Tri
-    ensures { result ≡ spec.implied_value table.now.tree.now (known_at table.now) (facts_of table.now.layout.now id.0 symbol.now) }
+    ensures { result ≡ spec.implied_value table.now id symbol.now }
 {
     let default = default_truth(table, symbol);
     let implied_to = implied_to(table, id, symbol);
@@ -212,8 +212,7 @@ fn implied(table: &Table<'_>, id: SymId, symbol: &Symbol) -> Tri
 
 // The user's truth up to the visibility, where the symbol is visible, and else its default. Only what counts is looked at.
 fn given_or_implied(table: &Table<'_>, id: SymId, symbol: &Symbol, user: Option<&UserValue>) -> Tri
-    ensures { let f = facts_of table.now.layout.now id.0 symbol.now in result
-        ≡ spec.user_or (given_in user.entry) (spec.visibility table.now.tree.now (known_at table.now) f) (spec.implied_value table.now.tree.now (known_at table.now) f) }
+    ensures { result ≡ user_or (given_in user.entry) (spec.visibility table.now symbol.now) (spec.implied_value table.now id symbol.now) }
 {
     match user {
         Some(UserValue::Tri(given)) => match visibility(table, symbol) {
@@ -235,7 +234,7 @@ pub(crate) fn truth_equation(
     symbol: &Symbol,
     user: Option<&UserValue>,
 ) -> Tri
-    ensures { result ≡ spec.truth_equation table.now.tree.now (known_at table.now) (facts_of table.now.layout.now id.0 symbol.now) (given_in user.entry) }
+    ensures { result ≡ spec.truth_equation table.now id symbol.now (given_in user.entry) }
 {
     let value = given_or_implied(table, id, symbol, user);
     let selected = selected_to(table, id, symbol);

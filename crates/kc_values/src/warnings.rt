@@ -1,15 +1,12 @@
 //! What the values of a tree are warned of.
 
-ghost use Rattle.std.specs.Prelude.{◌≡◌, ◌++◌, Some, IfOk, IfSome, OnOk};
+ghost use Rattle.std.specs.Prelude.{◌≡◌, ◌++◌, IfOk, IfSome, OnOk};
 ghost use Rattle.std.specs.Option.{option_copied};
 ghost use Rattle.kc_diagnostics.specs.Warnings.{owned_warning};
-ghost use Rattle.kc_tree.specs.Layouts.{facts_of};
-ghost use Rattle.kc_values.specs.TableFacts.{facts_in, known_at};
-ghost use Rattle.kc_values.specs.Lookups as lookup;
+ghost use Rattle.kc_values.specs.AtTable as at;
 ghost use Rattle.kc_values.specs.Numbers.{number_text};
 ghost use Rattle.kc_values.specs.Small.{HasSmallBounds};
 ghost use Rattle.kc_values.specs.User.{given_in};
-ghost use Rattle.kc_values.specs.Values as value;
 ghost use Rattle.kc_values.specs.Warnings as spec;
 ghost use Rattle.kc_values.specs.WrittenSymbols.{above};
 
@@ -178,9 +175,8 @@ fn range_warnings(
     user: Option<&UserValue>,
     out: &mut Vec<Warning<Vec<u8>>>,
 ) -> Result<(), AllocError>
-    requires { visibility ≡ value.visibility table.now.tree.now (known_at table.now) (facts_of table.now.layout.now 0 symbol.now) }
-    ensures { OnOk result (spec.held out.new.items ≡ spec.held out.old.items ++ spec.range_warnings table.now.tree.now (known_at table.now) name.now
-        (facts_of table.now.layout.now 0 symbol.now) (given_in user.entry)) }
+    requires { visibility ≡ at.visibility table.now symbol.now }
+    ensures { OnOk result (spec.held out.new.items ≡ spec.held out.old.items ++ at.range_warnings table.now name.now symbol.now (given_in user.entry)) }
 {
     let range = active_range(table, symbol);
     let given = visible_text(user, visibility);
@@ -200,7 +196,7 @@ fn select_warnings(
     symbol: &Symbol,
     out: &mut Vec<Warning<Vec<u8>>>,
 ) -> Result<(), AllocError>
-    ensures { OnOk result (spec.held out.new.items ≡ spec.held out.old.items ++ spec.select_warnings table.now.tree.now (known_at table.now) name.now (facts_in table.now id symbol.now)) }
+    ensures { OnOk result (spec.held out.new.items ≡ spec.held out.old.items ++ at.select_warnings table.now name.now id symbol.now) }
 {
     let selected_to = selected_to(table, id, symbol);
     // What nothing selects is above no direct dependency.
@@ -229,9 +225,8 @@ pub fn warnings_into(
     user: Option<&UserValue>,
     out: &mut Vec<Warning<Vec<u8>>>,
 ) -> Result<(), AllocError>
-    requires { visibility ≡ value.visibility table.now.tree.now (known_at table.now) (facts_in table.now id symbol.now) }
-    ensures { OnOk result (spec.held out.new.items ≡ spec.held out.old.items ++ spec.warnings_of table.now.tree.now (known_at table.now)
-        (lookup.name table.now.tree.now id) (Some (facts_in table.now id symbol.now)) (given_in user.entry)) }
+    requires { visibility ≡ at.visibility table.now symbol.now }
+    ensures { OnOk result (spec.held out.new.items ≡ spec.held out.old.items ++ at.warnings_of table.now id symbol.now (given_in user.entry)) }
 {
     if symbol.choice.is_some() {
         return Ok(());

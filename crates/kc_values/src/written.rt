@@ -1,10 +1,7 @@
 //! Which symbols are written.
 
-ghost use Rattle.std.specs.Prelude.{◌≡◌, Some};
-ghost use Rattle.kc_tree.specs.Layouts.{facts_of};
-ghost use Rattle.kc_values.specs.TableFacts.{known_at};
-ghost use Rattle.kc_values.specs.Values as value;
-ghost use Rattle.kc_values.specs.WrittenSymbols as spec;
+ghost use Rattle.std.specs.Prelude.{◌≡◌};
+ghost use Rattle.kc_values.specs.AtTable as spec;
 
 use crate::conditions::is_n;
 use crate::table::Table;
@@ -14,8 +11,8 @@ use kc_tree::rows::Symbol;
 
 // Whether a bool or tristate symbol outside a choice is written.
 fn truth_is_written(table: &Table<'_>, id: SymId, symbol: &Symbol, visibility: Tri) -> bool
-    requires { visibility ≡ value.visibility table.now.tree.now (known_at table.now) (facts_of table.now.layout.now id.0 symbol.now) }
-    ensures { result ≡ spec.written_truth table.now.tree.now (known_at table.now) (facts_of table.now.layout.now id.0 symbol.now) }
+    requires { visibility ≡ spec.visibility table.now symbol.now }
+    ensures { result ≡ spec.written_truth table.now id symbol.now }
 {
     !is_n(visibility)
         || !is_n(default_truth(table, symbol))
@@ -25,16 +22,16 @@ fn truth_is_written(table: &Table<'_>, id: SymId, symbol: &Symbol, visibility: T
 
 // Whether a string, int or hex symbol is written.
 fn text_is_written(table: &Table<'_>, symbol: &Symbol, visibility: Tri) -> bool
-    requires { visibility ≡ value.visibility table.now.tree.now (known_at table.now) (facts_of table.now.layout.now 0 symbol.now) }
-    ensures { result ≡ spec.written_text table.now.tree.now (known_at table.now) (facts_of table.now.layout.now 0 symbol.now) }
+    requires { visibility ≡ spec.visibility table.now symbol.now }
+    ensures { result ≡ spec.written_text table.now symbol.now }
 {
     !is_n(visibility) || met_default(table, symbol).is_some()
 }
 
 // Whether a symbol outside a choice is written, by its type.
 fn own_is_written(table: &Table<'_>, id: SymId, symbol: &Symbol, visibility: Tri) -> bool
-    requires { visibility ≡ value.visibility table.now.tree.now (known_at table.now) (facts_of table.now.layout.now id.0 symbol.now) }
-    ensures { result ≡ spec.written_by_type table.now.tree.now (known_at table.now) (facts_of table.now.layout.now id.0 symbol.now) symbol.now.symbol_type }
+    requires { visibility ≡ spec.visibility table.now symbol.now }
+    ensures { result ≡ spec.written_by_type table.now id symbol.now }
 {
     match symbol.symbol_type {
         SymbolType::Undefined => false,
@@ -50,8 +47,8 @@ fn own_is_written(table: &Table<'_>, id: SymId, symbol: &Symbol, visibility: Tri
 /// string, int or hex one of whose defaults has a condition that is not n. Without a type it has none (kconfiglib's
 /// `config_string`). The caller owes the visibility, so that it is found once for all that asks for it.
 pub fn written(table: &Table<'_>, id: SymId, symbol: &Symbol, visibility: Tri) -> bool
-    requires { visibility ≡ value.visibility table.now.tree.now (known_at table.now) (facts_of table.now.layout.now id.0 symbol.now) }
-    ensures { result ≡ spec.written_facts table.now.tree.now (known_at table.now) (Some (facts_of table.now.layout.now id.0 symbol.now)) }
+    requires { visibility ≡ spec.visibility table.now symbol.now }
+    ensures { result ≡ spec.is_written table.now id symbol.now }
 {
     match symbol.choice.get() {
         Some(_) => !is_n(visibility),

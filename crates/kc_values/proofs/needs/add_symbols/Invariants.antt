@@ -8,5 +8,5 @@ use Rattle.kc_values.proofs.needs.add_symbols.Given as goal
 abbrev pub invariant-loop-i : goal.invariant-loop-i
 invariant-loop-i l =
     (l.graph ≡ record l.initial.graph {
-      rows = l.initial.graph.rows ++ map (λ i. symbol_row l.tree l.layout i (slice_get l.layout.symbols.items i)) (range_with_len 0 l.i);
+      rows = l.initial.graph.rows ++ map (λ i. symbol_row l.laid.tree.now l.laid.layout.now i (slice_get l.laid.layout.now.symbols.items i)) (range_with_len 0 l.i);
     }) × IsRow [] [] l.row

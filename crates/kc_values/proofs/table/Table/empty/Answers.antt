@@ -12,4 +12,4 @@ none_there : {A : Type 0} (n i : ℕ) (xs : List (Option A)) (t : A) → xs ≡ 
 none_there {A = A} n i xs t e f = let none = none_at {A = A} n i in cc
 
 pub invariant_of-result-clause-computed : goal.invariant_of-result-clause-computed
-invariant_of-result-clause-computed c = λ i t e. absurd (none_there (length c.args.layout.now.tables.contexts) i c.in_ok-contexts.contexts.items t (search rules) e)
+invariant_of-result-clause-computed c = λ i t e. absurd (none_there (length c.args.laid.now.layout.now.tables.contexts) i c.in_ok-contexts.contexts.items t (search rules) e)
