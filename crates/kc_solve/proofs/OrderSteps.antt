@@ -6,8 +6,7 @@ use Rattle.kc_order.specs.Order.{Orders}
 use Rattle.kc_order.proofs.Alike.{accepted_alike}
 use Rattle.kc_order.proofs.ByOrder.{nothing_unordered}
 use Rattle.kc_order.proofs.Groups.{needs_count, unordered_alike}
-use Rattle.kc_tree.specs.TreeFacts.{TreeFacts}
-use Rattle.kc_tree.specs.declared.layout.Layout.{Layout}
+use Rattle.kc_tree.specs.declared.laid_tree.LaidTree.{LaidTree}
 use Rattle.kc_values.specs.Needs.{needs, IsAccepted as IsTreeAccepted}
 use Rattle.kc_solve.specs.Graphs.{IsGraphOf}
 
@@ -17,6 +16,6 @@ accepted_through g is free s l =
     ap (λ n. unordered_after (needs_in (needs_of g)) n s) (needs_count g is) ∙ sym (unordered_alike g is s below) ∙ free s (omega (arith, is.symbols_there))
 
 -- a tree whose nodes have an order is accepted
-pub tree_accepted : (tree : TreeFacts) (l : Layout) (g : Nodes) (nodes : List ℕ) → IsGraphOf tree l g → Orders g.rows nodes → IsTreeAccepted tree
-tree_accepted tree l g nodes is orders =
-    accepted_alike (needs_of g) (needs tree) is.alike (accepted_through g is.graph (nothing_unordered (length g.rows) (needs_in g.rows) nodes orders))
+pub tree_accepted : (laid : LaidTree) (g : Nodes) (nodes : List ℕ) → IsGraphOf laid g → Orders g.rows nodes → IsTreeAccepted laid.tree.now
+tree_accepted laid g nodes is orders =
+    accepted_alike (needs_of g) (needs laid.tree.now) is.alike (accepted_through g is.graph (nothing_unordered (length g.rows) (needs_in g.rows) nodes orders))

@@ -5,16 +5,15 @@ ghost use Rattle.kc_order.specs.Solution.{Solves};
 ghost use Rattle.kc_solve.specs.Computing.{equation_at, place_value, IsComputedSymbol, IsNodeOrder, IsComputedContext, IsComputedSelection, IsUnread};
 ghost use Rattle.kc_solve.specs.PlaceLists.{places};
 ghost use Rattle.kc_solve.specs.Kept.{valuation};
-ghost use Rattle.kc_tree.specs.Layouts.{IsLayoutOf};
 ghost use Rattle.kc_values.specs.Lookups as lookup;
 ghost use Rattle.kc_values.specs.Solution.{name_count, equations};
 ghost use Rattle.kc_values.specs.TableFacts.{AreSelected, IsRowOf};
 ghost use Rattle.kc_values.specs.User.{given_in};
 
 use kc_expr::expression::{SymId, SymbolType};
+use kc_tree::laid_tree::LaidTree;
 use kc_tree::layout::Layout;
 use kc_tree::rows::{ChoiceId, ContextId, Symbol};
-use kc_tree::tree::Tree;
 use kc_user::sparse::SparseVec;
 use kc_user::value::UserValue;
 use kc_values::choices::selected_in;
@@ -102,22 +101,20 @@ fn compute_selection(table: &mut Table<'_>, id: ChoiceId, chosen: &[Option<SymId
 /// the table that solves the equations under what was given for each symbol and the member that was chosen for each choice.
 pub(crate) fn compute<'t>(
     alloc: Global,
-    tree: &'t Tree,
-    layout: &'t Layout,
+    laid: &LaidTree<'t>,
     nodes: &[u32],
     given: &SparseVec<UserValue>,
     chosen: &[Option<SymId>],
 ) -> Result<Table<'t>, AllocError>
-    requires laid { IsLayoutOf tree.now layout.now }
-    requires order { IsNodeOrder tree.now layout.now nodes.now }
-    requires given { length given.now ≡ name_count tree.now }
-    requires chosen { length chosen.now ≡ length tree.now.choices }
-    ensures tree { IfOk result (λ t. t.tree.now ≡ tree.now) }
-    ensures count { IfOk result (λ t. length t.values ≡ name_count tree.now) }
+    requires order { IsNodeOrder laid.now.tree.now laid.now.layout.now nodes.now }
+    requires given { length given.now ≡ name_count laid.now.tree.now }
+    requires chosen { length chosen.now ≡ length laid.now.tree.now.choices }
+    ensures tree { IfOk result (λ t. t.tree.now ≡ laid.now.tree.now) }
+    ensures count { IfOk result (λ t. length t.values ≡ name_count laid.now.tree.now) }
     ensures selected { IfOk result (λ t. AreSelected t chosen.now) }
-    ensures solves { IfOk result (λ t. Solves (name_count tree.now) (equations tree.now (places given.now chosen.now)) (valuation tree.now t.values)) }
+    ensures solves { IfOk result (λ t. Solves (name_count laid.now.tree.now) (equations laid.now.tree.now (places given.now chosen.now)) (valuation laid.now.tree.now t.values)) }
 {
-    let mut table = Table::empty(alloc, tree, layout)?;
+    let mut table = Table::empty(alloc, laid)?;
     for node in nodes {
         match node_of(table.layout, *node) {
             Node::Symbol(id) => compute_symbol(alloc, &mut table, id, given, chosen)?,

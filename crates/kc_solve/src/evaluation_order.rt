@@ -10,13 +10,13 @@ ghost use Rattle.kc_solve.specs.Graphs.{IsGraphOf};
 ghost use Rattle.kc_solve.specs.Refused as refused;
 ghost use Rattle.kc_solve.specs.Refused.{NamesLoop};
 ghost use Rattle.kc_solve.specs.LoopFaults.{NamesTheLoop};
-ghost use Rattle.kc_tree.specs.Layouts.{IsLayoutOf};
 ghost use Rattle.kc_values.specs.Needs.{needs, IsAccepted};
 
 use kc_diagnostics::Cause;
 use kc_expr::expression::SymId;
 use kc_order::{NoOrder, alike_needs, order_of};
 use kc_read::refusal::Refusal;
+use kc_tree::laid_tree::LaidTree;
 use kc_tree::layout::Layout;
 use kc_tree::tree::Tree;
 use kc_values::laws::needs_are_symbols;
@@ -42,7 +42,7 @@ impl Model for EvaluationOrder {
 }
 
 impl EvaluationOrder {
-    /// An order of the tree's symbols. The caller owes the layout of that tree.
+    /// An order of the tree's symbols.
     ///
     /// # Errors
     ///
@@ -51,15 +51,14 @@ impl EvaluationOrder {
     /// joined by ` -> `, where the walk goes from the first unordered symbol always on to the first unordered symbol that
     /// is needed. The first of several symbols is the one that is defined first (our own rule). `Memory` where no memory was
     /// to be had.
-    pub fn of(alloc: Global, tree: &Tree, layout: &Layout) -> Result<EvaluationOrder, Refusal>
-        requires { IsLayoutOf tree.now layout.now }
-        ensures same { IfOk result (IsGraphOf tree.now layout.now) }
-        ensures accepted { OnOk result (IsAccepted tree.now) }
-        ensures unordered { IfErr result (λ r. r.cause ≢ Memory → SomeUnordered (length (needs tree.now)) (needs_in (needs tree.now))) }
-        ensures refused { IfErr result (NamesLoop tree.now) }
+    pub fn of(alloc: Global, laid: &LaidTree<'_>) -> Result<EvaluationOrder, Refusal>
+        ensures same { IfOk result (IsGraphOf laid.now) }
+        ensures accepted { OnOk result (IsAccepted laid.now.tree.now) }
+        ensures unordered { IfErr result (λ r. r.cause ≢ Memory → SomeUnordered (length (needs laid.now.tree.now)) (needs_in (needs laid.now.tree.now))) }
+        ensures refused { IfErr result (NamesLoop laid.now.tree.now) }
         ensures memory { IfErr result IsMemory }
     {
-        match tree_order(alloc, tree, layout) {
+        match tree_order(alloc, laid) {
             Ok(inner) => Ok(EvaluationOrder { inner }),
             Err(LoopFault::Loop(text)) => Err(loop_refusal(text)),
             Err(LoopFault::Memory) => Err(Refusal::out_of_memory()),
@@ -144,21 +143,20 @@ fn first_numbers(alloc: Global, layout: &Layout) -> Result<Vec<u32>, AllocError>
 
 // An order of the symbols of a tree in which what each needs stands before it. Fails where some symbol is unordered, with
 // the text of the loop that is named, and for being out of memory.
-fn tree_order(alloc: Global, tree: &Tree, layout: &Layout) -> Result<kc_order::Order, LoopFault>
-    requires { IsLayoutOf tree.now layout.now }
-    ensures same { IfOk result (IsGraphOf tree.now layout.now) }
-    ensures accepted { OnOk result (IsAccepted tree.now) }
-    ensures refused { IfErr result (NamesTheLoop tree.now) }
+fn tree_order(alloc: Global, laid: &LaidTree<'_>) -> Result<kc_order::Order, LoopFault>
+    ensures same { IfOk result (IsGraphOf laid.now) }
+    ensures accepted { OnOk result (IsAccepted laid.now.tree.now) }
+    ensures refused { IfErr result (NamesTheLoop laid.now.tree.now) }
 {
     needs_are_symbols();
     alike_needs();
-    let _count = tree.name_count();
-    let all = tree_needs(alloc, tree, layout)?;
-    let sequence = first_numbers(alloc, layout)?;
+    let _count = laid.tree.name_count();
+    let all = tree_needs(alloc, laid)?;
+    let sequence = first_numbers(alloc, laid.layout)?;
     match order_of(alloc, all, &sequence) {
         Ok(order) => Ok(order),
         Err(NoOrder::Loop(symbols)) => {
-            let text = loop_text(alloc, tree, &symbols)?;
+            let text = loop_text(alloc, laid.tree, &symbols)?;
             Err(LoopFault::Loop(text))
         }
         Err(NoOrder::Memory) => Err(LoopFault::Memory),

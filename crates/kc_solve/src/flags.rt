@@ -8,10 +8,9 @@ ghost use Rattle.kc_solve.specs.Flags.{row_differs, visibilities_in, IsSolvedRow
 ghost use Rattle.kc_user.specs.Places.{ArePlacesOf, member_place, place_at};
 ghost use Rattle.kc_values.specs.Differs as spec;
 ghost use Rattle.kc_values.specs.Solution.{name_count, equations};
-ghost use Rattle.kc_values.specs.Lookups.{choice_at};
-ghost use Rattle.kc_values.specs.TableFacts.{facts_in, known_at, AreSelected, IsRowOf};
+ghost use Rattle.kc_values.specs.AtTable as at;
+ghost use Rattle.kc_values.specs.TableFacts.{AreSelected, IsRowOf};
 ghost use Rattle.kc_values.specs.User.{given_in};
-ghost use Rattle.kc_values.specs.Values as value;
 ghost use Rattle.kc_diagnostics.specs.Warnings.{owned_warning};
 ghost use Rattle.kc_values.specs.Warnings.{value_warnings};
 
@@ -44,8 +43,8 @@ fn default_of(
     given: Option<SymId>,
     selection: Option<SymId>,
 ) -> Option<SymId>
-    requires { selection ≡ value.selected table.now.tree.now (known_at table.now) (choice_at table.now.tree.now choice.0) (member_place given) }
-    ensures { result ≡ value.selected table.now.tree.now (known_at table.now) (choice_at table.now.tree.now choice.0) None }
+    requires { selection ≡ at.selected table.now choice.0 (member_place given) }
+    ensures { result ≡ at.selected table.now choice.0 None }
 {
     match given {
         Some(_) => selected_in(table, choice, None),
@@ -128,7 +127,7 @@ fn symbol_differs(
     requires row { IsRowOf table.now id symbol.now }
     requires selections { IfSome symbol.now.choice (λ c. c.0 < length selections.now) }
     requires defaults { IfSome symbol.now.choice (λ c. c.0 < length defaults.now) }
-    requires visibility { visibility ≡ value.visibility table.now.tree.now (known_at table.now) (facts_in table.now id symbol.now) }
+    requires visibility { visibility ≡ at.visibility table.now symbol.now }
     requires solved { IsSolvedRow table.now id symbol.now (given_in user) }
     ensures { IfOk result (λ b. b ≡ row_differs table.now id symbol.now selections.now defaults.now) }
 {

@@ -6,7 +6,6 @@ ghost use Rattle.kc_solve.specs.Graphs.{IsGraphOf};
 ghost use Rattle.kc_solve.specs.Kept.{valuation};
 ghost use Rattle.kc_solve.specs.Solved.{value_of};
 ghost use Rattle.kc_solve.specs.SolvedLaws.{IsMinimal, IdempotentWhere};
-ghost use Rattle.kc_tree.specs.Layouts.{IsLayoutOf};
 ghost use Rattle.kc_user.specs.Places.{ArePlacesOf, place_at};
 ghost use Rattle.kc_values.specs.Needs.{IsAccepted};
 ghost use Rattle.kc_values.specs.Solution.{name_count, equations};
@@ -17,8 +16,7 @@ use crate::evaluation_order::EvaluationOrder;
 use crate::flags::{ChoiceSelections, Flags, flags_of, selections, warnings_of};
 use crate::solved::Solved;
 use kc_order::{alike_needs, groups_stand_for_symbols, ordered_are_accepted};
-use kc_tree::layout::Layout;
-use kc_tree::tree::Tree;
+use kc_tree::laid_tree::LaidTree;
 use kc_user::user::User;
 use kc_values::laws::accepted_have_one_solution;
 use kc_values::table::Table;
@@ -27,20 +25,18 @@ use std::alloc::{AllocError, Global};
 // The values of the symbols of a tree under a user's places, computed along the order, each once.
 fn full_table<'t>(
     alloc: Global,
-    tree: &'t Tree,
-    layout: &'t Layout,
+    laid: &LaidTree<'t>,
     order: &EvaluationOrder,
     user: &User,
 ) -> Result<Table<'t>, AllocError>
-    requires laid { IsLayoutOf tree.now layout.now }
-    requires order { IsGraphOf tree.now layout.now order.now }
-    requires user { ArePlacesOf tree.now user.now }
-    ensures tree { IfOk result (λ t. t.tree.now ≡ tree.now) }
-    ensures accepted { OnOk result (IsAccepted tree.now) }
-    ensures count { IfOk result (λ t. length t.values ≡ name_count tree.now) }
+    requires order { IsGraphOf laid.now order.now }
+    requires user { ArePlacesOf laid.now.tree.now user.now }
+    ensures tree { IfOk result (λ t. t.tree.now ≡ laid.now.tree.now) }
+    ensures accepted { OnOk result (IsAccepted laid.now.tree.now) }
+    ensures count { IfOk result (λ t. length t.values ≡ name_count laid.now.tree.now) }
     ensures selected { IfOk result (λ t. AreSelected t user.now.choices) }
-    ensures solves { IfOk result (λ t. Solves (name_count tree.now) (equations tree.now (place_at user.now)) (valuation tree.now t.values)) }
-    ensures only { IfOk result (λ t. IsOnlySolution (name_count tree.now) (equations tree.now (place_at user.now)) (valuation tree.now t.values)) }
+    ensures solves { IfOk result (λ t. Solves (name_count laid.now.tree.now) (equations laid.now.tree.now (place_at user.now)) (valuation laid.now.tree.now t.values)) }
+    ensures only { IfOk result (λ t. IsOnlySolution (name_count laid.now.tree.now) (equations laid.now.tree.now (place_at user.now)) (valuation laid.now.tree.now t.values)) }
 {
     accepted_have_one_solution();
     ordered_are_accepted();
@@ -48,32 +44,29 @@ fn full_table<'t>(
     groups_stand_for_symbols();
     let given = user.symbols();
     let chosen = user.choices();
-    let table = compute(alloc, tree, layout, order.nodes(), given, chosen)?;
+    let table = compute(alloc, laid, order.nodes(), given, chosen)?;
     Ok(table)
 }
 
 /// Solves a tree under a user's places: the one solution of the equations of its symbols, one for each (the kernel's
 /// kconfig-language document; where that is vague, kconfiglib's documented rules). Each value is computed once, along
-/// the order. The caller owes the layout of that tree, an order that was made for it, and places of that tree. Fails only
-/// when it is out of memory.
+/// the order. The caller owes an order that was made for that tree, and places of it. Fails only when it is out of memory.
 pub fn solve<'a>(
     alloc: Global,
-    tree: &'a Tree,
-    layout: &'a Layout,
+    laid: &LaidTree<'a>,
     order: &EvaluationOrder,
     user: &'a User,
 ) -> Result<Solved<'a>, AllocError>
-    requires laid { IsLayoutOf tree.now layout.now }
-    requires order { IsGraphOf tree.now layout.now order.now }
-    requires user { ArePlacesOf tree.now user.now }
-    ensures tree { IfOk result (λ s. s.tree ≡ tree.now) }
+    requires order { IsGraphOf laid.now order.now }
+    requires user { ArePlacesOf laid.now.tree.now user.now }
+    ensures tree { IfOk result (λ s. s.tree ≡ laid.now.tree.now) }
     ensures places { IfOk result (λ s. s.places ≡ user.now) }
-    ensures solves { IfOk result (λ s. Solves (name_count tree.now) (equations tree.now (place_at user.now)) (value_of s)) }
-    ensures only { IfOk result (λ s. IsOnlySolution (name_count tree.now) (equations tree.now (place_at user.now)) (value_of s)) }
+    ensures solves { IfOk result (λ s. Solves (name_count laid.now.tree.now) (equations laid.now.tree.now (place_at user.now)) (value_of s)) }
+    ensures only { IfOk result (λ s. IsOnlySolution (name_count laid.now.tree.now) (equations laid.now.tree.now (place_at user.now)) (value_of s)) }
     ensures minimal { IfOk result IsMinimal }
     ensures idempotent { IfOk result IdempotentWhere }
 {
-    let table = full_table(alloc, tree, layout, order, user)?;
+    let table = full_table(alloc, laid, order, user)?;
     let ChoiceSelections { selected, default } = selections(alloc, &table, user)?;
     let Flags {
         visibilities,

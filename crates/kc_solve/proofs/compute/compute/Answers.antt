@@ -13,7 +13,7 @@ pub loop-node-init : goal.loop-node-init
 loop-node-init c =
     let t = c.in_ok-table.table in
     let e = c.in_ok-table.ensures in
-    begins c.args.tree.now c.args.layout.now c.args.given.now c.args.chosen.now c.args.nodes.now t e.tree e.layout c.requires.laid c.requires.order e.values e.contexts e.selections
+    begins c.args.laid.now.tree.now c.args.laid.now.layout.now c.args.given.now c.args.chosen.now c.args.nodes.now t e.tree e.layout c.args.laid.now.laid c.requires.order e.values e.contexts e.selections
 
 pub compute_symbol-requires-clause-there : goal.compute_symbol-requires-clause-there
 compute_symbol-requires-clause-there c = omega (arith, c.in-Symbol.ensures.1, c.loop-node.invariant.1.value_count)
@@ -35,8 +35,8 @@ compute_symbol-requires-clause-unread c =
     let t = c.loop-node.table in
     let now = c.loop-node.invariant.1 in
     subst (λ (u : TreeFacts). IsUnreadIn u t.layout.now t.contexts.items t.selections.items c.in-Symbol.id.0) (sym c.loop-node.invariant.0)
-    (unread c.args.tree.now t.layout.now c.args.given.now c.args.chosen.now c.args.nodes.now c.loop-node.node-index t.values t.contexts.items t.selections.items now c.loop-node-test.true
-    (names_there c.args.tree.now t.layout.now now.order.graph now.laid now.order.is now.order.rows) c.in-Symbol.id.0 c.in-Symbol.ensures.0 c.in-Symbol.ensures.1)
+    (unread c.args.laid.now.tree.now t.layout.now c.args.given.now c.args.chosen.now c.args.nodes.now c.loop-node.node-index t.values t.contexts.items t.selections.items now c.loop-node-test.true
+    (names_there c.args.laid.now.tree.now t.layout.now now.order.graph now.laid now.order.is now.order.rows) c.in-Symbol.id.0 c.in-Symbol.ensures.0 c.in-Symbol.ensures.1)
 
 pub compute_context-requires : goal.compute_context-requires
 compute_context-requires c = omega (arith, c.in-Context.ensures.1, c.loop-node.invariant.1.context_count)
@@ -44,20 +44,20 @@ compute_context-requires c = omega (arith, c.in-Context.ensures.1, c.loop-node.i
 pub compute_selection-requires-clause-there : goal.compute_selection-requires-clause-there
 compute_selection-requires-clause-there c =
     let t = c.loop-node.table in
-    choice_there c.args.tree.now t.layout.now c.args.given.now c.args.chosen.now c.args.nodes.now c.loop-node.node-index t.values t.contexts.items t.selections.items
+    choice_there c.args.laid.now.tree.now t.layout.now c.args.given.now c.args.chosen.now c.args.nodes.now c.loop-node.node-index t.values t.contexts.items t.selections.items
     c.loop-node.invariant.1 c.loop-node-test.true c.in-Choice.id.0 c.in-Choice.ensures.0
 
 pub compute_selection-requires-clause-chosen : goal.compute_selection-requires-clause-chosen
 compute_selection-requires-clause-chosen c =
     let t = c.loop-node.table in
     let now = c.loop-node.invariant.1 in
-    let l = choice_there c.args.tree.now t.layout.now c.args.given.now c.args.chosen.now c.args.nodes.now c.loop-node.node-index t.values t.contexts.items t.selections.items
+    let l = choice_there c.args.laid.now.tree.now t.layout.now c.args.given.now c.args.chosen.now c.args.nodes.now c.loop-node.node-index t.values t.contexts.items t.selections.items
     now c.loop-node-test.true c.in-Choice.id.0 c.in-Choice.ensures.0 in
-    omega (arith, l, c.requires.chosen, now.choice_count, choices_length c.args.tree.now t.layout.now now.laid)
+    omega (arith, l, c.requires.chosen, now.choice_count, choices_length c.args.laid.now.tree.now t.layout.now now.laid)
 
 pub loop-node-preserved : goal.loop-node-preserved
 loop-node-preserved c =
-    let tree = c.args.tree.now in
+    let tree = c.args.laid.now.tree.now in
     let given = c.args.given.now in
     let chosen = c.args.chosen.now in
     let nodes = c.args.nodes.now in
@@ -88,7 +88,7 @@ pub returns-clause-solves : goal.returns-clause-solves
 returns-clause-solves c =
     let t = c.loop-node.table in
     let now = c.loop-node.invariant.1 in
-    let tree = c.args.tree.now in
+    let tree = c.args.laid.now.tree.now in
     let end : c.loop-node.node-index ≡ length c.args.nodes.now = omega arith in
     solves tree t.layout.now c.args.given.now c.args.chosen.now c.args.nodes.now t.values t.contexts.items t.selections.items
     (now.value_count ∙ row_count t ∙ ap name_count c.loop-node.invariant.0)

@@ -20,13 +20,13 @@ compute-requires-clause-chosen c = ap length c.choices-chosen.ensures ∙ c.requ
 
 pub returns-clause-solves : goal.returns-clause-solves
 returns-clause-solves c =
-    let t = c.args.tree.now in
+    let t = c.args.laid.now.tree.now in
     solves_as_shown t c.symbols-given.result.now c.choices-chosen.result.now c.args.user.now
     (valuation t c.in_ok-table.table.values) c.symbols-given.ensures c.choices-chosen.ensures c.in_ok-table.ensures.solves
 
 pub returns-clause-only : goal.returns-clause-only
 returns-clause-only c =
-    let t = c.args.tree.now in
+    let t = c.args.laid.now.tree.now in
     let g = c.args.order.now in
     let V = valuation t c.in_ok-table.table.values in
     let accepted = accepted_through g c.requires.order.graph (c.ordered_are_accepted.ensures g.rows c.nodes.result.now c.nodes.ensures) in
@@ -37,7 +37,7 @@ pub returns-clause-accepted : goal.returns-clause-accepted
 returns-clause-accepted c =
     let g = c.args.order.now in
     let accepted = accepted_through g c.requires.order.graph (c.ordered_are_accepted.ensures g.rows c.nodes.result.now c.nodes.ensures) in
-    c.alike_needs.ensures.accepted (needs_of g) (needs c.args.tree.now) c.requires.order.alike accepted
+    c.alike_needs.ensures.accepted (needs_of g) (needs c.args.laid.now.tree.now) c.requires.order.alike accepted
 
 pub returns-clause-selected : goal.returns-clause-selected
 returns-clause-selected c = subst (AreSelected c.in_ok-table.table) c.choices-chosen.ensures c.in_ok-table.ensures.selected

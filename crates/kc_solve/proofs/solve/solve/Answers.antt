@@ -28,4 +28,4 @@ invariant_of-solved c =
     }
 
 pub returns-clause-only : goal.returns-clause-only
-returns-clause-only c = only_here _ c.args.tree.now c.args.user.now c.is_solution.ensures c.in_ok-table.ensures.tree refl
+returns-clause-only c = only_here _ c.args.laid.now.tree.now c.args.user.now c.is_solution.ensures c.in_ok-table.ensures.tree refl
