@@ -10,17 +10,12 @@ use Rattle.kc_expr.specs.Names.{same_name}
 use Rattle.kc_expr.proofs.NamesLemmas.{same_name-refl}
 use Rattle.kc_read.specs.Files.{bytes_in}
 
-abbrev pub files_of : List (Vec ℕ Global × Vec ℕ Global) → List (List ℕ × List ℕ)
-files_of es = map (λ e. (e.0.items, e.1.items)) es
+abbrev pub files_of : List (Vec ℕ Global × List ℕ) → List (List ℕ × List ℕ)
+files_of es = map (λ e. (e.0.items, e.1)) es
 
-pub bytes_found : (es : List (Vec ℕ Global × Vec ℕ Global)) (name : List ℕ) → option_map (λ v. v.items) (lookup (λ k. same_name name k.items) es) ≡ bytes_in (files_of es) name
+pub bytes_found : (es : List (Vec ℕ Global × List ℕ)) (name : List ℕ) → lookup (λ k. same_name name k.items) es ≡ bytes_in (files_of es) name
 bytes_found [] name = refl
-bytes_found (e ∷ es) name = by (same_name name e.0.items) (bytes_found es name)
-  where
-    by : (b : Bool) → option_map (λ v. v.items) (lookup (λ k. same_name name k.items) es) ≡ bytes_in (files_of es) name →
-        option_map (λ v. v.items) (cond b (Some e.1) (lookup (λ k. same_name name k.items) es)) ≡ cond b (Some e.1.items) (bytes_in (files_of es) name)
-    by true h = refl
-    by false h = h
+bytes_found (e ∷ es) name = ap (cond (same_name name e.0.items) (Some e.1)) (bytes_found es name)
 
 pub same_name_eq : (a b : List ℕ) → same_name a b ≡ true → a ≡ b
 same_name_eq [] [] h = refl
@@ -48,21 +43,21 @@ swap_tests true false v w x h = refl
 swap_tests false true v w x h = refl
 swap_tests false false v w x h = refl
 
-pub bytes_put : (es : List (Vec ℕ Global × Vec ℕ Global)) (k v : Vec ℕ Global) (o : List ℕ) →
-    bytes_in (files_of (insert_entry (λ a b. same_name a.items b.items) es k v)) o ≡ cond (same_name o k.items) (Some v.items) (bytes_in (files_of es) o)
+pub bytes_put : (es : List (Vec ℕ Global × List ℕ)) (k : Vec ℕ Global) (v o : List ℕ) →
+    bytes_in (files_of (insert_entry (λ a b. same_name a.items b.items) es k v)) o ≡ cond (same_name o k.items) (Some v) (bytes_in (files_of es) o)
 bytes_put [] k v o = refl
 bytes_put (e ∷ es) k v o = by (same_name k.items e.0.items) refl (bytes_put es k v o)
   where
-    put_here : same_name k.items e.0.items ≡ true → cond (same_name o e.0.items) (Some v.items) (bytes_in (files_of es) o) ≡ cond (same_name o k.items)
-        (Some v.items) (cond (same_name o e.0.items) (Some e.1.items) (bytes_in (files_of es) o))
+    put_here : same_name k.items e.0.items ≡ true → cond (same_name o e.0.items) (Some v) (bytes_in (files_of es) o) ≡ cond (same_name o k.items)
+        (Some v) (cond (same_name o e.0.items) (Some e.1) (bytes_in (files_of es) o))
     put_here t =
         let q : same_name o e.0.items ≡ same_name o k.items = ap (λ x. same_name o x) (sym (same_name_eq k.items e.0.items t)) in
-        rw q (pick (same_name o k.items) (Some v.items) (Some e.1.items) (bytes_in (files_of es) o))
+        rw q (pick (same_name o k.items) (Some v) (Some e.1) (bytes_in (files_of es) o))
 
     by : (b : Bool) → same_name k.items e.0.items ≡ b → bytes_in (files_of (insert_entry (λ x y. same_name x.items y.items) es k v)) o ≡ cond
-        (same_name o k.items) (Some v.items) (bytes_in (files_of es) o) →
-        bytes_in (files_of (cond b ((e.0, v) ∷ es) (e ∷ insert_entry (λ x y. same_name x.items y.items) es k v))) o ≡ cond (same_name o k.items) (Some v.items)
-        (cond (same_name o e.0.items) (Some e.1.items) (bytes_in (files_of es) o))
+        (same_name o k.items) (Some v) (bytes_in (files_of es) o) →
+        bytes_in (files_of (cond b ((e.0, v) ∷ es) (e ∷ insert_entry (λ x y. same_name x.items y.items) es k v))) o ≡ cond (same_name o k.items) (Some v)
+        (cond (same_name o e.0.items) (Some e.1) (bytes_in (files_of es) o))
     by true t h = put_here t
-    by false t h = rw h (swap_tests (same_name o k.items) (same_name o e.0.items) (Some v.items) (Some e.1.items) (bytes_in (files_of es) o)
+    by false t h = rw h (swap_tests (same_name o k.items) (same_name o e.0.items) (Some v) (Some e.1) (bytes_in (files_of es) o)
         (λ n. insert_keeps o k.items e.0.items (same_name o k.items) (same_name o e.0.items) refl refl t n))

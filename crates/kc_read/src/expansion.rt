@@ -96,7 +96,7 @@ pub fn expand(
     ensures memory { IfErr result IsMemory }
     ensures names { Extends names.old names.new }
 {
-    let (bytes, total_lines) = match open(map, root, 0) {
+    let (file, total_lines) = match open(map, root, 0) {
         Ok(opened) => opened,
         Err(fault) => return Err(refuse(alloc, fault, root, 0)),
     };
@@ -112,7 +112,7 @@ pub fn expand(
         map,
         constants,
     };
-    read_file(&reader, bytes, frame, &mut progress, names)?;
+    read_file(&reader, file, frame, &mut progress, names)?;
     Ok(Expansion {
         entries: progress.entries,
         defined: progress.defined,

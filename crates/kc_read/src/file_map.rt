@@ -4,13 +4,15 @@ ghost use Rattle.std.specs.Prelude.{◌≡◌, [], OnOk, OnErr, option_map, None
 ghost use Rattle.kc_read.specs.Files.{bytes_in, Puts};
 
 use indexmap::IndexMap;
+use kc_text::FileText;
 use std::alloc::{AllocError, Global};
 use std::marker::Model;
 
 /// Files by their names.
 #[derive(Drop)]
 pub struct FileMap {
-    files: IndexMap<Vec<u8>, Vec<u8>>,
+    alloc: Global,
+    files: IndexMap<Vec<u8>, FileText>,
 }
 
 impl Model for FileMap {
@@ -18,7 +20,7 @@ impl Model for FileMap {
 
     ghost Value = { List (List ℕ × List ℕ) };
 
-    ghost view = { λ m. map (λ e. (e.0.items, e.1.items)) m.files.entries };
+    ghost view = { λ m. map (λ e. (e.0.items, e.1)) m.files.entries };
 }
 
 impl FileMap {
@@ -27,6 +29,7 @@ impl FileMap {
         ensures { result ≡ [] }
     {
         FileMap {
+            alloc,
             files: IndexMap::new(alloc),
         }
     }
@@ -38,15 +41,23 @@ impl FileMap {
         ensures err { OnErr result (self.new ≡ self.old) }
         ensures unknown { OnErr result (bytes_in self.old name.items ≡ None) }
     {
-        self.files.insert(name, bytes)?;
+        let text = FileText::new(self.alloc, bytes);
+        self.files.insert(name, text)?;
         Ok(())
+    }
+
+    /// The text of a name.
+    pub(crate) fn text(&self, name: &[u8]) -> Option<&FileText>
+        ensures { option_map (λ t. t.now) result ≡ bytes_in self.now name.now }
+    {
+        self.files.get(name)
     }
 
     /// The bytes of a name.
     pub fn get(&self, name: &[u8]) -> Option<&[u8]>
         ensures { option_map (λ b. b.now) result ≡ bytes_in self.now name.now }
     {
-        let bytes = self.files.get(name)?;
-        Some(bytes)
+        let text = self.text(name)?;
+        Some(text.bytes())
     }
 }

@@ -29,7 +29,7 @@ use crate::step::{Step, next_step};
 use kc_diagnostics::Cause;
 use kc_expr::expression::SymId;
 use kc_expr::names::Names;
-use kc_text::{LogicalLines, Token, line_count};
+use kc_text::{FileText, LogicalLines, Token};
 use std::alloc::{AllocError, Global};
 use std::rc::Rc;
 
@@ -47,26 +47,26 @@ pub(crate) struct Reader<'a> {
     pub constants: Constants,
 }
 
-/// The bytes of a file, and the total of physical lines with those of the file.
+/// The text of a file, and the total of physical lines with those of the file.
 pub(crate) fn open<'a, 'b>(
     map: &'a FileMap,
     name: &'b [u8],
     total_lines: usize,
-) -> Result<(&'a [u8], usize), LineFault<'b>>
+) -> Result<(&'a FileText, usize), LineFault<'b>>
     requires { total_lines ≤ most_lines }
     ensures bytes { IfOk result (λ r. bytes_in map.now name.now ≡ Some r.0.now) }
     ensures total_lines { IfOk result (λ r. (r.1 ≡ total_lines + spec.lines_of r.0.now) × (r.1 ≤ most_lines)) }
     ensures allowed { OnOk result (spec.bytes_cause name.now total_lines (bytes_in map.now name.now) ≡ None) }
     ensures fault { IfErr result (λ f. spec.bytes_cause name.now total_lines (bytes_in map.now name.now) ≡ Some (cause_of f)) }
 {
-    let Some(bytes) = map.get(name) else {
+    let Some(file) = map.text(name) else {
         return Err(Cause::NoFile(name));
     };
-    let lines = line_count(bytes);
+    let lines = file.line_count();
     if lines > MOST_LINES - total_lines {
         return Err(Cause::TooManyLines);
     }
-    Ok((bytes, total_lines + lines))
+    Ok((file, total_lines + lines))
 }
 
 // Whether the open file has this name.
@@ -83,12 +83,12 @@ fn is_open(progress: &Progress, name: &[u8]) -> bool
     progress.open_files.iter().any(|file| is_named(file, name))
 }
 
-// The bytes of a sourced file, and the total of physical lines with those of the file.
+// The text of a sourced file, and the total of physical lines with those of the file.
 fn open_source<'a, 'b>(
     map: &'a FileMap,
     name: &'b [u8],
     progress: &Progress,
-) -> Result<(&'a [u8], usize), LineFault<'b>>
+) -> Result<(&'a FileText, usize), LineFault<'b>>
     requires { IsBounded progress.now }
     ensures bytes { IfOk result (λ r. bytes_in map.now name.now ≡ Some r.0.now) }
     ensures total_lines { IfOk result (λ r. (r.1 ≡ progress.now.total_lines + spec.lines_of r.0.now) × (r.1 ≤ most_lines)) }
@@ -205,7 +205,7 @@ fn end(alloc: Global, frame: &Frame) -> Result<(), Refusal>
 #[cycle(files)]
 pub(crate) fn read_file(
     reader: &Reader,
-    bytes: &[u8],
+    file: &FileText,
     frame: Frame,
     progress: &mut Progress,
     names: &mut Names,
@@ -213,14 +213,14 @@ pub(crate) fn read_file(
     requires shallow { IsShallow frame }
     requires bounded { IsBounded progress.old }
     ensures read { (first : List (List ℕ)) (a : FileContext) (log : Log) → IsState first names.old a [] log progress.old frame
-        → IsReading (bytes_in reader.now.map.now) first names.new a (unread_lines bytes.now 1) log progress.new result }
+        → IsReading (bytes_in reader.now.map.now) first names.new a (unread_lines file.now 1) log progress.new result }
     ensures open { OnOk result (progress.new.open_files.items ≡ progress.old.open_files.items) }
     ensures bounded { OnOk result (IsBounded progress.new) }
     ensures memory { IfErr result IsMemory }
     ensures names { Extends names.old names.new }
 {
     let mut frame = frame;
-    let mut lines = LogicalLines::new(bytes);
+    let mut lines = LogicalLines::of(file);
     let mut text = Vec::new(reader.alloc);
     let mut tokens = Vec::new(reader.alloc);
     while read_next(
@@ -336,7 +336,7 @@ fn source(
     ensures memory { IfErr result IsMemory }
     ensures names { Extends names.old names.new }
 {
-    let (bytes, total_lines) = match open_source(reader.map, &name, progress) {
+    let (file, total_lines) = match open_source(reader.map, &name, progress) {
         Ok(opened) => opened,
         Err(fault) => return Err(refuse(reader.alloc, fault, &frame.file, line)),
     };
@@ -344,7 +344,7 @@ fn source(
         Ok(inside) => inside,
         Err(_) => return Err(Refusal::out_of_memory()),
     };
-    read_file(reader, bytes, inside, progress, names)?;
+    read_file(reader, file, inside, progress, names)?;
     progress.open_files.pop();
     frame.entry = EntryKind::Nothing;
     Ok(())

@@ -1,25 +1,23 @@
 //! The lines of a help text.
-ghost use Rattle.std.specs.Prelude.{◌≡◌, ◌≤◌, ℕ, List, ◌++◌, ◌||◌, Some, length, nat_le, take};
+ghost use Rattle.std.specs.Prelude.{◌≡◌, ◌<◌, ◌≤◌, ◌∷◌, ℕ, List, ◌++◌, ◌||◌, Some, length, nat_le};
 ghost use Rattle.kc_text.specs.Help.{column, is_blank_line, is_help_line, from_other, after_help, Drops};
 ghost use Rattle.kc_text.specs.Lines.{physical_lines, unread_lines};
+ghost use Rattle.kc_text.specs.LongLines.{AreLong, IsEndOf, IsLineStart, KnowsStart};
 
-use crate::physical::{Unread, first_physical};
+use crate::long_lines::{LongLine, known_line};
+use crate::physical::{PhysicalLine, Unread, first_physical, line_until};
 
-// How a line begins: how many blanks stand there, the column that they reach, and whether the line has nothing else.
-#[derive(Drop)]
-struct LineStart {
-    blanks: usize,
-    column: u128,
-    is_blank: bool,
+/// How a line begins: how many blanks stand there, the column that they reach, and whether the line has nothing else.
+#[derive(Drop, Copy, Clone)]
+pub(crate) struct LineStart {
+    pub(crate) blanks: usize,
+    pub(crate) column: u128,
+    pub(crate) is_blank: bool,
 }
 
-// One look at the blanks that a line begins with.
-fn indentation(text: &[u8]) -> LineStart
-    ensures within { result.blanks ≤ length text.now }
-    ensures column { result.column ≡ column 0 text.now }
-    // Behind these blanks the column is counted on from theirs.
-    ensures blanks { (more : List ℕ) → column 0 (take result.blanks text.now ++ more) ≡ column result.column more }
-    ensures blank { result.is_blank ≡ is_blank_line text.now }
+/// One look at the blanks that a line begins with.
+pub(crate) fn indentation(text: &[u8]) -> LineStart
+    ensures { IsLineStart text.now result }
 {
     let mut at: u128 = 0;
     let mut blanks = 0;
@@ -61,24 +59,88 @@ fn goes_on(text: &[u8], blanks: &[u8], indent: u128) -> bool
     text.starts_with(blanks) || is_help_line(text, indent)
 }
 
+// The first line of what is left, and how it begins, where that is known.
+#[derive(Drop)]
+struct SeenLine<'a> {
+    line: PhysicalLine<'a>,
+    start: Option<LineStart>,
+}
+
+impl<'a> SeenLine<'a> {
+    // How the line begins.
+    fn line_start(&self) -> LineStart
+        requires { KnowsStart self.now.line.text.now self.now.start }
+        ensures { IsLineStart self.now.line.text.now result }
+    {
+        match self.start {
+            Some(start) => start,
+            None => indentation(self.line.text),
+        }
+    }
+
+    // Whether the line belongs to a help text of this indentation, whose first line begins with these blanks.
+    #[inline(always)]
+    fn belongs(&self, blanks: &[u8], indent: u128) -> bool
+        requires known { KnowsStart self.now.line.text.now self.now.start }
+        requires blanks { (more : List ℕ) → indent ≤ column 0 (blanks.now ++ more) }
+        ensures { result ≡ (is_blank_line self.now.line.text.now || nat_le indent (column 0 self.now.line.text.now)) }
+    {
+        match self.start {
+            Some(start) => start.is_blank || indent <= start.column,
+            None => goes_on(self.line.text, blanks, indent),
+        }
+    }
+}
+
+// The first line of what is left of a file with these long lines. No byte of a long one is read.
+#[inline(always)]
+fn first_seen<'a>(rest: &'a [u8], long: &[LongLine]) -> SeenLine<'a>
+    requires some { 0 < length rest.now }
+    requires long { AreLong rest.now long.now }
+    ensures first { physical_lines rest.now
+        ≡ record { text = result.line.text.now; ended = result.line.ended } ∷ physical_lines result.line.after.now }
+    ensures less { length result.line.after.now < length rest.now }
+    ensures end { IsEndOf rest.now result.line.after.now }
+    ensures known { KnowsStart result.line.text.now result.start }
+{
+    match known_line(long, rest) {
+        Some(known) => SeenLine {
+            line: line_until(rest, known.feed),
+            start: Some(known.start),
+        },
+        None => SeenLine {
+            line: first_physical(rest),
+            start: None,
+        },
+    }
+}
+
 // Drops lines up to the first that does not belong to a help text of this indentation, whose first line begins with
 // these blanks.
-fn drop_text<'a>(rest: &'a [u8], number: u32, blanks: &[u8], indent: u128) -> Unread<'a>
-    requires { (more : List ℕ) → indent ≤ column 0 (blanks.now ++ more) }
-    ensures { Drops (unread_lines rest.now number) (unread_lines result.rest.now result.number)
+fn drop_text<'a>(
+    rest: &'a [u8],
+    number: u32,
+    long: &[LongLine],
+    blanks: &[u8],
+    indent: u128,
+) -> Unread<'a>
+    requires long { AreLong rest.now long.now }
+    requires blanks { (more : List ℕ) → indent ≤ column 0 (blanks.now ++ more) }
+    ensures drops { Drops (unread_lines rest.now number) (unread_lines result.rest.now result.number)
         (from_other (is_help_line (Some indent)) (physical_lines rest.now)) }
+    ensures end { IsEndOf rest.now result.rest.now }
 {
     let mut after = rest;
     let mut next = number;
     'dropped: while !after.is_empty() {
-        let line = first_physical(after);
-        if !goes_on(line.text, blanks, indent) {
+        let seen = first_seen(after, long);
+        if !seen.belongs(blanks, indent) {
             return Unread {
                 rest: after,
                 number: next,
             };
         }
-        after = line.after;
+        after = seen.line.after;
         next = next.saturating_add(1);
     }
     Unread {
@@ -87,23 +149,32 @@ fn drop_text<'a>(rest: &'a [u8], number: u32, blanks: &[u8], indent: u128) -> Un
     }
 }
 
-/// Drops the lines of a help text.
-pub(crate) fn drop_help(rest: &[u8], number: u32) -> Unread<'_>
-    ensures { Drops (unread_lines rest.now number) (unread_lines result.rest.now result.number)
+/// Drops the lines of a help text, from a file with these long lines.
+pub(crate) fn drop_help<'a>(rest: &'a [u8], number: u32, long: &[LongLine]) -> Unread<'a>
+    requires { AreLong rest.now long.now }
+    ensures drops { Drops (unread_lines rest.now number) (unread_lines result.rest.now result.number)
         (after_help (physical_lines rest.now)) }
+    ensures end { IsEndOf rest.now result.rest.now }
 {
     let mut after = rest;
     let mut next = number;
     'blank: while !after.is_empty() {
-        let line = first_physical(after);
-        let start = indentation(line.text);
+        let seen = first_seen(after, long);
+        let line = &seen.line;
+        let start = seen.line_start();
         if !start.is_blank {
             // The first line that is not blank belongs to the text, which has its indentation.
             if start.column == 0 {
                 break;
             }
             let blanks = &line.text[..start.blanks];
-            return drop_text(line.after, next.saturating_add(1), blanks, start.column);
+            return drop_text(
+                line.after,
+                next.saturating_add(1),
+                long,
+                blanks,
+                start.column,
+            );
         }
         after = line.after;
         next = next.saturating_add(1);

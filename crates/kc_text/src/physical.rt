@@ -2,6 +2,7 @@
 ghost use Rattle.std.specs.Prelude.{◌≡◌, ◌<◌, ◌≤◌, ◌∷◌, length, count_by};
 ghost use Rattle.bstr.specs.Find.{IsFirstByte};
 ghost use Rattle.kc_text.specs.Lines.{physical_lines, continues, is_line_feed, without_continuation};
+ghost use Rattle.kc_text.specs.LongLines.{IsEndOf};
 
 use crate::bytes::without_carriage_return;
 use bstr::ByteSlice;
@@ -46,9 +47,9 @@ pub(crate) struct Unread<'a> {
 // How many bytes are compared at once with a line feed. Most lines end within two or three times as many.
 const LANES: usize = 16;
 
-// The place of the first line feed.
+/// The place of the first line feed.
 #[inline(always)]
-fn line_feed_at(rest: &[u8]) -> Option<usize>
+pub(crate) fn line_feed_at(rest: &[u8]) -> Option<usize>
     ensures { IsFirstByte is_line_feed rest.now result }
 {
     let mut at = 0;
@@ -67,15 +68,17 @@ fn line_feed_at(rest: &[u8]) -> Option<usize>
     }
 }
 
-/// The first physical line of what is left of a file.
+/// The first physical line of what is left of a file, whose first line feed stands at this place.
 #[inline(always)]
-pub(crate) fn first_physical(rest: &[u8]) -> PhysicalLine<'_>
-    requires { 0 < length rest.now }
+pub(crate) fn line_until(rest: &[u8], feed: Option<usize>) -> PhysicalLine<'_>
+    requires some { 0 < length rest.now }
+    requires feed { IsFirstByte is_line_feed rest.now feed }
     ensures first { physical_lines rest.now
         ≡ record { text = result.text.now; ended = result.ended } ∷ physical_lines result.after.now }
     ensures less { length result.after.now < length rest.now }
+    ensures end { IsEndOf rest.now result.after.now }
 {
-    match line_feed_at(rest) {
+    match feed {
         Some(n) => PhysicalLine {
             text: without_carriage_return(&rest[..n]),
             ended: true,
@@ -87,6 +90,18 @@ pub(crate) fn first_physical(rest: &[u8]) -> PhysicalLine<'_>
             after: &rest[rest.len()..],
         },
     }
+}
+
+/// The first physical line of what is left of a file.
+#[inline(always)]
+pub(crate) fn first_physical(rest: &[u8]) -> PhysicalLine<'_>
+    requires { 0 < length rest.now }
+    ensures first { physical_lines rest.now
+        ≡ record { text = result.text.now; ended = result.ended } ∷ physical_lines result.after.now }
+    ensures less { length result.after.now < length rest.now }
+    ensures end { IsEndOf rest.now result.after.now }
+{
+    line_until(rest, line_feed_at(rest))
 }
 
 // How many bytes are counted in a byte, which the compiler does many at a time: at most 255.

@@ -21,9 +21,9 @@ pub read_file-returns-in_err-read_next-clause-read : goal.read_file-returns-in_e
 read_file-returns-in_err-read_next-clause-read t c = λ first a log i.
     let files = bytes_in c.args.reader.now.map.now in
     let go = c.loop-tokens.invariant.read first a log i in
-    reading_passed files first c.read_next.new.names a (unread_lines c.args.bytes.now 1)
+    reading_passed files first c.read_next.new.names a (unread_lines c.args.file.now 1)
     log c.read_next.new.progress c.from_residual.result c.in_err-read_next.field-0.0 c.from_residual.ensures.1
-    (file_refused files first c.loop-tokens.names a (unread_lines c.args.bytes.now 1) c.loop-tokens.lines log c.loop-tokens.progress c.loop-tokens.frame c.in_err-read_next.field-0.0 go
+    (file_refused files first c.loop-tokens.names a (unread_lines c.args.file.now 1) c.loop-tokens.lines log c.loop-tokens.progress c.loop-tokens.frame c.in_err-read_next.field-0.0 go
     (c.in_err-read_next.ensures.read first a go.own_now go.log_now go.state))
 
 pub read_file-loop-tokens-preserved : goal.read_file-loop-tokens-preserved
@@ -31,7 +31,7 @@ read_file-loop-tokens-preserved t c = record {
   read = λ first a log i.
       let files = bytes_in c.args.reader.now.map.now in
       let go = c.loop-tokens.invariant.read first a log i in
-      goes_on files first c.loop-tokens.names c.read_next.new.names a (unread_lines c.args.bytes.now 1)
+      goes_on files first c.loop-tokens.names c.read_next.new.names a (unread_lines c.args.file.now 1)
       c.loop-tokens.lines c.read_next.new.lines log c.loop-tokens.progress c.read_next.new.progress c.loop-tokens.frame c.read_next.new.frame go
       (rw c.if-branch.true at (c.in_ok-read_next.ensures.read first a go.own_now go.log_now go.state));
   clear = c.in_ok-read_next.ensures.clear c.if-branch.true;
@@ -45,7 +45,7 @@ pub read_file-returns-clause-read : goal.read_file-returns-clause-read
 read_file-returns-clause-read t c = λ first a log i.
     let files = bytes_in c.args.reader.now.map.now in
     let go = c.loop-tokens.invariant.read first a log i in
-    file_read files first c.loop-tokens.names c.read_next.new.names a (unread_lines c.args.bytes.now 1)
+    file_read files first c.loop-tokens.names c.read_next.new.names a (unread_lines c.args.file.now 1)
     c.loop-tokens.lines log c.loop-tokens.progress c.read_next.new.progress c.loop-tokens.frame go
     (rw c.if-branch.false at (c.in_ok-read_next.ensures.read first a go.own_now go.log_now go.state))
 

@@ -22,7 +22,7 @@ decreases-source l = 4 * (64 - length l.progress.now.open_files.items)
 abbrev pub invariant-read_file-loop-tokens : goal.invariant-read_file-loop-tokens
 invariant-read_file-loop-tokens l = record {
   read : (first : List (List ℕ)) (a : FileContext) (log : Log) → IsState first l.fn.names a [] log l.fn.progress l.fn.frame →
-      HasAdvanced (bytes_in l.reader.map.now) first l.names a (unread_lines l.bytes 1) l.lines [] log l.progress l.frame;
+      HasAdvanced (bytes_in l.reader.map.now) first l.names a (unread_lines l.file 1) l.lines [] log l.progress l.frame;
   clear : l.lines.refusal ≡ None;
   shallow : IsShallow l.frame;
   bounded : IsBounded l.progress;

@@ -3,6 +3,7 @@ use Rattle.std.proofs.Common.{arith, ◌∙◌, sym, ap, refl}
 use Rattle.std.proofs.lemmas.Bool.{eqb-true}
 use Rattle.kc_text.specs.Lines.{UnreadLines}
 use Rattle.kc_text.proofs.Joins.{single_line, none_single, refused_none}
+use Rattle.kc_text.proofs.LongLineLemmas.{long_in_end}
 use Rattle.kc_text.proofs.Physicals.{lines_at_end}
 use Rattle.kc_text.proofs.logical.LogicalLines.next_single.Goals as goal
 use Rattle.kc_text.proofs.logical.LogicalLines.next_single.Goals.{then-is_some-via-then-is_some, then-is_some-via-else-is_some+then-is_empty}
@@ -25,3 +26,6 @@ returns-then-is_some-clause-none c = (
             ∙ lines_at_end c.self.inside.rest.now (eqb-true _ 0 (sym w.is_empty.ensures ∙ w.if-is_empty.true))) one
       ],
 )
+
+pub invariant_of-self : goal.invariant_of-self
+invariant_of-self c = long_in_end c.self.inside.rest.now c.first_physical-physical.result.after.now c.self.inside.long.now c.first_physical-physical.ensures.end c.self.invariant
