@@ -2,7 +2,7 @@
 ghost use Rattle.std.specs.Prelude.{◌≡◌, ◌++◌, ◌<◌, length, slice_get, Some, is_some, true, false, OnOk, IfOk, if◌then◌else◌};
 ghost use Rattle.std.specs.Option.{option_copied};
 ghost use Rattle.kc_tree.specs.TreeFacts.{SymbolShown};
-ghost use Rattle.kc_tree.specs.Layouts.{IsLayoutOf, shown_of, title_at, title_text};
+ghost use Rattle.kc_tree.specs.Layouts.{shown_of, title_at, title_text};
 ghost use Rattle.kc_config_file.specs.Laws.{ConfigGivesBack, HasShortLines};
 ghost use Rattle.kc_config_file.specs.SolvedView.{solution_view};
 ghost use Rattle.kc_config_file.specs.EntryTexts.{ends_after};
@@ -153,7 +153,6 @@ fn add_entry(
     file: &mut Vec<u8>,
 ) -> Result<bool, AllocError>
     requires there { slice_get solved.now.tree.entries index ≡ Some (shown_of layout.now.tables entry.now) }
-    requires laid { IsLayoutOf solved.now.tree layout.now }
     requires name { HasName solved.now.tree (shown_of layout.now.tables entry.now) }
     ensures text { OnOk result (file.new.items ≡ file.old.items ++ entry_text solved.now.tree prefix.now (solution_view solved.now) after_end (shown_of layout.now.tables entry.now)) }
     ensures next { IfOk result (λ next. next ≡ ends_after solved.now.tree (solution_view solved.now) after_end (shown_of layout.now.tables entry.now)) }
