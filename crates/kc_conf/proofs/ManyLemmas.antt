@@ -257,10 +257,10 @@ pub TriesToSay-behind : (line : List ℕ) (old mid new : Log) → Leads [] [] ol
 TriesToSay-behind line old mid new h (report, log) = (report, leads_both [] (io_reported report) [] (said report line) old mid new h log)
 
 -- all options are of this tree
-pub IsAcceptedOf-rooted : (files : Files) (root : List ℕ) (are_options : ℕ → Options → Type 0) (accepted : OrderedTree) → IsAcceptedTree files root accepted.tree.now → AreOpened files root accepted.opened.now →
+pub IsAcceptedOf-rooted : (files : Files) (root : List ℕ) (are_options : ℕ → Options → Type 0) (accepted : OrderedTree) → IsAcceptedTree files root accepted.laid.tree.now → AreOpened files root accepted.opened.now →
     AreRootedAt root are_options → (i : ℕ) (options : Options) → are_options i options → IsAcceptedOf files options accepted
 IsAcceptedOf-rooted files root are_options accepted tree opened rooted i options is =
     let e = sym (rooted i options is) in record {
-      tree = subst (λ r. IsAcceptedTree files r accepted.tree.now) e tree;
+      tree = subst (λ r. IsAcceptedTree files r accepted.laid.tree.now) e tree;
       opened = subst (λ r. AreOpened files r accepted.opened.now) e opened;
     }

@@ -7,7 +7,6 @@ use Rattle.kc_read.specs.RefusalView.{refusal_view}
 use Rattle.kc_diagnostics.specs.declared.cause.Cause.TheVariants.{Memory}
 use Rattle.kc_read.specs.declared.refusal.Refusal.{Refusal}
 use Rattle.kc_solve.specs.Graphs.{IsGraphOf}
-use Rattle.kc_tree.specs.Layouts.{IsLayoutOf}
 use Rattle.kc_options.specs.Asked.{root_file}
 use Rattle.kc_conf.specs.Outcome.{IsAcceptedTree}
 use Rattle.kc_conf.specs.declared.accepted.OrderedTree.{OrderedTree}
@@ -25,11 +24,10 @@ pub record IsReadingOf (files : Files) (root : List ℕ) (reading : Result TreeR
   pub refused : IfErr reading (λ r. r.cause ≢ Memory → IsTreeOf files root (Err (refusal_view r)))
 
 -- its symbols are in order
-pub record IsReady (accepted : OrderedTree) : Type 0 where
-  pub laid : IsLayoutOf accepted.tree.now accepted.layout.now
-  pub order : IsGraphOf accepted.tree.now accepted.layout.now accepted.order.now
+abbrev pub IsReady : OrderedTree → Type 0
+IsReady accepted = IsGraphOf accepted.laid accepted.order.now
 
 -- it is the tree of these files, with the files that it opens
 pub record IsAcceptedOf (files : Files) (options : Options) (accepted : OrderedTree) : Type 0 where
-  pub tree : IsAcceptedTree files (root_file options) accepted.tree.now
+  pub tree : IsAcceptedTree files (root_file options) accepted.laid.tree.now
   pub opened : AreOpened files (root_file options) accepted.opened.now

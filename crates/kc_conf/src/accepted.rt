@@ -7,7 +7,7 @@ use kc_expr::names::Names;
 use kc_read::file_map::FileMap;
 use kc_read::refusal::Refusal;
 use kc_solve::evaluation_order::EvaluationOrder;
-use kc_tree::layout::Layout;
+use kc_tree::laid_tree::LaidTree;
 use kc_tree::tree::Tree;
 use std::alloc::Global;
 
@@ -21,8 +21,7 @@ pub(crate) struct TreeReading {
 /// An accepted tree with an order of its symbols, and the names of the files that it opens.
 #[derive(Clone, Copy)]
 pub(crate) struct OrderedTree<'t> {
-    pub tree: &'t Tree,
-    pub layout: &'t Layout,
+    pub laid: LaidTree<'t>,
     pub order: &'t EvaluationOrder,
     pub opened: &'t Names,
 }

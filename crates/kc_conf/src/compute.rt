@@ -276,12 +276,11 @@ pub(crate) fn compute<'o>(
     waiting: &mut Vec<u8>,
 ) -> Result<Option<Vec<Text<'o>>>, AllocError>
     requires ready { IsReady accepted.now }
-    requires places { ArePlacesOf accepted.now.tree.now input.now.places }
-    ensures { IfOk result (λ texts. Computes options.now accepted.now.tree.now names.now input.now is_warned waiting.old.items waiting.new.items
+    requires places { ArePlacesOf accepted.now.laid.tree.now input.now.places }
+    ensures { IfOk result (λ texts. Computes options.now accepted.now.laid.tree.now names.now input.now is_warned waiting.old.items waiting.new.items
         (option_map (λ texts. map text_view texts.items) texts)) }
 {
-    let tree = accepted.tree;
-    let solved = solve(alloc, tree, accepted.layout, accepted.order, input.user())?;
+    let solved = solve(alloc, &accepted.laid, accepted.order, input.user())?;
     solved.is_solution();
     let lost = lost_warnings(alloc, options, input, &solved)?;
     add_value_lines(options, &solved, &lost, waiting)?;

@@ -66,8 +66,8 @@ fn run_part<'o, D: Device>(
     device: &mut D,
 ) -> Result<Status, Stop<'o>>
     requires ready { IsReady accepted.now }
-    requires warned { is_warned ≡ has_text (lines_text accepted.now.tree.now.warnings) }
-    ensures { (files : Files) → IsAcceptedOf files options.now accepted.now → LeavesTurn files options.now accepted.now.tree.now result (D.log device.old) (D.log device.new) }
+    requires warned { is_warned ≡ has_text (lines_text accepted.now.laid.tree.now.warnings) }
+    ensures { (files : Files) → IsAcceptedOf files options.now accepted.now → LeavesTurn files options.now accepted.now.laid.tree.now result (D.log device.old) (D.log device.new) }
 {
     one_answer();
     exactly_one_outcome();
@@ -111,9 +111,9 @@ fn run_turn<D: Device>(
     device: &mut D,
 ) -> Turn
     requires ready { IsReady accepted.now }
-    requires warned { is_warned ≡ has_text (lines_text accepted.now.tree.now.warnings) }
+    requires warned { is_warned ≡ has_text (lines_text accepted.now.laid.tree.now.warnings) }
     ensures { (files : Files) → IsAcceptedOf files options.now accepted.now →
-        RunsTurn files accepted.now.tree.now options.now (D.log device.old) (D.log device.new) result.status result.is_over }
+        RunsTurn files accepted.now.laid.tree.now options.now (D.log device.old) (D.log device.new) result.status result.is_over }
 {
     match run_part(alloc, options, accepted, is_warned, device) {
         Ok(status) => Turn {
@@ -142,9 +142,9 @@ fn take_turn<C: Configurations, D: Device>(
 ) -> Turn
     requires within { i < C.number configurations.now }
     requires ready { IsReady accepted.now }
-    requires warned { is_warned ≡ has_text (lines_text accepted.now.tree.now.warnings) }
+    requires warned { is_warned ≡ has_text (lines_text accepted.now.laid.tree.now.warnings) }
     ensures { (files : Files) → ((options : Options) → C.options configurations.now i options → IsAcceptedOf files options accepted.now) →
-        TakesTurn files accepted.now.tree.now (C.options configurations.now i) (D.log device.old) (D.log device.new) result.status result.is_over }
+        TakesTurn files accepted.now.laid.tree.now (C.options configurations.now i) (D.log device.old) (D.log device.new) result.status result.is_over }
 {
     match configurations.options_of(alloc, i) {
         Ok(options) => run_turn(alloc, &options, accepted, is_warned, device),
@@ -181,9 +181,9 @@ fn take_turns<C: Configurations, D: Device>(
     device: &mut D,
 ) -> Status
     requires ready { IsReady accepted.now }
-    requires warned { is_warned ≡ has_text (lines_text accepted.now.tree.now.warnings) }
+    requires warned { is_warned ≡ has_text (lines_text accepted.now.laid.tree.now.warnings) }
     ensures { (files : Files) → ((i : ℕ) (options : Options) → C.options configurations.now i options → IsAcceptedOf files options accepted.now) →
-        TakeTurns files accepted.now.tree.now (C.options configurations.now) 0 (C.number configurations.now) (D.log device.old) (D.log device.new) result }
+        TakeTurns files accepted.now.laid.tree.now (C.options configurations.now) 0 (C.number configurations.now) (D.log device.old) (D.log device.new) result }
 {
     let mut status = Status::Done;
     for i in 0..configurations.count() {
@@ -233,11 +233,11 @@ fn run_each_of<C: Configurations, D: Device>(
     device: &mut D,
 ) -> Status
     requires { IsReady accepted.now }
-    ensures { (files : Files) (root : List ℕ) → IsAcceptedTree files root accepted.now.tree.now → AreOpened files root accepted.now.opened.now →
+    ensures { (files : Files) (root : List ℕ) → IsAcceptedTree files root accepted.now.laid.tree.now → AreOpened files root accepted.now.opened.now →
         AreRootedAt root (C.options configurations.now) →
         RunsEach files root (C.options configurations.now) (C.number configurations.now) (D.log device.old) (D.log device.new) result }
 {
-    let warnings = accepted.tree.parse_warnings();
+    let warnings = accepted.laid.tree.parse_warnings();
     match say_tree(alloc, warnings, device) {
         Ok(()) => take_turns(
             alloc,
@@ -262,14 +262,13 @@ fn run_each_over<C: Configurations, D: Device>(
         RunsEach files root (C.options configurations.now) (C.number configurations.now) (D.log device.old) (D.log device.new) result }
 {
     let TreeReading { tree, opened } = read;
-    let layout = tree.layout();
-    let order = match EvaluationOrder::of(alloc, &tree, layout) {
+    let laid = tree.laid();
+    let order = match EvaluationOrder::of(alloc, &laid) {
         Ok(order) => order,
         Err(refusal) => return refuse_all(&refusal, device),
     };
     let accepted = OrderedTree {
-        tree: &tree,
-        layout,
+        laid,
         order: &order,
         opened: &opened,
     };

@@ -212,12 +212,12 @@ pub(crate) fn run_inputs<'o, D: Device>(
     requires ready { IsReady accepted.now }
     requires names { names.now ≡ names_listed options.now accepted.now.opened.now }
     requires read { unreadable_name options.now accepted.now.opened.now ≡ None }
-    requires warned { is_warned ≡ has_text (lines_text accepted.now.tree.now.warnings) }
-    ensures { (files : Files) → IsAcceptedOf files options.now accepted.now → LeavesPart files options.now accepted.now.tree.now result (D.log device.old) (D.log device.new) }
+    requires warned { is_warned ≡ has_text (lines_text accepted.now.laid.tree.now.warnings) }
+    ensures { (files : Files) → IsAcceptedOf files options.now accepted.now → LeavesPart files options.now accepted.now.laid.tree.now result (D.log device.old) (D.log device.new) }
 {
     one_answer();
     exactly_one_outcome();
-    let tree = accepted.tree;
+    let tree = accepted.laid.tree;
     let streams = stream_names(alloc, options)?;
     let mut user = UserInput::new(alloc, tree, options.warn_lost)?;
     let mut waiting = Waiting {
@@ -295,7 +295,7 @@ fn run_accepted<'o, D: Device>(
     if let Some(name) = unreadable_among(options, &names) {
         return refuse_name(options, name, device);
     }
-    let warnings = accepted.tree.parse_warnings();
+    let warnings = accepted.laid.tree.parse_warnings();
     match say_tree(alloc, warnings, device) {
         Ok(()) => run_inputs(
             alloc,
@@ -323,14 +323,13 @@ fn run_tree<'o, D: Device>(
     exactly_one_outcome();
     opened_are_one_list();
     let TreeReading { tree, opened } = read;
-    let layout = tree.layout();
-    let order = match EvaluationOrder::of(alloc, &tree, layout) {
+    let laid = tree.laid();
+    let order = match EvaluationOrder::of(alloc, &laid) {
         Ok(order) => order,
         Err(refusal) => return refuse(&refusal, device),
     };
     let accepted = OrderedTree {
-        tree: &tree,
-        layout,
+        laid,
         order: &order,
         opened: &opened,
     };

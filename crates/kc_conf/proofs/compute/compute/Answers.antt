@@ -28,7 +28,7 @@ returns-then-is_refused c =
       solution = s;
       solution_is = record { tree_is = c.in_ok-solved.ensures.tree; places_are = c.in_ok-solved.ensures.places ∙ c.user.ensures; solves = c.is_solution.ensures };
       adds = c.in_ok-add_value_lines.ensures ∙ ap (λ l. c.args.waiting.now.items ++ (lines_text (map (λ line. lead options ++ line) (warnings s)) ++ lines_text l)) lost;
-      texts_are = sym (ap (given_by c.args.options.now c.args.accepted.now.tree.now s c.args.names.now) e);
+      texts_are = sym (ap (given_by c.args.options.now c.args.accepted.now.laid.tree.now s c.args.names.now) e);
     }
 
 pub returns : goal.returns
@@ -47,5 +47,5 @@ returns c =
       texts_are =
           ap Some c.in_ok-texts.ensures
           ∙ ap (λ (t : TreeFacts). Some (texts_of options (ruled_files options t s c.args.names.now))) c.in_ok-solved.ensures.tree
-          ∙ sym (ap (given_by c.args.options.now c.args.accepted.now.tree.now s c.args.names.now) e);
+          ∙ sym (ap (given_by c.args.options.now c.args.accepted.now.laid.tree.now s c.args.names.now) e);
     }

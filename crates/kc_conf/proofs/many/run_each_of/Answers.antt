@@ -12,9 +12,9 @@ take_turns-requires-clause-warned g c =
 
 pub returns-in-Ok : goal.returns-in-Ok
 returns-in-Ok g c = λ files root accepted opened rooted.
-    turns c.args.accepted.now.tree.now (g.D.Device.log c.say_tree.new.device) accepted (rw c.parse_warnings-warnings.ensures at c.in-Ok.ensures)
+    turns c.args.accepted.now.laid.tree.now (g.D.Device.log c.say_tree.new.device) accepted (rw c.parse_warnings-warnings.ensures at c.in-Ok.ensures)
     (c.take_turns.ensures files (IsAcceptedOf-rooted files root (g.C.Configurations.options c.args.configurations.now) c.args.accepted.now accepted opened rooted))
 
 pub returns-in-Err : goal.returns-in-Err
 returns-in-Err g c = λ files root accepted opened rooted.
-    stops (c.end_unsaid.ensures files root c.args.accepted.now.tree.now (g.D.Device.log c.args.device.now) accepted (rw c.parse_warnings-warnings.ensures at c.in-Err.ensures))
+    stops (c.end_unsaid.ensures files root c.args.accepted.now.laid.tree.now (g.D.Device.log c.args.device.now) accepted (rw c.parse_warnings-warnings.ensures at c.in-Err.ensures))

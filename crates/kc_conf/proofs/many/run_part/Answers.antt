@@ -8,16 +8,16 @@ pub returns-in_err-names : goal.returns-in_err-names
 returns-in_err-names g c =
     let p = err_from_is_err_and c.from_residual.result c.from_residual.ensures.1 in
     rw (p.1, p.2) (λ files of.
-    LeavesTurn-memory files c.args.options.now c.args.accepted.now.tree.now of.tree c.one_answer.ensures c.exactly_one_outcome.ensures (g.D.Device.log c.args.device.now))
+    LeavesTurn-memory files c.args.options.now c.args.accepted.now.laid.tree.now of.tree c.one_answer.ensures c.exactly_one_outcome.ensures (g.D.Device.log c.args.device.now))
 
 pub returns-in-Some : goal.returns-in-Some
 returns-in-Some g c = λ files of.
     let opened = c.args.accepted.now.opened.now in
-    LeavesTurn-name files c.args.options.now c.args.accepted.now.tree.now of.tree opened of.opened c.refuse_name.result (g.D.Device.log c.args.device.now) (g.D.Device.log c.refuse_name.new.device)
+    LeavesTurn-name files c.args.options.now c.args.accepted.now.laid.tree.now of.tree opened of.opened c.refuse_name.result (g.D.Device.log c.args.device.now) (g.D.Device.log c.refuse_name.new.device)
     c.one_answer.ensures c.in-Some.name.now (sym (c.unreadable_among.ensures opened c.in_ok-names.ensures) ∙ ap (option_map (λ n. n.now)) c.in-Some.is) c.refuse_name.ensures
 
 pub returns : goal.returns
 returns g c = λ files of.
     let opened = c.args.accepted.now.opened.now in
-    LeavesTurn-part files c.args.options.now c.args.accepted.now.tree.now of.tree opened of.opened c.run_inputs.result (g.D.Device.log c.args.device.now) (g.D.Device.log c.run_inputs.new.device)
+    LeavesTurn-part files c.args.options.now c.args.accepted.now.laid.tree.now of.tree opened of.opened c.run_inputs.result (g.D.Device.log c.args.device.now) (g.D.Device.log c.run_inputs.new.device)
     c.one_answer.ensures (sym (c.unreadable_among.ensures opened c.in_ok-names.ensures) ∙ ap (option_map (λ n. n.now)) c.in_default.is) (c.run_inputs.ensures files of)

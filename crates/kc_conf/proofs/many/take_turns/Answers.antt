@@ -7,11 +7,11 @@ use Rattle.kc_conf.proofs.many.take_turns.Goals as goal
 
 pub loop-i-init : goal.loop-i-init
 loop-i-init g c = λ files of.
-    TurnsSoFar-none files c.args.accepted.now.tree.now (g.C.Configurations.options c.args.configurations.now) (g.C.Configurations.number c.args.configurations.now) (g.D.Device.log c.args.device.now)
+    TurnsSoFar-none files c.args.accepted.now.laid.tree.now (g.C.Configurations.options c.args.configurations.now) (g.C.Configurations.number c.args.configurations.now) (g.D.Device.log c.args.device.now)
 
 pub loop-i-preserved : goal.loop-i-preserved
 loop-i-preserved g c = λ files of.
-    let tree = c.args.accepted.now.tree.now in
+    let tree = c.args.accepted.now.laid.tree.now in
     let options = g.C.Configurations.options c.args.configurations.now in
     let count = g.C.Configurations.number c.args.configurations.now in
     let old = g.D.Device.log c.args.device.now in
@@ -24,7 +24,7 @@ loop-i-preserved g c = λ files of.
 
 pub returns-then-turn : goal.returns-then-turn
 returns-then-turn g c = λ files of.
-    let tree = c.args.accepted.now.tree.now in
+    let tree = c.args.accepted.now.laid.tree.now in
     let options = g.C.Configurations.options c.args.configurations.now in
     let count = g.C.Configurations.number c.args.configurations.now in
     let old = g.D.Device.log c.args.device.now in
@@ -40,4 +40,4 @@ returns g c = λ files of.
     let options = g.C.Configurations.options c.args.configurations.now in
     let count = g.C.Configurations.number c.args.configurations.now in
     let end : count ≤ c.loop-i.i = let e = c.count-i-end.ensures in let test = c.loop-i-test.false in omega (arith, e, test) in
-    TakeTurns-all files c.args.accepted.now.tree.now options count c.loop-i.i end c.loop-i.status (g.D.Device.log c.args.device.now) (g.D.Device.log c.loop-i.device) (c.loop-i.invariant files of)
+    TakeTurns-all files c.args.accepted.now.laid.tree.now options count c.loop-i.i end c.loop-i.status (g.D.Device.log c.args.device.now) (g.D.Device.log c.loop-i.device) (c.loop-i.invariant files of)

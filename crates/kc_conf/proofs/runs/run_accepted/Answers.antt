@@ -17,7 +17,7 @@ returns-in_err-names g c =
 pub returns-in-Some : goal.returns-in-Some
 returns-in-Some g c = λ files of.
     let opened = c.args.accepted.now.opened.now in
-    LeavesRun-name files c.args.options.now c.args.accepted.now.tree.now opened c.in-Some.name.now c.refuse_name.result (g.D.Device.log c.args.device.now) (g.D.Device.log c.refuse_name.new.device)
+    LeavesRun-name files c.args.options.now c.args.accepted.now.laid.tree.now opened c.in-Some.name.now c.refuse_name.result (g.D.Device.log c.args.device.now) (g.D.Device.log c.refuse_name.new.device)
     of.tree of.opened (sym (c.unreadable_among.ensures opened c.in_ok-names.ensures) ∙ ap (option_map (λ n. n.now)) c.in-Some.is) c.refuse_name.ensures
 
 pub run_inputs-requires-clause-warned : goal.run_inputs-requires-clause-warned
@@ -26,13 +26,13 @@ run_inputs-requires-clause-warned g c =
 
 pub returns-in-Ok : goal.returns-in-Ok
 returns-in-Ok g c = λ files of.
-    LeavesRun-part c.one_answer.ensures files c.args.options.now c.args.accepted.now.tree.now c.run_inputs.result (g.D.Device.log c.args.device.now) (g.D.Device.log c.say_tree.new.device)
+    LeavesRun-part c.one_answer.ensures files c.args.options.now c.args.accepted.now.laid.tree.now c.run_inputs.result (g.D.Device.log c.args.device.now) (g.D.Device.log c.say_tree.new.device)
     (g.D.Device.log c.run_inputs.new.device) of.tree (rw c.parse_warnings-warnings.ensures at c.in-Ok.ensures) (c.run_inputs.ensures files of)
 
 pub returns : goal.returns
 returns g c = λ files of.
     let opened = c.args.accepted.now.opened.now in
     let readable = sym (c.unreadable_among.ensures opened c.in_ok-names.ensures) ∙ ap (option_map (λ n. n.now)) c.in_default.is in
-    LeavesRun-unsaid c.one_answer.ensures c.exactly_one_outcome.ensures files c.args.options.now c.args.accepted.now.tree.now of.tree
-    (names-read files c.args.options.now c.args.accepted.now.tree.now of.tree opened of.opened readable) c.in-Err.stop (g.D.Device.log c.args.device.now) (g.D.Device.log c.say_tree.new.device)
+    LeavesRun-unsaid c.one_answer.ensures c.exactly_one_outcome.ensures files c.args.options.now c.args.accepted.now.laid.tree.now of.tree
+    (names-read files c.args.options.now c.args.accepted.now.laid.tree.now of.tree opened of.opened readable) c.in-Err.stop (g.D.Device.log c.args.device.now) (g.D.Device.log c.say_tree.new.device)
     (rw c.parse_warnings-warnings.ensures at c.in-Err.ensures)
