@@ -1,11 +1,17 @@
 -- The tree's symbols need one another in a loop, or it is accepted.
+use Rattle.std.proofs.Common.{subst, sym}
+use Rattle.std.specs.Prelude.{Ok}
+use Rattle.kc_build.specs.Trees.{IsTreeOf}
 use Rattle.kc_conf.specs.Many.{stops}
 use Rattle.kc_conf.specs.Outcome.{looped}
 use Rattle.kc_conf.proofs.many.run_each_over.Goals as goal
 
 pub returns-in-Err : goal.returns-in-Err
 returns-in-Err g c = λ files root of rooted.
-    stops (c.refuse_all.ensures files root (λ known. let (text, named, is) = c.in-Err.ensures.refused known in looped c.args.read.tree text of.built named is))
+    let built = subst (λ t. IsTreeOf files root (Ok t)) (sym c.laid-laid.ensures.tree) of.built in
+    stops (c.refuse_all.ensures files root (λ known. let (text, named, is) = c.in-Err.ensures.refused known in looped c.laid-laid.result.tree.now text built named is))
 
 pub returns : goal.returns
-returns g c = λ files root of rooted. c.run_each_of-status.ensures files root (record { built = of.built; accepted = c.in-Ok.ensures.accepted }) of.opened rooted
+returns g c = λ files root of rooted.
+    let built = subst (λ t. IsTreeOf files root (Ok t)) (sym c.laid-laid.ensures.tree) of.built in
+    c.run_each_of-status.ensures files root (record { built = built; accepted = c.in-Ok.ensures.accepted }) of.opened rooted

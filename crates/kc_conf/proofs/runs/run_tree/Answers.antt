@@ -1,9 +1,14 @@
 -- The tree's symbols need one another in a loop.
+use Rattle.std.proofs.Common.{subst, sym}
+use Rattle.std.specs.Prelude.{Ok}
+use Rattle.kc_build.specs.Trees.{IsTreeOf}
+use Rattle.kc_options.specs.Asked.{root_file}
 use Rattle.kc_conf.specs.Outcome.{looped}
 use Rattle.kc_conf.proofs.RunParts.{LeavesRun-refusal}
 use Rattle.kc_conf.proofs.runs.run_tree.Goals as goal
 
 pub returns-in-Err : goal.returns-in-Err
 returns-in-Err g c = λ files of.
+    let built = subst (λ t. IsTreeOf files (root_file c.args.options.now) (Ok t)) (sym c.laid-laid.ensures.tree) of.built in
     LeavesRun-refusal c.opened_are_one_list.ensures c.exactly_one_outcome.ensures files c.args.options.now c.in-Err.refusal c.refuse.result (g.D.Device.log c.args.device.now) (g.D.Device.log c.refuse.new.device)
-    (λ known. let (text, named, is) = c.in-Err.ensures.refused known in looped c.args.read.tree text of.built named is) c.refuse.ensures.memory c.refuse.ensures.said
+    (λ known. let (text, named, is) = c.in-Err.ensures.refused known in looped c.laid-laid.result.tree.now text built named is) c.refuse.ensures.memory c.refuse.ensures.said
