@@ -260,6 +260,21 @@ def undefined_names(count):
     return "".join(config(f"S_{i}", "bool", "depends on " + " || ".join(f"U_{i}_{k}" for k in range(40))) for i in range(count))
 
 
+def sourced(count, help):
+    """A file with a help text that is sourced so many times."""
+    return 'source "help"\n' * count, "", config("A", 'bool "a"', "help", help)
+
+
+def sourced_help(count):
+    """A file with so many bytes of help in one line, sourced as many times."""
+    return sourced(count, "x" * count)
+
+
+def sourced_tabs(count):
+    """The same, where the line begins with so many tabs."""
+    return sourced(count, "\t" * count + "x")
+
+
 # Each shape with its least size. A tree has at most 65,535 symbols and 1,000,000 lines.
 SHAPES = [
     (loop_beside_a_chain, 16000),
@@ -292,6 +307,8 @@ SHAPES = [
     (help_texts, 4000),
     (unknown_names, 500000),
     (undefined_names, 5000),
+    (sourced_help, 16000),
+    (sourced_tabs, 16000),
 ]
 # Those that are refused, for their loop.
 REFUSED = {loop_beside_a_chain, loop_beside_wide_conditions}
@@ -302,9 +319,10 @@ def write(shape, count, folder):
     child = os.fork()
     if child == 0:
         made = shape(count)
-        tree, settings = made if isinstance(made, tuple) else (made, "")
+        tree, settings, help = (*made, "", "")[:3] if isinstance(made, tuple) else (made, "", "")
         pathlib.Path(folder, "Kconfig").write_text(tree)
         pathlib.Path(folder, "dot.config").write_text(settings)
+        pathlib.Path(folder, "help").write_text(help)
         os._exit(0)
     if os.waitpid(child, 0)[1]:
         sys.exit(f"{shape.__name__} was not written")
