@@ -8,19 +8,18 @@ ghost use Rattle.kc_solve.specs.Computing.{IsComputedSymbol};
 ghost use Rattle.kc_solve.specs.Graphs.{IsGraphOf};
 ghost use Rattle.kc_solve.specs.PlaceLists.{places};
 ghost use Rattle.kc_solve.specs.Kept.{valuation};
-ghost use Rattle.kc_tree.specs.Layouts.{IsLayoutOf, facts_of};
-ghost use Rattle.kc_values.specs.TableFacts.{known_at};
 ghost use Rattle.kc_user.specs.GivenValue.{SymbolPlace};
 ghost use Rattle.kc_user.specs.Places.{ArePlacesOf, place_at};
+ghost use Rattle.kc_values.specs.AtTable as at;
 ghost use Rattle.kc_values.specs.Needs.{IsAccepted};
 ghost use Rattle.kc_values.specs.Selections.{given_for, member_given};
 ghost use Rattle.kc_values.specs.Solution.{equations, name_count};
 ghost use Rattle.kc_values.specs.Table.{known_value};
-ghost use Rattle.kc_values.specs.Values.{by_choice, member_equation};
 
 use kc_expr::expression::{SymId, SymbolType, Tri};
 use kc_order::ordered_are_accepted;
 use kc_solve::evaluation_order::EvaluationOrder;
+use kc_tree::laid_tree::LaidTree;
 use kc_tree::layout::Layout;
 use kc_tree::rows::{ChoiceId, Symbol};
 use kc_tree::tree::Tree;
@@ -72,25 +71,20 @@ fn first_values(alloc: Global, tree: &Tree) -> Result<SparseVec<Value>, AllocErr
 }
 
 // A table of n and empty texts, where nothing is computed.
-fn first_table<'t>(
-    alloc: Global,
-    tree: &'t Tree,
-    layout: &'t Layout,
-) -> Result<Table<'t>, AllocError>
-    requires { IsLayoutOf tree.now layout.now }
-    ensures tree { IfOk result (λ t. t.tree.now ≡ tree.now) }
-    ensures count { IfOk result (λ t. length t.values ≡ name_count tree.now) }
-    ensures unsettled { IfOk result (λ t. t.contexts.items ≡ replicate (length layout.now.tables.contexts) None) }
+fn first_table<'t>(alloc: Global, laid: &LaidTree<'t>) -> Result<Table<'t>, AllocError>
+    ensures tree { IfOk result (λ t. t.tree.now ≡ laid.now.tree.now) }
+    ensures count { IfOk result (λ t. length t.values ≡ name_count laid.now.tree.now) }
+    ensures unsettled { IfOk result (λ t. t.contexts.items ≡ replicate (length laid.now.layout.now.tables.contexts) None) }
 {
-    let mut table = Table::empty(alloc, tree, layout)?;
-    table.values = first_values(alloc, tree)?;
+    let mut table = Table::empty(alloc, laid)?;
+    table.values = first_values(alloc, laid.tree)?;
     Ok(table)
 }
 
 // The value of a member of a choice: y where it is selected. The selection is found anew.
 fn member_value(table: &Table, id: SymId, choice: ChoiceId, chosen: &[Option<SymId>]) -> Tri
     requires { choice.0 < length chosen.now }
-    ensures { result ≡ member_equation table.now.tree.now (known_at table.now) id choice.0 (member_given chosen.now choice.0) }
+    ensures { result ≡ at.member_equation table.now id choice.0 (member_given chosen.now choice.0) }
 {
     match selected_in(table, choice, chosen[choice.0 as usize]) {
         Some(member) if member.0 == id.0 => Tri::Y,
@@ -110,8 +104,7 @@ fn value_anew(
     requires below { id.0 < length given.now }
     requires users { IfSome symbol.now.choice (λ c. c.0 < length chosen.now) }
     ensures { IfOk result (λ x. known_value symbol.now.symbol_type x
-        ≡ by_choice table.now.tree.now (known_at table.now) id (facts_of table.now.layout.now id.0 symbol.now) (facts_of table.now.layout.now id.0 symbol.now).choice
-        (given_for symbol.now.choice (places given.now chosen.now (SymbolPlace id.0)) chosen.now)) }
+        ≡ at.equation table.now id symbol.now (given_for symbol.now.choice (places given.now chosen.now (SymbolPlace id.0)) chosen.now)) }
 {
     let own = given.get(id.0);
     match symbol.choice.get() {
@@ -148,31 +141,29 @@ fn compute_anew(
 
 /// The values that [`kc_solve::solve::solve`] finds, by the plainest way there is. In a table of n and empty texts
 /// every equation is computed anew, one symbol after another in the order of their first mention, in as many iterations
-/// as there are symbols; the order is only asked that there is one (our own). The caller owes the layout, the order and the
-/// places of that tree. Fails only when it is out of memory.
+/// as there are symbols; the order is only asked that there is one (our own). The caller owes the order and the places of
+/// that tree. Fails only when it is out of memory.
 pub(crate) fn slow_table<'t>(
     alloc: Global,
-    tree: &'t Tree,
-    layout: &'t Layout,
+    laid: &LaidTree<'t>,
     order: &EvaluationOrder,
     user: &User,
 ) -> Result<Table<'t>, AllocError>
-    requires laid { IsLayoutOf tree.now layout.now }
-    requires order { IsGraphOf tree.now layout.now order.now }
-    requires user { ArePlacesOf tree.now user.now }
-    ensures tree { IfOk result (λ t. t.tree.now ≡ tree.now) }
-    ensures accepted { OnOk result (IsAccepted tree.now) }
-    ensures count { IfOk result (λ t. length t.values ≡ name_count tree.now) }
-    ensures solves { IfOk result (λ t. Solves (name_count tree.now) (equations tree.now (place_at user.now)) (valuation tree.now t.values)) }
-    ensures only { IfOk result (λ t. IsOnlySolution (name_count tree.now) (equations tree.now (place_at user.now)) (valuation tree.now t.values)) }
+    requires order { IsGraphOf laid.now order.now }
+    requires user { ArePlacesOf laid.now.tree.now user.now }
+    ensures tree { IfOk result (λ t. t.tree.now ≡ laid.now.tree.now) }
+    ensures accepted { OnOk result (IsAccepted laid.now.tree.now) }
+    ensures count { IfOk result (λ t. length t.values ≡ name_count laid.now.tree.now) }
+    ensures solves { IfOk result (λ t. Solves (name_count laid.now.tree.now) (equations laid.now.tree.now (place_at user.now)) (valuation laid.now.tree.now t.values)) }
+    ensures only { IfOk result (λ t. IsOnlySolution (name_count laid.now.tree.now) (equations laid.now.tree.now (place_at user.now)) (valuation laid.now.tree.now t.values)) }
 {
     accepted_have_one_solution();
     ordered_are_accepted();
     let _nodes = order.nodes();
-    let count = tree.name_count();
+    let count = laid.tree.name_count();
     let given = user.symbols();
     let chosen = user.choices();
-    let mut table = first_table(alloc, tree, layout)?;
+    let mut table = first_table(alloc, laid)?;
     for _iteration in 0..count {
         for i in 0..count {
             compute_anew(alloc, &mut table, SymId(i), given, chosen)?;

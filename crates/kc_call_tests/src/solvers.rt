@@ -1,7 +1,6 @@
 //! The solver beside the plain slow one (kc_solve): they agree on each tree.
 
 ghost use Rattle.kc_solve.specs.Graphs.{IsGraphOf};
-ghost use Rattle.kc_tree.specs.Layouts.{IsLayoutOf};
 ghost use Rattle.kc_user.specs.Places.{ArePlacesOf};
 
 use crate::slow::slow_table;
@@ -10,7 +9,7 @@ use crate::trial::{Claim, give_all, is_true_of};
 use crate::{slow_lines, solved};
 use kc_solve::evaluation_order::EvaluationOrder;
 use kc_solve::solve::solve;
-use kc_tree::layout::Layout;
+use kc_tree::laid_tree::LaidTree;
 use kc_tree::tree::Tree;
 use kc_user::user::User;
 use std::alloc::Global;
@@ -18,17 +17,15 @@ use std::alloc::Global;
 // Adds what the solver finds of the tree under these user values. The answer is whether it finds a solution.
 fn solved_into(
     alloc: Global,
-    tree: &Tree,
-    layout: &Layout,
+    laid: &LaidTree<'_>,
     order: &EvaluationOrder,
     user: &User,
     out: &mut Vec<u8>,
 ) -> bool
-    requires laid { IsLayoutOf tree.now layout.now }
-    requires order { IsGraphOf tree.now layout.now order.now }
-    requires user { ArePlacesOf tree.now user.now }
+    requires order { IsGraphOf laid.now order.now }
+    requires user { ArePlacesOf laid.now.tree.now user.now }
 {
-    match solve(alloc, tree, layout, order, user) {
+    match solve(alloc, laid, order, user) {
         Ok(solution) => solved::lines_into(&solution, out).is_ok(),
         Err(_) => false,
     }
@@ -37,39 +34,30 @@ fn solved_into(
 // Adds what the plain slow solver finds. The answer is whether it finds a solution.
 fn slowly_solved_into(
     alloc: Global,
-    tree: &Tree,
-    layout: &Layout,
+    laid: &LaidTree<'_>,
     order: &EvaluationOrder,
     user: &User,
     out: &mut Vec<u8>,
 ) -> bool
-    requires laid { IsLayoutOf tree.now layout.now }
-    requires order { IsGraphOf tree.now layout.now order.now }
-    requires user { ArePlacesOf tree.now user.now }
+    requires order { IsGraphOf laid.now order.now }
+    requires user { ArePlacesOf laid.now.tree.now user.now }
 {
     let mut warnings = Vec::new(alloc);
-    match slow_table(alloc, tree, layout, order, user) {
+    match slow_table(alloc, laid, order, user) {
         Ok(table) => slow_lines::lines_into(alloc, &table, user, out, &mut warnings).is_ok(),
         Err(_) => false,
     }
 }
 
 // Whether both find the same.
-fn agree_along(
-    alloc: Global,
-    tree: &Tree,
-    layout: &Layout,
-    order: &EvaluationOrder,
-    user: &User,
-) -> bool
-    requires laid { IsLayoutOf tree.now layout.now }
-    requires order { IsGraphOf tree.now layout.now order.now }
-    requires user { ArePlacesOf tree.now user.now }
+fn agree_along(alloc: Global, laid: &LaidTree<'_>, order: &EvaluationOrder, user: &User) -> bool
+    requires order { IsGraphOf laid.now order.now }
+    requires user { ArePlacesOf laid.now.tree.now user.now }
 {
     let mut found = Vec::new(alloc);
     let mut slowly = Vec::new(alloc);
-    solved_into(alloc, tree, layout, order, user, &mut found)
-        && slowly_solved_into(alloc, tree, layout, order, user, &mut slowly)
+    solved_into(alloc, laid, order, user, &mut found)
+        && slowly_solved_into(alloc, laid, order, user, &mut slowly)
         && found.as_slice() == slowly.as_slice()
 }
 
@@ -77,9 +65,9 @@ fn agree_along(
 fn agree(alloc: Global, tree: &Tree, user: &User) -> bool
     requires { ArePlacesOf tree.now user.now }
 {
-    let layout = tree.layout();
-    match EvaluationOrder::of(alloc, tree, layout) {
-        Ok(order) => agree_along(alloc, tree, layout, &order, user),
+    let laid = tree.laid();
+    match EvaluationOrder::of(alloc, &laid) {
+        Ok(order) => agree_along(alloc, &laid, &order, user),
         Err(_) => false,
     }
 }

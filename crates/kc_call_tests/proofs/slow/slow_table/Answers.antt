@@ -51,7 +51,7 @@ loop-i-preserved c =
     record {
       tree = ap (λ t. t.now) f.keeps.tree ∙ now.tree;
       count = f.values.count ∙ now.count;
-      hold = computed c.args.tree.now given chosen c.loop-iteration._iteration c.loop-i.i values new.values filled now.hold;
+      hold = computed c.args.laid.now.tree.now given chosen c.loop-iteration._iteration c.loop-i.i values new.values filled now.hold;
       unsettled = subst (λ v. v.items ≡ replicate (length v.items) None) (sym f.contexts) now.unsettled;
     }
 
@@ -61,31 +61,31 @@ loop-iteration-preserved c =
     record {
       tree = now.tree;
       count = now.count;
-      hold = iteration_ended c.args.tree.now c.symbols-given.result.now c.choices-chosen.result.now c.loop-iteration._iteration c.loop-i.i c.loop-i.table.values (omega arith) now.hold;
+      hold = iteration_ended c.args.laid.now.tree.now c.symbols-given.result.now c.choices-chosen.result.now c.loop-iteration._iteration c.loop-i.i c.loop-i.table.values (omega arith) now.hold;
       unsettled = now.unsettled;
     }
 
 pub returns-clause-accepted : goal.returns-clause-accepted
-returns-clause-accepted c = tree_accepted c.args.tree.now c.args.layout.now c.args.order.now c.nodes-nodes.result.now c.requires.order c.nodes-nodes.ensures
+returns-clause-accepted c = tree_accepted c.args.laid.now c.args.order.now c.nodes-nodes.result.now c.requires.order c.nodes-nodes.ensures
 
 pub returns-clause-solves : goal.returns-clause-solves
 returns-clause-solves c =
-    let t = c.args.tree.now in
+    let t = c.args.laid.now.tree.now in
     let given = c.symbols-given.result.now in
     let chosen = c.choices-chosen.result.now in
     let values = c.loop-iteration.table.values in
-    let accepted = tree_accepted t c.args.layout.now c.args.order.now c.nodes-nodes.result.now c.requires.order c.nodes-nodes.ensures in
+    let accepted = tree_accepted c.args.laid.now c.args.order.now c.nodes-nodes.result.now c.requires.order c.nodes-nodes.ensures in
     solves_as_shown t given chosen c.args.user.now (valuation t values) c.symbols-given.ensures c.choices-chosen.ensures
     (ended t given chosen c.loop-iteration._iteration values (omega arith) accepted c.loop-iteration.invariant.hold)
 
 pub returns-clause-only : goal.returns-clause-only
 returns-clause-only c =
-    let t = c.args.tree.now in
+    let t = c.args.laid.now.tree.now in
     let given = c.symbols-given.result.now in
     let chosen = c.choices-chosen.result.now in
     let values = c.loop-iteration.table.values in
     let V = valuation t values in
-    let accepted = tree_accepted t c.args.layout.now c.args.order.now c.nodes-nodes.result.now c.requires.order c.nodes-nodes.ensures in
+    let accepted = tree_accepted c.args.laid.now c.args.order.now c.nodes-nodes.result.now c.requires.order c.nodes-nodes.ensures in
     let solves =
     solves_as_shown t given chosen c.args.user.now V c.symbols-given.ensures c.choices-chosen.ensures
     (ended t given chosen c.loop-iteration._iteration values (omega arith) accepted c.loop-iteration.invariant.hold)

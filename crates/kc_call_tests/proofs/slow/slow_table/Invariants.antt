@@ -6,16 +6,16 @@ use Rattle.kc_call_tests.proofs.slow.slow_table.Given as goal
 
 abbrev pub invariant-loop-iteration : goal.invariant-loop-iteration
 invariant-loop-iteration l = record {
-  tree : l.table.tree.now ≡ l.tree;
-  count : length l.table.values ≡ name_count l.tree;
-  hold : HoldAfter l.tree l.given l.chosen l._iteration l.table.values;
+  tree : l.table.tree.now ≡ l.laid.tree.now;
+  count : length l.table.values ≡ name_count l.laid.tree.now;
+  hold : HoldAfter l.laid.tree.now l.given l.chosen l._iteration l.table.values;
   unsettled : l.table.contexts.items ≡ replicate (length l.table.contexts.items) None;
 }
 
 abbrev pub invariant-loop-i : goal.invariant-loop-i
 invariant-loop-i l = record {
-  tree : l.table.tree.now ≡ l.tree;
-  count : length l.table.values ≡ name_count l.tree;
-  hold : HoldUpTo l.tree l.given l.chosen l._iteration l.i l.table.values;
+  tree : l.table.tree.now ≡ l.laid.tree.now;
+  count : length l.table.values ≡ name_count l.laid.tree.now;
+  hold : HoldUpTo l.laid.tree.now l.given l.chosen l._iteration l.i l.table.values;
   unsettled : l.table.contexts.items ≡ replicate (length l.table.contexts.items) None;
 }
