@@ -2,7 +2,6 @@
 ghost use Rattle.std.specs.Prelude.{◌≡◌};
 ghost use Rattle.kc_user.specs.Places.{ArePlacesOf};
 ghost use Rattle.kc_solve.specs.Graphs.{IsGraphOf};
-ghost use Rattle.kc_tree.specs.Layouts.{IsLayoutOf};
 
 use crate::end::{CallEnd, done, refused};
 use crate::trees::TreeCall;
@@ -17,7 +16,7 @@ use kc_expr::values::Values;
 use kc_solve::evaluation_order::EvaluationOrder;
 use kc_solve::solve::solve;
 use kc_solve::solved::Solved;
-use kc_tree::layout::Layout;
+use kc_tree::laid_tree::LaidTree;
 use kc_tree::tree::Tree;
 use kc_user::user::User;
 use kc_user::value::UserValue;
@@ -241,18 +240,16 @@ pub(crate) enum Work {
 // How the work ends under this order.
 fn end_in_order(
     alloc: Global,
-    tree: &Tree,
-    layout: &Layout,
+    laid: &LaidTree<'_>,
     order: &EvaluationOrder,
     user: &User,
     prefix: &Prefix,
     work: Work,
 ) -> Result<CallEnd, AllocError>
-    requires laid { IsLayoutOf tree.now layout.now }
-    requires order { IsGraphOf tree.now layout.now order.now }
-    requires user { ArePlacesOf tree.now user.now }
+    requires order { IsGraphOf laid.now order.now }
+    requires user { ArePlacesOf laid.now.tree.now user.now }
 {
-    match (solve(alloc, tree, layout, order, user), work) {
+    match (solve(alloc, laid, order, user), work) {
         (Ok(solved), Work::Solve) => Ok(done(has_values(&solved))),
         (Ok(solved), Work::Text(output)) => Ok(end_of_text(alloc, &solved, prefix, output)),
         (Err(_), Work::Solve) => Ok(CallEnd::Refused),
@@ -270,9 +267,9 @@ fn end_over(
 ) -> Result<CallEnd, AllocError>
     requires { ArePlacesOf tree.now user.now }
 {
-    let layout = tree.layout();
-    match EvaluationOrder::of(alloc, tree, layout) {
-        Ok(order) => end_in_order(alloc, tree, layout, &order, user, prefix, work),
+    let laid = tree.laid();
+    match EvaluationOrder::of(alloc, &laid) {
+        Ok(order) => end_in_order(alloc, &laid, &order, user, prefix, work),
         Err(_) => Err(AllocError),
     }
 }

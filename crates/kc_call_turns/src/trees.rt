@@ -203,7 +203,7 @@ pub(crate) enum Ordering {
 
 impl TreeCall for Ordering {
     fn end(&self, alloc: Global, tree: &Tree) -> Result<CallEnd, AllocError> {
-        let end = match (EvaluationOrder::of(alloc, tree, tree.layout()), self) {
+        let end = match (EvaluationOrder::of(alloc, &tree.laid()), self) {
             (Ok(order), Ordering::Order) => done(is_order(order.nodes())),
             (Ok(_order), Ordering::Loop) => CallEnd::Wrong,
             (Err(refusal), Ordering::Order) => refused(is_memory(&refusal)),
