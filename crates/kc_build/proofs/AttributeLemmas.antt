@@ -4,16 +4,15 @@ use Rattle.std.specs.Prelude.{◌⊎◌}
 use Rattle.std.specs.List.{filter_map}
 use Rattle.std.proofs.lemmas.Bool.{cases_lt}
 use Rattle.std.proofs.lemmas.List.{append-nil, get_or_append_left, get_or_push, length_push}
-use Rattle.kc_expr.specs.Form.{Form}
+use Rattle.kc_language.specs.Expressions.{Form}
 use Rattle.kc_expr.specs.When.{when_view}
 use Rattle.kc_read.specs.declared.entries.AttributeLine.{AttributeLine}
 use Rattle.kc_read.specs.StatementViews.{attribute_view}
-use Rattle.kc_read.specs.Statements.{Numbered}
+use Rattle.kc_language.specs.Statements.{Numbered}
 use Rattle.kc_tree.specs.declared.rows.ChoiceDefault.{ChoiceDefault}
 use Rattle.kc_tree.specs.Contexts.{and_also, condition_in, top}
-use Rattle.kc_tree.specs.TreeFacts.{Condition}
+use Rattle.kc_language.specs.Symbols.{Condition, StatedDefault, stated_default, single_symbol}
 use Rattle.kc_build.specs.EntryLines.{choice_default_line, named_line}
-use Rattle.kc_build.specs.Facts.{StatedDefault, stated_default, single_symbol}
 use Rattle.kc_build.specs.Growth.{IsGrown, IsInside, Stands}
 use Rattle.kc_build.specs.Passes.{statements_of}
 use Rattle.kc_build.proofs.ScanLemmas.{statements_end, statements_from}

@@ -3,8 +3,8 @@ use Rattle.std.proofs.Common.{◌≡◌, ℕ, zero, suc, ◌+◌, ◌-◌, ◌<�
 use Rattle.std.specs.List.{slice_get}
 use Rattle.std.specs.Option.{is_some}
 use Rattle.std.specs.Prelude.{◌⊎◌}
-use Rattle.kc_read.specs.Statements.{Numbered}
-use Rattle.kc_read.specs.Blocks.{Bracket, Opens, Closes, NoBracket, numbers, last_of, depth_after, closes_outer, opened, bracket, stays_open, bracket_at, is_open, open_block_indices, enclosing}
+use Rattle.kc_language.specs.Statements.{Numbered}
+use Rattle.kc_language.specs.Expansion.{Bracket, Opens, Closes, NoBracket, numbers, last_of, depth_after, closes_outer, opened, bracket, stays_open, bracket_at, is_open, open_block_indices, enclosing}
 
 -- Closers that close what was opened before a list.
 abbrev below : ℕ → ℕ → Bool

@@ -4,27 +4,25 @@ use Rattle.std.specs.Prelude.{All}
 use Rattle.std.specs.List.{slice_get, flat_map}
 use Rattle.std.specs.Option.{is_some}
 use Rattle.std.proofs.lemmas.List.Elements.{All-append, All-head}
-use Rattle.kc_expr.specs.Names.{AreDistinct, number_of}
-use Rattle.kc_diagnostics.specs.Causes.{Cause, owned_cause}
-use Rattle.kc_diagnostics.specs.declared.cause.Cause.TheVariants as cause
+use Rattle.kc_expr.specs.Names.{AreDistinct}
+use Rattle.kc_language.specs.Expressions.{number_of}
+use Rattle.kc_language.specs.Statements.{Cause, Numbered, Located, Named, statements}
+use Rattle.kc_diagnostics.specs.Causes.{owned_cause}
+use Rattle.kc_language.specs.declared.diagnostics.Cause.TheVariants as cause
 use Rattle.kc_read.specs.declared.refusal.Refusal.{Refusal}
-use Rattle.kc_read.specs.Expansion.{Expands, Log, OneExpansion, Refused, defined, refused}
-use Rattle.kc_read.specs.Files.{Files}
-use Rattle.kc_read.specs.Numbering.{names_of, numbered_lines}
+use Rattle.kc_language.specs.Expansion.{Expands, Log, Refused, defined, refused, Files, names_of, numbered_lines}
+use Rattle.kc_read.specs.Expansion.{OneExpansion}
 use Rattle.kc_read.specs.Entries.{lines_in}
-use Rattle.kc_read.specs.Statements.{Numbered, Located, Named, statements}
 use Rattle.kc_read.specs.RefusalView.{IsMemory, refusal_view}
 use Rattle.kc_build.specs.declared.listing.Listing.{Listing}
 use Rattle.kc_build.specs.PartsView.{parts_view}
-use Rattle.kc_tree.specs.Common.{listed}
+use Rattle.kc_language.specs.Symbols.{listed, defined_symbols, TreeFacts, facts_with, modules_symbol, tree_of_lines, tree_of_log, tree_with, unless_refused, bad_defaults, bad_members, entry_name, whole_list_refusals, menu_entry_at, entry_symbol, refused_at}
 use Rattle.kc_build.specs.SymbolRows.{AreBelow, AreChoicesApart, AreMenusOpened, AreTypesDefined}
 use Rattle.kc_build.specs.Listings.{IsListing}
-use Rattle.kc_build.specs.Facts.{defined_symbols}
 use Rattle.kc_build.specs.Passes.{statements_in}
-use Rattle.kc_tree.specs.TreeFacts.{TreeFacts, IsWellFormed}
+use Rattle.kc_tree.specs.TreeFacts.{IsWellFormed}
 use Rattle.kc_tree.specs.declared.layout.TreeParts.{TreeParts}
-use Rattle.kc_build.specs.Trees.{OneTree, facts_with, modules_symbol, tree_of_lines, tree_of_log, tree_with, unless_refused}
-use Rattle.kc_build.specs.Warnings.{bad_defaults, bad_members, entry_name, whole_list_refusals, menu_entry_at, entry_symbol, refused_at}
+use Rattle.kc_build.specs.Trees.{OneTree}
 use Rattle.kc_build.proofs.DefinedLemmas.{AreNames, expanded_allowed, expanded_known, numbered_typed}
 use Rattle.kc_build.proofs.ElementLemmas.{All-flat_map, All-map_each}
 use Rattle.kc_build.proofs.NestLemmas.{choice_alone, menu_closed}

@@ -5,11 +5,10 @@ use Rattle.std.proofs.Common.{inl, inr}
 use Rattle.std.specs.List.{count_by}
 use Rattle.std.proofs.lemmas.List.{length-map}
 use Rattle.std.proofs.lemmas.List.Sums.{length-filter}
-use Rattle.kc_read.specs.declared.statement.Block.TheVariants as block
-use Rattle.kc_read.specs.Statements.{Numbered}
-use Rattle.kc_read.specs.Blocks.{numbers}
-use Rattle.kc_tree.specs.TreeFacts.{ChoiceFacts}
-use Rattle.kc_build.specs.Facts.{of_block, choice_number, choice_facts}
+use Rattle.kc_language.specs.declared.statements.Block.TheVariants as block
+use Rattle.kc_language.specs.Statements.{Numbered}
+use Rattle.kc_language.specs.Expansion.{numbers}
+use Rattle.kc_language.specs.Symbols.{ChoiceFacts, of_block, choice_number, choice_facts}
 use Rattle.kc_build.proofs.ListLemmas.{count_next}
 use Rattle.kc_build.proofs.MemberLemmas.{below_or_past}
 

@@ -1,17 +1,17 @@
 -- What a choice does to the walk.
 use Rattle.std.proofs.Common.{◌≡◌, ℕ, zero, suc, ◌+◌, ◌<◌, ◌≤◌, Bool, true, false, cond, if◌then◌else◌, ◌==◌, ◌&&◌, List, [], ◌∷◌, ◌++◌, length, filter, take, map, Option, Some, None, Ok, Err, refl, ap, sym, ◌∙◌, subst, arith, inl, inr}
-use Rattle.std.specs.Prelude.{◌⊎◌, Result}
+use Rattle.std.specs.Prelude.{◌⊎◌, Result, option_map}
 use Rattle.std.specs.Result.{OnErr, OnOk}
 use Rattle.std.specs.List.{All, slice_get, filter_map, cons_option, list_any}
-use Rattle.std.specs.Option.{is_some, option_map, option_and_then}
+use Rattle.std.specs.Option.{is_some, option_and_then}
 use Rattle.std.proofs.lemmas.Bool.{cases_lt, ne_eqb}
 use Rattle.std.proofs.lemmas.List.{append-nil, get_or_past, get_or_push, length_push, length-take, map_push}
 use Rattle.std.proofs.lemmas.List.Elements.{All-filter, All-head, All-nil, All-push, All-tail, All-weaker, filter-append, filter_passes}
-use Rattle.kc_expr.specs.declared.expression.SymId.{SymId}
-use Rattle.kc_expr.specs.Form.{Form}
-use Rattle.kc_read.specs.declared.statement.Block.TheVariants as block
-use Rattle.kc_read.specs.Statements.{InputPrompt, Numbered, ChoiceLine}
-use Rattle.kc_read.specs.Blocks.{attributes, enclosing, is_open, last_of, numbers}
+use Rattle.kc_language.specs.declared.expressions.SymId.{SymId}
+use Rattle.kc_language.specs.Expressions.{Form}
+use Rattle.kc_language.specs.declared.statements.Block.TheVariants as block
+use Rattle.kc_language.specs.Statements.{InputPrompt, Numbered, ChoiceLine}
+use Rattle.kc_language.specs.Expansion.{attributes, enclosing, is_open, last_of, numbers}
 use Rattle.kc_tree.specs.declared.rows.Choice.{Choice}
 use Rattle.kc_tree.specs.declared.rows.ChoiceDefault.{ChoiceDefault}
 use Rattle.kc_tree.specs.declared.rows.ContextId.{ContextId}
@@ -20,11 +20,9 @@ use Rattle.kc_tree.specs.declared.rows.EntryPrompt.{EntryPrompt}
 use Rattle.kc_tree.specs.declared.rows.Title.{Title}
 use Rattle.kc_tree.specs.Contexts.{HasNoMode, condition_in, in_choice, top}
 use Rattle.kc_tree.specs.Layouts.{choice_default_view, choice_facts as choice_in, prompt_view, with_when, with_conjuncts}
-use Rattle.kc_tree.specs.TreeFacts.{Condition, ChoiceFacts, Guarded}
-use Rattle.kc_tree.specs.Common.{listed}
+use Rattle.kc_language.specs.Symbols.{Condition, ChoiceFacts, Guarded, listed, StatedDefault, prompt_of, prompt_condition, block_conjuncts, choice_number, enclosing_choice, dependency, depends_form, shown_number, stated_default, is_member_index, of_block, prompt_at, single_symbol, symbol_at, enclosing_visible}
 use Rattle.kc_build.specs.Before.{choice_before, choices_before, members_before, named_default}
 use Rattle.kc_build.specs.EntryLines.{choice_default_line, named_line, named_symbol, prompt_line}
-use Rattle.kc_build.specs.Facts.{StatedDefault, prompt_of, prompt_condition, block_conjuncts, choice_number, enclosing_choice, dependency, depends_form, shown_number, stated_default, is_member_index, of_block, prompt_at, single_symbol, symbol_at, enclosing_visible}
 use Rattle.kc_build.specs.Growth.{IsGrown, Stands}
 use Rattle.kc_build.specs.Scopes.{block_visible}
 use Rattle.kc_build.specs.WalkResult.{IsEntryThere, IsTitleThere}

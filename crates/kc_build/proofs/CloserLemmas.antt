@@ -1,17 +1,16 @@
 -- What the end of a block does to the walk.
 use Rattle.std.proofs.Common.{◌≡◌, ℕ, zero, suc, ◌+◌, ◌≤◌, Bool, false, List, [], ◌++◌, length, map, Option, Some, None, refl, ap, sym, ◌∙◌, subst, arith, ◌-◌, length-append}
 use Rattle.std.specs.List.{All, slice_get, cons_option, count_by}
-use Rattle.std.specs.Option.{option_map}
+use Rattle.std.specs.Prelude.{option_map}
 use Rattle.std.proofs.lemmas.List.{append-nil}
 use Rattle.std.proofs.lemmas.List.Elements.{All-cons, All-nil}
 use Rattle.std.proofs.lemmas.Option.{slice_get_within}
-use Rattle.kc_read.specs.declared.statement.Block.TheVariants as block
-use Rattle.kc_read.specs.Statements.{Numbered, EndMenuLine}
-use Rattle.kc_read.specs.Blocks.{Closes, bracket, numbers}
+use Rattle.kc_language.specs.declared.statements.Block.TheVariants as block
+use Rattle.kc_language.specs.Statements.{Numbered, EndMenuLine}
+use Rattle.kc_language.specs.Expansion.{Closes, bracket, numbers}
 use Rattle.kc_tree.specs.declared.rows.ShownEntry.TheVariants as entry
 use Rattle.kc_tree.specs.Layouts.{shown_of}
-use Rattle.kc_tree.specs.TreeFacts.{Condition, EndShown}
-use Rattle.kc_build.specs.Facts.{shown_at, shown_number, shows_entry, of_block, enclosing_block, symbol_of, title_of}
+use Rattle.kc_language.specs.Symbols.{Condition, EndShown, shown_at, shown_number, shows_entry, of_block, enclosing_block, symbol_of, title_of}
 use Rattle.kc_build.specs.WalkResult.{IsEntryThere, IsTitleThere}
 use Rattle.kc_build.specs.Stacks.{AreOpen, IsClosed}
 use Rattle.kc_build.specs.Walks.{Enters}

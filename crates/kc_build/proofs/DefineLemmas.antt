@@ -1,18 +1,17 @@
 -- One definition more: what it says, what the other rows say with it, and what the tables keep.
 use Rattle.std.proofs.Common.{◌≡◌, subst, ◌&&◌, if◌then◌else◌, ℕ, zero, suc, get_or, slice_set, ◌+◌, ◌-◌, ◌<◌, ◌≤◌, Bool, true, List, [], ◌∷◌, ◌++◌, length, take, drop, map, Option, Some, None, refl, ap, sym, ◌∙◌, arith, inl, inr, length-append}
-use Rattle.std.specs.Prelude.{◌⊎◌, nat_le}
+use Rattle.std.specs.Prelude.{◌⊎◌, nat_le, option_map}
 use Rattle.std.specs.Global.{Vec}
 use Rattle.std.specs.List.{All, slice_get, filter_map, cons_option}
-use Rattle.std.specs.Option.{option_map}
 use Rattle.std.proofs.Math.Seq.{take-length, drop-append_seam}
 use Rattle.std.proofs.lemmas.Bool.Decides.{nat_tests}
 use Rattle.std.proofs.lemmas.List.{length-map, map_push, take-map, drop-map, length_push, length-set}
 use Rattle.std.proofs.lemmas.List.Elements.{All-weaker}
 use Rattle.std.proofs.lemmas.Option.{slice_get_read}
-use Rattle.kc_expr.specs.declared.expression.SymId.{SymId}
-use Rattle.kc_expr.specs.Form.{Form}
-use Rattle.kc_read.specs.Blocks.{last_of}
-use Rattle.kc_read.specs.Statements.{InputPrompt, Numbered}
+use Rattle.kc_language.specs.declared.expressions.SymId.{SymId}
+use Rattle.kc_language.specs.Expressions.{Form}
+use Rattle.kc_language.specs.Expansion.{last_of}
+use Rattle.kc_language.specs.Statements.{InputPrompt, Numbered}
 use Rattle.kc_tree.specs.declared.rows.Choice.{Choice}
 use Rattle.kc_tree.specs.declared.rows.ContextId.{ContextId}
 use Rattle.kc_tree.specs.declared.rows.Definition.{Definition}
@@ -25,11 +24,11 @@ use Rattle.kc_tree.specs.declared.selector_rows.SelectorRows.{SelectorRows}
 use Rattle.kc_tree.specs.Contexts.{HasNoMode, condition_in}
 use Rattle.kc_tree.specs.Layouts.{definition_facts, prompt_view, default_view, range_view, with_conjuncts, with_when}
 use Rattle.kc_tree.specs.Spans.{slice_of}
-use Rattle.kc_tree.specs.TreeFacts.{Condition}
+use Rattle.kc_language.specs.Symbols.{Condition, prompt_of, depends_form}
 use Rattle.kc_build.specs.declared.blocks.BlockScope.{BlockScope}
 use Rattle.kc_build.specs.declared.walk.EntryWalk.{EntryWalk}
-use Rattle.kc_build.specs.EntryLines.{default_line, default_row, prompt_line, range_line, range_row}
-use Rattle.kc_build.specs.Facts.{prompt_of, depends_form}
+use Rattle.kc_build.specs.EntryLines.{default_line, prompt_line, range_line}
+use Rattle.kc_tree.specs.OwnRows.{default_row, range_row}
 use Rattle.kc_build.specs.Growth.{IsGrown, Stands}
 use Rattle.kc_build.specs.WalkResult.{AreRowsThere, IsEntryThere, IsSpanBelow, IsTitleThere}
 use Rattle.kc_build.specs.SelectorRows.{HaveSources}

@@ -1,38 +1,31 @@
 -- What lines have against them, from one line to the next and from one entry to the next.
 use Rattle.std.proofs.Common.{◌≡◌, ℕ, zero, suc, ◌+◌, ◌<◌, ◌≤◌, Bool, true, false, ◌||◌, ◌==◌, nat_lt, if◌then◌else◌, List, [], ◌∷◌, ◌++◌, length, filter, map, drop, Option, Some, None, Err, refl, ap, sym, ◌∙◌, arith, inl, inr, add-one}
-use Rattle.std.specs.Prelude.{◌⊎◌, All}
+use Rattle.std.specs.Prelude.{◌⊎◌, All, option_map}
 use Rattle.std.specs.List.{slice_get, flat_map, list_any, take_while}
-use Rattle.std.specs.Option.{option_map, option_or, is_some}
+use Rattle.std.specs.Option.{option_or, is_some}
 use Rattle.std.proofs.lemmas.Bool.Decides.{nat_tests}
 use Rattle.std.proofs.lemmas.Grind.{flat_map-append}
 use Rattle.std.proofs.lemmas.Option.{slice_get-map, slice_get_within}
 use Rattle.std.proofs.lemmas.List.{append-nil, length-map, length-append, length-drop, drop-drop}
 use Rattle.std.proofs.lemmas.List.Elements.{filter-append, All-nil, All-cons, All-head, All-tail, All-same}
 use Rattle.std.proofs.lemmas.List.Sums.{take_while-cons}
-use Rattle.kc_expr.specs.declared.expression.SymId.{SymId}
-use Rattle.kc_expr.specs.declared.expression.SymbolType.{SymbolType}
-use Rattle.kc_diagnostics.specs.Causes.{Cause}
-use Rattle.kc_diagnostics.specs.declared.cause.Cause.TheVariants as cause
-use Rattle.kc_read.specs.Blocks.{attributes, is_attribute, numbers}
-use Rattle.kc_read.specs.Expansion.{Refused}
-use Rattle.kc_read.specs.Statements.{Numbered, Located, ConfigLine, TypeLine, PromptLine, statements}
+use Rattle.kc_language.specs.declared.expressions.SymId.{SymId}
+use Rattle.kc_language.specs.declared.expressions.SymbolType.{SymbolType}
+use Rattle.kc_language.specs.Statements.{Cause, Numbered, Located, ConfigLine, TypeLine, PromptLine, statements}
+use Rattle.kc_language.specs.declared.diagnostics.Cause.TheVariants as cause
+use Rattle.kc_language.specs.Expansion.{attributes, is_attribute, numbers, Refused}
 use Rattle.kc_read.specs.RefusalView.{refusal_view}
 use Rattle.kc_read.specs.declared.refusal.Refusal.{Refusal}
-use Rattle.kc_tree.specs.declared.rows.ChoiceId.{ChoiceId}
+use Rattle.kc_language.specs.declared.symbols.ChoiceId.{ChoiceId}
 use Rattle.kc_tree.specs.declared.rows.Symbol.{Symbol}
-use Rattle.kc_tree.specs.TreeFacts.{TreeFacts}
-use Rattle.kc_tree.specs.Common.{listed}
+use Rattle.kc_language.specs.Symbols.{TreeFacts, listed, prompt_of, choice_of, enclosing_choice, first_of, is_member, type_of, is_first_definition_at, unless_refused, bad_defaults, bad_members, is_bad_default, is_bad_member, whole_list_refusals, line_of, menu_entry_at, menu_entry_before, prompt_before, refused_at, line_warnings, line_warnings_by, warned_at, warnings}
 use Rattle.kc_build.specs.declared.diagnostics.Diagnostics.{Diagnostics}
 use Rattle.kc_build.specs.declared.diagnostics.EntrySummary.{EntrySummary}
-use Rattle.kc_build.specs.declared.diagnostics.MenuEntry.{MenuEntry}
+use Rattle.kc_language.specs.declared.symbols.MenuEntry.{MenuEntry}
 use Rattle.kc_build.specs.Diagnosed.{Diagnosis, AreLinesDiagnosed, lines_diagnosed, diagnosis_view, line_diagnosed}
-use Rattle.kc_build.specs.Facts.{prompt_of, choice_of, enclosing_choice, first_of, is_member, type_of}
-use Rattle.kc_build.specs.FirstDefinitions.{is_first_definition_at}
 use Rattle.kc_build.specs.SymbolRows.{AreBelow, AreSymbols, IsEntrySummary, choice_by, type_by, member_by, line_warnings_in}
 use Rattle.kc_build.specs.WholeListRefusals.{entry_refusal}
 use Rattle.kc_build.specs.WalkResult.{IsDiagnosed}
-use Rattle.kc_build.specs.Trees.{unless_refused}
-use Rattle.kc_build.specs.Warnings.{bad_defaults, bad_members, is_bad_default, is_bad_member, whole_list_refusals, line_of, menu_entry_at, menu_entry_before, prompt_before, refused_at, line_warnings, line_warnings_by, warned_at, warnings}
 use Rattle.kc_build.proofs.TypeLemmas.{choices_known, types_known}
 use Rattle.kc_build.proofs.ListLemmas.{there_in}
 use Rattle.kc_build.proofs.MemberLemmas.{below_or_past, member_is}

@@ -7,9 +7,9 @@ use Rattle.std.proofs.lemmas.List.{append-nil}
 use Rattle.std.proofs.lemmas.List.Elements.{All-nil, All-cons, All-append}
 use Rattle.std.proofs.lemmas.List.Sums.{length-filter}
 use Rattle.std.proofs.lemmas.Option.{get_or_from_slice_get, slice_get_within}
-use Rattle.kc_expr.specs.declared.expression.SymId.{SymId}
-use Rattle.kc_read.specs.Blocks.{numbers}
-use Rattle.kc_expr.specs.Names.{same_symbol}
+use Rattle.kc_language.specs.declared.expressions.SymId.{SymId}
+use Rattle.kc_language.specs.Expansion.{numbers}
+use Rattle.kc_language.specs.Expressions.{same_symbol}
 use Rattle.kc_build.proofs.PlaceLemmas.{filter-next}
 
 module _ {Y : Type 0} (P : Y → Type 0) where

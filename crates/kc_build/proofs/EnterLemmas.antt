@@ -4,14 +4,14 @@ use Rattle.std.specs.List.{slice_get, filter_map, flat_map, cons_option, prefix_
 use Rattle.std.proofs.lemmas.List.{append-nil}
 use Rattle.std.proofs.lemmas.List.Elements.{filter_map-append}
 use Rattle.std.proofs.lemmas.List.Folds.{length-prefix_len}
-use Rattle.kc_expr.specs.declared.expression.SymId.{SymId}
-use Rattle.kc_expr.specs.Form.{Form}
-use Rattle.kc_read.specs.declared.statement.Block.{Block}
-use Rattle.kc_read.specs.declared.statement.Block.TheVariants as block
-use Rattle.kc_read.specs.Statements.{Numbered, ConfigLine, IfLine, EndIfLine, CommentLine, MenuLine, EndMenuLine, ChoiceLine, EndChoiceLine, MainMenuLine}
-use Rattle.kc_read.specs.Blocks.{NoBracket, bracket, enclosing, is_attribute, numbers}
+use Rattle.kc_language.specs.declared.expressions.SymId.{SymId}
+use Rattle.kc_language.specs.Expressions.{Form}
+use Rattle.kc_language.specs.declared.statements.Block.{Block}
+use Rattle.kc_language.specs.declared.statements.Block.TheVariants as block
+use Rattle.kc_language.specs.Statements.{Numbered, ConfigLine, IfLine, EndIfLine, CommentLine, MenuLine, EndMenuLine, ChoiceLine, EndChoiceLine, MainMenuLine}
+use Rattle.kc_language.specs.Expansion.{NoBracket, bracket, enclosing, is_attribute, numbers}
 use Rattle.kc_build.specs.Before.{definition_line, definitions_before, entries_before, members_before}
-use Rattle.kc_build.specs.Facts.{shown_at, is_member_index, naming_at, of_block, symbol_at, symbol_of, title_of}
+use Rattle.kc_language.specs.Symbols.{shown_at, is_member_index, naming_at, of_block, symbol_at, symbol_of, title_of}
 use Rattle.kc_build.specs.Walks.{IsHead, index_after}
 use Rattle.kc_build.proofs.BlockLemmas.{enclosing-no, take-next}
 use Rattle.kc_build.proofs.PlaceLemmas.{filter-next, filter_map-next, flat_map-next}

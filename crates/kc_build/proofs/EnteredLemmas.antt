@@ -6,9 +6,9 @@ use Rattle.std.proofs.lemmas.Result.{on_ok_weaker}
 use Rattle.kc_read.specs.declared.statement.Head.{Head}
 use Rattle.kc_read.specs.declared.statement.Head.TheVariants as made
 use Rattle.kc_read.specs.StatementViews.{head_view}
-use Rattle.kc_read.specs.Statements.{Numbered, MainMenuLine}
-use Rattle.kc_read.specs.Blocks.{Closes, bracket, last_of}
-use Rattle.kc_build.specs.Facts.{shown_at, symbol_of, title_of}
+use Rattle.kc_language.specs.Statements.{Numbered, MainMenuLine}
+use Rattle.kc_language.specs.Expansion.{Closes, bracket, last_of}
+use Rattle.kc_language.specs.Symbols.{shown_at, symbol_of, title_of}
 use Rattle.kc_build.specs.Walks.{Enters}
 use Rattle.kc_build.specs.declared.walk.EntryWalk.{EntryWalk}
 use Rattle.kc_build.proofs.CloserLemmas.{extends_equal}

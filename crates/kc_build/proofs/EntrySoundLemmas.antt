@@ -1,11 +1,11 @@
 -- The entries of a tree name what there is, but for the ends of menus.
 use Rattle.std.proofs.Common.{◌≡◌, ℕ, ◌<◌, Bool, true, false, if◌then◌else◌, List, length, Option, Some, None, refl, ap, subst}
 use Rattle.std.specs.List.{slice_get, Contains}
-use Rattle.std.specs.Option.{option_map}
-use Rattle.kc_expr.specs.declared.expression.SymId.{SymId}
-use Rattle.kc_read.specs.Statements.{Numbered, Located, ConfigLine, MenuLine, EndMenuLine, CommentLine}
-use Rattle.kc_tree.specs.TreeFacts.{Condition, Shown, SymbolShown, MenuShown, EndShown, CommentShown, TreeFacts, IsModeBelow, IsEntrySound}
-use Rattle.kc_build.specs.Facts.{dependency, shown_at, shown_number, is_first_definition, enclosing_block, indices, shown_when, symbol_at, symbol_of}
+use Rattle.std.specs.Prelude.{option_map}
+use Rattle.kc_language.specs.declared.expressions.SymId.{SymId}
+use Rattle.kc_language.specs.Statements.{Numbered, Located, ConfigLine, MenuLine, EndMenuLine, CommentLine}
+use Rattle.kc_language.specs.Symbols.{Condition, Shown, SymbolShown, MenuShown, EndShown, CommentShown, TreeFacts, dependency, shown_at, shown_number, is_first_definition, enclosing_block, indices, shown_when, symbol_at, symbol_of}
+use Rattle.kc_tree.specs.TreeFacts.{IsModeBelow, IsEntrySound}
 use Rattle.kc_build.proofs.ElementLemmas.{filter_map-from}
 use Rattle.kc_build.proofs.SymbolListLemmas.{line_defined}
 use Rattle.kc_build.proofs.FormedLemmas.{line_statements, sound_at, tree}

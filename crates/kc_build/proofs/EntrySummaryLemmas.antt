@@ -1,29 +1,26 @@
 -- The summary of an entry, before the walk goes into it.
 use Rattle.std.proofs.Common.{◌≡◌, ℕ, Bool, true, false, List, length, Option, Some, None, refl, ap, sym, ◌∙◌, inl, inr}
-use Rattle.std.specs.Prelude.{◌⊎◌}
-use Rattle.std.specs.Option.{option_map}
+use Rattle.std.specs.Prelude.{◌⊎◌, option_map}
 use Rattle.std.proofs.lemmas.List.{length-map}
 use Rattle.std.proofs.lemmas.Option.{slice_get_within}
-use Rattle.kc_expr.specs.declared.expression.SymId.{SymId}
+use Rattle.kc_language.specs.declared.expressions.SymId.{SymId}
 use Rattle.kc_read.specs.declared.statement.Head.{Head}
 use Rattle.kc_read.specs.declared.statement.Head.TheVariants as made
 use Rattle.kc_read.specs.StatementViews.{head_view}
-use Rattle.kc_read.specs.Statements.{Numbered, ConfigLine, ChoiceLine}
-use Rattle.kc_read.specs.Blocks.{is_attribute, numbers}
-use Rattle.kc_tree.specs.declared.rows.ChoiceId.{ChoiceId}
+use Rattle.kc_language.specs.Statements.{Numbered, ConfigLine, ChoiceLine}
+use Rattle.kc_language.specs.Expansion.{is_attribute, numbers}
+use Rattle.kc_language.specs.declared.symbols.ChoiceId.{ChoiceId}
 use Rattle.kc_tree.specs.declared.rows.Symbol.{Symbol}
 use Rattle.kc_tree.specs.Contexts.{condition_in, mode_view}
 use Rattle.kc_tree.specs.Layouts.{definition_facts}
 use Rattle.kc_build.specs.Before.{definition_facts_at}
 use Rattle.kc_build.specs.declared.blocks.BlockScope.{BlockScope}
-use Rattle.kc_build.specs.declared.diagnostics.MenuEntry.TheVariants as menu_entry
+use Rattle.kc_language.specs.declared.symbols.MenuEntry.TheVariants as menu_entry
 use Rattle.kc_build.specs.declared.walk.EntryWalk.{EntryWalk}
-use Rattle.kc_build.specs.Facts.{choice_number, enclosing_choice, symbol_at, symbol_of}
-use Rattle.kc_build.specs.FirstDefinitions.{first_of_symbol, is_first_definition_at}
+use Rattle.kc_language.specs.Symbols.{choice_number, enclosing_choice, symbol_at, symbol_of, first_of_symbol, is_first_definition_at, begun, menu_entry_at, menu_entry_before}
 use Rattle.kc_build.specs.SymbolRows.{AreBelow, definition_number, is_new_by}
 use Rattle.kc_build.specs.SymbolWalk.{AreRowsBefore}
 use Rattle.kc_build.specs.Walks.{IsHead, IsWalk}
-use Rattle.kc_build.specs.Warnings.{begun, menu_entry_at, menu_entry_before}
 use Rattle.kc_build.proofs.FirstNumberLemmas.{new_is_first}
 use Rattle.kc_build.proofs.MenuEntryLemmas.{entry_begins, entry_goes_on, entry_here}
 use Rattle.kc_build.proofs.WalkLemmas.{choice_count}

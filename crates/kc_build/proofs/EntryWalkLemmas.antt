@@ -9,8 +9,8 @@ use Rattle.kc_read.specs.declared.entries.Entry.{Entry}
 use Rattle.kc_read.specs.declared.entries.EntryLines.{EntryLines}
 use Rattle.kc_read.specs.Entries.{BeginsAt, first_line, lines_from, lines_in, lines_of, own_lines}
 use Rattle.kc_read.specs.StatementViews.{attribute_view, head_view}
-use Rattle.kc_read.specs.Statements.{Numbered, statements}
-use Rattle.kc_read.specs.Blocks.{attributes, is_attribute}
+use Rattle.kc_language.specs.Statements.{Numbered, statements}
+use Rattle.kc_language.specs.Expansion.{attributes, is_attribute}
 use Rattle.kc_read.proofs.HeadLemmas.{attribute_is, no_attribute}
 use Rattle.kc_build.specs.Passes.{statements_in, statements_of}
 use Rattle.kc_build.specs.Walks.{IsAt, IsHead, index_after}

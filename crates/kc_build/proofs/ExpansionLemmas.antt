@@ -4,16 +4,12 @@ use Rattle.std.proofs.Common.{◌≡◌, ℕ, zero, suc, false, ◌||◌, List, 
 use Rattle.std.specs.Prelude.{◌⊎◌}
 use Rattle.std.specs.List.{slice_get, list_any}
 use Rattle.std.proofs.lemmas.List.Folds.{list_any-append}
-use Rattle.kc_text.specs.Lines.{UnreadLines, unread_lines}
-use Rattle.kc_read.specs.declared.statement.Block.{Block}
-use Rattle.kc_read.specs.declared.statement.Block.TheVariants as block
+use Rattle.kc_language.specs.Lines.{UnreadLines, unread_lines}
+use Rattle.kc_language.specs.declared.statements.Block.{Block}
+use Rattle.kc_language.specs.declared.statements.Block.TheVariants as block
 use Rattle.kc_read.specs.declared.statement.OpenBlock.{OpenBlock}
-use Rattle.kc_read.specs.Files.{Files}
-use Rattle.kc_read.specs.Statements.{Statement, Named, Located, IfLine, EndIfLine, SourceLine, MenuLine, EndMenuLine, ChoiceLine, EndChoiceLine, statements}
-use Rattle.kc_diagnostics.specs.Causes.{Cause}
-use Rattle.kc_read.specs.Lines.{LineContext}
-use Rattle.kc_read.specs.Blocks.{Bracket, Opens, Closes, NoBracket, bracket, last_of, open_blocks}
-use Rattle.kc_read.specs.Expansion.{FileContext, Log, Refused, Rest, Expands, bytes_cause, inside, root_context, nothing_read, with_file, refused, is_choice, context_of, with_line, logged, at_end, unclosed, too_long, no_tokens, blank, bad_line, over_limit, statement, bad_source, refused_inside, source}
+use Rattle.kc_language.specs.Expansion.{Files, Bracket, Opens, Closes, NoBracket, bracket, last_of, open_blocks, FileContext, Log, Refused, Rest, Expands, bytes_cause, inside, root_context, nothing_read, with_file, refused, is_choice, context_of, with_line, logged, at_end, unclosed, too_long, no_tokens, blank, bad_line, over_limit, statement, bad_source, refused_inside, source}
+use Rattle.kc_language.specs.Statements.{Statement, Named, Located, IfLine, EndIfLine, SourceLine, MenuLine, EndMenuLine, ChoiceLine, EndChoiceLine, statements, Cause, LineContext}
 use Rattle.kc_read.specs.Progress.{located_blocks, open_blocks_after}
 use Rattle.kc_read.proofs.BlockLemmas.{blocks_of_located, located_blocks_push}
 use Rattle.kc_read.proofs.TurnLemmas.{Turn, Chooses, Leaves, Enables, Adds, Stays, turn, SuitsHere, read_suits}

@@ -3,16 +3,13 @@ use Rattle.std.proofs.Common.{◌≡◌, ℕ, ◌+◌, ◌<◌, ◌≤◌, nat_l
 use Rattle.std.specs.List.{list_any}
 use Rattle.std.proofs.lemmas.Bool.Decides.{nat_tests}
 use Rattle.std.proofs.lemmas.List.{length-map}
-use Rattle.kc_expr.specs.Names.{mention, same_name}
-use Rattle.kc_text.specs.Lines.{UnreadLines, unread_lines}
-use Rattle.kc_diagnostics.specs.declared.cause.Cause.TheVariants as cause
-use Rattle.kc_read.specs.Expansion.{FileContext, Expands, Log, Refused, Rest, bytes_cause, lines_of, nothing_read, with_file, refused, root_context, sourcing_cause, at_end, unclosed, too_long, no_tokens, blank, bad_line, over_limit, statement, bad_source, refused_inside, source}
-use Rattle.kc_read.specs.Files.{Files}
-use Rattle.kc_read.specs.Limits.{most_files, most_lines}
-use Rattle.kc_diagnostics.specs.Causes.{Cause}
-use Rattle.kc_read.specs.Numbering.{number_line}
+use Rattle.kc_language.specs.Expressions.{mention, same_name}
+use Rattle.kc_language.specs.Lines.{UnreadLines, unread_lines}
+use Rattle.kc_language.specs.declared.diagnostics.Cause.TheVariants as cause
+use Rattle.kc_language.specs.Expansion.{FileContext, Expands, Log, Refused, Rest, bytes_cause, lines_of, nothing_read, with_file, refused, root_context, sourcing_cause, at_end, unclosed, too_long, no_tokens, blank, bad_line, over_limit, statement, bad_source, refused_inside, source, Files, number_line}
+use Rattle.kc_language.specs.Text.{most_files, most_lines}
+use Rattle.kc_language.specs.Statements.{Cause, Located, Named, statements}
 use Rattle.kc_read.specs.Entries.{lines_in}
-use Rattle.kc_read.specs.Statements.{Located, Named, statements}
 use Rattle.kc_read.proofs.RestLemmas.{next_less}
 use Rattle.kc_build.specs.declared.listing.Listing.{Listing}
 use Rattle.kc_build.specs.Listings.{IsListing}

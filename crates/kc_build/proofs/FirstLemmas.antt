@@ -5,12 +5,11 @@ use Rattle.std.specs.Option.{is_none}
 use Rattle.std.proofs.lemmas.Bool.Decides.{nat_tests}
 use Rattle.std.proofs.lemmas.List.Elements.{filter_map-append}
 use Rattle.std.proofs.lemmas.List.Folds.{list_any-append}
-use Rattle.kc_expr.specs.declared.expression.SymId.{SymId}
-use Rattle.kc_expr.specs.Names.{symbol, same_symbol}
-use Rattle.kc_read.specs.Statements.{Numbered, ConfigLine}
-use Rattle.kc_read.specs.Blocks.{definitions, defined_name}
-use Rattle.kc_tree.specs.Common.{is_symbol_of}
-use Rattle.kc_build.specs.Facts.{symbol_at, symbol_of, is_first_definition}
+use Rattle.kc_language.specs.declared.expressions.SymId.{SymId}
+use Rattle.kc_language.specs.Expressions.{symbol, same_symbol}
+use Rattle.kc_language.specs.Statements.{Numbered, ConfigLine}
+use Rattle.kc_language.specs.Expansion.{definitions, defined_name}
+use Rattle.kc_language.specs.Symbols.{is_symbol_of, symbol_at, symbol_of, is_first_definition}
 use Rattle.kc_build.specs.SymbolWalk.{defined_before}
 use Rattle.kc_build.proofs.BlockLemmas.{take-next, there}
 use Rattle.kc_build.proofs.PlaceLemmas.{filter-next}

@@ -1,20 +1,20 @@
 -- The first definition of a symbol, by the rows of the symbols before it and by the list.
 use Rattle.std.proofs.Common.{◌≡◌, ℕ, zero, suc, ◌+◌, ◌-◌, ◌<◌, Bool, true, false, not, ◌||◌, if◌then◌else◌, List, [], ◌∷◌, ◌++◌, length, filter, map, Option, Some, None, refl, ap, sym, ◌∙◌, arith, append_assoc}
 use Rattle.std.specs.List.{list_any, slice_get}
-use Rattle.std.specs.Option.{is_none, option_map}
+use Rattle.std.specs.Option.{is_none}
+use Rattle.std.specs.Prelude.{option_map}
 use Rattle.std.proofs.lemmas.Bool.{eq-eqb}
 use Rattle.std.proofs.lemmas.List.{append-nil}
 use Rattle.std.proofs.lemmas.List.Elements.{filter-append}
 use Rattle.std.proofs.lemmas.Option.{slice_get-map}
-use Rattle.kc_expr.specs.declared.expression.SymbolType.{SymbolType}
-use Rattle.kc_expr.specs.declared.expression.SymId.{SymId}
-use Rattle.kc_read.specs.Blocks.{numbers}
-use Rattle.kc_read.specs.Statements.{Numbered}
+use Rattle.kc_language.specs.declared.expressions.SymbolType.{SymbolType}
+use Rattle.kc_language.specs.declared.expressions.SymId.{SymId}
+use Rattle.kc_language.specs.Expansion.{numbers}
+use Rattle.kc_language.specs.Statements.{Numbered}
 use Rattle.kc_tree.specs.declared.rows.DefinitionId.{DefinitionId}
 use Rattle.kc_tree.specs.declared.rows.Symbol.{Symbol}
 use Rattle.kc_tree.specs.Spans.{definition_ids}
-use Rattle.kc_tree.specs.Common.{is_symbol_of, listed}
-use Rattle.kc_build.specs.Facts.{definitions_of, is_first_definition, type_of, symbol_at}
+use Rattle.kc_language.specs.Symbols.{is_symbol_of, listed, definitions_of, is_first_definition, type_of, symbol_at}
 use Rattle.kc_build.specs.SymbolRows.{SymbolRow, definition_number, is_new_by, row_view}
 use Rattle.kc_build.specs.SymbolWalk.{AreRowsBefore, defined_before, entry_type, row_before}
 use Rattle.kc_build.proofs.FirstLemmas.{first-is, some_places}

@@ -1,19 +1,15 @@
 -- What holds of the facts that numbered lines give, where none of them is refused.
 use Rattle.std.proofs.Common.{◌≡◌, ℕ, ◌<◌, ◌≤◌, if◌then◌else◌, List, [], length, take, map, Option, Some, None, refl, ap, sym, ◌∙◌, arith, length-take}
-use Rattle.std.specs.Prelude.{All}
+use Rattle.std.specs.Prelude.{All, option_map}
 use Rattle.std.specs.List.{slice_get, filter_map, flat_map}
-use Rattle.std.specs.Option.{option_map}
 use Rattle.std.proofs.lemmas.List.Elements.{All-nil, All-append}
-use Rattle.kc_expr.specs.declared.expression.SymId.{SymId}
-use Rattle.kc_expr.specs.Form.{Form}
-use Rattle.kc_expr.specs.Names.{symbol}
-use Rattle.kc_read.specs.Blocks.{numbers, attributes, last_of}
-use Rattle.kc_read.specs.Statements.{InputPrompt, Numbered, Located, RangeLine}
-use Rattle.kc_tree.specs.TreeFacts.{Condition, Guarded, Bounds, TreeFacts, AreLinesSound, IsModeBelow, IsMentioned}
-use Rattle.kc_tree.specs.Common.{listed}
-use Rattle.kc_build.specs.Facts.{prompt_of, prompt_condition, can_be_target, enclosing_choice, choices, defaults_at, guarded_default, definitions_of, dependency, imply_of, guarded_symbol, naming_at, indices, prompt_at, guarded_range, select_of, stated_default, symbol_at, symbol_facts}
+use Rattle.kc_language.specs.declared.expressions.SymId.{SymId}
+use Rattle.kc_language.specs.Expressions.{Form, symbol}
+use Rattle.kc_language.specs.Expansion.{numbers, attributes, last_of}
+use Rattle.kc_language.specs.Statements.{InputPrompt, Numbered, Located, RangeLine}
+use Rattle.kc_language.specs.Symbols.{Condition, Guarded, Bounds, TreeFacts, listed, prompt_of, prompt_condition, can_be_target, enclosing_choice, choices, defaults_at, guarded_default, definitions_of, dependency, imply_of, guarded_symbol, naming_at, indices, prompt_at, guarded_range, select_of, stated_default, symbol_at, symbol_facts, facts_with}
+use Rattle.kc_tree.specs.TreeFacts.{AreLinesSound, IsModeBelow, IsMentioned}
 use Rattle.kc_build.specs.SymbolRows.{AreBelow}
-use Rattle.kc_build.specs.Trees.{facts_with}
 use Rattle.kc_build.proofs.ElementLemmas.{All-if, All-filter_map, All-flat_map, All-map_each}
 use Rattle.kc_build.proofs.PlaceLemmas.{get-map_numbers, length-map_numbers}
 use Rattle.kc_build.proofs.SoundLemmas.{mode_below}

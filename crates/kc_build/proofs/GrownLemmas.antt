@@ -1,15 +1,15 @@
 -- Rows that are there say the same while the tables grow, and what tables keep of contexts they keep with more contexts.
 use Rattle.std.proofs.Common.{◌≡◌, subst, if◌then◌else◌, ◌&&◌, ℕ, zero, suc, ◌+◌, ◌-◌, ◌<◌, ◌≤◌, Bool, true, false, List, [], ◌∷◌, ◌++◌, length, take, drop, map, Option, Some, None, refl, ap, sym, ◌∙◌, arith, get_or, inl, inr, length-append}
-use Rattle.std.specs.Prelude.{◌⊎◌, nat_le, reverse}
+use Rattle.std.specs.Prelude.{◌⊎◌, nat_le, reverse, option_map}
 use Rattle.std.specs.List.{All, slice_get, filter_map}
-use Rattle.std.specs.Option.{is_some, option_map, option_and_then}
+use Rattle.std.specs.Option.{is_some, option_and_then}
 use Rattle.std.proofs.lemmas.Bool.Decides.{nat_tests}
 use Rattle.std.proofs.lemmas.List.{length-drop, get_or_append_left, get_or_past, get_or_push, length_push, length-map, take-map, drop-map, take-append-le, drop-append-le}
 use Rattle.std.proofs.lemmas.List.Elements.{All-weaker}
 use Rattle.std.proofs.lemmas.Option.{slice_get_within, get_or_from_slice_get}
-use Rattle.kc_expr.specs.Form.{Form, Leaf}
+use Rattle.kc_language.specs.Expressions.{Form, Leaf}
 use Rattle.kc_expr.specs.When.{when_view}
-use Rattle.kc_read.specs.Statements.{Numbered}
+use Rattle.kc_language.specs.Statements.{Numbered}
 use Rattle.kc_tree.specs.declared.layout.Tables.{Tables}
 use Rattle.kc_tree.specs.declared.rows.Choice.{Choice}
 use Rattle.kc_tree.specs.declared.rows.Definition.{Definition}
@@ -29,8 +29,8 @@ use Rattle.kc_tree.specs.Contexts.{HasNoMode, and_also, condition_in, top}
 use Rattle.kc_tree.specs.Layouts.{DefinitionFacts, with_when, prompt_view, default_view, range_view, choice_default_view, definition_facts, definition_at, selector_facts, selector_at, selectors_from, selectors_at, impliers_at, choice_facts, title_condition, title_text, shown_when, shown_of}
 use Rattle.kc_tree.specs.Spans.{slice_of}
 use Rattle.kc_tree.specs.Soundness.{AreChoicePromptsModeless, AreChoicePromptsWithin, AreChoicesModeless, AreChoicesWithin, AreModePromptsBehind, AreModesBehind, AreModesBelow, ArePromptsModeless, ArePromptsWithin, AreTitlesModeless, AreContextsThere}
-use Rattle.kc_tree.specs.TreeFacts.{Condition, Guarded, Bounds, MenuShown, CommentShown}
-use Rattle.kc_build.specs.EntryLines.{default_row, range_row}
+use Rattle.kc_language.specs.Symbols.{Condition, Guarded, Bounds, MenuShown, CommentShown}
+use Rattle.kc_tree.specs.OwnRows.{default_row, range_row}
 use Rattle.kc_build.specs.Growth.{IsGrown}
 use Rattle.kc_build.specs.WalkResult.{AreRowsThere, IsEntryThere, IsSpanBelow, IsTitleThere}
 use Rattle.kc_build.specs.Stacks.{AreBlocksModeless, AreBlocksVisible, AreBlocksWithin, AreOpen, AreTitlesWithin, IsTopEmpty, block_view}

@@ -1,15 +1,14 @@
 -- What a walk keeps of its blocks, as they open and close, and of contexts that are added on the way.
 use Rattle.std.proofs.Common.{◌≡◌, ℕ, zero, suc, ◌<◌, List, [], ◌∷◌, ◌++◌, length, Some, Ok, Err, refl, ap, sym, ◌∙◌, subst, inl, inr}
-use Rattle.std.specs.Prelude.{◌⊎◌}
+use Rattle.std.specs.Prelude.{◌⊎◌, Result}
 use Rattle.std.specs.List.{slice_get}
 use Rattle.std.specs.Option.{is_some}
 use Rattle.std.proofs.lemmas.Option.{slice_get_within}
 use Rattle.std.specs.Result.{OnOk, OnErr}
-use Rattle.std.specs.Prelude.{Result}
-use Rattle.kc_expr.specs.Form.{Form}
+use Rattle.kc_language.specs.Expressions.{Form}
 use Rattle.kc_tree.specs.declared.rows.Title.{Title}
 use Rattle.kc_tree.specs.Contexts.{HasNoMode, and_also, condition_in}
-use Rattle.kc_tree.specs.TreeFacts.{Condition}
+use Rattle.kc_language.specs.Symbols.{Condition}
 use Rattle.kc_build.specs.Growth.{IsGrown, Stands}
 use Rattle.kc_build.specs.Stacks.{AreBlocksModeless, AreBlocksVisible, AreBlocksWithin, AreTitlesWithin, IsTopEmpty, IsClosed, open_scopes}
 use Rattle.kc_build.specs.declared.blocks.BlockScope.{BlockScope}

@@ -1,16 +1,15 @@
 -- The rows of symbols, with the definitions that they name, say what the statements say of the symbols.
 use Rattle.std.proofs.Common.{◌≡◌, ℕ, zero, suc, ◌<◌, ◌≤◌, Bool, true, false, if◌then◌else◌, List, [], ◌∷◌, ◌++◌, length, filter, map, Option, Some, None, refl, ap, sym, ◌∙◌, arith, add-one, inl, inr}
-use Rattle.std.specs.Prelude.{◌⊎◌}
+use Rattle.std.specs.Prelude.{◌⊎◌, option_map}
 use Rattle.std.specs.List.{slice_get, filter_map, cons_option, range_with_len}
-use Rattle.std.specs.Option.{option_map}
 use Rattle.std.proofs.lemmas.List.{append-nil, map-append}
 use Rattle.std.proofs.lemmas.List.Elements.{filter-append, filter_map-append}
 use Rattle.std.proofs.lemmas.List.Folds.{flat_map-map}
 use Rattle.std.proofs.lemmas.Option.{slice_get-map}
-use Rattle.kc_expr.specs.declared.expression.SymId.{SymId}
-use Rattle.kc_expr.specs.Names.{symbol}
-use Rattle.kc_read.specs.Blocks.{numbers}
-use Rattle.kc_read.specs.Statements.{Numbered}
+use Rattle.kc_language.specs.declared.expressions.SymId.{SymId}
+use Rattle.kc_language.specs.Expressions.{symbol}
+use Rattle.kc_language.specs.Expansion.{numbers}
+use Rattle.kc_language.specs.Statements.{Numbered}
 use Rattle.kc_tree.specs.declared.layout.Layout.{Layout}
 use Rattle.kc_tree.specs.declared.layout.Tables.{Tables}
 use Rattle.kc_tree.specs.declared.rows.DefinitionId.{DefinitionId}
@@ -19,9 +18,8 @@ use Rattle.kc_tree.specs.Layouts as layouts
 use Rattle.kc_tree.specs.Layouts.{DefinitionFacts, facts_at, facts_by, facts_of, impliers_at, selectors_at, symbols_in}
 use Rattle.kc_tree.specs.Contexts.{mode_view}
 use Rattle.kc_tree.specs.Spans.{definition_ids}
-use Rattle.kc_tree.specs.Common.{is_symbol_of}
+use Rattle.kc_language.specs.Symbols.{is_symbol_of, choice_of, definitions_of, impliers_of, type_of, selectors_of, symbol_at, symbol_facts}
 use Rattle.kc_build.specs.Before.{definition_facts_at, definition_line, definitions_before}
-use Rattle.kc_build.specs.Facts.{choice_of, definitions_of, impliers_of, type_of, selectors_of, symbol_at, symbol_facts}
 use Rattle.kc_build.specs.SymbolRows.{AreSymbols, SymbolRow, definition_number, row_of, row_view}
 use Rattle.kc_build.proofs.BlockLemmas.{numbers_from, numbers-from}
 use Rattle.kc_build.proofs.ElementLemmas.{same_is}

@@ -7,7 +7,7 @@ use Rattle.std.proofs.lemmas.List.Elements.{All-nil}
 use Rattle.kc_read.specs.declared.entries.Entries.{Entries}
 use Rattle.kc_read.specs.declared.entries.EntryLines.{EntryLines}
 use Rattle.kc_read.specs.Entries.{BeginsAt, first_line, lines_from, lines_in, own_lines}
-use Rattle.kc_read.specs.Statements.{Numbered, ChoiceLine}
+use Rattle.kc_language.specs.Statements.{Numbered, ChoiceLine}
 use Rattle.kc_tree.specs.declared.rows.Selector.{Selector}
 use Rattle.kc_tree.specs.declared.rows.SelectorId.{SelectorId}
 use Rattle.kc_tree.specs.declared.rows.Symbol.{Symbol}
@@ -15,7 +15,7 @@ use Rattle.kc_tree.specs.Chains.{chain_of, chains_of}
 use Rattle.kc_tree.specs.Contexts.{condition_in}
 use Rattle.kc_tree.specs.Empty.{AreEmpty}
 use Rattle.kc_tree.specs.Layouts.{choice_facts as choice_in, definition_facts, impliers_at, selector_at, selectors_from, selectors_at, shown_of}
-use Rattle.kc_tree.specs.TreeFacts.{Condition}
+use Rattle.kc_language.specs.Symbols.{Condition}
 use Rattle.kc_build.specs.declared.diagnostics.Diagnostics.{Diagnostics}
 use Rattle.kc_build.specs.declared.diagnostics.EntrySummary.{EntrySummary}
 use Rattle.kc_build.specs.declared.walk.EntryWalk.{EntryWalk}

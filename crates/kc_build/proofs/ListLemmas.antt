@@ -1,7 +1,7 @@
 -- Lists: what stands at a place of one that is longer, and how many pass among one number more.
 use Rattle.std.proofs.Common.{◌≡◌, ℕ, zero, suc, ◌+◌, ◌<◌, Bool, cond, List, [], ◌∷◌, ◌++◌, length, Some, refl, arith}
 use Rattle.std.specs.List.{slice_get, count_by, fold}
-use Rattle.kc_read.specs.Blocks.{numbers}
+use Rattle.kc_language.specs.Expansion.{numbers}
 
 pub front_get : {X : Type 0} (xs ys : List X) (i : ℕ) (x : X) → slice_get xs i ≡ Some x → slice_get (xs ++ ys) i ≡ Some x
 front_get [] ys i x e = absurd cc

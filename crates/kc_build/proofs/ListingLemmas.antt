@@ -1,16 +1,15 @@
 -- The listing of an expanded list.
 use Rattle.std.proofs.Common.{◌≡◌, ℕ, List, [], map, Option, ap, sym, ◌∙◌, codes, position}
-use Rattle.std.specs.Option.{option_map, option_or}
+use Rattle.std.specs.Prelude.{option_map}
+use Rattle.std.specs.Option.{option_or}
 use Rattle.std.specs.declared.vec.Vec.{Vec}
 use Rattle.std.specs.declared.alloc.Global.{Global}
-use Rattle.kc_expr.specs.declared.expression.SymId.{SymId}
-use Rattle.kc_expr.specs.Names.{number_of, same_name, symbol}
+use Rattle.kc_language.specs.declared.expressions.SymId.{SymId}
+use Rattle.kc_language.specs.Expressions.{number_of, same_name, symbol}
 use Rattle.kc_read.specs.declared.expansion.Expansion.{Expansion}
-use Rattle.kc_read.specs.Blocks.{modules_of}
-use Rattle.kc_read.specs.Expansion.{Log, defined as defined_names}
+use Rattle.kc_language.specs.Expansion.{modules_of, Log, defined as defined_names, located_numbered, names_of}
 use Rattle.kc_read.specs.Expanded.{IsExpansion}
-use Rattle.kc_read.specs.Numbering.{located_numbered, names_of}
-use Rattle.kc_read.specs.Statements.{statements}
+use Rattle.kc_language.specs.Statements.{statements}
 use Rattle.kc_read.proofs.NameLemmas.{extends_none}
 use Rattle.kc_build.specs.Listings.{IsListing}
 use Rattle.kc_build.proofs.NumberingLemmas.{defined_are_numbers, modules_are, named_is, statements_numbered}

@@ -5,14 +5,11 @@ use Rattle.std.specs.List.{slice_get, list_any, filter_map, cons_option}
 use Rattle.std.specs.Option.{is_some}
 use Rattle.std.proofs.lemmas.Bool.{eqb-true}
 use Rattle.std.proofs.lemmas.List.{append-nil}
-use Rattle.kc_expr.specs.declared.expression.SymId.{SymId}
-use Rattle.kc_read.specs.Statements.{Numbered}
-use Rattle.kc_read.specs.Blocks.{numbers}
-use Rattle.kc_expr.specs.Names.{same_symbol}
-use Rattle.kc_tree.specs.Common.{is_symbol_of, listed}
-use Rattle.kc_build.specs.Facts.{is_first_definition, symbol_at, symbol_of, first_of, enclosing_choice, choice_of, type_of, is_member, is_member_index, definitions_of, indices}
-use Rattle.kc_build.specs.FirstDefinitions.{is_first_definition_at, first_of_symbol}
-use Rattle.kc_build.specs.Warnings.{is_bad_member, bad_members}
+use Rattle.kc_language.specs.declared.expressions.SymId.{SymId}
+use Rattle.kc_language.specs.Statements.{Numbered}
+use Rattle.kc_language.specs.Expansion.{numbers}
+use Rattle.kc_language.specs.Expressions.{same_symbol}
+use Rattle.kc_language.specs.Symbols.{is_symbol_of, listed, is_first_definition, symbol_at, symbol_of, first_of, enclosing_choice, choice_of, type_of, is_member, is_member_index, definitions_of, indices, is_first_definition_at, first_of_symbol, is_bad_member, bad_members}
 use Rattle.kc_build.proofs.BlockLemmas.{there}
 use Rattle.kc_build.proofs.PlaceLemmas.{filter-next}
 use Rattle.kc_build.proofs.FirstLemmas.{some_places, first-is}

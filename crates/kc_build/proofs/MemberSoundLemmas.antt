@@ -1,25 +1,21 @@
 -- The choices and their members, where no line is refused.
 use Rattle.std.proofs.Common.{◌≡◌, ℕ, zero, suc, ◌<◌, ◌≤◌, Bool, true, false, not, ◌&&◌, ◌||◌, ◌==◌, if◌then◌else◌, List, [], ◌∷◌, length, map, Option, Some, None, refl, ap, sym, ◌∙◌, subst, arith, inl, inr, get_or}
-use Rattle.std.specs.Prelude.{◌⊎◌, All, Contains}
+use Rattle.std.specs.Prelude.{◌⊎◌, All, Contains, option_map}
 use Rattle.std.specs.List.{slice_get, list_any, filter_map}
-use Rattle.std.specs.Option.{option_map, option_and_then, is_some}
+use Rattle.std.specs.Option.{option_and_then, is_some}
 use Rattle.std.proofs.lemmas.Bool.{eq-eqb, eqb-true}
 use Rattle.std.proofs.lemmas.List.Folds.{list_any-append}
 use Rattle.std.proofs.lemmas.Option.{slice_get_within, slice_get-map, slice_get-get_or}
-use Rattle.kc_expr.specs.declared.expression.SymId.{SymId}
-use Rattle.kc_expr.specs.declared.expression.SymbolType.{SymbolType}
-use Rattle.kc_expr.specs.declared.expression.SymbolType.TheVariants as symbol_type
-use Rattle.kc_expr.specs.Form.{Form}
-use Rattle.kc_expr.specs.Names.{symbol, same_symbol}
-use Rattle.kc_read.specs.declared.statement.Block.TheVariants as block
-use Rattle.kc_read.specs.Blocks.{numbers, attributes}
-use Rattle.kc_read.specs.Statements.{Numbered, Located}
-use Rattle.kc_tree.specs.TreeFacts.{Guarded, SymbolFacts, ChoiceFacts, TreeFacts, IsMemberOf, IsChoiceSound, IsListed}
-use Rattle.kc_tree.specs.Common.{listed}
-use Rattle.kc_build.specs.Facts.{StatedDefault, choice_facts, choice_number, choice_of, choice_lines, enclosing_choice, choices, definitions_of, first_of, stated_default, is_member, is_member_index, type_of, member_default, members_of, guarded_symbol, of_block, indices, same_type, single_symbol, symbol_at, symbol_facts, symbol_of}
-use Rattle.kc_build.specs.FirstDefinitions.{is_first_definition_at}
+use Rattle.kc_language.specs.declared.expressions.SymId.{SymId}
+use Rattle.kc_language.specs.declared.expressions.SymbolType.{SymbolType}
+use Rattle.kc_language.specs.declared.expressions.SymbolType.TheVariants as symbol_type
+use Rattle.kc_language.specs.Expressions.{Form, symbol, same_symbol}
+use Rattle.kc_language.specs.declared.statements.Block.TheVariants as block
+use Rattle.kc_language.specs.Expansion.{numbers, attributes}
+use Rattle.kc_language.specs.Statements.{Numbered, Located}
+use Rattle.kc_language.specs.Symbols.{Guarded, SymbolFacts, ChoiceFacts, TreeFacts, listed, StatedDefault, choice_facts, choice_number, choice_of, choice_lines, enclosing_choice, choices, definitions_of, first_of, stated_default, is_member, is_member_index, type_of, member_default, members_of, guarded_symbol, of_block, indices, same_type, single_symbol, symbol_at, symbol_facts, symbol_of, is_first_definition_at, bad_members, is_bad_member}
+use Rattle.kc_tree.specs.TreeFacts.{IsMemberOf, IsChoiceSound, IsListed}
 use Rattle.kc_build.specs.SymbolRows.{AreBelow}
-use Rattle.kc_build.specs.Warnings.{bad_members, is_bad_member}
 use Rattle.kc_build.proofs.ElementLemmas.{All-filter_map, All-kept, IsKept, kept_at, filter_map-from, found_is}
 use Rattle.kc_build.proofs.FormedLemmas.{facts_at, few_taken, prompt_mode, tree}
 use Rattle.kc_build.proofs.MemberLemmas.{any_kept, bad_at, below_or_past, member_is}

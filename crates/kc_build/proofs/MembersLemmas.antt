@@ -5,14 +5,13 @@ use Rattle.std.proofs.lemmas.Bool.{eqb-true, eq-eqb, false≢true, ne_eqb}
 use Rattle.std.proofs.lemmas.List.{append-nil, length-map, map-append}
 use Rattle.std.proofs.lemmas.List.Elements.{filter-append}
 use Rattle.std.proofs.lemmas.List.Sums.{length-filter}
-use Rattle.kc_expr.specs.declared.expression.SymId.{SymId}
-use Rattle.kc_read.specs.declared.statement.Block.TheVariants as block
-use Rattle.kc_read.specs.Blocks.{bracket_of, numbers, opened}
-use Rattle.kc_read.specs.Statements.{ConfigLine, Numbered}
-use Rattle.kc_tree.specs.TreeFacts.{ChoiceFacts}
+use Rattle.kc_language.specs.declared.expressions.SymId.{SymId}
+use Rattle.kc_language.specs.declared.statements.Block.TheVariants as block
+use Rattle.kc_language.specs.Expansion.{bracket_of, numbers, opened}
+use Rattle.kc_language.specs.Statements.{ConfigLine, Numbered}
+use Rattle.kc_language.specs.Symbols.{ChoiceFacts, choice_number, enclosing_choice, is_block, of_block, symbol_at, symbol_of}
 use Rattle.kc_build.specs.Before.{choice_before, choices_before, members_before}
 use Rattle.kc_build.specs.ChoiceRows.{map_from}
-use Rattle.kc_build.specs.Facts.{choice_number, enclosing_choice, is_block, of_block, symbol_at, symbol_of}
 use Rattle.kc_build.specs.Passes.{change}
 use Rattle.kc_build.specs.Walks.{IsHead, index_after}
 use Rattle.kc_build.specs.WalkSteps.{one_more, with_member}

@@ -3,11 +3,10 @@ use Rattle.std.proofs.Common.{◌≡◌, ℕ, zero, suc, ◌+◌, ◌<◌, ◌�
 use Rattle.std.specs.Prelude.{◌⊎◌}
 use Rattle.std.specs.List.{slice_get, filter_map, cons_option, count_by}
 use Rattle.std.proofs.lemmas.List.Elements.{filter_map-append}
-use Rattle.kc_expr.specs.declared.expression.SymId.{SymId}
-use Rattle.kc_read.specs.Statements.{Numbered, ConfigLine, MenuLine, EndMenuLine}
-use Rattle.kc_read.specs.Blocks.{numbers}
-use Rattle.kc_tree.specs.TreeFacts.{Condition, Shown, SymbolShown, MenuShown, EndShown}
-use Rattle.kc_build.specs.Facts.{enclosing_block, is_first_definition, shows_entry, shown_number, shown_at, entries, shown_when}
+use Rattle.kc_language.specs.declared.expressions.SymId.{SymId}
+use Rattle.kc_language.specs.Statements.{Numbered, ConfigLine, MenuLine, EndMenuLine}
+use Rattle.kc_language.specs.Expansion.{numbers}
+use Rattle.kc_language.specs.Symbols.{Condition, Shown, SymbolShown, MenuShown, EndShown, enclosing_block, is_first_definition, shows_entry, shown_number, shown_at, entries, shown_when}
 use Rattle.kc_build.proofs.BlockLemmas.{there, last_is_nested}
 use Rattle.kc_build.proofs.ChoiceLemmas.{fewer_before}
 use Rattle.kc_build.proofs.ExpansionLemmas.{AreNested}

@@ -1,13 +1,13 @@
 -- Whose entry each line belongs to, and what prompts stand before it in that entry.
 use Rattle.std.proofs.Common.{◌≡◌, ℕ, suc, ◌+◌, Bool, true, false, ◌||◌, if◌then◌else◌, List, [], ◌∷◌, ◌++◌, take, filter, reverse, Option, Some, refl, ap, sym, ◌∙◌, arith, add-one}
 use Rattle.std.specs.List.{slice_get, list_any, take_while, prefix_len}
-use Rattle.std.specs.Option.{option_map, unwrap_or, is_some}
+use Rattle.std.specs.Prelude.{option_map}
+use Rattle.std.specs.Option.{unwrap_or, is_some}
 use Rattle.std.proofs.lemmas.List.{append-nil, reverse-append}
-use Rattle.kc_read.specs.Statements.{Numbered}
-use Rattle.kc_read.specs.Blocks.{numbers, last_of, is_attribute}
-use Rattle.kc_build.specs.declared.diagnostics.MenuEntry.TheVariants as menu_entry
-use Rattle.kc_build.specs.Facts.{choice_number, prompt_of}
-use Rattle.kc_build.specs.Warnings.{is_some_other, entry_before, begun, begun_at, menu_entry_before, menu_entry_at, prompt_before}
+use Rattle.kc_language.specs.Statements.{Numbered}
+use Rattle.kc_language.specs.Expansion.{numbers, last_of, is_attribute}
+use Rattle.kc_language.specs.declared.symbols.MenuEntry.TheVariants as menu_entry
+use Rattle.kc_language.specs.Symbols.{choice_number, prompt_of, is_some_other, entry_before, begun, begun_at, menu_entry_before, menu_entry_at, prompt_before}
 use Rattle.kc_build.proofs.BlockLemmas.{take-next, last-snoc}
 use Rattle.kc_build.proofs.PlaceLemmas.{filter-next}
 

@@ -1,10 +1,10 @@
 -- The names of a tree are distinct, and so the tree of a root file is well formed.
 use Rattle.std.proofs.Common.{◌≡◌, ℕ, List, Result, Ok, Err}
-use Rattle.kc_read.specs.Expansion.{Expands, Log, Refused}
-use Rattle.kc_read.specs.Statements.{statements}
-use Rattle.kc_read.specs.Files.{Files}
-use Rattle.kc_tree.specs.TreeFacts.{IsWellFormed, TreeFacts}
-use Rattle.kc_build.specs.Trees.{TreesAreWellFormed, tree_of_log}
+use Rattle.kc_language.specs.Expansion.{Expands, Log, Refused, Files}
+use Rattle.kc_language.specs.Statements.{statements}
+use Rattle.kc_tree.specs.TreeFacts.{IsWellFormed}
+use Rattle.kc_language.specs.Symbols.{TreeFacts, tree_of_log}
+use Rattle.kc_build.specs.Trees.{TreesAreWellFormed}
 use Rattle.kc_build.proofs.BuildLemmas.{whole-formed}
 use Rattle.kc_build.proofs.DefinedLemmas.{expanded_known}
 use Rattle.kc_build.proofs.NumberingLemmas.{names-distinct}

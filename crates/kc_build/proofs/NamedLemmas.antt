@@ -1,18 +1,18 @@
 -- What selects and implies a symbol, by what the definitions say and by the rows of the lines, with one definition more.
 use Rattle.std.proofs.Common.{◌≡◌, ℕ, ◌<◌, Bool, true, false, if◌then◌else◌, ◌&&◌, ◌==◌, List, [], ◌∷◌, ◌++◌, length, map, reverse, Option, Some, None, refl, ap, sym, ◌∙◌, get_or, subst}
 use Rattle.std.specs.List.{All, cons_option, filter_map, flat_map, slice_get}
-use Rattle.std.specs.Option.{is_none, option_and_then, option_map}
+use Rattle.std.specs.Option.{is_none, option_and_then}
+use Rattle.std.specs.Prelude.{option_map}
 use Rattle.std.proofs.lemmas.Bool.{lt-ltb}
 use Rattle.std.proofs.lemmas.List.{append-nil, reverse-append}
 use Rattle.std.proofs.lemmas.List.Elements.{All-cons, All-head, All-nil, All-push, All-tail, filter_map-append}
 use Rattle.std.proofs.lemmas.Option.{slice_get-map}
-use Rattle.kc_expr.specs.declared.expression.SymbolType.{SymbolType}
-use Rattle.kc_expr.specs.declared.expression.SymId.{SymId}
-use Rattle.kc_expr.specs.Form.{Form}
-use Rattle.kc_expr.specs.Names.{symbol}
+use Rattle.kc_language.specs.declared.expressions.SymbolType.{SymbolType}
+use Rattle.kc_language.specs.declared.expressions.SymId.{SymId}
+use Rattle.kc_language.specs.Expressions.{Form, symbol}
 use Rattle.kc_expr.specs.When.{when_view}
-use Rattle.kc_read.specs.Blocks.{attributes}
-use Rattle.kc_read.specs.Statements.{Numbered, SelectLine, ImplyLine}
+use Rattle.kc_language.specs.Expansion.{attributes}
+use Rattle.kc_language.specs.Statements.{Numbered, SelectLine, ImplyLine}
 use Rattle.kc_tree.specs.declared.layout.Tables.{Tables}
 use Rattle.kc_tree.specs.declared.rows.DefinitionId.{DefinitionId}
 use Rattle.kc_tree.specs.declared.rows.Selector.{Selector}
@@ -20,15 +20,12 @@ use Rattle.kc_tree.specs.declared.rows.SelectorId.{SelectorId}
 use Rattle.kc_tree.specs.declared.rows.Symbol.{Symbol}
 use Rattle.kc_tree.specs.Chains.{chain_of, chains_of}
 use Rattle.kc_tree.specs.Layouts.{DefinitionFacts, definition_facts, impliers_at, selector_at, selector_facts, selectors_at, with_when}
-use Rattle.kc_tree.specs.TreeFacts.{Guarded}
-use Rattle.kc_tree.specs.Common.{listed}
-use Rattle.kc_build.specs.declared.lines.SelectOrImply.{SelectOrImply}
-use Rattle.kc_build.specs.declared.lines.SelectOrImply.TheVariants as select_or_imply
-use Rattle.kc_build.specs.Facts as facts
-use Rattle.kc_build.specs.Facts.{imply_of, guarded_symbol, naming_at, select_of, symbol_at}
+use Rattle.kc_language.specs.Symbols.{Guarded, listed, imply_of, guarded_symbol, naming_at, select_of, symbol_at, target_of}
+use Rattle.kc_language.specs.declared.symbols.SelectOrImply.{SelectOrImply}
+use Rattle.kc_language.specs.declared.symbols.SelectOrImply.TheVariants as select_or_imply
+use Rattle.kc_language.specs.Symbols as facts
 use Rattle.kc_build.specs.SymbolRows.{AreSymbols, AreBelow, can_be_target, choice_by, type_by}
 use Rattle.kc_build.specs.SelectorRows.{HaveSources, added_line, added_lines, implies_of, selector_row, rows_to, selects_of}
-use Rattle.kc_build.specs.Targets.{target_of}
 use Rattle.kc_build.proofs.GrownLemmas.{filter_map_alike, get_front, get_last}
 use Rattle.kc_build.proofs.TypeLemmas.{choices_known, types_known}
 use Rattle.kc_build.proofs.WalkLemmas.{all_at}

@@ -1,17 +1,14 @@
 -- What the nesting of blocks says of places: what encloses a choice, and what a closer closes.
 use Rattle.std.proofs.Common.{◌≡◌, ℕ, zero, suc, Bool, true, false, ◌&&◌, ◌||◌, List, [], ◌∷◌, map, filter, length, take, drop, Option, Some, None, Ok, is_some, refl, ap, sym, ◌∙◌, subst}
 use Rattle.std.specs.List.{slice_get, list_any, filter_map}
-use Rattle.std.specs.Option.{option_map}
+use Rattle.std.specs.Prelude.{option_map}
 use Rattle.std.proofs.lemmas.List.{length-map}
 use Rattle.std.proofs.lemmas.Option.{slice_get-map}
-use Rattle.kc_read.specs.declared.statement.Block.{Block}
-use Rattle.kc_read.specs.declared.statement.Block.TheVariants as block
-use Rattle.kc_read.specs.Statements.{Named, Numbered, Located, numbered, ConfigLine, IfLine, MenuLine, EndMenuLine, ChoiceLine, statements}
-use Rattle.kc_read.specs.Blocks.{bracket, bracket_at, bracket_of, opened, depth_after, stays_open, is_open, open_block_indices, open_blocks, enclosing, numbers, last_of}
-use Rattle.kc_read.specs.Expansion.{Log, Expands, is_choice}
-use Rattle.kc_read.specs.Files.{Files}
-use Rattle.kc_read.specs.Numbering.{located_numbered}
-use Rattle.kc_build.specs.Facts.{is_block, of_block, block_at, enclosing_block, enclosing_choice, choice_number}
+use Rattle.kc_language.specs.declared.statements.Block.{Block}
+use Rattle.kc_language.specs.declared.statements.Block.TheVariants as block
+use Rattle.kc_language.specs.Statements.{Named, Numbered, Located, numbered, ConfigLine, IfLine, MenuLine, EndMenuLine, ChoiceLine, statements}
+use Rattle.kc_language.specs.Expansion.{bracket, bracket_at, bracket_of, opened, depth_after, stays_open, is_open, open_block_indices, open_blocks, enclosing, numbers, last_of, Log, Expands, is_choice, Files, located_numbered}
+use Rattle.kc_language.specs.Symbols.{is_block, of_block, block_at, enclosing_block, enclosing_choice, choice_number}
 use Rattle.kc_read.proofs.TurnLemmas.{Leaves, turn}
 use Rattle.kc_build.proofs.ExpansionLemmas.{Suits, AreNested, expansion_is_nested}
 

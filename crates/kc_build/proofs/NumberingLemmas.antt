@@ -1,25 +1,23 @@
 -- The names and numbers of an expanded list.
 use Rattle.std.proofs.Common.{◌≡◌, ℕ, zero, suc, ◌+◌, ◌<◌, Bool, true, false, cond, ◌||◌, List, [], ◌∷◌, ◌++◌, length, map, take, Option, Some, None, not, refl, ap, sym, ◌∙◌, arith}
 use Rattle.std.specs.List.{before_first, cons_option, flat_map, list_any, position_or_len, slice_get, IsDistinct}
-use Rattle.std.specs.Option.{option_map}
+use Rattle.std.specs.Prelude.{option_map}
 use Rattle.std.proofs.lemmas.Cmp.{nat_list_eq_equiv}
 use Rattle.std.proofs.lemmas.List.{length-map}
 use Rattle.std.proofs.lemmas.List.Folds.{list_any-append}
 use Rattle.std.proofs.lemmas.Map.Keys.{IsDistinct-push}
 use Rattle.std.proofs.lemmas.Option.{slice_get_within}
-use Rattle.kc_expr.specs.declared.expression.SymId.{SymId}
-use Rattle.kc_expr.specs.Names.{AreDistinct, IsNumber, Extends, same_name, number_of, symbol, mention, all_mentioned}
-use Rattle.kc_expr.specs.DistinctSymbols.{added}
+use Rattle.kc_language.specs.declared.expressions.SymId.{SymId}
+use Rattle.kc_expr.specs.Names.{AreDistinct, IsNumber, Extends}
+use Rattle.kc_language.specs.Expressions.{same_name, number_of, symbol, mention, all_mentioned}
+use Rattle.kc_language.specs.Symbols.{added, all_added, defined_symbols, symbol_of}
 use Rattle.kc_expr.proofs.NamesLemmas.{all_mentioned_extends, number_later, same_name-refl}
-use Rattle.kc_read.specs.Blocks.{definitions, defined_name, is_modules, last_of, modules_of}
-use Rattle.kc_read.specs.Expansion.{defined}
+use Rattle.kc_language.specs.Expansion.{definitions, defined_name, is_modules, last_of, modules_of, defined, names_of, located_numbered, numbered_lines}
 use Rattle.kc_read.specs.Expanded.{AreNumbers, IsNamed}
-use Rattle.kc_read.specs.Numbering.{names_of, located_numbered, numbered_lines}
-use Rattle.kc_read.specs.Statements.{Named, Located, ConfigLine, ModulesLine, numbered, names_in_statement, statements}
+use Rattle.kc_language.specs.Statements.{Named, Located, ConfigLine, ModulesLine, numbered, names_in_statement, statements}
 use Rattle.kc_read.proofs.FileLemmas.{same_name_eq}
 use Rattle.kc_read.proofs.ListLemmas.{last_of-map}
 use Rattle.kc_read.proofs.NameLemmas.{extends_none, known_at, numbers_placed}
-use Rattle.kc_build.specs.Facts.{all_added, defined_symbols, symbol_of}
 use Rattle.kc_build.specs.SymbolRows.{AreBelow}
 
 -- Names that are mentioned are known.

@@ -1,16 +1,14 @@
 -- The open blocks, behind an opener, a closer and another line.
 use Rattle.std.proofs.Common.{◌≡◌, ℕ, suc, if◌then◌else◌, List, [], ◌∷◌, ◌++◌, filter, map, Some, refl, ap, sym, ◌∙◌, arith, inl, inr}
-use Rattle.std.specs.Prelude.{◌⊎◌}
+use Rattle.std.specs.Prelude.{◌⊎◌, option_map}
 use Rattle.std.specs.List.{slice_get, flat_map}
-use Rattle.std.specs.Option.{option_map}
 use Rattle.std.proofs.lemmas.List.{map_push}
 use Rattle.std.proofs.lemmas.Option.{slice_get_within}
-use Rattle.kc_read.specs.declared.statement.Block as opener
-use Rattle.kc_read.specs.declared.statement.Block.TheVariants as block
-use Rattle.kc_read.specs.Statements.{Numbered}
-use Rattle.kc_read.specs.Blocks.{Opens, Closes, NoBracket, bracket, enclosing, last_of}
-use Rattle.kc_tree.specs.TreeFacts.{Condition}
-use Rattle.kc_build.specs.Facts.{block_conjuncts, choice_number, shown_number, of_block, own_visible}
+use Rattle.kc_language.specs.declared.statements.Block as opener
+use Rattle.kc_language.specs.declared.statements.Block.TheVariants as block
+use Rattle.kc_language.specs.Statements.{Numbered}
+use Rattle.kc_language.specs.Expansion.{Opens, Closes, NoBracket, bracket, enclosing, last_of}
+use Rattle.kc_language.specs.Symbols.{Condition, block_conjuncts, choice_number, shown_number, of_block, own_visible}
 use Rattle.kc_build.specs.Scopes.{block_visible}
 use Rattle.kc_build.specs.Stacks.{AreOpen, BlockFacts, IsClosed, block_facts_at, block_view, open_scopes}
 use Rattle.kc_build.specs.declared.blocks.BlockScope.{BlockScope}

@@ -3,13 +3,12 @@ use Rattle.std.proofs.Common.{◌≡◌, ℕ, suc, ◌+◌, ◌*◌, ◌≤◌, 
 use Rattle.std.specs.List.{cons_option}
 use Rattle.std.proofs.lemmas.List.{append-nil, get_or_push, length_push}
 use Rattle.std.proofs.lemmas.List.Elements.{All-nil}
-use Rattle.kc_expr.specs.Form.{Form}
-use Rattle.kc_read.specs.declared.statement.Block.TheVariants as block
-use Rattle.kc_read.specs.Statements.{Numbered, IfLine}
+use Rattle.kc_language.specs.Expressions.{Form}
+use Rattle.kc_language.specs.declared.statements.Block.TheVariants as block
+use Rattle.kc_language.specs.Statements.{Numbered, IfLine}
 use Rattle.kc_tree.specs.Contexts.{and_also, condition_in, top}
-use Rattle.kc_tree.specs.TreeFacts.{Condition}
+use Rattle.kc_language.specs.Symbols.{Condition, block_conjuncts, choice_number, shown_at, shown_number, of_block, symbol_of}
 use Rattle.kc_build.specs.Before.{main_menu_before}
-use Rattle.kc_build.specs.Facts.{block_conjuncts, choice_number, shown_at, shown_number, of_block, symbol_of}
 use Rattle.kc_build.specs.Scopes.{block_visible}
 use Rattle.kc_build.specs.WalkResult.{IsEntryThere, IsTitleThere}
 use Rattle.kc_build.specs.Stacks.{AreOpen, block_facts_at, block_view}

@@ -3,29 +3,23 @@ use Rattle.std.proofs.Common.{◌≡◌, ℕ, ◌==◌, Bool, List, [], length, 
 use Rattle.std.specs.List.{filter_map, list_any}
 use Rattle.std.specs.Option.{option_and_then, option_or, unwrap_or}
 use Rattle.std.proofs.Math.Seq.{take-length}
-use Rattle.kc_expr.specs.declared.expression.SymId.{SymId}
-use Rattle.kc_expr.specs.Names.{symbol}
-use Rattle.kc_expr.specs.DistinctSymbols.{stands_in}
+use Rattle.kc_language.specs.declared.expressions.SymId.{SymId}
+use Rattle.kc_language.specs.Expressions.{symbol}
+use Rattle.kc_language.specs.Symbols.{stands_in, ChoiceFacts, listed, StatedDefault, choice_number, defined_symbols, choice_lines, choices, stated_default, is_member, members_of, guarded_symbol, prompt_at, single_symbol, symbol_facts, title_of, facts_with, modules_symbol, symbol_if, tree_with, unless_refused, bad_members}
 use Rattle.kc_read.specs.declared.entries.Entries.{Entries}
-use Rattle.kc_read.specs.Blocks.{attributes, last_of, numbers}
-use Rattle.kc_read.specs.Expansion.{Refused}
+use Rattle.kc_language.specs.Expansion.{attributes, last_of, numbers, Refused}
 use Rattle.kc_read.specs.Entries.{lines_in}
 use Rattle.kc_read.specs.RefusalView.{refusal_view}
 use Rattle.kc_read.specs.declared.refusal.Refusal.{Refusal}
-use Rattle.kc_read.specs.Statements.{Numbered}
+use Rattle.kc_language.specs.Statements.{Numbered}
 use Rattle.kc_tree.specs.declared.layout.TreeParts.{TreeParts}
 use Rattle.kc_tree.specs.declared.rows.Symbol.{Symbol}
-use Rattle.kc_tree.specs.TreeFacts.{ChoiceFacts}
 use Rattle.kc_tree.specs.Wholes.{tree_of}
-use Rattle.kc_tree.specs.Common.{listed}
 use Rattle.kc_build.specs.declared.diagnostics.Diagnostics.{Diagnostics}
 use Rattle.kc_build.specs.Before.{main_menu_before}
-use Rattle.kc_build.specs.Facts.{StatedDefault, choice_number, defined_symbols, choice_lines, choices, stated_default, is_member, members_of, guarded_symbol, prompt_at, single_symbol, symbol_facts, title_of}
 use Rattle.kc_build.specs.SymbolRows.{AreBelow, AreSymbols, member_by}
 use Rattle.kc_build.specs.Passes.{statements_in}
 use Rattle.kc_build.specs.WalkResult.{IsWalkResult, IsDiagnosed, choice_by}
-use Rattle.kc_build.specs.Trees.{facts_with, modules_symbol, symbol_if, tree_with, unless_refused}
-use Rattle.kc_build.specs.Warnings.{bad_members}
 use Rattle.kc_build.proofs.DiagnosedLemmas.{accepted, refused_tree}
 use Rattle.kc_build.proofs.TypeLemmas.{choices_known}
 use Rattle.kc_build.proofs.LayoutLemmas.{symbols-are}

@@ -8,7 +8,7 @@ use Rattle.std.specs.Prelude.{option_map}
 use Rattle.std.proofs.lemmas.Option.{slice_get-map, slice_get-get_or}
 use Rattle.kc_read.specs.declared.entries.AttributeLine.{AttributeLine}
 use Rattle.kc_read.specs.StatementViews.{attribute_view}
-use Rattle.kc_read.specs.Blocks.{numbers}
+use Rattle.kc_language.specs.Expansion.{numbers}
 use Rattle.kc_build.specs.Passes.{statements_of}
 use Rattle.kc_build.proofs.BlockLemmas.{numbers_from, numbers-from}
 

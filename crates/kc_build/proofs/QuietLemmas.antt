@@ -1,31 +1,30 @@
 -- A quiet entry adds nothing to the diagnosis.
 use Rattle.std.proofs.Common.{◌≡◌, ℕ, Bool, true, false, ◌||◌, ◌&&◌, ◌+◌, ◌<◌, if◌then◌else◌, List, [], ◌∷◌, ◌++◌, drop, get_or, length, map, Option, Some, None, refl, ap, sym, ◌∙◌}
-use Rattle.std.specs.Option.{option_map, option_or, is_some}
-use Rattle.std.specs.Prelude.{not}
+use Rattle.std.specs.Prelude.{option_map, not}
+use Rattle.std.specs.Option.{option_or, is_some}
 use Rattle.std.proofs.lemmas.List.{append-nil}
-use Rattle.kc_expr.specs.declared.expression.SymbolType.{SymbolType}
-use Rattle.kc_expr.specs.declared.expression.SymbolType.TheVariants as symbol_type
-use Rattle.kc_expr.specs.declared.expression.SymId.{SymId}
-use Rattle.kc_expr.specs.Form.{Form}
+use Rattle.kc_language.specs.declared.expressions.SymbolType.{SymbolType}
+use Rattle.kc_language.specs.declared.expressions.SymbolType.TheVariants as symbol_type
+use Rattle.kc_language.specs.declared.expressions.SymId.{SymId}
+use Rattle.kc_language.specs.Expressions.{Form}
 use Rattle.kc_read.specs.declared.entries.AttributeLine.{AttributeLine}
 use Rattle.kc_read.specs.declared.entries.Entry.{Entry}
-use Rattle.kc_diagnostics.specs.declared.cause.Cause.TheVariants as cause
+use Rattle.kc_language.specs.declared.diagnostics.Cause.TheVariants as cause
 use Rattle.kc_read.specs.declared.statement.Head.{Head}
 use Rattle.kc_read.specs.declared.statement.Head.TheVariants as head
 use Rattle.kc_read.specs.Entries.{first_line, own_lines}
 use Rattle.kc_read.specs.StatementViews.{attribute_view, head_view}
-use Rattle.kc_read.specs.Statements.{InputPrompt, Numbered, Located, ConfigLine, TypeLine, PromptLine, DefaultLine, DefLine, SelectLine, ImplyLine}
-use Rattle.kc_tree.specs.declared.rows.ChoiceId.{ChoiceId}
+use Rattle.kc_language.specs.Statements.{InputPrompt, Numbered, Located, ConfigLine, TypeLine, PromptLine, DefaultLine, DefLine, SelectLine, ImplyLine}
+use Rattle.kc_language.specs.declared.symbols.ChoiceId.{ChoiceId}
 use Rattle.kc_tree.specs.declared.rows.Symbol.{Symbol}
 use Rattle.kc_build.specs.declared.diagnostics.EntrySummary.{EntrySummary}
-use Rattle.kc_build.specs.declared.diagnostics.MenuEntry.{MenuEntry}
-use Rattle.kc_build.specs.declared.diagnostics.MenuEntry.TheVariants as menu_entry
+use Rattle.kc_language.specs.declared.symbols.MenuEntry.{MenuEntry}
+use Rattle.kc_language.specs.declared.symbols.MenuEntry.TheVariants as menu_entry
 use Rattle.kc_build.specs.Diagnosed.{Diagnosis, line_diagnosed, lines_diagnosed}
-use Rattle.kc_build.specs.Facts.{has_text, is_single, prompt_of, same_type}
+use Rattle.kc_language.specs.Symbols.{has_text, is_single, prompt_of, same_type, begun, has_type, is_bad_default, is_bad_member, line_of, line_warnings_by}
 use Rattle.kc_build.specs.Passes.{statements_of}
 use Rattle.kc_build.specs.Quiet.{are_quiet, may_have_default, is_quiet_attribute, is_quiet_line}
 use Rattle.kc_build.specs.SymbolRows.{choice_by, type_by, member_by}
-use Rattle.kc_build.specs.Warnings.{begun, has_type, is_bad_default, is_bad_member, line_of, line_warnings_by}
 use Rattle.kc_build.specs.WholeListRefusals.{entry_refusal}
 use Rattle.kc_build.proofs.ScanLemmas.{statements_from}
 

@@ -3,21 +3,17 @@ use Rattle.std.proofs.Common.{◌≡◌, ℕ, Bool, true, false, ◌||◌, if◌
 use Rattle.std.specs.Prelude.{All}
 use Rattle.std.proofs.lemmas.List.{map-append}
 use Rattle.std.proofs.lemmas.List.Elements.{All-nil, All-cons, All-head, All-append, All-push, All-drop}
-use Rattle.kc_text.specs.declared.faults.TextFault.{TextFault}
-use Rattle.kc_text.specs.Escapes.{unescape}
-use Rattle.kc_text.specs.Lexemes.{Lexeme, AWord, AQuoted, AnOp}
-use Rattle.kc_text.specs.Lines.{UnreadLines, unread_lines}
-use Rattle.kc_expr.specs.declared.expression.SymbolType.{SymbolType}
-use Rattle.kc_expr.specs.Grammar.{Disjunction, Atom, WordAtom, QuotedAtom, names_in_atom, if_word, is_tristate_constant, spell, terminals, names_in}
-use Rattle.kc_expr.specs.Names.{same_name}
-use Rattle.kc_diagnostics.specs.declared.cause.Cause.TheVariants as cause
-use Rattle.kc_read.specs.declared.statement.Keyword.{Keyword}
-use Rattle.kc_read.specs.declared.statement.Keyword.TheVariants as key
-use Rattle.kc_read.specs.Expansion.{FileContext, Log, Refused, Rest, Expands, NextLine, bytes_cause, context_of, with_file, nothing_read, refused, root_context, with_line, is_help, without_help, at_end, unclosed, too_long, no_tokens, blank, bad_line, over_limit, statement, bad_source, refused_inside, source}
-use Rattle.kc_read.specs.Files.{Files}
-use Rattle.kc_diagnostics.specs.Causes.{Cause}
-use Rattle.kc_read.specs.Lines.{LineContext, After, Front, IsCondition, IsWhole, ReadsTarget, ReadsType, ReadsLine, ReadsPlaced, ReadsRest, ReadsWhole, ReadsCondition, ReadsTextLine, ReadsValue, ReadsPrompt, StartsExpression, begins_with, choice_line, expected, finish, front, good_name, in_place, is_good_name, keyword_of, keyword_or_refusal, operand_of, option_line, placement_cause, plain_text, named_target, text_of, word_of}
-use Rattle.kc_read.specs.Statements.{Statement, InputPrompt, Named, Located, ConfigLine, IfLine, EndIfLine, CommentLine, SourceLine, MenuLine, EndMenuLine, ChoiceLine, EndChoiceLine, MainMenuLine, TypeLine, PromptLine, DefaultLine, DefLine, DependsLine, VisibleLine, SelectLine, ImplyLine, RangeLine, HelpLine, ModulesLine, IgnoredLine, names_in_condition, names_in_statement, value_form, statements}
+use Rattle.kc_language.specs.declared.tokens.TextFault.{TextFault}
+use Rattle.kc_language.specs.Text.{unescape}
+use Rattle.kc_language.specs.Tokens.{Lexeme, AWord, AQuoted, AnOp}
+use Rattle.kc_language.specs.Lines.{UnreadLines, unread_lines}
+use Rattle.kc_language.specs.declared.expressions.SymbolType.{SymbolType}
+use Rattle.kc_language.specs.Expressions.{Disjunction, Atom, WordAtom, QuotedAtom, names_in_atom, if_word, is_tristate_constant, spell, terminals, names_in, same_name}
+use Rattle.kc_language.specs.declared.diagnostics.Cause.TheVariants as cause
+use Rattle.kc_language.specs.declared.statements.Keyword.{Keyword}
+use Rattle.kc_language.specs.declared.statements.Keyword.TheVariants as key
+use Rattle.kc_language.specs.Expansion.{FileContext, Log, Refused, Rest, Expands, NextLine, bytes_cause, context_of, with_file, nothing_read, refused, root_context, with_line, is_help, without_help, at_end, unclosed, too_long, no_tokens, blank, bad_line, over_limit, statement, bad_source, refused_inside, source, Files}
+use Rattle.kc_language.specs.Statements.{Cause, LineContext, After, Front, IsCondition, IsWhole, ReadsTarget, ReadsType, ReadsLine, ReadsPlaced, ReadsRest, ReadsWhole, ReadsCondition, ReadsTextLine, ReadsValue, ReadsPrompt, StartsExpression, begins_with, choice_line, expected, finish, front, good_name, in_place, is_good_name, keyword_of, keyword_or_refusal, operand_of, option_line, placement_cause, plain_text, named_target, text_of, word_of, Statement, InputPrompt, Named, Located, ConfigLine, IfLine, EndIfLine, CommentLine, SourceLine, MenuLine, EndMenuLine, ChoiceLine, EndChoiceLine, MainMenuLine, TypeLine, PromptLine, DefaultLine, DefLine, DependsLine, VisibleLine, SelectLine, ImplyLine, RangeLine, HelpLine, ModulesLine, IgnoredLine, names_in_condition, names_in_statement, value_form, statements}
 use Rattle.kc_tree.specs.TreeFacts.{IsLineText, IsLineForm}
 use Rattle.kc_build.proofs.LineTextLemmas.{AreOneLine, IsLineAtom, IsLineLexeme, IsLineTerminal, all_front, atom_lines, cut_line, file_lines, helped, taken_line, terminal_lines, value_line, word_lines}
 

@@ -1,22 +1,15 @@
 -- The definitions, computed at some lists of statements.
 use Rattle.std.proofs.Common.{◌≡◌, ℕ, suc, List, [], ◌∷◌, ◌++◌, map, Option, Some, None, Ok, Err, codes, refl}
 use Rattle.std.specs.Fmt.{digits}
-use Rattle.kc_text.specs.declared.tokens.Op.TheVariants as op
-use Rattle.kc_expr.specs.declared.expression.SymId.{SymId}
-use Rattle.kc_expr.specs.declared.expression.SymbolType.{SymbolType}
-use Rattle.kc_expr.specs.declared.expression.SymbolType.TheVariants as symbol_type
-use Rattle.kc_expr.specs.Form.{Form, Text, Symbol, Single, Related, Negated, LoneM, Every, NoForms, MoreForms}
-use Rattle.kc_expr.specs.Grammar.{Disjunction, Negation, WordAtom, QuotedAtom, only, joined, negation, conjunction, bang, group, lone, compare}
-use Rattle.kc_expr.specs.Names.{symbol}
-use Rattle.kc_diagnostics.specs.Causes.{Cause}
-use Rattle.kc_diagnostics.specs.declared.cause.Cause.TheVariants as cause
-use Rattle.kc_read.specs.Statements.{Named, Numbered, InputPrompt, Located, ConfigLine, IfLine, EndIfLine, CommentLine, MenuLine, EndMenuLine, ChoiceLine, EndChoiceLine, MainMenuLine, TypeLine, PromptLine, DefaultLine, DefLine, DependsLine, VisibleLine, SelectLine, ImplyLine, RangeLine, ModulesLine, statements}
-use Rattle.kc_tree.specs.TreeFacts.{TreeFacts, Condition, Guarded, SymbolFacts, SymbolShown, MenuShown, EndShown, CommentShown}
-use Rattle.kc_build.specs.Facts.{symbol_facts, choices, entries}
-use Rattle.kc_read.specs.Expansion.{Refused, refused}
-use Rattle.kc_build.specs.Warnings.{warnings, whole_list_refusals}
-use Rattle.kc_read.specs.Numbering.{names_of, numbered_lines}
-use Rattle.kc_build.specs.Trees.{tree_of_lines, facts_with}
+use Rattle.kc_language.specs.declared.tokens.Op.TheVariants as op
+use Rattle.kc_language.specs.declared.expressions.SymId.{SymId}
+use Rattle.kc_language.specs.declared.expressions.SymbolType.{SymbolType}
+use Rattle.kc_language.specs.declared.expressions.SymbolType.TheVariants as symbol_type
+use Rattle.kc_language.specs.Expressions.{Form, Text, Symbol, Single, Related, Negated, LoneM, Every, NoForms, MoreForms, Disjunction, Negation, WordAtom, QuotedAtom, only, joined, negation, conjunction, bang, group, lone, compare, symbol}
+use Rattle.kc_language.specs.Statements.{Cause, Named, Numbered, InputPrompt, Located, ConfigLine, IfLine, EndIfLine, CommentLine, MenuLine, EndMenuLine, ChoiceLine, EndChoiceLine, MainMenuLine, TypeLine, PromptLine, DefaultLine, DefLine, DependsLine, VisibleLine, SelectLine, ImplyLine, RangeLine, ModulesLine, statements}
+use Rattle.kc_language.specs.declared.diagnostics.Cause.TheVariants as cause
+use Rattle.kc_language.specs.Symbols.{TreeFacts, Condition, Guarded, SymbolFacts, SymbolShown, MenuShown, EndShown, CommentShown, symbol_facts, choices, entries, warnings, whole_list_refusals, tree_of_lines, facts_with}
+use Rattle.kc_language.specs.Expansion.{Refused, refused, names_of, numbered_lines}
 
 -- Short words for the rows.
 abbrev whole : Negation → Disjunction

@@ -1,15 +1,15 @@
 -- The scope of a place.
 use Rattle.std.proofs.Common.{◌≡◌, ℕ, Bool, true, false, cond, if◌then◌else◌, List, [], ◌∷◌, ◌++◌, filter, Some, refl, ap, ◌∙◌}
 use Rattle.std.specs.List.{flat_map}
-use Rattle.std.specs.Option.{option_map}
+use Rattle.std.specs.Prelude.{option_map}
 use Rattle.std.proofs.lemmas.List.{append-nil}
 use Rattle.std.proofs.lemmas.List.Elements.{filter-append}
 use Rattle.std.proofs.lemmas.Grind.{flat_map-append}
-use Rattle.kc_expr.specs.Form.{Form}
-use Rattle.kc_read.specs.declared.statement.Block.TheVariants as block
-use Rattle.kc_read.specs.Statements.{Numbered}
-use Rattle.kc_read.specs.Blocks.{last_of}
-use Rattle.kc_build.specs.Facts.{of_block, block_conjuncts, own_visible, choice_number}
+use Rattle.kc_language.specs.Expressions.{Form}
+use Rattle.kc_language.specs.declared.statements.Block.TheVariants as block
+use Rattle.kc_language.specs.Statements.{Numbered}
+use Rattle.kc_language.specs.Expansion.{last_of}
+use Rattle.kc_language.specs.Symbols.{of_block, block_conjuncts, own_visible, choice_number}
 use Rattle.kc_build.specs.Scopes.{Scope, block_visible, scope_of_block}
 use Rattle.kc_build.proofs.BlockLemmas.{last-snoc}
 

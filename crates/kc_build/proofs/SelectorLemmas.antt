@@ -1,10 +1,9 @@
 -- The lines of a definition that select and imply, as they are added.
 use Rattle.std.proofs.Common.{◌≡◌, ◌≢◌, ℕ, ◌+◌, ◌<◌, ◌≤◌, Bool, true, false, ◌&&◌, ◌==◌, if◌then◌else◌, List, [], ◌∷◌, ◌++◌, length, drop, Option, Some, None, refl, ap, sym, ◌∙◌, arith, get_or, slice_set, append_assoc, length-append, subst, inl, inr}
-use Rattle.std.specs.Prelude.{◌⊎◌, slice_index_or, OnOk, OnErr, Result, Ok, Err}
+use Rattle.std.specs.Prelude.{◌⊎◌, slice_index_or, OnOk, OnErr, Result, Ok, Err, option_map}
 use Rattle.std.specs.List.{slice_get}
 use Rattle.std.specs.Global.{Vec}
 use Rattle.std.specs.Vec.{with_items}
-use Rattle.std.specs.Option.{option_map}
 use Rattle.std.proofs.lemmas.Bool.{cases_lt, eq-eqb, eqb-true, false≢true, ne_eqb}
 use Rattle.std.proofs.lemmas.List.{append-nil, length-set, get_or-set_same, get_or-set_other, with_items_is}
 use Rattle.std.proofs.lemmas.List.Elements.{All-push}
@@ -13,9 +12,8 @@ use Rattle.std.specs.declared.alloc.AllocError.{AllocError}
 use Rattle.std.specs.declared.alloc.Global.{Global}
 use Rattle.std.specs.declared.rc.Rc.{Rc}
 use Rattle.kc_expr.specs.declared.expression.Expr.{Expr}
-use Rattle.kc_expr.specs.declared.expression.SymId.{SymId}
-use Rattle.kc_expr.specs.Form.{Form}
-use Rattle.kc_expr.specs.Names.{symbol}
+use Rattle.kc_language.specs.declared.expressions.SymId.{SymId}
+use Rattle.kc_language.specs.Expressions.{Form, symbol}
 use Rattle.kc_expr.specs.When.{when_view}
 use Rattle.kc_read.specs.declared.entries.AttributeLine.{AttributeLine}
 use Rattle.kc_read.specs.StatementViews.{attribute_view}
@@ -25,11 +23,11 @@ use Rattle.kc_tree.specs.declared.rows.SelectorId.{SelectorId}
 use Rattle.kc_tree.specs.declared.rows.Symbol.{Symbol}
 use Rattle.kc_tree.specs.declared.selector_rows.SelectorRows.{SelectorRows}
 use Rattle.kc_tree.specs.Chains.{AreChained, AreHeads}
-use Rattle.kc_build.specs.declared.lines.SelectOrImply.{SelectOrImply}
-use Rattle.kc_build.specs.declared.lines.SelectOrImply.TheVariants as select_or_imply
+use Rattle.kc_language.specs.declared.symbols.SelectOrImply.{SelectOrImply}
+use Rattle.kc_language.specs.declared.symbols.SelectOrImply.TheVariants as select_or_imply
 use Rattle.kc_build.specs.SymbolRows.{can_be_target}
 use Rattle.kc_build.specs.Passes.{statements_of}
-use Rattle.kc_build.specs.Targets.{target_of}
+use Rattle.kc_language.specs.Symbols.{target_of}
 use Rattle.kc_build.specs.SelectorRows.{selector_row, rows_to, same_selectors, selects_of, implies_of, added_line, added_lines, HaveSources, KeepSources, IsAdded}
 use Rattle.kc_build.proofs.ChainLemmas.{to-keeps, to-new, get_past}
 use Rattle.kc_build.proofs.GrownLemmas.{get_front, get_last}

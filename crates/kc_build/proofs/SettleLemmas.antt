@@ -1,15 +1,15 @@
 -- What the tables say once all entries were walked over: the lines that have an effect, and the defaults that name members.
 use Rattle.std.proofs.Common.{◌≡◌, ℕ, zero, suc, ◌+◌, ◌<◌, ◌≤◌, Bool, true, false, if◌then◌else◌, List, [], ◌∷◌, ◌++◌, length, filter, map, take, drop, Option, Some, None, refl, ap, sym, ◌∙◌, arith}
-use Rattle.std.specs.Prelude.{slice_index_or}
+use Rattle.std.specs.Prelude.{slice_index_or, option_map}
 use Rattle.std.specs.List.{cons_option, filter_map, slice_get}
-use Rattle.std.specs.Option.{option_and_then, option_map}
+use Rattle.std.specs.Option.{option_and_then}
 use Rattle.std.proofs.lemmas.List.{length-map}
 use Rattle.std.proofs.lemmas.List.Sums.{length-filter}
-use Rattle.kc_expr.specs.declared.expression.SymId.{SymId}
-use Rattle.kc_expr.specs.Names.{symbol}
-use Rattle.kc_read.specs.declared.statement.Block.TheVariants as block
-use Rattle.kc_read.specs.Blocks.{attributes, numbers}
-use Rattle.kc_read.specs.Statements.{Numbered}
+use Rattle.kc_language.specs.declared.expressions.SymId.{SymId}
+use Rattle.kc_language.specs.Expressions.{symbol}
+use Rattle.kc_language.specs.declared.statements.Block.TheVariants as block
+use Rattle.kc_language.specs.Expansion.{attributes, numbers}
+use Rattle.kc_language.specs.Statements.{Numbered}
 use Rattle.kc_read.proofs.ListLemmas.{filter-map}
 use Rattle.kc_tree.specs.declared.layout.Tables.{Tables}
 use Rattle.kc_tree.specs.declared.rows.Choice.{Choice}
@@ -19,11 +19,10 @@ use Rattle.kc_tree.specs.declared.rows.Symbol.{Symbol}
 use Rattle.kc_tree.specs.declared.rows.Title.{Title}
 use Rattle.kc_tree.specs.Contexts.{condition_in}
 use Rattle.kc_tree.specs.Layouts.{choice_default_view, choice_facts as choice_in, definition_facts, impliers_at, prompt_view, selectors_at, shown_of}
-use Rattle.kc_tree.specs.TreeFacts.{ChoiceFacts, Condition, Guarded}
+use Rattle.kc_language.specs.Symbols.{ChoiceFacts, Condition, Guarded, StatedDefault, choice_lines, choice_number, guarded_symbol, impliers_of, of_block, selectors_of, single_symbol, stated_default}
 use Rattle.kc_build.specs.Before.{choice_before, choices_before, definitions_before, entries_before, impliers_before, main_menu_before, named_default, selectors_before}
 use Rattle.kc_build.specs.ChoiceRows.{ChoiceRow, HaveMemberDefaults, choice_row, map_from, with_member_defaults}
-use Rattle.kc_build.specs.Facts as facts
-use Rattle.kc_build.specs.Facts.{StatedDefault, choice_lines, choice_number, guarded_symbol, impliers_of, of_block, selectors_of, single_symbol, stated_default}
+use Rattle.kc_language.specs.Symbols as facts
 use Rattle.kc_build.specs.Passes.{change}
 use Rattle.kc_build.specs.SelectorRows.{AreTargetHeads, rows_to}
 use Rattle.kc_build.specs.SymbolRows.{AreBelow, AreSymbols, can_be_target, member_by}

@@ -1,14 +1,11 @@
 -- What the shape of an expanded list gives a tree.
 use Rattle.std.proofs.Common.{◌≡◌, ℕ, ◌<◌, true, List, map, Some, None, Ok}
 use Rattle.std.specs.List.{slice_get}
-use Rattle.kc_expr.specs.Names.{number_of}
-use Rattle.kc_read.specs.declared.statement.Block.TheVariants as block
-use Rattle.kc_read.specs.Files.{Files}
-use Rattle.kc_read.specs.Statements.{Numbered, statements}
-use Rattle.kc_read.specs.Expansion.{Log, Expands}
-use Rattle.kc_read.specs.Numbering.{names_of, numbered_lines}
-use Rattle.kc_tree.specs.TreeFacts.{Condition, MenuShown, EndShown}
-use Rattle.kc_build.specs.Facts.{entries, enclosing_choice, of_block}
+use Rattle.kc_language.specs.Expressions.{number_of}
+use Rattle.kc_language.specs.declared.statements.Block.TheVariants as block
+use Rattle.kc_language.specs.Expansion.{Files, Log, Expands, names_of, numbered_lines}
+use Rattle.kc_language.specs.Statements.{Numbered, statements}
+use Rattle.kc_language.specs.Symbols.{Condition, MenuShown, EndShown, entries, enclosing_choice, of_block}
 use Rattle.kc_build.proofs.ExpansionLemmas.{AreNested}
 use Rattle.kc_build.proofs.MenuEndLemmas.{end_names_menu}
 use Rattle.kc_build.proofs.NestLemmas.{expanded_nested, opener_alone}

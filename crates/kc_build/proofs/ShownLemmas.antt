@@ -4,13 +4,11 @@ use Rattle.std.specs.Prelude.{Contains}
 use Rattle.std.specs.List.{slice_get, filter_map, cons_option}
 use Rattle.std.proofs.lemmas.Bool.{cases_eq, eq-eqb, true≢false}
 use Rattle.std.proofs.lemmas.List.Sums.{length-filter}
-use Rattle.kc_expr.specs.declared.expression.SymId.{SymId}
-use Rattle.kc_read.specs.Blocks.{numbers}
-use Rattle.kc_read.specs.Statements.{Numbered, Located, ConfigLine, statements}
-use Rattle.kc_tree.specs.TreeFacts.{ShowsEach, SymbolShown}
-use Rattle.kc_tree.specs.Common.{is_symbol_of}
-use Rattle.kc_build.specs.Facts.{entries, shown_at, is_first_definition, indices, symbol_at, symbol_of}
-use Rattle.kc_build.specs.Trees.{facts_with}
+use Rattle.kc_language.specs.declared.expressions.SymId.{SymId}
+use Rattle.kc_language.specs.Expansion.{numbers}
+use Rattle.kc_language.specs.Statements.{Numbered, Located, ConfigLine, statements}
+use Rattle.kc_tree.specs.TreeFacts.{ShowsEach}
+use Rattle.kc_language.specs.Symbols.{SymbolShown, is_symbol_of, entries, shown_at, is_first_definition, indices, symbol_at, symbol_of, facts_with}
 use Rattle.kc_build.proofs.ElementLemmas.{kept_at, same_is}
 use Rattle.kc_build.specs.SymbolWalk.{defined_before}
 use Rattle.kc_build.proofs.FirstLemmas.{first-is, some_places}

@@ -1,12 +1,12 @@
 -- What conditions name is there.
 use Rattle.std.proofs.Common.{◌≡◌, ℕ, zero, suc, ◌<◌, ◌≤◌, Bool, true, false, if◌then◌else◌, List, [], ◌∷◌, ◌++◌, length, take, filter, Option, Some, None, refl, ap, sym, ◌∙◌, arith}
-use Rattle.std.specs.Option.{option_map}
+use Rattle.std.specs.Prelude.{option_map}
 use Rattle.std.proofs.lemmas.List.{append-nil}
 use Rattle.std.proofs.lemmas.List.Elements.{filter-append}
-use Rattle.kc_read.specs.declared.statement.Block.TheVariants as block
-use Rattle.kc_read.specs.Statements.{Numbered}
-use Rattle.kc_read.specs.Blocks.{numbers, last_of, is_open, enclosing}
-use Rattle.kc_build.specs.Facts.{of_block, choice_number, enclosing_choice, choices}
+use Rattle.kc_language.specs.declared.statements.Block.TheVariants as block
+use Rattle.kc_language.specs.Statements.{Numbered}
+use Rattle.kc_language.specs.Expansion.{numbers, last_of, is_open, enclosing}
+use Rattle.kc_language.specs.Symbols.{of_block, choice_number, enclosing_choice, choices}
 use Rattle.kc_build.proofs.BlockLemmas.{last-snoc}
 use Rattle.kc_build.proofs.ChoiceLemmas.{fewer_before, so_many}
 

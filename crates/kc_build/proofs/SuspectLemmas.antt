@@ -1,34 +1,33 @@
 -- The entries about which there may be a diagnostic: one entry more.
 use Rattle.std.proofs.Common.{◌≡◌, ℕ, ◌<◌, Bool, true, false, if◌then◌else◌, List, [], ◌∷◌, ◌++◌, length, Option, Some, None, refl, ap, sym, ◌∙◌, subst}
 use Rattle.std.specs.List.{filter_map}
-use Rattle.std.specs.Option.{is_none, option_map}
+use Rattle.std.specs.Option.{is_none}
+use Rattle.std.specs.Prelude.{option_map}
 use Rattle.std.proofs.lemmas.Option.{slice_get_within}
-use Rattle.kc_expr.specs.declared.expression.SymbolType.{SymbolType}
-use Rattle.kc_expr.specs.declared.expression.SymbolType.TheVariants as symbol_type
-use Rattle.kc_expr.specs.declared.expression.SymId.{SymId}
+use Rattle.kc_language.specs.declared.expressions.SymbolType.{SymbolType}
+use Rattle.kc_language.specs.declared.expressions.SymbolType.TheVariants as symbol_type
+use Rattle.kc_language.specs.declared.expressions.SymId.{SymId}
 use Rattle.kc_read.specs.declared.entries.Entries.{Entries}
 use Rattle.kc_read.specs.declared.entries.Entry.{Entry}
 use Rattle.kc_read.specs.declared.entries.EntryLines.{EntryLines}
-use Rattle.kc_read.specs.Blocks.{attributes}
+use Rattle.kc_language.specs.Expansion.{attributes}
 use Rattle.kc_read.specs.Entries.{BeginsAt, first_line, lines_in}
 use Rattle.kc_read.specs.StatementViews.{head_view}
-use Rattle.kc_read.specs.Statements.{ConfigLine, ChoiceLine, Numbered}
-use Rattle.kc_tree.specs.declared.rows.ChoiceId.{ChoiceId}
+use Rattle.kc_language.specs.Statements.{ConfigLine, ChoiceLine, Numbered}
+use Rattle.kc_language.specs.declared.symbols.ChoiceId.{ChoiceId}
 use Rattle.kc_tree.specs.declared.rows.Symbol.{Symbol}
 use Rattle.kc_build.specs.declared.diagnostics.EntrySummary.{EntrySummary}
-use Rattle.kc_build.specs.declared.diagnostics.MenuEntry.{MenuEntry}
-use Rattle.kc_build.specs.declared.diagnostics.MenuEntry.TheVariants as menu_entry
+use Rattle.kc_language.specs.declared.symbols.MenuEntry.{MenuEntry}
+use Rattle.kc_language.specs.declared.symbols.MenuEntry.TheVariants as menu_entry
 use Rattle.kc_build.specs.declared.suspects.Suspect.{Suspect}
 use Rattle.kc_build.specs.Diagnosed.{diagnosis_view}
-use Rattle.kc_build.specs.Facts.{choice_number, first_of, is_first_definition, symbol_at, symbol_of, stated_type}
-use Rattle.kc_build.specs.FirstDefinitions.{first_of_symbol}
+use Rattle.kc_language.specs.Symbols.{choice_number, first_of, is_first_definition, symbol_at, symbol_of, stated_type, first_of_symbol, begun}
 use Rattle.kc_build.specs.Passes.{statements_in, statements_of}
 use Rattle.kc_build.specs.Quiet.{is_quiet, is_quiet_entry}
 use Rattle.kc_build.specs.Suspected.{AreSuspects, IsQuietBetween, IsSuspectAt}
 use Rattle.kc_build.specs.SymbolRows.{AreTypesDefined, HasSymbols, IsEntrySummary, type_by}
 use Rattle.kc_build.specs.SymbolWalk.{entry_type}
 use Rattle.kc_build.specs.Walks.{IsAt, index_after}
-use Rattle.kc_build.specs.Warnings.{begun}
 use Rattle.kc_build.proofs.EntrySummaryLemmas.{entry_is}
 use Rattle.kc_build.proofs.EntryWalkLemmas.{attributes-are, head-is, line-is}
 use Rattle.kc_build.proofs.FirstNumberLemmas.{first_type_is}

@@ -7,15 +7,13 @@ use Rattle.std.proofs.lemmas.Bool.{eq-eqb}
 use Rattle.std.proofs.lemmas.List.Folds.{list_any-append}
 use Rattle.std.proofs.lemmas.List.Elements.{filter_passes, All-head}
 use Rattle.std.proofs.lemmas.Option.{slice_get-get_or}
-use Rattle.kc_expr.specs.declared.expression.SymId.{SymId}
-use Rattle.kc_expr.specs.declared.expression.SymbolType.{SymbolType}
-use Rattle.kc_expr.specs.declared.expression.SymbolType.TheVariants as symbol_type
-use Rattle.kc_expr.specs.Names.{same_symbol}
-use Rattle.kc_expr.specs.DistinctSymbols.{added, stands_in}
-use Rattle.kc_read.specs.Blocks.{attributes, definitions, defined_name}
-use Rattle.kc_read.specs.Statements.{Numbered, ConfigLine}
-use Rattle.kc_tree.specs.Common.{is_symbol_of}
-use Rattle.kc_build.specs.Facts.{all_added, defined_symbols, definitions_of, enclosing_choice, first_of, indices, type_of, prompt_at, symbol_at, symbol_of, stated_type}
+use Rattle.kc_language.specs.declared.expressions.SymId.{SymId}
+use Rattle.kc_language.specs.declared.expressions.SymbolType.{SymbolType}
+use Rattle.kc_language.specs.declared.expressions.SymbolType.TheVariants as symbol_type
+use Rattle.kc_language.specs.Expressions.{same_symbol}
+use Rattle.kc_language.specs.Symbols.{added, stands_in, is_symbol_of, all_added, defined_symbols, definitions_of, enclosing_choice, first_of, indices, type_of, prompt_at, symbol_at, symbol_of, stated_type}
+use Rattle.kc_language.specs.Expansion.{attributes, definitions, defined_name}
+use Rattle.kc_language.specs.Statements.{Numbered, ConfigLine}
 use Rattle.kc_build.proofs.ElementLemmas.{found_is, get_snoc, same_is}
 
 -- A symbol stands in a list.

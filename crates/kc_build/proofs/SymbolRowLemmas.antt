@@ -4,19 +4,18 @@ use Rattle.std.specs.List.{slice_get, filter_map, flat_map, cons_option, prefix_
 use Rattle.std.specs.Option.{is_some, option_or, unwrap_or}
 use Rattle.std.proofs.lemmas.List.{length-map, map-append}
 use Rattle.std.proofs.lemmas.List.Elements.{filter_map-append}
-use Rattle.kc_expr.specs.declared.expression.SymbolType.{SymbolType}
-use Rattle.kc_expr.specs.declared.expression.SymbolType.TheVariants as symbol_type
-use Rattle.kc_expr.specs.declared.expression.SymId.{SymId}
-use Rattle.kc_expr.specs.Names.{symbol}
-use Rattle.kc_read.specs.Blocks.{attributes, is_attribute, numbers}
+use Rattle.kc_language.specs.declared.expressions.SymbolType.{SymbolType}
+use Rattle.kc_language.specs.declared.expressions.SymbolType.TheVariants as symbol_type
+use Rattle.kc_language.specs.declared.expressions.SymId.{SymId}
+use Rattle.kc_language.specs.Expressions.{symbol}
+use Rattle.kc_language.specs.Expansion.{attributes, is_attribute, numbers}
 use Rattle.kc_read.specs.declared.statement.Head.{Head}
 use Rattle.kc_read.specs.declared.statement.Head.TheVariants as made
 use Rattle.kc_read.specs.StatementViews.{head_view}
-use Rattle.kc_read.specs.Statements.{Numbered}
-use Rattle.kc_tree.specs.declared.rows.ChoiceId.{ChoiceId}
+use Rattle.kc_language.specs.Statements.{Numbered}
+use Rattle.kc_language.specs.declared.symbols.ChoiceId.{ChoiceId}
 use Rattle.kc_tree.specs.declared.rows.Symbol.{Symbol}
-use Rattle.kc_tree.specs.Common.{is_symbol_of}
-use Rattle.kc_build.specs.Facts.{choice_of, enclosing_choice, definitions_of, first_of, type_of, symbol_at, symbol_of, stated_type}
+use Rattle.kc_language.specs.Symbols.{is_symbol_of, choice_of, enclosing_choice, definitions_of, first_of, type_of, symbol_at, symbol_of, stated_type}
 use Rattle.kc_build.specs.SymbolRows.{AreSymbols, AreTypesDefined, SymbolRow, definition_number, row_of, row_view}
 use Rattle.kc_build.specs.Passes.{change, changed}
 use Rattle.kc_build.specs.SymbolWalk.{AreRowsBefore, HaveMemberTypes, defined_before, entry_type, first_given_type, row_before, row_by, with_member_type, unknown, with_definition}

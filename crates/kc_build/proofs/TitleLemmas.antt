@@ -3,10 +3,10 @@ use Rattle.std.proofs.Common.{◌≡◌, ℕ, suc, ◌+◌, ◌*◌, ◌<◌, �
 use Rattle.std.specs.List.{slice_get, filter_map, cons_option}
 use Rattle.std.proofs.lemmas.List.{append-nil, length_push, nil_from_length}
 use Rattle.std.proofs.lemmas.List.Elements.{All-cons, All-nil}
-use Rattle.kc_expr.specs.Form.{Form}
-use Rattle.kc_read.specs.declared.statement.Block.TheVariants as block
-use Rattle.kc_read.specs.Blocks.{attributes}
-use Rattle.kc_read.specs.Statements.{Numbered, CommentLine, MenuLine}
+use Rattle.kc_language.specs.Expressions.{Form}
+use Rattle.kc_language.specs.declared.statements.Block.TheVariants as block
+use Rattle.kc_language.specs.Expansion.{attributes}
+use Rattle.kc_language.specs.Statements.{Numbered, CommentLine, MenuLine}
 use Rattle.kc_tree.specs.declared.rows.ContextId.{ContextId}
 use Rattle.kc_tree.specs.declared.rows.ShownEntry.{ShownEntry}
 use Rattle.kc_tree.specs.declared.rows.ShownEntry.TheVariants as entry
@@ -14,8 +14,7 @@ use Rattle.kc_tree.specs.declared.rows.Title.{Title}
 use Rattle.kc_tree.specs.declared.rows.TitleId.{TitleId}
 use Rattle.kc_tree.specs.Contexts.{condition_in}
 use Rattle.kc_tree.specs.Layouts.{shown_of, shown_when as shown_in, title_condition, title_text, with_conjuncts}
-use Rattle.kc_tree.specs.TreeFacts.{Condition, CommentShown, MenuShown, Shown}
-use Rattle.kc_build.specs.Facts.{block_conjuncts, choice_number, dependency, depends_form, shown_at, shown_number, of_block, own_dependencies, own_visible, shown_when, symbol_of, title_of, visible_form, enclosing_visible}
+use Rattle.kc_language.specs.Symbols.{Condition, CommentShown, MenuShown, Shown, block_conjuncts, choice_number, dependency, depends_form, shown_at, shown_number, of_block, own_dependencies, own_visible, shown_when, symbol_of, title_of, visible_form, enclosing_visible}
 use Rattle.kc_build.specs.Growth.{IsGrown, Stands}
 use Rattle.kc_build.specs.Scopes.{block_visible}
 use Rattle.kc_build.specs.WalkResult.{IsEntryThere, IsTitleThere}

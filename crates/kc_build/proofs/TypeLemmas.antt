@@ -1,19 +1,18 @@
 -- What the first walk knows of the symbols is what the statements say of all.
 use Rattle.std.proofs.Common.{◌≡◌, ℕ, zero, suc, ◌<◌, ◌≤◌, Bool, false, List, [], length, filter, map, Option, Some, None, refl, ap, sym, ◌∙◌, arith, inl, inr, add-one}
-use Rattle.std.specs.Prelude.{◌⊎◌}
+use Rattle.std.specs.Prelude.{◌⊎◌, option_map}
 use Rattle.std.specs.List.{slice_get}
-use Rattle.std.specs.Option.{option_map, option_and_then, unwrap_or}
+use Rattle.std.specs.Option.{option_and_then, unwrap_or}
 use Rattle.std.proofs.lemmas.Bool.{ne_eqb}
 use Rattle.std.proofs.lemmas.Option.{slice_get-map, slice_get_past}
-use Rattle.kc_expr.specs.declared.expression.SymId.{SymId}
-use Rattle.kc_expr.specs.declared.expression.SymbolType.{SymbolType}
-use Rattle.kc_expr.specs.declared.expression.SymbolType.TheVariants as symbol_type
-use Rattle.kc_read.specs.Statements.{Numbered}
-use Rattle.kc_read.specs.Blocks.{numbers}
-use Rattle.kc_tree.specs.declared.rows.ChoiceId.{ChoiceId}
+use Rattle.kc_language.specs.declared.expressions.SymId.{SymId}
+use Rattle.kc_language.specs.declared.expressions.SymbolType.{SymbolType}
+use Rattle.kc_language.specs.declared.expressions.SymbolType.TheVariants as symbol_type
+use Rattle.kc_language.specs.Statements.{Numbered}
+use Rattle.kc_language.specs.Expansion.{numbers}
+use Rattle.kc_language.specs.declared.symbols.ChoiceId.{ChoiceId}
 use Rattle.kc_tree.specs.declared.rows.Symbol.{Symbol}
-use Rattle.kc_tree.specs.Common.{is_symbol_of}
-use Rattle.kc_build.specs.Facts.{symbol_at, type_of, choice_of, definitions_of}
+use Rattle.kc_language.specs.Symbols.{is_symbol_of, symbol_at, type_of, choice_of, definitions_of}
 use Rattle.kc_build.specs.SymbolRows.{AreBelow, AreSymbols, SymbolRow, type_by, choice_by, row_of, row_view}
 use Rattle.kc_build.proofs.MemberLemmas.{below_or_past}
 use Rattle.kc_build.proofs.PlaceLemmas.{filter-next, get-map_numbers, length-map_numbers}

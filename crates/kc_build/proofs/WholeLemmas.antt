@@ -1,34 +1,22 @@
 -- What holds of every tree.
 use Rattle.std.proofs.Common.{◌≡◌, ◌≢◌, ℕ, zero, suc, ◌<◌, nat_le, get_or, Bool, true, false, ◌&&◌, ◌||◌, if◌then◌else◌, List, [], ◌∷◌, ◌++◌, length, map, Option, Some, None, Ok, refl, ap, sym, ◌∙◌, subst, arith}
-use Rattle.std.specs.Prelude.{All, Contains}
+use Rattle.std.specs.Prelude.{All, Contains, option_map}
 use Rattle.std.specs.List.{slice_get, list_any, list_all, flat_map, AllByRecursion, IsDistinct}
-use Rattle.std.specs.Option.{option_map}
 use Rattle.std.proofs.lemmas.Bool.Decides.{nat_tests}
 use Rattle.std.proofs.lemmas.List.Elements.{All-nil, All-cons, All-head, All-from_recursion, Contains-get_or, filter_passes}
 use Rattle.std.proofs.lemmas.Option.{slice_get-map, slice_get_within}
-use Rattle.kc_expr.specs.declared.expression.SymId.{SymId}
-use Rattle.kc_expr.specs.Names.{AreDistinct, number_of, same_name, symbol}
-use Rattle.kc_expr.specs.DistinctSymbols.{stands_in}
-use Rattle.kc_expr.specs.Grammar.{if_word, is_tristate_constant}
+use Rattle.kc_language.specs.declared.expressions.SymId.{SymId}
+use Rattle.kc_expr.specs.Names.{AreDistinct}
+use Rattle.kc_language.specs.Expressions.{number_of, same_name, symbol, if_word, is_tristate_constant, is_name_byte}
+use Rattle.kc_language.specs.Symbols.{stands_in, Condition, EndShown, MenuShown, SymbolFacts, TreeFacts, listed, entries, enclosing_choice, choice_of, type_of, of_block, symbol_facts, indices, facts_with, modules_symbol, symbol_if, is_first_definition_at, bad_members, bad_defaults, is_bad_member, entry_name, whole_list_refusals, menu_entry_at, entry_symbol, refused_at}
 use Rattle.kc_expr.proofs.NamesLemmas.{same_name-refl}
-use Rattle.kc_expr.specs.declared.expression.SymbolType.TheVariants as symbol_type
-use Rattle.kc_diagnostics.specs.Causes.{Cause}
-use Rattle.kc_diagnostics.specs.declared.cause.Cause.TheVariants as cause
-use Rattle.kc_read.specs.declared.statement.Block.TheVariants as block
-use Rattle.kc_read.specs.Files.{Files}
-use Rattle.kc_read.specs.Expansion.{Expands, Log, Refused, refused, defined}
-use Rattle.kc_expr.specs.Names.{is_name_byte}
-use Rattle.kc_read.specs.Lines.{is_good_name}
-use Rattle.kc_read.specs.Blocks.{definitions}
-use Rattle.kc_read.specs.Numbering.{names_of, numbered_lines}
+use Rattle.kc_language.specs.declared.expressions.SymbolType.TheVariants as symbol_type
+use Rattle.kc_language.specs.Statements.{Cause, is_good_name, Named, Numbered, Located, statements}
+use Rattle.kc_language.specs.declared.diagnostics.Cause.TheVariants as cause
+use Rattle.kc_language.specs.declared.statements.Block.TheVariants as block
+use Rattle.kc_language.specs.Expansion.{Files, Expands, Log, Refused, refused, defined, definitions, names_of, numbered_lines}
 use Rattle.kc_read.proofs.NameLemmas.{known_at}
-use Rattle.kc_read.specs.Statements.{Named, Numbered, Located, statements}
-use Rattle.kc_tree.specs.TreeFacts.{Condition, EndShown, MenuShown, SymbolFacts, TreeFacts, IsMentioned, IsSymbolName, IsWellFormed}
-use Rattle.kc_tree.specs.Common.{listed}
-use Rattle.kc_build.specs.Facts.{entries, enclosing_choice, choice_of, type_of, of_block, symbol_facts, indices}
-use Rattle.kc_build.specs.Trees.{facts_with, modules_symbol, symbol_if}
-use Rattle.kc_build.specs.FirstDefinitions.{is_first_definition_at}
-use Rattle.kc_build.specs.Warnings.{bad_members, bad_defaults, is_bad_member, entry_name, whole_list_refusals, menu_entry_at, entry_symbol, refused_at}
+use Rattle.kc_tree.specs.TreeFacts.{IsMentioned, IsSymbolName, IsWellFormed}
 use Rattle.kc_build.proofs.DefinedLemmas.{AreNames}
 use Rattle.kc_build.proofs.ElementLemmas.{All-at, found_is}
 use Rattle.kc_build.proofs.EntrySoundLemmas.{entries_sound}

@@ -1,14 +1,12 @@
 -- For proofs: What the entries before a place say.
-use Rattle.std.specs.Prelude.{ℕ, List, codes, filter, map, take, Option, slice_get, unwrap_or}
-use Rattle.std.specs.Option.{option_map}
+use Rattle.std.specs.Prelude.{ℕ, List, codes, filter, map, take, Option, slice_get, unwrap_or, option_map}
 use Rattle.std.specs.List.{filter_map, flat_map}
-use Rattle.kc_expr.specs.declared.expression.SymId.{SymId}
-use Rattle.kc_read.specs.Blocks.{attributes, last_of, numbers}
-use Rattle.kc_read.specs.Statements.{Numbered}
-use Rattle.kc_read.specs.declared.statement.Block.TheVariants as block
-use Rattle.kc_build.specs.Facts.{StatedDefault, choice_number, defaults_at, dependency, shown_at, stated_default, imply_of, is_member_index, guarded_symbol, naming_at, of_block, prompt_at, guarded_range, select_of, single_symbol, symbol_at, title_of}
+use Rattle.kc_language.specs.declared.expressions.SymId.{SymId}
+use Rattle.kc_language.specs.Expansion.{attributes, last_of, numbers}
+use Rattle.kc_language.specs.Statements.{Numbered}
+use Rattle.kc_language.specs.declared.statements.Block.TheVariants as block
+use Rattle.kc_language.specs.Symbols.{StatedDefault, choice_number, defaults_at, dependency, shown_at, stated_default, imply_of, is_member_index, guarded_symbol, naming_at, of_block, prompt_at, guarded_range, select_of, single_symbol, symbol_at, title_of, Guarded, ChoiceFacts, Shown}
 use Rattle.kc_tree.specs.Layouts.{DefinitionFacts}
-use Rattle.kc_tree.specs.TreeFacts.{Guarded, ChoiceFacts, Shown}
 
 module _ (ss : List Numbered) where
   -- the definition that begins at a place; those that begin before a place

@@ -1,6 +1,6 @@
 -- For proofs: The rows of choices, and their defaults that name members.
 use Rattle.std.specs.Prelude.{◌≡◌, ℕ, suc, List, [], ◌∷◌, filter, map, Option}
-use Rattle.kc_expr.specs.declared.expression.SymId.{SymId}
+use Rattle.kc_language.specs.declared.expressions.SymId.{SymId}
 use Rattle.kc_tree.specs.declared.rows.Choice.{Choice}
 use Rattle.kc_tree.specs.declared.rows.ChoiceDefault.{ChoiceDefault}
 use Rattle.kc_tree.specs.declared.rows.ContextId.{ContextId}

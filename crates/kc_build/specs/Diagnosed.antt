@@ -1,16 +1,15 @@
 -- For proofs: What lines have against them, as they are diagnosed.
-use Rattle.std.specs.Prelude.{◌≡◌, ℕ, ◌||◌, Bool, false, List, [], ◌∷◌, ◌++◌, map, is_some, Option}
-use Rattle.std.specs.Option.{option_map, option_or}
-use Rattle.kc_read.specs.Expansion.{Refused}
-use Rattle.kc_read.specs.Statements.{Numbered, Located}
+use Rattle.std.specs.Prelude.{◌≡◌, ℕ, ◌||◌, Bool, false, List, [], ◌∷◌, ◌++◌, map, is_some, Option, option_map}
+use Rattle.std.specs.Option.{option_or}
+use Rattle.kc_language.specs.Expansion.{Refused}
+use Rattle.kc_language.specs.Statements.{Numbered, Located}
 use Rattle.kc_read.specs.RefusalView.{refusal_view}
 use Rattle.kc_build.specs.declared.diagnostics.Diagnostics.{Diagnostics}
 use Rattle.kc_build.specs.declared.diagnostics.EntrySummary.{EntrySummary}
 use Rattle.kc_tree.specs.declared.rows.Symbol.{Symbol}
-use Rattle.kc_build.specs.Facts.{prompt_of}
+use Rattle.kc_language.specs.Symbols.{prompt_of, line_of}
 use Rattle.kc_build.specs.SymbolRows.{line_warnings_in}
 use Rattle.kc_build.specs.WholeListRefusals.{bad_member_of, bad_default_of}
-use Rattle.kc_build.specs.Warnings.{line_of}
 
 -- by values: the warnings, the first bad member, the first bad default
 pub record Diagnosis : Type 0 where

@@ -1,13 +1,13 @@
 -- For proofs: What the attributes of an entry give to the tables.
-use Rattle.std.specs.Prelude.{ℕ, Option, Some, None}
-use Rattle.std.specs.Option.{option_map, option_and_then}
-use Rattle.kc_expr.specs.declared.expression.SymId.{SymId}
-use Rattle.kc_expr.specs.Form.{Form, Leaf}
+use Rattle.std.specs.Prelude.{ℕ, Option, Some, None, option_map}
+use Rattle.std.specs.Option.{option_and_then}
+use Rattle.kc_language.specs.declared.expressions.SymId.{SymId}
+use Rattle.kc_language.specs.Expressions.{Form, Leaf}
 use Rattle.kc_expr.specs.When.{when_view}
-use Rattle.kc_read.specs.Statements.{Numbered, RangeLine}
+use Rattle.kc_language.specs.Statements.{Numbered, RangeLine}
 use Rattle.kc_tree.specs.declared.rows.ChoiceDefault.{ChoiceDefault}
 use Rattle.kc_tree.specs.declared.rows.EntryPrompt.{EntryPrompt}
-use Rattle.kc_build.specs.Facts.{StatedDefault, stated_default, single_symbol}
+use Rattle.kc_language.specs.Symbols.{StatedDefault, stated_default, single_symbol}
 pub use Rattle.kc_tree.specs.OwnRows.{default_row, range_row}
 
 -- a prompt by the number of its context; a choice's default

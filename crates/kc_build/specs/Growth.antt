@@ -1,7 +1,7 @@
 -- For proofs: How the conditions of contexts grow by an entry.
 use Rattle.std.specs.Prelude.{◌≡◌, ◌<◌, ◌≤◌, ◌+◌, ℕ, List, [], ◌∷◌, ◌++◌, length, Option, Some, None}
-use Rattle.kc_expr.specs.Form.{Form}
-use Rattle.kc_tree.specs.TreeFacts.{Condition}
+use Rattle.kc_language.specs.Expressions.{Form}
+use Rattle.kc_language.specs.Symbols.{Condition}
 use Rattle.kc_tree.specs.Contexts.{and_also, condition_in}
 
 -- a condition stands at a number

@@ -2,8 +2,6 @@ pub mod PartsView
 pub mod Before
 pub mod Diagnosed
 pub mod EntryLines
-pub mod Facts
-pub mod FirstDefinitions
 pub mod Growth
 pub mod SymbolRows
 pub mod WholeListRefusals
@@ -16,11 +14,9 @@ pub mod Scopes
 pub mod WalkResult
 pub mod Stacks
 pub mod SymbolWalk
-pub mod Targets
 pub mod Trees
 pub mod WalkSteps
 pub mod Walks
-pub mod Warnings
 pub mod ChoiceRows
 pub mod Suspected
 pub mod Walked

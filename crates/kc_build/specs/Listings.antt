@@ -1,13 +1,10 @@
 -- Trusted: The lines of a root file, with their names numbered.
 use Rattle.std.specs.Prelude.{◌≡◌, ℕ, List, Ok}
-use Rattle.kc_read.specs.Expansion.{Log, Expands}
-use Rattle.kc_read.specs.Files.{Files}
-use Rattle.kc_read.specs.Statements.{statements}
-use Rattle.kc_read.specs.Numbering.{names_of, numbered_lines}
+use Rattle.kc_language.specs.Expansion.{Log, Expands, Files, names_of, numbered_lines}
+use Rattle.kc_language.specs.Statements.{statements}
 use Rattle.kc_read.specs.Entries.{lines_in}
 use Rattle.kc_build.specs.declared.listing.Listing.{Listing}
-use Rattle.kc_build.specs.Facts.{defined_symbols}
-use Rattle.kc_build.specs.Trees.{modules_symbol}
+use Rattle.kc_language.specs.Symbols.{defined_symbols, modules_symbol}
 
 -- the lines of this expanded list, its names, the symbols that it defines and the one that stands for modules
 pub record IsListing (log : Log) (l : Listing) : Type 0 where

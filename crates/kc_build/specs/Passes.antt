@@ -1,17 +1,17 @@
 -- For proofs: Words for the passes over the list of lines.
-use Rattle.std.specs.Prelude.{ℕ, zero, suc, List, [], ◌∷◌, map, Option, Some, None}
-use Rattle.std.specs.Prelude.{option_map}
-use Rattle.kc_expr.specs.declared.expression.SymId.{SymId}
-use Rattle.kc_expr.specs.Form.{Form, form_of}
+use Rattle.std.specs.Prelude.{ℕ, zero, suc, List, [], ◌∷◌, map, Option, Some, None, option_map}
+use Rattle.kc_language.specs.declared.expressions.SymId.{SymId}
+use Rattle.kc_language.specs.Expressions.{Form}
+use Rattle.kc_expr.specs.Form.{form_of}
 use Rattle.kc_expr.specs.When.{when_view}
 use Rattle.kc_build.specs.declared.lines.Target.{Target}
-use Rattle.kc_build.specs.declared.lines.SelectOrImply.{SelectOrImply}
-use Rattle.kc_build.specs.Facts as spec
+use Rattle.kc_language.specs.declared.symbols.SelectOrImply.{SelectOrImply}
+use Rattle.kc_language.specs.Symbols as spec
 use Rattle.kc_read.specs.declared.entries.AttributeLine.{AttributeLine}
 use Rattle.kc_read.specs.declared.entries.Entries.{Entries}
 use Rattle.kc_read.specs.Entries.{lines_in}
 use Rattle.kc_read.specs.StatementViews.{attribute_view}
-use Rattle.kc_read.specs.Statements.{Numbered, statements}
+use Rattle.kc_language.specs.Statements.{Numbered, statements}
 use Rattle.kc_tree.specs.declared.rows.SymbolDefault.{SymbolDefault}
 
 -- the statements of attributes; those of entries

@@ -1,14 +1,14 @@
 -- For proofs: Entries about which nothing is to be said, whatever the whole list is.
 use Rattle.std.specs.Prelude.{List, [], ◌∷◌, ◌||◌, ◌&&◌, Bool, true, false, is_none, is_some, not, Option, Some, None}
-use Rattle.kc_expr.specs.declared.expression.SymbolType.{SymbolType}
-use Rattle.kc_expr.specs.declared.expression.SymbolType.TheVariants as symbol_type
-use Rattle.kc_expr.specs.Form.{Form}
-use Rattle.kc_read.specs.Statements.{Numbered, ConfigLine, TypeLine, DefaultLine, DefLine, SelectLine, ImplyLine}
-use Rattle.kc_tree.specs.declared.rows.ChoiceId.{ChoiceId}
+use Rattle.kc_language.specs.declared.expressions.SymbolType.{SymbolType}
+use Rattle.kc_language.specs.declared.expressions.SymbolType.TheVariants as symbol_type
+use Rattle.kc_language.specs.Expressions.{Form}
+use Rattle.kc_language.specs.Statements.{Numbered, ConfigLine, TypeLine, DefaultLine, DefLine, SelectLine, ImplyLine}
+use Rattle.kc_language.specs.declared.symbols.ChoiceId.{ChoiceId}
 use Rattle.kc_build.specs.declared.diagnostics.EntrySummary.{EntrySummary}
-use Rattle.kc_build.specs.declared.diagnostics.MenuEntry.{MenuEntry}
-use Rattle.kc_build.specs.declared.diagnostics.MenuEntry.TheVariants as menu_entry
-use Rattle.kc_build.specs.Facts.{has_text, is_single, prompt_of, same_type}
+use Rattle.kc_language.specs.declared.symbols.MenuEntry.{MenuEntry}
+use Rattle.kc_language.specs.declared.symbols.MenuEntry.TheVariants as menu_entry
+use Rattle.kc_language.specs.Symbols.{has_text, is_single, prompt_of, same_type}
 
 -- a symbol of this type may have this default
 abbrev pub may_have_default : SymbolType → Form → Bool

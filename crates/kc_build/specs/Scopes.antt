@@ -1,11 +1,11 @@
 -- For proofs: The scope of a line: what its enclosing blocks ask for.
 use Rattle.std.specs.Prelude.{ℕ, List, [], ◌++◌, Option, Some, if◌then◌else◌}
 use Rattle.std.specs.List.{flat_map}
-use Rattle.kc_expr.specs.Form.{Form}
-use Rattle.kc_read.specs.declared.statement.Block.TheVariants as block
-use Rattle.kc_read.specs.Statements.{Numbered}
-use Rattle.kc_read.specs.Blocks.{enclosing}
-use Rattle.kc_build.specs.Facts.{of_block, block_conjuncts, own_visible, enclosing_visible, enclosing_choice, enclosing_block}
+use Rattle.kc_language.specs.Expressions.{Form}
+use Rattle.kc_language.specs.declared.statements.Block.TheVariants as block
+use Rattle.kc_language.specs.Statements.{Numbered}
+use Rattle.kc_language.specs.Expansion.{enclosing}
+use Rattle.kc_language.specs.Symbols.{of_block, block_conjuncts, own_visible, enclosing_visible, enclosing_choice, enclosing_block}
 
 pub record Scope : Type 0 where
   pub conjuncts : List Form

@@ -1,23 +1,20 @@
 -- For proofs: The lines that select and imply symbols, as they are added.
-use Rattle.std.specs.Prelude.{◌≡◌, ◌≤◌, ◌<◌, All, ◌+◌, ◌==◌, ◌&&◌, ℕ, Bool, true, false, List, [], ◌∷◌, ◌++◌, length, reverse, if◌then◌else◌, Option, None, slice_get, slice_index_or}
-use Rattle.std.specs.Option.{option_map}
+use Rattle.std.specs.Prelude.{◌≡◌, ◌≤◌, ◌<◌, All, ◌+◌, ◌==◌, ◌&&◌, ℕ, Bool, true, false, List, [], ◌∷◌, ◌++◌, length, reverse, if◌then◌else◌, Option, None, slice_get, slice_index_or, option_map}
 use Rattle.std.specs.List.{filter_map, flat_map}
-use Rattle.kc_expr.specs.declared.expression.SymId.{SymId}
-use Rattle.kc_expr.specs.Form.{Form}
-use Rattle.kc_expr.specs.Names.{symbol}
+use Rattle.kc_language.specs.declared.expressions.SymId.{SymId}
+use Rattle.kc_language.specs.Expressions.{Form, symbol}
 use Rattle.kc_expr.specs.When.{when_view}
-use Rattle.kc_read.specs.Statements.{Numbered}
-use Rattle.kc_build.specs.declared.lines.SelectOrImply.{SelectOrImply}
-use Rattle.kc_build.specs.declared.lines.SelectOrImply.TheVariants as select_or_imply
+use Rattle.kc_language.specs.Statements.{Numbered}
+use Rattle.kc_language.specs.declared.symbols.SelectOrImply.{SelectOrImply}
+use Rattle.kc_language.specs.declared.symbols.SelectOrImply.TheVariants as select_or_imply
 use Rattle.kc_tree.specs.declared.rows.DefinitionId.{DefinitionId}
 use Rattle.kc_tree.specs.declared.rows.Selector.{Selector}
 use Rattle.kc_tree.specs.declared.rows.SelectorId.{SelectorId}
 use Rattle.kc_tree.specs.declared.rows.Symbol.{Symbol}
 use Rattle.kc_tree.specs.declared.selector_rows.SelectorRows.{SelectorRows}
 use Rattle.kc_tree.specs.Chains.{chain_of, chains_of}
-use Rattle.kc_tree.specs.Common.{listed}
+use Rattle.kc_language.specs.Symbols.{listed, target_of}
 use Rattle.kc_build.specs.SymbolRows.{can_be_target}
-use Rattle.kc_build.specs.Targets.{target_of}
 
 -- a line by the number of its definition
 abbrev pub selector_row : Selector → ℕ × Option Form

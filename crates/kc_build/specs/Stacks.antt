@@ -1,13 +1,11 @@
 -- For proofs: What open blocks ask for, by the conditions of the contexts.
-use Rattle.std.specs.Prelude.{◌≡◌, ◌<◌, ℕ, List, [], ◌∷◌, ◌++◌, Some, None, Option, length, map, slice_get}
-use Rattle.std.specs.Option.{option_map}
-use Rattle.kc_expr.specs.Form.{Form}
-use Rattle.kc_read.specs.Blocks.{enclosing}
-use Rattle.kc_read.specs.Statements.{Numbered, ChoiceLine}
+use Rattle.std.specs.Prelude.{◌≡◌, ◌<◌, ℕ, List, [], ◌∷◌, ◌++◌, Some, None, Option, length, map, slice_get, option_map}
+use Rattle.kc_language.specs.Expressions.{Form}
+use Rattle.kc_language.specs.Expansion.{enclosing}
+use Rattle.kc_language.specs.Statements.{Numbered, ChoiceLine}
 use Rattle.kc_tree.specs.Contexts.{HasNoMode, condition_in}
-use Rattle.kc_build.specs.Facts.{shown_number, enclosing_block}
+use Rattle.kc_language.specs.Symbols.{shown_number, enclosing_block, Condition}
 use Rattle.kc_build.specs.Scopes.{scope_at}
-use Rattle.kc_tree.specs.TreeFacts.{Condition}
 use Rattle.kc_tree.specs.declared.rows.Title.{Title}
 use Rattle.kc_build.specs.declared.blocks.BlockScope.{BlockScope}
 use Rattle.kc_build.specs.declared.blocks.Blocks.{Blocks}

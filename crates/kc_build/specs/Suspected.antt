@@ -1,7 +1,7 @@
 -- For proofs: The entries about which there may be a diagnostic, among all.
 use Rattle.std.specs.Prelude.{◌<◌, ℕ, List, [], ◌∷◌, length}
 use Rattle.kc_read.specs.declared.entries.Entries.{Entries}
-use Rattle.kc_read.specs.Blocks.{attributes}
+use Rattle.kc_language.specs.Expansion.{attributes}
 use Rattle.kc_read.specs.Entries.{lines_in}
 use Rattle.kc_build.specs.declared.diagnostics.Diagnostics.{Diagnostics}
 use Rattle.kc_build.specs.declared.suspects.Suspect.{Suspect}

@@ -2,22 +2,19 @@
 use Rattle.std.specs.Prelude.{◌≡◌, ℕ, ◌<◌, List, map, length, Option, Some, None, slice_get, option_map, unwrap_or, ◌==◌, ◌&&◌, nat_lt, is_none, is_some, Bool, true}
 use Rattle.std.specs.List.{filter_map, list_any}
 use Rattle.std.specs.Option.{option_and_then}
-use Rattle.kc_expr.specs.declared.expression.SymId.{SymId}
-use Rattle.kc_expr.specs.declared.expression.SymbolType.{SymbolType}
-use Rattle.kc_expr.specs.declared.expression.SymbolType.TheVariants as symbol_type
-use Rattle.kc_expr.specs.Names.{symbol}
-use Rattle.kc_read.specs.Blocks.{numbers}
-use Rattle.kc_read.specs.Statements.{Numbered, ChoiceLine, EndMenuLine}
+use Rattle.kc_language.specs.declared.expressions.SymId.{SymId}
+use Rattle.kc_language.specs.declared.expressions.SymbolType.{SymbolType}
+use Rattle.kc_language.specs.declared.expressions.SymbolType.TheVariants as symbol_type
+use Rattle.kc_language.specs.Expressions.{symbol}
+use Rattle.kc_language.specs.Expansion.{numbers}
+use Rattle.kc_language.specs.Statements.{Numbered, ChoiceLine, EndMenuLine}
 use Rattle.kc_build.specs.declared.diagnostics.EntrySummary.{EntrySummary}
-use Rattle.kc_tree.specs.declared.rows.ChoiceId.{ChoiceId}
+use Rattle.kc_language.specs.declared.symbols.ChoiceId.{ChoiceId}
 use Rattle.kc_tree.specs.declared.rows.DefinitionId.{DefinitionId}
 use Rattle.kc_tree.specs.declared.rows.Symbol.{Symbol}
-use Rattle.kc_build.specs.declared.warning.Warning.{Warning}
-use Rattle.kc_tree.specs.Common.{listed}
-use Rattle.kc_build.specs.Facts.{type_of, choice_of, enclosing_choice, definitions_of, stated_default, enclosing_block, single_symbol, symbol_at, is_selectable, stated_type}
-use Rattle.kc_build.specs.FirstDefinitions.{is_first_definition_at}
+use Rattle.kc_language.specs.declared.symbols.LineWarning.{LineWarning as Warning}
+use Rattle.kc_language.specs.Symbols.{listed, type_of, choice_of, enclosing_choice, definitions_of, stated_default, enclosing_block, single_symbol, symbol_at, is_selectable, stated_type, is_first_definition_at, menu_entry_at, line_warnings_by}
 use Rattle.kc_tree.specs.Spans.{definition_ids}
-use Rattle.kc_build.specs.Warnings.{menu_entry_at, line_warnings_by}
 
 -- each defined symbol has a number below this one
 abbrev pub AreBelow : ℕ → List Numbered → Type 0

@@ -2,15 +2,14 @@
 use Rattle.std.specs.Prelude.{◌≡◌, ℕ, List, [], ◌∷◌, ◌++◌, filter, map, if◌then◌else◌, is_some, Option, Some, None, unwrap_or}
 use Rattle.std.specs.List.{filter_map}
 use Rattle.std.specs.Option.{option_or}
-use Rattle.kc_expr.specs.declared.expression.SymbolType.{SymbolType}
-use Rattle.kc_expr.specs.declared.expression.SymbolType.TheVariants as symbol_type
-use Rattle.kc_expr.specs.declared.expression.SymId.{SymId}
-use Rattle.kc_expr.specs.Names.{symbol}
-use Rattle.kc_read.specs.Blocks.{attributes, numbers}
-use Rattle.kc_read.specs.Statements.{Numbered}
-use Rattle.kc_tree.specs.Common.{is_symbol_of}
+use Rattle.kc_language.specs.declared.expressions.SymbolType.{SymbolType}
+use Rattle.kc_language.specs.declared.expressions.SymbolType.TheVariants as symbol_type
+use Rattle.kc_language.specs.declared.expressions.SymId.{SymId}
+use Rattle.kc_language.specs.Expressions.{symbol}
+use Rattle.kc_language.specs.Expansion.{attributes, numbers}
+use Rattle.kc_language.specs.Statements.{Numbered}
+use Rattle.kc_language.specs.Symbols.{is_symbol_of, enclosing_choice, first_of, symbol_at, stated_type}
 use Rattle.kc_tree.specs.declared.rows.Symbol.{Symbol}
-use Rattle.kc_build.specs.Facts.{enclosing_choice, first_of, symbol_at, stated_type}
 use Rattle.kc_build.specs.SymbolRows.{SymbolRow, definition_number, row_view}
 use Rattle.kc_build.specs.Passes.{changed}
 

@@ -4,11 +4,11 @@ use Rattle.std.specs.List.{filter_map, flat_map}
 use Rattle.std.specs.Option.{option_and_then}
 use Rattle.std.specs.declared.alloc.Global.{Global}
 use Rattle.std.specs.declared.vec.Vec.{Vec}
-use Rattle.kc_expr.specs.Names.{symbol}
-use Rattle.kc_expr.specs.declared.expression.SymId.{SymId}
-use Rattle.kc_read.specs.Blocks.{attributes, numbers}
-use Rattle.kc_read.specs.Statements.{Numbered, Located, statements}
-use Rattle.kc_diagnostics.specs.declared.cause.Cause.TheVariants as cause
+use Rattle.kc_language.specs.Expressions.{symbol}
+use Rattle.kc_language.specs.declared.expressions.SymId.{SymId}
+use Rattle.kc_language.specs.Expansion.{attributes, numbers}
+use Rattle.kc_language.specs.Statements.{Numbered, Located, statements}
+use Rattle.kc_language.specs.declared.diagnostics.Cause.TheVariants as cause
 use Rattle.kc_build.specs.declared.diagnostics.Diagnostics.{Diagnostics}
 use Rattle.kc_tree.specs.declared.layout.Tables.{Tables}
 use Rattle.kc_tree.specs.declared.rows.Definition.{Definition}
@@ -19,12 +19,10 @@ use Rattle.kc_tree.specs.declared.rows.Symbol.{Symbol}
 use Rattle.kc_tree.specs.declared.rows.Title.{Title}
 use Rattle.kc_build.specs.Before.{definitions_before, entries_before, main_menu_before}
 use Rattle.kc_build.specs.Diagnosed.{diagnosis_view}
-use Rattle.kc_build.specs.Facts.{StatedDefault, choice_lines, choice_number, first_of, guarded_symbol, impliers_of, members_of, prompt_at, selectors_of, single_symbol, stated_default}
+use Rattle.kc_language.specs.Symbols.{StatedDefault, choice_lines, choice_number, first_of, guarded_symbol, impliers_of, members_of, prompt_at, selectors_of, single_symbol, stated_default, ChoiceFacts, Condition, Guarded, bad_defaults, bad_members, refused_at, warned_at}
 use Rattle.kc_build.specs.SymbolRows.{member_by}
 use Rattle.kc_tree.specs.Layouts.{choice_facts as choice_in, definition_facts, impliers_at, selectors_at, shown_of}
 use Rattle.kc_build.specs.SelectorRows.{HaveSources}
-use Rattle.kc_tree.specs.TreeFacts.{ChoiceFacts, Condition, Guarded}
-use Rattle.kc_build.specs.Warnings.{bad_defaults, bad_members, refused_at, warned_at}
 
 -- no table has more rows than twice the lines before a place, and one
 pub record IsSmall (i : ℕ) (t : Tables) : Type 0 where

@@ -1,11 +1,10 @@
 -- For proofs: Steps of the walk within one entry.
-use Rattle.std.specs.Prelude.{◌≡◌, ◌≤◌, ◌+◌, ℕ, List, [], ◌∷◌, ◌++◌, length, map, Option, Some, None}
-use Rattle.std.specs.Option.{option_map}
+use Rattle.std.specs.Prelude.{◌≡◌, ◌≤◌, ◌+◌, ℕ, List, [], ◌∷◌, ◌++◌, length, map, Option, Some, None, option_map}
 use Rattle.std.specs.List.{filter_map}
-use Rattle.kc_expr.specs.declared.expression.SymId.{SymId}
-use Rattle.kc_expr.specs.Form.{Form, Leaf}
-use Rattle.kc_read.specs.Blocks.{last_of}
-use Rattle.kc_read.specs.Statements.{InputPrompt, Numbered}
+use Rattle.kc_language.specs.declared.expressions.SymId.{SymId}
+use Rattle.kc_language.specs.Expressions.{Form, Leaf}
+use Rattle.kc_language.specs.Expansion.{last_of}
+use Rattle.kc_language.specs.Statements.{InputPrompt, Numbered}
 use Rattle.kc_build.specs.declared.walk.EntryWalk.{EntryWalk}
 use Rattle.kc_tree.specs.declared.rows.ContextId.{ContextId}
 use Rattle.kc_tree.specs.declared.rows.ShownEntry.{ShownEntry}
@@ -13,9 +12,8 @@ use Rattle.kc_tree.specs.declared.rows.ShownEntry.TheVariants as entry
 use Rattle.kc_tree.specs.declared.rows.Title.{Title}
 use Rattle.kc_tree.specs.Contexts.{condition_in}
 use Rattle.kc_tree.specs.Layouts.{DefinitionFacts, definition_facts, with_conjuncts, with_when}
-use Rattle.kc_tree.specs.TreeFacts.{ChoiceFacts, Condition}
+use Rattle.kc_language.specs.Symbols.{ChoiceFacts, Condition, prompt_of, depends_form}
 use Rattle.kc_build.specs.EntryLines.{default_line, range_line}
-use Rattle.kc_build.specs.Facts.{prompt_of, depends_form}
 use Rattle.kc_build.specs.Growth.{IsGrown}
 use Rattle.kc_build.specs.Passes.{change}
 use Rattle.kc_build.specs.WalkResult.{AreRowsThere}

@@ -1,13 +1,13 @@
 -- For proofs: The walk at the start of an entry, and behind it.
 use Rattle.std.specs.Prelude.{◌≡◌, ◌⊎◌, ◌<◌, ◌≤◌, ◌+◌, ℕ, Bool, List, drop, map, length, false, Some, slice_get}
-use Rattle.kc_expr.specs.Names.{symbol}
-use Rattle.kc_read.specs.Blocks.{attributes, is_attribute}
+use Rattle.kc_language.specs.Expressions.{symbol}
+use Rattle.kc_language.specs.Expansion.{attributes, is_attribute}
 use Rattle.kc_read.specs.declared.entries.Entries.{Entries}
 use Rattle.kc_read.specs.Entries.{lines_from, lines_in}
-use Rattle.kc_read.specs.Statements.{Numbered}
+use Rattle.kc_language.specs.Statements.{Numbered}
 use Rattle.kc_build.specs.declared.walk.EntryWalk.{EntryWalk}
 use Rattle.kc_build.specs.Before.{choices_before, definitions_before, entries_before, impliers_before, main_menu_before, selectors_before}
-use Rattle.kc_build.specs.FirstDefinitions.{is_first_definition_at}
+use Rattle.kc_language.specs.Symbols.{is_first_definition_at}
 use Rattle.kc_build.specs.SymbolRows.{AreMenusOpened}
 use Rattle.kc_tree.specs.Layouts.{choice_facts as choice_in, definition_facts, impliers_at, selectors_at, shown_of}
 use Rattle.kc_build.specs.WalkResult.{AreRowsThere, HasHeads, IsSmall}

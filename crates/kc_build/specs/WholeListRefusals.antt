@@ -1,15 +1,14 @@
 -- For proofs: Refusals that the whole list shows, as the code makes them.
 use Rattle.std.specs.Prelude.{ℕ, List, Option, Some, None, option_map, if◌then◌else◌}
-use Rattle.kc_diagnostics.specs.Causes.{Cause}
-use Rattle.kc_diagnostics.specs.declared.cause.Cause.TheVariants as cause
-use Rattle.kc_read.specs.Expansion.{Refused, refused}
-use Rattle.kc_read.specs.Statements.{Numbered, Located}
-use Rattle.kc_build.specs.declared.diagnostics.MenuEntry.{MenuEntry}
+use Rattle.kc_language.specs.Statements.{Cause, Numbered, Located}
+use Rattle.kc_language.specs.declared.diagnostics.Cause.TheVariants as cause
+use Rattle.kc_language.specs.Expansion.{Refused, refused}
+use Rattle.kc_language.specs.declared.symbols.MenuEntry.{MenuEntry}
 use Rattle.kc_build.specs.declared.diagnostics.EntrySummary.{EntrySummary}
-use Rattle.kc_tree.specs.declared.rows.ChoiceId.{ChoiceId}
+use Rattle.kc_language.specs.declared.symbols.ChoiceId.{ChoiceId}
 use Rattle.kc_tree.specs.declared.rows.Symbol.{Symbol}
 use Rattle.kc_build.specs.SymbolRows.{choice_by, type_by}
-use Rattle.kc_build.specs.Warnings.{entry_name, entry_symbol, is_bad_default, is_bad_member}
+use Rattle.kc_language.specs.Symbols.{entry_name, entry_symbol, is_bad_default, is_bad_member}
 
 -- the refusal of a line at a place, which names its entry
 abbrev pub entry_refusal : List (List ℕ) → (List ℕ → Cause) → MenuEntry → List ℕ → ℕ → Refused

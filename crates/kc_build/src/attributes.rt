@@ -2,13 +2,14 @@
 
 ghost use Rattle.std.specs.Prelude.{◌≡◌, ◌<◌, ◌≤◌, ◌+◌, ◌++◌, ◌^◌, length, map, option_map, IfOk, OnErr, OnOk};
 ghost use Rattle.std.specs.List.{filter_map};
-ghost use Rattle.kc_read.specs.Blocks as blocks;
+ghost use Rattle.kc_language.specs.Expansion as blocks;
 ghost use Rattle.kc_read.specs.StatementViews.{attribute_view, input_prompt_view};
-ghost use Rattle.kc_tree.specs.Common.{listed};
+ghost use Rattle.kc_language.specs.Symbols.{listed};
 ghost use Rattle.kc_tree.specs.Contexts.{condition_in};
-ghost use Rattle.kc_build.specs.Facts as facts;
+ghost use Rattle.kc_language.specs.Symbols as facts;
 ghost use Rattle.kc_build.specs.Growth.{IsGrown, IsInside, Stands};
-ghost use Rattle.kc_build.specs.EntryLines.{prompt_line, default_line, range_line, named_line, choice_default_line, default_row, range_row};
+ghost use Rattle.kc_build.specs.EntryLines.{prompt_line, default_line, range_line, named_line, choice_default_line};
+ghost use Rattle.kc_tree.specs.OwnRows.{default_row, range_row};
 ghost use Rattle.kc_build.specs.Passes.{statements_of};
 ghost use Rattle.kc_tree.specs.Layouts.{with_conjuncts};
 

@@ -1,18 +1,16 @@
 //! The tree of a root file.
 
 ghost use Rattle.std.specs.Prelude.{◌≡◌, ◌≢◌, ◌<◌, ◌≤◌, ◌+◌, ◌*◌, ◌^◌, ℕ, List, length, map, IfOk, IfErr, OnOk, Ok, Err};
-ghost use Rattle.kc_expr.specs.DistinctSymbols.{stands_in};
-ghost use Rattle.kc_read.specs.Files.{Files, bytes_in};
+ghost use Rattle.kc_language.specs.Symbols.{stands_in, defined_symbols, IsTreeOf, modules_symbol, symbol_if, tree_with};
+ghost use Rattle.kc_language.specs.Expansion.{Files, bytes_in};
 ghost use Rattle.kc_read.specs.RefusalView.{IsMemory, refusal_view};
 ghost use Rattle.kc_read.specs.Entries.{lines_in};
-ghost use Rattle.kc_diagnostics.specs.declared.cause.Cause.TheVariants.{Memory};
-ghost use Rattle.kc_build.specs.Facts.{defined_symbols};
+ghost use Rattle.kc_language.specs.declared.diagnostics.Cause.TheVariants.{Memory};
 ghost use Rattle.kc_build.specs.Limits.{most_names};
 ghost use Rattle.kc_build.specs.Listings.{IsListingOf};
 ghost use Rattle.kc_build.specs.PartsView.{parts_view};
 ghost use Rattle.kc_build.specs.Passes.{statements_in};
 ghost use Rattle.kc_build.specs.SymbolRows.{AreBelow, AreChoicesApart, AreMenusOpened, AreTypesDefined};
-ghost use Rattle.kc_build.specs.Trees.{IsTreeOf, modules_symbol, symbol_if, tree_with};
 
 use crate::entries::walk_entries;
 use crate::listing::{Listing, read_listing};

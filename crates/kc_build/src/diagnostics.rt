@@ -8,33 +8,26 @@ ghost use Rattle.kc_read.specs.StatementViews.{attribute_view, head_view};
 ghost use Rattle.kc_read.specs.RefusalView.{refusal_view};
 ghost use Rattle.kc_build.specs.Diagnosed.{IsLineDiagnosed, AreLinesDiagnosed};
 ghost use Rattle.kc_build.specs.WalkResult.{HasOnlyWarnings};
-ghost use Rattle.kc_build.specs.Facts as facts;
-ghost use Rattle.kc_tree.specs.Common.{listed};
+ghost use Rattle.kc_language.specs.Symbols as facts;
+ghost use Rattle.kc_language.specs.Symbols.{listed};
 ghost use Rattle.kc_build.specs.SymbolRows.{type_by, choice_by, member_by, default_symbol, line_warnings_in};
 ghost use Rattle.kc_build.specs.WholeListRefusals as entry_refusal;
-ghost use Rattle.kc_build.specs.Warnings as spec;
+ghost use Rattle.kc_language.specs.Symbols as spec;
 
 use crate::lines::{
     is_single, prompt_of, single_symbol, stated_default, stated_type, symbol_of, target_of,
 };
 use crate::symbols::{choice_of, has_text, is_member, type_of};
-use crate::warning::{Place, Warning, entry_name, line_of};
+use crate::warning::{LineWarning, Place, entry_name, line_of};
 use kc_diagnostics::Cause;
 use kc_expr::expression::{SymId, SymbolType};
 use kc_expr::names::Names;
+pub(crate) use kc_language::symbols::MenuEntry;
 use kc_read::entries::{Entry, EntryLines};
 use kc_read::refusal::Refusal;
 use kc_read::statement::{Attribute, Head};
 use kc_tree::rows::{ChoiceId, Symbol};
 use std::alloc::{AllocError, Global};
-
-/// The menu entry that a line belongs to: a symbol's, a choice's, or another.
-#[derive(Clone, Copy, Debug, PartialEq, Eq)]
-pub(crate) enum MenuEntry {
-    Symbol(SymId),
-    Choice(ChoiceId),
-    Other,
-}
 
 /// What is known of an entry when its lines are diagnosed: whose it is, whether it is the first definition of its symbol, and
 /// the choice that it stands in.
@@ -75,24 +68,28 @@ fn entry_choice(entry: MenuEntry) -> Option<ChoiceId>
 }
 
 // A type line whose type is not the symbol's.
-fn type_redefined(attribute: &Attribute, entry: MenuEntry, symbols: &[Symbol]) -> Option<Warning>
+fn type_redefined(
+    attribute: &Attribute,
+    entry: MenuEntry,
+    symbols: &[Symbol],
+) -> Option<LineWarning>
     ensures { listed result ≡ spec.type_redefined (type_by symbols.now) entry (attribute_view attribute.now) }
 {
     match (entry_symbol(entry), stated_type(attribute)) {
         (Some(symbol), Some(symbol_type)) => {
-            (symbol_type != type_of(symbols, symbol)).then_some(Warning::TypeRedefined(symbol))
+            (symbol_type != type_of(symbols, symbol)).then_some(LineWarning::TypeRedefined(symbol))
         }
         _ => None,
     }
 }
 
 // A second prompt in one entry.
-fn prompt_redefined(attribute: &Attribute, entry: MenuEntry, prompted: bool) -> Option<Warning>
+fn prompt_redefined(attribute: &Attribute, entry: MenuEntry, prompted: bool) -> Option<LineWarning>
     ensures { listed result ≡ spec.prompt_redefined entry prompted (attribute_view attribute.now) }
 {
-    (prompt_of(attribute).is_some() && prompted).then_some(Warning::PromptRedefined(entry_symbol(
-        entry,
-    )))
+    (prompt_of(attribute).is_some() && prompted).then_some(LineWarning::PromptRedefined(
+        entry_symbol(entry),
+    ))
 }
 
 /// Whether a prompt stands among the lines of an entry up to this one; `prompted` says so of those before it.
@@ -110,11 +107,11 @@ fn has_type(symbol: SymId, symbols: &[Symbol]) -> bool
 }
 
 // The first definition of a symbol without a type.
-fn without_type(head: &Head, first: bool, symbols: &[Symbol]) -> Option<Warning>
+fn without_type(head: &Head, first: bool, symbols: &[Symbol]) -> Option<LineWarning>
     ensures { listed result ≡ spec.without_type (type_by symbols.now) (choice_by symbols.now) first (head_view head.now) }
 {
     match symbol_of(head) {
-        Some(symbol) => (first && !has_type(symbol, symbols)).then_some(Warning::WithoutType(
+        Some(symbol) => (first && !has_type(symbol, symbols)).then_some(LineWarning::WithoutType(
             symbol,
         )),
         None => None,
@@ -122,11 +119,11 @@ fn without_type(head: &Head, first: bool, symbols: &[Symbol]) -> Option<Warning>
 }
 
 // A select or imply of a symbol whose value is a text.
-fn text_target(attribute: &Attribute, symbols: &[Symbol]) -> Option<Warning>
+fn text_target(attribute: &Attribute, symbols: &[Symbol]) -> Option<LineWarning>
     ensures { listed result ≡ spec.text_target (type_by symbols.now) (attribute_view attribute.now) }
 {
     match target_of(attribute) {
-        Some(target) => has_text(type_of(symbols, target.symbol)).then_some(Warning::TextTarget(
+        Some(target) => has_text(type_of(symbols, target.symbol)).then_some(LineWarning::TextTarget(
             target.symbol,
             target.word,
         )),
@@ -135,13 +132,13 @@ fn text_target(attribute: &Attribute, symbols: &[Symbol]) -> Option<Warning>
 }
 
 // A select or imply of a member of a choice.
-fn member_target(attribute: &Attribute, symbols: &[Symbol]) -> Option<Warning>
+fn member_target(attribute: &Attribute, symbols: &[Symbol]) -> Option<LineWarning>
     ensures { listed result ≡ spec.member_target (choice_by symbols.now) (attribute_view attribute.now) }
 {
     match target_of(attribute) {
         Some(target) => choice_of(symbols, target.symbol)
             .is_some()
-            .then_some(Warning::MemberTarget(target.symbol, target.word)),
+            .then_some(LineWarning::MemberTarget(target.symbol, target.word)),
         None => None,
     }
 }
@@ -161,12 +158,12 @@ fn default_not_member(
     attribute: &Attribute,
     entry: MenuEntry,
     symbols: &[Symbol],
-) -> Option<Warning>
+) -> Option<LineWarning>
     ensures { listed result ≡ spec.default_not_member (member_by symbols.now) entry (attribute_view attribute.now) }
 {
     match (entry_choice(entry), default_symbol(attribute)) {
         (Some(choice), Some(symbol)) => {
-            (!is_member(symbols, choice, symbol)).then_some(Warning::DefaultNotMember(symbol))
+            (!is_member(symbols, choice, symbol)).then_some(LineWarning::DefaultNotMember(symbol))
         }
         _ => None,
     }
@@ -178,7 +175,7 @@ fn warnings_of(
     summary: EntrySummary,
     prompted: bool,
     symbols: &[Symbol],
-) -> (Option<Warning>, Option<Warning>)
+) -> (Option<LineWarning>, Option<LineWarning>)
     ensures { listed result.0 ++ listed result.1 ≡ line_warnings_in symbols.now summary prompted (attribute_view attribute.now) }
 {
     let entry = summary.entry;
@@ -253,7 +250,7 @@ fn warn(
     alloc: Global,
     names: &Names,
     place: Place<'_>,
-    warning: Option<Warning>,
+    warning: Option<LineWarning>,
     out: &mut Vec<Vec<u8>>,
 ) -> Result<(), AllocError>
     ensures { OnOk result (map (λ v. v.items) out.new.items ≡ map (λ v. v.items) out.old.items

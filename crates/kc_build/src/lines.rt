@@ -4,23 +4,17 @@ ghost use Rattle.std.specs.Prelude.{◌≡◌, option_map, Some};
 ghost use Rattle.kc_expr.specs.Form.{form_of};
 ghost use Rattle.kc_expr.specs.When.{when_view};
 ghost use Rattle.kc_read.specs.StatementViews.{attribute_view, head_view, input_prompt_view};
-ghost use Rattle.kc_build.specs.Facts as facts;
+ghost use Rattle.kc_language.specs.Symbols as facts;
 ghost use Rattle.kc_tree.specs.OwnRows.{range_row};
 ghost use Rattle.kc_build.specs.Passes.{stated_default_view, target_view};
 ghost use Rattle.kc_build.specs.EntryLines.{range_line};
-ghost use Rattle.kc_build.specs.Targets as targets;
+ghost use Rattle.kc_language.specs.Symbols as targets;
 
 use kc_expr::expression::{Expr, Operand, SymId, SymbolType};
+pub(crate) use kc_language::symbols::SelectOrImply;
 use kc_read::statement::{Attribute, Head, Prompt};
 use kc_tree::rows::{SymbolDefault, SymbolRange};
 use std::rc::Rc;
-
-/// Which of the two a line is: one that selects a symbol, or one that implies it.
-#[derive(Clone, Copy, Debug, PartialEq, Eq)]
-pub(crate) enum SelectOrImply {
-    Select,
-    Imply,
-}
 
 /// A `select` or `imply` line: the symbol that it names and its condition.
 #[derive(Clone, Copy)]

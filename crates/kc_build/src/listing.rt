@@ -1,14 +1,12 @@
 //! The lines of a root file, and the symbols that they define.
 
-ghost use Rattle.std.specs.Prelude.{◌≡◌, ◌≢◌, IfOk, IfErr, Err, [], Some, codes, position};
-ghost use Rattle.std.specs.Option.{option_map, option_or};
-ghost use Rattle.kc_expr.specs.Names.{same_name, symbol};
+ghost use Rattle.std.specs.Prelude.{◌≡◌, ◌≢◌, IfOk, IfErr, Err, [], Some, codes, position, option_map};
+ghost use Rattle.std.specs.Option.{option_or};
+ghost use Rattle.kc_language.specs.Expressions.{same_name, symbol};
 ghost use Rattle.kc_read.specs.Expanded.{IsExpansion};
-ghost use Rattle.kc_read.specs.Expansion.{Log, Expands};
-ghost use Rattle.kc_read.specs.Files.{bytes_in};
-ghost use Rattle.kc_read.specs.OpenedFiles.{AreOpened};
+ghost use Rattle.kc_language.specs.Expansion.{Log, Expands, bytes_in, AreOpened};
 ghost use Rattle.kc_read.specs.RefusalView.{IsMemory, refusal_view};
-ghost use Rattle.kc_diagnostics.specs.declared.cause.Cause.TheVariants.{Memory};
+ghost use Rattle.kc_language.specs.declared.diagnostics.Cause.TheVariants.{Memory};
 ghost use Rattle.kc_build.specs.Listings.{IsListing, IsListingOf};
 
 use kc_expr::expression::SymId;

@@ -1,8 +1,8 @@
 //! The rows of the symbols: of each its type, its choice and its definitions.
 
 ghost use Rattle.std.specs.Prelude.{◌≡◌, map, option_map, IfOk, OnOk};
-ghost use Rattle.kc_read.specs.Blocks.{numbers};
-ghost use Rattle.kc_build.specs.Facts as facts;
+ghost use Rattle.kc_language.specs.Expansion.{numbers};
+ghost use Rattle.kc_language.specs.Symbols as facts;
 ghost use Rattle.kc_build.specs.SymbolRows as symbol_rows;
 ghost use Rattle.kc_build.specs.SymbolRows.{row_view};
 ghost use Rattle.kc_build.specs.SymbolWalk.{unknown, first_given_type, with_definition, reported, HaveMemberTypes};

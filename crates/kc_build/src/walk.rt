@@ -3,7 +3,7 @@
 ghost use Rattle.std.specs.Prelude.{◌≡◌, ℕ, Bool, List, ◌<◌, ◌+◌, ◌*◌, ◌^◌, length, map, IfOk, OnOk};
 ghost use Rattle.kc_expr.specs.Form.{form_of};
 ghost use Rattle.kc_read.specs.StatementViews.{head_view};
-ghost use Rattle.kc_read.specs.Statements.{Numbered, ConfigLine, IfLine, MenuLine, CommentLine, ChoiceLine, EndMenuLine};
+ghost use Rattle.kc_language.specs.Statements.{Numbered, ConfigLine, IfLine, MenuLine, CommentLine, ChoiceLine, EndMenuLine};
 ghost use Rattle.kc_build.specs.SymbolRows.{AreBelow, IsEntrySummary};
 ghost use Rattle.kc_build.specs.Passes.{statements_of};
 ghost use Rattle.kc_build.specs.SymbolWalk.{AreRowsBefore};

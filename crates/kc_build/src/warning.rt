@@ -2,31 +2,15 @@
 
 ghost use Rattle.std.specs.Prelude.{◌≡◌, IfOk};
 ghost use Rattle.kc_diagnostics.specs.Warnings.{shown_warning};
-ghost use Rattle.kc_tree.specs.Common.{name_by};
-ghost use Rattle.kc_build.specs.Warnings as spec;
+ghost use Rattle.kc_language.specs.Symbols.{name_by};
+ghost use Rattle.kc_language.specs.Symbols as spec;
 
 use crate::lines::SelectOrImply;
-use kc_diagnostics::{Warning as NamedWarning, add_located};
+use kc_diagnostics::{Warning, add_located};
 use kc_expr::expression::SymId;
 use kc_expr::names::Names;
+pub(crate) use kc_language::symbols::LineWarning;
 use std::alloc::{AllocError, Global};
-
-/// What there is to warn of, about a line:
-/// - `TypeRedefined`: a type line whose type is not the symbol's first type, which is kept;
-/// - `PromptRedefined`: a second prompt in one entry, of which the last is kept; without a symbol it is a choice's;
-/// - `WithoutType`: the first definition of a symbol that has no type and is no member of a choice;
-/// - `TextTarget`: a select or imply of a string, int or hex symbol, which has no effect;
-/// - `DefaultNotMember`: a choice's default that names no member of it;
-/// - `MemberTarget`: a select or imply of a member of a choice, which has no effect.
-#[derive(Clone, Copy, Debug, PartialEq, Eq)]
-pub(crate) enum Warning {
-    TypeRedefined(SymId),
-    PromptRedefined(Option<SymId>),
-    WithoutType(SymId),
-    TextTarget(SymId, SelectOrImply),
-    DefaultNotMember(SymId),
-    MemberTarget(SymId, SelectOrImply),
-}
 
 /// Where a line stands: its file and its number.
 #[derive(Clone, Copy, Debug)]
@@ -66,19 +50,19 @@ fn keyword_text<'a>(word: SelectOrImply) -> &'a [u8]
 }
 
 // The warning, with the names of its symbols.
-fn named<'n>(names: &'n Names, warning: Warning) -> NamedWarning<&'n [u8]>
+fn named<'n>(names: &'n Names, warning: LineWarning) -> Warning<&'n [u8]>
     ensures { shown_warning result ≡ spec.named names.now warning }
 {
     match warning {
-        Warning::TypeRedefined(s) => NamedWarning::TypeRedefined(name_of(names, s)),
-        Warning::PromptRedefined(s) => NamedWarning::PromptRedefined(entry_name(names, s)),
-        Warning::WithoutType(s) => NamedWarning::WithoutType(name_of(names, s)),
-        Warning::TextTarget(s, word) => NamedWarning::TextTarget {
+        LineWarning::TypeRedefined(s) => Warning::TypeRedefined(name_of(names, s)),
+        LineWarning::PromptRedefined(s) => Warning::PromptRedefined(entry_name(names, s)),
+        LineWarning::WithoutType(s) => Warning::WithoutType(name_of(names, s)),
+        LineWarning::TextTarget(s, word) => Warning::TextTarget {
             name: name_of(names, s),
             word: keyword_text(word),
         },
-        Warning::DefaultNotMember(s) => NamedWarning::DefaultNotMember(name_of(names, s)),
-        Warning::MemberTarget(s, word) => NamedWarning::MemberTarget {
+        LineWarning::DefaultNotMember(s) => Warning::DefaultNotMember(name_of(names, s)),
+        LineWarning::MemberTarget(s, word) => Warning::MemberTarget {
             name: name_of(names, s),
             word: keyword_text(word),
         },
@@ -90,7 +74,7 @@ pub(crate) fn line_of(
     alloc: Global,
     names: &Names,
     place: Place<'_>,
-    warning: Warning,
+    warning: LineWarning,
 ) -> Result<Vec<u8>, AllocError>
     ensures { IfOk result (λ v. v.items ≡ spec.line_of names.now place.entry.file.now place.entry.line warning) }
 {

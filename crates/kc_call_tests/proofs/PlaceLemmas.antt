@@ -2,10 +2,10 @@
 use Rattle.std.proofs.Common.{◌≡◌, ℕ, Some, ◌∙◌}
 use Rattle.std.specs.Prelude.{slice_set}
 use Rattle.std.proofs.lemmas.List.{length-set}
-use Rattle.kc_expr.specs.declared.expression.SymId.{SymId}
-use Rattle.kc_tree.specs.TreeFacts.{TreeFacts}
-use Rattle.kc_user.specs.GivenValue.{GivenValue}
-use Rattle.kc_user.specs.Places.{Places, ArePlacesOf}
+use Rattle.kc_language.specs.declared.expressions.SymId.{SymId}
+use Rattle.kc_language.specs.Symbols.{TreeFacts}
+use Rattle.kc_language.specs.Values.{GivenValue}
+use Rattle.kc_language.specs.ConfigFile.{Places, ArePlacesOf}
 
 pub set_stays : (tree : TreeFacts) (old new : Places) (i : ℕ) (g : GivenValue) → ArePlacesOf tree old → new ≡ record old { symbols = slice_set old.symbols i (Some g) } → ArePlacesOf tree new
 set_stays tree old new i g fits e = rw e (record { symbols = length-set old.symbols i (Some g) ∙ fits.symbols; choices = fits.choices })

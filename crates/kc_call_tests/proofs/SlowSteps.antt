@@ -1,19 +1,18 @@
 -- One more equation computed anew.
 use Rattle.std.proofs.Common.{◌≡◌, ℕ, ◌+◌, suc, false, List, length, Option, None, sym, ◌∙◌, ap, subst, arith}
 use Rattle.std.specs.Prelude.{slice_index_or, replicate}
-use Rattle.kc_expr.specs.Names.{symbol}
-use Rattle.kc_expr.specs.declared.expression.SymId.{SymId}
-use Rattle.kc_expr.specs.declared.expression.Tri.{Tri}
+use Rattle.kc_language.specs.Expressions.{symbol}
+use Rattle.kc_language.specs.declared.expressions.SymId.{SymId}
+use Rattle.kc_language.specs.declared.expressions.Tri.{Tri}
 use Rattle.kc_expr.proofs.AgreeLemmas.{depends_on_symbols}
-use Rattle.kc_order.specs.Needs.{needs_in, unordered_after, IsAccepted as AreAccepted}
-use Rattle.kc_order.specs.Solution.{IsUpdate, Solves}
+use Rattle.kc_language.specs.Needs.{needs_in, unordered_after, AreAccepted, needs}
+use Rattle.kc_order.specs.Solution.{IsUpdate}
+use Rattle.kc_language.specs.Values.{Solves, name_count, equations}
 use Rattle.kc_order.proofs.OneIteration.{HoldsUpTo, SolvesOrdered, one_more, all_hold}
-use Rattle.kc_tree.specs.TreeFacts.{TreeFacts}
+use Rattle.kc_language.specs.Symbols.{TreeFacts}
 use Rattle.kc_tree.specs.declared.layout.Layout.{Layout}
 use Rattle.kc_user.specs.declared.value.UserValue.{UserValue}
-use Rattle.kc_values.specs.Needs.{needs}
 use Rattle.kc_values.specs.Computed.{AreContextsComputed}
-use Rattle.kc_values.specs.Solution.{name_count, equations}
 use Rattle.kc_values.specs.declared.table.Value.{Value}
 use Rattle.kc_values.proofs.TreeNeeds.{needs_within, below_count, free_count, reads_rows}
 use Rattle.kc_solve.specs.Computing.{AreComputedValues}

@@ -1,5 +1,5 @@
 //! Reading a `.config` in any pieces: what the calls tell, what they leave, and what waits (kc_config_file).
-ghost use Rattle.kc_user.specs.Places.{ArePlacesOf};
+ghost use Rattle.kc_language.specs.ConfigFile.{ArePlacesOf};
 
 use crate::trial::{Claim, is_true_of};
 use kc_config_file::fault::InputFault;

@@ -1,8 +1,8 @@
 //! Names, and the value of expressions over a type of one's own (kc_expr).
 
 ghost use Rattle.std.specs.Prelude.{[], Some};
-ghost use Rattle.kc_expr.specs.Names.{symbol};
-ghost use Rattle.kc_expr.specs.declared.expression.SymbolType.TheVariants as symbol_type;
+ghost use Rattle.kc_language.specs.Expressions.{symbol};
+ghost use Rattle.kc_language.specs.declared.expressions.SymbolType.TheVariants as symbol_type;
 
 use kc_expr::expression::{Expr, SymId, SymbolType, Tri};
 use kc_expr::names::Names;

@@ -1,6 +1,6 @@
 //! Loading, over a folder in memory: the order in which files are asked for, one that fails, and a million lines (kc_load).
 ghost use Rattle.std.specs.Prelude.{◌≡◌, ◌++◌, ◌∷◌, [], Some, IfOk, OnErr, OnOk, map, option_map};
-ghost use Rattle.kc_read.specs.Files.{bytes_in};
+ghost use Rattle.kc_language.specs.Expansion.{bytes_in};
 
 use crate::files::{Piece, has_files, has_names, put_pieces};
 use kc_load::*;

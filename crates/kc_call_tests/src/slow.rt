@@ -2,18 +2,16 @@
 
 ghost use Rattle.std.specs.Prelude.{◌≡◌, ◌<◌, length, replicate, slice_get, None, Some, IfOk, IfSome, OnOk, []};
 ghost use Rattle.kc_expr.specs.Value.{value_by_type};
-ghost use Rattle.kc_expr.specs.declared.expression.Tri.TheVariants.{N};
-ghost use Rattle.kc_order.specs.Solution.{IsOnlySolution, Solves};
+ghost use Rattle.kc_language.specs.declared.expressions.Tri.TheVariants.{N};
+ghost use Rattle.kc_language.specs.Values.{IsOnlySolution, Solves, SymbolPlace, equations, name_count};
 ghost use Rattle.kc_solve.specs.Computing.{IsComputedSymbol};
 ghost use Rattle.kc_solve.specs.Graphs.{IsGraphOf};
 ghost use Rattle.kc_solve.specs.PlaceLists.{places};
 ghost use Rattle.kc_solve.specs.Kept.{valuation};
-ghost use Rattle.kc_user.specs.GivenValue.{SymbolPlace};
-ghost use Rattle.kc_user.specs.Places.{ArePlacesOf, place_at};
+ghost use Rattle.kc_language.specs.ConfigFile.{ArePlacesOf, place_at};
 ghost use Rattle.kc_values.specs.AtTable as at;
-ghost use Rattle.kc_values.specs.Needs.{IsAccepted};
+ghost use Rattle.kc_language.specs.Needs.{IsAccepted};
 ghost use Rattle.kc_values.specs.Selections.{given_for, member_given};
-ghost use Rattle.kc_values.specs.Solution.{equations, name_count};
 ghost use Rattle.kc_values.specs.Table.{known_value};
 
 use kc_expr::expression::{SymId, SymbolType, Tri};

@@ -1,7 +1,7 @@
 //! The solver beside the plain slow one (kc_solve): they agree on each tree.
 
 ghost use Rattle.kc_solve.specs.Graphs.{IsGraphOf};
-ghost use Rattle.kc_user.specs.Places.{ArePlacesOf};
+ghost use Rattle.kc_language.specs.ConfigFile.{ArePlacesOf};
 
 use crate::slow::slow_table;
 use crate::trees::{CHOICES, LIMITS, Setup, TEXTS, TRUTHS};

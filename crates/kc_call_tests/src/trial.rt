@@ -1,7 +1,7 @@
 //! Claims about a tree, user values, and the lines that show a solution.
 
 ghost use Rattle.std.specs.Prelude.{◌≡◌, length};
-ghost use Rattle.kc_user.specs.Places.{ArePlacesOf};
+ghost use Rattle.kc_language.specs.ConfigFile.{ArePlacesOf};
 
 use kc_build::build_tree;
 use kc_diagnostics::{Warning, add_warning};

@@ -1,6 +1,6 @@
 //! A `.config` that is read, values, and the three files.
 ghost use Rattle.std.specs.Prelude.{◌≡◌};
-ghost use Rattle.kc_user.specs.Places.{ArePlacesOf};
+ghost use Rattle.kc_language.specs.ConfigFile.{ArePlacesOf};
 ghost use Rattle.kc_solve.specs.Graphs.{IsGraphOf};
 
 use crate::end::{CallEnd, done, refused};

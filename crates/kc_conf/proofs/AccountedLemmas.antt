@@ -1,8 +1,7 @@
 -- That no line of the streams goes unaccounted for where lost values are warned of.
 use Rattle.std.proofs.Common.{◌≡◌, ◌⊎◌, inl, inr, ℕ, ◌+◌, ◌<◌, zero, suc, Bool, true, false, List, [], ◌∷◌, ◌++◌, length, Some, None, refl, sym, ap, subst, ◌∙◌, append_assoc, append-nil, arith, codes, eqb, map, Option}
-use Rattle.std.specs.Prelude.{not, find, is_some, replicate, slice_index_or, if◌then◌else◌}
+use Rattle.std.specs.Prelude.{not, find, is_some, replicate, slice_index_or, if◌then◌else◌, option_map}
 use Rattle.std.specs.List.{All, Contains, flat_map, slice_get}
-use Rattle.std.specs.Option.{option_map}
 use Rattle.std.proofs.lemmas.Grind.{flat_map-append}
 use Rattle.std.proofs.lemmas.List.{get_or-set_same, get_or-set_other, length-replicate}
 use Rattle.std.proofs.lemmas.List.Elements.{All-cons, All-nil}
@@ -10,31 +9,21 @@ use Rattle.std.proofs.lemmas.List.Sums.{take_while-cons}
 use Rattle.std.proofs.lemmas.Bool.{eqb-false, eqb-true}
 use Rattle.std.proofs.lemmas.Option.{slice_get-get_or, slice_get_within}
 use Rattle.std.proofs.lemmas.Slice.Eq.{bytes_eq-Decides}
-use Rattle.kc_expr.specs.declared.expression.SymId.{SymId}
-use Rattle.kc_expr.specs.declared.expression.Tri.{Tri}
-use Rattle.kc_expr.specs.declared.expression.Tri.TheVariants.{N, M, Y}
-use Rattle.kc_read.specs.Files.{Files}
-use Rattle.kc_tree.specs.TreeFacts.{Condition, IsWellFormed, SymbolFacts, TreeFacts}
+use Rattle.kc_language.specs.declared.expressions.SymId.{SymId}
+use Rattle.kc_language.specs.declared.expressions.Tri.{Tri}
+use Rattle.kc_language.specs.declared.expressions.Tri.TheVariants.{N, M, Y}
+use Rattle.kc_language.specs.Expansion.{Files}
+use Rattle.kc_language.specs.Symbols.{Condition, SymbolFacts, TreeFacts, Warning}
+use Rattle.kc_tree.specs.TreeFacts.{IsWellFormed}
 use Rattle.kc_build.specs.Trees.{TreesAreWellFormed}
-use Rattle.kc_user.specs.GivenValue.{GivenValue, GivenTruth, GivenText, Member, SymbolPlace, same_given, same_tri}
-use Rattle.kc_user.specs.Places.{ArePlacesOf, Places, place_at}
-use Rattle.kc_values.specs.Differs.{given_of}
-use Rattle.kc_values.specs.Lookups.{facts, name}
-use Rattle.kc_solve.specs.Solved.{Solution, known, warnings as value_warnings}
-use Rattle.kc_config_file.specs.Changes.{StreamLocation, change_line, change_text}
-use Rattle.kc_diagnostics.specs.Warnings.{Warning}
-use Rattle.kc_diagnostics.specs.declared.warning.Warning.TheVariants.{SetAgain}
-use Rattle.kc_config_file.specs.Effects.{Effect, Silent, Warns, Assigns, type_in, type_of, warning_line}
-use Rattle.kc_config_file.specs.Reading.{Line, UserInput, before_too_long, effect, effect_text, input_after, is_within, lines_of, reading, stream_location, warning, warning_line_if, warnings}
+use Rattle.kc_language.specs.Values.{GivenValue, GivenTruth, GivenText, Member, SymbolPlace, same_given, same_tri, given_of, facts, name, type_in}
+use Rattle.kc_language.specs.ConfigFile.{ArePlacesOf, Places, place_at, StreamLocation, change_line, change_text, Effect, Silent, Warns, Assigns, type_of, warning_line, Line, UserInput, before_too_long, effect, effect_text, input_after, is_within, lines_of, reading, stream_location, warning, warning_line_if, warnings}
+use Rattle.kc_language.specs.Texts.{Solution, known, warnings as value_warnings, solution_view, config_text, has_prompt, lost_at, lost_by, lost_line, lost_lines, lost_of}
+use Rattle.kc_language.specs.declared.diagnostics.Warning.TheVariants.{SetAgain}
 use Rattle.kc_config_file.specs.ReadingLaws.{LinesGiveInTurn, LinesInTurn}
-use Rattle.kc_config_file.specs.SolvedView.{solution_view}
-use Rattle.kc_config_file.specs.Texts.{config_text}
-use Rattle.kc_options.specs.declared.options.Options.{Options}
 use Rattle.kc_conf.specs.Accounted.{HoldsLine, IsAccountedFor, IsKeptOrWarned, IsSetAgain, LeavesAlone, NothingIsLost}
-use Rattle.kc_conf.specs.Lost.{has_prompt, lost_at, lost_by, lost_line, lost_lines, lost_of}
-use Rattle.kc_options.specs.Asked.{lead}
+use Rattle.kc_language.specs.Outcome.{Options, lead, AreLines, Outcome, fresh_input, lines_text, lost_warnings, names_of, reported, read_of, root_file, streams, warned_files, with_rule}
 use Rattle.kc_conf.proofs.OutcomeLemmas.{text_if_is}
-use Rattle.kc_conf.specs.Outcome.{AreLines, Outcome, fresh_input, lines_text, lost_warnings, names_of, reported, read_of, root_file, streams, warned_files, with_rule}
 use Rattle.kc_conf.specs.Reruns.{RefusesNothing, WrittenAreWhole}
 use Rattle.kc_conf.proofs.PartLemmas.{AreLines-append, AreLines-nothing, AreLines-reading, AreLines-warning_if, AreLines-warnings}
 

@@ -10,18 +10,16 @@ use Rattle.kc_io.specs.Log.{Event, Journal, Log, Leads, failed, held, is_held, r
 use Rattle.kc_io.specs.Scripts.{NamedText, stale}
 use Rattle.kc_io.specs.declared.device.Action.TheVariants.{Report}
 use Rattle.kc_io.proofs.LogLemmas.{keeps_reported}
-use Rattle.kc_read.specs.Files.{Files}
-use Rattle.kc_tree.specs.TreeFacts.{TreeFacts}
-use Rattle.kc_options.specs.Asked.{input_files}
+use Rattle.kc_language.specs.Expansion.{Files}
+use Rattle.kc_language.specs.Symbols.{TreeFacts}
+use Rattle.kc_language.specs.Outcome.{Options, input_files, Outcome, lines_text}
 use Rattle.kc_conf.specs.Ends.{stale_by, stale_texts, status_with, texts_of}
 use Rattle.kc_conf.specs.Given.{AreInputs, InputFile, IsAsTold}
 use Rattle.kc_conf.specs.Many.{EndsTurn, StopsAtTree, TakeTurns, TakesTurn}
 use Rattle.kc_conf.specs.Many as many
-use Rattle.kc_conf.specs.Outcome.{Outcome, lines_text}
-use Rattle.kc_options.specs.declared.options.Delivery.{Delivery}
-use Rattle.kc_options.specs.declared.options.Delivery.TheVariants as delivered
-use Rattle.kc_options.specs.declared.options.Options.{Options}
-use Rattle.kc_options.specs.declared.options.Status.{Status}
+use Rattle.kc_language.specs.declared.outcome.Delivery.{Delivery}
+use Rattle.kc_language.specs.declared.outcome.Delivery.TheVariants as delivered
+use Rattle.kc_language.specs.declared.outcome.Status.{Status}
 use Rattle.kc_conf.specs.Separate.{AreSeparate, EachLeavesItsPart, EndsAmong, HoldAlike, TakesTurnAmong, TurnsAmong, is_among, output_files, written_by, written_files}
 use Rattle.kc_conf.specs.Separate as among
 use Rattle.kc_conf.proofs.SeparateLemmas.{broken_held, completes_held, completes_last, kept_held, texts_lack}

@@ -1,19 +1,13 @@
 -- What an outcome adds to the notes is whole lines.
 use Rattle.std.proofs.Common.{◌≡◌, ℕ, map, Bool, true, false, List, [], ◌∷◌, ◌++◌, codes, refl, sym, ap, subst, ◌∙◌, append_assoc, append-nil, Option, Some, None}
 use Rattle.std.specs.Prelude.{decimal, if◌then◌else◌, ◌&&◌}
-use Rattle.kc_diagnostics.specs.Causes.{cause_text}
-use Rattle.kc_diagnostics.specs.RunErrors.{run_error_text}
-use Rattle.kc_diagnostics.specs.declared.run_error.RunError.TheVariants as run
-use Rattle.kc_read.specs.Expansion.{Refused}
-use Rattle.kc_read.specs.Files.{Files}
-use Rattle.kc_tree.specs.TreeFacts.{TreeFacts}
-use Rattle.kc_solve.specs.Solved.{warnings}
-use Rattle.kc_config_file.specs.Reading.{StreamLocation, lines_of}
-use Rattle.kc_options.specs.Asked.{lead}
-use Rattle.kc_conf.specs.ErrorLines.{error_if_at, first_line, refusal_line, strict_line, too_long_line, unreadable_line}
-use Rattle.kc_conf.specs.Outcome.{AreLines, IsLenientOutcome, IsOutcomeOfReading, DiagnosticsAreLines, Outcome, accepted_tree, depfile_text, has_text, is_done, lines_text, long_line, lost_warnings, names_of, reported, outcome_of, read_of, refused, refused_name, refused_tree, streams, strictly, whole, fresh_input, refused_if, warned_files}
-use Rattle.kc_conf.specs.Taken.{refuses_input}
-use Rattle.kc_options.specs.declared.options.Options.{Options}
+use Rattle.kc_language.specs.Statements.{cause_text}
+use Rattle.kc_language.specs.Outcome.{Options, run_error_text, lead, error_if_at, first_line, refusal_line, strict_line, too_long_line, unreadable_line, AreLines, IsLenientOutcome, IsOutcomeOfReading, DiagnosticsAreLines, Outcome, accepted_tree, depfile_text, has_text, is_done, lines_text, long_line, lost_warnings, names_of, reported, outcome_of, read_of, refused, refused_name, refused_tree, streams, strictly, whole, fresh_input, refused_if, warned_files, refuses_input}
+use Rattle.kc_language.specs.declared.diagnostics.RunError.TheVariants as run
+use Rattle.kc_language.specs.Expansion.{Refused, Files}
+use Rattle.kc_language.specs.Symbols.{TreeFacts}
+use Rattle.kc_language.specs.Texts.{warnings}
+use Rattle.kc_language.specs.ConfigFile.{StreamLocation, lines_of}
 use Rattle.kc_conf.proofs.PartLemmas.{AreLines-append, AreLines-nothing, AreLines-reading}
 
 AreLines-line : (text : List ℕ) → AreLines (text ++ codes "\n")

@@ -5,9 +5,9 @@ use Rattle.std.proofs.Common.{◌≡◌, ◌≢◌, inl, inr, ℕ, Bool, true, f
 use Rattle.std.specs.Prelude.{if◌then◌else◌, not, filter, bytes_eq}
 use Rattle.std.specs.Option.{option_map_or}
 use Rattle.std.specs.List.{flat_map}
-use Rattle.kc_config_file.specs.Sink.{GoesBeyond}
-use Rattle.kc_config_file.specs.Reading.{StreamLocation}
-use Rattle.kc_read.specs.Expansion.{Refused as RefusedTree}
+use Rattle.kc_language.specs.Text.{GoesBeyond}
+use Rattle.kc_language.specs.ConfigFile.{StreamLocation}
+use Rattle.kc_language.specs.Expansion.{Refused as RefusedTree}
 use Rattle.kc_io.specs.Delivered.{Delivered, StopsBefore, cleared, failure_of}
 use Rattle.kc_io.specs.Log.{Event, Journal, Log, Leads, Tells, did, each_byte, held, is_held}
 use Rattle.kc_io.specs.Scripts.{NamedText, chosen, delivery, moved, put, share_name, stale}
@@ -18,20 +18,17 @@ use Rattle.kc_io.specs.declared.device.Action.TheVariants.{Create, Close, Clear,
 use Rattle.kc_io.specs.declared.device.Site.TheVariants.{Beside}
 use Rattle.kc_io.specs.declared.steps.Failure.{Failure}
 use Rattle.kc_io.proofs.LogLemmas.{leads_as, leads_both, leads_nothing, leads_said}
-use Rattle.kc_options.specs.Asked.{lead}
+use Rattle.kc_language.specs.Outcome.{Options, lead, error_if_at, first_line, refusal_line, stale_line, strict_line, too_long_line, unreadable_line, AreLines, lines_text}
 use Rattle.kc_conf.specs.Endings.{BreaksEnd, EndStops, Ends, HandsBy, IsChecked, IsEnded, in_delivery, in_diagnostics}
 use Rattle.kc_conf.specs.Ends.{delivered_by, delivers, stale_by, stale_lines, stale_texts, status_with}
-use Rattle.kc_diagnostics.specs.Causes.{cause_text, error_at}
-use Rattle.kc_conf.specs.ErrorLines.{error_if_at, first_line, refusal_line, stale_line, strict_line, too_long_line, unreadable_line}
+use Rattle.kc_language.specs.Statements.{cause_text, error_at}
 use Rattle.kc_conf.specs.Given.{still_told}
-use Rattle.kc_conf.specs.Outcome.{AreLines, lines_text}
 use Rattle.kc_conf.specs.Reads.{IsReportStop}
 use Rattle.kc_conf.specs.Stops.{cleared_by, clearing, event_of}
-use Rattle.kc_options.specs.declared.options.Delivery.{Delivery}
-use Rattle.kc_options.specs.declared.options.Delivery.TheVariants.{Write, Replace, Check}
-use Rattle.kc_options.specs.declared.options.Options.{Options}
-use Rattle.kc_options.specs.declared.options.Status.{Status}
-use Rattle.kc_options.specs.declared.options.Status.TheVariants.{Done, Refused}
+use Rattle.kc_language.specs.declared.outcome.Delivery.{Delivery}
+use Rattle.kc_language.specs.declared.outcome.Delivery.TheVariants.{Write, Replace, Check}
+use Rattle.kc_language.specs.declared.outcome.Status.{Status}
+use Rattle.kc_language.specs.declared.outcome.Status.TheVariants.{Done, Refused}
 use Rattle.kc_conf.specs.declared.stop.Stop.{Stop}
 use Rattle.kc_conf.specs.declared.stop.Stop.TheVariants.{OutOfMemory, Failed}
 use Rattle.kc_conf.proofs.PartLemmas.{AreLines-append, AreLines-nothing}

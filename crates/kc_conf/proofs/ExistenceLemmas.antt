@@ -1,32 +1,25 @@
 -- There is an outcome.
 use Rattle.std.proofs.Common.{◌≡◌, ◌⊎◌, ℕ, ◌<◌, List, [], length, map, Option, Some, None, Result, Ok, Err, refl, sym, ◌∙◌, arith, inl, inr, ◌++◌}
 use Rattle.std.specs.List.{range_with_len}
-use Rattle.kc_expr.specs.declared.expression.SymId.{SymId}
+use Rattle.kc_language.specs.declared.expressions.SymId.{SymId}
 use Rattle.std.proofs.lemmas.List.FromFn.{get_or-map-range_with_len, length-map-range_with_len}
-use Rattle.kc_expr.specs.Value.{SymbolValue, TextValue}
-use Rattle.kc_expr.specs.declared.expression.SymbolType.TheVariants.{Undefined}
-use Rattle.kc_read.specs.OpenedFiles.{AreOpened, OpenedAreOneList}
+use Rattle.kc_language.specs.Expressions.{SymbolValue, TextValue}
+use Rattle.kc_language.specs.declared.expressions.SymbolType.TheVariants.{Undefined}
+use Rattle.kc_language.specs.Expansion.{AreOpened, Refused, Files}
+use Rattle.kc_read.specs.OpenedFiles.{OpenedAreOneList}
 use Rattle.kc_read.specs.Existing.{HasOneExpansion}
-use Rattle.kc_read.specs.Expansion.{Refused}
-use Rattle.kc_read.specs.Files.{Files}
-use Rattle.kc_tree.specs.TreeFacts.{TreeFacts}
-use Rattle.kc_build.specs.Trees.{IsTreeOf, TreesAreWellFormed, tree_of_log}
-use Rattle.kc_user.specs.Places.{ArePlaces, Places, place_at}
+use Rattle.kc_language.specs.Symbols.{TreeFacts, IsTreeOf, tree_of_log}
+use Rattle.kc_build.specs.Trees.{TreesAreWellFormed}
+use Rattle.kc_user.specs.Places.{ArePlaces}
+use Rattle.kc_language.specs.ConfigFile.{Places, place_at, StreamLocation}
 use Rattle.kc_order.specs.Laws as order
-use Rattle.kc_order.specs.Solution.{IsOnlySolution, Solves}
+use Rattle.kc_language.specs.Values.{IsOnlySolution, Solves, equations, name_count}
 use Rattle.kc_values.specs.Laws.{AcceptedHaveOneSolution, EquationsReadNeeds, NeedingAreDefined, NeedsAreSymbols}
-use Rattle.kc_values.specs.Needs.{needs, needs_of}
-use Rattle.kc_values.specs.Solution.{equations, name_count}
-use Rattle.kc_solve.specs.LoopText.{loop_text}
-use Rattle.kc_solve.specs.Refused.{loop_refused}
-use Rattle.kc_solve.specs.Solved.{Solution, value_of}
-use Rattle.kc_config_file.specs.Reading.{StreamLocation}
+use Rattle.kc_language.specs.Needs.{needs, needs_of, loop_text, loop_refused}
+use Rattle.kc_language.specs.Texts.{Solution, value_of}
 use Rattle.kc_config_file.specs.Streams.{StreamsLeavePlaces}
-use Rattle.kc_options.specs.declared.options.Options.{Options}
-use Rattle.kc_options.specs.Asked.{lead}
-use Rattle.kc_conf.specs.ErrorLines.{refusal_line, too_long_line, unreadable_line}
+use Rattle.kc_language.specs.Outcome.{Options, lead, refusal_line, too_long_line, unreadable_line, IsAcceptedTree, IsLenientOutcome, IsOutcome, IsOutcomeOfReading, IsRefusedTree, Outcome, accepted_tree, lines_text, long_line, looped, names_of, no_tree, reported, outcome_of, read_of, refused, refused_name, refused_tree, root_file, streams, strictly, unreadable_name, whole, with_rule}
 use Rattle.kc_conf.specs.Existence.{AcceptedHaveAnOutcome, AnswerExists, OutcomeExists, SolutionExists}
-use Rattle.kc_conf.specs.Outcome.{IsAcceptedTree, IsLenientOutcome, IsOutcome, IsOutcomeOfReading, IsRefusedTree, Outcome, accepted_tree, lines_text, long_line, looped, names_of, no_tree, reported, outcome_of, read_of, refused, refused_name, refused_tree, root_file, streams, strictly, unreadable_name, whole, with_rule}
 
 -- ---- a solution
 

@@ -1,9 +1,8 @@
 -- One input file.
 use Rattle.std.proofs.Common.{◌≡◌, ℕ, zero, suc, ◌<◌, ◌≤◌, Bool, true, false, List, [], ◌++◌, length, take, refl, sym, ap, subst, ◌∙◌, append_assoc, append-nil, arith, Option, Some, None, Ok, inl, inr}
-use Rattle.std.specs.Prelude.{◌&&◌, is_none, is_some, unwrap_or}
-use Rattle.std.specs.Option.{option_map}
+use Rattle.std.specs.Prelude.{◌&&◌, is_none, is_some, unwrap_or, option_map}
 use Rattle.std.proofs.lemmas.List.Elements.{All-nil}
-use Rattle.kc_text.specs.Lines.{HoldsNoLineFeed, is_line_feed}
+use Rattle.kc_language.specs.Lines.{HoldsNoLineFeed, is_line_feed}
 use Rattle.kc_io.specs.Log.{Event, Journal, Log, Leads, did, each_byte, held}
 use Rattle.kc_io.specs.Reading.{IsAtEnd, IsFound, OpenFile, ReadsOn, contents}
 use Rattle.kc_io.specs.Reading as device
@@ -11,7 +10,8 @@ use Rattle.kc_io.specs.declared.device.Action.TheVariants.{Miss, Open, Read}
 use Rattle.kc_io.proofs.LogLemmas.{bytes_both, leads_as, leads_both, leads_nothing, leads_said}
 use Rattle.kc_config_file.specs.Feeding.{ReadsPiece, StreamPosition, stream_start, to_come}
 use Rattle.kc_config_file.specs.ReaderState.{ReaderState}
-use Rattle.kc_config_file.specs.Reading.{Line, lines_from, reading, with_warnings}
+use Rattle.kc_language.specs.ConfigFile.{Line, lines_from, reading}
+use Rattle.kc_config_file.specs.Reading.{with_warnings}
 use Rattle.kc_conf.specs.Given.{InputFile, IsAsTold, IsThere, begun, ended_lines, reads_one, still_told}
 use Rattle.kc_conf.specs.ReadSteps.{BreaksEnd, BreaksFile, BreaksOpened, BreaksPiece, EndsFile, FailsAt, Gives, IsStillFresh, Opens, ReadsFile, ReadsLines, ReadsOpened, Stand, StopsFile, TakesPiece, TakesSoFar, Warns, in_file, in_lines, said_now, there_file}
 use Rattle.kc_conf.specs.Stops.{event_of}

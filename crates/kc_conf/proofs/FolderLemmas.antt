@@ -1,20 +1,16 @@
 -- Over files that expand alike, trees, refusals, outcomes and runs are the same.
 use Rattle.std.proofs.Common.{◌≡◌, ◌⊎◌, inl, inr, ℕ, suc, Bool, List, Result, subst, sym}
-use Rattle.kc_read.specs.Expansion.{Refused}
-use Rattle.kc_read.specs.Files.{Files}
-use Rattle.kc_read.specs.OpenedFiles.{AreOpened}
-use Rattle.kc_tree.specs.TreeFacts.{TreeFacts}
-use Rattle.kc_build.specs.Trees.{IsTreeOf}
+use Rattle.kc_language.specs.Expansion.{Refused, Files, AreOpened}
+use Rattle.kc_language.specs.Symbols.{TreeFacts, IsTreeOf}
 use Rattle.kc_io.specs.Log.{Event, Log}
 use Rattle.kc_load.specs.Expanding.{ExpandsAlike}
-use Rattle.kc_options.specs.declared.options.Options.{Options}
-use Rattle.kc_options.specs.declared.options.Status.{Status}
+use Rattle.kc_language.specs.declared.outcome.Status.{Status}
 use Rattle.kc_conf.specs.declared.stop.Stop.{Stop}
 use Rattle.kc_conf.specs.Ends.{AreReads, Breaks, Broken, Completes, Runs, in_delivery, in_input, in_diagnostics, no_memory, of_tree, refused_name as reads_no_name, refused_tree as reads_no_tree}
 use Rattle.kc_conf.specs.Given.{InputFile}
 use Rattle.kc_conf.specs.Many.{AreRootedAt, EndsTurn, IsPart, RunsEach, RunsTurn, StopsAtTree, TakeTurns, TakesTurn}
 use Rattle.kc_conf.specs.Many as many
-use Rattle.kc_conf.specs.Outcome.{IsAcceptedTree, IsLenientOutcome, IsOutcome, IsRefusedName, IsRefusedTree, NamesAreRead, Outcome, accepted_tree, looped, no_tree, refused_name, refused_tree, root_file}
+use Rattle.kc_language.specs.Outcome.{Options, IsAcceptedTree, IsLenientOutcome, IsOutcome, IsRefusedName, IsRefusedTree, NamesAreRead, Outcome, accepted_tree, looped, no_tree, refused_name, refused_tree, root_file}
 
 -- from these files to others
 module _ (root : List ℕ) (files others : Files) (alike : ExpandsAlike root files others) where

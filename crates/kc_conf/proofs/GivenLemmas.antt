@@ -7,12 +7,12 @@ use Rattle.kc_io.specs.Log.{Event, Journal, Log, Leads, did, each_byte, held}
 use Rattle.kc_io.specs.declared.device.Action.{Action}
 use Rattle.kc_io.specs.declared.device.Action.TheVariants.{Open, Miss, Read}
 use Rattle.kc_io.proofs.LogLemmas.{keeps_both, keeps_bytes}
-use Rattle.kc_config_file.specs.Reading.{StreamLocation}
-use Rattle.kc_read.specs.Files.{Files}
-use Rattle.kc_tree.specs.TreeFacts.{TreeFacts}
+use Rattle.kc_language.specs.ConfigFile.{StreamLocation}
+use Rattle.kc_language.specs.Expansion.{Files}
+use Rattle.kc_language.specs.Symbols.{TreeFacts}
 use Rattle.kc_conf.specs.Ends.{AreReads, refused_tree, refused_name, of_tree}
 use Rattle.kc_conf.specs.Given.{AreInputs, AreThere, InputFile, IsAsTold, IsThere, ReadsTo, ReadsUpTo, all, line, reads, reads_one, still_told}
-use Rattle.kc_options.specs.declared.options.Options.{Options}
+use Rattle.kc_language.specs.Outcome.{Options}
 use Rattle.kc_conf.proofs.TellingLemmas.{Tells-first, Tells-later}
 
 -- ---- what they are

@@ -6,23 +6,22 @@ use Rattle.std.proofs.Math.Seq.{take-append_seam}
 use Rattle.std.proofs.lemmas.Grind.{flat_map-append}
 use Rattle.std.proofs.lemmas.List.{drop_more, get_or-map, get_or_append_left, length-map, length-replicate, map-append, take-append-drop, take_all, take_more}
 use Rattle.std.proofs.lemmas.List.Elements.{All-cons, All-nil, All-push}
-use Rattle.kc_tree.specs.TreeFacts.{TreeFacts}
-use Rattle.kc_user.specs.Places.{ArePlacesOf}
+use Rattle.kc_language.specs.Symbols.{TreeFacts}
+use Rattle.kc_language.specs.ConfigFile.{ArePlacesOf, ReadResult, Stream, UserInput, lines_from, lines_of, reading}
 use Rattle.kc_io.specs.Held.{keeps_files}
 use Rattle.kc_io.specs.Log.{Event, Journal, Log, Leads, Tells, did, each_byte, held}
 use Rattle.kc_io.specs.declared.device.Action.TheVariants.{Miss, Open, Read}
 use Rattle.kc_io.proofs.LogLemmas.{held_stays, keeps_both, keeps_bytes, leads_as, leads_both, leads_nothing}
 use Rattle.kc_config_file.specs.Feeding.{stream_start}
-use Rattle.kc_config_file.specs.Laws.{HasShortLines}
+use Rattle.kc_language.specs.Texts.{HasShortLines}
 use Rattle.kc_config_file.specs.ReaderState.{ReaderState}
-use Rattle.kc_config_file.specs.Reading.{ReadResult, Stream, UserInput, lines_from, lines_of, reading, with_warnings}
-use Rattle.kc_options.specs.Asked.{holds_warnings, input_files, lead, may_at, names_of}
+use Rattle.kc_config_file.specs.Reading.{with_warnings}
+use Rattle.kc_language.specs.Outcome.{Options, holds_warnings, input_files, lead, names_of, AreLines, fresh_input, streams}
+use Rattle.kc_options.specs.Asked.{may_at}
 use Rattle.kc_conf.specs.Given.{AreInputs, AreThere, HasTurn, InputFile, IsAsTold, IsThere, ReadsTo, all, begun, bytes_of, ended_lines, line, reads, reads_one, still_told, warned_by}
-use Rattle.kc_conf.specs.Outcome.{AreLines, fresh_input, streams}
 use Rattle.kc_conf.specs.Reads.{BreaksInputs, ReadsInputs, StopsInputs, ended_with, in_input, in_diagnostics, no_memory}
 use Rattle.kc_conf.specs.ReadSteps.{AreAsTold, BreaksFile, ReadsFile, ReadsSoFar, Stand, StopsFile, StopsWarnings, Warns, held_back, in_file, in_lines, said_now}
 use Rattle.kc_conf.specs.Stops.{event_of}
-use Rattle.kc_options.specs.declared.options.Options.{Options}
 use Rattle.kc_conf.specs.declared.stop.Stop.{Stop}
 use Rattle.kc_conf.specs.declared.stop.Stop.TheVariants.{OutOfMemory, Failed}
 use Rattle.kc_conf.proofs.GivenLemmas.{IsThere-before, IsThere-later}

@@ -1,28 +1,24 @@
 -- What a run leaves behind the tree's warnings, by how its input files were read.
 use Rattle.std.proofs.Common.{◌≡◌, ℕ, Bool, true, false, List, [], ◌++◌, map, refl, sym, ap, subst, ◌∙◌, append_assoc, append-nil, Option, None, Some, Result, Err}
 use Rattle.std.specs.Prelude.{◌||◌, if◌then◌else◌}
-use Rattle.kc_read.specs.Files.{Files}
-use Rattle.kc_read.specs.OpenedFiles.{AreOpened}
-use Rattle.kc_tree.specs.TreeFacts.{TreeFacts}
-use Rattle.kc_solve.specs.Solved.{warnings}
+use Rattle.kc_language.specs.Expansion.{Files, AreOpened}
+use Rattle.kc_language.specs.Symbols.{TreeFacts}
+use Rattle.kc_language.specs.Texts.{warnings}
 use Rattle.kc_io.specs.Log.{Event, Log, Leads}
 use Rattle.kc_io.specs.Scripts.{NamedText}
 use Rattle.kc_io.proofs.LogLemmas.{leads_nothing}
-use Rattle.kc_config_file.specs.Reading.{ReadResult, StreamLocation, UserInput, lines_of, reading}
-use Rattle.kc_config_file.specs.Sink.{BeginsWith}
-use Rattle.kc_options.specs.Asked.{holds_warnings, lead, names_of}
+use Rattle.kc_language.specs.ConfigFile.{ReadResult, StreamLocation, UserInput, lines_of, reading}
+use Rattle.kc_language.specs.Text.{BeginsWith}
+use Rattle.kc_language.specs.Outcome.{Options, holds_warnings, lead, names_of, too_long_line, AreLines, IsAcceptedTree, IsOutcomeOfReading, OneAnswer, Outcome, fresh_input, has_text, lines_text, lost_warnings, names_listed, reported, outcome_of, read_of, refused, root_file, streams, unreadable_name}
 use Rattle.kc_conf.specs.Computed.{Computes, refuses, ruled_files, value_lines}
 use Rattle.kc_conf.specs.Endings.{Ends, line_if, status_if, texts_or}
 use Rattle.kc_conf.specs.Ends.{AreReads, of_tree, texts_of, nothing_said}
-use Rattle.kc_conf.specs.ErrorLines.{too_long_line}
 use Rattle.kc_conf.specs.Existence.{ExactlyOneOutcome}
 use Rattle.kc_conf.specs.Given.{AreInputs, AreThere, InputFile, ReadsTo, bytes_of, reads, still_told}
-use Rattle.kc_conf.specs.Outcome.{AreLines, IsAcceptedTree, IsOutcomeOfReading, OneAnswer, Outcome, fresh_input, has_text, lines_text, lost_warnings, names_listed, reported, outcome_of, read_of, refused, root_file, streams, unreadable_name}
 use Rattle.kc_conf.specs.PartRuns.{LeavesPart}
 use Rattle.kc_conf.specs.Reads.{BreaksInputs, ReadsInputs, ended_with}
-use Rattle.kc_options.specs.declared.options.Options.{Options}
-use Rattle.kc_options.specs.declared.options.Status.{Status}
-use Rattle.kc_options.specs.declared.options.Status.TheVariants.{Refused}
+use Rattle.kc_language.specs.declared.outcome.Status.{Status}
+use Rattle.kc_language.specs.declared.outcome.Status.TheVariants.{Refused}
 use Rattle.kc_conf.specs.declared.reading.Waiting.{Waiting}
 use Rattle.kc_conf.specs.declared.stop.Stop.{Stop}
 use Rattle.kc_conf.specs.declared.stop.Stop.TheVariants.{OutOfMemory}

@@ -1,25 +1,20 @@
 -- The lines of the values that are lost, symbol by symbol.
 use Rattle.std.proofs.Common.{◌≡◌, ℕ, ◌+◌, ◌≤◌, Bool, true, false, List, [], ◌∷◌, ◌++◌, length, take, Option, Some, None, sym, ◌∙◌, ap, append-nil}
-use Rattle.std.specs.Prelude.{if◌then◌else◌, slice_index_or}
-use Rattle.kc_config_file.specs.Changes.{StreamLocation}
+use Rattle.std.specs.Prelude.{if◌then◌else◌, slice_index_or, option_map}
+use Rattle.kc_language.specs.ConfigFile.{StreamLocation, Places, place_at}
 use Rattle.std.specs.List.{slice_get, flat_map}
 use Rattle.std.proofs.lemmas.Grind.{flat_map-append}
 use Rattle.std.proofs.lemmas.List.{take_all, take_more}
 use Rattle.std.proofs.lemmas.Option.{get_or_from_slice_get, slice_get_within}
-use Rattle.kc_expr.specs.declared.expression.SymId.{SymId}
-use Rattle.std.specs.Option.{option_map}
-use Rattle.kc_expr.specs.Names.{symbol}
+use Rattle.kc_language.specs.declared.expressions.SymId.{SymId}
+use Rattle.kc_language.specs.Expressions.{symbol}
 use Rattle.kc_tree.specs.Layouts.{IsLayoutOf, facts_of}
-use Rattle.kc_tree.specs.TreeFacts.{TreeFacts}
+use Rattle.kc_language.specs.Symbols.{TreeFacts}
 use Rattle.kc_tree.specs.declared.layout.Layout.{Layout}
 use Rattle.kc_tree.specs.declared.rows.Symbol.{Symbol}
-use Rattle.kc_user.specs.GivenValue.{SymbolPlace, GivenValue}
-use Rattle.kc_user.specs.Places.{Places, place_at}
-use Rattle.kc_values.specs.Differs.{given_of}
-use Rattle.kc_values.specs.Lookups.{facts, name}
+use Rattle.kc_language.specs.Values.{SymbolPlace, GivenValue, given_of, facts, name}
 use Rattle.kc_values.specs.Laws.{RowsTellFacts}
-use Rattle.kc_solve.specs.Solved.{Solution, known}
-use Rattle.kc_conf.specs.Lost.{has_prompt, lost_at, lost_by, lost_of}
+use Rattle.kc_language.specs.Texts.{Solution, known, has_prompt, lost_at, lost_by, lost_of}
 
 -- the lines of one symbol more
 pub one_more_lost : (lines : List (Option StreamLocation)) (s : Solution) (ids : List SymId) (i : ℕ) (id : SymId) (old new : List (List ℕ)) → slice_get ids i ≡ Some id →

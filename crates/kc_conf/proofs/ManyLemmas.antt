@@ -2,31 +2,27 @@
 use Rattle.std.proofs.Common.{◌≡◌, inl, inr, ℕ, suc, ◌+◌, ◌-◌, ◌<◌, ◌≤◌, Bool, true, false, not, List, [], ◌++◌, refl, sym, ap, subst, ◌∙◌, None, Some, Result, Ok, Err, arith}
 use Rattle.std.specs.Prelude.{◌||◌}
 use Rattle.std.proofs.lemmas.List.{append_cancel_left}
-use Rattle.kc_read.specs.Files.{Files}
-use Rattle.kc_read.specs.OpenedFiles.{AreOpened}
-use Rattle.kc_tree.specs.TreeFacts.{TreeFacts}
+use Rattle.kc_language.specs.Expansion.{Files, AreOpened}
+use Rattle.kc_language.specs.Symbols.{TreeFacts}
 use Rattle.kc_io.specs.Log.{Log, Leads, failed, reported as io_reported, said}
 use Rattle.kc_io.specs.Scripts.{NamedText}
 use Rattle.kc_io.specs.declared.device.Action.{Action}
 use Rattle.kc_io.specs.declared.device.Action.TheVariants.{Report}
 use Rattle.kc_io.proofs.LogLemmas.{leads_both, leads_nothing}
 use Rattle.kc_conf.specs.Accepted.{IsAcceptedOf}
-use Rattle.kc_options.specs.Asked.{lead}
+use Rattle.kc_language.specs.Outcome.{Options, lead, unreadable_line, IsAcceptedTree, IsLenientOutcome, IsOutcome, OneAnswer, OneOutcome, Outcome, accepted_tree, has_text, lines_text, reported, refused, refused_name, refused_tree, root_file, strictly, unreadable_name, with_rule}
 use Rattle.kc_conf.specs.Endings.{Ends}
 use Rattle.kc_conf.specs.Ends.{nothing_said, texts_of}
 use Rattle.kc_conf.specs.Ends as ends
-use Rattle.kc_conf.specs.ErrorLines.{unreadable_line}
 use Rattle.kc_conf.specs.Existence.{ExactlyOneOutcome}
 use Rattle.kc_conf.specs.Given.{bytes_of, reads, still_told}
 use Rattle.kc_conf.specs.Many.{AreRootedAt, CannotSay, ExactlyOnePart, IsPart, IsWholeOf, PartsAreOfRuns, RunsTurn, TakeTurns, TakesTurn, broken, ends_all, greater, last, next, none, warned_before, whole}
-use Rattle.kc_conf.specs.Outcome.{IsAcceptedTree, IsLenientOutcome, IsOutcome, OneAnswer, OneOutcome, Outcome, accepted_tree, has_text, lines_text, reported, refused, refused_name, refused_tree, root_file, strictly, unreadable_name, with_rule}
 use Rattle.kc_conf.specs.PartRuns.{LeavesPart, LeavesTurn, strictly_after}
 use Rattle.kc_conf.specs.Reads.{IsReportStop}
 use Rattle.kc_conf.specs.Stops.{Reports, TriesToSay, clearing, event_of, stop_line}
 use Rattle.kc_conf.specs.declared.accepted.OrderedTree.{OrderedTree}
-use Rattle.kc_options.specs.declared.options.Options.{Options}
-use Rattle.kc_options.specs.declared.options.Status.{Status}
-use Rattle.kc_options.specs.declared.options.Status.TheVariants.{Done, Refused, Usage, Faulted}
+use Rattle.kc_language.specs.declared.outcome.Status.{Status}
+use Rattle.kc_language.specs.declared.outcome.Status.TheVariants.{Done, Refused, Usage, Faulted}
 use Rattle.kc_conf.specs.declared.stop.Stop.{Stop}
 use Rattle.kc_conf.specs.declared.stop.Stop.TheVariants.{OutOfMemory, Failed}
 use Rattle.kc_conf.proofs.GivenLemmas.{AreInputs-later, inputs-exist}

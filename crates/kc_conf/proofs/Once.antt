@@ -1,27 +1,17 @@
 -- A run has one outcome.
 use Rattle.std.proofs.Common.{◌≡◌, ℕ, ◌<◌, List, [], ◌++◌, length, map, Option, Some, None, Result, Ok, Err, true, false, sym, ap, subst, ◌∙◌}
-use Rattle.kc_expr.specs.declared.expression.SymId.{SymId}
-use Rattle.kc_read.specs.OpenedFiles.{AreOpened}
-use Rattle.kc_read.specs.Expansion.{Expands, Log, Refused}
-use Rattle.kc_read.specs.Files.{Files}
-use Rattle.kc_tree.specs.TreeFacts.{TreeFacts}
-use Rattle.kc_build.specs.Trees.{IsTreeOf, OneTree, tree_of_log}
-use Rattle.kc_user.specs.Places.{Places, place_at}
-use Rattle.kc_expr.specs.Value.{TextValue}
-use Rattle.kc_expr.specs.declared.expression.SymbolType.TheVariants.{Undefined}
+use Rattle.kc_language.specs.declared.expressions.SymId.{SymId}
+use Rattle.kc_language.specs.Expansion.{AreOpened, Expands, Log, Refused, Files}
+use Rattle.kc_language.specs.Symbols.{TreeFacts, IsTreeOf, tree_of_log}
+use Rattle.kc_build.specs.Trees.{OneTree}
+use Rattle.kc_language.specs.ConfigFile.{Places, place_at, ReadResult}
+use Rattle.kc_language.specs.Expressions.{TextValue}
+use Rattle.kc_language.specs.declared.expressions.SymbolType.TheVariants.{Undefined}
 use Rattle.kc_order.specs.Laws.{NamedAreUnordered, OneNamedLoop}
-use Rattle.kc_order.specs.Solution.{Solves}
-use Rattle.kc_values.specs.Needs.{IsAccepted}
-use Rattle.kc_values.specs.Needs.{needs}
-use Rattle.kc_values.specs.Solution.{equations, name_count}
-use Rattle.kc_solve.specs.LoopText.{loop_text}
-use Rattle.kc_solve.specs.Refused.{IsLoopText, loop_refused}
-use Rattle.kc_solve.specs.Solved.{Solution, value_of}
-use Rattle.kc_config_file.specs.Reading.{ReadResult}
-use Rattle.kc_options.specs.declared.options.Options.{Options}
-use Rattle.kc_options.specs.Asked.{lead}
-use Rattle.kc_conf.specs.ErrorLines.{refusal_line, too_long_line, unreadable_line}
-use Rattle.kc_conf.specs.Outcome.{Outcome, IsLenientOutcome, OneAnswer, OneOutcome, strictly, reported, lines_text, refused, outcome_of, read_of, root_file, IsRefusedTree, no_tree, looped, IsAcceptedTree, IsSolutionFor, refused_tree, refused_name, accepted_tree, IsOutcomeOfReading, IsOutcomeOfTree, long_line, whole, with_rule}
+use Rattle.kc_language.specs.Values.{Solves, equations, name_count}
+use Rattle.kc_language.specs.Needs.{IsAccepted, needs, loop_text, IsLoopText, loop_refused}
+use Rattle.kc_language.specs.Texts.{Solution, value_of}
+use Rattle.kc_language.specs.Outcome.{Options, lead, refusal_line, too_long_line, unreadable_line, Outcome, IsLenientOutcome, OneAnswer, OneOutcome, strictly, reported, lines_text, refused, outcome_of, read_of, root_file, IsRefusedTree, no_tree, looped, IsAcceptedTree, IsSolutionFor, refused_tree, refused_name, accepted_tree, IsOutcomeOfReading, IsOutcomeOfTree, long_line, whole, with_rule}
 use Rattle.std.proofs.lemmas.List.{ext_get_or}
 
 -- ---- trees

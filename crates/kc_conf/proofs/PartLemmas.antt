@@ -1,27 +1,23 @@
 -- What was read and told of a stream up to a place of it.
 use Rattle.std.proofs.Common.{◌≡◌, inl, inr, ℕ, zero, suc, ◌<◌, ◌≤◌, Bool, true, false, List, [], ◌∷◌, ◌++◌, length, codes, refl, sym, ap, subst, ◌∙◌, append_assoc, append-nil, length-append, arith, cond, Option, Some, None}
-use Rattle.std.specs.Prelude.{◌==◌, filter, find, not, decimal, slice_index_or, take, if◌then◌else◌}
+use Rattle.std.specs.Prelude.{◌==◌, filter, find, not, decimal, slice_index_or, take, if◌then◌else◌, option_map}
 use Rattle.std.specs.List.{All, enumerate_from, flat_map, onto_first, slice_split}
-use Rattle.std.specs.Option.{option_map}
 use Rattle.std.proofs.lemmas.Bool.{cases_Bool, le-leb, lt-leb}
 use Rattle.std.proofs.lemmas.Grind.{flat_map-append}
 use Rattle.std.proofs.lemmas.List.Elements.{All-nil, All-cons, All-append}
 use Rattle.std.proofs.lemmas.List.Splits.{slice_split_at, slice_split_none, slice_split-cons_no, slice_split-cons_yes}
 use Rattle.std.proofs.lemmas.List.Sums.{take_while-cons}
-use Rattle.kc_text.specs.Limits.{one_more}
-use Rattle.kc_text.specs.Lines.{HoldsNoLineFeed, is_line_feed}
-use Rattle.kc_tree.specs.TreeFacts.{TreeFacts}
-use Rattle.kc_expr.specs.declared.expression.SymbolType.{SymbolType}
-use Rattle.kc_user.specs.GivenValue.{GivenValue, SymbolPlace, same_given}
-use Rattle.kc_user.specs.Places.{place_at}
-use Rattle.kc_config_file.specs.Changes.{StreamLocation, change_line, change_text, value_text}
-use Rattle.kc_diagnostics.specs.Warnings.{Warning, located_warning}
-use Rattle.kc_diagnostics.specs.declared.warning.Warning.TheVariants.{Changed}
-use Rattle.kc_config_file.specs.Effects.{Effect, Silent, Warns, Assigns, type_of, name_of, warning_line}
+use Rattle.kc_language.specs.Text.{one_more}
+use Rattle.kc_language.specs.Lines.{HoldsNoLineFeed, is_line_feed}
+use Rattle.kc_language.specs.Symbols.{TreeFacts, Warning, located_warning}
+use Rattle.kc_language.specs.declared.expressions.SymbolType.{SymbolType}
+use Rattle.kc_language.specs.Values.{GivenValue, SymbolPlace, same_given, name as name_of}
+use Rattle.kc_language.specs.ConfigFile.{place_at, StreamLocation, change_line, change_text, value_text, Effect, Silent, Warns, Assigns, type_of, warning_line, UserInput, Line, ReadResult, before_too_long, effect, effect_change, effect_text, effect_warning, is_within, last_line, line, lines_from, lines_in_stream, input_after, reading, stream_location, warning, warning_line_if, warnings}
+use Rattle.kc_language.specs.declared.diagnostics.Warning.TheVariants.{Changed}
 use Rattle.kc_config_file.specs.Feeding.{StreamPosition, stream_start, ReadsPiece}
-use Rattle.kc_config_file.specs.Laws.{HasShortLines}
-use Rattle.kc_config_file.specs.Reading.{UserInput, Line, ReadResult, before_too_long, effect, effect_change, effect_text, effect_warning, is_within, last_line, line, lines_from, lines_in_stream, input_after, reading, stream_location, warning, warning_line_if, warnings, with_warnings}
-use Rattle.kc_conf.specs.Outcome.{AreLines, lines_text}
+use Rattle.kc_language.specs.Texts.{HasShortLines}
+use Rattle.kc_config_file.specs.Reading.{with_warnings}
+use Rattle.kc_language.specs.Outcome.{AreLines, lines_text}
 use Rattle.kc_conf.specs.Given.{ended_lines}
 
 -- ---- whole lines

@@ -1,27 +1,22 @@
 -- What a run leaves behind the tree's warnings.
 use Rattle.std.proofs.Common.{◌≡◌, ℕ, Bool, true, false, List, [], ◌++◌, refl, sym, ap, subst, ◌∙◌, Option, None, Some, String, Global}
-use Rattle.std.specs.Prelude.{◌&&◌, ◌||◌, if◌then◌else◌}
-use Rattle.kc_read.specs.Files.{Files}
-use Rattle.kc_read.specs.OpenedFiles.{AreOpened}
-use Rattle.kc_tree.specs.TreeFacts.{TreeFacts}
-use Rattle.kc_solve.specs.Solved.{Solution}
-use Rattle.kc_config_file.specs.Reading.{ReadResult, StreamLocation, UserInput}
-use Rattle.kc_config_file.specs.Sink.{BeginsWith}
+use Rattle.std.specs.Prelude.{◌&&◌, ◌||◌, if◌then◌else◌, Result}
+use Rattle.kc_language.specs.Expansion.{Files, AreOpened}
+use Rattle.kc_language.specs.Symbols.{TreeFacts}
+use Rattle.kc_language.specs.Texts.{Solution}
+use Rattle.kc_language.specs.ConfigFile.{ReadResult, StreamLocation, UserInput}
+use Rattle.kc_language.specs.Text.{BeginsWith}
 use Rattle.kc_io.specs.Log.{Log}
 use Rattle.kc_io.specs.Scripts.{NamedText}
 use Rattle.kc_conf.specs.Computed.{refuses, ruled_files, value_lines}
 use Rattle.kc_conf.specs.Endings.{Ends, line_if, status_if, texts_or}
 use Rattle.kc_conf.specs.Ends.{text_at, texts_of}
-use Rattle.kc_conf.specs.ErrorLines.{too_long_line}
+use Rattle.kc_language.specs.Outcome.{Options, too_long_line, IsAcceptedTree, IsLenientOutcome, IsOutcome, IsOutcomeOfReading, IsSolutionFor, NamesAreRead, OneAnswer, Outcome, accepted_tree, has_text, is_done, lines_text, long_line, names_listed, reported, outcome_of, read_of, refused, refused_if, refused_name, refused_tree, root_file, unreadable_name, warned_files, whole, with_rule, refuses_input}
 use Rattle.kc_conf.specs.Existence.{ExactlyOneOutcome}
-use Rattle.kc_conf.specs.Outcome.{IsAcceptedTree, IsLenientOutcome, IsOutcome, IsOutcomeOfReading, IsSolutionFor, NamesAreRead, OneAnswer, Outcome, accepted_tree, has_text, is_done, lines_text, long_line, names_listed, reported, outcome_of, read_of, refused, refused_if, refused_name, refused_tree, root_file, unreadable_name, warned_files, whole, with_rule}
 use Rattle.kc_conf.specs.PartRuns.{strictly_after}
 use Rattle.kc_conf.specs.Reads.{ended_with}
-use Rattle.kc_conf.specs.Taken.{refuses_input}
-use Rattle.kc_options.specs.declared.options.Options.{Options}
-use Rattle.kc_options.specs.declared.options.Status.{Status}
+use Rattle.kc_language.specs.declared.outcome.Status.{Status}
 use Rattle.kc_conf.specs.declared.stop.Stop.{Stop}
-use Rattle.std.specs.Prelude.{Result}
 use Rattle.kc_conf.proofs.Once.{one_opened}
 use Rattle.kc_conf.proofs.OutcomeLemmas.{rule-warned, strictly-reported, strictly_after-warned, warned_if, with_rule-reported}
 

@@ -10,8 +10,8 @@ use Rattle.kc_tree.specs.declared.rows.DefinitionId.{DefinitionId}
 use Rattle.kc_tree.specs.declared.rows.Symbol.{Symbol}
 use Rattle.kc_tree.specs.Layouts.{DefinitionFacts, definition_at}
 use Rattle.kc_tree.specs.Spans.{definition_ids}
-use Rattle.kc_tree.specs.TreeFacts.{Condition}
-use Rattle.kc_conf.specs.Lost.{has_prompt}
+use Rattle.kc_language.specs.Symbols.{Condition}
+use Rattle.kc_language.specs.Texts.{has_prompt}
 use Rattle.kc_conf.specs.LostView.{is_prompted}
 
 module _ (l : Layout) (s : Symbol) where

@@ -1,29 +1,20 @@
 -- What a run's texts give when they are read again.
 use Rattle.std.proofs.Common.{◌≡◌, ℕ, ◌<◌, true, false, List, [], ◌∷◌, ◌++◌, length, Some, None, refl, ap, sym, ◌∙◌, subst, map}
 use Rattle.std.specs.Prelude.{◌&&◌, not, string_bytes, slice_index_or}
-use Rattle.kc_expr.specs.Value.{SymbolValue, TextValue}
-use Rattle.kc_expr.specs.declared.expression.SymbolType.TheVariants.{Undefined}
+use Rattle.kc_language.specs.Expressions.{SymbolValue, TextValue}
+use Rattle.kc_language.specs.declared.expressions.SymbolType.TheVariants.{Undefined}
 use Rattle.std.proofs.lemmas.List.{ext_get_or}
-use Rattle.kc_read.specs.Files.{Files}
-use Rattle.kc_tree.specs.TreeFacts.{TreeFacts}
+use Rattle.kc_language.specs.Expansion.{Files}
+use Rattle.kc_language.specs.Symbols.{TreeFacts}
 use Rattle.kc_build.specs.Trees.{TreesAreWellFormed}
-use Rattle.kc_user.specs.Places.{ArePlaces, Places, place_at}
-use Rattle.kc_order.specs.Solution.{Solves}
-use Rattle.kc_values.specs.Solution.{equations, name_count}
-use Rattle.kc_solve.specs.Solved.{Solution, value_of}
-use Rattle.kc_config_file.specs.Laws.{HasShortLines}
+use Rattle.kc_user.specs.Places.{ArePlaces}
+use Rattle.kc_language.specs.ConfigFile.{Places, place_at, ReadResult, reading, reading_of, is_prefix}
+use Rattle.kc_language.specs.Values.{Solves, equations, name_count}
+use Rattle.kc_language.specs.Texts.{Solution, value_of, HasShortLines, IsOneSolution, read_alone, valuation_view, solution_view, config_text, minimal_text}
 use Rattle.kc_config_file.specs.WrittenLaws.{ConfigIsIdempotent, ConfigIsOfValues, IsSolutionOf, MinimalHasNothingToSpare, MinimalRestores, WrittenTextsAreShort}
-use Rattle.kc_config_file.specs.Reading.{ReadResult, reading, reading_of}
-use Rattle.kc_config_file.specs.Reread.{IsOneSolution, read_alone, valuation_view}
-use Rattle.kc_config_file.specs.SolvedView.{solution_view}
 use Rattle.kc_config_file.specs.Streams.{StreamsLeavePlaces}
-use Rattle.kc_config_file.specs.Texts.{config_text, minimal_text}
-use Rattle.kc_config_file.specs.Prefixes.{is_prefix}
-use Rattle.kc_options.specs.declared.options.Options.{Options}
-use Rattle.kc_options.specs.Asked.{lead}
-use Rattle.kc_conf.specs.Outcome.{IsAcceptedTree, IsLenientOutcome, IsOutcomeOfReading, IsRefusedTree, IsSolutionFor, OneAnswer, Outcome, accepted_tree, lines_text, long_line, names_of, reported, read_of, refused_name, refused_tree, root_file, streams, strictly, text_if, unreadable_name, whole, with_rule, fresh_input, refused_if, warned_files}
+use Rattle.kc_language.specs.Outcome.{Options, lead, IsAcceptedTree, IsLenientOutcome, IsOutcomeOfReading, IsRefusedTree, IsSolutionFor, OneAnswer, Outcome, accepted_tree, lines_text, long_line, names_of, reported, read_of, refused_name, refused_tree, root_file, streams, strictly, text_if, unreadable_name, whole, with_rule, fresh_input, refused_if, warned_files, is_taken, refuses_input}
 use Rattle.kc_conf.proofs.OutcomeLemmas.{strictly-config, strictly-minimal, strictly-off, config_kept, minimal_kept, rule-config, rule-minimal, text_if-same, text_if_is}
-use Rattle.kc_conf.specs.Taken.{is_taken, refuses_input}
 use Rattle.kc_conf.specs.Reruns.{AreAlone, ConfigIsReadAgain, OutcomesAreReadAgain, RefusesNothing, MinimalIsReadAgain, MinimalIsRunAgain, TextsHaveShortLines, WrittenAreWhole}
 
 -- ---- what is written is of a whole run

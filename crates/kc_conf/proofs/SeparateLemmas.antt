@@ -17,16 +17,15 @@ use Rattle.kc_io.specs.declared.device.Site.{Site}
 use Rattle.kc_io.specs.declared.device.Site.TheVariants.{Place, Beside}
 use Rattle.kc_io.proofs.HeldLemmas.{delivery_held}
 use Rattle.kc_io.proofs.LogLemmas.{keeps_both, keeps_bytes, keeps_reported, looks_acts, spot_more, spot_of}
-use Rattle.kc_read.specs.Files.{Files}
-use Rattle.kc_tree.specs.TreeFacts.{TreeFacts}
+use Rattle.kc_language.specs.Expansion.{Files}
+use Rattle.kc_language.specs.Symbols.{TreeFacts}
 use Rattle.kc_conf.specs.Ends.{Breaks, Broken, Completes, delivered_by, delivers, in_delivery, in_input, in_diagnostics, no_memory, text_at, texts_of}
 use Rattle.kc_conf.specs.Given.{InputFile, begun, reads}
-use Rattle.kc_conf.specs.Outcome.{Outcome}
+use Rattle.kc_language.specs.Outcome.{Options, Outcome}
 use Rattle.kc_conf.specs.Stops.{cleared_by, clearing, event_of}
-use Rattle.kc_options.specs.declared.options.Delivery.{Delivery}
-use Rattle.kc_options.specs.declared.options.Delivery.TheVariants as delivered
-use Rattle.kc_options.specs.declared.options.Options.{Options}
-use Rattle.kc_options.specs.declared.options.Status.{Status}
+use Rattle.kc_language.specs.declared.outcome.Delivery.{Delivery}
+use Rattle.kc_language.specs.declared.outcome.Delivery.TheVariants as delivered
+use Rattle.kc_language.specs.declared.outcome.Status.{Status}
 use Rattle.kc_conf.specs.declared.stop.Stop.{Stop}
 use Rattle.kc_conf.specs.declared.stop.Stop.TheVariants.{OutOfMemory, Failed}
 use Rattle.kc_conf.proofs.GivenLemmas.{keeps-are_reads, keeps-reads}

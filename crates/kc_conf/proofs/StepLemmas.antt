@@ -2,7 +2,7 @@
 use Rattle.std.proofs.Common.{◌≡◌, ℕ, Bool, true, false, List, [], ◌∷◌, ◌++◌, refl, sym, ap, subst, ◌∙◌, append_assoc, append-nil, Some, None, Result, Ok, Err, OnOk, IfErr, Vec, Global, length, arith}
 use Rattle.std.specs.Prelude.{◌==◌}
 use Rattle.std.specs.List.{after_last}
-use Rattle.kc_text.specs.Lines.{HoldsNoLineFeed, is_line_feed}
+use Rattle.kc_language.specs.Lines.{HoldsNoLineFeed, is_line_feed}
 use Rattle.kc_io.specs.Log.{Event, Log, Leads}
 use Rattle.kc_io.specs.WholeLines.{is_whole_lines}
 use Rattle.kc_io.specs.declared.device.Action.{Action}
@@ -11,12 +11,13 @@ use Rattle.kc_io.proofs.LogLemmas.{leads_both, leads_nothing, leads_said}
 use Rattle.kc_config_file.specs.Feeding.{StreamPosition, to_come}
 use Rattle.kc_config_file.specs.ReaderCalls.{AnswersEnd, AnswersFeed}
 use Rattle.kc_config_file.specs.ReaderState.{ReaderState}
-use Rattle.kc_config_file.specs.Reading.{Line, ReadResult, UserInput, lines_from, reading, with_warnings}
-use Rattle.kc_config_file.specs.Sink.{BeginsWith, GoesBeyond}
+use Rattle.kc_language.specs.ConfigFile.{Line, ReadResult, UserInput, lines_from, reading}
+use Rattle.kc_config_file.specs.Reading.{with_warnings}
+use Rattle.kc_language.specs.Text.{BeginsWith, GoesBeyond}
 use Rattle.kc_config_file.specs.WholeLines.{AddsWholeLines}
 use Rattle.kc_config_file.specs.declared.fault.InputFault.{InputFault}
 use Rattle.kc_config_file.specs.declared.fault.InputFault.TheVariants.{InputLineTooLong, Memory}
-use Rattle.kc_conf.specs.Outcome.{AreLines}
+use Rattle.kc_language.specs.Outcome.{AreLines}
 use Rattle.kc_conf.specs.Reads.{ended_with}
 use Rattle.kc_conf.specs.ReadSteps.{BreaksEnd, BreaksPiece, EndsFile, FailsAt, OnlyHeldWaits, SaysWaiting, Stand, StopsWarnings, TakesPiece, Warns, held_back, said_now}
 use Rattle.kc_conf.specs.Stops.{event_of}

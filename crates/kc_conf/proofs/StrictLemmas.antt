@@ -6,29 +6,19 @@ use Rattle.std.proofs.Math.Dec.{eqb-suc-zero}
 use Rattle.std.proofs.lemmas.Bool.{eqb-false, eqb-true}
 use Rattle.std.proofs.lemmas.List.{get_or-set_same, get_or-set_other, length-replicate}
 use Rattle.std.proofs.lemmas.Option.{slice_get_within}
-use Rattle.kc_expr.specs.declared.expression.SymId.{SymId}
-use Rattle.kc_read.specs.Files.{Files}
-use Rattle.kc_tree.specs.TreeFacts.{IsWellFormed, SymbolFacts, TreeFacts}
+use Rattle.kc_language.specs.declared.expressions.SymId.{SymId}
+use Rattle.kc_language.specs.Expansion.{Files}
+use Rattle.kc_tree.specs.TreeFacts.{IsWellFormed}
+use Rattle.kc_language.specs.Symbols.{SymbolFacts, TreeFacts}
 use Rattle.kc_build.specs.Trees.{TreesAreWellFormed}
-use Rattle.kc_user.specs.GivenValue.{GivenValue, SymbolPlace, same_given}
-use Rattle.kc_user.specs.Places.{ArePlacesOf, Places, place_at}
-use Rattle.kc_values.specs.Differs.{given_of}
-use Rattle.kc_values.specs.Lookups.{facts}
-use Rattle.kc_solve.specs.Solved.{Solution, known, value_warnings}
-use Rattle.kc_config_file.specs.Changes.{StreamLocation, is_change}
-use Rattle.kc_config_file.specs.Effects.{Effect, Silent, Warns, Assigns}
-use Rattle.kc_config_file.specs.Reading.{Line, UserInput, effect, input_after, lines_of, places_after, stream_location, untaken, untaken_line}
-use Rattle.kc_config_file.specs.Reading.{is_taken as is_taken_by}
+use Rattle.kc_language.specs.Values.{GivenValue, SymbolPlace, same_given, given_of, facts}
+use Rattle.kc_language.specs.ConfigFile.{ArePlacesOf, Places, place_at, StreamLocation, is_change, Effect, Silent, Warns, Assigns, Line, UserInput, effect, input_after, lines_of, places_after, stream_location, untaken, untaken_line, is_taken as is_taken_by}
+use Rattle.kc_language.specs.Texts.{Solution, known, value_warnings, solution_view, config_text, has_prompt, lost_lines}
 use Rattle.kc_config_file.specs.ReadingLaws.{LinesGiveInTurn, LinesInTurn}
-use Rattle.kc_config_file.specs.SolvedView.{solution_view}
-use Rattle.kc_config_file.specs.Texts.{config_text}
-use Rattle.kc_options.specs.declared.options.Options.{Options}
-use Rattle.kc_conf.specs.Lost.{has_prompt, lost_lines}
 use Rattle.kc_conf.proofs.OutcomeLemmas.{text_if_is}
-use Rattle.kc_conf.specs.Outcome.{Outcome, fresh_input, names_of, read_of, root_file, streams}
+use Rattle.kc_language.specs.Outcome.{Options, Outcome, fresh_input, names_of, read_of, root_file, streams, is_outside, is_taken, lost_warnings, refuses_input}
 use Rattle.kc_conf.specs.Reruns.{RefusesNothing, WrittenAreWhole}
 use Rattle.kc_conf.specs.Strict.{IsTakenAsWritten, StrictTakesAll}
-use Rattle.kc_conf.specs.Taken.{is_outside, is_taken, lost_warnings, refuses_input}
 use Rattle.kc_conf.proofs.AccountedLemmas.{given_is, some_prompts, input_is, lost_if, line_in, no_line, number_of, places_are, same_symbol, value_in}
 
 -- ---- lists and truths

@@ -1,17 +1,14 @@
 -- For proofs: A tree that was read, and one that was accepted.
 use Rattle.std.specs.Prelude.{◌≢◌, ℕ, List, Result, Ok, Err, IfOk, IfErr}
-use Rattle.kc_build.specs.Trees.{IsTreeOf}
-use Rattle.kc_read.specs.Files.{Files}
-use Rattle.kc_read.specs.OpenedFiles.{AreOpened}
+use Rattle.kc_language.specs.Symbols.{IsTreeOf}
+use Rattle.kc_language.specs.Expansion.{Files, AreOpened}
 use Rattle.kc_read.specs.RefusalView.{refusal_view}
-use Rattle.kc_diagnostics.specs.declared.cause.Cause.TheVariants.{Memory}
+use Rattle.kc_language.specs.declared.diagnostics.Cause.TheVariants.{Memory}
 use Rattle.kc_read.specs.declared.refusal.Refusal.{Refusal}
 use Rattle.kc_solve.specs.Graphs.{IsGraphOf}
-use Rattle.kc_options.specs.Asked.{root_file}
-use Rattle.kc_conf.specs.Outcome.{IsAcceptedTree}
+use Rattle.kc_language.specs.Outcome.{Options, root_file, IsAcceptedTree}
 use Rattle.kc_conf.specs.declared.accepted.OrderedTree.{OrderedTree}
 use Rattle.kc_conf.specs.declared.accepted.TreeReading.{TreeReading}
-use Rattle.kc_options.specs.declared.options.Options.{Options}
 
 -- what was read of these files: the tree of the root file, and the files that it opens
 pub record IsReadOf (files : Files) (root : List ℕ) (read : TreeReading) : Type 0 where

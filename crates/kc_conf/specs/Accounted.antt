@@ -1,22 +1,14 @@
 -- Trusted: That no line of the streams goes unaccounted for where lost values are warned of.
 use Rattle.std.specs.Prelude.{◌≡◌, ◌⊎◌, ℕ, true, false, All, List, ◌∷◌, ◌++◌, Some, codes}
-use Rattle.kc_expr.specs.declared.expression.SymId.{SymId}
-use Rattle.kc_read.specs.Files.{Files}
-use Rattle.kc_tree.specs.TreeFacts.{SymbolFacts, TreeFacts}
-use Rattle.kc_expr.specs.declared.expression.SymbolType.{SymbolType}
-use Rattle.kc_user.specs.GivenValue.{GivenValue, same_given}
-use Rattle.kc_values.specs.Differs.{given_of}
-use Rattle.kc_values.specs.Lookups.{facts, name}
-use Rattle.kc_solve.specs.Solved.{Solution, known}
-use Rattle.kc_diagnostics.specs.declared.warning.Warning.TheVariants.{SetAgain}
-use Rattle.kc_config_file.specs.Effects.{Effect, Silent, Warns, Assigns, warning_line}
-use Rattle.kc_config_file.specs.Reading.{Line, effect, lines_of, stream_location}
-use Rattle.kc_config_file.specs.Changes.{change_line}
-use Rattle.kc_config_file.specs.SolvedView.{solution_view}
-use Rattle.kc_config_file.specs.Texts.{config_text}
-use Rattle.kc_options.specs.declared.options.Options.{Options}
-use Rattle.kc_conf.specs.Lost.{has_prompt, lost_line}
-use Rattle.kc_conf.specs.Outcome.{AreLines, IsOutcome, Outcome, names_of, streams}
+use Rattle.kc_language.specs.declared.expressions.SymId.{SymId}
+use Rattle.kc_language.specs.Expansion.{Files}
+use Rattle.kc_language.specs.Symbols.{SymbolFacts, TreeFacts}
+use Rattle.kc_language.specs.declared.expressions.SymbolType.{SymbolType}
+use Rattle.kc_language.specs.Values.{GivenValue, same_given, given_of, facts, name}
+use Rattle.kc_language.specs.Texts.{Solution, known, solution_view, config_text, has_prompt, lost_line}
+use Rattle.kc_language.specs.declared.diagnostics.Warning.TheVariants.{SetAgain}
+use Rattle.kc_language.specs.ConfigFile.{Effect, Silent, Warns, Assigns, warning_line, Line, effect, lines_of, stream_location, change_line}
+use Rattle.kc_language.specs.Outcome.{Options, AreLines, IsOutcome, Outcome, names_of, streams}
 use Rattle.kc_conf.specs.Reruns.{RefusesNothing}
 
 -- the line stands in the text, behind whole lines

@@ -1,15 +1,11 @@
 -- For proofs: What follows from the user's input.
 use Rattle.std.specs.Prelude.{◌≡◌, ℕ, Bool, ◌||◌, ◌&&◌, if◌then◌else◌, List, ◌++◌, map, Option, None, Some, option_map}
-use Rattle.kc_tree.specs.TreeFacts.{TreeFacts}
-use Rattle.kc_solve.specs.Solved.{Solution, warnings}
-use Rattle.kc_config_file.specs.Reading.{UserInput}
+use Rattle.kc_language.specs.Symbols.{TreeFacts}
+use Rattle.kc_language.specs.Texts.{Solution, warnings}
+use Rattle.kc_language.specs.ConfigFile.{UserInput}
 use Rattle.kc_io.specs.Scripts.{NamedText}
-use Rattle.kc_load.specs.Rules.{rule_text}
-use Rattle.kc_options.specs.Asked.{lead, target}
+use Rattle.kc_language.specs.Outcome.{Options, rule_text, lead, target, IsSolutionFor, Outcome, files_of, has_text, lines_text, lost_warnings, refuses_input}
 use Rattle.kc_conf.specs.Ends.{texts_of}
-use Rattle.kc_conf.specs.Outcome.{IsSolutionFor, Outcome, files_of, has_text, lines_text, lost_warnings}
-use Rattle.kc_conf.specs.Taken.{refuses_input}
-use Rattle.kc_options.specs.declared.options.Options.{Options}
 
 -- the files of a solution, with a dependency file that lists these names
 abbrev pub ruled_files : Options → TreeFacts → Solution → Option (List (List ℕ)) → Outcome

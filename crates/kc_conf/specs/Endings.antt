@@ -1,23 +1,20 @@
 -- For proofs: How a run ends behind its reading.
 use Rattle.std.specs.Prelude.{◌≡◌, ◌≢◌, ◌⊎◌, ℕ, Bool, List, [], ◌++◌, Option, None, Some, Result, Ok, Err}
-use Rattle.kc_config_file.specs.Sink.{GoesBeyond}
+use Rattle.kc_language.specs.Text.{GoesBeyond}
 use Rattle.kc_io.specs.Delivered.{Delivered, StopsBefore}
 use Rattle.kc_io.specs.Log.{Event, Log, Leads, Tells}
 use Rattle.kc_io.specs.Scripts.{NamedText, stale}
 use Rattle.kc_io.specs.declared.delivery.Manner.{Manner}
 use Rattle.kc_io.specs.declared.device.Action.TheVariants.{Report}
 use Rattle.kc_io.specs.declared.steps.Failure.{Failure}
-use Rattle.kc_options.specs.Asked.{lead}
+use Rattle.kc_language.specs.Outcome.{Options, lead, strict_line, AreLines}
 use Rattle.kc_conf.specs.Ends.{delivers, stale_lines, stale_texts, status_with}
-use Rattle.kc_conf.specs.ErrorLines.{strict_line}
 use Rattle.kc_conf.specs.Given.{still_told}
-use Rattle.kc_conf.specs.Outcome.{AreLines}
 use Rattle.kc_conf.specs.Reads.{IsReportStop}
 use Rattle.kc_conf.specs.Stops.{Reports, clearing, event_of}
-use Rattle.kc_options.specs.declared.options.Delivery.TheVariants.{Check}
-use Rattle.kc_options.specs.declared.options.Options.{Options}
-use Rattle.kc_options.specs.declared.options.Status.{Status}
-use Rattle.kc_options.specs.declared.options.Status.TheVariants.{Done, Refused, Faulted}
+use Rattle.kc_language.specs.declared.outcome.Delivery.TheVariants.{Check}
+use Rattle.kc_language.specs.declared.outcome.Status.{Status}
+use Rattle.kc_language.specs.declared.outcome.Status.TheVariants.{Done, Refused, Faulted}
 use Rattle.kc_conf.specs.declared.stop.Stop.{Stop}
 use Rattle.kc_conf.specs.declared.stop.Stop.TheVariants.{OutOfMemory, Failed}
 

@@ -2,9 +2,8 @@
 use Rattle.std.specs.Prelude.{◌≡◌, ◌⊎◌, ℕ, List, [], ◌∷◌, ◌++◌, string_bytes, Option, Some, Result, Err, String}
 use Rattle.std.specs.declared.alloc.Global.{Global}
 use Rattle.std.specs.List.{flat_map}
-use Rattle.kc_read.specs.Expansion.{Refused}
-use Rattle.kc_read.specs.Files.{Files}
-use Rattle.kc_tree.specs.TreeFacts.{TreeFacts}
+use Rattle.kc_language.specs.Expansion.{Refused, Files}
+use Rattle.kc_language.specs.Symbols.{TreeFacts}
 use Rattle.kc_io.specs.Delivered.{StopsBefore}
 use Rattle.kc_io.specs.Log.{Event, Journal, Log, Leads, Tells, reported, said}
 use Rattle.kc_io.specs.Scripts.{NamedText, chosen, delivery, stale}
@@ -12,17 +11,14 @@ use Rattle.kc_io.specs.declared.delivery.Manner.TheVariants.{InPlace, Replacing}
 use Rattle.kc_io.specs.declared.device.Action.TheVariants.{Open, Read, Report}
 use Rattle.kc_io.specs.declared.device.Fault.{Fault}
 use Rattle.kc_io.specs.declared.steps.Failure.{Failure}
-use Rattle.kc_config_file.specs.Sink.{BeginsWith, GoesBeyond}
-use Rattle.kc_options.specs.Asked.{lead, root_file}
-use Rattle.kc_conf.specs.ErrorLines.{stale_line}
+use Rattle.kc_language.specs.Text.{BeginsWith, GoesBeyond}
+use Rattle.kc_language.specs.Outcome.{Options, lead, root_file, stale_line, AreLines, IsAcceptedTree, IsOutcome, IsRefusedName, IsRefusedTree, NamesAreRead, Outcome, lines_text, diagnostics_of, read_of}
 use Rattle.kc_conf.specs.Given.{AreInputs, AreThere, InputFile, ReadsTo, ReadsUpTo, bytes_of, reads, still_told}
-use Rattle.kc_conf.specs.Outcome.{AreLines, IsAcceptedTree, IsOutcome, IsRefusedName, IsRefusedTree, NamesAreRead, Outcome, lines_text, diagnostics_of, read_of}
 use Rattle.kc_conf.specs.Stops.{IsReport, clearing, event_of, stop_line}
-use Rattle.kc_options.specs.declared.options.Delivery.{Delivery}
-use Rattle.kc_options.specs.declared.options.Delivery.TheVariants as delivered
-use Rattle.kc_options.specs.declared.options.Options.{Options}
-use Rattle.kc_options.specs.declared.options.Status.{Status}
-use Rattle.kc_options.specs.declared.options.Status.TheVariants as answered
+use Rattle.kc_language.specs.declared.outcome.Delivery.{Delivery}
+use Rattle.kc_language.specs.declared.outcome.Delivery.TheVariants as delivered
+use Rattle.kc_language.specs.declared.outcome.Status.{Status}
+use Rattle.kc_language.specs.declared.outcome.Status.TheVariants as answered
 use Rattle.kc_conf.specs.declared.stop.Stop.{Stop}
 use Rattle.kc_conf.specs.declared.stop.Stop.TheVariants.{OutOfMemory, Failed}
 

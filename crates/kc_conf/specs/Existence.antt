@@ -1,13 +1,11 @@
 -- Trusted: That there is an outcome, and one.
 use Rattle.std.specs.Prelude.{◌≡◌, ◌⊎◌, List, ℕ}
-use Rattle.kc_read.specs.Expansion.{Refused}
-use Rattle.kc_read.specs.Files.{Files}
-use Rattle.kc_tree.specs.TreeFacts.{TreeFacts}
-use Rattle.kc_user.specs.Places.{ArePlacesOf, Places}
-use Rattle.kc_values.specs.Needs.{IsAccepted}
-use Rattle.kc_solve.specs.Solved.{Solution}
-use Rattle.kc_options.specs.declared.options.Options.{Options}
-use Rattle.kc_conf.specs.Outcome.{IsAcceptedTree, IsOutcome, IsRefusedTree, IsSolutionFor, Outcome, root_file}
+use Rattle.kc_language.specs.Expansion.{Refused, Files}
+use Rattle.kc_language.specs.Symbols.{TreeFacts}
+use Rattle.kc_language.specs.ConfigFile.{ArePlacesOf, Places}
+use Rattle.kc_language.specs.Needs.{IsAccepted}
+use Rattle.kc_language.specs.Texts.{Solution}
+use Rattle.kc_language.specs.Outcome.{Options, IsAcceptedTree, IsOutcome, IsRefusedTree, IsSolutionFor, Outcome, root_file}
 
 -- An accepted tree has a solution under any of its places.
 abbrev pub SolutionExists : Type 0

@@ -6,15 +6,12 @@ use Rattle.kc_load.specs.Faults.{IsLoadFault, failed_load}
 use Rattle.kc_load.specs.Folders.{FolderState, Leads as FolderLeads, files_told}
 use Rattle.kc_load.specs.declared.fault.LoadFault.{LoadFault}
 use Rattle.kc_load.specs.declared.fault.LoadFault.TheVariants.{CannotRead, Memory}
-use Rattle.kc_read.specs.Files.{Files}
-use Rattle.kc_options.specs.Asked.{root_file}
+use Rattle.kc_language.specs.Expansion.{Files}
+use Rattle.kc_language.specs.Outcome.{Options, root_file, cannot_read_line, out_of_memory_line}
 use Rattle.kc_conf.specs.Ends.{Runs}
-use Rattle.kc_conf.specs.ErrorLines.{cannot_read_line}
-use Rattle.kc_diagnostics.specs.RunErrors.{out_of_memory_line}
 use Rattle.kc_conf.specs.Stops.{TriesToSay}
-use Rattle.kc_options.specs.declared.options.Options.{Options}
-use Rattle.kc_options.specs.declared.options.Status.{Status}
-use Rattle.kc_options.specs.declared.options.Status.TheVariants as answered
+use Rattle.kc_language.specs.declared.outcome.Status.{Status}
+use Rattle.kc_language.specs.declared.outcome.Status.TheVariants as answered
 
 -- the error line of a tree that could not be loaded
 abbrev pub load_line : LoadFault → List ℕ

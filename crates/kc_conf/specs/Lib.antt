@@ -1,12 +1,8 @@
-pub mod ErrorLines
-pub mod Outcome
-pub mod Taken
 pub mod Given
 pub mod Stops
 pub mod Ends
 pub mod Existence
 pub mod Accounted
-pub mod Lost
 pub mod LostView
 pub mod Reruns
 pub mod Strict

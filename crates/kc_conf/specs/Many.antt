@@ -1,24 +1,19 @@
 -- Trusted: What a run leaves for many configurations of one tree.
 use Rattle.std.specs.Prelude.{◌≡◌, ◌≢◌, ◌⊎◌, ℕ, suc, Bool, true, false, not, ◌||◌, List, [], Option, None, Some}
 use Rattle.std.specs.Result.{is_ok}
-use Rattle.kc_read.specs.Expansion.{Refused}
-use Rattle.kc_read.specs.Files.{Files}
-use Rattle.kc_read.specs.OpenedFiles.{AreOpened}
-use Rattle.kc_tree.specs.TreeFacts.{TreeFacts}
+use Rattle.kc_language.specs.Expansion.{Refused, Files, AreOpened}
+use Rattle.kc_language.specs.Symbols.{TreeFacts}
 use Rattle.kc_io.specs.Log.{Log, Leads, failed}
 use Rattle.kc_io.specs.declared.device.Action.{Action}
 use Rattle.kc_io.specs.declared.device.Action.TheVariants.{Report}
 use Rattle.kc_io.specs.declared.device.Fault.{Fault}
 use Rattle.kc_io.specs.declared.device.Fault.TheVariants as fault
 use Rattle.kc_conf.specs.Ends.{Broken, Completes, nothing_said}
-use Rattle.kc_conf.specs.ErrorLines.{refusal_line}
-use Rattle.kc_diagnostics.specs.RunErrors.{out_of_memory_line}
+use Rattle.kc_language.specs.Outcome.{Options, refusal_line, out_of_memory_line, IsAcceptedTree, IsOutcome, IsRefusedName, IsRefusedTree, Outcome, lines_text, reported, root_file, unreadable_name}
 use Rattle.kc_conf.specs.Given.{AreInputs, InputFile, bytes_of, still_told}
-use Rattle.kc_conf.specs.Outcome.{IsAcceptedTree, IsOutcome, IsRefusedName, IsRefusedTree, Outcome, lines_text, reported, root_file, unreadable_name}
 use Rattle.kc_conf.specs.Stops.{TriesToSay}
-use Rattle.kc_options.specs.declared.options.Options.{Options}
-use Rattle.kc_options.specs.declared.options.Status.{Status}
-use Rattle.kc_options.specs.declared.options.Status.TheVariants as answered
+use Rattle.kc_language.specs.declared.outcome.Status.{Status}
+use Rattle.kc_language.specs.declared.outcome.Status.TheVariants as answered
 use Rattle.kc_conf.specs.declared.stop.Stop.{Stop}
 use Rattle.kc_conf.specs.declared.stop.Stop.TheVariants.{OutOfMemory, Failed}
 

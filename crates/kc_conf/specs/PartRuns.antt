@@ -1,16 +1,15 @@
 -- For proofs: What a run leaves until it is said why it was broken off, whole or behind the tree's warnings.
 use Rattle.std.specs.Prelude.{◌≢◌, ℕ, Bool, ◌&&◌, ◌||◌, List, [], ◌++◌, Result, Ok, Err}
-use Rattle.kc_read.specs.Files.{Files}
-use Rattle.kc_tree.specs.TreeFacts.{TreeFacts}
+use Rattle.kc_language.specs.Expansion.{Files}
+use Rattle.kc_language.specs.Symbols.{TreeFacts}
 use Rattle.kc_io.specs.Log.{Event, Log, Leads}
 use Rattle.kc_conf.specs.Ends.{Breaks, Completes, nothing_said, said_of_tree}
 use Rattle.kc_conf.specs.Given.{AreInputs, InputFile, bytes_of, still_told}
 use Rattle.kc_conf.specs.Many.{IsPart}
-use Rattle.kc_conf.specs.Outcome.{IsOutcome, Outcome, has_text, is_done, lines_text, reported, refused_if}
+use Rattle.kc_language.specs.Outcome.{Options, IsOutcome, Outcome, has_text, is_done, lines_text, reported, refused_if}
 use Rattle.kc_conf.specs.Reads.{IsReportStop}
 use Rattle.kc_conf.specs.Stops.{clearing, event_of}
-use Rattle.kc_options.specs.declared.options.Options.{Options}
-use Rattle.kc_options.specs.declared.options.Status.{Status}
+use Rattle.kc_language.specs.declared.outcome.Status.{Status}
 use Rattle.kc_conf.specs.declared.stop.Stop.{Stop}
 use Rattle.kc_conf.specs.declared.stop.Stop.TheVariants.{OutOfMemory, Failed}
 

@@ -1,25 +1,22 @@
 -- For proofs: What the steps of reading the input files do.
-use Rattle.std.specs.Prelude.{◌≡◌, ◌⊎◌, ℕ, Bool, true, false, not, if◌then◌else◌, List, [], ◌∷◌, ◌++◌, All, Option, None, Some, Result, OnOk, IfErr, length, map, take, ⊤}
-use Rattle.std.specs.Option.{option_map}
-use Rattle.kc_text.specs.Lines.{HoldsNoLineFeed}
-use Rattle.kc_tree.specs.TreeFacts.{TreeFacts}
-use Rattle.kc_user.specs.Places.{ArePlacesOf}
+use Rattle.std.specs.Prelude.{◌≡◌, ◌⊎◌, ℕ, Bool, true, false, not, if◌then◌else◌, List, [], ◌∷◌, ◌++◌, All, Option, None, Some, Result, OnOk, IfErr, length, map, take, ⊤, option_map}
+use Rattle.kc_language.specs.Lines.{HoldsNoLineFeed}
+use Rattle.kc_language.specs.Symbols.{TreeFacts}
+use Rattle.kc_language.specs.ConfigFile.{ArePlacesOf, Line, UserInput, lines_from, lines_of, reading}
 use Rattle.kc_io.specs.Log.{Event, Log, Leads, did, each_byte}
 use Rattle.kc_io.specs.Reading.{IsFound, IsOpened, OpenFile}
 use Rattle.kc_io.specs.declared.device.Action.{Action}
 use Rattle.kc_io.specs.declared.device.Action.TheVariants.{Open, Miss, Read, Report}
 use Rattle.kc_io.specs.declared.steps.Failure.{Failure}
 use Rattle.kc_config_file.specs.Feeding.{EndsStream, ReadsPiece, StreamPosition, stream_start, to_come}
-use Rattle.kc_config_file.specs.Laws.{HasShortLines}
+use Rattle.kc_language.specs.Texts.{HasShortLines}
 use Rattle.kc_config_file.specs.ReaderState.{ReaderState}
-use Rattle.kc_config_file.specs.Reading.{Line, UserInput, lines_from, lines_of, reading, with_warnings}
-use Rattle.kc_config_file.specs.Sink.{BeginsWith, GoesBeyond}
-use Rattle.kc_options.specs.Asked.{input_files, names_of}
+use Rattle.kc_config_file.specs.Reading.{with_warnings}
+use Rattle.kc_language.specs.Text.{BeginsWith, GoesBeyond}
+use Rattle.kc_language.specs.Outcome.{Options, input_files, names_of, AreLines, streams}
 use Rattle.kc_conf.specs.Given.{InputFile, IsAsTold, IsThere, ReadsInto, begun, bytes_of, ended_lines, reads, reads_one, still_told}
-use Rattle.kc_conf.specs.Outcome.{AreLines, streams}
 use Rattle.kc_conf.specs.Reads.{IsReportStop, ended_with}
 use Rattle.kc_conf.specs.Stops.{event_of}
-use Rattle.kc_options.specs.declared.options.Options.{Options}
 use Rattle.kc_conf.specs.declared.reading.Waiting.{Waiting}
 use Rattle.kc_conf.specs.declared.stop.Stop.{Stop}
 use Rattle.kc_conf.specs.declared.stop.Stop.TheVariants.{OutOfMemory, Failed}

@@ -2,20 +2,17 @@
 use Rattle.std.specs.Prelude.{◌≡◌, ◌⊎◌, ℕ, Bool, if◌then◌else◌, List, [], ◌∷◌, ◌++◌, Option, Result, Ok, Err, codes, ⊤}
 use Rattle.std.specs.Borrow.{Bor}
 use Rattle.std.specs.Result.{is_ok}
-use Rattle.kc_tree.specs.TreeFacts.{TreeFacts}
+use Rattle.kc_language.specs.Symbols.{TreeFacts}
 use Rattle.kc_io.specs.Log.{Event, Log, Leads, reported, said}
 use Rattle.kc_io.specs.declared.device.Action.TheVariants.{Open, Read, Report}
 use Rattle.kc_io.specs.declared.device.Fault.{Fault}
 use Rattle.kc_io.specs.declared.device.Fault.TheVariants as fault
 use Rattle.kc_io.specs.declared.steps.Failure.{Failure}
-use Rattle.kc_config_file.specs.Reading.{ReadResult, StreamLocation, UserInput, lines_of, reading}
-use Rattle.kc_config_file.specs.Sink.{BeginsWith, GoesBeyond}
-use Rattle.kc_options.specs.Asked.{names_of}
-use Rattle.kc_diagnostics.specs.RunErrors.{out_of_memory_line}
+use Rattle.kc_language.specs.ConfigFile.{ReadResult, StreamLocation, UserInput, lines_of, reading}
+use Rattle.kc_language.specs.Text.{BeginsWith, GoesBeyond}
+use Rattle.kc_language.specs.Outcome.{Options, names_of, out_of_memory_line, AreLines, streams}
 use Rattle.kc_conf.specs.Stops.{event_of}
 use Rattle.kc_conf.specs.Given.{AreInputs, AreThere, InputFile, ReadsTo, ReadsUpTo, bytes_of, reads, still_told}
-use Rattle.kc_conf.specs.Outcome.{AreLines, streams}
-use Rattle.kc_options.specs.declared.options.Options.{Options}
 use Rattle.kc_conf.specs.declared.reading.LongLine.{LongLine}
 use Rattle.kc_conf.specs.declared.reading.Waiting.{Waiting}
 use Rattle.kc_conf.specs.declared.stop.Stop.{Stop}

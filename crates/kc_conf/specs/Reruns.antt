@@ -1,18 +1,10 @@
 -- Trusted: What the texts that a run writes give when they are read again.
 use Rattle.std.specs.Prelude.{◌≡◌, ℕ, List, [], ◌∷◌, Some, None, true, false, is_some}
-use Rattle.kc_read.specs.OpenedFiles.{AreOpened}
-use Rattle.kc_read.specs.Files.{Files}
-use Rattle.kc_tree.specs.TreeFacts.{TreeFacts}
-use Rattle.kc_user.specs.Places.{place_at}
-use Rattle.kc_solve.specs.Solved.{Solution, value_of}
-use Rattle.kc_config_file.specs.Laws.{ConfigGivesBack, HasShortLines, MinimalGivesBack, MinimalNeedsEach}
-use Rattle.kc_config_file.specs.Prefixes.{is_prefix}
-use Rattle.kc_config_file.specs.Reread.{valuation_view}
-use Rattle.kc_config_file.specs.SolvedView.{solution_view}
-use Rattle.kc_config_file.specs.Texts.{config_text, minimal_text}
-use Rattle.kc_options.specs.declared.options.Options.{Options}
-use Rattle.kc_conf.specs.Outcome.{IsAcceptedTree, IsOutcome, IsSolutionFor, NamesAreRead, Outcome, lines_text, reported, read_of, root_file, with_rule, warned_files}
-use Rattle.kc_conf.specs.Taken.{refuses_input}
+use Rattle.kc_language.specs.Expansion.{AreOpened, Files}
+use Rattle.kc_language.specs.Symbols.{TreeFacts}
+use Rattle.kc_language.specs.ConfigFile.{place_at, is_prefix}
+use Rattle.kc_language.specs.Texts.{Solution, value_of, ConfigGivesBack, HasShortLines, MinimalGivesBack, MinimalNeedsEach, valuation_view, solution_view, config_text, minimal_text}
+use Rattle.kc_language.specs.Outcome.{Options, IsAcceptedTree, IsOutcome, IsSolutionFor, NamesAreRead, Outcome, lines_text, reported, read_of, root_file, with_rule, warned_files, refuses_input}
 
 -- A run that refuses nothing: its tree is accepted, no line of its streams is too long, and these are the values.
 pub record RefusesNothing (files : Files) (options : Options) (all : List (List ℕ)) (tree : TreeFacts) (solution : Solution) : Type 0 where

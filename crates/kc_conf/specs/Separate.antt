@@ -3,20 +3,18 @@ use Rattle.std.specs.Prelude.{◌≡◌, ◌≢◌, ℕ, suc, ◌<◌, Bool, tru
 use Rattle.std.specs.List.{list_any}
 use Rattle.std.specs.Result.{is_ok}
 use Rattle.std.specs.declared.alloc.Global.{Global}
-use Rattle.kc_read.specs.Files.{Files}
-use Rattle.kc_tree.specs.TreeFacts.{TreeFacts}
+use Rattle.kc_language.specs.Expansion.{Files}
+use Rattle.kc_language.specs.Symbols.{TreeFacts}
 use Rattle.kc_io.specs.Held.{last_of}
 use Rattle.kc_io.specs.Log.{Journal, held}
-use Rattle.kc_options.specs.Asked.{input_files}
+use Rattle.kc_language.specs.Outcome.{Options, input_files, IsAcceptedTree, Outcome}
 use Rattle.kc_conf.specs.Ends.{Broken, nothing_said, stale_texts, status_with, texts_of}
 use Rattle.kc_conf.specs.Given.{AreInputs, InputFile, bytes_of}
 use Rattle.kc_conf.specs.Many.{IsPart, RunsEach, StopsAtTree, ends_all, greater}
-use Rattle.kc_conf.specs.Outcome.{IsAcceptedTree, Outcome}
-use Rattle.kc_options.specs.declared.options.Delivery.{Delivery}
-use Rattle.kc_options.specs.declared.options.Delivery.TheVariants as delivered
-use Rattle.kc_options.specs.declared.options.Options.{Options}
-use Rattle.kc_options.specs.declared.options.Status.{Status}
-use Rattle.kc_options.specs.declared.options.Status.TheVariants as answered
+use Rattle.kc_language.specs.declared.outcome.Delivery.{Delivery}
+use Rattle.kc_language.specs.declared.outcome.Delivery.TheVariants as delivered
+use Rattle.kc_language.specs.declared.outcome.Status.{Status}
+use Rattle.kc_language.specs.declared.outcome.Status.TheVariants as answered
 
 -- ---- the files
 

@@ -6,12 +6,9 @@ use Rattle.kc_io.specs.declared.device.Action.{Action}
 use Rattle.kc_io.specs.declared.device.Action.TheVariants.{Open, Read, Create, Write, Close, Move, Clear, Report}
 use Rattle.kc_io.specs.declared.device.Fault.{Fault}
 use Rattle.kc_io.specs.declared.device.Fault.TheVariants as fault
-use Rattle.kc_options.specs.Asked.{lead}
-use Rattle.kc_conf.specs.ErrorLines.{cannot_read_line, cannot_write_line}
-use Rattle.kc_diagnostics.specs.RunErrors.{out_of_memory_line}
-use Rattle.kc_options.specs.declared.options.Delivery.{Delivery}
-use Rattle.kc_options.specs.declared.options.Delivery.TheVariants as delivered
-use Rattle.kc_options.specs.declared.options.Options.{Options}
+use Rattle.kc_language.specs.Outcome.{Options, lead, cannot_read_line, cannot_write_line, out_of_memory_line}
+use Rattle.kc_language.specs.declared.outcome.Delivery.{Delivery}
+use Rattle.kc_language.specs.declared.outcome.Delivery.TheVariants as delivered
 use Rattle.kc_conf.specs.declared.stop.Stop.{Stop}
 use Rattle.kc_conf.specs.declared.stop.Stop.TheVariants.{OutOfMemory, Failed}
 

@@ -1,21 +1,13 @@
 -- Trusted: That --strict lets no line pass that was not taken as written.
 use Rattle.std.specs.Prelude.{◌≡◌, ℕ, Bool, true, false, List, ◌∷◌, ◌++◌, Some}
 use Rattle.std.specs.List.{Contains, list_any}
-use Rattle.kc_read.specs.Files.{Files}
-use Rattle.kc_tree.specs.TreeFacts.{SymbolFacts, TreeFacts}
-use Rattle.kc_values.specs.Differs.{given_of}
-use Rattle.kc_values.specs.Lookups.{facts}
-use Rattle.kc_solve.specs.Solved.{Solution, known, value_warnings}
-use Rattle.kc_user.specs.GivenValue.{GivenValue}
-use Rattle.kc_config_file.specs.Effects.{Effect, Silent, Warns, Assigns}
-use Rattle.kc_config_file.specs.Reading.{Line, effect, lines_of}
-use Rattle.kc_config_file.specs.SolvedView.{solution_view}
-use Rattle.kc_config_file.specs.Texts.{config_text}
-use Rattle.kc_options.specs.declared.options.Options.{Options}
-use Rattle.kc_conf.specs.Lost.{has_prompt}
-use Rattle.kc_conf.specs.Outcome.{IsOutcome, Outcome, names_of, streams}
+use Rattle.kc_language.specs.Expansion.{Files}
+use Rattle.kc_language.specs.Symbols.{SymbolFacts, TreeFacts}
+use Rattle.kc_language.specs.Values.{given_of, facts, GivenValue}
+use Rattle.kc_language.specs.Texts.{Solution, known, value_warnings, solution_view, config_text, has_prompt}
+use Rattle.kc_language.specs.ConfigFile.{Effect, Silent, Warns, Assigns, Line, effect, lines_of}
+use Rattle.kc_language.specs.Outcome.{Options, IsOutcome, Outcome, names_of, streams, is_outside}
 use Rattle.kc_conf.specs.Reruns.{RefusesNothing}
-use Rattle.kc_conf.specs.Taken.{is_outside}
 
 -- A line of this effect, before these lines: it was not warned of, no later line gives its symbol another value, and where lost
 -- values are asked for, what it gives a symbol with a prompt is the symbol's value.

@@ -1,5 +1,5 @@
 //! A tree that was read, and one that was accepted.
-ghost use Rattle.kc_read.specs.Files.{bytes_in};
+ghost use Rattle.kc_language.specs.Expansion.{bytes_in};
 ghost use Rattle.kc_conf.specs.Accepted.{IsReadingOf};
 
 use kc_build::{RootReading, read_listing, tree_of};

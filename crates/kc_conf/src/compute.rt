@@ -1,30 +1,28 @@
 //! What a run is to leave: its warnings and texts, whole in memory.
 ghost use Rattle.std.specs.Prelude.{◌≡◌, ◌++◌, ◌||◌, ◌&&◌, [], ◌∷◌, map, IfOk, OnOk, option_map};
 ghost use Rattle.std.specs.List.{flat_map, list_any};
-ghost use Rattle.kc_diagnostics.specs.Warnings.{owned_warning, warning_line};
-ghost use Rattle.kc_user.specs.Places.{ArePlacesOf};
-ghost use Rattle.kc_solve.specs.Solved.{warnings};
-ghost use Rattle.kc_config_file.specs.SolvedView.{solution_view};
-ghost use Rattle.kc_config_file.specs.Texts as whole;
+ghost use Rattle.kc_diagnostics.specs.Warnings.{owned_warning};
+ghost use Rattle.kc_language.specs.Symbols.{warning_line};
+ghost use Rattle.kc_language.specs.ConfigFile.{ArePlacesOf};
+ghost use Rattle.kc_language.specs.Texts.{warnings, solution_view};
+ghost use Rattle.kc_language.specs.Texts as whole;
 ghost use Rattle.kc_io.specs.TextViews.{text_view};
-ghost use Rattle.kc_load.specs.Rules as rules;
+ghost use Rattle.kc_language.specs.Outcome as rules;
 ghost use Rattle.kc_conf.specs.Accepted.{IsReady};
-ghost use Rattle.kc_options.specs.Asked.{lead, target};
+ghost use Rattle.kc_language.specs.Outcome.{lead, target, has_text, lines_text, names_listed, text_if, is_outside, lost_warnings, refuses_input};
 ghost use Rattle.kc_conf.specs.Computed.{Computes, ruled_files};
 ghost use Rattle.kc_conf.specs.Ends.{text_at, texts_of};
-ghost use Rattle.kc_conf.specs.Outcome.{has_text, lines_text, names_listed, text_if};
-ghost use Rattle.kc_conf.specs.Taken.{is_outside, lost_warnings, refuses_input};
 
 use crate::accepted::OrderedTree;
 use crate::lost::lost_warnings;
 use kc_config_file::config::config_text;
 use kc_config_file::header::{header_text, minimal_text};
 use kc_config_file::user_input::UserInput;
-use kc_diagnostics::{Warning, add_warning};
+use kc_diagnostics::{Warning, add_warning, borrowed};
 use kc_expr::names::Names;
 use kc_io::Text;
 use kc_load::{prerequisites_of, rule_text};
-use kc_options::Options;
+use kc_options::{Options, lead, target};
 use kc_solve::solve::solve;
 use kc_solve::solved::Solved;
 use kc_tree::tree::Tree;
@@ -76,7 +74,7 @@ fn add_warning_line(
         ++ lines_text ((flat_map (λ part. part.now) lead.now ++ warning_line (owned_warning warning.now)) ∷ [])) }
 {
     add_parts(lead, text)?;
-    add_warning(warning.borrowed(), text)?;
+    add_warning(borrowed(warning), text)?;
     text.push(b'\n')?;
     Ok(())
 }
@@ -106,7 +104,7 @@ fn add_value_lines(
     ensures { OnOk result (text.new.items ≡ text.old.items
         ++ (lines_text (map (λ line. lead options.now ++ line) (warnings solved.now)) ++ lines_text (map (λ line. line.items) lost.now))) }
 {
-    add_warnings(&options.lead(), solved.value_warnings(), text)?;
+    add_warnings(&lead(options), solved.value_warnings(), text)?;
     add_lines(&[], lost, text)?;
     Ok(())
 }
@@ -185,7 +183,7 @@ pub(crate) fn names_listed(
         alloc,
         opened,
         options.root.as_str(),
-        options.target().as_bytes(),
+        target(options).as_bytes(),
         options.config.as_bytes(),
         options.fragments.as_slice(),
     )?;
@@ -271,7 +269,7 @@ fn add_rule<'o>(
     let Some(names) = names else {
         return Ok(());
     };
-    let bytes = rule_text(alloc, options.target().as_bytes(), names)?;
+    let bytes = rule_text(alloc, target(options).as_bytes(), names)?;
     texts.push(Text {
         name: name.as_str(),
         bytes,

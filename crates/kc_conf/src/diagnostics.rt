@@ -2,14 +2,11 @@
 
 ghost use Rattle.std.specs.Prelude.{◌≡◌, ◌++◌, [], map, IfErr, OnOk};
 ghost use Rattle.std.specs.List.{flat_map};
-ghost use Rattle.kc_diagnostics.specs.Causes.{error_at, error_line};
-ghost use Rattle.kc_diagnostics.specs.RunErrors.{run_error_text, shown_run_error};
+ghost use Rattle.kc_language.specs.Statements.{error_at, error_line};
+ghost use Rattle.kc_language.specs.Outcome.{run_error_text, lead, first_line, refusal_line, too_long_line, out_of_memory_line, lines_text};
+ghost use Rattle.kc_diagnostics.specs.RunErrors.{shown_run_error};
 ghost use Rattle.kc_read.specs.RefusalView.{refusal_view};
-ghost use Rattle.kc_options.specs.Asked.{lead};
 ghost use Rattle.kc_io.specs.Log.{Leads};
-ghost use Rattle.kc_conf.specs.ErrorLines.{first_line, refusal_line, too_long_line};
-ghost use Rattle.kc_diagnostics.specs.RunErrors.{out_of_memory_line};
-ghost use Rattle.kc_conf.specs.Outcome.{lines_text};
 ghost use Rattle.kc_conf.specs.Reads.{IsReportOrMemory, LastEndsLine, Says, SaysIf, failure_line, stop_of};
 ghost use Rattle.kc_conf.specs.Stops.{Reports, event_of, TriesToSay};
 
@@ -17,9 +14,9 @@ use crate::compute::add_lines;
 use crate::reading::LongLine;
 use crate::stop::Stop;
 use itoa::Buffer;
-use kc_diagnostics::RunError;
+use kc_diagnostics::{RunError, cause_parts, run_error_parts};
 use kc_io::{Action, Device, Failure, Fault};
-use kc_options::Options;
+use kc_options::{Options, lead};
 use kc_read::refusal::Refusal;
 use std::alloc::Global;
 
@@ -93,7 +90,7 @@ fn say_behind<'a, D: Device>(
 pub(crate) fn say_refusal<D: Device>(device: &mut D, refusal: &Refusal) -> Result<(), Stop<'static>>
     ensures { Says (refusal_line (refusal_view refusal.now)) result (D.log device.old) (D.log device.new) }
 {
-    let text = refusal.cause.parts();
+    let text = cause_parts(&refusal.cause);
     match &refusal.location {
         Some((file, line)) => say_at(device, file, u64::from(*line), text),
         None => say_behind(device, [b"", b""], text),
@@ -108,7 +105,7 @@ pub(crate) fn say_long_line<'a, D: Device>(
     ensures { Says (too_long_line (stop_of long.now)) result (D.log device.old) (D.log device.new) }
 {
     let error: RunError<&'a [u8]> = RunError::LineTooLong;
-    say_at(device, long.stream, long.number, error.parts())
+    say_at(device, long.stream, long.number, run_error_parts(error))
 }
 
 /// Says an error of a run.
@@ -119,7 +116,7 @@ pub(crate) fn say_error<'a, D: Device>(
 ) -> Result<(), Stop<'static>>
     ensures { Says (lead options.now ++ error_line (run_error_text (shown_run_error error.entry))) result (D.log device.old) (D.log device.new) }
 {
-    say_behind(device, options.lead(), error.parts())
+    say_behind(device, lead(options), run_error_parts(error))
 }
 
 /// Returns the bytes before the first line feed.
@@ -165,7 +162,7 @@ fn try_to_say_text<'a, D: Device>(device: &mut D, text: [&'a [u8]; 3])
 pub(crate) fn try_to_say_error<D: Device>(device: &mut D, error: RunError<&[u8]>)
     ensures { TriesToSay (error_line (run_error_text (shown_run_error error.entry))) (D.log device.old) (D.log device.new) }
 {
-    try_to_say_text(device, error.parts());
+    try_to_say_text(device, run_error_parts(error));
 }
 
 /// Says that there was no memory for what configurations share.
@@ -195,7 +192,7 @@ fn tell_error<'a, D: Device>(
 ) -> bool
     ensures { SaysIf (lead options.now ++ error_line (run_error_text (shown_run_error error.entry))) result (D.log device.old) (D.log device.new) }
 {
-    tell_behind(device, options.lead(), error.parts())
+    tell_behind(device, lead(options), run_error_parts(error))
 }
 
 // Says that a file could not be read or written, or that there was no memory for it.

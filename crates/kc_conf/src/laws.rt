@@ -4,7 +4,7 @@ ghost use Rattle.kc_conf.specs.Accounted.{NothingIsLost};
 ghost use Rattle.kc_conf.specs.Many.{ExactlyOnePart, PartsAreOfRuns};
 ghost use Rattle.kc_conf.specs.Separate.{EachLeavesItsPart};
 ghost use Rattle.kc_conf.specs.Strict.{StrictTakesAll};
-ghost use Rattle.kc_conf.specs.Outcome.{DiagnosticsAreLines, OneAnswer, OneOutcome};
+ghost use Rattle.kc_language.specs.Outcome.{DiagnosticsAreLines, OneAnswer, OneOutcome};
 ghost use Rattle.kc_conf.specs.Reruns.{ConfigIsReadAgain, MinimalIsReadAgain, MinimalIsRunAgain, OutcomesAreReadAgain, TextsHaveShortLines, WrittenAreWhole};
 
 use crate::many::Configurations;

@@ -1,20 +1,18 @@
 //! The values that were given and are not the symbols'.
-ghost use Rattle.std.specs.Prelude.{◌≡◌, ◌++◌, ◌<◌, length, map, IfOk, OnOk};
-ghost use Rattle.kc_diagnostics.specs.Warnings.{located_warning};
-ghost use Rattle.kc_diagnostics.specs.declared.warning.Warning.TheVariants.{Lost};
+ghost use Rattle.std.specs.Prelude.{◌≡◌, ◌++◌, ◌<◌, length, map, IfOk, OnOk, option_map};
+ghost use Rattle.kc_language.specs.Symbols.{located_warning};
+ghost use Rattle.kc_language.specs.declared.diagnostics.Warning.TheVariants.{Lost};
 ghost use Rattle.kc_expr.specs.Value.{value_by_type};
-ghost use Rattle.kc_solve.specs.Solved.{known};
-ghost use Rattle.std.specs.Option.{option_and_then, option_map};
+ghost use Rattle.kc_language.specs.Texts.{known};
+ghost use Rattle.std.specs.Option.{option_and_then};
 ghost use Rattle.kc_tree.specs.Layouts.{definition_at, facts_of};
-ghost use Rattle.kc_user.specs.GivenValue.{SymbolPlace};
-ghost use Rattle.kc_user.specs.Places.{place_at};
-ghost use Rattle.kc_values.specs.Differs.{given_of};
-ghost use Rattle.kc_values.specs.Solution.{name_count};
+ghost use Rattle.kc_language.specs.Values.{SymbolPlace, given_of, name_count};
+ghost use Rattle.kc_language.specs.ConfigFile.{place_at};
 ghost use Rattle.kc_values.specs.User.{given_in};
 ghost use Rattle.kc_config_file.specs.ShownView.{given_by, location_of};
-ghost use Rattle.kc_conf.specs.Lost as spec;
+ghost use Rattle.kc_language.specs.Texts as spec;
 ghost use Rattle.kc_conf.specs.LostView.{is_prompted};
-ghost use Rattle.kc_conf.specs.Taken.{lost_warnings};
+ghost use Rattle.kc_language.specs.Outcome.{lost_warnings};
 
 use kc_config_file::shown::{InputLine, ShownValue, add_value, is_same, shown_given};
 use kc_config_file::user_input::UserInput;

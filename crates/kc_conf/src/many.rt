@@ -1,15 +1,13 @@
 //! A run for many configurations of one tree: the tree is read once, and the configurations take their turns.
 ghost use Rattle.std.specs.Prelude.{◌≡◌, ◌≢◌, ◌<◌, ℕ, List, IfOk, not, ◌||◌};
-ghost use Rattle.kc_read.specs.Files.{Files, bytes_in};
-ghost use Rattle.kc_read.specs.OpenedFiles.{AreOpened};
+ghost use Rattle.kc_language.specs.Expansion.{Files, bytes_in, AreOpened};
 ghost use Rattle.kc_read.specs.RefusalView.{refusal_view};
-ghost use Rattle.kc_diagnostics.specs.declared.cause.Cause.TheVariants.{Memory};
+ghost use Rattle.kc_language.specs.declared.diagnostics.Cause.TheVariants.{Memory};
 ghost use Rattle.kc_io.specs.Log.{Log};
 ghost use Rattle.kc_conf.specs.Accepted.{IsAcceptedOf, IsReadOf, IsReady};
 ghost use Rattle.kc_conf.specs.Many.{AreRootedAt, RunsEach, RunsTurn, StopsAtTree, TakeTurns, TakesTurn, ends_all, greater};
-ghost use Rattle.kc_tree.specs.TreeFacts.{TreeFacts};
-ghost use Rattle.kc_options.specs.declared.options.Options.{Options};
-ghost use Rattle.kc_conf.specs.Outcome.{IsAcceptedTree, IsRefusedTree, has_text, lines_text};
+ghost use Rattle.kc_language.specs.Symbols.{TreeFacts};
+ghost use Rattle.kc_language.specs.Outcome.{Options, IsAcceptedTree, IsRefusedTree, has_text, lines_text};
 ghost use Rattle.kc_conf.specs.PartRuns.{LeavesTurn, StopsLines};
 
 use crate::accepted::{AcceptedTree, OrderedTree, TreeReading, read_tree};

@@ -1,14 +1,12 @@
 //! Reads the input files, in whatever pieces they come.
 
-ghost use Rattle.std.specs.Prelude.{◌≡◌, ◌≤◌, ◌++◌, [], false, true, length, map, None, IfErr, IfOk, OnOk};
-ghost use Rattle.std.specs.Option.{option_map};
+ghost use Rattle.std.specs.Prelude.{◌≡◌, ◌≤◌, ◌++◌, [], false, true, length, map, None, IfErr, IfOk, OnOk, option_map};
 ghost use Rattle.kc_io.specs.Log.{Leads};
 ghost use Rattle.kc_io.specs.Reading.{ReadsOn, reading};
 ghost use Rattle.kc_io.specs.WholeLines.{is_whole_lines};
-ghost use Rattle.kc_user.specs.Places.{ArePlacesOf};
+ghost use Rattle.kc_language.specs.ConfigFile.{ArePlacesOf};
 ghost use Rattle.kc_config_file.specs.Feeding.{stream_start};
-ghost use Rattle.kc_options.specs.Asked.{holds_warnings, lead, names_of};
-ghost use Rattle.kc_conf.specs.Outcome.{fresh_input};
+ghost use Rattle.kc_language.specs.Outcome.{holds_warnings, lead, names_of, fresh_input};
 ghost use Rattle.kc_conf.specs.Reads.{BreaksInputs, ReadsInputs, stop_of};
 ghost use Rattle.kc_conf.specs.ReadSteps.{BreaksEnd, BreaksFile, BreaksOpened, BreaksPiece, EndsFile, FailsAt, IsReadyToRead, Opens, ReadsFile, ReadsOpened, SaysWaiting, TakesPiece, stand};
 
@@ -19,7 +17,7 @@ use kc_config_file::prefix::Prefix;
 use kc_config_file::reader::InputReader;
 use kc_config_file::user_input::UserInput;
 use kc_io::{Action, Device, Failure};
-use kc_options::Options;
+use kc_options::{Options, input_file, lead, may_be_missing};
 use kc_tree::tree::Tree;
 use std::alloc::{AllocError, Global};
 
@@ -214,7 +212,7 @@ fn read_file<'o, 'a, D: Device>(
 fn fragment_name(alloc: Global, options: &Options, fragment: &str) -> Result<Vec<u8>, AllocError>
     ensures { IfOk result (λ name. name.items ≡ lead options.now ++ fragment.now) }
 {
-    let [config, colon] = options.lead();
+    let [config, colon] = lead(options);
     let mut name = Vec::from_slice(alloc, config)?;
     name.extend_from_slice(colon)?;
     name.extend_from_slice(fragment.as_bytes())?;
@@ -260,8 +258,8 @@ pub(crate) fn read_inputs<'o, 'a, D: Device>(
         let mut reader = InputReader::new(alloc, tree, prefix, stream);
         match read_file(
             &mut reader,
-            options.input_file(i),
-            options.may_be_missing(i),
+            input_file(options, i),
+            may_be_missing(options, i),
             device,
             user,
             waiting,

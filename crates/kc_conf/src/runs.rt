@@ -1,15 +1,13 @@
 //! One run: it accepts the tree, reads the input files, computes the texts and delivers them.
 ghost use Rattle.std.specs.Prelude.{◌≡◌, ◌≢◌, ◌++◌, ℕ, List, [], map, option_map, Err};
-ghost use Rattle.kc_read.specs.Files.{Files, bytes_in};
+ghost use Rattle.kc_language.specs.Expansion.{Files, bytes_in};
 ghost use Rattle.kc_read.specs.RefusalView.{refusal_view};
-ghost use Rattle.kc_diagnostics.specs.declared.cause.Cause.TheVariants.{Memory};
+ghost use Rattle.kc_language.specs.declared.diagnostics.Cause.TheVariants.{Memory};
 ghost use Rattle.kc_io.specs.TextViews.{text_view};
 ghost use Rattle.kc_conf.specs.Accepted.{IsAcceptedOf, IsReadOf, IsReady};
-ghost use Rattle.kc_options.specs.Asked.{lead};
+ghost use Rattle.kc_language.specs.Outcome.{lead, refusal_line, strict_line, too_long_line, unreadable_line, AreLines, root_file, has_text, lines_text, names_listed, unreadable_name};
 ghost use Rattle.kc_conf.specs.Ends.{Runs};
 ghost use Rattle.kc_conf.specs.Endings.{Answers, Ends, HandsBy, SaysAll, line_if, status_if, texts_or};
-ghost use Rattle.kc_conf.specs.ErrorLines.{refusal_line, strict_line, too_long_line, unreadable_line};
-ghost use Rattle.kc_conf.specs.Outcome.{AreLines, root_file, has_text, lines_text, names_listed, unreadable_name};
 ghost use Rattle.kc_conf.specs.PartRuns.{LeavesPart, LeavesRun, SaysLines};
 ghost use Rattle.kc_conf.specs.Reads.{stop_of};
 
@@ -26,7 +24,7 @@ use kc_diagnostics::{Cause, RunError};
 use kc_expr::names::Names;
 use kc_io::{Device, Manner, Text, deliver};
 use kc_load::unreadable_name;
-use kc_options::{Delivery, Options, Status};
+use kc_options::{Delivery, Options, Status, holds_warnings, target};
 use kc_read::file_map::FileMap;
 use kc_read::laws::opened_are_one_list;
 use kc_read::refusal::Refusal;
@@ -221,7 +219,7 @@ pub(crate) fn run_inputs<'o, D: Device>(
     let streams = stream_names(alloc, options)?;
     let mut user = UserInput::new(alloc, tree, options.warn_lost)?;
     let mut waiting = Waiting {
-        holds: options.holds_warnings(),
+        holds: holds_warnings(options),
         text: Vec::new(alloc),
     };
     let long = match read_inputs(
@@ -260,7 +258,7 @@ pub(crate) fn unreadable_among<'n>(
     ensures { (opened : List (List ℕ)) → names.now ≡ names_listed options.now opened → option_map (λ name. name.now) result ≡ unreadable_name options.now opened }
 {
     match names {
-        Some(names) => unreadable_name(options.target().as_bytes(), names),
+        Some(names) => unreadable_name(target(options).as_bytes(), names),
         None => None,
     }
 }

@@ -1,30 +1,25 @@
 -- What a line gives to a symbol is allowed for it.
 use Rattle.std.proofs.Common.{◌≡◌, ℕ, ◌+◌, ◌-◌, ◌≤◌, suc, List, [], ◌∷◌, ◌++◌, Bool, true, false, not, length, take, drop, get_or, eqb, cond, refl, sym, ap, subst, arith, inl, inr, Option, Some, None}
-use Rattle.std.specs.Prelude.{◌||◌, ◌==◌, ◌&&◌, is_some, nat_le, nat_lt, slice_index}
+use Rattle.std.specs.Prelude.{◌||◌, ◌==◌, ◌&&◌, is_some, nat_le, nat_lt, slice_index, option_map, slice_get}
 use Rattle.std.specs.List.{list_any, suffix_len, position_or_len, before_first, after_first}
 use Rattle.std.specs.Str.{bytes_eq}
 use Rattle.std.specs.Str.Lines.{strip_carriage_return}
-use Rattle.std.specs.Option.{option_map, option_and_then}
+use Rattle.std.specs.Option.{option_and_then}
 use Rattle.std.proofs.lemmas.Bool.{eqb-true, and_from, cases_Bool, le-leb, leb-true}
 use Rattle.std.proofs.lemmas.List.Elements.{All-cons, All-nil, All-take, All-drop}
 use Rattle.std.proofs.lemmas.List.Folds.{list_any_none}
-use Rattle.kc_text.specs.Lines.{is_line_feed}
-use Rattle.kc_text.specs.Escapes.{escape, unescape}
-use Rattle.kc_text.specs.Lexemes.{is_blank}
-use Rattle.kc_text.specs.Numbers.{int_of, hex_of}
-use Rattle.kc_expr.specs.declared.expression.SymId.{SymId}
-use Rattle.kc_expr.specs.declared.expression.Tri.{Tri}
-use Rattle.kc_expr.specs.declared.expression.Tri.TheVariants.{N, Y}
-use Rattle.kc_expr.specs.declared.expression.SymbolType.{SymbolType}
-use Rattle.kc_expr.specs.declared.expression.SymbolType.TheVariants as symbol_type
-use Rattle.kc_tree.specs.TreeFacts.{TreeFacts, SymbolFacts}
-use Rattle.kc_user.specs.GivenValue.{GivenValue, GivenTruth, GivenText}
+use Rattle.kc_language.specs.Lines.{is_line_feed}
+use Rattle.kc_language.specs.Text.{escape, unescape, int_of, hex_of, preceded}
+use Rattle.kc_language.specs.Tokens.{is_blank}
+use Rattle.kc_language.specs.declared.expressions.SymId.{SymId}
+use Rattle.kc_language.specs.declared.expressions.Tri.{Tri}
+use Rattle.kc_language.specs.declared.expressions.Tri.TheVariants.{N, Y}
+use Rattle.kc_language.specs.declared.expressions.SymbolType.{SymbolType}
+use Rattle.kc_language.specs.declared.expressions.SymbolType.TheVariants as symbol_type
+use Rattle.kc_language.specs.Symbols.{TreeFacts, SymbolFacts}
+use Rattle.kc_language.specs.Values.{GivenValue, GivenTruth, GivenText, type_in}
 use Rattle.kc_user.specs.Places.{allowed, allowed_by, allowed_for, fits_quoted}
-use Rattle.std.specs.Prelude.{slice_get}
-use Rattle.kc_config_file.specs.ConfigFileLine.{LineMeaning, Nothing, Unset, Set, Malformed, meaning_of, meaning_of_text, not_unset, unset_name, unset_or, is_comment, set_or_malformed, name_and_value, split_at_equals, is_equals, trimmed}
-use Rattle.kc_config_file.specs.Effects.{Assigns, effect_of, set_effect, unset_effect, set_by_type, unset_by_type, assigned_or, type_in, symbol_named}
-use Rattle.kc_config_file.specs.LineValue.{until_quote, string_value, number_value, value_by, line_value, yes_m_or_no}
-use Rattle.kc_config_file.specs.Sink.{preceded}
+use Rattle.kc_language.specs.ConfigFile.{LineMeaning, Nothing, Unset, Set, Malformed, meaning_of, meaning_of_text, not_unset, unset_name, unset_or, is_comment, set_or_malformed, name_and_value, split_at_equals, is_equals, trimmed, Assigns, effect_of, set_effect, unset_effect, set_by_type, unset_by_type, assigned_or, symbol_named, until_quote, string_value, number_value, value_by, line_value, yes_m_or_no}
 use Rattle.kc_config_file.proofs.LineLemmas.{HasNoLf}
 
 preceded_some : (front : List ℕ) (o : Option (List ℕ)) (raw : List ℕ) → preceded front o ≡ Some raw → (rest : List ℕ) × (o ≡ Some rest) × (front ++ rest ≡ raw)

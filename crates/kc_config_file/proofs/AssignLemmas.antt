@@ -1,28 +1,25 @@
 -- A line that assigns a value that is allowed.
 use Rattle.std.proofs.Common.{◌≡◌, ℕ, ◌+◌, ◌≤◌, List, [], ◌∷◌, ◌++◌, true, false, length, refl, sym, ap, ◌∙◌, arith, Option, Some, None}
-use Rattle.std.specs.Prelude.{is_some, nat_le, slice_get}
+use Rattle.std.specs.Prelude.{is_some, nat_le, slice_get, not}
 use Rattle.std.specs.List.{list_any}
 use Rattle.std.proofs.lemmas.Bool.{leb-true, and_parts, not-true, true≢false}
 use Rattle.std.proofs.lemmas.List.{length-append}
 use Rattle.std.proofs.lemmas.List.Elements.{All-append, All-cons}
-use Rattle.std.specs.Prelude.{not}
-use Rattle.kc_text.specs.Lines.{is_line_feed}
-use Rattle.kc_text.specs.Escapes.{escape}
-use Rattle.kc_text.specs.Numbers.{int_of, hex_of}
-use Rattle.kc_expr.specs.declared.expression.SymId.{SymId}
-use Rattle.kc_expr.specs.declared.expression.Tri.{Tri}
-use Rattle.kc_expr.specs.declared.expression.Tri.TheVariants.{N, M, Y}
-use Rattle.kc_expr.specs.declared.expression.SymbolType.{SymbolType}
-use Rattle.kc_expr.specs.declared.expression.SymbolType.TheVariants as symbol_type
-use Rattle.kc_tree.specs.TreeFacts.{TreeFacts, SymbolFacts, IsWellFormed}
-use Rattle.kc_user.specs.GivenValue.{GivenValue, GivenTruth, GivenText, Member}
+use Rattle.kc_language.specs.Lines.{is_line_feed}
+use Rattle.kc_language.specs.Text.{escape, int_of, hex_of}
+use Rattle.kc_language.specs.declared.expressions.SymId.{SymId}
+use Rattle.kc_language.specs.declared.expressions.Tri.{Tri}
+use Rattle.kc_language.specs.declared.expressions.Tri.TheVariants.{N, M, Y}
+use Rattle.kc_language.specs.declared.expressions.SymbolType.{SymbolType}
+use Rattle.kc_language.specs.declared.expressions.SymbolType.TheVariants as symbol_type
+use Rattle.kc_language.specs.Symbols.{TreeFacts, SymbolFacts}
+use Rattle.kc_tree.specs.TreeFacts.{IsWellFormed}
+use Rattle.kc_language.specs.Values.{GivenValue, GivenTruth, GivenText, Member, name as name_of}
 use Rattle.kc_user.specs.Places.{allowed, allowed_by, allowed_for, allowed_truth, allowed_text}
-use Rattle.kc_config_file.specs.Effects.{Assigns, name_of, set_by_type, assigned_or}
+use Rattle.kc_language.specs.ConfigFile.{Assigns, set_by_type, assigned_or, is_prefix, Line, line, is_within, effect}
 use Rattle.kc_config_file.specs.HasNames.{HasNames}
 use Rattle.kc_config_file.specs.WrittenLaws.{AllowedAreAssigned}
-use Rattle.kc_config_file.specs.Plain.{EndsPlainly}
-use Rattle.kc_config_file.specs.Prefixes.{is_prefix}
-use Rattle.kc_config_file.specs.Reading.{Line, line, is_within, effect}
+use Rattle.kc_language.specs.Texts.{EndsPlainly}
 use Rattle.kc_config_file.proofs.LineLemmas.{HasNoLf, is_within-line}
 use Rattle.kc_config_file.proofs.RoundTripLemmas.{string_read_again}
 use Rattle.kc_config_file.proofs.ShapeLemmas.{no_line_feed, untyped_not}

@@ -3,7 +3,8 @@ use Rattle.std.proofs.Common.{◌≡◌, ℕ, List, [], ◌∷◌, ◌++◌, ref
 use Rattle.kc_config_file.specs.Calls.{Call, Feed, Finish, NextStream, rest_of, more_of, lines_fed, CallsJoin}
 use Rattle.kc_config_file.specs.Feeding.{fed, ended, stream_start, ReadsPiece, EndsStream}
 use Rattle.kc_config_file.specs.ReaderState.{ReaderState}
-use Rattle.kc_config_file.specs.Reading.{UserInput, ReadResult, reading, with_warnings, lines_from}
+use Rattle.kc_language.specs.ConfigFile.{UserInput, ReadResult, reading, lines_from}
+use Rattle.kc_config_file.specs.Reading.{with_warnings}
 use Rattle.kc_config_file.proofs.ReadingLemmas.{with_warnings-with_warnings}
 
 -- One call, and then the others, which come to `later`.

@@ -11,13 +11,10 @@ use Rattle.std.proofs.lemmas.List.{reverse-append, length-reverse, length-append
 use Rattle.std.proofs.lemmas.List.Elements.{All-append}
 use Rattle.std.proofs.lemmas.List.Folds.{list_any_at}
 use Rattle.std.proofs.lemmas.Slice.Eq.{bytes_eq-Decides}
-use Rattle.kc_text.specs.Lexemes.{is_blank}
-use Rattle.kc_tree.specs.TreeFacts.{TreeFacts}
-use Rattle.kc_config_file.specs.ConfigFileLine.{Nothing, Unset, trimmed, without_prefix, without_suffix, is_plain, plain, unset_name, unset_or, meaning_of, meaning_of_text}
-use Rattle.kc_config_file.specs.Effects.{effect_of}
-use Rattle.kc_config_file.specs.Prefixes.{is_prefix}
-use Rattle.kc_config_file.specs.Reading.{assignment_of}
-use Rattle.kc_config_file.specs.Plain.{IsNotUnsetLine}
+use Rattle.kc_language.specs.Tokens.{is_blank}
+use Rattle.kc_language.specs.Symbols.{TreeFacts}
+use Rattle.kc_language.specs.ConfigFile.{Nothing, Unset, trimmed, without_prefix, without_suffix, is_plain, plain, unset_name, unset_or, meaning_of, meaning_of_text, effect_of, is_prefix, assignment_of}
+use Rattle.kc_language.specs.Texts.{IsNotUnsetLine}
 use Rattle.kc_config_file.proofs.RoundTripLemmas.{prefix_bytes, name_no_blank}
 use Rattle.kc_config_file.proofs.RoundTripLemmas.{strip_solid}
 use Rattle.kc_config_file.proofs.SymbolLineLemmas.{last_byte}

@@ -1,35 +1,26 @@
 -- What reading the .config that was written leaves in empty places.
 use Rattle.std.proofs.Common.{◌≡◌, ℕ, ◌<◌, zero, suc, List, [], ◌∷◌, ◌++◌, Bool, true, false, length, get_or, cond, refl, sym, ap, ◌∙◌, subst, arith, inl, inr, Option, Some, None}
-use Rattle.std.specs.Prelude.{◌&&◌, slice_get}
+use Rattle.std.specs.Prelude.{◌&&◌, slice_get, option_map}
 use Rattle.std.specs.List.{Contains, cons_option, find, flat_map}
-use Rattle.std.specs.Option.{option_map, option_and_then}
+use Rattle.std.specs.Option.{option_and_then}
 use Rattle.std.proofs.lemmas.Bool.{and_parts, and_from, lt-ltb, true≢false}
 use Rattle.std.proofs.lemmas.Option.{slice_get-get_or}
-use Rattle.kc_expr.specs.declared.expression.SymId.{SymId}
-use Rattle.kc_expr.specs.declared.expression.Tri.TheVariants.{N, M, Y}
-use Rattle.kc_expr.specs.declared.expression.SymbolType.TheVariants as symbol_type
-use Rattle.kc_expr.specs.Names.{symbol}
-use Rattle.kc_expr.specs.Value.{SymbolValue, Truth, TextValue}
-use Rattle.kc_order.specs.Solution.{Solves}
-use Rattle.kc_tree.specs.TreeFacts.{TreeFacts, SymbolFacts, ChoiceFacts, Shown, SymbolShown, MenuShown, EndShown, CommentShown, IsLineText, IsWellFormed, OfTitles, ShowsEach}
-use Rattle.kc_user.specs.GivenValue.{GivenValue, Member, UserPlace, SymbolPlace, ChoicePlace, is_yes}
-use Rattle.kc_user.specs.Places.{Places, place_at, no_places, allowed, allowed_by, allowed_for, members_of}
-use Rattle.kc_values.specs.Differs.{given_of}
+use Rattle.kc_language.specs.declared.expressions.SymId.{SymId}
+use Rattle.kc_language.specs.declared.expressions.Tri.TheVariants.{N, M, Y}
+use Rattle.kc_language.specs.declared.expressions.SymbolType.TheVariants as symbol_type
+use Rattle.kc_language.specs.Expressions.{symbol, SymbolValue, Truth, TextValue}
+use Rattle.kc_language.specs.Values.{Solves, GivenValue, Member, UserPlace, SymbolPlace, ChoicePlace, is_yes, given_of, choice_at, name_count, known_from, user_place, equations, name as name_of}
+use Rattle.kc_language.specs.Symbols.{TreeFacts, SymbolFacts, ChoiceFacts, Shown, SymbolShown, MenuShown, EndShown, CommentShown}
+use Rattle.kc_tree.specs.TreeFacts.{IsLineText, IsWellFormed, OfTitles, ShowsEach}
+use Rattle.kc_language.specs.ConfigFile.{Places, place_at, no_places, is_prefix, Assignment, places_given}
+use Rattle.kc_user.specs.Places.{allowed, allowed_by, allowed_for, members_of}
 use Rattle.kc_values.specs.GivenLines.{reread_places}
 use Rattle.kc_values.specs.Members.{MembersAreTheirs, MembersAreBools}
-use Rattle.kc_values.specs.Lookups.{choice_at}
-use Rattle.kc_values.specs.Solution.{name_count, known_from, user_place, equations}
-use Rattle.kc_values.specs.WrittenSymbols as ls
+use Rattle.kc_language.specs.Values as ls
 use Rattle.kc_values.proofs.FixedLines.{place_cases, place_of_member, Sel}
 use Rattle.kc_values.proofs.Selection.{found}
-use Rattle.kc_config_file.specs.Effects.{name_of}
-use Rattle.kc_config_file.specs.Prefixes.{is_prefix}
-use Rattle.kc_config_file.specs.Reading.{Assignment, places_given}
-use Rattle.kc_config_file.specs.Plain.{HasPlainTitles}
-use Rattle.kc_config_file.specs.Reread.{valuation_view, read_alone}
+use Rattle.kc_language.specs.Texts.{HasPlainTitles, valuation_view, read_alone, config_file_line, config_text, symbol_config}
 use Rattle.kc_config_file.specs.HasNames.{HasNames}
-use Rattle.kc_config_file.specs.SymbolLines.{config_file_line}
-use Rattle.kc_config_file.specs.Texts.{config_text, symbol_config}
 use Rattle.kc_config_file.proofs.ConfigTextLemmas.{config_gives, entry_given}
 use Rattle.kc_config_file.proofs.FilledLemmas.{Holds, IsCandidate, filled_symbol, filled_member, filled_none, in_flat_map, to_flat_map, contains_here, contains_cases, no_element}
 use Rattle.kc_config_file.proofs.GivesLemmas.{Gives}

@@ -6,16 +6,12 @@ use Rattle.std.specs.Str.Lines.{strip_carriage_return}
 use Rattle.std.proofs.lemmas.List.{length-append}
 use Rattle.std.proofs.lemmas.List.Elements.{All-append}
 use Rattle.std.proofs.lemmas.Option.{slice_get-get_or}
-use Rattle.kc_text.specs.Lines.{is_line_feed}
-use Rattle.kc_expr.specs.declared.expression.SymId.{SymId}
-use Rattle.kc_tree.specs.TreeFacts.{TreeFacts, Shown, SymbolShown, MenuShown, EndShown, CommentShown, IsLineText, OfTitles}
-use Rattle.kc_config_file.specs.ConfigFileLine.{meaning_of}
-use Rattle.kc_config_file.specs.Effects.{effect_of}
-use Rattle.kc_config_file.specs.Prefixes.{is_prefix}
-use Rattle.kc_config_file.specs.Reading.{Assignment, assignment_of}
-use Rattle.kc_config_file.specs.Plain.{IsNotUnsetLine, HasPlainTitles, title_line}
-use Rattle.kc_config_file.specs.Texts.{config_heading, config_text, title_lines, end_line, title_if, end_if, gap, shown_title, symbol_config, end_is_last, entry_text, entries_text}
-use Rattle.kc_config_file.specs.SolutionView.{SolutionView, is_shown}
+use Rattle.kc_language.specs.Lines.{is_line_feed}
+use Rattle.kc_language.specs.declared.expressions.SymId.{SymId}
+use Rattle.kc_language.specs.Symbols.{TreeFacts, Shown, SymbolShown, MenuShown, EndShown, CommentShown}
+use Rattle.kc_tree.specs.TreeFacts.{IsLineText, OfTitles}
+use Rattle.kc_language.specs.ConfigFile.{meaning_of, effect_of, is_prefix, Assignment, assignment_of}
+use Rattle.kc_language.specs.Texts.{IsNotUnsetLine, HasPlainTitles, title_line, config_heading, config_text, title_lines, end_line, title_if, end_if, gap, shown_title, symbol_config, end_is_last, entry_text, entries_text, SolutionView, is_shown}
 use Rattle.kc_config_file.proofs.CommentLemmas.{silent, silent_plain, unset_not_last, end_unsets_nothing}
 use Rattle.kc_config_file.proofs.FilledLemmas.{contains_here, contains_later}
 use Rattle.kc_config_file.proofs.GivesLemmas.{Gives, gives_line, gives_append, gives_nothing}

@@ -4,13 +4,12 @@ use Rattle.std.specs.Prelude.{slice_get}
 use Rattle.std.specs.Option.{option_map_or}
 use Rattle.std.specs.List.{filter, last_or}
 use Rattle.std.proofs.lemmas.List.Elements.{filter-append}
-use Rattle.kc_expr.specs.declared.expression.SymId.{SymId}
-use Rattle.kc_expr.specs.declared.expression.Tri.{Tri}
-use Rattle.kc_expr.specs.Value.{SymbolValue}
-use Rattle.kc_tree.specs.TreeFacts.{Condition, TreeFacts, Shown, SymbolShown, MenuShown, EndShown, CommentShown}
+use Rattle.kc_language.specs.declared.expressions.SymId.{SymId}
+use Rattle.kc_language.specs.declared.expressions.Tri.{Tri}
+use Rattle.kc_language.specs.Expressions.{SymbolValue}
+use Rattle.kc_language.specs.Symbols.{Condition, TreeFacts, Shown, SymbolShown, MenuShown, EndShown, CommentShown}
 use Rattle.kc_config_file.specs.EntryTexts.{ends_after, entries_after}
-use Rattle.kc_config_file.specs.SolutionView.{SolutionView}
-use Rattle.kc_config_file.specs.Texts.{config_heading, config_text, end_is_last, entries_text, entry_text, has_lines, is_end, shown_title}
+use Rattle.kc_language.specs.Texts.{SolutionView, config_heading, config_text, end_is_last, entries_text, entry_text, has_lines, is_end, shown_title}
 use Rattle.kc_config_file.proofs.InTurnLemmas.{each_after, each_after-cons}
 use Rattle.kc_config_file.proofs.PlaceLemmas.{last_or-append}
 

@@ -3,14 +3,14 @@ use Rattle.std.proofs.Common.{◌≡◌, ℕ, ◌+◌, ◌<◌, ◌≤◌, List,
 use Rattle.std.specs.Prelude.{◌==◌}
 use Rattle.std.proofs.lemmas.Bool.{ne_eqb}
 use Rattle.std.proofs.lemmas.List.{take-append-drop}
-use Rattle.kc_text.specs.Lines.{is_line_feed}
-use Rattle.kc_tree.specs.TreeFacts.{TreeFacts}
+use Rattle.kc_language.specs.Lines.{is_line_feed}
+use Rattle.kc_language.specs.Symbols.{TreeFacts}
 use Rattle.kc_config_file.specs.declared.fault.InputFault.{InputFault}
 use Rattle.kc_config_file.specs.declared.fault.InputFault.TheVariants.{InputLineTooLong, Memory}
 use Rattle.kc_config_file.specs.Feeding.{StreamPosition, IsWithinLine, fed, to_come, ReadsPiece, Feeds, StopsBecause, Refuses, FinishesStream}
-use Rattle.kc_text.specs.Limits.{one_more}
-use Rattle.kc_config_file.specs.Reading.{UserInput, line, lines_from, reading, with_warnings, input_after, warning}
-use Rattle.kc_config_file.specs.Limits.{longest_input_line}
+use Rattle.kc_language.specs.Text.{one_more, longest_input_line}
+use Rattle.kc_language.specs.ConfigFile.{UserInput, line, lines_from, reading, input_after, warning}
+use Rattle.kc_config_file.specs.Reading.{with_warnings}
 use Rattle.kc_config_file.proofs.LineLemmas.{HasNoLf, lines_from-lf, lines_from-last, is_within-line}
 use Rattle.kc_config_file.proofs.LongLineLemmas.{MeetsLongLine-long, MeetsLongLine-longer}
 use Rattle.kc_config_file.proofs.ReadingLemmas.{with_warnings-with_warnings, reading_within}

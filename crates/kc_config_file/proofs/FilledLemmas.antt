@@ -5,12 +5,11 @@ use Rattle.std.specs.List.{Contains, filter_map, flat_map, last_or, cons_option}
 use Rattle.std.proofs.lemmas.Bool.{eqb-true, eq-eqb, cases_Bool, and_parts}
 use Rattle.std.proofs.lemmas.List.{get_or-replicate, length-replicate}
 use Rattle.std.proofs.lemmas.List.Elements.{Contains-append_left, Contains-append_right, Contains-append_cases}
-use Rattle.kc_expr.specs.declared.expression.SymId.{SymId}
-use Rattle.kc_expr.specs.Names.{symbol}
-use Rattle.kc_tree.specs.TreeFacts.{TreeFacts}
-use Rattle.kc_user.specs.GivenValue.{GivenValue, Member, SymbolPlace, ChoicePlace, is_yes}
-use Rattle.kc_user.specs.Places.{Places, place_at, no_places, member_place}
-use Rattle.kc_config_file.specs.Reading.{Assignment, each_from, given_to, chosen_in, is_this_choice, choice_of, places_given}
+use Rattle.kc_language.specs.declared.expressions.SymId.{SymId}
+use Rattle.kc_language.specs.Expressions.{symbol}
+use Rattle.kc_language.specs.Symbols.{TreeFacts}
+use Rattle.kc_language.specs.Values.{GivenValue, Member, SymbolPlace, ChoicePlace, is_yes}
+use Rattle.kc_language.specs.ConfigFile.{Places, place_at, no_places, member_place, Assignment, each_from, given_to, chosen_in, is_this_choice, choice_of, places_given}
 
 -- Elements of a list.
 pub contains_here : {X : Type 0} (x : X) (xs : List X) → Contains (x ∷ xs) x

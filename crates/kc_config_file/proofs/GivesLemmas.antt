@@ -2,12 +2,10 @@
 use Rattle.std.proofs.Common.{◌≡◌, ℕ, ◌<◌, ◌≤◌, suc, List, [], ◌∷◌, ◌++◌, true, length, refl, sym, ap, ◌∙◌, Option, None, append_assoc, append-nil, arith}
 use Rattle.std.specs.List.{cons_option, flat_map, Contains}
 use Rattle.std.specs.Str.Lines.{strip_carriage_return}
-use Rattle.kc_tree.specs.TreeFacts.{TreeFacts}
-use Rattle.kc_user.specs.Places.{Places}
-use Rattle.kc_config_file.specs.ConfigFileLine.{meaning_of}
-use Rattle.kc_config_file.specs.Effects.{effect_of}
-use Rattle.kc_text.specs.Limits.{one_more}
-use Rattle.kc_config_file.specs.Reading.{Assignment, Line, ReadResult, UserInput, input_after, line, lines_from, reading, with_warnings, warning, places_given, places_after, effect, assignment_of}
+use Rattle.kc_language.specs.Symbols.{TreeFacts}
+use Rattle.kc_language.specs.ConfigFile.{Places, meaning_of, effect_of, Assignment, Line, ReadResult, UserInput, input_after, line, lines_from, reading, warning, places_given, places_after, effect, assignment_of}
+use Rattle.kc_language.specs.Text.{one_more}
+use Rattle.kc_config_file.specs.Reading.{with_warnings}
 use Rattle.kc_config_file.proofs.LineLemmas.{HasNoLf, lines_from-lf, lines_from-last, is_within-line}
 use Rattle.kc_config_file.proofs.PlaceLemmas.{places_given-append, places_given-nothing}
 use Rattle.kc_config_file.proofs.ReadingLemmas.{reading_within, reading-nothing, with_warnings-with_warnings}

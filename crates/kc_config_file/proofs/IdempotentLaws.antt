@@ -1,23 +1,17 @@
 -- When reading the .config that was written gives the values again.
 use Rattle.std.proofs.Common.{◌≡◌, ℕ, ◌<◌, List, true, false, sym, ap, ◌∙◌, subst, ◌↔◌, Option, None}
-use Rattle.kc_expr.specs.declared.expression.SymId.{SymId}
-use Rattle.kc_expr.specs.Value.{SymbolValue}
-use Rattle.kc_order.specs.Solution.{Solves}
-use Rattle.kc_tree.specs.TreeFacts.{TreeFacts, IsLineText, IsWellFormed, OfTitles, ShowsEach}
-use Rattle.kc_user.specs.GivenValue.{GivenValue, UserPlace}
-use Rattle.kc_user.specs.Places.{Places, place_at}
-use Rattle.kc_values.specs.Differs.{changes_on_reread}
+use Rattle.kc_language.specs.declared.expressions.SymId.{SymId}
+use Rattle.kc_language.specs.Expressions.{SymbolValue}
+use Rattle.kc_language.specs.Values.{Solves, GivenValue, UserPlace, changes_on_reread, name_count, known_from, user_place, rhs, equations, written}
+use Rattle.kc_language.specs.Symbols.{TreeFacts}
+use Rattle.kc_tree.specs.TreeFacts.{IsLineText, IsWellFormed, OfTitles, ShowsEach}
+use Rattle.kc_language.specs.ConfigFile.{Places, place_at, is_prefix}
 use Rattle.kc_values.specs.GivenLines.{reread_places}
 use Rattle.kc_values.specs.Laws.{SolutionsAgree}
 use Rattle.kc_values.specs.Members.{MembersAreTheirs, MembersAreBools}
-use Rattle.kc_values.specs.Needs.{IsAccepted}
-use Rattle.kc_values.specs.Solution.{name_count, known_from, user_place, rhs, equations}
-use Rattle.kc_values.specs.WrittenSymbols.{written}
-use Rattle.kc_config_file.specs.Prefixes.{is_prefix}
-use Rattle.kc_config_file.specs.Plain.{HasPlainTitles}
-use Rattle.kc_config_file.specs.Reread.{valuation_view, read_alone, IsOneSolution}
+use Rattle.kc_language.specs.Needs.{IsAccepted}
+use Rattle.kc_language.specs.Texts.{HasPlainTitles, valuation_view, read_alone, IsOneSolution, config_text}
 use Rattle.kc_config_file.specs.HasNames.{HasNames}
-use Rattle.kc_config_file.specs.Texts.{config_text}
 use Rattle.kc_config_file.proofs.ConfigLaws.{Reread, reread_at, config_read}
 use Rattle.kc_config_file.proofs.SymbolLineLemmas.{FitsLine}
 

@@ -1,13 +1,11 @@
 -- The laws of lines that are read one after another.
 use Rattle.std.proofs.Common.{◌≡◌, ℕ, List, [], ◌∷◌, ◌++◌, refl, ap, ◌∙◌, append-nil, Some}
 use Rattle.std.specs.Prelude.{slice_set}
-use Rattle.kc_expr.specs.declared.expression.SymId.{SymId}
-use Rattle.kc_tree.specs.TreeFacts.{TreeFacts}
-use Rattle.kc_user.specs.GivenValue.{GivenValue}
-use Rattle.kc_user.specs.Places.{Places}
-use Rattle.kc_config_file.specs.Effects.{Effect, Silent, Warns, Assigns}
+use Rattle.kc_language.specs.declared.expressions.SymId.{SymId}
+use Rattle.kc_language.specs.Symbols.{TreeFacts}
+use Rattle.kc_language.specs.Values.{GivenValue}
+use Rattle.kc_language.specs.ConfigFile.{Places, Effect, Silent, Warns, Assigns, Line, UserInput, assignments, effect, input_after, places_after, stream_location, text_of, untaken, untaken_line, warning, warnings}
 use Rattle.kc_config_file.specs.LineSteps.{input_by}
-use Rattle.kc_config_file.specs.Reading.{Line, UserInput, assignments, effect, input_after, places_after, stream_location, text_of, untaken, untaken_line, warning, warnings}
 use Rattle.kc_config_file.specs.ReadingLaws.{GoesLineByLine, LinesAddUp, LinesAreCut, LinesDoWhatTheySay, LinesInTurn, LinesKeepCounts}
 use Rattle.kc_config_file.proofs.LineLemmas.{input_after-line, lines_from-last, lines_from-lf}
 use Rattle.kc_config_file.proofs.PlaceLemmas.{ArePlacesOf-given, places_given-one}

@@ -4,15 +4,12 @@ use Rattle.std.specs.Prelude.{◌&&◌, ◌==◌}
 use Rattle.std.specs.List.{All, slice_split, onto_first, cons_option, last_or}
 use Rattle.std.proofs.lemmas.Bool.{cases_Bool, le-leb}
 use Rattle.std.proofs.lemmas.List.Splits.{slice_split_at, slice_split_none, slice_split-cons_no, slice_split-cons_yes}
-use Rattle.kc_text.specs.Lines.{is_line_feed}
-use Rattle.kc_tree.specs.TreeFacts.{TreeFacts}
-use Rattle.kc_user.specs.Places.{Places}
-use Rattle.kc_config_file.specs.ConfigFileLine.{meaning_of}
-use Rattle.kc_config_file.specs.Effects.{Effect, Silent, Warns, Assigns, effect_of}
+use Rattle.kc_language.specs.Lines.{is_line_feed}
+use Rattle.kc_language.specs.Symbols.{TreeFacts}
+use Rattle.kc_language.specs.ConfigFile.{Places, meaning_of, Effect, Silent, Warns, Assigns, effect_of, Line, StreamLocation, UserInput, line, is_within, last_line, lines_from, text_of, effect, effect_text, each_from, assignment_of, input_after, is_taken, line_for, lines_after, places_given, stream_location, untaken, untaken_line, warning}
 use Rattle.kc_config_file.specs.LineSteps.{input_by}
 use Rattle.kc_config_file.proofs.StepEffects.{places_by, lines_by, all_by}
-use Rattle.kc_text.specs.Limits.{one_more}
-use Rattle.kc_config_file.specs.Reading.{Line, StreamLocation, UserInput, line, is_within, last_line, lines_from, text_of, effect, effect_text, each_from, assignment_of, input_after, is_taken, line_for, lines_after, places_given, stream_location, untaken, untaken_line, warning}
+use Rattle.kc_language.specs.Text.{one_more}
 use Rattle.kc_config_file.proofs.PlaceLemmas.{each_same, one_place, places_given-nothing}
 
 -- there is a first part

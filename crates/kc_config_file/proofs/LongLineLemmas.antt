@@ -5,10 +5,10 @@ use Rattle.std.specs.List.{slice_split, onto_first}
 use Rattle.std.proofs.lemmas.Bool.{ne_eqb}
 use Rattle.std.proofs.lemmas.Bool.Decides.{nat_tests}
 use Rattle.std.proofs.lemmas.List.Splits.{slice_split-cons_no}
-use Rattle.kc_text.specs.Lines.{is_line_feed}
-use Rattle.kc_tree.specs.TreeFacts.{TreeFacts}
+use Rattle.kc_language.specs.Lines.{is_line_feed}
+use Rattle.kc_language.specs.Symbols.{TreeFacts}
 use Rattle.kc_config_file.specs.Feeding.{StreamPosition, IsWithinLine, MeetsLongLine}
-use Rattle.kc_config_file.specs.Reading.{UserInput, Line, line, is_within, lines_from, lines_in_stream}
+use Rattle.kc_language.specs.ConfigFile.{UserInput, Line, line, is_within, lines_from, lines_in_stream}
 use Rattle.kc_config_file.proofs.LineLemmas.{HasNoLf, split_form}
 use Rattle.kc_config_file.proofs.ReadingLemmas.{reading_long}
 

@@ -2,26 +2,20 @@
 use Rattle.std.proofs.Common.{◌≡◌, ℕ, ◌<◌, List, Bool, true, false, cond, refl, sym, ap, ◌∙◌, subst, inl, inr, Option, Some, None, append-nil}
 use Rattle.std.specs.Prelude.{not}
 use Rattle.std.proofs.lemmas.Bool.{and_parts}
-use Rattle.kc_expr.specs.declared.expression.SymId.{SymId}
-use Rattle.kc_expr.specs.Value.{SymbolValue}
+use Rattle.kc_language.specs.declared.expressions.SymId.{SymId}
+use Rattle.kc_language.specs.Expressions.{SymbolValue}
 use Rattle.kc_order.specs.Minimal.{kept, Restores, NothingCanGo}
-use Rattle.kc_order.specs.Solution.{Solves}
-use Rattle.kc_tree.specs.TreeFacts.{TreeFacts, IsWellFormed}
-use Rattle.kc_user.specs.GivenValue.{GivenValue, UserPlace, SymbolPlace, ChoicePlace}
-use Rattle.kc_user.specs.Places.{Places, place_at, no_places, AllowedPlaces}
-use Rattle.kc_values.specs.Differs.{differs, default_selection}
+use Rattle.kc_language.specs.Values.{Solves, GivenValue, UserPlace, SymbolPlace, ChoicePlace, differs, default_selection, name_count, user_place, rhs, equations}
+use Rattle.kc_language.specs.Symbols.{TreeFacts, is_symbol_of}
+use Rattle.kc_tree.specs.TreeFacts.{IsWellFormed}
+use Rattle.kc_language.specs.ConfigFile.{Places, place_at, no_places, is_prefix, Assignment, ReadResult, lines_from, no_input, reading, places_given}
+use Rattle.kc_user.specs.Places.{AllowedPlaces}
 use Rattle.kc_values.specs.GivenLines.{minimal_line}
 use Rattle.kc_values.specs.Laws.{DifferingAreAllowed}
 use Rattle.kc_values.specs.Members.{MembersAreTheirs, MembersAreBools}
-use Rattle.kc_values.specs.Solution.{name_count, user_place, rhs, equations}
-use Rattle.kc_tree.specs.Common.{is_symbol_of}
 use Rattle.kc_values.proofs.FixedLines.{place_cases, named, Sel, differs-member}
-use Rattle.kc_config_file.specs.Prefixes.{is_prefix}
-use Rattle.kc_config_file.specs.Reading.{Assignment, ReadResult, lines_from, no_input, reading, places_given}
-use Rattle.kc_config_file.specs.Reread.{valuation_view, kept_lines, read_alone, IsOneSolution, HasOtherSolution}
+use Rattle.kc_language.specs.Texts.{valuation_view, kept_lines, read_alone, IsOneSolution, HasOtherSolution, IsOneLine, minimal_text, symbol_config}
 use Rattle.kc_config_file.specs.HasNames.{HasNames}
-use Rattle.kc_config_file.specs.Laws.{IsOneLine}
-use Rattle.kc_config_file.specs.Texts.{minimal_text, symbol_config}
 use Rattle.kc_config_file.proofs.GivesLemmas.{Gives, gives_whole}
 use Rattle.kc_config_file.proofs.MinimalTextLemmas.{differing_line, keeps_differing, tells_differing, stays, stays_member, all_given, minimal_gives, left_at}
 

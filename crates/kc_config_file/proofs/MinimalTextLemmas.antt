@@ -1,37 +1,27 @@
 -- What reading the minimal file, or some of its lines, leaves in empty places.
 use Rattle.std.proofs.Common.{◌≡◌, ℕ, ◌<◌, List, [], ◌∷◌, ◌++◌, Bool, true, false, not, length, get_or, cond, refl, sym, ap, ◌∙◌, subst, arith, inl, inr, Option, Some, None}
-use Rattle.std.specs.Prelude.{◌&&◌, slice_get, nat_lt}
+use Rattle.std.specs.Prelude.{◌&&◌, slice_get, nat_lt, option_map}
 use Rattle.std.specs.List.{Contains, flat_map, cons_option}
-use Rattle.std.specs.Option.{option_map, option_and_then}
+use Rattle.std.specs.Option.{option_and_then}
 use Rattle.std.proofs.lemmas.Bool.{cases_Bool, and_parts, lt-ltb, ltb-true, true≢false}
 use Rattle.std.proofs.lemmas.Option.{slice_get-get_or, slice_get_within}
-use Rattle.kc_expr.specs.declared.expression.SymId.{SymId}
-use Rattle.kc_expr.specs.declared.expression.Tri.TheVariants.{N, Y}
-use Rattle.kc_expr.specs.Names.{symbol}
-use Rattle.kc_expr.specs.Value.{SymbolValue, Truth}
+use Rattle.kc_language.specs.declared.expressions.SymId.{SymId}
+use Rattle.kc_language.specs.declared.expressions.Tri.TheVariants.{N, Y}
+use Rattle.kc_language.specs.Expressions.{symbol, SymbolValue, Truth}
 use Rattle.kc_order.specs.Minimal.{kept}
-use Rattle.kc_order.specs.Solution.{Solves}
-use Rattle.kc_tree.specs.TreeFacts.{TreeFacts, SymbolFacts, IsWellFormed}
-use Rattle.kc_user.specs.GivenValue.{GivenValue, Member, UserPlace, SymbolPlace, ChoicePlace, is_yes}
-use Rattle.kc_user.specs.Places.{place_at, no_places, allowed, allowed_by, allowed_for, AllowedPlaces}
-use Rattle.kc_values.specs.Differs.{given_of, differs, default_selection}
+use Rattle.kc_language.specs.Values.{Solves, GivenValue, Member, UserPlace, SymbolPlace, ChoicePlace, is_yes, given_of, differs, default_selection, facts, choice_at, name_count, known_from, user_place, equations, name as name_of}
+use Rattle.kc_language.specs.Symbols.{TreeFacts, SymbolFacts, is_symbol_of}
+use Rattle.kc_tree.specs.TreeFacts.{IsWellFormed}
+use Rattle.kc_language.specs.ConfigFile.{place_at, no_places, is_prefix, Assignment, choice_of, places_given}
+use Rattle.kc_user.specs.Places.{allowed, allowed_by, allowed_for, AllowedPlaces}
 use Rattle.kc_values.specs.GivenLines.{minimal_line, TellsDiffering}
 use Rattle.kc_values.specs.Laws.{DifferingAreAllowed}
 use Rattle.kc_values.specs.Members.{MembersAreTheirs, MembersAreBools}
-use Rattle.kc_values.specs.Lookups.{facts, choice_at}
-use Rattle.kc_values.specs.Solution as sol
-use Rattle.kc_values.specs.Solution.{name_count, known_from, user_place, equations}
-use Rattle.kc_tree.specs.Common.{is_symbol_of}
+use Rattle.kc_language.specs.Values as sol
 use Rattle.kc_values.proofs.FixedLines.{place_cases, place_of_member, names_itself, named, Sel, member_now, differs-member}
 use Rattle.kc_values.proofs.Selection.{selected_member}
-use Rattle.kc_config_file.specs.Effects.{name_of}
-use Rattle.kc_config_file.specs.Prefixes.{is_prefix}
-use Rattle.kc_config_file.specs.Reading.{Assignment, choice_of, places_given}
-use Rattle.kc_config_file.specs.Reread.{valuation_view, kept_lines}
+use Rattle.kc_language.specs.Texts.{valuation_view, kept_lines, IsOneLine, symbol_config, config_file_line}
 use Rattle.kc_config_file.specs.HasNames.{HasNames}
-use Rattle.kc_config_file.specs.Laws.{IsOneLine}
-use Rattle.kc_config_file.specs.Texts.{symbol_config}
-use Rattle.kc_config_file.specs.SymbolLines.{config_file_line}
 use Rattle.kc_config_file.proofs.FilledLemmas.{Holds, IsCandidate, filled_symbol, filled_member, filled_none, in_flat_map, to_flat_map, contains_here, contains_cases, no_element}
 use Rattle.kc_config_file.proofs.GivesLemmas.{Gives, gives_all, gives_nothing}
 use Rattle.kc_config_file.proofs.ShapeLemmas.{value_shape, allowed_fits, untyped_not}

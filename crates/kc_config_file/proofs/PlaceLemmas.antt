@@ -4,12 +4,11 @@ use Rattle.std.specs.Prelude.{◌&&◌}
 use Rattle.std.specs.List.{filter_map, last_or, cons_option}
 use Rattle.std.proofs.lemmas.Bool.{eq-eqb, ne_eqb}
 use Rattle.std.proofs.lemmas.List.Elements.{filter_map-append}
-use Rattle.kc_expr.specs.declared.expression.SymId.{SymId}
-use Rattle.kc_tree.specs.TreeFacts.{TreeFacts}
-use Rattle.kc_user.specs.GivenValue.{GivenValue, is_yes}
-use Rattle.kc_user.specs.Places.{Places, ArePlacesOf}
+use Rattle.kc_language.specs.declared.expressions.SymId.{SymId}
+use Rattle.kc_language.specs.Symbols.{TreeFacts}
+use Rattle.kc_language.specs.Values.{GivenValue, is_yes}
+use Rattle.kc_language.specs.ConfigFile.{Places, ArePlacesOf, Assignment, each_from, given_to, chosen_in, places_given, choice_of, is_this_choice}
 use Rattle.kc_config_file.specs.LineSteps.{with_member}
-use Rattle.kc_config_file.specs.Reading.{Assignment, each_from, given_to, chosen_in, places_given, choice_of, is_this_choice}
 
 pub each_from-each_from : {A B C : Type 0} (f : ℕ → B → C) (g : ℕ → A → B) (n : ℕ) (xs : List A) → each_from f n (each_from g n xs) ≡ each_from (λ i x. f i (g i x)) n xs
 each_from-each_from f g n [] = refl

@@ -1,12 +1,11 @@
 -- What a call of a reader answers.
 use Rattle.std.proofs.Common.{◌≡◌, List, ℕ, refl, Option, Some, None, Ok, Err}
-use Rattle.kc_tree.specs.TreeFacts.{TreeFacts}
-use Rattle.kc_user.specs.Places.{ArePlacesOf}
+use Rattle.kc_language.specs.Symbols.{TreeFacts}
+use Rattle.kc_language.specs.ConfigFile.{ArePlacesOf, UserInput}
 use Rattle.kc_config_file.specs.declared.fault.InputFault.{InputFault}
 use Rattle.kc_config_file.specs.Feeding.{StreamPosition, Feeds, Refuses, FinishesStream, ended, fed}
 use Rattle.kc_config_file.specs.ReaderCalls.{AnswersFeed, AnswersEnd}
 use Rattle.kc_config_file.specs.ReaderState.{ReaderState}
-use Rattle.kc_config_file.specs.Reading.{UserInput}
 use Rattle.kc_config_file.proofs.WholeLinesLemmas.{Feeds-lines, Refuses-lines, FinishesStream-lines}
 
 module _ (tree : TreeFacts) (prefix name : List ℕ) where

@@ -1,14 +1,13 @@
 -- Reading line by line.
 use Rattle.std.proofs.Common.{◌≡◌, ℕ, List, [], ◌∷◌, ◌++◌, Bool, true, false, not, length, refl, sym, ap, ◌∙◌, Option, Some, None, append_assoc}
-use Rattle.std.specs.Prelude.{◌&&◌, ◌==◌, find}
+use Rattle.std.specs.Prelude.{◌&&◌, ◌==◌, find, option_map}
 use Rattle.std.specs.List.{filter_map, last_or}
-use Rattle.std.specs.Option.{option_map}
 use Rattle.std.proofs.Math.Dec.{eqb-suc-zero}
 use Rattle.std.proofs.lemmas.List.Elements.{filter_map-append}
 use Rattle.std.proofs.lemmas.List.Sums.{take_while-cons}
-use Rattle.kc_tree.specs.TreeFacts.{TreeFacts}
-use Rattle.kc_user.specs.Places.{Places}
-use Rattle.kc_config_file.specs.Reading.{Line, StreamLocation, UserInput, ReadResult, with_warnings, stream_location, is_within, assignments, effect, input_after, line_for, lines_after, places_after, untaken, untaken_line, warning, warnings, before_too_long, reading}
+use Rattle.kc_language.specs.Symbols.{TreeFacts}
+use Rattle.kc_language.specs.ConfigFile.{Places, Line, StreamLocation, UserInput, ReadResult, stream_location, is_within, assignments, effect, input_after, line_for, lines_after, places_after, untaken, untaken_line, warning, warnings, before_too_long, reading}
+use Rattle.kc_config_file.specs.Reading.{with_warnings}
 use Rattle.kc_config_file.proofs.InTurnLemmas.{told-append, told-cons}
 use Rattle.kc_config_file.proofs.PlaceLemmas.{each_last, each_same, length-each_from, places_given-append, places_given-nothing}
 

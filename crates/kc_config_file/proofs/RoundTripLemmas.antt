@@ -12,19 +12,14 @@ use Rattle.std.proofs.lemmas.List.Elements.{All-append}
 use Rattle.std.proofs.lemmas.List.Folds.{list_any_none}
 use Rattle.std.proofs.lemmas.List.Sums.{AllPass-from_list_all}
 use Rattle.std.proofs.lemmas.Slice.Eq.{bytes_eq-Decides}
-use Rattle.kc_expr.specs.Value.{SymbolValue, Truth, TextValue}
-use Rattle.kc_expr.specs.declared.expression.Tri.TheVariants.{N, M, Y}
-use Rattle.kc_expr.specs.declared.expression.SymbolType.TheVariants as symbol_type
-use Rattle.kc_config_file.specs.SymbolLines.{config_file_line}
-use Rattle.kc_text.specs.Escapes.{escape}
-use Rattle.kc_text.specs.Lexemes.{is_blank}
+use Rattle.kc_language.specs.Expressions.{SymbolValue, Truth, TextValue, is_name_byte}
+use Rattle.kc_language.specs.declared.expressions.Tri.TheVariants.{N, M, Y}
+use Rattle.kc_language.specs.declared.expressions.SymbolType.TheVariants as symbol_type
+use Rattle.kc_language.specs.Texts.{config_file_line, is_end_byte, EndsPlainly}
+use Rattle.kc_language.specs.Text.{escape, preceded}
+use Rattle.kc_language.specs.Tokens.{is_blank}
 use Rattle.kc_text.proofs.Unescaping.{unescape_law}
-use Rattle.kc_config_file.specs.ConfigFileLine.{Set, Unset, meaning_of, trimmed, without_prefix, without_suffix, plain, unset_name, is_equals, split_at_equals, name_and_value, is_comment}
-use Rattle.kc_config_file.specs.LineValue.{until_quote}
-use Rattle.kc_config_file.specs.Sink.{preceded}
-use Rattle.kc_expr.specs.Names.{is_name_byte}
-use Rattle.kc_config_file.specs.Plain.{is_end_byte, EndsPlainly}
-use Rattle.kc_config_file.specs.Prefixes.{is_prefix}
+use Rattle.kc_language.specs.ConfigFile.{Set, Unset, meaning_of, trimmed, without_prefix, without_suffix, plain, unset_name, is_equals, split_at_equals, name_and_value, is_comment, until_quote, is_prefix}
 use Rattle.kc_config_file.specs.RoundTrip.{IsName, IsShortText, UnsetLineReadAgain, SetLineReadAgain, StringReadAgain}
 
 same_bytes : (bytes : List ℕ) → bytes_eq bytes bytes ≡ true

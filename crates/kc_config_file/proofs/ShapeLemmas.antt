@@ -4,20 +4,17 @@ use Rattle.std.specs.Prelude.{is_some, nat_le}
 use Rattle.std.specs.List.{list_any}
 use Rattle.std.proofs.lemmas.Bool.{leb-true, and_parts, not-true, true≢false}
 use Rattle.std.proofs.lemmas.List.Folds.{list_any_at}
-use Rattle.kc_text.specs.Lines.{is_line_feed}
-use Rattle.kc_text.specs.Escapes.{escape}
-use Rattle.kc_text.specs.Numbers.{int_of, hex_of}
-use Rattle.kc_expr.specs.declared.expression.SymId.{SymId}
-use Rattle.kc_expr.specs.declared.expression.SymbolType.{SymbolType}
-use Rattle.kc_expr.specs.declared.expression.SymbolType.TheVariants as symbol_type
-use Rattle.kc_expr.specs.Value.{SymbolValue, Truth, TextValue}
-use Rattle.kc_tree.specs.TreeFacts.{TreeFacts, SymbolFacts}
-use Rattle.kc_user.specs.GivenValue.{GivenValue, GivenTruth, GivenText, Member}
+use Rattle.kc_language.specs.Lines.{is_line_feed}
+use Rattle.kc_language.specs.Text.{escape, int_of, hex_of}
+use Rattle.kc_language.specs.declared.expressions.SymId.{SymId}
+use Rattle.kc_language.specs.declared.expressions.SymbolType.{SymbolType}
+use Rattle.kc_language.specs.declared.expressions.SymbolType.TheVariants as symbol_type
+use Rattle.kc_language.specs.Expressions.{SymbolValue, Truth, TextValue}
+use Rattle.kc_language.specs.Symbols.{TreeFacts, SymbolFacts}
+use Rattle.kc_language.specs.Values.{GivenValue, GivenTruth, GivenText, Member, given_of, facts}
 use Rattle.kc_user.specs.Places.{allowed_by}
-use Rattle.kc_values.specs.Differs.{given_of}
 use Rattle.kc_values.specs.Members.{MembersAreBools}
-use Rattle.kc_values.specs.Lookups.{facts}
-use Rattle.kc_values.specs.Values as v
+use Rattle.kc_language.specs.Values as v
 use Rattle.kc_config_file.proofs.LineLemmas.{HasNoLf}
 use Rattle.kc_config_file.proofs.SymbolLineLemmas.{IsOf, FitsLine}
 use Rattle.kc_config_file.proofs.TextBytes.{int_bytes, hex_bytes, number_plain, number_no_lf}

@@ -6,26 +6,18 @@ use Rattle.std.proofs.lemmas.Bool.{lt-ltb}
 use Rattle.std.proofs.lemmas.List.{length-append}
 use Rattle.std.proofs.lemmas.List.Elements.{All-append, All-cons, All-nil}
 use Rattle.std.proofs.lemmas.Option.{slice_get-get_or}
-use Rattle.kc_text.specs.Lines.{is_line_feed}
-use Rattle.kc_text.specs.Escapes.{escape}
-use Rattle.kc_expr.specs.declared.expression.SymId.{SymId}
-use Rattle.kc_expr.specs.declared.expression.Tri.TheVariants.{N, M, Y}
-use Rattle.kc_expr.specs.declared.expression.SymbolType.TheVariants as symbol_type
-use Rattle.kc_expr.specs.Value.{SymbolValue, Truth, TextValue}
-use Rattle.kc_tree.specs.TreeFacts.{TreeFacts, Shown, SymbolShown, MenuShown, EndShown, CommentShown, IsLineText, IsWellFormed, OfTitles}
-use Rattle.kc_user.specs.GivenValue.{GivenValue, UserPlace}
-use Rattle.kc_values.specs.Solution.{name_count, known_from}
-use Rattle.kc_config_file.specs.Effects.{name_of}
+use Rattle.kc_language.specs.Lines.{is_line_feed}
+use Rattle.kc_language.specs.Text.{escape, one_more}
+use Rattle.kc_language.specs.declared.expressions.SymId.{SymId}
+use Rattle.kc_language.specs.declared.expressions.Tri.TheVariants.{N, M, Y}
+use Rattle.kc_language.specs.declared.expressions.SymbolType.TheVariants as symbol_type
+use Rattle.kc_language.specs.Expressions.{SymbolValue, Truth, TextValue}
+use Rattle.kc_language.specs.Symbols.{TreeFacts, Shown, SymbolShown, MenuShown, EndShown, CommentShown}
+use Rattle.kc_tree.specs.TreeFacts.{IsLineText, IsWellFormed, OfTitles}
+use Rattle.kc_language.specs.Values.{GivenValue, UserPlace, name_count, known_from, name as name_of}
 use Rattle.kc_config_file.specs.HasNames.{HasNames}
-use Rattle.kc_config_file.specs.Laws.{HasShortLines}
-use Rattle.kc_config_file.specs.Plain.{title_line}
-use Rattle.kc_config_file.specs.Prefixes.{is_prefix}
-use Rattle.kc_text.specs.Limits.{one_more}
-use Rattle.kc_config_file.specs.Reading.{Line, line, is_within, lines_from}
-use Rattle.kc_config_file.specs.Reread.{valuation_view}
-use Rattle.kc_config_file.specs.SymbolLines.{config_file_line}
-use Rattle.kc_config_file.specs.Texts.{config_heading, config_text, title_lines, end_line, end_if, gap, shown_title, symbol_config, end_is_last, entry_text, entries_text, minimal_if, minimal_text}
-use Rattle.kc_config_file.specs.SolutionView.{SolutionView, is_shown}
+use Rattle.kc_language.specs.Texts.{HasShortLines, title_line, valuation_view, config_file_line, config_heading, config_text, title_lines, end_line, end_if, gap, shown_title, symbol_config, end_is_last, entry_text, entries_text, minimal_if, minimal_text, SolutionView, is_shown}
+use Rattle.kc_language.specs.ConfigFile.{is_prefix, Line, line, is_within, lines_from}
 use Rattle.kc_config_file.proofs.FilledLemmas.{contains_here, contains_later}
 use Rattle.kc_config_file.proofs.LineLemmas.{HasNoLf, lines_from-lf, lines_from-last, is_within-line}
 use Rattle.kc_config_file.proofs.MinimalTextLemmas.{there}

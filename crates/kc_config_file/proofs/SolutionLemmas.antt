@@ -3,15 +3,14 @@ use Rattle.std.proofs.Common.{◌≡◌, ◌<◌, [], length, get_or, true, fals
 use Rattle.std.specs.Prelude.{slice_get, Contains}
 use Rattle.std.proofs.lemmas.Bool.{true≢false}
 use Rattle.std.proofs.lemmas.Option.{slice_get-get_or}
-use Rattle.kc_order.specs.Solution.{Solves}
-use Rattle.kc_solve.specs.Solved.{IsSolution, Solution, value_of}
-use Rattle.kc_expr.specs.declared.expression.SymId.{SymId}
-use Rattle.kc_tree.specs.TreeFacts.{SymbolFacts, TreeFacts, IsWellFormed}
-use Rattle.kc_user.specs.GivenValue.{GivenValue}
-use Rattle.kc_user.specs.Places.{ArePlaces, allowed, allowed_for, place_at}
-use Rattle.kc_values.specs.Needs.{IsAccepted}
-use Rattle.kc_values.specs.Solution.{equations, name_count}
-use Rattle.kc_config_file.specs.Effects.{name_of}
+use Rattle.kc_language.specs.Values.{Solves, GivenValue, equations, name_count, name as name_of}
+use Rattle.kc_language.specs.Texts.{IsSolution, Solution, value_of}
+use Rattle.kc_language.specs.declared.expressions.SymId.{SymId}
+use Rattle.kc_language.specs.Symbols.{SymbolFacts, TreeFacts}
+use Rattle.kc_tree.specs.TreeFacts.{IsWellFormed}
+use Rattle.kc_user.specs.Places.{ArePlaces, allowed, allowed_for}
+use Rattle.kc_language.specs.ConfigFile.{place_at}
+use Rattle.kc_language.specs.Needs.{IsAccepted}
 use Rattle.kc_config_file.specs.WrittenLaws.{IsSolutionOf}
 use Rattle.kc_config_file.specs.HasNames.{HasNames}
 use Rattle.kc_config_file.proofs.ShapeLemmas.{untyped_not}

@@ -1,10 +1,8 @@
 -- What an effect does to each part of the input.
 use Rattle.std.proofs.Common.{List, [], ◌∷◌, Bool, false, Option, Some, slice_set}
 use Rattle.std.specs.Prelude.{◌&&◌}
-use Rattle.kc_tree.specs.TreeFacts.{TreeFacts}
-use Rattle.kc_user.specs.Places.{Places}
-use Rattle.kc_config_file.specs.Effects.{Effect, Silent, Warns, Assigns}
-use Rattle.kc_config_file.specs.Reading.{StreamLocation, UserInput, is_taken, places_given}
+use Rattle.kc_language.specs.Symbols.{TreeFacts}
+use Rattle.kc_language.specs.ConfigFile.{Places, Effect, Silent, Warns, Assigns, StreamLocation, UserInput, is_taken, places_given}
 
 abbrev pub places_by : TreeFacts → Places → Effect → Places
 places_by tree places Silent = places

@@ -2,19 +2,17 @@
 use Rattle.std.proofs.Common.{◌≡◌, ℕ, ◌<◌, List, [], ◌∷◌, true, false, length, refl, sym, Option, Some, None, slice_set}
 use Rattle.std.specs.Prelude.{slice_get, IfSome}
 use Rattle.std.proofs.lemmas.Option.{slice_get_within}
-use Rattle.kc_expr.specs.declared.expression.SymId.{SymId}
-use Rattle.kc_expr.specs.declared.expression.SymbolType.{SymbolType}
-use Rattle.kc_expr.specs.declared.expression.SymbolType.TheVariants as symbol_type
-use Rattle.kc_tree.specs.TreeFacts.{TreeFacts, SymbolFacts, IsWellFormed}
+use Rattle.kc_language.specs.declared.expressions.SymId.{SymId}
+use Rattle.kc_language.specs.declared.expressions.SymbolType.{SymbolType}
+use Rattle.kc_language.specs.declared.expressions.SymbolType.TheVariants as symbol_type
+use Rattle.kc_language.specs.Symbols.{TreeFacts, SymbolFacts}
+use Rattle.kc_tree.specs.TreeFacts.{IsWellFormed}
 use Rattle.kc_tree.specs.Contexts.{mode_view}
-use Rattle.kc_tree.specs.declared.rows.ChoiceId.{ChoiceId}
-use Rattle.kc_user.specs.GivenValue.{GivenValue, is_yes}
-use Rattle.kc_user.specs.Places.{Places}
-use Rattle.kc_config_file.specs.Effects.{set_effect, set_by_type, assigned_or, type_in}
-use Rattle.kc_config_file.specs.LineValue.{line_value}
+use Rattle.kc_language.specs.declared.symbols.ChoiceId.{ChoiceId}
+use Rattle.kc_language.specs.Values.{GivenValue, is_yes, type_in}
+use Rattle.kc_language.specs.ConfigFile.{Places, set_effect, set_by_type, assigned_or, line_value, places_given, choice_of}
 use Rattle.kc_config_file.specs.EffectView.{AssignsDefined}
 use Rattle.kc_config_file.specs.LineSteps.{with_member}
-use Rattle.kc_config_file.specs.Reading.{places_given, choice_of}
 use Rattle.kc_config_file.proofs.PlaceLemmas.{places_given-one}
 
 by_value : (tree : TreeFacts) (name : List ℕ) (s : SymId) (found : Option GivenValue) → s.0 < length tree.symbols → AssignsDefined tree (assigned_or name s found)

@@ -8,20 +8,20 @@ use Rattle.std.proofs.lemmas.List.{get_or-replicate, length-append, length-repli
 use Rattle.std.proofs.lemmas.List.Elements.{All-append, All-cons, All-nil}
 use Rattle.std.proofs.lemmas.List.Sums.{suffix_len-le-length, prefix_len_passes, take_while-cons}
 use Rattle.std.specs.Str.Lines.{strip_carriage_return}
-use Rattle.kc_text.specs.Lines.{is_line_feed}
-use Rattle.kc_expr.specs.declared.expression.SymId.{SymId}
-use Rattle.kc_tree.specs.TreeFacts.{TreeFacts, SymbolFacts, IsWellFormed}
-use Rattle.kc_user.specs.GivenValue.{GivenValue, is_yes}
+use Rattle.kc_language.specs.Lines.{is_line_feed}
+use Rattle.kc_language.specs.declared.expressions.SymId.{SymId}
+use Rattle.kc_language.specs.Symbols.{TreeFacts, SymbolFacts}
+use Rattle.kc_tree.specs.TreeFacts.{IsWellFormed}
+use Rattle.kc_language.specs.Values.{GivenValue, is_yes}
 use Rattle.kc_user.specs.Laws.{EmptyArePlaces, SettingKeepsPlaces, SelectingKeepsPlaces}
-use Rattle.kc_user.specs.Places.{ArePlaces, Places, allowed, members_of}
+use Rattle.kc_user.specs.Places.{ArePlaces, allowed, members_of}
+use Rattle.kc_language.specs.ConfigFile.{Places, meaning_of, Effect, Silent, Warns, Assigns, effect_of, Assignment, Line, ReadResult, Stream, StreamLocation, UserInput, no_input, assignment_of, assignments, choice_of, before_too_long, effect, is_within, last_line, line, lines_from, lines_of, lines_in_stream, places_given, reading, stream_location, text_of}
 use Rattle.kc_config_file.specs.Calls.{Call, Feed, Finish, NextStream, Answers, AllAnswered, rest_of, more_of, lines_fed}
-use Rattle.kc_config_file.specs.ConfigFileLine.{meaning_of}
-use Rattle.kc_config_file.specs.Effects.{Effect, Silent, Warns, Assigns, effect_of}
 use Rattle.kc_config_file.specs.Feeding.{StreamPosition, fed, ended, stream_start, ReadsPiece, EndsStream}
 use Rattle.kc_config_file.specs.LineSteps.{with_member}
 use Rattle.kc_config_file.specs.ReaderState.{ReaderState}
-use Rattle.kc_text.specs.Limits.{one_more}
-use Rattle.kc_config_file.specs.Reading.{Assignment, Line, ReadResult, Stream, StreamLocation, UserInput, no_input, assignment_of, assignments, choice_of, before_too_long, effect, is_within, last_line, line, lines_from, lines_of, lines_in_stream, places_given, reading, stream_location, text_of, with_warnings}
+use Rattle.kc_language.specs.Text.{one_more}
+use Rattle.kc_config_file.specs.Reading.{with_warnings}
 use Rattle.kc_config_file.specs.Streams.{Pieces, stream_of, feeds, calls_after, RefusalsKeepPlaces, StreamsAreRead, StreamsLeavePlaces, ReadingKeepsPlaces}
 use Rattle.kc_config_file.proofs.AllowedLemmas.{assigned_allowed, strip_no_lf}
 use Rattle.kc_config_file.proofs.CallLemmas.{calls_join}

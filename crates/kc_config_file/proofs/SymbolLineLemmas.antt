@@ -11,31 +11,22 @@ use Rattle.std.proofs.lemmas.List.Elements.{All-append, All-cons}
 use Rattle.std.proofs.lemmas.List.Folds.{list_any_none}
 use Rattle.std.proofs.lemmas.List.Sums.{AllPass-from_list_all, position_or_len_is}
 use Rattle.std.proofs.lemmas.Slice.Eq.{bytes_eq-Decides}
-use Rattle.kc_text.specs.Lines.{is_line_feed}
-use Rattle.kc_text.specs.Escapes.{escape}
-use Rattle.kc_text.specs.Numbers.{int_of, hex_of}
-use Rattle.kc_expr.specs.declared.expression.SymId.{SymId}
-use Rattle.kc_expr.specs.declared.expression.Tri.{Tri}
-use Rattle.kc_expr.specs.declared.expression.Tri.TheVariants.{N, M, Y}
-use Rattle.kc_expr.specs.declared.expression.SymbolType.{SymbolType}
-use Rattle.kc_expr.specs.declared.expression.SymbolType.TheVariants as symbol_type
-use Rattle.kc_expr.specs.Names.{same_name}
-use Rattle.kc_expr.specs.Value.{SymbolValue, Truth, TextValue}
-use Rattle.kc_tree.specs.TreeFacts.{TreeFacts, SymbolFacts, IsWellFormed}
-use Rattle.kc_user.specs.GivenValue.{GivenValue, GivenTruth, GivenText}
+use Rattle.kc_language.specs.Lines.{is_line_feed}
+use Rattle.kc_language.specs.Text.{escape, int_of, hex_of}
+use Rattle.kc_language.specs.declared.expressions.SymId.{SymId}
+use Rattle.kc_language.specs.declared.expressions.Tri.{Tri}
+use Rattle.kc_language.specs.declared.expressions.Tri.TheVariants.{N, M, Y}
+use Rattle.kc_language.specs.declared.expressions.SymbolType.{SymbolType}
+use Rattle.kc_language.specs.declared.expressions.SymbolType.TheVariants as symbol_type
+use Rattle.kc_language.specs.Expressions.{same_name, SymbolValue, Truth, TextValue, is_name_byte}
+use Rattle.kc_language.specs.Symbols.{TreeFacts, SymbolFacts}
+use Rattle.kc_tree.specs.TreeFacts.{IsWellFormed}
+use Rattle.kc_language.specs.Values.{GivenValue, GivenTruth, GivenText, given_of, name as name_of}
 use Rattle.kc_user.specs.Places.{allowed, allowed_by, allowed_for, fits_quoted}
-use Rattle.kc_values.specs.Differs.{given_of}
-use Rattle.kc_config_file.specs.ConfigFileLine.{Set, Unset, meaning_of}
-use Rattle.kc_config_file.specs.Effects.{effect_of, set_by_type, unset_by_type, assigned_or, symbol_named, name_of}
-use Rattle.kc_config_file.specs.LineValue.{line_value, number_value}
-use Rattle.kc_expr.specs.Names.{is_name_byte}
-use Rattle.kc_config_file.specs.Prefixes.{is_prefix}
-use Rattle.kc_config_file.specs.Reading.{Assignment, assignment_of}
-use Rattle.kc_config_file.specs.Plain.{is_end_byte, EndsPlainly}
+use Rattle.kc_language.specs.ConfigFile.{Set, Unset, meaning_of, effect_of, set_by_type, unset_by_type, assigned_or, symbol_named, line_value, number_value, is_prefix, Assignment, assignment_of}
+use Rattle.kc_language.specs.Texts.{is_end_byte, EndsPlainly, IsOneLine, config_file_line}
 use Rattle.kc_config_file.specs.HasNames.{HasNames}
-use Rattle.kc_config_file.specs.Laws.{IsOneLine}
 use Rattle.kc_config_file.specs.RoundTrip.{IsShortText}
-use Rattle.kc_config_file.specs.SymbolLines.{config_file_line}
 use Rattle.kc_config_file.proofs.GivesLemmas.{Gives, gives_line}
 use Rattle.kc_config_file.proofs.LineLemmas.{HasNoLf}
 use Rattle.kc_config_file.proofs.RoundTripLemmas.{prefix_bytes, unset_read_again, set_read_again, string_read_again, written_short}

@@ -1,17 +1,15 @@
 -- The bytes of the texts that stand in a line.
 use Rattle.std.proofs.Common.{◌≡◌, ℕ, ◌<◌, suc, List, [], ◌∷◌, ◌++◌, Bool, true, false, length, drop, get_or, eqb, cond, refl, sym, ap, subst, arith, inl, inr, Option, Some, None}
-use Rattle.std.specs.Prelude.{◌||◌, ◌==◌, ◌&&◌, All, is_some, nat_lt}
+use Rattle.std.specs.Prelude.{◌||◌, ◌==◌, ◌&&◌, All, is_some, nat_lt, option_map}
 use Rattle.std.specs.Char.{is_digit, digit_value}
-use Rattle.std.specs.Option.{option_map}
 use Rattle.std.specs.Str.Parse.{digits_value, starts_with_minus}
 use Rattle.std.proofs.Math.Seq.{get_or-append_seam}
 use Rattle.std.proofs.lemmas.Bool.{ne_eqb, eqb-true, lt-ltb, ltb-true, and_parts, cases_Bool, true≢false}
 use Rattle.std.proofs.lemmas.List.{length-append}
 use Rattle.std.proofs.lemmas.List.Elements.{All-append, All-cons, All-nil}
 use Rattle.std.proofs.lemmas.List.Sums.{AllPass-from_list_all}
-use Rattle.kc_text.specs.Escapes.{escape}
-use Rattle.kc_text.specs.Numbers.{natural_of, is_numeral, int_of, hex_of, has_hex_prefix, negated}
-use Rattle.kc_config_file.specs.Plain.{is_end_byte, EndsPlainly}
+use Rattle.kc_language.specs.Text.{escape, natural_of, is_numeral, int_of, hex_of, has_hex_prefix, negated}
+use Rattle.kc_language.specs.Texts.{is_end_byte, EndsPlainly}
 use Rattle.kc_config_file.proofs.LineLemmas.{HasNoLf}
 
 -- a byte that passes is none that does not

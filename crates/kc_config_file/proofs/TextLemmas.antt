@@ -1,23 +1,21 @@
 -- Texts that are handed out symbol by symbol and entry by entry.
 use Rattle.std.proofs.Common.{◌≡◌, ℕ, ◌+◌, ◌<◌, ◌≤◌, List, [], ◌∷◌, ◌++◌, Bool, true, false, length, map, drop, get_or, refl, sym, ap, ◌∙◌, arith, Some, append_assoc, append-nil, length-append}
-use Rattle.std.specs.Prelude.{slice_get}
+use Rattle.std.specs.Prelude.{slice_get, option_map}
 use Rattle.std.specs.List.{flat_map}
-use Rattle.std.specs.Option.{option_map}
 use Rattle.std.proofs.lemmas.List.{drop_more, drop_all}
 use Rattle.std.proofs.lemmas.Option.{get_or_from_slice_get, slice_get-get_or, slice_get_read, slice_get_within, slice_get-map}
-use Rattle.kc_expr.specs.declared.expression.SymId.{SymId}
-use Rattle.kc_expr.specs.Value.{SymbolValue}
-use Rattle.kc_tree.specs.TreeFacts.{TreeFacts, Shown, SymbolShown, MenuShown, EndShown, CommentShown, IsWellFormed, IsEntrySound}
+use Rattle.kc_language.specs.declared.expressions.SymId.{SymId}
+use Rattle.kc_language.specs.Expressions.{SymbolValue}
+use Rattle.kc_language.specs.Symbols.{TreeFacts, Shown, SymbolShown, MenuShown, EndShown, CommentShown}
+use Rattle.kc_tree.specs.TreeFacts.{IsWellFormed, IsEntrySound}
 use Rattle.kc_tree.specs.Layouts.{IsLayoutOf, shown_of}
 use Rattle.kc_tree.specs.declared.layout.Layout.{Layout}
 use Rattle.kc_tree.specs.declared.layout.Tables.{Tables}
 use Rattle.kc_tree.specs.declared.rows.ShownEntry.{ShownEntry}
 use Rattle.kc_config_file.specs.Named.{HasName}
-use Rattle.kc_config_file.specs.Effects.{name_of}
-use Rattle.kc_config_file.specs.SymbolLines.{config_file_line, header_line}
+use Rattle.kc_language.specs.Values.{name as name_of}
+use Rattle.kc_language.specs.Texts.{config_file_line, header_line, header_if, minimal_if, gap, entry_text, SolutionView}
 use Rattle.kc_config_file.specs.EntryTexts.{ends_after, entries_after}
-use Rattle.kc_config_file.specs.Texts.{header_if, minimal_if, gap, entry_text}
-use Rattle.kc_config_file.specs.SolutionView.{SolutionView}
 
 -- a text grows by the next part of what is still to come
 pub grows : (whole text grown part rest more : List ℕ) → text ++ rest ≡ whole → rest ≡ part ++ more → grown ≡ text ++ part → grown ++ more ≡ whole

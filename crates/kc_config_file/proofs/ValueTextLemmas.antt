@@ -9,34 +9,25 @@ use Rattle.std.proofs.lemmas.List.Elements.{All-cons, All-nil}
 use Rattle.std.proofs.lemmas.List.Folds.{list_any_at, list_any_none}
 use Rattle.std.proofs.lemmas.List.FromFn.{length-map-range_with_len}
 use Rattle.std.proofs.lemmas.Option.{slice_get-get_or}
-use Rattle.kc_text.specs.Lines.{is_line_feed}
-use Rattle.kc_text.specs.Escapes.{escape}
-use Rattle.kc_text.specs.Numbers.{int_of, hex_of}
-use Rattle.kc_expr.specs.declared.expression.SymId.{SymId}
-use Rattle.kc_expr.specs.declared.expression.Tri.{Tri}
-use Rattle.kc_expr.specs.declared.expression.Tri.TheVariants.{N, M, Y}
-use Rattle.kc_expr.specs.declared.expression.SymbolType.{SymbolType}
-use Rattle.kc_expr.specs.declared.expression.SymbolType.TheVariants as symbol_type
-use Rattle.kc_expr.specs.Form.{Form, Text, Symbol, Single, Related, Negated, LoneM, Every, Some_of}
-use Rattle.kc_expr.specs.Names.{symbol}
-use Rattle.kc_expr.specs.Value.{SymbolValue, Truth, TextValue, text_of_value, tri_text}
-use Rattle.kc_order.specs.Needs.{needs_in, unordered_after}
-use Rattle.kc_order.specs.Solution.{Solves}
-use Rattle.kc_tree.specs.TreeFacts.{TreeFacts, SymbolFacts, Guarded, HasLineTexts, IsLineForm, IsLineText}
-use Rattle.kc_user.specs.GivenValue.{GivenValue, GivenTruth, GivenText, Member, UserPlace, SymbolPlace}
+use Rattle.kc_language.specs.Lines.{is_line_feed}
+use Rattle.kc_language.specs.Text.{escape, int_of, hex_of}
+use Rattle.kc_language.specs.declared.expressions.SymId.{SymId}
+use Rattle.kc_language.specs.declared.expressions.Tri.{Tri}
+use Rattle.kc_language.specs.declared.expressions.Tri.TheVariants.{N, M, Y}
+use Rattle.kc_language.specs.declared.expressions.SymbolType.{SymbolType}
+use Rattle.kc_language.specs.declared.expressions.SymbolType.TheVariants as symbol_type
+use Rattle.kc_language.specs.Expressions.{Form, Text, Symbol, Single, Related, Negated, LoneM, Every, Some_of, symbol, SymbolValue, Truth, TextValue, text_of_value, tri_text}
+use Rattle.kc_language.specs.Needs.{needs_in, unordered_after, needs, needs_of, IsAccepted}
+use Rattle.kc_language.specs.Values.{Solves, GivenValue, GivenTruth, GivenText, Member, UserPlace, SymbolPlace, facts, name, is_mentioned, number_text, is_within_range, clamped, if_within_range, number_or_zero, name_count, known_from, user_place, equations, is_n, written}
+use Rattle.kc_language.specs.Symbols.{TreeFacts, SymbolFacts, Guarded}
+use Rattle.kc_tree.specs.TreeFacts.{HasLineTexts, IsLineForm, IsLineText}
 use Rattle.kc_user.specs.Places.{allowed_by, allowed_for, allowed_text, AllowedPlaces}
-use Rattle.kc_values.specs.declared.numbers.Interval.{Interval}
+use Rattle.kc_language.specs.declared.values.Interval.{Interval}
 use Rattle.kc_values.specs.Laws.{EquationsReadNeeds, NeedsAreSymbols}
-use Rattle.kc_values.specs.Lookups.{facts, name, is_mentioned}
-use Rattle.kc_values.specs.Needs.{needs, needs_of, IsAccepted}
-use Rattle.kc_values.specs.Numbers.{number_text, is_within_range, clamped, if_within_range, number_or_zero}
-use Rattle.kc_values.specs.Solution as sol
-use Rattle.kc_values.specs.Solution.{name_count, known_from, user_place, equations}
-use Rattle.kc_values.specs.Values as v
-use Rattle.kc_values.specs.Values.{is_n}
-use Rattle.kc_values.specs.WrittenSymbols.{written}
+use Rattle.kc_language.specs.Values as sol
+use Rattle.kc_language.specs.Values as v
 use Rattle.kc_values.proofs.Selection.{found}
-use Rattle.kc_config_file.specs.Plain.{IsPlainNumber, HasPlainNumbers}
+use Rattle.kc_language.specs.Texts.{IsPlainNumber, HasPlainNumbers}
 use Rattle.kc_config_file.proofs.LineLemmas.{HasNoLf}
 use Rattle.kc_config_file.proofs.ShapeLemmas.{no_line_feed}
 use Rattle.kc_config_file.proofs.SymbolLineLemmas.{FitsLine}

@@ -2,18 +2,16 @@
 use Rattle.std.proofs.Common.{◌≡◌, ℕ, ◌<◌, Bool, true, false, List, [], ◌∷◌, ◌++◌, codes, refl, sym, ap, subst, ◌∙◌, append_assoc, append-nil, Option, Some, None, arith}
 use Rattle.std.specs.Prelude.{decimal, replicate, slice_index_or, if◌then◌else◌}
 use Rattle.std.specs.List.{last_or}
-use Rattle.kc_expr.specs.declared.expression.SymbolType.{SymbolType}
-use Rattle.kc_tree.specs.TreeFacts.{TreeFacts}
-use Rattle.kc_user.specs.GivenValue.{GivenValue, SymbolPlace, same_given}
-use Rattle.kc_user.specs.Places.{place_at}
-use Rattle.kc_config_file.specs.Changes.{StreamLocation, change_line, change_text, value_text}
-use Rattle.kc_diagnostics.specs.Warnings.{Warning, located_warning}
-use Rattle.kc_diagnostics.specs.declared.warning.Warning.TheVariants.{Changed}
-use Rattle.kc_config_file.specs.Effects.{Effect, Silent, Warns, Assigns, type_of, name_of}
+use Rattle.kc_language.specs.declared.expressions.SymbolType.{SymbolType}
+use Rattle.kc_language.specs.Symbols.{TreeFacts, Warning, located_warning}
+use Rattle.kc_language.specs.Values.{GivenValue, SymbolPlace, same_given, name as name_of}
+use Rattle.kc_language.specs.ConfigFile.{place_at, StreamLocation, change_line, change_text, value_text, Effect, Silent, Warns, Assigns, type_of, UserInput, Line, ReadResult, before_too_long, effect, effect_change, effect_text, effect_warning, input_after, reading, stream_location, warning, warning_line_if, warnings, lines_from}
+use Rattle.kc_language.specs.declared.diagnostics.Warning.TheVariants.{Changed}
 use Rattle.kc_config_file.specs.declared.fault.InputFault.{InputFault}
 use Rattle.kc_config_file.specs.Feeding.{StreamPosition, ReadsPiece, EndsStream, Feeds, Refuses, FinishesStream, fed}
-use Rattle.kc_config_file.specs.Reading.{UserInput, Line, ReadResult, before_too_long, effect, effect_change, effect_text, effect_warning, input_after, reading, stream_location, warning, warning_line_if, warnings, with_warnings, lines_from}
-use Rattle.kc_config_file.specs.WholeLines.{AddsWholeLines, ends_line, is_whole_lines}
+use Rattle.kc_config_file.specs.Reading.{with_warnings}
+use Rattle.kc_config_file.specs.WholeLines.{AddsWholeLines}
+use Rattle.kc_io.specs.WholeLines.{ends_line, is_whole_lines}
 use Rattle.kc_config_file.proofs.LineLemmas.{HasNoLf}
 use Rattle.kc_config_file.proofs.ReadingLemmas.{reading-nothing, warnings-cons, warnings-nothing}
 use Rattle.kc_config_file.proofs.StreamLemmas.{reading-long_end, waiting_no_lf}

@@ -2,7 +2,8 @@
 use Rattle.std.specs.Prelude.{◌≡◌, ℕ, ◌++◌, List, [], ◌∷◌}
 use Rattle.kc_config_file.specs.Feeding.{StreamPosition, fed, ended, stream_start, ReadsPiece, EndsStream}
 use Rattle.kc_config_file.specs.ReaderState.{ReaderState}
-use Rattle.kc_config_file.specs.Reading.{Line, UserInput, lines_from, reading, with_warnings}
+use Rattle.kc_language.specs.ConfigFile.{Line, UserInput, lines_from, reading}
+use Rattle.kc_config_file.specs.Reading.{with_warnings}
 
 pub data Call : Type 0 where
   Feed : List ℕ → Call

@@ -1,9 +1,9 @@
 -- Trusted: What an effect stands for, and what it may assign.
 use Rattle.std.specs.Prelude.{◌<◌, length}
 use Rattle.kc_diagnostics.specs.Warnings.{shown_warning}
-use Rattle.kc_tree.specs.TreeFacts.{TreeFacts}
+use Rattle.kc_language.specs.Symbols.{TreeFacts}
 use Rattle.kc_user.specs.ValueView.{given_of_value}
-use Rattle.kc_config_file.specs.Effects as spec
+use Rattle.kc_language.specs.ConfigFile as spec
 use Rattle.kc_config_file.specs.declared.effect.Effect.{Effect}
 use Rattle.kc_config_file.specs.declared.effect.Effect.TheVariants.{Silent, Warns, Assigns}
 

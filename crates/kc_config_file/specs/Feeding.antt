@@ -1,13 +1,13 @@
 -- Trusted: What a reader does with the bytes that it is fed, whatever follows them.
 use Rattle.std.specs.Prelude.{◌≡◌, ℕ, ◌+◌, ◌<◌, ◌≤◌, ◌++◌, List, [], ◌∷◌, length, min, count_by, Some, false, if◌then◌else◌, ◌==◌}
 use Rattle.std.specs.List.{after_last}
-use Rattle.kc_text.specs.Limits.{last_count, one_more}
-use Rattle.kc_text.specs.Lines.{HoldsNoLineFeed, is_line_feed}
-use Rattle.kc_tree.specs.TreeFacts.{TreeFacts}
+use Rattle.kc_language.specs.Text.{last_count, one_more, longest_input_line}
+use Rattle.kc_language.specs.Lines.{HoldsNoLineFeed, is_line_feed}
+use Rattle.kc_language.specs.Symbols.{TreeFacts}
 use Rattle.kc_config_file.specs.declared.fault.InputFault.{InputFault}
 use Rattle.kc_config_file.specs.declared.fault.InputFault.TheVariants.{InputLineTooLong, Memory}
-use Rattle.kc_config_file.specs.Limits.{longest_input_line}
-use Rattle.kc_config_file.specs.Reading.{Line, UserInput, lines_from, reading, with_warnings}
+use Rattle.kc_language.specs.ConfigFile.{Line, UserInput, lines_from, reading}
+use Rattle.kc_config_file.specs.Reading.{with_warnings}
 
 -- where a reader stands in its stream: the number of the line not yet ended, and its bytes so far
 pub record StreamPosition : Type 0 where

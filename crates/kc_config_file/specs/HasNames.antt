@@ -1,9 +1,9 @@
 -- For proofs: What the names of the defined symbols are.
 use Rattle.std.specs.Prelude.{◌≤◌, length, Contains}
-use Rattle.kc_expr.specs.Limits.{longest_name}
-use Rattle.kc_expr.specs.declared.expression.SymId.{SymId}
-use Rattle.kc_tree.specs.TreeFacts.{TreeFacts}
-use Rattle.kc_config_file.specs.Effects.{name_of}
+use Rattle.kc_language.specs.Text.{longest_name}
+use Rattle.kc_language.specs.declared.expressions.SymId.{SymId}
+use Rattle.kc_language.specs.Symbols.{TreeFacts}
+use Rattle.kc_language.specs.Values.{name as name_of}
 use Rattle.kc_config_file.specs.RoundTrip.{IsName}
 
 -- the name of a defined symbol has one byte or more, not too many, each of which may stand in a name

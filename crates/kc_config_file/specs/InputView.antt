@@ -1,7 +1,6 @@
 -- Trusted: What the fields of a user's input say.
-use Rattle.std.specs.Prelude.{map}
-use Rattle.std.specs.Option.{option_map}
-use Rattle.kc_config_file.specs.Reading.{UserInput}
+use Rattle.std.specs.Prelude.{map, option_map}
+use Rattle.kc_language.specs.ConfigFile.{UserInput}
 use Rattle.kc_config_file.specs.ShownView.{location_of}
 use Rattle.kc_config_file.specs.declared.user_input.UserInput.TheInside.{Inside}
 

@@ -1,6 +1,6 @@
 -- For proofs: What is known of a symbol by its value.
-use Rattle.kc_expr.specs.Value.{SymbolValue}
-use Rattle.kc_expr.specs.Value as known
+use Rattle.kc_language.specs.Expressions.{SymbolValue}
+use Rattle.kc_language.specs.Expressions as known
 use Rattle.kc_config_file.specs.declared.symbol_line.WrittenValue.{WrittenValue}
 use Rattle.kc_config_file.specs.declared.symbol_line.WrittenValue.TheVariants.{Truth, TextValue}
 

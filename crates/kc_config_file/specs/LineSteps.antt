@@ -1,10 +1,8 @@
 -- For proofs: What the code does with one line.
 use Rattle.std.specs.Prelude.{ℕ, List, [], ◌∷◌, Bool, true, false, ◌&&◌, Option, Some, None, slice_set}
-use Rattle.kc_expr.specs.declared.expression.SymId.{SymId}
-use Rattle.kc_tree.specs.TreeFacts.{TreeFacts}
-use Rattle.kc_config_file.specs.Effects.{Effect, Silent, Warns, Assigns}
-use Rattle.kc_config_file.specs.Changes.{StreamLocation}
-use Rattle.kc_config_file.specs.Reading.{UserInput, is_taken, places_given}
+use Rattle.kc_language.specs.declared.expressions.SymId.{SymId}
+use Rattle.kc_language.specs.Symbols.{TreeFacts}
+use Rattle.kc_language.specs.ConfigFile.{Effect, Silent, Warns, Assigns, StreamLocation, UserInput, is_taken, places_given}
 
 -- the member in its choice's place, where it is made y
 abbrev pub with_member : Bool → Option ℕ → SymId → List (Option SymId) → List (Option SymId)

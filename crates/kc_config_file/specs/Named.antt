@@ -1,6 +1,6 @@
 -- For proofs: That an entry's symbol has a name.
 use Rattle.std.specs.Prelude.{◌<◌, length}
-use Rattle.kc_tree.specs.TreeFacts.{TreeFacts, Shown, SymbolShown, MenuShown, EndShown, CommentShown}
+use Rattle.kc_language.specs.Symbols.{TreeFacts, Shown, SymbolShown, MenuShown, EndShown, CommentShown}
 
 abbrev pub HasName : TreeFacts → Shown → Type 0
 HasName tree (SymbolShown s) = s.0 < length tree.names

@@ -1,10 +1,9 @@
 -- Trusted: What one call of a reader leaves, whatever its answer.
 use Rattle.std.specs.Prelude.{◌≡◌, ℕ, List, Some, None, Result, Err, OnOk, IfErr}
-use Rattle.kc_user.specs.Places.{ArePlacesOf}
+use Rattle.kc_language.specs.ConfigFile.{ArePlacesOf, UserInput}
 use Rattle.kc_config_file.specs.declared.fault.InputFault.{InputFault}
 use Rattle.kc_config_file.specs.Feeding.{Feeds, Refuses, FinishesStream, FailsToEnd, fed}
 use Rattle.kc_config_file.specs.ReaderState.{ReaderState}
-use Rattle.kc_config_file.specs.Reading.{UserInput}
 use Rattle.kc_config_file.specs.WholeLines.{AddsWholeLines}
 
 -- A reader that keeps a refusal answers it again, and changes nothing.

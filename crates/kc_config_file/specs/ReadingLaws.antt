@@ -1,15 +1,13 @@
 -- Trusted: What holds of reading lines, for every tree, every prefix and every input before them.
 use Rattle.std.specs.Prelude.{◌≡◌, ℕ, ◌++◌, List, [], ◌∷◌, length, true, false, Some, None, slice_set}
 use Rattle.std.specs.List.{after_last}
-use Rattle.kc_expr.specs.declared.expression.SymId.{SymId}
-use Rattle.kc_text.specs.Limits.{one_more}
-use Rattle.kc_text.specs.Lines.{HoldsNoLineFeed, is_line_feed}
-use Rattle.kc_tree.specs.TreeFacts.{TreeFacts}
-use Rattle.kc_user.specs.GivenValue.{GivenValue}
-use Rattle.kc_user.specs.Places.{ArePlacesOf, Places}
-use Rattle.kc_diagnostics.specs.Warnings.{Warning}
-use Rattle.kc_config_file.specs.Effects.{Silent, Warns, Assigns}
-use Rattle.kc_config_file.specs.Reading.{Line, UserInput, effect, input_after, is_within, last_line, line, lines_from, places_after, reading, stream_location, untaken, untaken_line, warning, warnings, with_warnings}
+use Rattle.kc_language.specs.declared.expressions.SymId.{SymId}
+use Rattle.kc_language.specs.Text.{one_more}
+use Rattle.kc_language.specs.Lines.{HoldsNoLineFeed, is_line_feed}
+use Rattle.kc_language.specs.Symbols.{TreeFacts, Warning}
+use Rattle.kc_language.specs.Values.{GivenValue}
+use Rattle.kc_language.specs.ConfigFile.{ArePlacesOf, Places, Silent, Warns, Assigns, Line, UserInput, effect, input_after, is_within, last_line, line, lines_from, places_after, reading, stream_location, untaken, untaken_line, warning, warnings}
+use Rattle.kc_config_file.specs.Reading.{with_warnings}
 
 -- The lines of a stream's bytes: a line feed ends a line, and the next line follows; bytes without one are the last line,
 -- where there are any; and behind the last line feed none is left.

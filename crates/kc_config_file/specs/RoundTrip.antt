@@ -1,19 +1,11 @@
 -- Trusted: A written line, read again.
 use Rattle.std.specs.Prelude.{◌≡◌, ℕ, ◌+◌, ◌<◌, ◌≤◌, ◌++◌, List, [], ◌∷◌, length, true, All, Some, codes}
-use Rattle.kc_text.specs.Bytes.{byte}
-use Rattle.kc_text.specs.Escapes.{escape}
-use Rattle.kc_user.specs.GivenValue.{GivenText}
-use Rattle.kc_user.specs.Limits.{longest_value}
-use Rattle.kc_expr.specs.Limits.{longest_name}
-use Rattle.kc_expr.specs.Names.{is_name_byte}
-use Rattle.kc_expr.specs.Value.{SymbolValue, Truth, TextValue}
-use Rattle.kc_expr.specs.declared.expression.SymbolType.TheVariants as symbol_type
-use Rattle.kc_config_file.specs.SymbolLines.{config_file_line}
-use Rattle.kc_config_file.specs.ConfigFileLine.{Set, Unset, ended_meaning}
-use Rattle.kc_config_file.specs.LineValue.{line_value}
-use Rattle.kc_config_file.specs.Limits.{longest_prefix}
-use Rattle.kc_config_file.specs.Plain.{EndsPlainly}
-use Rattle.kc_config_file.specs.Prefixes.{is_prefix}
+use Rattle.kc_language.specs.Text.{byte, escape, longest_value, longest_name, longest_prefix}
+use Rattle.kc_language.specs.Values.{GivenText}
+use Rattle.kc_language.specs.Expressions.{is_name_byte, SymbolValue, Truth, TextValue}
+use Rattle.kc_language.specs.declared.expressions.SymbolType.TheVariants as symbol_type
+use Rattle.kc_language.specs.Texts.{config_file_line, EndsPlainly}
+use Rattle.kc_language.specs.ConfigFile.{Set, Unset, ended_meaning, line_value, is_prefix}
 
 -- one byte or more, each of which may stand in a name
 pub record IsName (name : List ℕ) : Type 0 where

@@ -1,6 +1,6 @@
 -- Trusted: A value that is shown, as what was given, and a line of an input file.
-use Rattle.kc_user.specs.GivenValue.{GivenValue, GivenTruth, GivenText}
-use Rattle.kc_config_file.specs.Changes.{StreamLocation}
+use Rattle.kc_language.specs.Values.{GivenValue, GivenTruth, GivenText}
+use Rattle.kc_language.specs.ConfigFile.{StreamLocation}
 use Rattle.kc_config_file.specs.declared.shown.InputLine.{InputLine}
 use Rattle.kc_config_file.specs.declared.shown.ShownValue.{ShownValue}
 use Rattle.kc_config_file.specs.declared.shown.ShownValue.TheVariants.{Truth, Text}

@@ -2,12 +2,13 @@
 use Rattle.std.specs.Prelude.{◌≡◌, ℕ, List, [], ◌∷◌, ◌++◌, map, Bool, None}
 use Rattle.std.specs.List.{concat}
 use Rattle.kc_user.specs.Places.{ArePlaces}
-use Rattle.kc_tree.specs.TreeFacts.{TreeFacts, IsWellFormed}
+use Rattle.kc_language.specs.Symbols.{TreeFacts}
+use Rattle.kc_tree.specs.TreeFacts.{IsWellFormed}
 use Rattle.kc_config_file.specs.Calls.{Call, Feed, Finish, NextStream, AllAnswered}
 use Rattle.kc_config_file.specs.declared.fault.InputFault.{InputFault}
 use Rattle.kc_config_file.specs.Feeding.{StreamPosition, Refuses, stream_start}
 use Rattle.kc_config_file.specs.ReaderState.{ReaderState}
-use Rattle.kc_config_file.specs.Reading.{Stream, UserInput, no_input, reading_of}
+use Rattle.kc_language.specs.ConfigFile.{Stream, UserInput, no_input, reading_of}
 
 -- a stream's name, and its bytes as they are handed in
 pub record Pieces : Type 0 where

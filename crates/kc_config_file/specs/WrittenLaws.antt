@@ -1,21 +1,15 @@
 -- Trusted: What holds of reading, and of the texts that are written, for every tree, every prefix and every solution.
 use Rattle.std.specs.Prelude.{◌≡◌, ℕ, List, Option, true}
-use Rattle.kc_text.specs.Lines.{HoldsNoLineFeed}
-use Rattle.kc_expr.specs.declared.expression.SymId.{SymId}
-use Rattle.kc_expr.specs.Value.{SymbolValue}
-use Rattle.kc_order.specs.Solution.{Solves}
-use Rattle.kc_tree.specs.TreeFacts.{TreeFacts, IsWellFormed}
-use Rattle.kc_user.specs.GivenValue.{GivenValue, UserPlace}
-use Rattle.kc_user.specs.Places.{ArePlaces, Places, allowed, place_at}
-use Rattle.kc_values.specs.Needs.{IsAccepted}
-use Rattle.kc_values.specs.Solution.{equations, name_count}
-use Rattle.kc_config_file.specs.ConfigFileLine.{meaning_of}
-use Rattle.kc_config_file.specs.Effects.{Assigns, effect_of}
-use Rattle.kc_config_file.specs.Laws.{ConfigGivesBack, HasShortLines, MinimalGivesBack, MinimalNeedsEach}
-use Rattle.kc_config_file.specs.Prefixes.{is_prefix}
-use Rattle.kc_config_file.specs.Reading.{Line, effect, is_within}
-use Rattle.kc_config_file.specs.Reread.{valuation_view}
-use Rattle.kc_config_file.specs.Texts.{config_text, minimal_text}
+use Rattle.kc_language.specs.Lines.{HoldsNoLineFeed}
+use Rattle.kc_language.specs.declared.expressions.SymId.{SymId}
+use Rattle.kc_language.specs.Expressions.{SymbolValue}
+use Rattle.kc_language.specs.Values.{Solves, GivenValue, UserPlace, equations, name_count}
+use Rattle.kc_language.specs.Symbols.{TreeFacts}
+use Rattle.kc_tree.specs.TreeFacts.{IsWellFormed}
+use Rattle.kc_user.specs.Places.{ArePlaces, allowed}
+use Rattle.kc_language.specs.ConfigFile.{Places, place_at, meaning_of, Assigns, effect_of, is_prefix, Line, effect, is_within}
+use Rattle.kc_language.specs.Needs.{IsAccepted}
+use Rattle.kc_language.specs.Texts.{ConfigGivesBack, HasShortLines, MinimalGivesBack, MinimalNeedsEach, valuation_view, config_text, minimal_text}
 
 -- What a line assigns to a symbol is allowed for it.
 abbrev pub AssignedAreAllowed : Type 0

@@ -1,16 +1,12 @@
 //! The writer of the `.config`.
 ghost use Rattle.std.specs.Prelude.{◌≡◌, ◌++◌, ◌<◌, length, slice_get, Some, is_some, true, false, OnOk, IfOk, if◌then◌else◌};
 ghost use Rattle.std.specs.Option.{option_copied};
-ghost use Rattle.kc_tree.specs.TreeFacts.{SymbolShown};
+ghost use Rattle.kc_language.specs.Symbols.{SymbolShown};
 ghost use Rattle.kc_tree.specs.Layouts.{shown_of, title_at, title_text};
-ghost use Rattle.kc_config_file.specs.Laws.{ConfigGivesBack, HasShortLines};
-ghost use Rattle.kc_config_file.specs.SolvedView.{solution_view};
+ghost use Rattle.kc_language.specs.Texts.{ConfigGivesBack, HasShortLines, solution_view, title_if, end_if, gap, shown_title, entry_text, entries_text, config_heading, config_text, is_shown, value_of};
 ghost use Rattle.kc_config_file.specs.EntryTexts.{ends_after};
-ghost use Rattle.kc_config_file.specs.Texts.{title_if, end_if, gap, shown_title, entry_text, entries_text, config_heading, config_text};
-ghost use Rattle.kc_config_file.specs.SolutionView.{is_shown};
 ghost use Rattle.kc_config_file.specs.Named.{HasName};
 ghost use Rattle.kc_config_file.specs.Writing.{Writes};
-ghost use Rattle.kc_solve.specs.Solved.{value_of};
 ghost use Rattle.kc_user.specs.Places.{ArePlaces};
 
 use crate::batch::put_text;

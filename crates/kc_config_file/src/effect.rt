@@ -2,7 +2,7 @@
 ghost use Rattle.std.specs.Prelude.{◌≡◌, ◌++◌, IfOk, OnOk, OnErr, Some};
 ghost use Rattle.kc_diagnostics.specs.Warnings.{shown_warning};
 ghost use Rattle.kc_config_file.specs.ConfigFileLine.{meaning_view};
-ghost use Rattle.kc_config_file.specs.Effects as spec;
+ghost use Rattle.kc_language.specs.ConfigFile as spec;
 ghost use Rattle.kc_config_file.specs.EffectView.{AssignsDefined, effect_view};
 
 use crate::line::ConfigFileLine;

@@ -1,12 +1,9 @@
 //! The writers of the header and of the minimal file.
 ghost use Rattle.std.specs.Prelude.{◌≡◌, ◌<◌, ◌++◌, length, OnOk, OnErr, IfOk, flat_map};
-ghost use Rattle.kc_config_file.specs.Laws.{HasShortLines, MinimalGivesBack, MinimalNeedsEach};
-ghost use Rattle.kc_config_file.specs.Texts.{header_heading, header_text, minimal_text, header_if, minimal_if};
-ghost use Rattle.kc_config_file.specs.SolvedView.{solution_view};
+ghost use Rattle.kc_language.specs.Texts.{HasShortLines, MinimalGivesBack, MinimalNeedsEach, header_heading, header_text, minimal_text, header_if, minimal_if, solution_view, value_of};
 ghost use Rattle.kc_config_file.specs.Writing.{Writes};
-ghost use Rattle.kc_solve.specs.Solved.{value_of};
 ghost use Rattle.kc_user.specs.Places.{ArePlaces};
-ghost use Rattle.kc_values.specs.Solution.{name_count};
+ghost use Rattle.kc_language.specs.Values.{name_count};
 
 use crate::batch::put_text;
 use crate::fault::WriteFault;

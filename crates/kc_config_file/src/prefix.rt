@@ -1,6 +1,7 @@
 //! What stands before the name of a symbol in the files that are read and written.
 ghost use Rattle.std.specs.Prelude.{◌≡◌, ◌<◌, length, true, IfOk, OnErr};
-ghost use Rattle.kc_config_file.specs.Prefixes as spec;
+ghost use Rattle.kc_language.specs.ConfigFile as spec;
+ghost use Rattle.kc_config_file.specs.Prefixes as spec_of_prefixes;
 
 use kc_expr::names::are_name_bytes;
 use std::alloc::{AllocError, Global};
@@ -18,7 +19,7 @@ pub struct Prefix {
 
 impl Model for Prefix {
     ghost use Rattle.std.specs.Prelude.{◌≡◌, true, ℕ, List};
-    ghost use Rattle.kc_config_file.specs.Prefixes.{is_prefix};
+    ghost use Rattle.kc_language.specs.ConfigFile.{is_prefix};
 
     ghost Value = { List ℕ };
 
@@ -30,7 +31,7 @@ impl Model for Prefix {
 impl Prefix {
     /// The text as a prefix, or None where it is none. Its only error is to be out of memory, for a prefix of a byte or more.
     pub fn new(alloc: Global, text: &[u8]) -> Result<Option<Prefix>, AllocError>
-        ensures prefix { IfOk result (λ found. found ≡ spec.prefix_of text.now) }
+        ensures prefix { IfOk result (λ found. found ≡ spec_of_prefixes.prefix_of text.now) }
         ensures some { OnErr result ((0 < length text.now) × (spec.is_prefix text.now ≡ true)) }
     {
         if !is_prefix(text) {

@@ -1,8 +1,8 @@
 //! The reader of `.config` text, fed in pieces of any size.
 ghost use Rattle.std.specs.Prelude.{◌≡◌, ◌≤◌, length, None};
-ghost use Rattle.kc_user.specs.Places.{ArePlacesOf};
+ghost use Rattle.kc_language.specs.ConfigFile.{ArePlacesOf};
 ghost use Rattle.kc_config_file.specs.Feeding.{IsWithinLine, ended, stream_start};
-ghost use Rattle.kc_config_file.specs.Limits.{longest_input_line};
+ghost use Rattle.kc_language.specs.Text.{longest_input_line};
 ghost use Rattle.kc_config_file.specs.ReaderCalls.{AnswersFeed, AnswersEnd};
 
 use crate::fault::InputFault;

@@ -1,10 +1,9 @@
 //! Values and lines, as warnings tell them.
 ghost use Rattle.std.specs.Prelude.{◌≡◌, ◌++◌, OnOk};
-ghost use Rattle.kc_user.specs.GivenValue.{same_given};
+ghost use Rattle.kc_language.specs.Values.{same_given};
 ghost use Rattle.kc_user.specs.ValueView.{given_of_value};
-ghost use Rattle.kc_config_file.specs.Changes.{value_text};
+ghost use Rattle.kc_language.specs.ConfigFile.{value_text, text_in_config};
 ghost use Rattle.kc_config_file.specs.ShownView.{given_by};
-ghost use Rattle.kc_config_file.specs.SymbolLines.{text_in_config};
 
 use kc_expr::expression::{SymbolType, Tri};
 use kc_expr::values::tri_text;

@@ -1,16 +1,11 @@
 //! What one line of a stream does to the user's input.
-ghost use Rattle.std.specs.Prelude.{◌≡◌, ◌++◌, ◌<◌, true, [], ◌∷◌, length, map, slice_set, Some, None, IfOk, OnOk, OnErr, IfSome};
-ghost use Rattle.std.specs.Option.{option_map};
+ghost use Rattle.std.specs.Prelude.{◌≡◌, ◌++◌, ◌<◌, true, [], ◌∷◌, length, map, slice_set, Some, None, IfOk, OnOk, OnErr, IfSome, option_map};
 ghost use Rattle.kc_user.specs.ValueView.{given_of_value};
-ghost use Rattle.kc_config_file.specs.Changes.{change_line, change_text, is_change};
-ghost use Rattle.kc_config_file.specs.ConfigFileLine.{meaning_of};
-ghost use Rattle.kc_diagnostics.specs.declared.warning.Warning.TheVariants.{Changed, SetAgain};
-ghost use Rattle.kc_config_file.specs.Effects.{Assigns, effect_of, warning_line};
-ghost use Rattle.kc_user.specs.Places.{ArePlacesOf, place_at};
+ghost use Rattle.kc_language.specs.ConfigFile.{change_line, change_text, is_change, meaning_of, Assigns, effect_of, warning_line, ArePlacesOf, place_at, effect_text, choice_of, places_given};
+ghost use Rattle.kc_language.specs.declared.diagnostics.Warning.TheVariants.{Changed, SetAgain};
 ghost use Rattle.kc_config_file.specs.LineSteps.{input_by, with_member};
-ghost use Rattle.kc_config_file.specs.Reading.{effect_text, choice_of, places_given};
 ghost use Rattle.kc_config_file.specs.ShownView.{given_by, location_of};
-ghost use Rattle.kc_user.specs.GivenValue.{SymbolPlace, is_yes};
+ghost use Rattle.kc_language.specs.Values.{SymbolPlace, is_yes};
 
 use crate::effect::{Effect, line_effect, type_of, warn};
 use crate::line::parse_config_file_line;

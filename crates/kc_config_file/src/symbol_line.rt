@@ -1,8 +1,7 @@
 //! A symbol's value, and the line that tells it.
 ghost use Rattle.std.specs.Prelude.{◌≡◌, ◌<◌, ◌++◌, length, OnOk, OnErr, codes, flat_map};
-ghost use Rattle.kc_text.specs.Escapes.{escape};
-ghost use Rattle.kc_config_file.specs.SolvedView.{solution_view};
-ghost use Rattle.kc_config_file.specs.SymbolLines.{config_file_line, header_line, hex_text};
+ghost use Rattle.kc_language.specs.Text.{escape};
+ghost use Rattle.kc_language.specs.Texts.{solution_view, config_file_line, header_line, hex_text};
 ghost use Rattle.kc_config_file.specs.KnownValue.{value_view};
 
 use crate::prefix::Prefix;

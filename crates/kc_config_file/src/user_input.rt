@@ -1,7 +1,6 @@
 //! What the user's input files gave.
-ghost use Rattle.std.specs.Prelude.{◌≡◌, [], length, map, replicate, slice_index_or, false, None, IfOk, if◌then◌else◌};
-ghost use Rattle.std.specs.Option.{option_map};
-ghost use Rattle.kc_config_file.specs.Reading.{no_input};
+ghost use Rattle.std.specs.Prelude.{◌≡◌, [], length, map, replicate, slice_index_or, false, None, IfOk, if◌then◌else◌, option_map};
+ghost use Rattle.kc_language.specs.ConfigFile.{no_input};
 ghost use Rattle.kc_config_file.specs.ShownView.{location_of};
 
 use crate::shown::InputLine;
@@ -21,7 +20,7 @@ pub struct UserInput<'a> {
 }
 
 impl<'a> Model for UserInput<'a> {
-    ghost use Rattle.kc_config_file.specs.Reading.{UserInput};
+    ghost use Rattle.kc_language.specs.ConfigFile.{UserInput};
     ghost use Rattle.kc_config_file.specs.InputView.{input_of};
 
     ghost Value = { UserInput };

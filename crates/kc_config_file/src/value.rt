@@ -1,9 +1,8 @@
 //! The value that the text right of a line's `=` gives.
-ghost use Rattle.std.specs.Prelude.{◌≡◌, slice_index, IfOk};
-ghost use Rattle.std.specs.Option.{option_map};
-ghost use Rattle.kc_user.specs.GivenValue.{GivenTruth};
+ghost use Rattle.std.specs.Prelude.{◌≡◌, slice_index, IfOk, option_map};
+ghost use Rattle.kc_language.specs.Values.{GivenTruth};
 ghost use Rattle.kc_user.specs.ValueView.{given_of_value};
-ghost use Rattle.kc_config_file.specs.LineValue as spec;
+ghost use Rattle.kc_language.specs.ConfigFile as spec;
 
 use kc_expr::expression::{SymbolType, Tri};
 use kc_text::{read_hex, read_int, unescape_into};

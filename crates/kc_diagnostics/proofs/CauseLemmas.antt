@@ -1,8 +1,8 @@
 -- Being out of memory is told by what a cause says.
 use Rattle.std.proofs.Common.{◌≡◌, ◌≢◌, ◌⊎◌, inl, inr, refl}
 use Rattle.kc_diagnostics.specs.Causes.{map_cause}
-use Rattle.kc_diagnostics.specs.declared.cause.Cause as declared
-use Rattle.kc_diagnostics.specs.declared.cause.Cause.TheVariants as cause
+use Rattle.kc_language.specs.declared.diagnostics.Cause as declared
+use Rattle.kc_language.specs.declared.diagnostics.Cause.TheVariants as cause
 
 -- a cause that says that memory ran out is that one
 pub no_other_memory : {M N : Type 0} (f : M → N) (c : declared.Cause M) → map_cause f c ≡ cause.Memory → c ≡ cause.Memory

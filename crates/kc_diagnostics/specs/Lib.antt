@@ -1,5 +1,4 @@
 -- The definitions that the contracts speak in.
 pub mod Causes
-pub mod Limits
 pub mod RunErrors
 pub mod Warnings

@@ -1,35 +1,11 @@
 -- Trusted: What there is to warn of: the text of each warning, and its line (our own).
 use Rattle.std.specs.Borrow.{Bor}
-use Rattle.std.specs.Prelude.{ℕ, List, ◌++◌, codes, decimal}
+use Rattle.std.specs.Prelude.{ℕ, List}
 use Rattle.std.specs.declared.alloc.Global.{Global}
 use Rattle.std.specs.declared.vec.Vec.{Vec}
-use Rattle.kc_diagnostics.specs.declared.warning.Warning as declared
-use Rattle.kc_diagnostics.specs.declared.warning.Warning.TheVariants as warning
-
--- a warning with its names and values, where these are texts
-abbrev pub Warning : Type 0
-Warning = declared.Warning (List ℕ)
-
--- the number and the text of each warning
-abbrev pub warning_text : Warning → List ℕ
-warning_text (warning.TypeRedefined name) = codes "K1: type of " ++ name ++ codes " redefined, the first is kept"
-warning_text (warning.PromptRedefined name) = codes "K2: prompt of " ++ name ++ codes " redefined, the last is kept"
-warning_text (warning.WithoutType name) = codes "K3: " ++ name ++ codes " has no type"
-warning_text (warning.TextTarget name word) = codes "K4: " ++ name ++ codes " is not bool or tristate, the " ++ word ++ codes " has no effect"
-warning_text (warning.DefaultNotMember name) = codes "K5: " ++ name ++ codes " is not a member of the choice"
-warning_text (warning.MemberTarget name word) = codes "K6: " ++ name ++ codes " is a choice member, the " ++ word ++ codes " has no effect"
-warning_text (warning.UnknownSymbol name) = codes "K7: unknown symbol " ++ name
-warning_text (warning.NotAllowed name) = codes "K8: value not allowed for " ++ name
-warning_text warning.MalformedLine = codes "K9: malformed line"
-warning_text (warning.SetAgain name) = codes "K10: " ++ name ++ codes " is set again"
-warning_text (warning.Selected name selected_to direct) = codes "K11: " ++ name ++ codes " is selected to " ++ selected_to ++ codes " while its dependency is " ++ direct
-warning_text (warning.UserOutside name value low high) =
-    codes "K12: user value " ++ value ++ codes " of " ++ name ++ codes " is outside " ++ low ++ codes " to " ++ high
-warning_text (warning.DefaultOutside name value low high used) =
-    codes "K13: default " ++ value ++ codes " of " ++ name ++ codes " is outside " ++ low ++ codes " to " ++ high ++ codes ", " ++ used ++ codes " is used"
-warning_text (warning.Lost name given value) = codes "K14: " ++ name ++ codes " was given " ++ given ++ codes " and is " ++ value
-warning_text (warning.Changed name old file line new) =
-    codes "K15: " ++ name ++ codes " was " ++ old ++ codes " (" ++ file ++ codes ":" ++ decimal line ++ codes ") and is now " ++ new
+use Rattle.kc_language.specs.Symbols.{Warning}
+use Rattle.kc_language.specs.declared.diagnostics.Warning as declared
+use Rattle.kc_language.specs.declared.diagnostics.Warning.TheVariants as warning
 
 -- the same warning, with its texts kept otherwise
 abbrev pub map_warning : {M N : Type 0} → (M → N) → declared.Warning M → declared.Warning N
@@ -56,11 +32,3 @@ shown_warning w = map_warning (λ text. text.now) w
 -- a warning that owns its texts
 abbrev pub owned_warning : declared.Warning (Vec ℕ Global) → Warning
 owned_warning w = map_warning (λ text. text.items) w
-
--- `warning TEXT`, without the line feed
-abbrev pub warning_line : Warning → List ℕ
-warning_line w = codes "warning " ++ warning_text w
-
--- `FILE:LINE: warning TEXT`, without the line feed
-abbrev pub located_warning : List ℕ → ℕ → Warning → List ℕ
-located_warning file line w = file ++ codes ":" ++ decimal line ++ codes ": warning " ++ warning_text w

@@ -1,7 +1,8 @@
 //! What is reported: errors of a tree, errors of a run and warnings, each with its number and its text.
 //!
-//! - [`Cause`]: the errors of a tree, E1 to E16 and E20.
-//! - [`RunError`]: the errors of a run over an accepted tree, E17 to E23; [`run_error`] has the line of E20.
+//! - [`Cause`]: the errors of a tree, E1 to E16 and E20. [`cause_parts`] is their text, [`owned`] a copy.
+//! - [`RunError`]: the errors of a run over an accepted tree, E17 to E23. [`run_error_parts`] is their text; [`run_error`] has the
+//!   line of E20.
 //! - [`Warning`]: the warnings, K1 to K15. [`add_located`] adds the line of one about a line of a file, [`add_warning`] that
 //!   of one about a value.
 #![tactic(auto)]
@@ -11,6 +12,7 @@ mod parts;
 pub mod run_error;
 pub mod warning;
 
-pub use cause::Cause;
-pub use run_error::RunError;
-pub use warning::{Warning, add_located, add_warning};
+pub use cause::{cause_parts, owned};
+pub use kc_language::diagnostics::{Cause, RunError, Warning};
+pub use run_error::run_error_parts;
+pub use warning::{add_located, add_warning, borrowed};

@@ -1,144 +1,77 @@
-//! What there is to warn of.
+//! What there is to warn of: its text and its line.
 
 ghost use Rattle.std.specs.Prelude.{◌≡◌, ◌++◌, OnOk, OnErr, take};
-ghost use Rattle.kc_diagnostics.specs.declared.warning.Warning.TheVariants.{Changed};
-ghost use Rattle.kc_diagnostics.specs.Warnings.{located_warning, owned_warning, shown_warning, warning_line, warning_text};
+ghost use Rattle.kc_language.specs.declared.diagnostics.Warning.TheVariants.{Changed};
+ghost use Rattle.kc_language.specs.Symbols.{located_warning, warning_line, warning_text};
+ghost use Rattle.kc_diagnostics.specs.Warnings.{owned_warning, shown_warning};
 
 use crate::parts::add_parts;
 use itoa::Buffer;
+use kc_language::diagnostics::Warning;
 use std::alloc::AllocError;
 
-/// What there is to warn of (our own). A warning holds the texts that it is about, each kept as an `N`: names of symbols, and
-/// values as they are shown.
-#[derive(Clone, Copy, Debug, Drop, PartialEq, Eq)]
-pub enum Warning<N> {
-    /// K1: a type line of this symbol whose type is not that of its first type line, which is kept.
-    TypeRedefined(N),
-    /// K2: a second prompt in the entry of this name, of which the last is kept.
-    PromptRedefined(N),
-    /// K3: the symbol has no type and is no member of a choice.
-    WithoutType(N),
-    /// K4: a line of this word, `select` or `imply`, names a string, int or hex symbol and has no effect.
-    TextTarget {
-        name: N,
-        word: N,
-    },
-    /// K5: a default of a choice that names no member of it.
-    DefaultNotMember(N),
-    /// K6: a line of this word, `select` or `imply`, names a member of a choice and has no effect.
-    MemberTarget {
-        name: N,
-        word: N,
-    },
-    /// K7: no symbol of this name is defined and has a type.
-    UnknownSymbol(N),
-    /// K8: the symbol may not have the value.
-    NotAllowed(N),
-    /// K9: the line is none of those that a `.config` has.
-    MalformedLine,
-    /// K10: the symbol was set before.
-    SetAgain(N),
-    /// K11: the symbol is selected to a greater value than its direct dependency.
-    Selected {
-        name: N,
-        selected_to: N,
-        direct: N,
-    },
-    /// K12: the user value is outside the active range, and is dropped.
-    UserOutside {
-        name: N,
-        value: N,
-        low: N,
-        high: N,
-    },
-    /// K13: the default is outside the active range, and another value is used.
-    DefaultOutside {
-        name: N,
-        value: N,
-        low: N,
-        high: N,
-        used: N,
-    },
-    /// K14: the value that was given is not the symbol's value.
-    Lost {
-        name: N,
-        given: N,
-        value: N,
-    },
-    /// K15: the symbol had another value before, which the line `FILE:LINE` gave it.
-    Changed {
-        name: N,
-        old: N,
-        file: N,
-        line: u64,
-        new: N,
-    },
-}
-
-impl Warning<Vec<u8>> {
-    /// Returns the same warning with its texts borrowed.
-    pub fn borrowed(&self) -> Warning<&[u8]>
-        ensures { shown_warning result ≡ owned_warning self.now }
-    {
-        match self {
-            Warning::TypeRedefined(name) => Warning::TypeRedefined(name),
-            Warning::PromptRedefined(name) => Warning::PromptRedefined(name),
-            Warning::WithoutType(name) => Warning::WithoutType(name),
-            Warning::TextTarget { name, word } => Warning::TextTarget { name, word },
-            Warning::DefaultNotMember(name) => Warning::DefaultNotMember(name),
-            Warning::MemberTarget { name, word } => Warning::MemberTarget { name, word },
-            Warning::UnknownSymbol(name) => Warning::UnknownSymbol(name),
-            Warning::NotAllowed(name) => Warning::NotAllowed(name),
-            Warning::MalformedLine => Warning::MalformedLine,
-            Warning::SetAgain(name) => Warning::SetAgain(name),
-            Warning::Selected {
-                name,
-                selected_to,
-                direct,
-            } => Warning::Selected {
-                name,
-                selected_to,
-                direct,
-            },
-            Warning::UserOutside {
-                name,
-                value,
-                low,
-                high,
-            } => Warning::UserOutside {
-                name,
-                value,
-                low,
-                high,
-            },
-            Warning::DefaultOutside {
-                name,
-                value,
-                low,
-                high,
-                used,
-            } => Warning::DefaultOutside {
-                name,
-                value,
-                low,
-                high,
-                used,
-            },
-            Warning::Lost { name, given, value } => Warning::Lost { name, given, value },
-            Warning::Changed {
-                name,
-                old,
-                file,
-                line,
-                new,
-            } => Warning::Changed {
-                name,
-                old,
-                file,
-                line: *line,
-                new,
-            },
-        }
+/// Returns the same warning with its texts borrowed.
+pub fn borrowed(warning: &Warning<Vec<u8>>) -> Warning<&[u8]>
+    ensures { shown_warning result ≡ owned_warning warning.now }
+{
+    match warning {
+        Warning::TypeRedefined(name) => Warning::TypeRedefined(name),
+        Warning::PromptRedefined(name) => Warning::PromptRedefined(name),
+        Warning::WithoutType(name) => Warning::WithoutType(name),
+        Warning::TextTarget { name, word } => Warning::TextTarget { name, word },
+        Warning::DefaultNotMember(name) => Warning::DefaultNotMember(name),
+        Warning::MemberTarget { name, word } => Warning::MemberTarget { name, word },
+        Warning::UnknownSymbol(name) => Warning::UnknownSymbol(name),
+        Warning::NotAllowed(name) => Warning::NotAllowed(name),
+        Warning::MalformedLine => Warning::MalformedLine,
+        Warning::SetAgain(name) => Warning::SetAgain(name),
+        Warning::Selected {
+            name,
+            selected_to,
+            direct,
+        } => Warning::Selected {
+            name,
+            selected_to,
+            direct,
+        },
+        Warning::UserOutside {
+            name,
+            value,
+            low,
+            high,
+        } => Warning::UserOutside {
+            name,
+            value,
+            low,
+            high,
+        },
+        Warning::DefaultOutside {
+            name,
+            value,
+            low,
+            high,
+            used,
+        } => Warning::DefaultOutside {
+            name,
+            value,
+            low,
+            high,
+            used,
+        },
+        Warning::Lost { name, given, value } => Warning::Lost { name, given, value },
+        Warning::Changed {
+            name,
+            old,
+            file,
+            line,
+            new,
+        } => Warning::Changed {
+            name,
+            old,
+            file,
+            line: *line,
+            new,
+        },
     }
 }
 

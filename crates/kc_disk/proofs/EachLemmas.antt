@@ -9,8 +9,8 @@ use Rattle.kc_words.specs.declared.each.Each.{Each}
 use Rattle.kc_words.specs.declared.usage.UsageError.{UsageError}
 use Rattle.kc_conf.specs.FolderRuns.{load_line}
 use Rattle.kc_conf.specs.Stops.{TriesToSay}
-use Rattle.kc_options.specs.declared.options.Status.{Status}
-use Rattle.kc_options.specs.declared.options.Status.TheVariants as answered
+use Rattle.kc_language.specs.declared.outcome.Status.{Status}
+use Rattle.kc_language.specs.declared.outcome.Status.TheVariants as answered
 use Rattle.kc_disk.specs.EachRuns.{AreListed, AreNames, FolderRunsEach, SaysClash, clashing, loaded, no_memory, unlisted, unloaded, unreadable}
 use Rattle.kc_disk.specs.EachSteps.{FindsNames, RunsNamed, not_loaded, ran}
 

@@ -1,12 +1,12 @@
 -- Trusted: What a run for many configurations over a folder leaves of the files.
 use Rattle.std.specs.Prelude.{◌≡◌, ℕ, List, length, Option, Some, string_bytes}
 use Rattle.kc_io.specs.Log.{Journal, held}
-use Rattle.kc_read.specs.Files.{Files}
+use Rattle.kc_language.specs.Expansion.{Files}
 use Rattle.kc_load.specs.Expanding.{AreFilesOf}
 use Rattle.kc_load.specs.Folders.{FolderState, files_told}
 use Rattle.kc_words.specs.declared.each.Each.{Each}
 use Rattle.kc_conf.specs.Separate.{LeavesEach}
-use Rattle.kc_options.specs.declared.options.Status.{Status}
+use Rattle.kc_language.specs.declared.outcome.Status.{Status}
 use Rattle.kc_disk.specs.EachRuns.{AreNames, FolderRunsEach, GivesOptions}
 
 -- It ends before any configuration takes its turn, and changes no file; or it leaves what each configuration leaves of the files as they were before it.

@@ -3,7 +3,7 @@ use Rattle.std.specs.Str.{IsUtf8}
 use Rattle.std.specs.declared.alloc.Global.{Global}
 use Rattle.std.specs.Prelude.{◌≡◌, ℕ, List, [], ◌∷◌, ◌++◌, length, map, Option, None, Some, Err, slice_index_or, String, string_bytes}
 use Rattle.kc_io.specs.Log.{Log}
-use Rattle.kc_read.specs.Files.{Files}
+use Rattle.kc_language.specs.Expansion.{Files}
 use Rattle.kc_load.specs.Expanding.{AreFilesOf}
 use Rattle.kc_load.specs.Faults.{IsLoadFault, failed_load}
 use Rattle.kc_load.specs.Folders.{AnswersAs, FolderState, Leads as FolderLeads, files_told}
@@ -13,15 +13,13 @@ use Rattle.kc_words.specs.Lists.{listed}
 use Rattle.kc_words.specs.Patterns.{AreOptionsFor}
 use Rattle.kc_words.specs.declared.each.Each.{Each}
 use Rattle.kc_words.specs.declared.usage.UsageError.{UsageError}
-use Rattle.kc_conf.specs.ErrorLines.{cannot_read_line}
-use Rattle.kc_diagnostics.specs.RunErrors.{out_of_memory_line}
+use Rattle.kc_language.specs.Outcome.{Options, cannot_read_line, out_of_memory_line}
 use Rattle.kc_conf.specs.FolderRuns.{load_line}
 use Rattle.kc_conf.specs.Stops.{TriesToSay}
 use Rattle.kc_conf.specs.Many.{RunsEach}
-use Rattle.kc_options.specs.declared.options.Options.{Options}
-use Rattle.kc_options.specs.declared.options.Status.{Status}
+use Rattle.kc_language.specs.declared.outcome.Status.{Status}
 use Rattle.kc_disk.specs.Usage.{EndsUsage, SaysUsage}
-use Rattle.kc_options.specs.declared.options.Status.TheVariants as answered
+use Rattle.kc_language.specs.declared.outcome.Status.TheVariants as answered
 
 -- these are the configurations of a list in a file, where there is one
 abbrev pub AreListed : Option FolderState → Option (String Global) → List (List ℕ) → Type 0

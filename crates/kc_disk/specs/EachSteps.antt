@@ -7,14 +7,14 @@ use Rattle.kc_load.specs.Expanding.{AreFilesOf}
 use Rattle.kc_load.specs.Folders.{AnswersAs, FolderState, Leads as FolderLeads, files_told}
 use Rattle.kc_load.specs.declared.fault.LoadFault.{LoadFault}
 use Rattle.kc_load.specs.declared.fault.LoadFault.TheVariants.{CannotRead, Memory}
-use Rattle.kc_read.specs.Files.{Files}
+use Rattle.kc_language.specs.Expansion.{Files}
 use Rattle.kc_words.specs.Lists.{listed}
 use Rattle.kc_words.specs.declared.each.Each.{Each}
 use Rattle.kc_conf.specs.FolderRuns.{load_line}
 use Rattle.kc_conf.specs.Many.{RunsEach}
 use Rattle.kc_conf.specs.Stops.{TriesToSay}
-use Rattle.kc_options.specs.declared.options.Status.{Status}
-use Rattle.kc_options.specs.declared.options.Status.TheVariants as answered
+use Rattle.kc_language.specs.declared.outcome.Status.{Status}
+use Rattle.kc_language.specs.declared.outcome.Status.TheVariants as answered
 use Rattle.kc_disk.specs.EachRuns.{AreListed, AreNames, GivesOptions, HasNoList, IsUnloaded}
 
 -- the folder told of this list, or it cannot be read

@@ -1,7 +1,7 @@
 -- Trusted: What is known of inputs on a disk and of the program.
 use Rattle.std.specs.Prelude.{ℕ, ◌^◌}
-use Rattle.kc_options.specs.declared.options.Status.{Status}
-use Rattle.kc_options.specs.declared.options.Status.TheVariants as status
+use Rattle.kc_language.specs.declared.outcome.Status.{Status}
+use Rattle.kc_language.specs.declared.outcome.Status.TheVariants as status
 
 -- how many reads that give bytes there may be
 abbrev pub most_reads : ℕ

@@ -6,8 +6,8 @@ use Rattle.kc_io.specs.declared.device.Fault.{Fault}
 use Rattle.kc_words.specs.Refusals.{text_of}
 use Rattle.kc_words.specs.declared.usage.UsageError.{UsageError}
 use Rattle.kc_words.specs.declared.usage.UsageError.TheVariants.{Help, Version, Bad, Memory}
-use Rattle.kc_options.specs.declared.options.Status.{Status}
-use Rattle.kc_options.specs.declared.options.Status.TheVariants as answered
+use Rattle.kc_language.specs.declared.outcome.Status.{Status}
+use Rattle.kc_language.specs.declared.outcome.Status.TheVariants as answered
 
 -- the status where the arguments give no request; help and the version are a fault where standard output does not take them
 abbrev pub EndsUsage : UsageError → Status → Type 0

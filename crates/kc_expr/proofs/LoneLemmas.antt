@@ -1,10 +1,9 @@
 -- An operand that stands alone is a whole expression, and what breaks off there breaks the expression off.
 use Rattle.std.proofs.Common.{◌≡◌, ℕ, ◌∷◌, List, Bool}
 use Rattle.kc_expr.specs.declared.parse.ExprFault.{ExprFault}
-use Rattle.kc_expr.specs.declared.parse.Connective.TheVariants.{And, Or}
-use Rattle.kc_expr.specs.Form.{Form, Leaf}
-use Rattle.kc_expr.specs.Grammar.{Terminal, OperandToken, Atom, leaf, names_in_atom, lone_form}
-use Rattle.kc_expr.specs.Names.{number_of, all_mentioned, Extends}
+use Rattle.kc_language.specs.declared.expressions.Connective.TheVariants.{And, Or}
+use Rattle.kc_language.specs.Expressions.{Form, Leaf, Terminal, OperandToken, Atom, leaf, names_in_atom, lone_form, number_of, all_mentioned}
+use Rattle.kc_expr.specs.Names.{Extends}
 use Rattle.kc_expr.specs.Reading.{ParsedChain, FailsNot, FailsChain, StartsNoOp}
 use Rattle.kc_expr.proofs.ParseLemmas.{parsed_lone, parsed_negation, parsed_conjunction, parsed_only}
 use Rattle.kc_expr.proofs.ReadingLemmas.{fails_negation, fails_conjunction, fails_first}

@@ -1,9 +1,9 @@
 -- The longest front that begins some expression, and so the outcome of parsing, is the only one.
 use Rattle.std.proofs.Common.{◌≡◌, ℕ, List, [], ◌∷◌, ◌++◌, refl, sym, ap, ◌∙◌, subst, append_assoc, append-nil, Bool}
-use Rattle.kc_expr.specs.Form.{Form}
-use Rattle.kc_expr.specs.Names.{number_of, all_mentioned, Extends}
-use Rattle.kc_expr.specs.Grammar.{Terminal, Disjunction, spell_or, meaning_or, names_in, Begins, BeginsWithin, NoLonger, LongestFront, HasOneLongestFront}
-use Rattle.kc_expr.specs.Parsing.{IsParsed, IsNoExpression, IsTooDeep, IsDetermined}
+use Rattle.kc_language.specs.Expressions.{Form, number_of, all_mentioned, Terminal, Disjunction, spell_or, meaning_or, names_in, Begins, BeginsWithin, NoLonger, LongestFront, IsNoExpression, IsTooDeep}
+use Rattle.kc_expr.specs.Names.{Extends}
+use Rattle.kc_expr.specs.Grammar.{HasOneLongestFront}
+use Rattle.kc_expr.specs.Parsing.{IsParsed, IsDetermined}
 use Rattle.kc_expr.proofs.OneTree.{unambiguous}
 
 -- a front of what begins an expression begins it too

@@ -12,9 +12,9 @@ use Rattle.kc_expr.specs.declared.name.Name.{Name}
 use Rattle.std.specs.declared.hash.FoldHasher.{FoldHasher}
 use Rattle.std.specs.declared.hash.BuildHasherDefault.{BuildHasherDefault}
 use Rattle.indexmap.specs.IndexSet.{IndexSet}
-use Rattle.kc_expr.specs.Grammar.{Terminal, Close, names_in_terminal, names_in_terminals}
-use Rattle.kc_expr.specs.Names.{symbol, same_name, number_of, mention, all_mentioned, Extends, IsNumber, AreDistinct}
-use Rattle.kc_expr.specs.declared.expression.SymId.{SymId}
+use Rattle.kc_language.specs.Expressions.{Terminal, Close, names_in_terminal, names_in_terminals, symbol, same_name, number_of, mention, all_mentioned}
+use Rattle.kc_expr.specs.Names.{Extends, IsNumber, AreDistinct}
+use Rattle.kc_language.specs.declared.expressions.SymId.{SymId}
 
 pub on_err : {T E : Type 0} (r : Result T E) (P : Type 0) → P → OnErr r P
 on_err (Ok x) P p = tt

@@ -2,14 +2,14 @@
 use Rattle.std.proofs.Common.{◌≡◌, ℕ, zero, suc, ◌+◌, ◌≤◌, ◌⊎◌, Bool, true, false, List, [], ◌∷◌, ◌++◌, length, inl, inr, refl, sym, ap, ◌∙◌, subst, append_assoc, append-nil, arith}
 use Rattle.std.proofs.lemmas.Bool.{false≢true}
 use Rattle.std.proofs.lemmas.List.{length-append}
-use Rattle.kc_text.specs.declared.tokens.Op.{Op}
-use Rattle.kc_expr.specs.declared.parse.Connective.{Connective}
-use Rattle.kc_expr.specs.declared.parse.Connective.TheVariants.{And, Or}
+use Rattle.kc_language.specs.declared.tokens.Op.{Op}
+use Rattle.kc_language.specs.declared.expressions.Connective.{Connective}
+use Rattle.kc_language.specs.declared.expressions.Connective.TheVariants.{And, Or}
 use Rattle.kc_expr.specs.declared.parse.ExprFault.{ExprFault}
 use Rattle.kc_expr.specs.declared.parse.ExprFault.TheVariants.{Syntax, TooDeep, Memory}
-use Rattle.kc_expr.specs.Grammar.{Atom, Terminal, OperandToken, Compares, Bang, Joins, Open, Close, Keyword, Chain, Part, Disjunction, only, negation, conjunction, bang, group, lone, compare, spell, spell_part, spell_not, spell_or, levels, levels_part, levels_not, LongestFront}
+use Rattle.kc_language.specs.Expressions.{Atom, Terminal, OperandToken, Compares, Bang, Joins, Open, Close, Keyword, Chain, Part, Disjunction, only, negation, conjunction, bang, group, lone, compare, spell, spell_part, spell_not, spell_or, levels, levels_part, levels_not, LongestFront, IsNoExpression, IsTooDeep}
 use Rattle.kc_expr.specs.Scan.{lone_in}
-use Rattle.kc_expr.specs.Parsing.{IsNoExpression, IsTooDeep, Answer, Derived, NoExpression, TooManyLevels, Answers, OneAnswer}
+use Rattle.kc_expr.specs.Parsing.{Answer, Derived, NoExpression, TooManyLevels, Answers, OneAnswer}
 use Rattle.kc_expr.specs.Reading.{starts_compares, starts_joins, starts_close, starts_operand, starts_bang, starts_open, same_connective, NoneWithin, StopsNot, StopsPart, StopsChain, FailsNot, FailsPart, FailsChain}
 use Rattle.kc_expr.proofs.PushLemmas.{push, spell-push, levels-push, lone-push}
 use Rattle.kc_expr.proofs.ReadingLemmas.{fails_bang, fails_group, fails_negation, fails_conjunction, fails_first, fails_next, deep_bang_now, deep_group_now, unclosed}

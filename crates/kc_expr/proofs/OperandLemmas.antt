@@ -1,10 +1,10 @@
 -- Where an operand stands among tokens.
 use Rattle.std.proofs.Common.{◌≡◌, ℕ, true, List, [], ◌∷◌, ◌++◌, refl, sym, ap, ◌∙◌, subst, append_assoc}
 use Rattle.std.proofs.lemmas.Bool.{false≢true}
-use Rattle.kc_expr.specs.declared.parse.Connective.{Connective}
+use Rattle.kc_language.specs.declared.expressions.Connective.{Connective}
 use Rattle.kc_expr.specs.declared.parse.ExprFault.{ExprFault}
 use Rattle.kc_expr.specs.declared.parse.ExprFault.TheVariants.{Syntax, TooDeep, Memory}
-use Rattle.kc_expr.specs.Grammar.{Atom, Terminal, OperandToken, Compares, Bang, Joins, Open, Close, Keyword, Chain, Part, Negation, only, joined, negation, conjunction, bang, group, lone, compare, spell, spell_part, spell_not}
+use Rattle.kc_language.specs.Expressions.{Atom, Terminal, OperandToken, Compares, Bang, Joins, Open, Close, Keyword, Chain, Part, Negation, only, joined, negation, conjunction, bang, group, lone, compare, spell, spell_part, spell_not}
 use Rattle.kc_expr.specs.Parsing.{HasOperand}
 use Rattle.kc_expr.specs.Reading.{starts_operand, IsMemory, IsMemoryAt, FailsNot}
 

@@ -4,7 +4,7 @@ use Rattle.std.specs.List.{list_any}
 use Rattle.std.proofs.Math.ListN.{set}
 use Rattle.std.proofs.lemmas.Bool.{cases_eq, eq-eqb, ne_eqb}
 use Rattle.std.proofs.lemmas.List.Folds.{list_any-append}
-use Rattle.kc_expr.specs.declared.expression.SymId.{SymId}
+use Rattle.kc_language.specs.declared.expressions.SymId.{SymId}
 use Rattle.kc_expr.specs.DistinctSymbols.{is_marked}
 
 is_marked-set_same : (xs : List Bool) (i : ℕ) (v : Bool) → i < length xs → is_marked (set xs i v) i ≡ v

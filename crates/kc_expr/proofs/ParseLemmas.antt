@@ -2,14 +2,14 @@
 use Rattle.std.proofs.Common.{◌≡◌, ◌≢◌, ℕ, suc, ◌+◌, ◌-◌, ◌≤◌, true, false, List, [], ◌∷◌, ◌++◌, Result, IfErr, IsErrAnd, refl, sym, ap, ◌∙◌, subst, append_assoc, append-nil, arith, Bool}
 use Rattle.std.proofs.lemmas.Bool.{false≢true}
 use Rattle.std.proofs.lemmas.Result.{err_from_is_err_and}
-use Rattle.kc_text.specs.declared.tokens.Op.{Op}
+use Rattle.kc_language.specs.declared.tokens.Op.{Op}
 use Rattle.kc_text.specs.declared.tokens.Token.{Token}
 use Rattle.kc_expr.specs.declared.parse.ExprFault.{ExprFault}
-use Rattle.kc_expr.specs.Form.{Form, forms, Leaf, Related, Negated}
-use Rattle.kc_expr.specs.Names.{number_of, all_mentioned, Extends}
-use Rattle.kc_expr.specs.declared.parse.Connective.{Connective}
-use Rattle.kc_expr.specs.declared.parse.Connective.TheVariants.{And, Or}
-use Rattle.kc_expr.specs.Grammar.{Atom, Terminal, OperandToken, Compares, Bang, Joins, Open, Close, Keyword, Chain, only, joined, negation, conjunction, bang, group, lone, compare, spell, spell_part, spell_not, levels, levels_not, leaf, lone_form, names_in_atom, names_in_terminals, connected, meaning, parts, terminals_from}
+use Rattle.kc_language.specs.Expressions.{Form, forms, Leaf, Related, Negated, number_of, all_mentioned, Atom, Terminal, OperandToken, Compares, Bang, Joins, Open, Close, Keyword, Chain, only, joined, negation, conjunction, bang, group, lone, compare, spell, spell_part, spell_not, levels, levels_not, leaf, lone_form, names_in_atom, names_in_terminals, connected, meaning, parts}
+use Rattle.kc_expr.specs.Names.{Extends}
+use Rattle.kc_language.specs.declared.expressions.Connective.{Connective}
+use Rattle.kc_language.specs.declared.expressions.Connective.TheVariants.{And, Or}
+use Rattle.kc_expr.specs.Grammar.{terminals_from}
 use Rattle.kc_expr.specs.Scan.{want, right, lone_in}
 use Rattle.kc_expr.specs.Reading.{starts_compares, starts_joins, starts_close, starts_operand, starts_bang, starts_open, NoneWithin, Refuses, Broken, Deep, Any_start, ParsedNot, ParsedPart, ParsedChain, FailsNot, FailsPart, FailsChain}
 use Rattle.kc_expr.proofs.NamesLemmas.{extends_on, mentioned_on, mentioned_extends, names_in_terminals-append, names_in_terminals-closed}

@@ -1,11 +1,10 @@
 -- Trusted: What parsing answers.
-use Rattle.std.specs.Prelude.{◌≡◌, ◌≢◌, ℕ, ◌≤◌, List, ◌∷◌, ◌++◌, Bool}
-use Rattle.kc_expr.specs.Limits.{most_levels}
+use Rattle.std.specs.Prelude.{◌≡◌, ℕ, ◌≤◌, List, ◌∷◌, ◌++◌, Bool}
+use Rattle.kc_expr.specs.Names.{Extends}
 use Rattle.kc_expr.specs.declared.parse.ExprFault.{ExprFault}
 use Rattle.kc_expr.specs.declared.parse.ExprFault.TheVariants.{Syntax, TooDeep, Memory}
-use Rattle.kc_expr.specs.Form.{Form}
-use Rattle.kc_expr.specs.Names.{number_of, all_mentioned, Extends}
-use Rattle.kc_expr.specs.Grammar.{Atom, Terminal, OperandToken, Disjunction, spell_or, levels_or, meaning_or, names_in, Begins, BeginsWithin, LongestFront}
+use Rattle.kc_language.specs.Expressions.{Form, number_of, all_mentioned, Atom, Terminal, OperandToken, Disjunction, spell_or, levels_or, meaning_or, names_in, LongestFront, IsNoExpression, IsTooDeep}
+use Rattle.kc_language.specs.Text.{most_levels}
 
 -- what parsing answers: the one expression of the longest front that begins some expression
 pub record IsParsed (condition : Bool) (ts rest : List Terminal) (old names : List (List ℕ)) (f : Form) : Type 0 where
@@ -16,22 +15,6 @@ pub record IsParsed (condition : Bool) (ts rest : List Terminal) (old names : Li
   pub within : levels_or tree ≤ most_levels
   pub mentions : names ≡ all_mentioned old (names_in tree)
   pub form : (later : List (List ℕ)) → Extends names later → f ≡ meaning_or condition (number_of later) tree
-
--- the longest front that begins some expression is none itself, and opens at most `most_levels`
-pub record IsNoExpression (ts : List Terminal) : Type 0 where
-  pub front : List Terminal
-  pub rest : List Terminal
-  pub longest : LongestFront ts front rest
-  pub within : BeginsWithin most_levels front
-  pub none : (d : Disjunction) → spell_or d ≢ front
-
--- a front begins some expression, but none of at most `most_levels`
-pub record IsTooDeep (ts : List Terminal) : Type 0 where
-  pub front : List Terminal
-  pub rest : List Terminal
-  pub whole : ts ≡ front ++ rest
-  pub begins : Begins front
-  pub deep : BeginsWithin most_levels front → ⊥
 
 -- an operand stands among the tokens
 pub record HasOperand (ts : List Terminal) : Type 0 where

@@ -2,16 +2,17 @@
 use Rattle.std.specs.Prelude.{◌≡◌, ℕ, ◌+◌, ◌≤◌, ◌<◌, length, Bool, true, false, List, [], ◌∷◌, ◌++◌, Option, Some, None, MatchBool}
 use Rattle.kc_expr.specs.declared.parse.ExprFault.{ExprFault}
 use Rattle.kc_expr.specs.declared.parse.ExprFault.TheVariants.{Syntax, TooDeep, Memory}
-use Rattle.kc_text.specs.declared.tokens.Op.{Op}
-use Rattle.kc_text.specs.declared.tokens.Op.TheVariants as op
+use Rattle.kc_language.specs.declared.tokens.Op.{Op}
+use Rattle.kc_language.specs.declared.tokens.Op.TheVariants as op
 use Rattle.kc_expr.specs.declared.expression.Operand.{Operand}
 use Rattle.kc_text.specs.declared.tokens.Token.{Token}
 use Rattle.kc_text.specs.Lexemes.{lexeme}
-use Rattle.kc_expr.specs.Form.{Form, Leaf, leaf_of}
-use Rattle.kc_expr.specs.Names.{number_of, all_mentioned, Extends}
-use Rattle.kc_expr.specs.declared.parse.Connective.{Connective}
-use Rattle.kc_expr.specs.declared.parse.Connective.TheVariants.{And, Or}
-use Rattle.kc_expr.specs.Grammar.{Terminal, OperandToken, Compares, Bang, Joins, Open, Close, Keyword, Chain, Part, Negation, spell, spell_part, spell_not, levels, levels_part, levels_not, meaning, meaning_part, meaning_not, terminals_from, terminal_of, Atom, leaf, op_terminal, names_in_atom, names_in_terminals}
+use Rattle.kc_language.specs.Expressions.{Form, Leaf, number_of, all_mentioned, Terminal, OperandToken, Compares, Bang, Joins, Open, Close, Keyword, Chain, Part, Negation, spell, spell_part, spell_not, levels, levels_part, levels_not, meaning, meaning_part, meaning_not, terminal_of, Atom, leaf, op_terminal, names_in_atom, names_in_terminals}
+use Rattle.kc_expr.specs.Form.{leaf_of}
+use Rattle.kc_expr.specs.Names.{Extends}
+use Rattle.kc_language.specs.declared.expressions.Connective.{Connective}
+use Rattle.kc_language.specs.declared.expressions.Connective.TheVariants.{And, Or}
+use Rattle.kc_expr.specs.Grammar.{terminals_from}
 use Rattle.kc_expr.specs.Parsing.{HasOperand}
 use Rattle.kc_expr.specs.Scan.{State, want, single, right, done, step, run, lone_in, lone_part, lone_not}
 

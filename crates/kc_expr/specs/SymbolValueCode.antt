@@ -3,10 +3,10 @@ use Rattle.std.specs.Prelude.{◌≡◌}
 use Rattle.std.proofs.Common.{ap}
 use Rattle.std.specs.Coded.{Coded}
 use base.Stored.{Gv, gnum, gcons}
-use Rattle.kc_expr.specs.contracts.expression.Tri as tri
-use Rattle.kc_expr.specs.contracts.expression.SymbolType as symbol_type
+use Rattle.kc_language.specs.contracts.expressions.Tri as tri
+use Rattle.kc_language.specs.contracts.expressions.SymbolType as symbol_type
 use Rattle.kc_expr.specs.FormCode.{head, tail, bytes_code}
-use Rattle.kc_expr.specs.Value.{SymbolValue, Truth, TextValue}
+use Rattle.kc_language.specs.Expressions.{SymbolValue, Truth, TextValue}
 
 abbrev pub store : SymbolValue → Gv
 store (Truth t) = gcons (gnum 0) (tri.the_row.coded.code t)

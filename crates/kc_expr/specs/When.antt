@@ -3,7 +3,8 @@ use Rattle.std.specs.Prelude.{Option, option_map}
 use Rattle.std.specs.declared.alloc.Global.{Global}
 use Rattle.std.specs.declared.rc.Rc.{Rc}
 use Rattle.kc_expr.specs.declared.expression.Expr.{Expr}
-use Rattle.kc_expr.specs.Form.{Form, form_of}
+use Rattle.kc_language.specs.Expressions.{Form}
+use Rattle.kc_expr.specs.Form.{form_of}
 
 abbrev pub when_view : Option (Rc Expr Global) → Option Form
 when_view = option_map (λ e. form_of e.value)

@@ -1,7 +1,8 @@
 //! Symbols in an order of their own.
 
 ghost use Rattle.std.specs.Prelude.{◌≡◌, ◌<◌, ◌∷◌, ◌++◌, ℕ, [], false, length, OnOk, OnErr};
-ghost use Rattle.kc_expr.specs.DistinctSymbols.{added, is_marked, stands_in};
+ghost use Rattle.kc_language.specs.Symbols.{added, stands_in};
+ghost use Rattle.kc_expr.specs.DistinctSymbols.{is_marked};
 
 use crate::expression::SymId;
 use std::alloc::{AllocError, Global};
@@ -19,7 +20,7 @@ impl Model for DistinctSymbols {
     ghost use Rattle.std.specs.Prelude.{◌≡◌, ◌==◌, ℕ, List};
     ghost use Rattle.std.specs.List.{list_any};
     ghost use Rattle.kc_expr.specs.DistinctSymbols.{is_marked};
-    ghost use Rattle.kc_expr.specs.declared.expression.SymId.{SymId};
+    ghost use Rattle.kc_language.specs.declared.expressions.SymId.{SymId};
 
     ghost Value = { List SymId };
 

@@ -4,7 +4,7 @@ ghost use Rattle.std.specs.Prelude.{◌≡◌, ◌∷◌, [], IfOk};
 ghost use Rattle.std.proofs.Common.{ap, rules};
 ghost use Rattle.std.specs.Cmp.Lexicographic.{bytes_decides};
 ghost use Rattle.std.specs.Cmp.Rules.{comparing};
-ghost use Rattle.kc_expr.specs.Names.{same_name};
+ghost use Rattle.kc_language.specs.Expressions.{same_name};
 
 use indexmap::Equivalent;
 use smallvec::SmallVec;

@@ -2,11 +2,12 @@
 
 ghost use Rattle.std.specs.Prelude.{◌≡◌, ℕ, ◌≤◌, true, false, List, length, map, IfOk, IfErr};
 ghost use Rattle.kc_expr.specs.declared.parse.ExprFault.TheVariants.{Memory};
-ghost use Rattle.kc_expr.specs.Limits.{most_levels};
-ghost use Rattle.kc_expr.specs.declared.parse.Connective.TheVariants.{Or};
-ghost use Rattle.kc_expr.specs.Form.{form_of, forms, leaf_of, parts_of, Negated};
-ghost use Rattle.kc_expr.specs.Grammar as spec;
-ghost use Rattle.kc_expr.specs.Grammar.{terminals_from, is_m_leaf, lone_form, IsUnambiguous, Terminal, HasOneLongestFront};
+ghost use Rattle.kc_language.specs.Text.{most_levels};
+ghost use Rattle.kc_language.specs.declared.expressions.Connective.TheVariants.{Or};
+ghost use Rattle.kc_expr.specs.Form.{form_of, leaf_of, parts_of};
+ghost use Rattle.kc_language.specs.Expressions.{forms, Negated, is_m_leaf, lone_form, Terminal};
+ghost use Rattle.kc_language.specs.Expressions as spec;
+ghost use Rattle.kc_expr.specs.Grammar.{terminals_from, IsUnambiguous, HasOneLongestFront};
 ghost use Rattle.kc_expr.specs.Parsing.{IsParsed, IsDetermined, IsRefused, OneAnswer};
 ghost use Rattle.kc_expr.specs.Reading.{ParsedNot, ParsedPart, ParsedChain, FailsNot, FailsPart, FailsChain, IsLone, IsNext, ReadsOperand, ReadsRelation, IsMemoryAt, IsOp, IsJoined, StartsNoOp, StartsNoOperand};
 ghost use Rattle.kc_expr.specs.Names.{Extends};
@@ -14,6 +15,7 @@ ghost use Rattle.kc_expr.specs.Names.{Extends};
 use crate::expression::{Expr, Operand, Operands, Parts, Tri};
 use crate::names::Names;
 use crate::values::tristate_constant;
+use kc_language::expressions::Connective;
 use kc_text::{Op, Token, unescape_into};
 use std::alloc::{AllocError, AllocFailed, Global};
 use std::rc::Rc;
@@ -153,13 +155,6 @@ fn lone(
         return Err(ExprFault::Syntax);
     };
     Ok((lone_expression(found, condition), at + 1))
-}
-
-// What joins the parts of a chain.
-#[derive(Clone, Copy)]
-enum Connective {
-    And,
-    Or,
 }
 
 // One part or more, joined by the connective.

@@ -1,6 +1,6 @@
 -- Trusted: What a device tells of itself: what its files held, what was done with them, and what was said.
-use Rattle.std.specs.Prelude.{◌≡◌, ℕ, Bool, false, not, ◌||◌, if◌then◌else◌, List, [], ◌∷◌, ◌++◌, map, fold, take, is_some, Option, None, Some, Result, Ok, Err, bytes_eq}
-use Rattle.std.specs.Option.{option_map, option_map_or}
+use Rattle.std.specs.Prelude.{◌≡◌, ℕ, Bool, false, not, ◌||◌, if◌then◌else◌, List, [], ◌∷◌, ◌++◌, map, fold, take, is_some, Option, None, Some, Result, Ok, Err, bytes_eq, option_map}
+use Rattle.std.specs.Option.{option_map_or}
 use Rattle.kc_io.specs.declared.device.Action.{Action}
 use Rattle.kc_io.specs.declared.device.Action.TheVariants.{Create, Write, Move, Report}
 use Rattle.kc_io.specs.declared.device.Site.{Site}

@@ -1,6 +1,5 @@
 -- Trusted: How a file is read.
-use Rattle.std.specs.Prelude.{◌≡◌, ℕ, zero, suc, ◌<◌, Bool, true, false, List, [], take, length, ◌++◌, is_some, unwrap_or, Option, None, Some, Result, Ok, Err, ⊤}
-use Rattle.std.specs.Option.{option_map}
+use Rattle.std.specs.Prelude.{◌≡◌, ℕ, zero, suc, ◌<◌, Bool, true, false, List, [], take, length, ◌++◌, is_some, unwrap_or, Option, None, Some, Result, Ok, Err, ⊤, option_map}
 use Rattle.kc_io.specs.Log.{Event, Log, Tells, did, each_byte, failed, held}
 use Rattle.kc_io.specs.declared.device.Action.TheVariants.{Open, Miss, Read}
 use Rattle.kc_io.specs.declared.device.Fault.{Fault}

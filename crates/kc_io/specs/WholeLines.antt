@@ -1,7 +1,7 @@
 -- Trusted: Bytes that are whole lines.
 use Rattle.std.specs.Prelude.{ℕ, List, Bool, true, Option, Some, None}
 use Rattle.std.specs.List.{last_or}
-use Rattle.kc_text.specs.Lines.{is_line_feed}
+use Rattle.kc_language.specs.Lines.{is_line_feed}
 
 -- where there is a last byte, it ends a line
 abbrev pub ends_line : Option ℕ → Bool

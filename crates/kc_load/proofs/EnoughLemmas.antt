@@ -5,18 +5,17 @@ use Rattle.std.proofs.lemmas.List.Elements.{Contains-append_left, Contains-appen
 use Rattle.std.proofs.lemmas.Str.{IsUtf8-from_is_utf8, is_utf8-from_IsUtf8}
 use Rattle.std.specs.List.{list_any}
 use Rattle.std.specs.Str.{is_utf8}
-use Rattle.kc_text.specs.Lines.{UnreadLines, unread_lines}
-use Rattle.kc_expr.specs.Names.{same_name}
-use Rattle.kc_diagnostics.specs.declared.cause.Cause.TheVariants as cause
-use Rattle.kc_read.specs.Expansion.{FileContext, Expands, Log, Refused, Rest, bytes_cause, nothing_read, with_file, refused, root_context, sourcing_cause, at_end, unclosed, too_long, no_tokens, blank, bad_line, over_limit, statement, bad_source, refused_inside, source}
-use Rattle.kc_read.specs.Files.{Files}
-use Rattle.kc_diagnostics.specs.Causes.{Cause}
+use Rattle.kc_language.specs.Lines.{UnreadLines, unread_lines}
+use Rattle.kc_language.specs.Expressions.{same_name}
+use Rattle.kc_language.specs.declared.diagnostics.Cause.TheVariants as cause
+use Rattle.kc_language.specs.Expansion.{FileContext, Expands, Log, Refused, Rest, bytes_cause, nothing_read, with_file, refused, root_context, sourcing_cause, at_end, unclosed, too_long, no_tokens, blank, bad_line, over_limit, statement, bad_source, refused_inside, source, Files}
+use Rattle.kc_language.specs.Statements.{Cause, Located, Named}
 use Rattle.kc_read.specs.OpenedFiles.{sourced_files}
-use Rattle.kc_read.specs.Statements.{Located, Named}
 use Rattle.kc_read.proofs.ExpansionThere.{has_one_expansion}
 use Rattle.kc_read.proofs.OneExpansion.{one_expansion_law}
 use Rattle.kc_load.specs.Expanding.{ExpandsAlike, Suffices, named}
-use Rattle.kc_load.specs.Folders.{FolderFiles, path_of}
+use Rattle.kc_load.specs.Folders.{FolderFiles}
+use Rattle.kc_language.specs.Outcome.{path_of}
 use Rattle.kc_load.specs.Loaded.{files_found}
 use Rattle.kc_load.specs.Steps.{State, was_requested}
 use Rattle.kc_load.proofs.FoundLemmas.{at_name, found_absent, names_of}

@@ -7,27 +7,21 @@ use Rattle.std.proofs.lemmas.List.Folds.{list_any-append}
 use Rattle.std.proofs.lemmas.Str.{IsUtf8-from_is_utf8}
 use Rattle.std.specs.List.{list_any}
 use Rattle.std.specs.Str.{is_utf8}
-use Rattle.kc_text.specs.Lexemes.{Lexeme}
-use Rattle.kc_text.specs.Lines.{UnreadLines}
-use Rattle.kc_expr.specs.Names.{same_name, mention}
+use Rattle.kc_language.specs.Tokens.{Lexeme}
+use Rattle.kc_language.specs.Lines.{UnreadLines}
+use Rattle.kc_language.specs.Expressions.{same_name, mention}
 use Rattle.kc_expr.proofs.NamesLemmas.{same_name-refl}
-use Rattle.kc_diagnostics.specs.declared.cause.Cause.TheVariants as cause
-use Rattle.kc_read.specs.Expansion.{FileContext, Log, Refused, Rest, NextStatement, bytes_cause, is_source, sourcing_cause, at_end, unclosed, too_long, no_tokens, blank, bad_line, over_limit, statement, bad_source, refused_inside, source, lines_of}
-use Rattle.kc_read.specs.Files.{Files}
-use Rattle.kc_diagnostics.specs.Causes.{Cause}
-use Rattle.kc_read.specs.Lines.{LineContext, After, ReadsSource, begins_with, finish, plain_text, text_of}
+use Rattle.kc_language.specs.declared.diagnostics.Cause.TheVariants as cause
+use Rattle.kc_language.specs.Expansion.{FileContext, Log, Refused, Rest, NextStatement, bytes_cause, is_source, sourcing_cause, at_end, unclosed, too_long, no_tokens, blank, bad_line, over_limit, statement, bad_source, refused_inside, source, lines_of, Files, SourceNames}
+use Rattle.kc_language.specs.Statements.{Cause, LineContext, After, ReadsSource, begins_with, finish, plain_text, text_of, Located, Named, SourceLine}
 use Rattle.kc_read.specs.OpenedFiles.{sourced_files}
-use Rattle.kc_read.specs.Sources.{SourceNames}
-use Rattle.kc_read.specs.Statements.{Located, Named, SourceLine}
 use Rattle.kc_read.proofs.FileLemmas.{same_name_eq}
 use Rattle.kc_read.proofs.OneExpansion.{none_or_some, one_some, source_line}
 use Rattle.kc_read.proofs.SourceLines as lines
 use Rattle.kc_read.proofs.SourceWord.{source_begins, begins_source}
 use Rattle.kc_load.specs.Expanding.{named}
-use Rattle.kc_load.specs.Folders.{path_of}
-use Rattle.kc_read.specs.Limits.{most_lines}
-use Rattle.kc_load.specs.Order.{AreSources}
-use Rattle.kc_text.specs.Limits.{last_count}
+use Rattle.kc_language.specs.Outcome.{path_of, AreSources}
+use Rattle.kc_language.specs.Text.{most_lines, last_count}
 use Rattle.kc_load.specs.Steps.{was_requested}
 use Rattle.kc_load.proofs.RequestedLemmas.{requested_cases, requested_itself, requested_still, only_element}
 use Rattle.kc_load.proofs.Walks.{IsMetIn, Walks, stopped, passed, missing, taken, all_passed, first_is_met, first_or_later, grows, meets, no_name, split}

@@ -3,7 +3,7 @@ use Rattle.std.proofs.Common.{◌≡◌, ℕ, ◌+◌, ◌≤◌, zero, suc, Boo
 use Rattle.std.proofs.lemmas.Bool.{both_ways, or_parts}
 use Rattle.std.proofs.lemmas.List.{map-append}
 use Rattle.std.proofs.lemmas.List.Elements.{All-head, All-tail}
-use Rattle.kc_expr.specs.Names.{same_name}
+use Rattle.kc_language.specs.Expressions.{same_name}
 use Rattle.kc_expr.proofs.NamesLemmas.{same_name-refl}
 use Rattle.kc_read.proofs.FileLemmas.{same_name_eq}
 use Rattle.kc_load.specs.Loaded.{Answer, files_found, line_total}

@@ -6,7 +6,7 @@ use Rattle.std.proofs.lemmas.List.Elements.{Contains-append_left, Contains-appen
 use Rattle.std.proofs.lemmas.Bool.Decides.{nat_tests}
 use Rattle.std.specs.declared.vec.Vec.{Vec}
 use Rattle.std.specs.declared.alloc.Global.{Global}
-use Rattle.kc_expr.specs.Names.{symbol}
+use Rattle.kc_language.specs.Expressions.{symbol}
 
 more_is : (n : ℕ) → suc n ≡ n + 1
 more_is n = omega arith

@@ -3,16 +3,13 @@ use Rattle.std.proofs.Common.{◌≡◌, ◌⊎◌, ℕ, ◌+◌, ◌-◌, ◌<�
 use Rattle.std.proofs.lemmas.Bool.{both_ways}
 use Rattle.std.proofs.lemmas.Str.{IsUtf8-from_is_utf8, is_utf8-from_IsUtf8}
 use Rattle.std.specs.Str.{is_utf8}
-use Rattle.kc_text.specs.Lines.{unread_lines}
-use Rattle.kc_text.specs.Limits.{last_count}
-use Rattle.kc_expr.specs.Names.{same_name, mention}
+use Rattle.kc_language.specs.Lines.{unread_lines}
+use Rattle.kc_language.specs.Text.{last_count, most_lines}
+use Rattle.kc_language.specs.Expressions.{same_name, mention}
 use Rattle.kc_read.proofs.OpenedFileLemmas.{has_one_list_of_names}
-use Rattle.kc_read.specs.Expansion.{lines_of}
-use Rattle.kc_read.specs.Files.{Files}
-use Rattle.kc_read.specs.Limits.{most_lines}
-use Rattle.kc_load.specs.Folders.{path_of}
+use Rattle.kc_language.specs.Expansion.{lines_of, Files}
+use Rattle.kc_language.specs.Outcome.{path_of, AreSources}
 use Rattle.kc_load.specs.Loaded.{Loads, MapExists}
-use Rattle.kc_load.specs.Order.{AreSources}
 use Rattle.kc_load.specs.Steps.{AddsName, State, Visits, no_text, not_new, no_file, file, initial_state, was_requested}
 use Rattle.kc_load.proofs.EndLemmas.{at_end, at_start, is_over, not_over, when_over}
 use Rattle.kc_load.proofs.Ongoing.{Ongoing}

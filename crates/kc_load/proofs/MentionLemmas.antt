@@ -1,7 +1,7 @@
 -- Names that are mentioned one after another.
 use Rattle.std.proofs.Common.{◌≡◌, ℕ, ◌+◌, ◌<◌, List, [], ◌∷◌, ◌++◌, length, map, take, get_or, refl, sym, ap, ◌∙◌}
 use Rattle.std.proofs.lemmas.List.{map_push, take_more}
-use Rattle.kc_expr.specs.Names.{mention, all_mentioned}
+use Rattle.kc_language.specs.Expressions.{mention, all_mentioned}
 
 pub all_append : (names xs ys : List (List ℕ)) → all_mentioned names (xs ++ ys) ≡ all_mentioned (all_mentioned names xs) ys
 all_append names [] ys = refl

@@ -4,8 +4,8 @@ use Rattle.std.proofs.lemmas.Bool.Decides.{nat_tests}
 use Rattle.std.proofs.lemmas.List.{length-take, take_all, take-append-le, take-append-drop, map-append}
 use Rattle.std.proofs.lemmas.List.Elements.{All-head, All-tail, Contains-append_left}
 use Rattle.std.proofs.Math.ListN.{length-map}
-use Rattle.kc_read.specs.Limits.{most_lines}
-use Rattle.kc_load.specs.Folders.{path_of}
+use Rattle.kc_language.specs.Text.{most_lines}
+use Rattle.kc_language.specs.Outcome.{path_of}
 use Rattle.kc_load.specs.Loaded.{Answer, AreAsked, OneMap, WereWithin, files_found, line_total}
 use Rattle.kc_load.proofs.FoundLemmas.{at_name, names_of}
 use Rattle.kc_load.proofs.OneOrder.{same_front}

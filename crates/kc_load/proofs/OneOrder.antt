@@ -2,10 +2,11 @@
 use Rattle.std.proofs.Common.{◌≡◌, ◌⊎◌, ℕ, ◌+◌, zero, suc, List, [], ◌∷◌, ◌++◌, length, take, Option, Some, None, Contains, inl, inr, arith, refl, sym, ap, ◌∙◌, subst}
 use Rattle.std.proofs.lemmas.List.{take_all}
 use Rattle.std.proofs.lemmas.List.Elements.{Contains-append_left, Contains-append_right, Contains-append_cases}
-use Rattle.kc_text.specs.Lines.{unread_lines}
+use Rattle.kc_language.specs.Lines.{unread_lines}
 use Rattle.kc_read.proofs.SourceLines.{one_list}
-use Rattle.kc_read.specs.Files.{Files}
-use Rattle.kc_load.specs.Order.{AreSourcesOf, AskedAlong, IsNew, OneOrder, ended, passed, asked}
+use Rattle.kc_language.specs.Expansion.{Files}
+use Rattle.kc_language.specs.Outcome.{AreSourcesOf, AskedAlong, IsNew, ended, passed, asked}
+use Rattle.kc_load.specs.Order.{OneOrder}
 
 -- ---- Fronts of lists
 

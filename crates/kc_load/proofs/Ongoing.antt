@@ -1,10 +1,10 @@
 -- What holds while files are loaded.
 use Rattle.std.proofs.Common.{◌≡◌, ℕ, List, ◌++◌, reverse, min, true, All, IsUtf8}
-use Rattle.kc_text.specs.Limits.{last_count}
-use Rattle.kc_read.specs.Files.{Files}
-use Rattle.kc_load.specs.Folders.{FolderFiles, AnswersAs, path_of}
+use Rattle.kc_language.specs.Text.{last_count}
+use Rattle.kc_language.specs.Expansion.{Files}
+use Rattle.kc_load.specs.Folders.{FolderFiles, AnswersAs}
+use Rattle.kc_language.specs.Outcome.{path_of, AskedAlong, AskedInOrder}
 use Rattle.kc_load.specs.Loaded.{Answer, WereWithin, files_found, line_total}
-use Rattle.kc_load.specs.Order.{AskedAlong, AskedInOrder}
 use Rattle.kc_load.specs.Steps.{State, was_requested}
 use Rattle.kc_load.proofs.FoundLemmas.{names_of}
 

@@ -3,14 +3,15 @@ use Rattle.std.proofs.Common.{◌≡◌, ◌⊎◌, ℕ, ◌+◌, ◌<◌, ◌�
 use Rattle.std.proofs.lemmas.Bool.{both_ways}
 use Rattle.std.proofs.lemmas.List.Elements.{Contains-append_left, Contains-append_right, Contains-append_cases, Contains-push, All-contains, All-from_recursion}
 use Rattle.std.specs.List.{AllByRecursion, IsDistinct}
-use Rattle.kc_text.specs.Lines.{unread_lines}
-use Rattle.kc_expr.specs.Names.{AreDistinct, same_name}
+use Rattle.kc_language.specs.Lines.{unread_lines}
+use Rattle.kc_expr.specs.Names.{AreDistinct}
+use Rattle.kc_language.specs.Expressions.{same_name}
 use Rattle.kc_expr.proofs.NamesLemmas.{same_name-refl}
 use Rattle.kc_read.proofs.FileLemmas.{same_name_eq}
 use Rattle.kc_read.proofs.OpenedFileLemmas.{has_one_list_of_names}
-use Rattle.kc_read.specs.Files.{Files}
+use Rattle.kc_language.specs.Expansion.{Files}
 use Rattle.kc_load.specs.Loaded.{Answer, files_found}
-use Rattle.kc_load.specs.Order.{AreSources, AreSourcesOf, AskedAlong, IsNew, ended, passed, asked}
+use Rattle.kc_language.specs.Outcome.{AreSources, AreSourcesOf, AskedAlong, IsNew, ended, passed, asked}
 use Rattle.kc_load.specs.Reached.{HasOrder, OrderIsReached, Reached, itself, sourced}
 use Rattle.kc_load.specs.Steps.{was_requested}
 use Rattle.kc_load.proofs.FoundLemmas.{found_absent, names_of}

@@ -1,6 +1,6 @@
 -- What holds while files are loaded from a folder that may stop telling.
 use Rattle.std.proofs.Common.{◌≡◌, ℕ, ◌<◌, ◌≤◌, true, false, List, [], ◌∷◌, ◌++◌, Option}
-use Rattle.kc_read.specs.Limits.{most_lines}
+use Rattle.kc_language.specs.Text.{most_lines}
 use Rattle.kc_load.specs.Expanding.{Suffices}
 use Rattle.kc_load.specs.Faults.{IsLoadFault}
 use Rattle.kc_load.specs.Folders.{FolderFiles, FolderState, Leads, files_told}

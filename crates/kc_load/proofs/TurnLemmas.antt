@@ -2,14 +2,13 @@
 use Rattle.std.proofs.Common.{◌≡◌, ℕ, ◌+◌, ◌≤◌, suc, Bool, true, false, cond, List, [], ◌∷◌, ◌++◌, append_assoc, append-nil, reverse, length, length-append, take, min, Some, None, Option, IsUtf8, arith, refl, sym, ap, ◌∙◌, subst}
 use Rattle.std.proofs.lemmas.List.{reverse-append, reverse-reverse, take_at, take-append-le}
 use Rattle.std.proofs.lemmas.List.Elements.{All-push, Contains-append_left, Contains-push}
-use Rattle.kc_expr.specs.Names.{same_name, mention}
-use Rattle.kc_text.specs.Limits.{last_count}
+use Rattle.kc_language.specs.Expressions.{same_name, mention}
+use Rattle.kc_language.specs.Text.{last_count, most_lines}
 use Rattle.kc_read.proofs.FileLemmas.{same_name_eq}
-use Rattle.kc_read.specs.Files.{Files}
-use Rattle.kc_read.specs.Limits.{most_lines}
-use Rattle.kc_load.specs.Folders.{FolderFiles, AnswersAs, path_of}
+use Rattle.kc_language.specs.Expansion.{Files}
+use Rattle.kc_load.specs.Folders.{FolderFiles, AnswersAs}
+use Rattle.kc_language.specs.Outcome.{path_of, AreSourcesOf, AskedAlong, AskedInOrder, IsNew, passed, asked}
 use Rattle.kc_load.specs.Loaded.{Answer, WereWithin, files_found, line_total, lines_found}
-use Rattle.kc_load.specs.Order.{AreSourcesOf, AskedAlong, AskedInOrder, IsNew, passed, asked}
 use Rattle.kc_load.specs.Steps.{AddsName, IsDue, State, AddsFile, Visits, no_text, not_new, no_file, file, was_requested}
 use Rattle.kc_load.proofs.FoundLemmas.{found_absent, found_itself, found_push, found_still, names_of, names_push, total_append, total_take}
 use Rattle.kc_load.proofs.Ongoing.{Agree, IsInOrder, Ongoing}

@@ -3,12 +3,11 @@ use Rattle.std.proofs.Common.{◌≡◌, ◌⊎◌, ℕ, ◌+◌, ◌<◌, ◌�
 use Rattle.std.proofs.lemmas.Bool.{true≢false}
 use Rattle.std.proofs.lemmas.List.{reverse-append, reverse-reverse}
 use Rattle.std.proofs.lemmas.List.Elements.{Contains-append_right, Contains-append_cases}
-use Rattle.kc_expr.specs.Names.{mention}
-use Rattle.kc_load.specs.Folders.{FolderFiles, AnswersAs, path_of}
-use Rattle.kc_read.specs.Limits.{most_lines}
-use Rattle.kc_read.specs.Expansion.{lines_of}
-use Rattle.kc_load.specs.Order.{AreSources}
-use Rattle.kc_text.specs.Limits.{last_count}
+use Rattle.kc_language.specs.Expressions.{mention}
+use Rattle.kc_load.specs.Folders.{FolderFiles, AnswersAs}
+use Rattle.kc_language.specs.Outcome.{path_of, AreSources}
+use Rattle.kc_language.specs.Text.{most_lines, last_count}
+use Rattle.kc_language.specs.Expansion.{lines_of}
 use Rattle.kc_load.specs.Steps.{State, Visits, no_text, not_new, no_file, file, initial_state, was_requested}
 use Rattle.kc_load.proofs.RequestedLemmas.{requested_still, requested_itself, only_element}
 

@@ -1,9 +1,9 @@
 -- Trusted: A folder's files by the names of a tree, and that enough of them was loaded.
 use Rattle.std.specs.Prelude.{◌≡◌, ℕ, List, Option, Some, None, Result, if◌then◌else◌}
 use Rattle.std.specs.Str.{is_utf8}
-use Rattle.kc_read.specs.Expansion.{Expands, Log, Refused}
-use Rattle.kc_read.specs.Files.{Files}
-use Rattle.kc_load.specs.Folders.{FolderFiles, path_of}
+use Rattle.kc_language.specs.Expansion.{Expands, Log, Refused, Files}
+use Rattle.kc_load.specs.Folders.{FolderFiles}
+use Rattle.kc_language.specs.Outcome.{path_of}
 
 -- the folder's file of each UTF-8 name; no other name has one
 abbrev pub named : (List ℕ → Option (List ℕ)) → List ℕ → Files

@@ -1,7 +1,8 @@
 -- Trusted: Why loading ends early.
 use Rattle.std.specs.Prelude.{ℕ, ◌≤◌, List, [], ◌∷◌, Result, Ok, Err}
-use Rattle.kc_load.specs.Folders.{FolderFiles, path_of}
-use Rattle.kc_read.specs.Limits.{most_lines}
+use Rattle.kc_load.specs.Folders.{FolderFiles}
+use Rattle.kc_language.specs.Outcome.{path_of}
+use Rattle.kc_language.specs.Text.{most_lines}
 use Rattle.kc_load.specs.Loaded.{Answer, AreAsked, line_total}
 use Rattle.kc_load.specs.declared.fault.LoadFault.{LoadFault}
 use Rattle.kc_load.specs.declared.fault.LoadFault.TheVariants.{CannotRead, Memory}

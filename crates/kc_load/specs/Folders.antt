@@ -1,7 +1,6 @@
 -- Trusted: What a folder tells of its files, and where its device failed.
-use Rattle.std.specs.Prelude.{◌≡◌, ℕ, ◌++◌, ◌∷◌, List, [], Bool, false, ◌==◌, Option, Some, None, Result, Ok, Err, IfOk, Vec, option_map, if◌then◌else◌}
+use Rattle.std.specs.Prelude.{◌≡◌, ℕ, ◌++◌, ◌∷◌, List, [], Option, Some, None, Result, Ok, Err, IfOk, Vec, option_map}
 use Rattle.std.specs.declared.alloc.Global.{Global}
-use Rattle.kc_text.specs.Bytes.{byte}
 use Rattle.kc_load.specs.declared.folder.FolderFault.{FolderFault}
 use Rattle.kc_load.specs.declared.folder.FolderFault.TheVariants.{Device, Memory}
 
@@ -36,11 +35,3 @@ failed_read path (Ok _) = []
 pub record ReadsAt (path : List ℕ) (old new : Option FolderState) (result : Result (Option (Vec ℕ Global)) FolderFault) : Type 0 where
   pub leads : Leads (failed_read path result) old new
   pub answer : IfOk result (λ found. AnswersAs (files_told new) path (option_map (λ bytes. bytes.items) found))
-
-abbrev pub begins_with_slash : List ℕ → Bool
-begins_with_slash [] = false
-begins_with_slash (b ∷ rest) = b == byte "/"
-
--- DIR/NAME, or the name itself where it begins with `/`
-abbrev pub path_of : List ℕ → List ℕ → List ℕ
-path_of dir name = if begins_with_slash name then name else dir ++ byte "/" ∷ name

@@ -5,5 +5,3 @@ pub mod Reached
 pub mod Expanding
 pub mod Faults
 pub mod Steps
-pub mod Prerequisites
-pub mod Rules

@@ -1,11 +1,10 @@
 -- Trusted: What loading gives: the files that were found, asked for in order.
 use Rattle.std.specs.Prelude.{◌≡◌, ℕ, ◌+◌, ◌≤◌, List, [], ◌∷◌, ◌++◌, map, All, Option, Some, None, if◌then◌else◌}
-use Rattle.kc_expr.specs.Names.{same_name}
-use Rattle.kc_read.specs.Expansion.{lines_of}
-use Rattle.kc_read.specs.Files.{Files}
-use Rattle.kc_read.specs.Limits.{most_lines}
-use Rattle.kc_load.specs.Folders.{FolderFiles, AnswersAs, path_of}
-use Rattle.kc_load.specs.Order.{AskedInOrder}
+use Rattle.kc_language.specs.Expressions.{same_name}
+use Rattle.kc_language.specs.Expansion.{lines_of, Files}
+use Rattle.kc_language.specs.Text.{most_lines}
+use Rattle.kc_load.specs.Folders.{FolderFiles, AnswersAs}
+use Rattle.kc_language.specs.Outcome.{path_of, AskedInOrder}
 
 -- a name that was asked for, and the bytes of its file, or that there is none
 pub record Answer : Type 0 where

@@ -2,9 +2,9 @@
 use Rattle.std.specs.Prelude.{◌≡◌, ℕ, List, Some, Contains}
 use Rattle.std.specs.Str.{IsUtf8}
 use Rattle.kc_expr.specs.Names.{AreDistinct}
-use Rattle.kc_read.specs.Files.{Files}
+use Rattle.kc_language.specs.Expansion.{Files}
 use Rattle.kc_load.specs.Loaded.{Answer, files_found}
-use Rattle.kc_load.specs.Order.{AreSources, AskedInOrder}
+use Rattle.kc_language.specs.Outcome.{AreSources, AskedInOrder}
 
 -- The names that a first one reaches: itself, and each UTF-8 name that a file of such a name sources.
 pub data Reached (files : Files) (first : List ℕ) : List ℕ → Type 0 where

@@ -2,13 +2,12 @@
 
 ghost use Rattle.std.specs.Prelude.{◌≡◌, ◌+◌, IfOk, IfErr, OnOk, min, nat_lt};
 ghost use Rattle.kc_load.specs.Expanding.{Suffices};
-ghost use Rattle.kc_load.specs.Folders.{Leads, ReadsAt, files_told, path_of};
+ghost use Rattle.kc_load.specs.Folders.{Leads, ReadsAt, files_told};
+ghost use Rattle.kc_language.specs.Outcome.{path_of};
 ghost use Rattle.kc_load.specs.Faults.{IsLoadFault, failed_load};
 ghost use Rattle.kc_load.specs.Loaded.{Loads};
-ghost use Rattle.kc_read.specs.Files.{bytes_in};
-ghost use Rattle.kc_read.specs.Limits.{most_lines};
-ghost use Rattle.kc_read.specs.Expansion.{lines_of};
-ghost use Rattle.kc_text.specs.Limits.{last_count};
+ghost use Rattle.kc_language.specs.Expansion.{bytes_in, lines_of};
+ghost use Rattle.kc_language.specs.Text.{most_lines, last_count};
 ghost use Rattle.kc_load.specs.Steps.{FailsAt, PushesSources, AddsFile, Visits, initial_state, state_of, was_requested};
 
 use crate::fault::LoadFault;

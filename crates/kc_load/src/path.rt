@@ -1,7 +1,7 @@
 //! Where a file of the tree lies.
 
 ghost use Rattle.std.specs.Prelude.{◌≡◌, IfOk, string_bytes};
-ghost use Rattle.kc_load.specs.Folders.{begins_with_slash, path_of};
+ghost use Rattle.kc_language.specs.Outcome.{begins_with_slash, path_of};
 
 use std::alloc::{AllocError, Global};
 

@@ -1,11 +1,10 @@
 //! The names that make reads in the dependency file.
 
-ghost use Rattle.std.specs.Prelude.{◌≡◌, false};
+ghost use Rattle.std.specs.Prelude.{◌≡◌, false, option_map};
 ghost use Rattle.std.specs.List.{list_any};
-ghost use Rattle.std.specs.Option.{option_map};
-ghost use Rattle.kc_expr.specs.Names.{same_name};
-ghost use Rattle.kc_load.specs.Rules.{ends_in, first_unreadable, is_beyond_make, is_library, is_plain, is_read_by_make, unreadable_of, without_dots};
-ghost use Rattle.kc_load.specs.Rules as spec;
+ghost use Rattle.kc_language.specs.Expressions.{same_name};
+ghost use Rattle.kc_language.specs.Outcome.{ends_in, first_unreadable, is_beyond_make, is_library, is_plain, is_read_by_make, unreadable_of, without_dots};
+ghost use Rattle.kc_language.specs.Outcome as spec;
 
 use crate::path::begins_with_slash;
 use kc_expr::expression::SymId;

@@ -1,22 +1,14 @@
 //! The text of the dependency file.
 
 ghost use Rattle.std.specs.Prelude.{◌≡◌, ◌++◌, IfOk, OnOk, flat_map};
-ghost use Rattle.kc_load.specs.Rules.{closed, empty_rule, escaped, escaped_byte, is_special, needs_backslash, prerequisite};
-ghost use Rattle.kc_load.specs.Rules as spec;
+ghost use Rattle.kc_language.specs.Outcome.{closed, empty_rule, escaped, escaped_byte, is_special, needs_backslash, prerequisite};
+ghost use Rattle.kc_language.specs.Outcome as spec;
 
 use crate::readable::ends_in;
 use kc_expr::expression::SymId;
 use kc_expr::names::Names;
+use kc_language::outcome::Position;
 use std::alloc::{AllocError, Global};
-
-// Where a name stands in a rule.
-#[derive(Clone, Copy)]
-pub(crate) enum Position {
-    // Before the colon.
-    Target,
-    // After it.
-    Prerequisite,
-}
 
 // Whether make reads this byte as more than a part of a name, if no `\` stands before it.
 fn is_special(at: Position, byte: u8) -> bool

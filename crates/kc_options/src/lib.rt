@@ -6,4 +6,5 @@
 
 mod options;
 
-pub use options::{Delivery, Options, Status};
+pub use kc_language::outcome::{Delivery, Status};
+pub use options::{Options, holds_warnings, input_file, lead, may_be_missing, target};

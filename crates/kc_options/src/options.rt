@@ -1,117 +1,60 @@
-//! What is asked of a run, and how it ends.
+//! What is asked of a run: parts of it.
 
 ghost use Rattle.std.specs.Prelude.{◌≡◌, [], not, slice_index_or};
 ghost use Rattle.std.specs.List.{flat_map};
-ghost use Rattle.kc_options.specs.Asked.{holds_warnings, input_files, lead, may_at, target};
+ghost use Rattle.kc_language.specs.Outcome.{holds_warnings, input_files, lead, target};
+ghost use Rattle.kc_options.specs.Asked.{may_at};
 
 use kc_config_file::prefix::Prefix;
+use kc_language::outcome;
 
-/// What is done with the texts of a run.
-#[derive(Clone, Copy, Debug, PartialEq, Eq)]
-pub enum Delivery {
-    /// Each is written to its file.
-    Write,
-    /// Those that differ from their files take their places at the end, each in one step.
-    Replace,
-    /// Each is compared with its file, and none is written.
-    Check,
+/// What is asked of a run.
+pub type Options = outcome::Options<Prefix>;
+
+/// What each diagnostic begins with that is not about a line of the `.config`, in two parts (our own).
+pub fn lead(options: &Options) -> [&[u8]; 2]
+    ensures { flat_map (λ part. part.now) result ≡ lead options.now }
+{
+    if options.names_config {
+        [options.config.as_bytes(), b": "]
+    } else {
+        [b"", b""]
+    }
 }
 
-/// What is asked of a run. The names of files are as they were given.
-#[derive(Drop)]
-pub struct Options {
-    /// The folder of the Kconfig files, for names that do not begin with `/`.
-    pub root: String,
-    /// The `.config` to read.
-    pub config: String,
-    /// The full `.config` to write. A dependency file needs one: its rule makes this file.
-    pub out: Option<String>,
-    /// The Kconfig file to begin with.
-    pub kconfig: String,
-    /// The header to write.
-    pub header: Option<String>,
-    /// The minimal `.config` to write.
-    pub minimal: Option<String>,
-    /// The dependency file to write.
-    pub depfile: Option<String>,
-    /// The files to read after the `.config`, in this order.
-    pub fragments: Vec<String>,
-    /// What stands before each symbol's name.
-    pub prefix: Prefix,
-    /// Whether the `.config` to read has to exist, as a fragment has to.
-    pub must_exist: bool,
-    /// Whether the run is refused if a line of the `.config` or of a fragment is not taken as written: any K7, K8, K9, K12
-    /// or K14, or a K10 between different values.
-    pub strict: bool,
-    /// Whether the run is refused on any warning, also about the tree.
-    pub strict_tree: bool,
-    /// Whether a value that was given and is not the symbol's is warned of (K14), and a line that changes a value (K15).
-    pub warn_lost: bool,
-    /// What is done with the texts.
-    pub delivery: Delivery,
-    /// Whether each diagnostic that is not about a line of the `.config` begins with the name of the `.config`, as where many are run.
-    pub names_config: bool,
-}
-
-/// How a run ends (our own).
-#[derive(Clone, Copy, Debug, PartialEq, Eq)]
-pub enum Status {
-    /// The files are written, or up to date.
-    Done,
-    /// The tree, a name for make, a line of a stream or a warning is refused, and nothing was begun; or a file is not up to date.
-    Refused,
-    /// The command line is bad. `run` never answers it.
-    Usage,
-    /// A device failed, or there was no memory.
-    Faulted,
-}
-
-impl Options {
-    /// What each diagnostic begins with that is not about a line of the `.config`, in two parts (our own).
-    pub fn lead(&self) -> [&[u8]; 2]
-        ensures { flat_map (λ part. part.now) result ≡ lead self.now }
-    {
-        if self.names_config {
-            [self.config.as_bytes(), b": "]
-        } else {
-            [b"", b""]
-        }
-    }
-
-    /// The name of an input file: 0 is the `.config`, n the n-th fragment. It is empty where there is none (our own).
-    pub fn input_file(&self, i: usize) -> &str
-        ensures { result.now ≡ slice_index_or (input_files self.now) i [] }
-    {
-        match i {
-            0 => self.config.as_str(),
-            n => match self.fragments.get(n - 1) {
-                Some(name) => name.as_str(),
-                None => "",
-            },
-        }
-    }
-
-    /// Whether an input file may be missing: the `.config`, unless it must exist (our own).
-    pub fn may_be_missing(&self, i: usize) -> bool
-        ensures { result ≡ may_at (not self.now.must_exist) i }
-    {
-        i == 0 && !self.must_exist
-    }
-
-    /// Whether the warnings of the input files are said only once all are read (our own).
-    pub fn holds_warnings(&self) -> bool
-        ensures { result ≡ holds_warnings self.now }
-    {
-        self.strict || self.strict_tree
-    }
-
-    /// The file that a dependency file's rule makes; empty where no full `.config` is written (our own).
-    pub fn target(&self) -> &str
-        ensures { result.now ≡ target self.now }
-    {
-        match &self.out {
+/// The name of an input file: 0 is the `.config`, n the n-th fragment. It is empty where there is none (our own).
+pub fn input_file(options: &Options, i: usize) -> &str
+    ensures { result.now ≡ slice_index_or (input_files options.now) i [] }
+{
+    match i {
+        0 => options.config.as_str(),
+        n => match options.fragments.get(n - 1) {
             Some(name) => name.as_str(),
             None => "",
-        }
+        },
+    }
+}
+
+/// Whether an input file may be missing: the `.config`, unless it must exist (our own).
+pub fn may_be_missing(options: &Options, i: usize) -> bool
+    ensures { result ≡ may_at (not options.now.must_exist) i }
+{
+    i == 0 && !options.must_exist
+}
+
+/// Whether the warnings of the input files are said only once all are read (our own).
+pub fn holds_warnings(options: &Options) -> bool
+    ensures { result ≡ holds_warnings options.now }
+{
+    options.strict || options.strict_tree
+}
+
+/// The file that a dependency file's rule makes; empty where no full `.config` is written (our own).
+pub fn target(options: &Options) -> &str
+    ensures { result.now ≡ target options.now }
+{
+    match &options.out {
+        Some(name) => name.as_str(),
+        None => "",
     }
 }

@@ -5,7 +5,8 @@ use Rattle.std.proofs.lemmas.Bool.{cases_lt, cases_Bool, lt-ltb, le-ltb, true≢
 use Rattle.std.proofs.lemmas.List.{get_or_append_left, get_or_push, length_push, get_or_default, get_or-map, get_or-take, get_or-drop, length-take-le, length-map}
 use Rattle.std.proofs.lemmas.List.Elements.{All-tail, Contains-get_or, Contains-append_left, Contains-append_right, Contains-append_cases}
 use Rattle.std.proofs.lemmas.List.Folds.{list_any_at}
-use Rattle.kc_order.specs.Needs.{NeedsBelow, needs_in, unordered_after}
+use Rattle.kc_order.specs.Needs.{NeedsBelow}
+use Rattle.kc_language.specs.Needs.{needs_in, unordered_after}
 use Rattle.kc_order.specs.Graph.{Nodes, IsGraph, stands_for, groups_from, groups_of, needs_of}
 use Rattle.kc_order.proofs.Stays.{needs_unordered}
 

@@ -4,7 +4,8 @@ use Rattle.std.proofs.lemmas.Bool.{cases_lt}
 use Rattle.std.specs.List.{Contains}
 use Rattle.std.proofs.lemmas.List.{get_or_default, get_or_past}
 use Rattle.std.proofs.lemmas.List.Elements.{All-contains, All-tail, Contains-get_or}
-use Rattle.kc_order.specs.Needs.{NeedsBelow, needs_in, AreWithin}
+use Rattle.kc_order.specs.Needs.{NeedsBelow, AreWithin}
+use Rattle.kc_language.specs.Needs.{needs_in}
 use Rattle.kc_order.specs.Graph.{Nodes, IsGraph}
 use Rattle.kc_order.specs.Rows.{RowsBelow, NeedSmaller}
 

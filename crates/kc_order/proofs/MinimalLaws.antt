@@ -1,8 +1,10 @@
 -- Keeping the places of what differs restores, and none of them can go.
 use Rattle.std.proofs.Common.{ℕ, Bool, Option, None, sym, ◌∙◌, ap, inl, inr, List, cond}
 use Rattle.std.proofs.lemmas.Bool.{cases_Bool}
-use Rattle.kc_order.specs.Needs.{NeedsBelow, NothingUnordered}
-use Rattle.kc_order.specs.Solution.{Solves, ReadsNeeds}
+use Rattle.kc_order.specs.Needs.{NeedsBelow}
+use Rattle.kc_language.specs.Needs.{NothingUnordered}
+use Rattle.kc_language.specs.Values.{Solves}
+use Rattle.kc_order.specs.Solution.{ReadsNeeds}
 use Rattle.kc_order.specs.Minimal.{equations, kept, Restores, NothingCanGo, KeepsWhatDiffers}
 use Rattle.kc_order.proofs.Unique.{only}
 

@@ -10,7 +10,7 @@ use Rattle.kc_order.specs.declared.search.NodeState.{NodeState}
 use Rattle.kc_order.specs.FirstUnordered.{ArePlaces, AreFirsts, TellsUnordered, is_unordered_at, lesser_of, place_among}
 use Rattle.kc_order.specs.Graph.{Nodes, IsGraph, groups_of, needs_of, stands_for}
 use Rattle.kc_order.specs.Loop.{HoldsNeeding}
-use Rattle.kc_order.specs.Needs.{needs_in, unordered_after}
+use Rattle.kc_language.specs.Needs.{needs_in, unordered_after}
 use Rattle.kc_order.proofs.FirstLemmas.{all_fail, row_place, same_place}
 use Rattle.kc_order.proofs.Groups.{group_stands, needs_stand, needs_within, stands_symbol, unordered_alike}
 use Rattle.kc_order.proofs.Held.{graph_down, row_nodes}

@@ -2,7 +2,7 @@
 use Rattle.std.proofs.Common.{◌≡◌, ℕ, ◌<◌, ◌≤◌, ◌+◌, ◌-◌, List, [], ◌∷◌, ◌++◌, length, get_or, zero, suc, sym, ◌∙◌, ap, refl, arith, take, drop, All, subst, length-drop}
 use Rattle.std.proofs.lemmas.List.{take_all, take-append-le, drop_at, drop-append-le, take-append-drop, drop-drop, drop_all, get_or_read}
 use Rattle.std.proofs.lemmas.List.Elements.{All-nil, All-cons, All-head, All-tail, All-take, All-drop, All-append}
-use Rattle.kc_order.specs.Needs.{needs_in}
+use Rattle.kc_language.specs.Needs.{needs_in}
 use Rattle.kc_order.specs.Rows.{rows_of, AreIncreasing, begin, RowsBelow}
 
 -- no end is past the last

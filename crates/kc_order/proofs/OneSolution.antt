@@ -1,8 +1,10 @@
 -- A solution by iterations in which each equation reads the values of the iteration before.
 use Rattle.std.proofs.Common.{◌≡◌, ℕ, ◌<◌, false, List, zero, suc, sym}
 use Rattle.std.proofs.lemmas.Bool.{true≢false}
-use Rattle.kc_order.specs.Needs.{NeedsBelow, unordered_after, NothingUnordered}
-use Rattle.kc_order.specs.Solution.{Solves, ReadsNeeds, HasOneSolution}
+use Rattle.kc_order.specs.Needs.{NeedsBelow}
+use Rattle.kc_language.specs.Needs.{unordered_after, NothingUnordered}
+use Rattle.kc_language.specs.Values.{Solves}
+use Rattle.kc_order.specs.Solution.{ReadsNeeds, HasOneSolution}
 use Rattle.kc_order.proofs.Unique.{only, fails_each}
 
 -- the values after k iterations

@@ -4,8 +4,9 @@ use Rattle.std.specs.List.{Contains}
 use Rattle.std.proofs.lemmas.Bool.{cases_lt}
 use Rattle.std.proofs.lemmas.List.{get_or_default, get_or_append_left, get_or-append-add, length-append, length-take-le}
 use Rattle.std.proofs.lemmas.List.Elements.{Contains-get_or}
-use Rattle.kc_order.specs.Needs.{needs_in, unordered_after, SomeUnordered}
-use Rattle.kc_order.specs.Loop.{IsPath, IsNamedLoop, IsNext}
+use Rattle.kc_language.specs.Needs.{needs_in, unordered_after, IsNamedLoop, IsNext}
+use Rattle.kc_order.specs.Needs.{SomeUnordered}
+use Rattle.kc_order.specs.Loop.{IsPath}
 use Rattle.kc_order.proofs.FirstLemmas.{found}
 use Rattle.kc_order.proofs.SearchSteps.{ring_unordered}
 use Rattle.kc_order.proofs.Held.{has_row}

@@ -14,7 +14,8 @@ use Rattle.kc_order.specs.declared.search.NodeState.TheVariants.{New, Open, Done
 use Rattle.std.proofs.Common.{All, map, sum, sum_by}
 use Rattle.std.proofs.lemmas.List.{length-set}
 use Rattle.std.proofs.lemmas.List.Sums.{sum_by-set}
-use Rattle.kc_order.specs.Needs.{NeedsBelow, needs_in, unordered_after}
+use Rattle.kc_order.specs.Needs.{NeedsBelow}
+use Rattle.kc_language.specs.Needs.{needs_in, unordered_after}
 use Rattle.kc_order.specs.Rows.{RowsBelow}
 use Rattle.kc_order.specs.Order.{IsOrderOf}
 use Rattle.kc_order.specs.declared.search.Search.{Search}

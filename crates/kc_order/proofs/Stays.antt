@@ -6,7 +6,8 @@ use Rattle.std.proofs.lemmas.List.Elements.{All-cons, All-tail, Contains-get_or}
 use Rattle.std.proofs.lemmas.List.Folds.{list_any_at, Any-from_list_any}
 use Rattle.std.proofs.lemmas.List.FromFn.{length-range_with_len, get_or-range_with_len}
 use Rattle.std.proofs.lemmas.List.Sums.{sum_by-cons, count_by-le-length, get_or-le-sum_by, sum_by-le-sum_by}
-use Rattle.kc_order.specs.Needs.{NeedsBelow, unordered_after}
+use Rattle.kc_order.specs.Needs.{NeedsBelow}
+use Rattle.kc_language.specs.Needs.{unordered_after}
 
 -- tests that agree on each element find the same
 list_any_agree : {X : Type 0} (p q : X → Bool) (xs : List X) → All (λ x. p x ≡ q x) xs → list_any p xs ≡ list_any q xs

@@ -3,8 +3,10 @@ use Rattle.std.proofs.Common.{◌≡◌, ℕ, ◌<◌, Bool, false, List, zero, 
 use Rattle.std.specs.List.{Contains, list_any}
 use Rattle.std.proofs.lemmas.Bool.{true≢false, cases_Bool, both_ways}
 use Rattle.std.proofs.lemmas.List.Folds.{list_any_at}
-use Rattle.kc_order.specs.Needs.{NeedsBelow, unordered_after, NothingUnordered}
-use Rattle.kc_order.specs.Solution.{Solves, IsOnlySolution, ReadsNeeds}
+use Rattle.kc_order.specs.Needs.{NeedsBelow}
+use Rattle.kc_language.specs.Needs.{unordered_after, NothingUnordered}
+use Rattle.kc_language.specs.Values.{Solves, IsOnlySolution}
+use Rattle.kc_order.specs.Solution.{ReadsNeeds}
 
 -- what no element passes, an element fails
 pub fails_each : {X : Type 0} (p : X → Bool) (xs : List X) (x : X) → list_any p xs ≡ false → Contains xs x → p x ≡ false

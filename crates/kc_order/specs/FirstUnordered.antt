@@ -4,7 +4,7 @@ use Rattle.std.specs.List.{list_any}
 use Rattle.kc_order.specs.declared.search.NodeState.{NodeState}
 use Rattle.kc_order.specs.declared.search.NodeState.TheVariants.{New}
 use Rattle.kc_order.specs.Graph.{Nodes, groups_of, needs_of, stands_for}
-use Rattle.kc_order.specs.Needs.{needs_in, unordered_after}
+use Rattle.kc_language.specs.Needs.{needs_in, unordered_after}
 use Rattle.kc_order.specs.Search.{is_unordered}
 
 -- the lesser of two, if there are any

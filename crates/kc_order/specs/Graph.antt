@@ -1,7 +1,8 @@
 -- Trusted: What symbols need, with groups between: what many symbols need alike stands once.
 use Rattle.std.specs.Prelude.{ℕ, ◌<◌, ◌≤◌, ◌-◌, List, [], ◌∷◌, ◌++◌, map, length, take, drop, nat_lt, slice_index_or, if◌then◌else◌}
 use Rattle.std.specs.List.{Contains, flat_map}
-use Rattle.kc_order.specs.Needs.{needs_in, AreWithin}
+use Rattle.kc_language.specs.Needs.{needs_in}
+use Rattle.kc_order.specs.Needs.{AreWithin}
 
 -- nodes and the row of each; the first are symbols, and the others groups
 pub record Nodes : Type 0 where

@@ -2,10 +2,12 @@
 use Rattle.std.specs.Prelude.{All, ◌≡◌, ◌⊎◌, ℕ, ◌<◌, ◌+◌, ◌-◌, ◌++◌, take, List, length, slice_index, true, Option, Bool}
 use Rattle.std.specs.List.{Contains, flat_map}
 use Rattle.kc_order.specs.Graph.{Nodes, IsGraph, groups_of, needs_of, stands_for}
-use Rattle.kc_order.specs.Needs.{needs_in, unordered_after, AreAlike, AreWithin, IsAccepted, SomeUnordered}
-use Rattle.kc_order.specs.Loop.{HoldsNeeding, IsNamedLoop, IsPath}
+use Rattle.kc_language.specs.Needs.{needs_in, unordered_after, AreAccepted as IsAccepted, IsNamedLoop}
+use Rattle.kc_order.specs.Needs.{AreAlike, AreWithin, SomeUnordered}
+use Rattle.kc_order.specs.Loop.{HoldsNeeding, IsPath}
 use Rattle.kc_order.specs.Order.{Orders}
-use Rattle.kc_order.specs.Solution.{Solves, IsOnlySolution, ReadsNeeds, HasOneSolution, IsUpdate, IsIteration}
+use Rattle.kc_language.specs.Values.{Solves, IsOnlySolution}
+use Rattle.kc_order.specs.Solution.{ReadsNeeds, HasOneSolution, IsUpdate, IsIteration}
 use Rattle.kc_order.specs.Minimal.{equations, Restores, NothingCanGo, KeepsWhatDiffers}
 
 -- needs that have an order are accepted

@@ -1,7 +1,7 @@
 -- Trusted: Which of the values that a user gave have to be kept.
 -- The equation of a symbol reads one place of the user's, and several symbols may have one place.
 use Rattle.std.specs.Prelude.{◌≡◌, ℕ, ◌<◌, Bool, true, false, Option, None, if◌then◌else◌}
-use Rattle.kc_order.specs.Solution.{Solves, IsOnlySolution}
+use Rattle.kc_language.specs.Values.{Solves, IsOnlySolution}
 
 -- the equations under what was given: that of s reads the place of s alone
 abbrev pub equations : {A Place G : Type 0} → (ℕ → Place) → (ℕ → Option G → (ℕ → A) → A) → (Place → Option G) → ℕ → (ℕ → A) → A

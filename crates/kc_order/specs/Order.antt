@@ -1,7 +1,7 @@
 -- Trusted: Symbols in an order in which each one's needs stand before it.
 use Rattle.std.specs.Prelude.{ℕ, ◌<◌, List, length, slice_index, nat_eq, take}
 use Rattle.std.specs.List.{Contains, IsDistinct}
-use Rattle.kc_order.specs.Needs.{needs_in}
+use Rattle.kc_language.specs.Needs.{needs_in}
 
 -- each need of a symbol stands before it
 abbrev pub NeedsFirst : (ℕ → List ℕ) → List ℕ → Type 0

@@ -2,8 +2,7 @@
 use Rattle.std.specs.Prelude.{ℕ, List, length}
 use Rattle.kc_order.specs.declared.order.NoOrder.{NoOrder}
 use Rattle.kc_order.specs.declared.order.NoOrder.TheVariants.{Loop, Memory}
-use Rattle.kc_order.specs.Needs.{needs_in}
-use Rattle.kc_order.specs.Loop.{IsNamedLoop}
+use Rattle.kc_language.specs.Needs.{needs_in, IsNamedLoop}
 
 -- the loop that is named by this sequence; nothing is said of memory
 abbrev pub IsReason : List ℕ → List (List ℕ) → NoOrder → Type 0

@@ -1,6 +1,6 @@
 -- For proofs: Rows one behind the other in one list, and what is asked of them.
 use Rattle.std.specs.Prelude.{◌≡◌, ℕ, ◌<◌, ◌≤◌, ◌-◌, zero, suc, Bool, false, List, [], ◌∷◌, length, All, slice_index, slice_index_or, take, drop}
-use Rattle.kc_order.specs.Needs.{needs_in}
+use Rattle.kc_language.specs.Needs.{needs_in}
 
 -- the rows of a list of numbers, given where each ends: the first begins at `from`, each further one where the one before it ends
 abbrev pub rows_of : List ℕ → ℕ → List ℕ → List (List ℕ)

@@ -4,7 +4,7 @@ use Rattle.std.specs.List.{Contains, IsDistinct}
 use Rattle.kc_order.specs.declared.search.NodeState.{NodeState}
 use Rattle.kc_order.specs.declared.search.NodeState.TheVariants.{New, Open, Done, Unordered}
 use Rattle.kc_order.specs.declared.search.Search.{Search}
-use Rattle.kc_order.specs.Needs.{needs_in, unordered_after}
+use Rattle.kc_language.specs.Needs.{needs_in, unordered_after}
 use Rattle.kc_order.specs.Order.{NeedsFirst}
 
 -- the open symbols are a path along needs, the done ones are in order, what is given up is unordered after any number of

@@ -1,15 +1,8 @@
 -- Trusted: Valuations that satisfy one equation for each symbol.
 -- An equation gives a value of its symbol, read off the values of all symbols.
-use Rattle.std.specs.Prelude.{◌≡◌, ℕ, ◌<◌, ◌+◌, ◌≢◌, List}
 use Rattle.std.specs.List.{Contains}
-
--- each of the first n symbols has the value that its equation gives
-abbrev pub Solves : {A : Type 0} → ℕ → (ℕ → (ℕ → A) → A) → (ℕ → A) → Type 0
-Solves n rhs V = (s : ℕ) → s < n → V s ≡ rhs s V
-
--- any valuation that solves has the values of this one
-abbrev pub IsOnlySolution : {A : Type 0} → ℕ → (ℕ → (ℕ → A) → A) → (ℕ → A) → Type 0
-IsOnlySolution {A} n rhs V = (W : ℕ → A) → Solves n rhs W → (s : ℕ) → s < n → W s ≡ V s
+use Rattle.std.specs.Prelude.{◌≡◌, ℕ, ◌<◌, ◌+◌, ◌≢◌, List}
+use Rattle.kc_language.specs.Values.{Solves, IsOnlySolution}
 
 -- some valuation solves, and no other does
 abbrev pub HasOneSolution : {A : Type 0} → ℕ → (ℕ → (ℕ → A) → A) → Type 0

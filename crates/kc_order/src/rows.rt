@@ -1,7 +1,7 @@
 //! Rows of numbers in one list.
 
 ghost use Rattle.std.specs.Prelude.{◌≡◌, ◌<◌, ◌≤◌, [], ◌∷◌, ◌++◌, ◌↔◌, ◌-◌, length, IfOk, OnOk, OnErr, IsTrue, All, take, drop};
-ghost use Rattle.kc_order.specs.Needs.{needs_in};
+ghost use Rattle.kc_language.specs.Needs.{needs_in};
 ghost use Rattle.kc_order.specs.Rows.{RowsBelow, NeedSmaller, begin};
 
 use std::alloc::{AllocError, Global};

@@ -3,7 +3,7 @@ use Rattle.std.proofs.Common.{◌≡◌, ℕ, zero, suc, Bool, true, false, if�
 use Rattle.std.proofs.lemmas.List.{map-append}
 use Rattle.kc_read.specs.declared.entries.AttributeLine.{AttributeLine}
 use Rattle.kc_read.specs.declared.entries.Entry.{Entry}
-use Rattle.kc_read.specs.Blocks.{last_of}
+use Rattle.kc_language.specs.Expansion.{last_of}
 use Rattle.kc_read.specs.Entries.{attribute_line, first_line, lines_of, own_lines, own_of}
 use Rattle.kc_read.specs.EntryStarts.{AreInOrder, start_of}
 

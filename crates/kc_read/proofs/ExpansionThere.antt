@@ -4,21 +4,19 @@ use Rattle.std.proofs.lemmas.Bool.{false≢true}
 use Rattle.std.proofs.lemmas.Bool.Decides.{nat_tests}
 use Rattle.std.proofs.lemmas.List.{length-append}
 use Rattle.std.specs.List.{list_any}
-use Rattle.kc_text.specs.declared.faults.TextFault.{TextFault}
-use Rattle.kc_text.specs.Lines.{UnreadLines, TakesLine, unread_lines, Next, Ended, Taken, TooLong, IsNextLine}
-use Rattle.kc_text.specs.Lexemes.{Lexeme}
+use Rattle.kc_language.specs.declared.tokens.TextFault.{TextFault}
+use Rattle.kc_language.specs.Lines.{UnreadLines, TakesLine, unread_lines}
+use Rattle.kc_text.specs.Lines.{Next, Ended, Taken, TooLong, IsNextLine}
+use Rattle.kc_language.specs.Tokens.{Lexeme}
 use Rattle.kc_text.proofs.Joins.{one_next_line_law}
 use Rattle.kc_text.proofs.There.{one_cutting_law}
-use Rattle.kc_expr.specs.Names.{same_name}
-use Rattle.kc_diagnostics.specs.declared.cause.Cause.TheVariants as cause
+use Rattle.kc_language.specs.Expressions.{same_name}
+use Rattle.kc_language.specs.declared.diagnostics.Cause.TheVariants as cause
 use Rattle.kc_read.specs.declared.statement.OpenBlock.{OpenBlock}
-use Rattle.kc_read.specs.Blocks.{last_of}
+use Rattle.kc_language.specs.Expansion.{last_of, FileContext, Log, Refused, Rest, NextLine, NextStatement, refused, bytes_cause, context_of, limit_cause, inside, is_help, is_source, logged, nothing_read, with_file, root_context, source_cause, sourcing_cause, text_cause, with_line, without_help, at_end, unclosed, too_long, no_tokens, blank, bad_line, over_limit, statement, bad_source, refused_inside, source, Files}
 use Rattle.kc_read.specs.Existing.{HasOneExpansion}
-use Rattle.kc_read.specs.Expansion.{FileContext, Log, Refused, Rest, NextLine, NextStatement, refused, bytes_cause, context_of, limit_cause, inside, is_help, is_source, logged, nothing_read, with_file, root_context, source_cause, sourcing_cause, text_cause, with_line, without_help, at_end, unclosed, too_long, no_tokens, blank, bad_line, over_limit, statement, bad_source, refused_inside, source}
-use Rattle.kc_read.specs.Files.{Files}
-use Rattle.kc_diagnostics.specs.Causes.{Cause}
+use Rattle.kc_language.specs.Statements.{Cause, Located, Named, SourceLine, ConfigLine, IfLine, EndIfLine, CommentLine, MenuLine, EndMenuLine, ChoiceLine, EndChoiceLine, MainMenuLine, TypeLine, PromptLine, DefaultLine, DefLine, DependsLine, VisibleLine, SelectLine, ImplyLine, RangeLine, HelpLine, ModulesLine, IgnoredLine}
 use Rattle.kc_read.specs.Progress.{located_blocks}
-use Rattle.kc_read.specs.Statements.{Located, Named, SourceLine, ConfigLine, IfLine, EndIfLine, CommentLine, MenuLine, EndMenuLine, ChoiceLine, EndChoiceLine, MainMenuLine, TypeLine, PromptLine, DefaultLine, DefLine, DependsLine, VisibleLine, SelectLine, ImplyLine, RangeLine, HelpLine, ModulesLine, IgnoredLine}
 use Rattle.kc_read.proofs.BlockLemmas as blocks
 use Rattle.kc_read.proofs.LineThere.{line_there}
 use Rattle.kc_read.proofs.OneExpansion.{one_expansion_law}

@@ -5,11 +5,11 @@ use Rattle.kc_text.specs.Lexemes.{lexeme, lexemes}
 use Rattle.kc_text.specs.declared.tokens.Token.{Token}
 use Rattle.kc_expr.specs.declared.parse.ExprFault.{ExprFault}
 use Rattle.kc_expr.specs.declared.parse.ExprFault.TheVariants as expr
-use Rattle.kc_expr.specs.Form.{Form}
-use Rattle.kc_expr.specs.Grammar.{LongestFront, terminal_of, terminals, terminals_from}
+use Rattle.kc_language.specs.Expressions.{Form, LongestFront, terminal_of, terminals}
+use Rattle.kc_expr.specs.Grammar.{terminals_from}
 use Rattle.kc_expr.specs.Parsing.{IsParsed, IsRefused}
 use Rattle.kc_diagnostics.proofs.CauseLemmas.{no_other_memory}
-use Rattle.kc_read.specs.Lines.{ExpressionFault}
+use Rattle.kc_language.specs.Statements.{ExpressionFault}
 use Rattle.kc_read.specs.LineReads.{LineFault, IsFront, IsFault, cause_of, lexemes_from, expression_cause}
 
 terminals-map : (ts : List Token) → map terminal_of (lexemes ts) ≡ map (λ t. terminal_of (lexeme t)) ts

@@ -1,17 +1,16 @@
 -- What the lines that begin entries have in common, and what attributes have.
 use Rattle.std.proofs.Common.{◌≡◌, ◌+◌, length, Bool, true, false, List, [], Option, None, refl, ap}
 use Rattle.std.specs.Option.{option_or}
-use Rattle.kc_expr.specs.declared.expression.SymId.{SymId}
+use Rattle.kc_language.specs.declared.expressions.SymId.{SymId}
 use Rattle.kc_read.specs.declared.frame.Frame.{Frame}
 use Rattle.kc_read.specs.declared.progress.Progress.{Progress}
 use Rattle.kc_read.specs.declared.statement.Attribute.{Attribute}
 use Rattle.kc_read.specs.declared.statement.Attribute.TheVariants as attribute
 use Rattle.kc_read.specs.declared.statement.Head.{Head}
 use Rattle.kc_read.specs.declared.statement.Head.TheVariants as head
-use Rattle.kc_read.specs.Blocks.{Bracket, NoBracket, bracket, defined_name, is_attribute}
-use Rattle.kc_read.specs.Expansion.{is_source, nesting_cause}
+use Rattle.kc_language.specs.Expansion.{Bracket, NoBracket, bracket, defined_name, is_attribute, is_source, nesting_cause}
 use Rattle.kc_read.specs.Progress.{defining_cause, limit_view}
-use Rattle.kc_read.specs.Statements.{Numbered}
+use Rattle.kc_language.specs.Statements.{Numbered}
 use Rattle.kc_read.specs.StatementViews.{attribute_view, head_view}
 
 pub no_attribute : (h : Head) → is_attribute (head_view h) ≡ false

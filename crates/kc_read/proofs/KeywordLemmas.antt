@@ -1,9 +1,9 @@
 -- The keyword of a word, table by table.
 use Rattle.std.proofs.Common.{◌≡◌, ◌∙◌, sym, ap, refl, ℕ, Bool, true, false, cond, List, [], ◌∷◌, ◌++◌, Option, Some, None}
 use Rattle.std.specs.Option.{option_or}
-use Rattle.kc_expr.specs.Names.{same_name}
-use Rattle.kc_read.specs.declared.statement.Keyword.{Keyword}
-use Rattle.kc_read.specs.Lines.{keyword_in}
+use Rattle.kc_language.specs.Expressions.{same_name}
+use Rattle.kc_language.specs.declared.statements.Keyword.{Keyword}
+use Rattle.kc_language.specs.Statements.{keyword_in}
 
 pass : (b : Bool) (k : Keyword) (o p : Option Keyword) → cond b (Some k) (option_or o p) ≡ option_or (cond b (Some k) o) p
 pass true k o p = refl

@@ -1,7 +1,7 @@
 -- Lists: their last elements, and maps over parts.
 use Rattle.std.proofs.Common.{◌≡◌, ℕ, zero, suc, ◌-◌, Bool, true, false, cond, ◌||◌, List, [], ◌∷◌, ◌++◌, map, filter, length, take, Option, Some, None, option_map, slice_get, refl, sym, ap, ◌∙◌, arith}
 use Rattle.std.specs.List.{filter_map, cons_option, list_any}
-use Rattle.kc_read.specs.Blocks.{last_of, numbers}
+use Rattle.kc_language.specs.Expansion.{last_of, numbers}
 
 pub last_of-push : {A : Type 0} (xs : List A) (x : A) → last_of (xs ++ x ∷ []) ≡ Some x
 last_of-push [] x = refl

@@ -5,8 +5,8 @@ use Rattle.std.specs.List.{before_first, list_any, take_while}
 use Rattle.std.specs.Option.{option_or}
 use Rattle.std.proofs.lemmas.List.Folds.{list_any-append}
 use Rattle.std.proofs.lemmas.List.Sums.{take_while-cons}
-use Rattle.kc_read.specs.Statements.{Named}
-use Rattle.kc_read.specs.Blocks.{definitions, is_modules, last_of, modules_of}
+use Rattle.kc_language.specs.Statements.{Named}
+use Rattle.kc_language.specs.Expansion.{definitions, is_modules, last_of, modules_of}
 
 -- ---- What stands before the first that passes
 

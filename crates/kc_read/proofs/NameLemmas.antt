@@ -5,12 +5,13 @@ use Rattle.std.specs.Option.{option_or}
 use Rattle.std.proofs.lemmas.Bool.{cases_eq, eq-eqb, ne_eqb}
 use Rattle.std.proofs.lemmas.List.Folds.{list_any-append}
 use Rattle.std.proofs.lemmas.List.{length-map, map-append}
-use Rattle.kc_expr.specs.declared.expression.SymId.{SymId}
-use Rattle.kc_expr.specs.Names.{IsNumber, same_name, number_of, symbol, mention, Extends}
-use Rattle.kc_diagnostics.specs.declared.cause.Cause.TheVariants as cause
-use Rattle.kc_expr.specs.DistinctSymbols.{added, stands_in}
+use Rattle.kc_language.specs.declared.expressions.SymId.{SymId}
+use Rattle.kc_expr.specs.Names.{IsNumber, Extends}
+use Rattle.kc_language.specs.Expressions.{same_name, number_of, symbol, mention}
+use Rattle.kc_language.specs.declared.diagnostics.Cause.TheVariants as cause
+use Rattle.kc_language.specs.Symbols.{added, stands_in}
 use Rattle.kc_expr.proofs.NamesLemmas.{extends_on, same_name-refl}
-use Rattle.kc_read.specs.Expansion.{names_match}
+use Rattle.kc_language.specs.Expansion.{names_match}
 use Rattle.kc_read.specs.Progress.{defined_after, defining_cause, ids_match, naming_cause, order_after}
 use Rattle.kc_read.specs.Expanded.{AreNumbers, IsNamed}
 use Rattle.kc_read.proofs.FileLemmas.{same_name_eq}

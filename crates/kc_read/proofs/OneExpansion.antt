@@ -1,18 +1,14 @@
 -- A root file has one expansion.
 use Rattle.std.proofs.Common.{◌≡◌, ◌≢◌, ◌⊎◌, inl, inr, ℕ, true, false, cond, List, [], ◌∷◌, ◌++◌, length, map, slice_get, Option, Some, None, MatchOption, Result, Ok, Err, refl, sym, ap, ◌∙◌, subst, arith}
-use Rattle.kc_text.specs.declared.faults.TextFault.{TextFault}
-use Rattle.kc_text.specs.Lines.{UnreadLines, IsTooLong, unread_lines}
-use Rattle.kc_text.specs.Lexemes.{Lexeme}
-use Rattle.kc_text.specs.Tokens.{IsCut}
+use Rattle.kc_language.specs.declared.tokens.TextFault.{TextFault}
+use Rattle.kc_language.specs.Lines.{UnreadLines, IsTooLong, unread_lines}
+use Rattle.kc_language.specs.Tokens.{Lexeme, IsCut}
 use Rattle.kc_text.proofs.Joins.{takes_one, takes_less, taken_is_short, too_long_some}
 use Rattle.kc_text.proofs.Once.{same_cutting}
-use Rattle.kc_diagnostics.specs.declared.cause.Cause.TheVariants as cause
-use Rattle.kc_read.specs.Blocks.{last_of, open_blocks}
-use Rattle.kc_read.specs.Expansion.{FileContext, Log, Refused, Rest, IsUnclosed, NextLine, NextStatement, OneExpansion, refused, bytes_cause, context_of, limit_cause, innermost, inside, is_help, is_source, logged, nothing_read, with_file, root_context, source_cause, text_cause, with_line, without_help, at_end, unclosed, too_long, no_tokens, blank, bad_line, over_limit, statement, bad_source, refused_inside, source}
-use Rattle.kc_read.specs.Files.{Files}
-use Rattle.kc_diagnostics.specs.Causes.{Cause}
-use Rattle.kc_read.specs.Lines.{ReadsLine}
-use Rattle.kc_read.specs.Statements.{Located, Named, SourceLine, statements}
+use Rattle.kc_language.specs.declared.diagnostics.Cause.TheVariants as cause
+use Rattle.kc_language.specs.Expansion.{last_of, open_blocks, FileContext, Log, Refused, Rest, IsUnclosed, NextLine, NextStatement, refused, bytes_cause, context_of, limit_cause, innermost, inside, is_help, is_source, logged, nothing_read, with_file, root_context, source_cause, text_cause, with_line, without_help, at_end, unclosed, too_long, no_tokens, blank, bad_line, over_limit, statement, bad_source, refused_inside, source, Files}
+use Rattle.kc_read.specs.Expansion.{OneExpansion}
+use Rattle.kc_language.specs.Statements.{Cause, ReadsLine, Located, Named, SourceLine, statements}
 use Rattle.kc_read.proofs.BlockLemmas.{blocks_of_located, located_blocks-opens, no_places, opens}
 use Rattle.kc_read.specs.Progress.{located_blocks}
 use Rattle.kc_read.proofs.OneLine.{one_line}

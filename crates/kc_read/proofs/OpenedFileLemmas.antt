@@ -2,18 +2,15 @@
 use Rattle.std.proofs.Common.{◌≡◌, ◌⊎◌, inl, inr, ℕ, zero, suc, ◌<◌, ◌≤◌, Bool, true, cond, List, [], ◌∷◌, ◌++◌, length, drop, codes, Option, Some, None, Result, Ok, Err, refl, sym, ap, ◌∙◌, subst, arith}
 use Rattle.std.specs.List.{Contains}
 use Rattle.std.proofs.lemmas.Bool.{cases_Bool}
-use Rattle.kc_text.specs.declared.faults.TextFault.{TextFault}
-use Rattle.kc_text.specs.Lexemes.{Lexeme}
-use Rattle.kc_text.specs.Lines.{UnreadLines, TakesLine, unread_lines, Next, Ended, Taken, TooLong, IsNextLine}
+use Rattle.kc_language.specs.declared.tokens.TextFault.{TextFault}
+use Rattle.kc_language.specs.Tokens.{Lexeme}
+use Rattle.kc_language.specs.Lines.{UnreadLines, TakesLine, unread_lines}
+use Rattle.kc_text.specs.Lines.{Next, Ended, Taken, TooLong, IsNextLine}
 use Rattle.kc_text.proofs.Joins.{one_next_line_law}
 use Rattle.kc_text.proofs.There.{one_cutting_law}
-use Rattle.kc_read.specs.Expansion.{FileContext, Log, Refused, Rest, NextLine, NextStatement, context_of, is_help, without_help, at_end, unclosed, too_long, no_tokens, blank, bad_line, over_limit, statement, bad_source, refused_inside, source}
-use Rattle.kc_read.specs.Files.{Files}
-use Rattle.kc_diagnostics.specs.Causes.{Cause}
-use Rattle.kc_read.specs.Lines.{LineContext, After, ReadsSource, begins_with, finish, plain_text, text_of}
+use Rattle.kc_language.specs.Expansion.{FileContext, Log, Refused, Rest, NextLine, NextStatement, context_of, is_help, without_help, at_end, unclosed, too_long, no_tokens, blank, bad_line, over_limit, statement, bad_source, refused_inside, source, Files, SourceNames}
+use Rattle.kc_language.specs.Statements.{Cause, LineContext, After, ReadsSource, begins_with, finish, plain_text, text_of, Located, Named, SourceLine}
 use Rattle.kc_read.specs.OpenedFiles.{sourced_files, IsNamedIn, IsNamedByOne, SourcedFilesAreNamed, HasOneListOfNames}
-use Rattle.kc_read.specs.Sources.{SourceNames}
-use Rattle.kc_read.specs.Statements.{Located, Named, SourceLine}
 use Rattle.kc_read.proofs.LineThere.{source_line}
 use Rattle.kc_read.proofs.RestLemmas.{next_less}
 use Rattle.kc_read.proofs.SourceLines.{before_other, before_source, one_list}

@@ -1,8 +1,7 @@
 -- The files that an expansion opens are one list.
 use Rattle.std.proofs.Common.{◌≡◌, ℕ, List, [], Result, Ok, Err, refl, sym, ap, ◌∙◌}
-use Rattle.kc_read.specs.Expansion.{Log, Refused, Expands}
-use Rattle.kc_read.specs.Files.{Files}
-use Rattle.kc_read.specs.OpenedFiles.{AreOpened, OpenedAreOneList}
+use Rattle.kc_language.specs.Expansion.{Log, Refused, Expands, Files, AreOpened}
+use Rattle.kc_read.specs.OpenedFiles.{OpenedAreOneList}
 use Rattle.kc_read.proofs.ExpansionThere.{has_one_expansion}
 use Rattle.kc_read.proofs.OneExpansion.{one_expansion_law}
 

@@ -2,21 +2,17 @@
 use Rattle.std.proofs.Common.{◌≡◌, ℕ, true, false, List, [], ◌∷◌, drop, Option, Some, None, Result, Ok, IfErr, IsErrAnd, Err, codes, refl, sym, ap, subst, inl, inr, Bool}
 use Rattle.std.specs.Prelude.{is_some}
 use Rattle.std.proofs.lemmas.Result.{err_from_is_err_and}
-use Rattle.kc_text.specs.Escapes.{unescape}
-use Rattle.kc_text.specs.Lexemes.{Lexeme, AWord, AQuoted}
-use Rattle.kc_expr.specs.declared.expression.SymId.{SymId}
-use Rattle.kc_expr.specs.declared.expression.Tri.{Tri}
-use Rattle.kc_expr.specs.Form.{Form, Text, Symbol, tri_text}
-use Rattle.kc_expr.specs.Value.{tristate_constant}
+use Rattle.kc_language.specs.Text.{unescape}
+use Rattle.kc_language.specs.Tokens.{Lexeme, AWord, AQuoted}
+use Rattle.kc_language.specs.declared.expressions.SymId.{SymId}
+use Rattle.kc_language.specs.declared.expressions.Tri.{Tri}
+use Rattle.kc_language.specs.Expressions.{Form, Text, Symbol, tri_text, tristate_constant, Atom, Disjunction, WordAtom, QuotedAtom, is_tristate_constant, if_word, same_name, mention}
 use Rattle.kc_expr.proofs.ConstantLemmas.{constant_text}
-use Rattle.kc_expr.specs.Grammar.{Atom, Disjunction, WordAtom, QuotedAtom, is_tristate_constant, if_word}
-use Rattle.kc_expr.specs.Names.{IsNumber, same_name, mention}
-use Rattle.kc_diagnostics.specs.declared.cause.Cause.TheVariants as cause
-use Rattle.kc_diagnostics.specs.Causes.{Cause}
-use Rattle.kc_read.specs.Lines.{LineContext, ReadsValue, front, begins_with, operand_of, IsWhole, IsCondition, WholeFault, ConditionFault, ExpressionFault, text_of, word_of, named_target, is_pattern, is_good_name, ReadsTextLine, ReadsSource, ReadsConfig, ReadsPrompt, ReadsDepends, ReadsTarget, ReadsVisible, ReadsType, ReadsRange, ReadsRest, ReadsLine, IsMore, keyword_of, placement_cause, option_line}
-use Rattle.kc_expr.specs.declared.expression.SymbolType.{SymbolType}
-use Rattle.kc_read.specs.declared.statement.Keyword.{Keyword}
-use Rattle.kc_read.specs.Statements.{Named, InputPrompt, SourceLine, ConfigLine, DependsLine, VisibleLine, ModulesLine, IgnoredLine, TypeLine, RangeLine}
+use Rattle.kc_expr.specs.Names.{IsNumber}
+use Rattle.kc_language.specs.declared.diagnostics.Cause.TheVariants as cause
+use Rattle.kc_language.specs.Statements.{Cause, LineContext, ReadsValue, front, begins_with, operand_of, IsWhole, IsCondition, WholeFault, ConditionFault, ExpressionFault, text_of, word_of, named_target, is_pattern, is_good_name, ReadsTextLine, ReadsSource, ReadsConfig, ReadsPrompt, ReadsDepends, ReadsTarget, ReadsVisible, ReadsType, ReadsRange, ReadsRest, ReadsLine, IsMore, keyword_of, placement_cause, option_line, Named, InputPrompt, SourceLine, ConfigLine, DependsLine, VisibleLine, ModulesLine, IgnoredLine, TypeLine, RangeLine}
+use Rattle.kc_language.specs.declared.expressions.SymbolType.{SymbolType}
+use Rattle.kc_language.specs.declared.statements.Keyword.{Keyword}
 use Rattle.kc_read.specs.declared.statement.Statement.{Statement}
 use Rattle.kc_read.specs.LineReads.{LineFault, cause_of, IsFront, IsRead, IsFault, IsOperand, IsWholeForm, IsConditionForm}
 

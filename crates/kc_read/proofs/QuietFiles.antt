@@ -8,17 +8,14 @@ use Rattle.std.proofs.lemmas.List.{take-append-drop}
 use Rattle.std.proofs.lemmas.List.Splits.{join_with_byte-slice_split}
 use Rattle.std.proofs.Math.Seq.{take-append_seam}
 use Rattle.bstr.specs.Find.{OccursAt, Passes, is_byte}
-use Rattle.kc_text.specs.declared.faults.TextFault.{TextFault}
-use Rattle.kc_text.specs.Help.{after_text, column, from_other, is_help_line}
-use Rattle.kc_text.specs.Lexemes.{Lexeme, AWord, AQuoted, AnOp, Spells}
-use Rattle.kc_text.specs.Lines.{IsFirstLine, UnreadLines, Physical, continues, joined_text, unread_lines, lines_of_parts, physical_lines}
-use Rattle.kc_text.specs.Tokens.{IsAtBlank, IsCut, ended as cut_ends, stuck, skipped, taken}
+use Rattle.kc_language.specs.declared.tokens.TextFault.{TextFault}
+use Rattle.kc_language.specs.Lines.{after_text, column, from_other, is_help_line, IsFirstLine, UnreadLines, Physical, continues, joined_text, unread_lines, lines_of_parts, physical_lines}
+use Rattle.kc_language.specs.Tokens.{Lexeme, AWord, AQuoted, AnOp, Spells, IsAtBlank, IsCut, ended as cut_ends, stuck, skipped, taken}
 use Rattle.kc_text.proofs.Physicals.{lf}
-use Rattle.kc_read.specs.Expansion.{NextLine, is_help, without_help}
-use Rattle.kc_read.specs.Lines.{begins_with}
+use Rattle.kc_language.specs.Expansion.{NextLine, is_help, without_help, IsSource, SourceNames, none, here, past}
+use Rattle.kc_language.specs.Statements.{begins_with}
 use Rattle.kc_read.specs.QuietFiles.{AreAllBlank, BeginsLine, EndsLine, EndsLineBefore, HasNoJoin, HasNoSource, IsQuiet}
-use Rattle.kc_read.specs.Sources.{IsSource, SourceNames, none, here, past}
-use Rattle.kc_read.specs.Sources as spec
+use Rattle.kc_language.specs.Expansion as spec
 use Rattle.kc_read.proofs.FileLemmas.{same_name_eq}
 
 -- ---- What a search that finds something says

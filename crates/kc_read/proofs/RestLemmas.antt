@@ -2,30 +2,26 @@
 use Rattle.std.specs.Bool.{⊤}
 use Rattle.std.proofs.Common.{IfErr, IsErrAnd, take, ◌≡◌, ◌≢◌, ℕ, ◌-◌, ◌<◌, Bool, true, false, cond, List, [], ◌∷◌, ◌++◌, length, Option, Some, None, Result, Ok, Err, refl, sym, ap, ◌∙◌, subst, map, arith, append-nil}
 use Rattle.std.proofs.lemmas.Result.{err_from_is_err_and}
-use Rattle.kc_text.specs.Lines.{UnreadLines, unread_lines}
-use Rattle.kc_text.specs.Lexemes.{Lexeme}
-use Rattle.kc_text.specs.declared.faults.TextFault.{TextFault}
+use Rattle.kc_language.specs.Lines.{UnreadLines, unread_lines}
+use Rattle.kc_language.specs.Tokens.{Lexeme}
+use Rattle.kc_language.specs.declared.tokens.TextFault.{TextFault}
 use Rattle.kc_text.proofs.Helps.{after_help-le}
 use Rattle.kc_text.proofs.Joins.{takes_less}
 use Rattle.kc_read.specs.declared.frame.Frame.{Frame}
 use Rattle.kc_read.specs.declared.progress.Progress.{Progress}
-use Rattle.kc_diagnostics.specs.declared.cause.Cause.TheVariants as cause
+use Rattle.kc_language.specs.declared.diagnostics.Cause.TheVariants as cause
 use Rattle.kc_read.specs.declared.refusal.Refusal.{Refusal}
 use Rattle.kc_diagnostics.proofs.CauseLemmas.{no_other_memory}
-use Rattle.kc_read.specs.declared.statement.EntryKind.TheVariants as entry
+use Rattle.kc_language.specs.declared.statements.EntryKind.TheVariants as entry
 use Rattle.kc_read.specs.declared.statement.Attribute.{Attribute}
 use Rattle.kc_read.specs.declared.statement.Statement.{Statement}
 use Rattle.kc_read.specs.declared.statement.Statement.TheVariants as made
-use Rattle.kc_read.specs.Blocks.{entry_of, is_attribute, last_no_attribute, last_of}
+use Rattle.kc_language.specs.Expansion.{entry_of, is_attribute, last_no_attribute, last_of, FileContext, Log, Rest, refused, context_of, inside, is_help, is_source, logged, with_file, source_cause, sourcing_cause, with_line, without_help, NextLine, NextStatement, at_end, unclosed, too_long, no_tokens, blank, bad_line, over_limit, statement, bad_source, refused_inside, source, Files}
 use Rattle.kc_read.specs.Entries.{IsLastFile}
-use Rattle.kc_read.specs.Expansion.{FileContext, Log, Rest, refused, context_of, inside, is_help, is_source, logged, with_file, source_cause, sourcing_cause, with_line, without_help, NextLine, NextStatement, at_end, unclosed, too_long, no_tokens, blank, bad_line, over_limit, statement, bad_source, refused_inside, source}
-use Rattle.kc_read.specs.Files.{Files}
-use Rattle.kc_diagnostics.specs.Causes.{Cause}
-use Rattle.kc_read.specs.Lines.{LineContext, is_config, is_entry}
+use Rattle.kc_language.specs.Statements.{Cause, LineContext, is_config, is_entry, Located, Named, SourceLine, statements}
 use Rattle.kc_read.specs.Progress.{HasAdvanced, IsNextRead, IsReading, IsStatementRead, IsEnded, IsFileRead, IsOpenAtEnd, IsProgress, IsRestRefusal, IsState, IsTaken, limit_view, open_names}
 use Rattle.kc_read.specs.StatementViews.{statement_view}
 use Rattle.kc_read.specs.LineReads.{LineFault, IsMade, cause_of}
-use Rattle.kc_read.specs.Statements.{Located, Named, SourceLine, statements}
 use Rattle.kc_read.specs.RefusalView.{refusal_view}
 use Rattle.kc_read.specs.NextStep.{IsStepRefusal, StepFault}
 use Rattle.kc_read.specs.NextStep as step

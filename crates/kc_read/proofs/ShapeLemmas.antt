@@ -3,17 +3,16 @@ use Rattle.std.specs.declared.vec.Vec.{Vec}
 use Rattle.std.specs.declared.alloc.Global.{Global}
 use Rattle.std.proofs.Common.{◌≡◌, ℕ, ◌+◌, Bool, false, List, length, Option, Some, None, option_map, refl, sym, ap, ◌∙◌}
 use Rattle.std.specs.Option.{option_or}
-use Rattle.kc_expr.specs.Names.{symbol, number_of}
-use Rattle.kc_read.specs.declared.statement.EntryKind.{EntryKind}
+use Rattle.kc_language.specs.Expressions.{symbol, number_of}
+use Rattle.kc_language.specs.declared.statements.EntryKind.{EntryKind}
 use Rattle.kc_read.specs.declared.statement.Statement.{Statement}
-use Rattle.kc_read.specs.Blocks.{Bracket, bracket, is_attribute, is_modules, entry_of, defined_name, open_blocks}
-use Rattle.kc_read.specs.Expansion.{FileContext, Log, defined, limit_cause, nesting_cause, symbol_cause, is_source}
+use Rattle.kc_language.specs.Expansion.{Bracket, bracket, is_attribute, is_modules, entry_of, defined_name, open_blocks, FileContext, Log, defined, limit_cause, nesting_cause, symbol_cause, is_source}
 use Rattle.kc_read.specs.Progress.{naming_cause}
 use Rattle.kc_read.specs.Expanded.{IsNamed}
 use Rattle.kc_read.specs.StatementViews.{statement_view}
 use Rattle.kc_read.specs.LineReads.{IsMade}
-use Rattle.kc_read.specs.Statements as s
-use Rattle.kc_read.specs.Statements.{Named, Located, numbered, ConfigLine, IfLine, EndIfLine, CommentLine, SourceLine, MenuLine, EndMenuLine, ChoiceLine, EndChoiceLine, MainMenuLine, TypeLine, PromptLine, DefaultLine, DefLine, DependsLine, VisibleLine, SelectLine, ImplyLine, RangeLine, HelpLine, ModulesLine, IgnoredLine, statements}
+use Rattle.kc_language.specs.Statements as s
+use Rattle.kc_language.specs.Statements.{Named, Located, numbered, ConfigLine, IfLine, EndIfLine, CommentLine, SourceLine, MenuLine, EndMenuLine, ChoiceLine, EndChoiceLine, MainMenuLine, TypeLine, PromptLine, DefaultLine, DefLine, DependsLine, VisibleLine, SelectLine, ImplyLine, RangeLine, HelpLine, ModulesLine, IgnoredLine, statements}
 use Rattle.kc_read.proofs.NameLemmas.{extends_none, is_named}
 
 -- the bracket, whether it is an attribute, the entry that it begins, whether it is a `modules` line, and a `source` line

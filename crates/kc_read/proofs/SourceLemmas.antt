@@ -1,18 +1,17 @@
 -- The names of a file's `source` lines, one line after another.
 use Rattle.std.proofs.Common.{IfOk, ◌≡◌, ◌≢◌, ℕ, ◌<◌, Bool, true, cond, List, [], ◌∷◌, ◌++◌, map, length, drop, codes, Option, Some, None, MatchOption, Result, Ok, Err, refl, sym, ap, ◌∙◌, subst, append_assoc}
-use Rattle.kc_text.specs.declared.faults.TextFault.{TextFault}
-use Rattle.kc_text.specs.declared.faults.TextFault.TheVariants as fault
+use Rattle.kc_language.specs.declared.tokens.TextFault.{TextFault}
+use Rattle.kc_language.specs.declared.tokens.TextFault.TheVariants as fault
 use Rattle.kc_text.specs.declared.tokens.Token.{Token}
-use Rattle.kc_text.specs.Lines.{UnreadLines, TakesLine, IsLineFault}
-use Rattle.kc_text.specs.Lexemes.{Lexeme, lexemes}
-use Rattle.kc_text.specs.Tokens.{IsCut, IsCutting, IsRefused}
+use Rattle.kc_language.specs.Lines.{UnreadLines, TakesLine}
+use Rattle.kc_text.specs.Lines.{IsLineFault}
+use Rattle.kc_language.specs.Tokens.{Lexeme, IsCut}
+use Rattle.kc_text.specs.Lexemes.{lexemes}
+use Rattle.kc_text.specs.Tokens.{IsCutting, IsRefused}
 use Rattle.kc_read.specs.LineReads.{lexemes_from}
-use Rattle.kc_read.specs.Expansion.{NextLine, is_help, without_help}
-use Rattle.kc_diagnostics.specs.Causes.{Cause}
-use Rattle.kc_read.specs.Lines.{ReadsSource, begins_with}
-use Rattle.kc_read.specs.Sources.{SourceNames}
+use Rattle.kc_language.specs.Expansion.{NextLine, is_help, without_help, SourceNames}
+use Rattle.kc_language.specs.Statements.{Cause, ReadsSource, begins_with, SourceLine}
 use Rattle.kc_read.specs.SourceSteps.{HasMoreLines, IsFound}
-use Rattle.kc_read.specs.Statements.{SourceLine}
 use Rattle.kc_read.proofs.FrontLemmas.{after_one}
 use Rattle.std.specs.declared.alloc.AllocError.{AllocError}
 use Rattle.kc_read.proofs.ListLemmas.{map-push}

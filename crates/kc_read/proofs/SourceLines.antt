@@ -1,15 +1,12 @@
 -- The `source` lines along a file: the first of them, and so the list of their names, is one.
 use Rattle.std.proofs.Common.{◌≡◌, ℕ, true, false, List, [], ◌∷◌, Some, None, Ok, Err, refl, sym, ap, ◌∙◌, subst, arith, codes, drop, length}
 use Rattle.std.proofs.lemmas.Bool.{both_ways}
-use Rattle.kc_text.specs.declared.faults.TextFault.{TextFault}
-use Rattle.kc_text.specs.Lines.{UnreadLines, IsTooLong}
-use Rattle.kc_text.specs.Lexemes.{Lexeme}
+use Rattle.kc_language.specs.declared.tokens.TextFault.{TextFault}
+use Rattle.kc_language.specs.Lines.{UnreadLines, IsTooLong}
+use Rattle.kc_language.specs.Tokens.{Lexeme}
 use Rattle.kc_text.proofs.Joins.{takes_less, taken_is_short}
-use Rattle.kc_read.specs.Expansion.{NextLine}
-use Rattle.kc_diagnostics.specs.Causes.{Cause}
-use Rattle.kc_read.specs.Lines.{ReadsSource, begins_with}
-use Rattle.kc_read.specs.Sources.{IsOther, IsSource, SourceNames, Passes, here, past, none, next}
-use Rattle.kc_read.specs.Statements.{SourceLine}
+use Rattle.kc_language.specs.Expansion.{NextLine, IsOther, IsSource, SourceNames, Passes, here, past, none, next}
+use Rattle.kc_language.specs.Statements.{Cause, ReadsSource, begins_with, SourceLine}
 use Rattle.kc_read.proofs.OneExpansion.{one_name, one_next, source_line}
 use Rattle.kc_read.proofs.OneLine.{one_source}
 

@@ -5,7 +5,7 @@ use Rattle.std.proofs.lemmas.List.{get_or-append-add, get_or_append_left, take-a
 use Rattle.std.proofs.Math.Seq.{get_or-append_seam, take-append_seam, drop-append_seam, take-length}
 use Rattle.bstr.specs.Bytes.{not_in}
 use Rattle.bstr.specs.Find.{NoneAfter, Nowhere, OccursAt, Passes, is_byte}
-use Rattle.kc_text.specs.Lexemes.{is_blank}
+use Rattle.kc_language.specs.Tokens.{is_blank}
 use Rattle.kc_text.proofs.Blanks.{blanks, fails_not, not_in_is, passes_not}
 use Rattle.kc_read.specs.QuietFiles.{BeginsLine, EndsLine}
 

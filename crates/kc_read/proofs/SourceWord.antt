@@ -2,17 +2,14 @@
 use Rattle.std.proofs.Common.{◌≡◌, inl, inr, ℕ, Bool, true, false, cond, List, [], ◌∷◌, drop, codes, Option, Some, None, Result, Ok, Err, refl, ap, ◌∙◌, subst}
 use Rattle.std.proofs.lemmas.Bool.{cases_Bool}
 use Rattle.std.specs.Option.{option_or}
-use Rattle.kc_text.specs.Lexemes.{Lexeme, AWord, AQuoted, AnOp}
-use Rattle.kc_expr.specs.declared.expression.SymbolType.{SymbolType}
-use Rattle.kc_expr.specs.declared.expression.SymbolType.TheVariants as symbol_type
-use Rattle.kc_expr.specs.Grammar.{Disjunction, if_word}
-use Rattle.kc_expr.specs.Names.{same_name}
-use Rattle.kc_read.specs.declared.statement.Keyword.{Keyword}
-use Rattle.kc_read.specs.declared.statement.Keyword.TheVariants as key
-use Rattle.kc_read.specs.Statements.{Named, InputPrompt, IfLine, EndIfLine, CommentLine, SourceLine, MenuLine, EndMenuLine, EndChoiceLine, MainMenuLine, TypeLine, PromptLine, DefaultLine, DefLine, DependsLine, VisibleLine, SelectLine, ImplyLine, RangeLine, HelpLine, ModulesLine, ConfigLine, IgnoredLine}
-use Rattle.kc_diagnostics.specs.declared.cause.Cause.TheVariants as cause
-use Rattle.kc_diagnostics.specs.Causes.{Cause}
-use Rattle.kc_read.specs.Lines.{LineContext, After, ReadsWhole, ReadsCondition, ReadsTextLine, ReadsSource, ReadsConfig, ReadsPrompt, ReadsType, ReadsValue, ReadsTarget, ReadsRange, ReadsRest, ReadsPlaced, ReadsLine, finish, text_of, word_of, named_target, operand_of, good_name, is_good_name, choice_line, option_line, expected, block_words, type_words, attribute_words, left_out_words, keyword_in, keyword_of, keyword_or_refusal, in_place, placement_cause, begins_with}
+use Rattle.kc_language.specs.Tokens.{Lexeme, AWord, AQuoted, AnOp}
+use Rattle.kc_language.specs.declared.expressions.SymbolType.{SymbolType}
+use Rattle.kc_language.specs.declared.expressions.SymbolType.TheVariants as symbol_type
+use Rattle.kc_language.specs.Expressions.{Disjunction, if_word, same_name}
+use Rattle.kc_language.specs.declared.statements.Keyword.{Keyword}
+use Rattle.kc_language.specs.declared.statements.Keyword.TheVariants as key
+use Rattle.kc_language.specs.Statements.{Named, InputPrompt, IfLine, EndIfLine, CommentLine, SourceLine, MenuLine, EndMenuLine, EndChoiceLine, MainMenuLine, TypeLine, PromptLine, DefaultLine, DefLine, DependsLine, VisibleLine, SelectLine, ImplyLine, RangeLine, HelpLine, ModulesLine, ConfigLine, IgnoredLine, Cause, LineContext, After, ReadsWhole, ReadsCondition, ReadsTextLine, ReadsSource, ReadsConfig, ReadsPrompt, ReadsType, ReadsValue, ReadsTarget, ReadsRange, ReadsRest, ReadsPlaced, ReadsLine, finish, text_of, word_of, named_target, operand_of, good_name, is_good_name, choice_line, option_line, expected, block_words, type_words, attribute_words, left_out_words, keyword_in, keyword_of, keyword_or_refusal, in_place, placement_cause, begins_with}
+use Rattle.kc_language.specs.declared.diagnostics.Cause.TheVariants as cause
 use Rattle.kc_read.proofs.FileLemmas.{same_name_eq}
 use Rattle.kc_read.proofs.KeywordLemmas.{keyword_in_turn}
 use Rattle.kc_read.proofs.OneExpansion.{source_line}

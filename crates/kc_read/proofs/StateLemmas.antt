@@ -7,25 +7,21 @@ use Rattle.std.proofs.Math.ListN.{length-map}
 use Rattle.std.proofs.lemmas.Grind.{flat_map-append}
 use Rattle.std.proofs.lemmas.List.Elements.{filter-append, filter_map-append}
 use Rattle.std.proofs.lemmas.List.Folds.{list_any-append}
-use Rattle.kc_expr.specs.Names.{all_mentioned, mention, number_of, symbol, Extends}
+use Rattle.kc_language.specs.Expressions.{all_mentioned, mention, number_of, symbol}
+use Rattle.kc_expr.specs.Names.{Extends}
 use Rattle.kc_expr.proofs.NamesLemmas.{extends_on, mentioned_on, mentioned_extends, all_mentioned-append}
 use Rattle.kc_read.specs.declared.frame.Frame.{Frame}
 use Rattle.kc_read.specs.declared.progress.Progress.{Progress}
 use Rattle.kc_read.specs.declared.statement.Statement.{Statement}
-use Rattle.kc_read.specs.Blocks.{bracket, definitions, entry_of, is_attribute, is_modules, is_no_attribute, last_of, last_no_attribute, modules_of, defined_name, open_blocks}
+use Rattle.kc_language.specs.Expansion.{bracket, definitions, entry_of, is_attribute, is_modules, is_no_attribute, last_of, last_no_attribute, modules_of, defined_name, open_blocks, FileContext, Log, Rest, context_of, limit_cause, nesting_cause, defined, inside, is_choice, lines_of, logged, with_file, with_line, Expands, Refused, bytes_cause, nothing_read, refused, root_context, Files, located_numbered}
 use Rattle.kc_read.proofs.ModulesLemmas.{marked_push, modules_of_push}
-use Rattle.kc_read.specs.Expansion.{FileContext, Log, Rest, context_of, limit_cause, nesting_cause, defined, inside, is_choice, lines_of, logged, with_file, with_line, Expands, Refused, bytes_cause, nothing_read, refused, root_context}
-use Rattle.kc_read.specs.Files.{Files}
-use Rattle.kc_diagnostics.specs.Causes.{Cause}
-use Rattle.kc_read.specs.Lines.{LineContext, is_config}
-use Rattle.kc_text.specs.Lines.{unread_lines}
-use Rattle.kc_read.specs.Numbering.{located_numbered}
+use Rattle.kc_language.specs.Statements.{Cause, LineContext, is_config, Numbered, Located, Named, ConfigLine, names_in_statement, statements}
+use Rattle.kc_language.specs.Lines.{unread_lines}
 use Rattle.kc_read.specs.Progress.{limit_view, IsEntered, IsFrame, IsSourcedFrame, IsProgress, IsState, IsTaken, IsBegun, defined_after, entry_after, ids_match, open_blocks_after}
 use Rattle.kc_read.specs.Expanded.{IsNamed}
 use Rattle.kc_read.specs.Entries.{lines_in, IsLastFile}
 use Rattle.kc_read.specs.StatementViews.{statement_view}
 use Rattle.kc_read.specs.LineReads.{IsMade}
-use Rattle.kc_read.specs.Statements.{Numbered, Located, Named, ConfigLine, names_in_statement, statements}
 use Rattle.kc_read.proofs.BlockLemmas.{blocks_of_located, located_blocks_push}
 use Rattle.kc_read.proofs.ListLemmas.{last_of-map, last_of-push, list_any-map, map-push}
 use Rattle.kc_read.proofs.NameLemmas.{defining_same, match_same, named_if, named_later, named_or, numbers_after}

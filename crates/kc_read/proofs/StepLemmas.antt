@@ -1,23 +1,23 @@
 -- The next line of a file.
 use Rattle.std.proofs.Common.{◌≡◌, ◌≢◌, ℕ, Bool, true, false, cond, List, [], ◌∷◌, codes, Option, Some, None, Result, Err, refl, sym, ap, ◌∙◌}
 use Rattle.std.specs.Prelude.{MatchOption}
-use Rattle.kc_text.specs.declared.faults.TextFault.{TextFault}
-use Rattle.kc_text.specs.declared.faults.TextFault.TheVariants as fault
-use Rattle.kc_text.specs.Lines.{UnreadLines, TakesLine, IsLineFault}
-use Rattle.kc_text.specs.Help.{Drops, after_help}
-use Rattle.kc_text.specs.Tokens.{IsCut, IsCutting, IsRefused}
+use Rattle.kc_language.specs.declared.tokens.TextFault.{TextFault}
+use Rattle.kc_language.specs.declared.tokens.TextFault.TheVariants as fault
+use Rattle.kc_language.specs.Lines.{UnreadLines, TakesLine, after_help}
+use Rattle.kc_text.specs.Lines.{IsLineFault}
+use Rattle.kc_text.specs.Help.{Drops}
+use Rattle.kc_language.specs.Tokens.{IsCut, Lexeme}
+use Rattle.kc_text.specs.Tokens.{IsCutting, IsRefused}
 use Rattle.kc_read.specs.declared.refusal.Refusal.{Refusal}
 use Rattle.kc_diagnostics.proofs.CauseLemmas.{no_other_memory}
-use Rattle.kc_diagnostics.specs.declared.cause.Cause.TheVariants as cause
-use Rattle.kc_read.specs.Statements.{Named}
+use Rattle.kc_language.specs.declared.diagnostics.Cause.TheVariants as cause
+use Rattle.kc_language.specs.Statements.{Named, Cause, LineContext, begins_with, ReadsLine}
 use Rattle.kc_read.specs.LineReads.{LineFault, IsFault, cause_of, lexemes_from}
 use Rattle.kc_read.specs.RefusalView.{refusal_view}
 use Rattle.kc_read.specs.NextStep.{IsStepRefusal, StepFault, too_long, no_tokens, refused_line, long_line}
-use Rattle.kc_text.specs.Lexemes.{Lexeme, lexemes}
+use Rattle.kc_text.specs.Lexemes.{lexemes}
 use Rattle.kc_text.specs.declared.tokens.Token.{Token}
-use Rattle.kc_diagnostics.specs.Causes.{Cause}
-use Rattle.kc_read.specs.Lines.{LineContext, begins_with, ReadsLine}
-use Rattle.kc_read.specs.Expansion.{is_help, without_help, NextStatement, refused, text_cause}
+use Rattle.kc_language.specs.Expansion.{is_help, without_help, NextStatement, refused, text_cause}
 
 pub help_first : (ls : List Lexeme) (b : Bool) → b ≡ begins_with (codes "help") ls → b ≡ true → b ≡ is_help ls
 help_first ls b e t = let h : begins_with (codes "help") ls ≡ true = sym e ∙ t in rw h t

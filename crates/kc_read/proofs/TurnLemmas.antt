@@ -1,18 +1,16 @@
 -- What a line that is read asks of its context.
 use Rattle.std.proofs.Common.{◌≡◌, ℕ, Bool, true, false, ◌&&◌, ◌||◌, if◌then◌else◌, not, List, [], ◌∷◌, drop, Option, Some, None, Result, Ok, Err, refl, ap, sym, ◌∙◌, subst, inl, inr, codes}
-use Rattle.kc_text.specs.Lexemes.{Lexeme}
-use Rattle.kc_expr.specs.declared.expression.SymbolType.{SymbolType}
-use Rattle.kc_expr.specs.Grammar.{Disjunction, if_word}
-use Rattle.kc_read.specs.declared.statement.Block.{Block}
-use Rattle.kc_read.specs.declared.statement.Block.TheVariants as block
-use Rattle.kc_read.specs.declared.statement.EntryKind.{EntryKind}
-use Rattle.kc_read.specs.declared.statement.EntryKind.TheVariants as entry
-use Rattle.kc_read.specs.declared.statement.Keyword.{Keyword}
-use Rattle.kc_read.specs.declared.statement.Keyword.TheVariants as key
-use Rattle.kc_read.specs.Statements.{Statement, Named, InputPrompt, ConfigLine, IfLine, EndIfLine, CommentLine, SourceLine, MenuLine, EndMenuLine, ChoiceLine, EndChoiceLine, MainMenuLine, TypeLine, PromptLine, DefaultLine, DefLine, DependsLine, VisibleLine, SelectLine, ImplyLine, RangeLine, HelpLine, ModulesLine, IgnoredLine}
-use Rattle.kc_diagnostics.specs.Causes.{Cause}
-use Rattle.kc_read.specs.Lines.{LineContext, placement_cause, closing_cause, unless_placed, type_placement, is_choice, is_config, is_entry, is_menu, After, finish, ReadsLine, ReadsPlaced, ReadsRest, ReadsWhole, ReadsCondition, ReadsTextLine, ReadsSource, ReadsConfig, ReadsPrompt, ReadsType, ReadsValue, ReadsDepends, ReadsVisible, ReadsTarget, ReadsRange, option_line, choice_line, good_name, is_good_name, begins_with, text_of, plain_text, word_of, named_target, operand_of, expected, keyword_of, keyword_or_refusal, in_place}
-use Rattle.kc_read.specs.Blocks.{is_attribute, is_modules}
+use Rattle.kc_language.specs.Tokens.{Lexeme}
+use Rattle.kc_language.specs.declared.expressions.SymbolType.{SymbolType}
+use Rattle.kc_language.specs.Expressions.{Disjunction, if_word}
+use Rattle.kc_language.specs.declared.statements.Block.{Block}
+use Rattle.kc_language.specs.declared.statements.Block.TheVariants as block
+use Rattle.kc_language.specs.declared.statements.EntryKind.{EntryKind}
+use Rattle.kc_language.specs.declared.statements.EntryKind.TheVariants as entry
+use Rattle.kc_language.specs.declared.statements.Keyword.{Keyword}
+use Rattle.kc_language.specs.declared.statements.Keyword.TheVariants as key
+use Rattle.kc_language.specs.Statements.{Statement, Named, InputPrompt, ConfigLine, IfLine, EndIfLine, CommentLine, SourceLine, MenuLine, EndMenuLine, ChoiceLine, EndChoiceLine, MainMenuLine, TypeLine, PromptLine, DefaultLine, DefLine, DependsLine, VisibleLine, SelectLine, ImplyLine, RangeLine, HelpLine, ModulesLine, IgnoredLine, Cause, LineContext, placement_cause, closing_cause, unless_placed, type_placement, is_choice, is_config, is_entry, is_menu, After, finish, ReadsLine, ReadsPlaced, ReadsRest, ReadsWhole, ReadsCondition, ReadsTextLine, ReadsSource, ReadsConfig, ReadsPrompt, ReadsType, ReadsValue, ReadsDepends, ReadsVisible, ReadsTarget, ReadsRange, option_line, choice_line, good_name, is_good_name, begins_with, text_of, plain_text, word_of, named_target, operand_of, expected, keyword_of, keyword_or_refusal, in_place}
+use Rattle.kc_language.specs.Expansion.{is_attribute, is_modules}
 
 -- What a line asks: that no enclosing block is a choice; that the innermost is of this kind; that its
 -- entry is a `config` entry; that it has an entry.

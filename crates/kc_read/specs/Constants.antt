@@ -1,7 +1,7 @@
 -- For proofs: The expressions that are one of the constants n, m and y alone.
 use Rattle.std.specs.Prelude.{Bool, true, false}
-use Rattle.kc_expr.specs.declared.expression.Tri.{Tri}
-use Rattle.kc_expr.specs.declared.expression.Tri.TheVariants.{N, M, Y}
+use Rattle.kc_language.specs.declared.expressions.Tri.{Tri}
+use Rattle.kc_language.specs.declared.expressions.Tri.TheVariants.{N, M, Y}
 use Rattle.kc_expr.specs.declared.expression.Operand.{Operand}
 use Rattle.kc_expr.specs.declared.expression.Operand.TheVariants.{TristateConstant}
 use Rattle.kc_expr.specs.declared.expression.Expr.{Expr}

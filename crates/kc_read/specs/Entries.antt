@@ -6,9 +6,9 @@ use Rattle.kc_read.specs.declared.entries.Entry.{Entry}
 use Rattle.kc_read.specs.declared.entries.EntryLines.{EntryLines}
 use Rattle.kc_read.specs.declared.statement.Attribute.{Attribute}
 use Rattle.kc_read.specs.declared.statement.Head.{Head}
-use Rattle.kc_read.specs.Blocks.{last_of}
+use Rattle.kc_language.specs.Expansion.{last_of}
 use Rattle.kc_read.specs.EntryStarts.{start_of}
-use Rattle.kc_read.specs.Statements.{Numbered, Located}
+use Rattle.kc_language.specs.Statements.{Numbered, Located}
 use Rattle.kc_read.specs.StatementViews.{attribute_view, head_view}
 
 -- a line and where it stands

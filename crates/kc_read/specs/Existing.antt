@@ -1,7 +1,6 @@
 -- Trusted: That a root file has an expansion, and one.
 use Rattle.std.specs.Prelude.{◌≡◌, ℕ, List, Result}
-use Rattle.kc_read.specs.Expansion.{Log, Refused, Expands}
-use Rattle.kc_read.specs.Files.{Files}
+use Rattle.kc_language.specs.Expansion.{Log, Refused, Expands, Files}
 
 -- over any files a root file gives a list or a refusal, and nothing else
 abbrev pub HasOneExpansion : Type 0

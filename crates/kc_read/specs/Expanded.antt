@@ -1,15 +1,14 @@
 -- Trusted: The expanded list that was read.
 use Rattle.std.specs.Prelude.{◌≡◌, ℕ, List, map, Option, Some, None}
 use Rattle.std.specs.List.{flat_map}
-use Rattle.kc_expr.specs.declared.expression.SymId.{SymId}
-use Rattle.kc_expr.specs.Names.{all_mentioned, symbol, IsNumber}
+use Rattle.kc_language.specs.declared.expressions.SymId.{SymId}
+use Rattle.kc_language.specs.Expressions.{all_mentioned, symbol}
+use Rattle.kc_expr.specs.Names.{IsNumber}
 use Rattle.kc_read.specs.declared.expansion.Expansion.{Expansion}
-use Rattle.kc_read.specs.Blocks.{modules_of}
-use Rattle.kc_read.specs.Expansion.{Log, defined}
-use Rattle.kc_read.specs.Numbering.{located_numbered}
+use Rattle.kc_language.specs.Expansion.{modules_of, Log, defined, located_numbered}
 use Rattle.kc_read.specs.Entries.{lines_in}
 use Rattle.kc_read.specs.StatementViews.{ForLater}
-use Rattle.kc_read.specs.Statements.{names_in_statement, statements}
+use Rattle.kc_language.specs.Statements.{names_in_statement, statements}
 
 -- the number of a name, where there is a name
 abbrev pub IsNamed : List (List ℕ) → Option SymId → Option (List ℕ) → Type 0

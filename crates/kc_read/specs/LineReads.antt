@@ -1,20 +1,18 @@
 -- For proofs: What the calls that read a line answer.
 use Rattle.std.specs.Borrow.{Bor}
 use Rattle.std.specs.Prelude.{◌≡◌, ◌≢◌, ℕ, ◌+◌, ◌<◌, List, [], ◌∷◌, length, drop, Bool, true, false, Option, Some, None, Result, Ok, Err, option_map}
-use Rattle.kc_expr.specs.Form.{Form, Leaf}
-use Rattle.kc_expr.specs.Grammar.{Disjunction, Atom, leaf, meaning_or, names_in, names_in_atom}
-use Rattle.kc_expr.specs.Names.{all_mentioned}
+use Rattle.kc_language.specs.Expressions.{Form, Leaf, Disjunction, Atom, leaf, meaning_or, names_in, names_in_atom, all_mentioned}
 use Rattle.kc_expr.specs.declared.parse.ExprFault.{ExprFault}
 use Rattle.kc_expr.specs.declared.parse.ExprFault.TheVariants as expr
-use Rattle.kc_text.specs.Escapes.{unescape}
-use Rattle.kc_text.specs.Lexemes.{Lexeme, lexeme, lexemes}
+use Rattle.kc_language.specs.Text.{unescape}
+use Rattle.kc_language.specs.Tokens.{Lexeme}
+use Rattle.kc_text.specs.Lexemes.{lexeme, lexemes}
 use Rattle.kc_text.specs.declared.tokens.Token.{Token}
-use Rattle.kc_diagnostics.specs.declared.cause.Cause.TheVariants as cause
+use Rattle.kc_language.specs.declared.diagnostics.Cause.TheVariants as cause
 use Rattle.kc_read.specs.declared.statement.Statement.{Statement}
-use Rattle.kc_read.specs.Statements.{Named, numbered, names_in_statement, names_in_condition}
-use Rattle.kc_diagnostics.specs.Causes.{Cause, shown_cause}
-use Rattle.kc_diagnostics.specs.declared.cause.Cause as declared
-use Rattle.kc_read.specs.Lines.{front, StartsExpression, IsWhole, IsCondition}
+use Rattle.kc_language.specs.Statements.{Named, numbered, names_in_statement, names_in_condition, Cause, front, StartsExpression, IsWhole, IsCondition}
+use Rattle.kc_diagnostics.specs.Causes.{shown_cause}
+use Rattle.kc_language.specs.declared.diagnostics.Cause as declared
 use Rattle.kc_read.specs.StatementViews.{ForLater, statement_view}
 
 -- the tokens from a place on

@@ -1,19 +1,16 @@
 -- For proofs: What the next line of a file is.
 use Rattle.std.specs.Prelude.{◌≡◌, ◌≢◌, ℕ, List, [], Some, None, Ok, Err}
-use Rattle.kc_text.specs.Lines.{UnreadLines}
+use Rattle.kc_language.specs.Lines.{UnreadLines, IsTooLong}
 use Rattle.kc_read.specs.declared.refusal.Refusal.{Refusal}
-use Rattle.kc_diagnostics.specs.declared.cause.Cause.TheVariants as cause
+use Rattle.kc_language.specs.declared.diagnostics.Cause.TheVariants as cause
 use Rattle.kc_read.specs.declared.step.Step.{Step}
 use Rattle.kc_read.specs.declared.step.Step.TheVariants as step
-use Rattle.kc_read.specs.Statements.{Named}
-use Rattle.kc_diagnostics.specs.Causes.{Cause}
-use Rattle.kc_read.specs.Lines.{LineContext}
-use Rattle.kc_read.specs.Expansion.{refused, NextLine, NextStatement, text_cause}
+use Rattle.kc_language.specs.Statements.{Named, Cause, LineContext}
+use Rattle.kc_language.specs.Expansion.{refused, NextLine, NextStatement, text_cause}
 use Rattle.kc_read.specs.LineReads.{IsMade}
-use Rattle.kc_text.specs.Lines.{IsTooLong}
-use Rattle.kc_text.specs.Lexemes.{Lexeme}
-use Rattle.kc_text.specs.declared.faults.TextFault.{TextFault}
-use Rattle.kc_text.specs.declared.faults.TextFault.TheVariants as fault
+use Rattle.kc_language.specs.Tokens.{Lexeme}
+use Rattle.kc_language.specs.declared.tokens.TextFault.{TextFault}
+use Rattle.kc_language.specs.declared.tokens.TextFault.TheVariants as fault
 use Rattle.kc_read.specs.RefusalView.{refusal_view}
 
 -- the number of a line that is too long

@@ -1,15 +1,9 @@
 -- Trusted: The files that an expansion opens.
-use Rattle.std.specs.Prelude.{◌≡◌, ℕ, List, [], ◌∷◌, ◌++◌, Some, Ok, Result}
 use Rattle.std.specs.List.{Contains}
-use Rattle.kc_text.specs.Lines.{UnreadLines, unread_lines}
-use Rattle.kc_read.specs.Expansion.{FileContext, Log, Refused, Rest, Expands, at_end, unclosed, too_long, no_tokens, blank, bad_line, over_limit, statement, bad_source, refused_inside, source, root_context, with_file, nothing_read}
-use Rattle.kc_read.specs.Files.{Files}
-use Rattle.kc_read.specs.Sources.{SourceNames}
-use Rattle.kc_read.specs.Statements.{Located, Named}
-
--- Where the root file is accepted, these are the files that are opened, each once, in the order of their first opening.
-abbrev pub AreOpened : Files → List ℕ → List (List ℕ) → Type 0
-AreOpened files root names = (log : Log) → Expands files root (Ok log) → names ≡ log.opened
+use Rattle.std.specs.Prelude.{◌≡◌, ℕ, List, [], ◌∷◌, ◌++◌, Some, Ok, Result}
+use Rattle.kc_language.specs.Expansion.{FileContext, Log, Refused, Rest, Expands, at_end, unclosed, too_long, no_tokens, blank, bad_line, over_limit, statement, bad_source, refused_inside, source, root_context, with_file, nothing_read, Files, SourceNames, AreOpened}
+use Rattle.kc_language.specs.Lines.{UnreadLines, unread_lines}
+use Rattle.kc_language.specs.Statements.{Located, Named}
 
 -- there is such a list, and where the root file is accepted, no other
 abbrev pub OpenedAreOneList : Type 0

@@ -5,28 +5,22 @@ use Rattle.std.specs.Option.{option_or}
 use Rattle.std.specs.declared.alloc.Global.{Global}
 use Rattle.std.specs.declared.vec.Vec.{Vec}
 use Rattle.std.specs.declared.rc.Rc.{Rc}
-use Rattle.kc_expr.specs.Limits.{most_symbols}
-use Rattle.kc_read.specs.Limits.{most_blocks, most_files, most_lines}
-use Rattle.kc_text.specs.Lines.{UnreadLines}
-use Rattle.kc_expr.specs.declared.expression.SymId.{SymId}
-use Rattle.kc_expr.specs.Names.{all_mentioned, mention, same_symbol}
-use Rattle.kc_expr.specs.DistinctSymbols.{added}
+use Rattle.kc_language.specs.Text.{most_symbols, most_blocks, most_files, most_lines}
+use Rattle.kc_language.specs.Lines.{UnreadLines}
+use Rattle.kc_language.specs.declared.expressions.SymId.{SymId}
+use Rattle.kc_language.specs.Expressions.{all_mentioned, mention, same_symbol}
+use Rattle.kc_language.specs.Symbols.{added}
 use Rattle.kc_read.specs.declared.frame.Frame.{Frame}
 use Rattle.kc_read.specs.declared.progress.Progress.{Progress}
-use Rattle.kc_diagnostics.specs.declared.cause.Cause.TheVariants as cause
+use Rattle.kc_language.specs.declared.diagnostics.Cause.TheVariants as cause
 use Rattle.kc_read.specs.declared.refusal.Refusal.{Refusal}
-use Rattle.kc_read.specs.declared.statement.EntryKind.{EntryKind}
-use Rattle.kc_read.specs.declared.statement.EntryKind.TheVariants as entry
+use Rattle.kc_language.specs.declared.statements.EntryKind.{EntryKind}
+use Rattle.kc_language.specs.declared.statements.EntryKind.TheVariants as entry
 use Rattle.kc_read.specs.declared.statement.OpenBlock.{OpenBlock}
-use Rattle.kc_read.specs.Blocks.{Bracket, Opens, Closes, NoBracket, bracket, opened, open_block_indices, last_of, last_no_attribute, entry_of, is_attribute, definitions, modules_of, defined_name, is_modules}
-use Rattle.kc_read.specs.Expansion.{FileContext, Log, Refused, Rest, defined, is_choice, refused, symbol_cause, nesting_cause}
-use Rattle.kc_diagnostics.specs.Causes.{Cause}
-use Rattle.kc_read.specs.Lines.{LineContext, is_config, is_entry}
-use Rattle.kc_read.specs.Files.{Files}
-use Rattle.kc_read.specs.Numbering.{located_numbered}
+use Rattle.kc_language.specs.Expansion.{Bracket, Opens, Closes, NoBracket, bracket, opened, open_block_indices, last_of, last_no_attribute, entry_of, is_attribute, definitions, modules_of, defined_name, is_modules, FileContext, Log, Refused, Rest, defined, is_choice, refused, symbol_cause, nesting_cause, Files, located_numbered}
+use Rattle.kc_language.specs.Statements.{Cause, LineContext, is_config, is_entry, Statement, Named, Numbered, Located, names_in_statement, statements}
 use Rattle.kc_read.specs.Entries.{lines_in, IsLastFile}
 use Rattle.kc_read.specs.StatementViews.{ForLater}
-use Rattle.kc_read.specs.Statements.{Statement, Named, Numbered, Located, names_in_statement, statements}
 use Rattle.kc_read.specs.RefusalView.{refusal_view}
 use Rattle.kc_read.specs.Expanded.{AreNumbers, IsNamed}
 

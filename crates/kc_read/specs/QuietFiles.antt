@@ -1,8 +1,8 @@
 -- Trusted: Files in which no line can be a `source` line, as it is seen without cutting one into tokens.
 use Rattle.std.specs.Prelude.{◌≡◌, ℕ, ◌<◌, ◌⊎◌, List, [], ◌∷◌, ◌++◌, length, slice_index, IsTrue}
-use Rattle.kc_text.specs.Bytes.{byte}
-use Rattle.kc_text.specs.Lexemes.{is_blank}
-use Rattle.kc_read.specs.Lines.{source_word}
+use Rattle.kc_language.specs.Text.{byte}
+use Rattle.kc_language.specs.Tokens.{is_blank}
+use Rattle.kc_language.specs.Statements.{source_word}
 
 -- nothing but blanks
 abbrev pub AreAllBlank : List ℕ → Type 0

@@ -1,9 +1,9 @@
 -- Trusted: A refusal without where it lies in memory.
 use Rattle.std.specs.Prelude.{◌≡◌, None, option_map}
 use Rattle.kc_read.specs.declared.refusal.Refusal.{Refusal}
-use Rattle.kc_diagnostics.specs.declared.cause.Cause.TheVariants as cause
+use Rattle.kc_language.specs.declared.diagnostics.Cause.TheVariants as cause
 use Rattle.kc_diagnostics.specs.Causes.{owned_cause}
-use Rattle.kc_read.specs.Expansion.{Refused}
+use Rattle.kc_language.specs.Expansion.{Refused}
 
 abbrev pub refusal_view : Refusal → Refused
 refusal_view r = record { cause = owned_cause r.cause; location = option_map (λ p. (p.0.items, p.1)) r.location }

@@ -1,11 +1,9 @@
 -- Trusted: The expanded list as one sentence: a file's own statements, with the list of its file in place of each `source`
 -- statement.
 use Rattle.std.specs.Prelude.{◌≡◌, ℕ, List, [], ◌∷◌, ◌++◌, false, Some, None, Ok}
-use Rattle.kc_text.specs.Lines.{UnreadLines, unread_lines}
-use Rattle.kc_read.specs.Expansion.{Log, Expands, NextLine, NextStatement, is_source}
-use Rattle.kc_read.specs.Files.{Files}
-use Rattle.kc_read.specs.Lines.{LineContext}
-use Rattle.kc_read.specs.Statements.{Located, Named, SourceLine}
+use Rattle.kc_language.specs.Lines.{UnreadLines, unread_lines}
+use Rattle.kc_language.specs.Expansion.{Log, Expands, NextLine, NextStatement, is_source, Files}
+use Rattle.kc_language.specs.Statements.{LineContext, Located, Named, SourceLine}
 
 abbrev pub located : List ℕ → ℕ → Named → Located Named
 located file n s = record { file = file; line = n; statement = s }

@@ -1,9 +1,9 @@
 -- For proofs: What the next line of a file names.
 use Rattle.std.specs.Prelude.{[]}
-use Rattle.kc_text.specs.Lines.{UnreadLines}
+use Rattle.kc_language.specs.Lines.{UnreadLines}
 use Rattle.kc_read.specs.declared.sources.NextSource.{NextSource}
 use Rattle.kc_read.specs.declared.sources.NextSource.TheVariants as found
-use Rattle.kc_read.specs.Sources.{IsOther, IsSource, SourceNames}
+use Rattle.kc_language.specs.Expansion.{IsOther, IsSource, SourceNames}
 
 -- what the next line says: no more names, none, or this one
 abbrev pub IsFound : UnreadLines → UnreadLines → NextSource → Type 0

@@ -1,8 +1,9 @@
 -- Trusted: Lines, and what they say, without where they lie in memory.
 use Rattle.std.specs.Prelude.{ℕ, List, [], option_map}
-use Rattle.kc_expr.specs.Form.{Form, form_of, leaf_of}
+use Rattle.kc_language.specs.Expressions.{Form, number_of}
+use Rattle.kc_expr.specs.Form.{form_of, leaf_of}
 use Rattle.kc_expr.specs.When.{when_view}
-use Rattle.kc_expr.specs.Names.{number_of, Extends}
+use Rattle.kc_expr.specs.Names.{Extends}
 use Rattle.kc_read.specs.declared.statement.Attribute.{Attribute}
 use Rattle.kc_read.specs.declared.statement.Attribute.TheVariants as attribute
 use Rattle.kc_read.specs.declared.statement.Head.{Head}
@@ -10,7 +11,7 @@ use Rattle.kc_read.specs.declared.statement.Head.TheVariants as head
 use Rattle.kc_read.specs.declared.statement.Prompt.{Prompt}
 use Rattle.kc_read.specs.declared.statement.Statement.{Statement}
 use Rattle.kc_read.specs.declared.statement.Statement.TheVariants as made
-use Rattle.kc_read.specs.Statements.{Numbered, InputPrompt, ConfigLine, IfLine, EndIfLine, CommentLine, SourceLine, MenuLine, EndMenuLine, ChoiceLine, EndChoiceLine, MainMenuLine, TypeLine, PromptLine, DefaultLine, DefLine, DependsLine, VisibleLine, SelectLine, ImplyLine, RangeLine, HelpLine, ModulesLine, IgnoredLine}
+use Rattle.kc_language.specs.Statements.{Numbered, InputPrompt, ConfigLine, IfLine, EndIfLine, CommentLine, SourceLine, MenuLine, EndMenuLine, ChoiceLine, EndChoiceLine, MainMenuLine, TypeLine, PromptLine, DefaultLine, DefLine, DependsLine, VisibleLine, SelectLine, ImplyLine, RangeLine, HelpLine, ModulesLine, IgnoredLine}
 
 -- a prompt and a statement without where they lie in memory
 abbrev pub input_prompt_view : Prompt → InputPrompt Form

@@ -3,8 +3,9 @@
 ghost use Rattle.std.specs.Prelude.{◌≡◌, true, IfOk};
 ghost use Rattle.kc_expr.specs.declared.expression.Expr.TheVariants.{One};
 ghost use Rattle.kc_expr.specs.declared.expression.Operand.TheVariants.{TristateConstant};
-ghost use Rattle.kc_expr.specs.declared.expression.Tri.TheVariants.{N, M, Y};
-ghost use Rattle.kc_expr.specs.Form.{form_of, tri_text, Single, Text};
+ghost use Rattle.kc_language.specs.declared.expressions.Tri.TheVariants.{N, M, Y};
+ghost use Rattle.kc_expr.specs.Form.{form_of};
+ghost use Rattle.kc_language.specs.Expressions.{tri_text, Single, Text};
 ghost use Rattle.kc_read.specs.Constants.{is_constant};
 
 use kc_expr::expression::{Expr, Operand, Tri};

@@ -1,14 +1,13 @@
 //! The expanded list of a root file.
 
 ghost use Rattle.std.specs.Prelude.{◌≡◌, ◌≢◌, ◌≤◌, Err, IfErr, IfOk, Ok};
-ghost use Rattle.kc_read.specs.Limits.{most_lines};
+ghost use Rattle.kc_language.specs.Text.{most_lines};
 ghost use Rattle.kc_expr.specs.Names.{Extends};
-ghost use Rattle.kc_read.specs.Expansion.{Expands, Log};
-ghost use Rattle.kc_read.specs.Files.{bytes_in};
+ghost use Rattle.kc_language.specs.Expansion.{Expands, Log, bytes_in};
 ghost use Rattle.kc_read.specs.Progress.{IsBegun, IsBounded, IsShallow};
 ghost use Rattle.kc_read.specs.Expanded.{IsExpansion};
 ghost use Rattle.kc_read.specs.RefusalView.{IsMemory, refusal_view};
-ghost use Rattle.kc_diagnostics.specs.declared.cause.Cause.TheVariants.{Memory};
+ghost use Rattle.kc_language.specs.declared.diagnostics.Cause.TheVariants.{Memory};
 
 use crate::constants::Constants;
 use crate::entries::Entries;

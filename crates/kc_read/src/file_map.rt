@@ -1,7 +1,8 @@
 //! The files that a tree may be made of.
 
 ghost use Rattle.std.specs.Prelude.{◌≡◌, [], OnOk, OnErr, option_map, None};
-ghost use Rattle.kc_read.specs.Files.{bytes_in, Puts};
+ghost use Rattle.kc_language.specs.Expansion.{bytes_in};
+ghost use Rattle.kc_read.specs.Files.{Puts};
 
 use indexmap::IndexMap;
 use kc_text::FileText;

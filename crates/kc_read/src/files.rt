@@ -1,20 +1,20 @@
 //! Reading a file, and the files that it sources.
 
 ghost use Rattle.std.specs.Prelude.{◌≡◌, ◌≢◌, ◌≤◌, ◌<◌, ◌+◌, ℕ, List, [], None, Some, Ok, length, map, IfErr, IfOk, OnOk, IsTrue};
-ghost use Rattle.kc_read.specs.Limits.{most_files, most_lines};
-ghost use Rattle.kc_text.specs.Lines.{UnreadLines, unread_lines};
+ghost use Rattle.kc_language.specs.Text.{most_files, most_lines};
+ghost use Rattle.kc_language.specs.Lines.{UnreadLines, unread_lines};
 ghost use Rattle.std.specs.List.{list_any};
-ghost use Rattle.kc_expr.specs.Names.{Extends, same_name};
-ghost use Rattle.kc_diagnostics.specs.declared.cause.Cause.TheVariants.{Memory};
-ghost use Rattle.kc_read.specs.Expansion as spec;
-ghost use Rattle.kc_read.specs.Expansion.{FileContext, Log, NextStatement, sourcing_cause};
-ghost use Rattle.kc_read.specs.Files.{bytes_in};
+ghost use Rattle.kc_expr.specs.Names.{Extends};
+ghost use Rattle.kc_language.specs.Expressions.{same_name};
+ghost use Rattle.kc_language.specs.declared.diagnostics.Cause.TheVariants.{Memory};
+ghost use Rattle.kc_language.specs.Expansion as spec;
+ghost use Rattle.kc_language.specs.Expansion.{FileContext, Log, NextStatement, sourcing_cause, bytes_in};
 ghost use Rattle.kc_read.specs.Progress.{IsBounded, IsEntered, IsSourcedFrame, IsNextRead, IsOpenAtEnd, IsReading, IsShallow, IsState, IsStatementRead, IsTaken, limit_view, open_names};
 ghost use Rattle.kc_read.specs.Entries.{IsLastFile};
 ghost use Rattle.kc_read.specs.StatementViews.{attribute_view, head_view};
 ghost use Rattle.kc_read.specs.declared.frame.Frame.{Frame};
 ghost use Rattle.kc_read.specs.LineReads.{IsFault, IsMade, cause_of};
-ghost use Rattle.kc_read.specs.Statements.{Located, Named, SourceLine};
+ghost use Rattle.kc_language.specs.Statements.{Located, Named, SourceLine};
 ghost use Rattle.kc_read.specs.RefusalView.{IsMemory, refusal_view};
 
 use crate::constants::Constants;

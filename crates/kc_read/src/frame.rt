@@ -2,8 +2,8 @@
 
 ghost use Rattle.std.specs.Prelude.{◌≡◌, ◌+◌, ◌||◌, IfErr, OnOk, None, Some, length, option_map};
 ghost use Rattle.std.specs.List.{list_any};
-ghost use Rattle.kc_read.specs.Blocks as blocks;
-ghost use Rattle.kc_read.specs.Expansion as expansion;
+ghost use Rattle.kc_language.specs.Expansion as blocks;
+ghost use Rattle.kc_language.specs.Expansion as expansion;
 ghost use Rattle.kc_read.specs.Progress.{IsShallow, is_closer, open_blocks_after};
 ghost use Rattle.kc_read.specs.StatementViews.{head_view};
 ghost use Rattle.kc_read.specs.LineReads.{IsFault};

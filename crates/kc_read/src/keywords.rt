@@ -1,8 +1,8 @@
 //! The words that begin a line.
 
 ghost use Rattle.std.specs.Prelude.{◌≡◌};
-ghost use Rattle.kc_expr.specs.Names.{same_name};
-ghost use Rattle.kc_read.specs.Lines as spec;
+ghost use Rattle.kc_language.specs.Expressions.{same_name};
+ghost use Rattle.kc_language.specs.Statements as spec;
 
 use crate::statement::Keyword;
 use kc_expr::expression::SymbolType;

@@ -2,11 +2,11 @@
 
 ghost use Rattle.std.specs.Prelude.{◌≡◌, ◌≤◌, [], false, length, IfOk, IfErr, OnOk, Err, IsTrue, ◌<◌};
 ghost use Rattle.kc_expr.specs.Form.{form_of, leaf_of};
-ghost use Rattle.kc_expr.specs.Grammar.{if_word, is_tristate_constant};
-ghost use Rattle.kc_expr.specs.Names.{IsNumber, same_name, mention, Extends};
-ghost use Rattle.kc_diagnostics.specs.declared.cause.Cause.TheVariants.{Memory, Syntax};
-ghost use Rattle.kc_read.specs.Lines as spec;
-ghost use Rattle.kc_read.specs.Lines.{IsMore, ExpressionFault, WholeFault, ConditionFault};
+ghost use Rattle.kc_language.specs.Expressions.{if_word, is_tristate_constant, same_name, mention};
+ghost use Rattle.kc_expr.specs.Names.{IsNumber, Extends};
+ghost use Rattle.kc_language.specs.declared.diagnostics.Cause.TheVariants.{Memory, Syntax};
+ghost use Rattle.kc_language.specs.Statements as spec;
+ghost use Rattle.kc_language.specs.Statements.{IsMore, ExpressionFault, WholeFault, ConditionFault};
 ghost use Rattle.kc_expr.specs.When.{when_view};
 ghost use Rattle.kc_read.specs.LineReads.{IsToken, IsFault, IsPart, IsFront, IsWholeForm, IsConditionForm, IsOperand, cause_of, expression_cause, unquoted_text, lexemes_from};
 

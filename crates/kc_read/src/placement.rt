@@ -1,9 +1,9 @@
 //! Whether a line stands in a right place.
 
 ghost use Rattle.std.specs.Prelude.{◌≡◌, option_map};
-ghost use Rattle.kc_diagnostics.specs.declared.cause.Cause.TheVariants.{LeftOut};
-ghost use Rattle.kc_read.specs.Lines as spec;
-ghost use Rattle.kc_read.specs.Lines.{placement_cause};
+ghost use Rattle.kc_language.specs.declared.diagnostics.Cause.TheVariants.{LeftOut};
+ghost use Rattle.kc_language.specs.Statements as spec;
+ghost use Rattle.kc_language.specs.Statements.{placement_cause};
 ghost use Rattle.kc_read.specs.Progress.{context_in};
 ghost use Rattle.kc_read.specs.LineReads.{cause_of, lexemes_from};
 

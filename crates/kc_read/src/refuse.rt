@@ -1,8 +1,8 @@
 //! Refusals of lines.
 
 ghost use Rattle.std.specs.Prelude.{◌≡◌, ◌≢◌};
-ghost use Rattle.kc_diagnostics.specs.declared.cause.Cause.TheVariants.{Memory};
-ghost use Rattle.kc_read.specs.Expansion.{refused};
+ghost use Rattle.kc_language.specs.declared.diagnostics.Cause.TheVariants.{Memory};
+ghost use Rattle.kc_language.specs.Expansion.{refused};
 ghost use Rattle.kc_read.specs.LineReads.{cause_of};
 ghost use Rattle.kc_read.specs.RefusalView.{IsMemory, refusal_view};
 

@@ -1,11 +1,11 @@
 //! The files that a file names in its `source` lines.
 
 ghost use Rattle.std.specs.Prelude.{◌≡◌, ◌≢◌, ◌<◌, ◌≤◌, IfOk, OnErr, length, map, None, false, true};
-ghost use Rattle.kc_text.specs.Lines.{UnreadLines, TakesLine, unread_lines};
-ghost use Rattle.kc_text.specs.declared.faults.TextFault.TheVariants.{Memory};
+ghost use Rattle.kc_language.specs.Lines.{UnreadLines, TakesLine, unread_lines};
+ghost use Rattle.kc_language.specs.declared.tokens.TextFault.TheVariants.{Memory};
 ghost use Rattle.kc_read.specs.declared.sources.NextSource.TheVariants.{Nothing};
 ghost use Rattle.kc_read.specs.QuietFiles.{BeginsLine, EndsLine, HasNoJoin, HasNoSource, IsQuiet};
-ghost use Rattle.kc_read.specs.Sources as spec;
+ghost use Rattle.kc_language.specs.Expansion as spec;
 ghost use Rattle.kc_read.specs.SourceSteps.{HasMoreLines, IsFound};
 
 use crate::line_parts::begins_with;

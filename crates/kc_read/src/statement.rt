@@ -2,6 +2,7 @@
 
 use kc_diagnostics::Cause;
 use kc_expr::expression::{Expr, SymId, SymbolType};
+pub use kc_language::statements::{Block, EntryKind, Keyword};
 use kc_tree::rows::{SymbolDefault, SymbolRange};
 use std::mem::size_of;
 use std::rc::Rc;
@@ -58,57 +59,11 @@ pub enum Statement {
     Source(Vec<u8>),
 }
 
-/// What a first word says (the kernel's kconfig-language document).
-#[derive(Clone, Copy, Debug, PartialEq, Eq)]
-pub enum Keyword {
-    Config,
-    If,
-    EndIf,
-    Comment,
-    Source,
-    Menu,
-    EndMenu,
-    Choice,
-    EndChoice,
-    MainMenu,
-    Type(SymbolType),
-    Prompt,
-    Default,
-    Def(SymbolType),
-    Depends,
-    Visible,
-    Select,
-    Imply,
-    Range,
-    Help,
-    Modules,
-    Option,
-    LeftOut,
-}
-
-/// A block: the lines up to the word that ends it (the kernel's kconfig-language document, "Kconfig syntax").
-#[derive(Clone, Copy, Debug, PartialEq, Eq)]
-pub enum Block {
-    If,
-    Menu,
-    Choice,
-}
-
 /// An open block, and the line that opened it (our own).
 #[derive(Clone, Copy, Debug)]
 pub struct OpenBlock {
     pub block: Block,
     pub line: u32,
-}
-
-/// The entry to which an attribute would belong (the kernel's kconfig-language document, "Menu attributes").
-#[derive(Clone, Copy, Debug, PartialEq, Eq)]
-pub enum EntryKind {
-    Nothing,
-    Config,
-    Choice,
-    Menu,
-    Comment,
 }
 
 /// Why a line is refused: the cause, with the word or name of the line that it is about.

@@ -7,29 +7,24 @@ use Rattle.std.proofs.lemmas.Bool.{cases_eq, cases_lt, eqb-false}
 use Rattle.std.proofs.lemmas.List.{get_or_past, get_or-take, length-take-le, get_or_default, take_more, get_or-replicate, length-replicate, length-map}
 use Rattle.std.proofs.lemmas.List.Elements.{Contains-get_or, Contains-append_right, Contains-push_cases}
 use Rattle.std.proofs.lemmas.Map.Keys.{apart_from_distinct}
-use Rattle.kc_expr.specs.Names.{symbol}
-use Rattle.kc_expr.specs.Value.{SymbolValue}
-use Rattle.kc_expr.specs.declared.expression.SymId.{SymId}
-use Rattle.kc_expr.specs.declared.expression.Tri.{Tri}
+use Rattle.kc_language.specs.Expressions.{symbol, SymbolValue}
+use Rattle.kc_language.specs.declared.expressions.SymId.{SymId}
+use Rattle.kc_language.specs.declared.expressions.Tri.{Tri}
 use Rattle.kc_expr.proofs.AgreeLemmas.{depends_on_symbols}
 use Rattle.kc_order.specs.Graph.{Nodes, groups_of, stands_for}
-use Rattle.kc_order.specs.Needs.{needs_in}
-use Rattle.kc_order.specs.Solution.{Solves}
+use Rattle.kc_language.specs.Needs.{needs_in, condition_names, names_of_choice, needs}
+use Rattle.kc_language.specs.Values.{Solves, GivenValue, UserPlace, choice_at, name_count, equations}
 use Rattle.kc_order.proofs.Alike.{symbols_first}
 use Rattle.kc_order.proofs.Groups.{group_stands, needs_stand}
 use Rattle.kc_tree.specs.Contexts.{condition_in}
 use Rattle.kc_tree.specs.Layouts.{IsLayoutOf, choice_facts}
-use Rattle.kc_tree.specs.TreeFacts.{TreeFacts}
+use Rattle.kc_language.specs.Symbols.{TreeFacts}
 use Rattle.kc_tree.specs.declared.layout.Layout.{Layout}
 use Rattle.kc_tree.proofs.TreeLemmas.{symbols-length}
-use Rattle.kc_user.specs.GivenValue.{GivenValue, UserPlace}
-use Rattle.kc_user.specs.Places.{member_place}
+use Rattle.kc_language.specs.ConfigFile.{member_place}
 use Rattle.kc_user.specs.declared.value.UserValue.{UserValue}
-use Rattle.kc_values.specs.Lookups.{choice_at}
-use Rattle.kc_values.specs.Needs.{condition_names, names_of_choice, needs}
 use Rattle.kc_values.specs.Nodes.{choice_number, context_number}
 use Rattle.kc_values.specs.Computed.{AreContextsComputed, rank}
-use Rattle.kc_values.specs.Solution.{name_count, equations}
 use Rattle.kc_values.specs.Table.{known_in}
 use Rattle.kc_values.specs.declared.table.Table.{Table}
 use Rattle.kc_values.specs.declared.table.Value.{Value}

@@ -2,25 +2,16 @@
 use Rattle.std.proofs.Common.{◌≡◌, ℕ, ◌+◌, ◌<◌, ◌&&◌, not, Bool, false, Some, List, [], ◌∷◌, ◌++◌, map, length, Option, None, refl, sym, ◌∙◌, ap, arith}
 use Rattle.std.specs.List.{range_with_len}
 use Rattle.std.proofs.lemmas.List.FromFn.{map-range_with_len_more}
-use Rattle.kc_expr.specs.declared.expression.SymId.{SymId}
-use Rattle.kc_expr.specs.declared.expression.Tri.{Tri}
-use Rattle.kc_tree.specs.TreeFacts.{TreeFacts}
+use Rattle.kc_language.specs.declared.expressions.SymId.{SymId}
+use Rattle.kc_language.specs.declared.expressions.Tri.{Tri}
+use Rattle.kc_language.specs.Symbols.{TreeFacts, SymbolFacts, is_symbol_of}
 use Rattle.std.specs.Prelude.{slice_get, slice_index_or}
 use Rattle.std.proofs.lemmas.List.FromFn.{get_or-map-range_with_len}
-use Rattle.kc_expr.specs.Names.{symbol}
-use Rattle.kc_expr.specs.Value.{SymbolValue}
-use Rattle.kc_tree.specs.TreeFacts.{SymbolFacts}
-use Rattle.kc_values.specs.Lookups.{facts, choice_at}
-use Rattle.kc_order.specs.Solution.{Solves}
+use Rattle.kc_language.specs.Expressions.{symbol, SymbolValue}
+use Rattle.kc_language.specs.Values.{facts, choice_at, Solves, UserPlace, SymbolPlace, ChoicePlace, GivenValue, name_count, user_place, user_place_by, user_place_of, rhs, equations, same_value, selection, default_selection, differs, differs_at, selected, equation, by_choice, by_type, is_n, visibility, written}
 use Rattle.std.specs.Option.{is_some}
-use Rattle.kc_user.specs.GivenValue.{UserPlace, SymbolPlace, ChoicePlace, GivenValue}
-use Rattle.kc_values.specs.Solution.{name_count, user_place, user_place_by, user_place_of, rhs, equations}
 use Rattle.kc_values.proofs.SameValue.{same_value_itself}
 use Rattle.kc_values.proofs.Uncounted.{uncounted}
-use Rattle.kc_values.specs.Differs.{same_value, selection, default_selection, differs, differs_at}
-use Rattle.kc_tree.specs.Common.{is_symbol_of}
-use Rattle.kc_values.specs.Values.{selected, equation, by_choice, by_type, is_n, visibility}
-use Rattle.kc_values.specs.WrittenSymbols.{written}
 use Rattle.kc_values.specs.declared.table.Value.{Value}
 use Rattle.kc_solve.specs.Answers.{visibility_by}
 use Rattle.kc_solve.specs.Flags.{differs_by, is_written, visibility_at, IsSolvedOwn}

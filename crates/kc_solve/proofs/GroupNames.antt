@@ -3,16 +3,16 @@ use Rattle.std.proofs.Common.{◌≡◌, ◌==◌, ◌&&◌, ◌||◌, ℕ, ◌<
 use Rattle.std.specs.List.{Contains, list_any}
 use Rattle.std.proofs.lemmas.Bool.{eq-eqb, lt-ltb, true≢false}
 use Rattle.std.proofs.lemmas.List.Folds.{list_any_at}
-use Rattle.kc_expr.specs.Names.{symbol}
-use Rattle.kc_expr.specs.declared.expression.SymId.{SymId}
+use Rattle.kc_language.specs.Expressions.{symbol}
+use Rattle.kc_language.specs.declared.expressions.SymId.{SymId}
 use Rattle.kc_order.specs.Graph.{Nodes, IsGraph, groups_of, stands_for}
 use Rattle.kc_tree.specs.Contexts.{condition_in}
 use Rattle.kc_tree.specs.Layouts.{IsLayoutOf}
-use Rattle.kc_tree.specs.TreeFacts.{TreeFacts}
+use Rattle.kc_language.specs.Symbols.{TreeFacts}
 use Rattle.kc_tree.specs.declared.layout.Layout.{Layout}
-use Rattle.kc_values.specs.Lookups.{choice_at}
+use Rattle.kc_language.specs.Values.{choice_at}
 use Rattle.kc_values.specs.NeedRows.{AreNodeRows}
-use Rattle.kc_values.specs.Needs.{condition_names, names_of_choice}
+use Rattle.kc_language.specs.Needs.{condition_names, names_of_choice}
 use Rattle.kc_values.specs.Nodes.{choice_number, context_number}
 use Rattle.kc_values.proofs.AnyLemmas.{stands, stands_in}
 use Rattle.kc_values.proofs.NeedsAlike.{choice_stands, stand}

@@ -1,13 +1,12 @@
 -- What has an order is accepted, be it through groups.
 use Rattle.std.proofs.Common.{ℕ, ◌<◌, List, length, sym, ◌∙◌, ap, arith}
 use Rattle.kc_order.specs.Graph.{Nodes, IsGraph, needs_of}
-use Rattle.kc_order.specs.Needs.{IsAccepted, needs_in, unordered_after}
+use Rattle.kc_language.specs.Needs.{AreAccepted as IsAccepted, needs_in, unordered_after, needs, IsAccepted as IsTreeAccepted}
 use Rattle.kc_order.specs.Order.{Orders}
 use Rattle.kc_order.proofs.Alike.{accepted_alike}
 use Rattle.kc_order.proofs.ByOrder.{nothing_unordered}
 use Rattle.kc_order.proofs.Groups.{needs_count, unordered_alike}
 use Rattle.kc_tree.specs.declared.laid_tree.LaidTree.{LaidTree}
-use Rattle.kc_values.specs.Needs.{needs, IsAccepted as IsTreeAccepted}
 use Rattle.kc_solve.specs.Graphs.{IsGraphOf}
 
 pub accepted_through : (g : Nodes) → IsGraph g → IsAccepted g.rows → IsAccepted (needs_of g)

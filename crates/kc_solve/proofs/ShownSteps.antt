@@ -1,30 +1,28 @@
 -- When an entry is shown, by its number.
 use Rattle.std.proofs.Common.{◌≡◌, ℕ, Option, Some, None, refl, sym, ◌∙◌, ap, subst, arith, length, List}
 use Rattle.std.proofs.Math.Logic.{∥∥₁_elim}
-use Rattle.std.specs.Prelude.{slice_get}
+use Rattle.std.specs.Prelude.{slice_get, option_map}
 use Rattle.std.specs.Borrow.{Bor}
-use Rattle.std.specs.Option.{option_map}
 use Rattle.std.proofs.lemmas.Option.{slice_get-map}
 use base.Stored.{Coded-set}
-use Rattle.kc_expr.specs.contracts.expression.Tri as tri_row
-use Rattle.kc_expr.specs.declared.expression.Tri.{Tri}
-use Rattle.kc_expr.specs.declared.expression.Tri.TheVariants.{Y}
+use Rattle.kc_language.specs.contracts.expressions.Tri as tri_row
+use Rattle.kc_language.specs.declared.expressions.Tri.{Tri}
+use Rattle.kc_language.specs.declared.expressions.Tri.TheVariants.{Y}
 use Rattle.kc_tree.specs.Contexts.{IsContext, condition_in, top}
 use Rattle.kc_tree.specs.Layouts.{shown_of, shown_when, title_condition}
-use Rattle.kc_tree.specs.TreeFacts.{Condition, TreeFacts}
+use Rattle.kc_language.specs.Symbols.{Condition, TreeFacts}
 use Rattle.kc_tree.specs.declared.layout.Layout.{Layout}
 use Rattle.kc_tree.specs.declared.rows.Context.{Context}
 use Rattle.kc_tree.specs.declared.rows.ShownEntry.{ShownEntry}
 use Rattle.kc_tree.specs.declared.rows.ShownEntry.TheVariants as entry
 use Rattle.kc_tree.specs.declared.rows.Title.{Title}
-use Rattle.kc_expr.specs.Value.{SymbolValue}
-use Rattle.kc_expr.specs.declared.expression.SymId.{SymId}
-use Rattle.kc_user.specs.Places.{Places}
+use Rattle.kc_language.specs.Expressions.{SymbolValue}
+use Rattle.kc_language.specs.declared.expressions.SymId.{SymId}
+use Rattle.kc_language.specs.ConfigFile.{Places}
 use Rattle.kc_values.specs.TableFacts.{known_at}
-use Rattle.kc_values.specs.Solution.{name_count}
-use Rattle.kc_values.specs.Values.{condition}
+use Rattle.kc_language.specs.Values.{name_count, condition}
 use Rattle.kc_values.specs.declared.table.Table.{Table}
-use Rattle.kc_solve.specs.Solved.{Solution, known}
+use Rattle.kc_language.specs.Texts.{Solution, known}
 use Rattle.kc_solve.specs.Kept.{solution_in}
 use Rattle.kc_solve.specs.Answers.{shown}
 use Rattle.kc_solve.specs.Titles.{entry_title}

@@ -6,32 +6,24 @@ use Rattle.std.proofs.lemmas.Bool.{cases_Bool, ltb-false, ltb-true}
 use Rattle.std.proofs.lemmas.List.{get_or_past}
 use Rattle.std.proofs.lemmas.List.FromFn.{get_or-map-range_with_len, length-map-range_with_len}
 use Rattle.std.proofs.lemmas.Option.{slice_get_past}
-use Rattle.kc_diagnostics.specs.Warnings.{Warning}
-use Rattle.kc_expr.specs.Names.{symbol}
-use Rattle.kc_expr.specs.Value.{SymbolValue, TextValue, value_by_type, truth_of_value, text_of_value}
-use Rattle.kc_expr.specs.declared.expression.SymId.{SymId}
-use Rattle.kc_expr.specs.declared.expression.Tri.{Tri}
-use Rattle.kc_expr.specs.declared.expression.Tri.TheVariants.{N}
-use Rattle.kc_expr.specs.declared.expression.SymbolType.{SymbolType}
-use Rattle.kc_expr.specs.declared.expression.SymbolType.TheVariants.{Undefined, Bool as IsBool, Tristate, Str, Int, Hex}
-use Rattle.kc_order.specs.Solution.{Solves, IsOnlySolution}
-use Rattle.kc_tree.specs.TreeFacts.{SymbolFacts, TreeFacts, IsWellFormed}
-use Rattle.kc_user.specs.GivenValue.{GivenValue, UserPlace, SymbolPlace, ChoicePlace}
-use Rattle.kc_user.specs.Places.{Places, place_at}
-use Rattle.kc_values.specs.Differs.{differs, differs_at, same_value, selection, default_selection}
+use Rattle.kc_language.specs.Symbols.{Warning, SymbolFacts, TreeFacts, is_symbol_of}
+use Rattle.kc_language.specs.Expressions.{symbol, SymbolValue, TextValue, truth_of_value, text_of_value}
+use Rattle.kc_expr.specs.Value.{value_by_type}
+use Rattle.kc_language.specs.declared.expressions.SymId.{SymId}
+use Rattle.kc_language.specs.declared.expressions.Tri.{Tri}
+use Rattle.kc_language.specs.declared.expressions.Tri.TheVariants.{N}
+use Rattle.kc_language.specs.declared.expressions.SymbolType.{SymbolType}
+use Rattle.kc_language.specs.declared.expressions.SymbolType.TheVariants.{Undefined, Bool as IsBool, Tristate, Str, Int, Hex}
+use Rattle.kc_language.specs.Values.{Solves, IsOnlySolution, GivenValue, UserPlace, SymbolPlace, ChoicePlace, differs, differs_at, same_value, selection, default_selection, choice_at, is_mentioned, facts, name, type_in, equations, rhs, known_from, user_place, name_count, equation, selected}
+use Rattle.kc_tree.specs.TreeFacts.{IsWellFormed}
+use Rattle.kc_language.specs.ConfigFile.{Places, place_at}
 use Rattle.kc_values.specs.Laws.{MinimalRestores, MinimalHasNothingToSpare, IdempotentWhere as Law}
-use Rattle.kc_values.specs.Lookups.{choice_at, is_mentioned, facts, name, type_in}
-use Rattle.kc_values.specs.Solution.{equations, rhs, known_from, user_place, name_count}
-use Rattle.kc_values.specs.Table.{value_in, tri_in, text_in}
-use Rattle.kc_tree.specs.Common.{is_symbol_of}
-use Rattle.kc_values.specs.Values.{equation, selected}
-use Rattle.kc_values.specs.Warnings.{warnings_of}
-use Rattle.kc_values.specs.WrittenSymbols as writing
+use Rattle.kc_values.specs.Table.{value_in, tri_in, text_in, known_in}
+use Rattle.kc_language.specs.Texts.{warnings_of, IsSolution, Solution, known, value_of, value_warnings}
+use Rattle.kc_language.specs.Values as writing
 use Rattle.kc_values.specs.declared.table.Value.{Value}
 use Rattle.kc_solve.proofs.WarningSteps.{tables_known}
-use Rattle.kc_values.specs.Table.{known_in}
 use Rattle.kc_solve.specs.Answers as solved
-use Rattle.kc_solve.specs.Solved.{IsSolution, Solution, known, value_of, value_warnings}
 use Rattle.kc_solve.specs.Kept.{IsSolved, solution_in, valuation}
 use Rattle.kc_solve.specs.SolvedLaws.{IsMinimal, IdempotentWhere}
 use Rattle.kc_solve.specs.Answers.{TellsKnown}

@@ -3,43 +3,41 @@ use Rattle.std.proofs.Common.{◌≡◌, ℕ, ◌<◌, ◌≤◌, List, [], ◌�
 use Rattle.std.proofs.Math.Logic.{∥∥₁_elim}
 use Rattle.std.proofs.Math.Bridge.{le_prop}
 use Rattle.std.proofs.Math.Nat.{ℕ_set}
-use Rattle.std.specs.Prelude.{slice_index_or, slice_set, slice_get, IfSome}
+use Rattle.std.specs.Prelude.{slice_index_or, slice_set, slice_get, IfSome, option_map}
 use Rattle.std.specs.Coded.{coded_list, coded_option}
 use Rattle.std.specs.Borrow.{Bor}
-use Rattle.std.specs.Option.{option_copied, option_map}
+use Rattle.std.specs.Option.{option_copied}
 use Rattle.std.specs.List.{All, AllByRecursion}
 use Rattle.std.proofs.lemmas.Bool.{cases_Bool, ltb-false}
 use Rattle.std.proofs.lemmas.List.{get_or_past, length-set}
 use Rattle.std.proofs.lemmas.List.Elements.{All-get_or}
 use Rattle.std.proofs.lemmas.Option.{slice_get_past, slice_get_within}
 use base.Stored.{Coded-set}
-use Rattle.kc_expr.specs.Names.{symbol}
-use Rattle.kc_expr.specs.Value.{SymbolValue, Truth, TextValue, value_by_type}
-use Rattle.kc_expr.specs.contracts.expression.SymbolType as type_row
-use Rattle.kc_expr.specs.contracts.expression.SymId as sym_row
-use Rattle.kc_expr.specs.declared.expression.SymId.{SymId}
-use Rattle.kc_expr.specs.declared.expression.Tri.{Tri}
-use Rattle.kc_expr.specs.declared.expression.SymbolType.{SymbolType}
-use Rattle.kc_expr.specs.declared.expression.SymbolType.TheVariants.{Undefined, Bool as IsBool, Tristate, Str, Int, Hex}
+use Rattle.kc_language.specs.Expressions.{symbol, SymbolValue, Truth, TextValue}
+use Rattle.kc_expr.specs.Value.{value_by_type}
+use Rattle.kc_language.specs.contracts.expressions.SymbolType as type_row
+use Rattle.kc_language.specs.contracts.expressions.SymId as sym_row
+use Rattle.kc_language.specs.declared.expressions.SymId.{SymId}
+use Rattle.kc_language.specs.declared.expressions.Tri.{Tri}
+use Rattle.kc_language.specs.declared.expressions.SymbolType.{SymbolType}
+use Rattle.kc_language.specs.declared.expressions.SymbolType.TheVariants.{Undefined, Bool as IsBool, Tristate, Str, Int, Hex}
 use Rattle.kc_expr.proofs.AgreeLemmas.{depends_on_symbols}
 use Rattle.kc_order.specs.Solution.{IsUpdate}
 use Rattle.kc_tree.specs.Contexts.{mode_view}
 use Rattle.kc_tree.specs.Layouts.{facts_of}
 use Rattle.kc_tree.specs.TreeCode.{symbol_code}
-use Rattle.kc_tree.specs.TreeFacts.{IsMentioned, IsWellFormed, SymbolFacts, TreeFacts}
-use Rattle.kc_tree.specs.declared.rows.ChoiceId.{ChoiceId}
+use Rattle.kc_tree.specs.TreeFacts.{IsMentioned, IsWellFormed}
+use Rattle.kc_language.specs.Symbols.{SymbolFacts, TreeFacts}
+use Rattle.kc_language.specs.declared.symbols.ChoiceId.{ChoiceId}
 use Rattle.kc_tree.specs.declared.rows.Symbol.{Symbol}
 use Rattle.kc_tree.proofs.TreeLemmas.{symbols-length, symbols-at}
-use Rattle.kc_user.specs.GivenValue.{GivenValue, SymbolPlace}
+use Rattle.kc_language.specs.Values.{GivenValue, SymbolPlace, is_mentioned, facts, name, type_in, user_place_by, user_place_of, name_count, known_from, user_place, equations, equation, by_choice, by_type}
 use Rattle.kc_user.specs.declared.value.UserValue.{UserValue}
 use Rattle.kc_values.specs.TableFacts.{IsRowOf, known_at}
-use Rattle.kc_values.specs.Lookups.{is_mentioned, facts, name, type_in}
-use Rattle.kc_values.specs.Needs.{names_of}
+use Rattle.kc_language.specs.Needs.{names_of}
 use Rattle.kc_values.specs.Selections.{given_for}
-use Rattle.kc_values.specs.Solution.{user_place_by, user_place_of, name_count, known_from, user_place, equations}
 use Rattle.kc_values.specs.Table.{value_in, tri_in, text_in, known_value, known_in}
 use Rattle.kc_values.specs.User.{given_in}
-use Rattle.kc_values.specs.Values.{equation, by_choice, by_type}
 use Rattle.kc_values.specs.declared.table.Table.{Table}
 use Rattle.kc_values.specs.declared.table.Value.{Value}
 use Rattle.kc_values.specs.declared.table.Value.TheVariants as value

@@ -4,23 +4,19 @@ use Rattle.std.specs.Prelude.{slice_index_or}
 use Rattle.std.specs.List.{flat_map, range_with_len}
 use Rattle.std.proofs.lemmas.List.{flat_map_more, take_more}
 use Rattle.std.proofs.lemmas.List.FromFn.{get_or-map-range_with_len}
-use Rattle.kc_diagnostics.specs.Warnings.{Warning}
-use Rattle.kc_expr.specs.Names.{symbol}
-use Rattle.kc_expr.specs.declared.expression.SymId.{SymId}
-use Rattle.kc_expr.specs.declared.expression.Tri.{Tri}
-use Rattle.kc_expr.specs.declared.expression.Tri.TheVariants.{N}
-use Rattle.kc_tree.specs.TreeFacts.{SymbolFacts, TreeFacts}
-use Rattle.kc_values.specs.Lookups.{facts, name}
-use Rattle.kc_user.specs.GivenValue.{SymbolPlace, GivenValue}
-use Rattle.kc_values.specs.Solution.{name_count, known_from}
-use Rattle.kc_values.specs.Values.{visibility}
-use Rattle.kc_values.specs.Warnings.{warnings_of, warnings_at}
+use Rattle.kc_language.specs.Symbols.{Warning, SymbolFacts, TreeFacts}
+use Rattle.kc_language.specs.Expressions.{symbol}
+use Rattle.kc_language.specs.declared.expressions.SymId.{SymId}
+use Rattle.kc_language.specs.declared.expressions.Tri.{Tri}
+use Rattle.kc_language.specs.declared.expressions.Tri.TheVariants.{N}
+use Rattle.kc_language.specs.Values.{facts, name, SymbolPlace, GivenValue, name_count, known_from, visibility}
+use Rattle.kc_language.specs.Texts.{warnings_of, warnings_at}
 use Rattle.kc_values.specs.declared.table.Value.{Value}
 use Rattle.kc_solve.specs.Answers.{visibility_by}
 use Rattle.kc_solve.specs.Flags.{visibility_at}
 use Rattle.kc_solve.specs.Kept.{valuation}
 use Rattle.kc_values.specs.Table.{known_in}
-use Rattle.kc_user.specs.Places.{Places, place_at}
+use Rattle.kc_language.specs.ConfigFile.{Places, place_at}
 use Rattle.kc_solve.proofs.TableSteps.{known_seen}
 
 -- what a full table tells of each symbol and name is what its valuation says

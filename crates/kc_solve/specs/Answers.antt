@@ -1,17 +1,18 @@
 -- Trusted: What a solution answers of symbols, conditions, entries and choices.
 use Rattle.std.specs.Prelude.{◌≡◌, ℕ, Bool, List, Option, Some, None}
-use Rattle.kc_expr.specs.Value.{SymbolValue, values_by, truth_of_value, text_of_value}
-use Rattle.kc_expr.specs.declared.expression.SymId.{SymId}
-use Rattle.kc_expr.specs.declared.expression.Tri.{Tri}
-use Rattle.kc_expr.specs.declared.expression.Tri.TheVariants.{N, Y}
-use Rattle.kc_expr.specs.declared.expression.SymbolType.{SymbolType}
-use Rattle.kc_tree.specs.TreeFacts.{Condition, SymbolFacts, TreeFacts, Shown, SymbolShown, MenuShown, EndShown, CommentShown}
-use Rattle.kc_user.specs.Places.{place_at}
-use Rattle.kc_values.specs.Differs as values
-use Rattle.kc_values.specs.Lookups.{facts, type_in}
-use Rattle.kc_values.specs.Values as value
-use Rattle.kc_values.specs.WrittenSymbols as writing
-use Rattle.kc_solve.specs.Solved.{Solution, known, value_of}
+use Rattle.kc_language.specs.Expressions.{SymbolValue, truth_of_value, text_of_value}
+use Rattle.kc_expr.specs.Value.{values_by}
+use Rattle.kc_language.specs.declared.expressions.SymId.{SymId}
+use Rattle.kc_language.specs.declared.expressions.Tri.{Tri}
+use Rattle.kc_language.specs.declared.expressions.Tri.TheVariants.{N, Y}
+use Rattle.kc_language.specs.declared.expressions.SymbolType.{SymbolType}
+use Rattle.kc_language.specs.Symbols.{Condition, SymbolFacts, TreeFacts, Shown, SymbolShown, MenuShown, EndShown, CommentShown}
+use Rattle.kc_language.specs.ConfigFile.{place_at}
+use Rattle.kc_language.specs.Values as values
+use Rattle.kc_language.specs.Values.{facts, type_in}
+use Rattle.kc_language.specs.Values as value
+use Rattle.kc_language.specs.Values as writing
+use Rattle.kc_language.specs.Texts.{Solution, known, value_of}
 
 -- the type of a symbol, its truth value and its text, as values that expressions read
 abbrev pub type_of : Solution → SymId → SymbolType

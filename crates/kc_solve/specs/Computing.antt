@@ -1,11 +1,11 @@
 -- For proofs: The table as it is computed, node by node.
 use Rattle.std.specs.Prelude.{◌≡◌, ◌≢◌, ◌<◌, ℕ, List, length, Option, Some, None, slice_index_or, take}
 use Rattle.std.specs.List.{Contains}
-use Rattle.kc_expr.specs.Names.{symbol}
-use Rattle.kc_expr.specs.Value.{SymbolValue, value_by_type}
-use Rattle.kc_expr.specs.declared.expression.SymbolType.{SymbolType}
-use Rattle.kc_expr.specs.declared.expression.SymId.{SymId}
-use Rattle.kc_expr.specs.declared.expression.Tri.{Tri}
+use Rattle.kc_language.specs.Expressions.{symbol, SymbolValue}
+use Rattle.kc_expr.specs.Value.{value_by_type}
+use Rattle.kc_language.specs.declared.expressions.SymbolType.{SymbolType}
+use Rattle.kc_language.specs.declared.expressions.SymId.{SymId}
+use Rattle.kc_language.specs.declared.expressions.Tri.{Tri}
 use Rattle.kc_order.specs.Graph.{Nodes, IsGraph, needs_of}
 use Rattle.kc_order.specs.Needs.{AreAlike}
 use Rattle.kc_order.specs.Order.{Orders}
@@ -15,19 +15,16 @@ use Rattle.kc_tree.specs.Contexts.{condition_in}
 use Rattle.kc_tree.specs.Layouts.{IsLayoutOf}
 use Rattle.kc_tree.specs.declared.layout.Layout.{Layout}
 use Rattle.kc_tree.specs.declared.rows.Symbol.{Symbol}
-use Rattle.kc_tree.specs.TreeFacts.{TreeFacts}
-use Rattle.kc_user.specs.GivenValue.{GivenValue}
-use Rattle.kc_user.specs.Places.{member_place}
+use Rattle.kc_language.specs.Symbols.{TreeFacts}
+use Rattle.kc_language.specs.Values.{GivenValue, choice_at, equations, user_place, rhs, by_choice, selected}
+use Rattle.kc_language.specs.ConfigFile.{member_place}
 use Rattle.kc_user.specs.declared.value.UserValue.{UserValue}
-use Rattle.kc_values.specs.Lookups.{choice_at}
 use Rattle.kc_values.specs.NeedRows.{AreNodeRows}
-use Rattle.kc_values.specs.Needs.{condition_names, names_of_choice, needs}
+use Rattle.kc_language.specs.Needs.{condition_names, names_of_choice, needs}
 use Rattle.kc_values.specs.Nodes.{choice_number, context_number}
-use Rattle.kc_values.specs.Solution.{equations, user_place, rhs}
 use Rattle.kc_values.specs.Selections.{given_for}
 use Rattle.kc_values.specs.Table.{known_in, text_in, tri_in}
 use Rattle.kc_values.specs.TableFacts.{facts_in, known_at}
-use Rattle.kc_values.specs.Values.{by_choice, selected}
 use Rattle.kc_values.specs.declared.table.Table.{Table}
 use Rattle.kc_values.specs.declared.table.Value.{Value}
 

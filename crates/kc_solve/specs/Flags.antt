@@ -1,20 +1,13 @@
 -- For proofs: The visibility of a symbol, whether it differs, by the selections of the choices, and whether it is written.
 use Rattle.std.specs.Prelude.{◌≡◌, ℕ, Bool, not, ◌&&◌, List, map, length, Option, Some, None, slice_index_or}
 use Rattle.std.specs.List.{range_with_len}
-use Rattle.kc_expr.specs.Names.{symbol}
-use Rattle.kc_expr.specs.Value.{SymbolValue}
-use Rattle.kc_expr.specs.declared.expression.SymId.{SymId}
-use Rattle.kc_expr.specs.declared.expression.Tri.{Tri}
+use Rattle.kc_language.specs.Expressions.{symbol, SymbolValue}
+use Rattle.kc_language.specs.declared.expressions.SymId.{SymId}
+use Rattle.kc_language.specs.declared.expressions.Tri.{Tri}
 use Rattle.kc_tree.specs.declared.rows.Symbol.{Symbol}
-use Rattle.kc_tree.specs.TreeFacts.{SymbolFacts, TreeFacts}
-use Rattle.kc_user.specs.GivenValue.{GivenValue}
-use Rattle.kc_user.specs.Places.{Places, place_at}
-use Rattle.kc_tree.specs.Common.{is_symbol_of}
-use Rattle.kc_values.specs.Values.{by_type}
-use Rattle.kc_values.specs.Lookups.{facts}
-use Rattle.kc_values.specs.Differs.{default_selection, differs, same_value, selection}
-use Rattle.kc_values.specs.Solution.{known_from, name_count}
-use Rattle.kc_values.specs.WrittenSymbols.{written}
+use Rattle.kc_language.specs.Symbols.{SymbolFacts, TreeFacts, is_symbol_of}
+use Rattle.kc_language.specs.Values.{GivenValue, by_type, facts, default_selection, differs, same_value, selection, known_from, name_count, written}
+use Rattle.kc_language.specs.ConfigFile.{Places, place_at}
 use Rattle.kc_values.specs.TableFacts.{facts_in, known_at}
 use Rattle.kc_values.specs.declared.table.Table.{Table}
 use Rattle.kc_solve.specs.Answers.{visibility_by}

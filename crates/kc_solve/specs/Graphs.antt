@@ -3,7 +3,7 @@ use Rattle.kc_order.specs.Graph.{Nodes, IsGraph, needs_of}
 use Rattle.kc_order.specs.Needs.{AreAlike}
 use Rattle.kc_tree.specs.declared.laid_tree.LaidTree.{LaidTree}
 use Rattle.kc_values.specs.NeedRows.{AreNodeRows}
-use Rattle.kc_values.specs.Needs.{needs}
+use Rattle.kc_language.specs.Needs.{needs}
 
 -- its symbols need what the tree's do, and its nodes are those of the contexts and choices of the tree's tables
 pub record IsGraphOf (laid : LaidTree) (g : Nodes) : Type 0 where

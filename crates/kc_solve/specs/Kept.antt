@@ -1,24 +1,20 @@
 -- Trusted: What is kept of a solution: the table of its values, and what was found from them.
 use Rattle.std.specs.Prelude.{◌≡◌, ℕ, Bool, List, map, length, Option}
 use Rattle.std.specs.List.{range_with_len}
-use Rattle.kc_diagnostics.specs.Warnings.{Warning}
-use Rattle.kc_expr.specs.Names.{symbol}
-use Rattle.kc_expr.specs.Value.{SymbolValue}
-use Rattle.kc_expr.specs.declared.expression.SymId.{SymId}
-use Rattle.kc_expr.specs.declared.expression.Tri.{Tri}
-use Rattle.kc_order.specs.Solution.{Solves, IsOnlySolution}
-use Rattle.kc_tree.specs.TreeFacts.{TreeFacts}
-use Rattle.kc_user.specs.Places.{ArePlacesOf, Places, place_at}
-use Rattle.kc_values.specs.Differs as values
-use Rattle.kc_values.specs.Lookups.{facts}
-use Rattle.kc_values.specs.Needs.{IsAccepted}
-use Rattle.kc_values.specs.Solution.{equations, known_from, name_count}
+use Rattle.kc_language.specs.Symbols.{Warning, TreeFacts}
+use Rattle.kc_language.specs.Expressions.{symbol, SymbolValue}
+use Rattle.kc_language.specs.declared.expressions.SymId.{SymId}
+use Rattle.kc_language.specs.declared.expressions.Tri.{Tri}
+use Rattle.kc_language.specs.Values.{Solves, IsOnlySolution, facts, equations, known_from, name_count}
+use Rattle.kc_language.specs.ConfigFile.{ArePlacesOf, Places, place_at}
+use Rattle.kc_language.specs.Values as values
+use Rattle.kc_language.specs.Needs.{IsAccepted}
 use Rattle.kc_values.specs.Table.{known_in}
-use Rattle.kc_values.specs.Warnings as warning
-use Rattle.kc_values.specs.WrittenSymbols as writing
+use Rattle.kc_language.specs.Texts as warning
+use Rattle.kc_language.specs.Values as writing
 use Rattle.kc_values.specs.declared.table.Value.{Value}
 use Rattle.kc_solve.specs.Answers.{visibility_by}
-use Rattle.kc_solve.specs.Solved.{Solution}
+use Rattle.kc_language.specs.Texts.{Solution}
 
 -- the valuation that a table holds, by number
 abbrev pub valuation : TreeFacts → List (Option Value) → ℕ → SymbolValue
@@ -46,4 +42,4 @@ pub record IsSolved (tree : TreeFacts) (places : Places) (table : List (Option V
   pub visibilities_are : visibilities ≡ map (λ i. visibility_by tree (known_from tree (valuation tree table)) (facts tree (symbol i))) (range_with_len 0 (name_count tree))
   pub differing_are : differing ≡ map (values.differs tree (place_at places) (valuation tree table)) (range_with_len 0 (name_count tree))
   pub written_are : written ≡ map (λ i. writing.written tree (known_from tree (valuation tree table)) (symbol i)) (range_with_len 0 (name_count tree))
-  pub warnings_are : warnings ≡ warning.value_warnings tree (place_at places) (valuation tree table)
+  pub warnings_are : warnings ≡ warning.warnings_of_values tree (place_at places) (valuation tree table)

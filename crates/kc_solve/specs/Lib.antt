@@ -1,9 +1,7 @@
 pub mod PlaceLists
-pub mod LoopText
 pub mod Refused
 pub mod LoopFaults
 pub mod Flags
-pub mod Solved
 pub mod Answers
 pub mod SolvedLaws
 pub mod Kept

@@ -1,6 +1,6 @@
 -- For proofs: Why no order was made.
-use Rattle.kc_tree.specs.TreeFacts.{TreeFacts}
-use Rattle.kc_solve.specs.Refused.{IsLoopText}
+use Rattle.kc_language.specs.Symbols.{TreeFacts}
+use Rattle.kc_language.specs.Needs.{IsLoopText}
 use Rattle.kc_solve.specs.declared.evaluation_order.LoopFault.{LoopFault}
 use Rattle.kc_solve.specs.declared.evaluation_order.LoopFault.TheVariants.{Loop, Memory}
 

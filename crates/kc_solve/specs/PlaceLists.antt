@@ -1,7 +1,7 @@
 -- For proofs: A user's places as lists.
 use Rattle.std.specs.Prelude.{List, Option, Some, None, slice_index_or}
-use Rattle.kc_expr.specs.declared.expression.SymId.{SymId}
-use Rattle.kc_user.specs.GivenValue.{GivenValue, UserPlace, SymbolPlace, ChoicePlace}
+use Rattle.kc_language.specs.declared.expressions.SymId.{SymId}
+use Rattle.kc_language.specs.Values.{GivenValue, UserPlace, SymbolPlace, ChoicePlace}
 use Rattle.kc_user.specs.ValueView.{given_of_value}
 use Rattle.kc_values.specs.Selections.{member_given}
 use Rattle.kc_user.specs.declared.value.UserValue.{UserValue}

@@ -2,12 +2,12 @@
 use Rattle.std.specs.Prelude.{List, refl}
 use Rattle.std.specs.Coded.{Coded, code_by, coded×, coded_list}
 use Rattle.kc_expr.specs.SymbolValueCode.{symbol_value_code}
-use Rattle.kc_expr.specs.Value.{SymbolValue}
+use Rattle.kc_language.specs.Expressions.{SymbolValue}
 use Rattle.kc_tree.specs.TreeCode.{tree_code}
-use Rattle.kc_tree.specs.TreeFacts.{TreeFacts}
-use Rattle.kc_user.specs.Places.{Places}
+use Rattle.kc_language.specs.Symbols.{TreeFacts}
+use Rattle.kc_language.specs.ConfigFile.{Places}
 use Rattle.kc_user.specs.contracts.user.User as user
-use Rattle.kc_solve.specs.Solved.{Solution}
+use Rattle.kc_language.specs.Texts.{Solution}
 
 abbrev pub solution_code : Coded Solution
 solution_code =

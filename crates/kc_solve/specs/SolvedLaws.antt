@@ -1,13 +1,11 @@
 -- Trusted: What holds of every solution: what its minimal lines give back, and when what is written does.
 use Rattle.std.specs.Prelude.{◌≡◌, ℕ, ◌<◌, ◌↔◌, Bool, false}
 use Rattle.kc_order.specs.Minimal.{Restores, NothingCanGo}
-use Rattle.kc_order.specs.Solution.{Solves}
-use Rattle.kc_user.specs.GivenValue.{UserPlace}
-use Rattle.kc_user.specs.Places.{AllowedPlaces, place_at}
-use Rattle.kc_values.specs.Differs.{changes_on_reread}
+use Rattle.kc_language.specs.Values.{Solves, UserPlace, changes_on_reread, equations, rhs, name_count, user_place}
+use Rattle.kc_user.specs.Places.{AllowedPlaces}
+use Rattle.kc_language.specs.ConfigFile.{place_at}
 use Rattle.kc_values.specs.GivenLines.{TellsDiffering, minimal_line, reread_places}
-use Rattle.kc_values.specs.Solution.{equations, rhs, name_count, user_place}
-use Rattle.kc_solve.specs.Solved.{Solution, value_of}
+use Rattle.kc_language.specs.Texts.{Solution, value_of}
 
 -- The lines of the symbols that differ give the values again, and no others; with any nonempty set of these lines left
 -- out, what solves is another valuation.

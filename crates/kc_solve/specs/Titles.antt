@@ -1,6 +1,5 @@
 -- For proofs: The title of an entry.
-use Rattle.std.specs.Prelude.{◌≡◌, ℕ, Option, Some, None, slice_get}
-use Rattle.std.specs.Option.{option_map}
+use Rattle.std.specs.Prelude.{◌≡◌, ℕ, Option, Some, None, slice_get, option_map}
 use Rattle.std.specs.Borrow.{Bor}
 use Rattle.kc_tree.specs.declared.layout.Layout.{Layout}
 use Rattle.kc_tree.specs.declared.rows.ShownEntry.{ShownEntry}

@@ -1,12 +1,11 @@
 //! The table of values, computed once along an order.
 
 ghost use Rattle.std.specs.Prelude.{◌≡◌, ◌<◌, length, slice_get, Some, IfOk, OnOk};
-ghost use Rattle.kc_order.specs.Solution.{Solves};
+ghost use Rattle.kc_language.specs.Values.{Solves, name_count, equations};
 ghost use Rattle.kc_solve.specs.Computing.{equation_at, place_value, IsComputedSymbol, IsNodeOrder, IsComputedContext, IsComputedSelection, IsUnread};
 ghost use Rattle.kc_solve.specs.PlaceLists.{places};
 ghost use Rattle.kc_solve.specs.Kept.{valuation};
-ghost use Rattle.kc_values.specs.Lookups as lookup;
-ghost use Rattle.kc_values.specs.Solution.{name_count, equations};
+ghost use Rattle.kc_language.specs.Values as lookup;
 ghost use Rattle.kc_values.specs.TableFacts.{AreSelected, IsRowOf};
 ghost use Rattle.kc_values.specs.User.{given_in};
 

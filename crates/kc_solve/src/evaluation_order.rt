@@ -1,16 +1,15 @@
 //! An order of a tree's symbols, or the dependency loop that is named.
 
 ghost use Rattle.std.specs.Prelude.{◌≡◌, ◌≢◌, ◌<◌, ◌++◌, length, map, All, IfOk, IfErr, OnOk};
-ghost use Rattle.kc_order.specs.Needs.{needs_in, SomeUnordered};
+ghost use Rattle.kc_language.specs.Needs.{needs_in, arrows, loop_text, needs, IsAccepted};
+ghost use Rattle.kc_order.specs.Needs.{SomeUnordered};
 ghost use Rattle.kc_order.specs.Order.{Orders};
 ghost use Rattle.kc_read.specs.RefusalView.{IsMemory, refusal_view};
-ghost use Rattle.kc_diagnostics.specs.declared.cause.Cause.TheVariants.{Memory};
-ghost use Rattle.kc_solve.specs.LoopText.{arrows, loop_text};
+ghost use Rattle.kc_language.specs.declared.diagnostics.Cause.TheVariants.{Memory};
 ghost use Rattle.kc_solve.specs.Graphs.{IsGraphOf};
-ghost use Rattle.kc_solve.specs.Refused as refused;
+ghost use Rattle.kc_language.specs.Needs as refused;
 ghost use Rattle.kc_solve.specs.Refused.{NamesLoop};
 ghost use Rattle.kc_solve.specs.LoopFaults.{NamesTheLoop};
-ghost use Rattle.kc_values.specs.Needs.{needs, IsAccepted};
 
 use kc_diagnostics::Cause;
 use kc_expr::expression::SymId;

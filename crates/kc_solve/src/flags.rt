@@ -1,18 +1,17 @@
 //! What each choice selects, and what is said of each symbol, under the values of a full table.
 
 ghost use Rattle.std.specs.Prelude.{◌≡◌, ◌<◌, false, length, map, slice_index_or, None, IfOk, IfSome};
-ghost use Rattle.kc_expr.specs.declared.expression.Tri.TheVariants.{N};
-ghost use Rattle.kc_order.specs.Solution.{Solves};
+ghost use Rattle.kc_language.specs.declared.expressions.Tri.TheVariants.{N};
+ghost use Rattle.kc_language.specs.Values.{Solves, name_count, equations};
 ghost use Rattle.kc_solve.specs.Flags as flag;
 ghost use Rattle.kc_solve.specs.Flags.{row_differs, visibilities_in, IsSolvedRow};
-ghost use Rattle.kc_user.specs.Places.{ArePlacesOf, member_place, place_at};
+ghost use Rattle.kc_language.specs.ConfigFile.{ArePlacesOf, member_place, place_at};
 ghost use Rattle.kc_values.specs.Differs as spec;
-ghost use Rattle.kc_values.specs.Solution.{name_count, equations};
 ghost use Rattle.kc_values.specs.AtTable as at;
 ghost use Rattle.kc_values.specs.TableFacts.{AreSelected, IsRowOf};
 ghost use Rattle.kc_values.specs.User.{given_in};
 ghost use Rattle.kc_diagnostics.specs.Warnings.{owned_warning};
-ghost use Rattle.kc_values.specs.Warnings.{value_warnings};
+ghost use Rattle.kc_language.specs.Texts.{warnings_of_values as value_warnings};
 
 use crate::compute::symbol_row;
 use kc_diagnostics::Warning;

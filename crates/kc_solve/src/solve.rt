@@ -1,14 +1,13 @@
 //! The one valuation that solves the equations of a tree.
 
 ghost use Rattle.std.specs.Prelude.{◌≡◌, length, IfOk, OnOk};
-ghost use Rattle.kc_order.specs.Solution.{Solves, IsOnlySolution};
+ghost use Rattle.kc_language.specs.Values.{Solves, IsOnlySolution, name_count, equations};
 ghost use Rattle.kc_solve.specs.Graphs.{IsGraphOf};
 ghost use Rattle.kc_solve.specs.Kept.{valuation};
-ghost use Rattle.kc_solve.specs.Solved.{value_of};
+ghost use Rattle.kc_language.specs.Texts.{value_of};
 ghost use Rattle.kc_solve.specs.SolvedLaws.{IsMinimal, IdempotentWhere};
-ghost use Rattle.kc_user.specs.Places.{ArePlacesOf, place_at};
-ghost use Rattle.kc_values.specs.Needs.{IsAccepted};
-ghost use Rattle.kc_values.specs.Solution.{name_count, equations};
+ghost use Rattle.kc_language.specs.ConfigFile.{ArePlacesOf, place_at};
+ghost use Rattle.kc_language.specs.Needs.{IsAccepted};
 ghost use Rattle.kc_values.specs.TableFacts.{AreSelected};
 
 use crate::compute::compute;

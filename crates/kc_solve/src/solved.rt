@@ -1,16 +1,16 @@
 //! The solution of a tree's equations under a user's places, and what follows from it.
 
 ghost use Rattle.std.specs.Prelude.{◌≡◌, ◌<◌, length, map, slice_get};
-ghost use Rattle.kc_expr.specs.Value.{text_of_value};
+ghost use Rattle.kc_language.specs.Expressions.{text_of_value};
 ghost use Rattle.kc_values.specs.TableFacts.{known_at};
 ghost use Rattle.kc_solve.specs.Answers as spec;
 ghost use Rattle.kc_diagnostics.specs.Warnings.{owned_warning};
-ghost use Rattle.kc_solve.specs.Solved.{IsSolution, value_warnings};
+ghost use Rattle.kc_language.specs.Texts.{IsSolution, value_warnings};
 ghost use Rattle.kc_solve.specs.SolvedLaws.{IsMinimal, IdempotentWhere};
 ghost use Rattle.kc_solve.specs.Answers.{TellsKnown};
 ghost use Rattle.kc_solve.specs.Titles.{IsTitleAt};
-ghost use Rattle.kc_values.specs.Needs.{IsAccepted};
-ghost use Rattle.kc_values.specs.Solution.{name_count};
+ghost use Rattle.kc_language.specs.Needs.{IsAccepted};
+ghost use Rattle.kc_language.specs.Values.{name_count};
 
 use crate::flags::{at_choice, at_symbol, visibility_at};
 use kc_diagnostics::Warning;
@@ -42,7 +42,7 @@ pub struct Solved<'a> {
 impl<'a> Model for Solved<'a> {
     ghost use Rattle.std.specs.Prelude.{◌≡◌, map};
     ghost use Rattle.kc_diagnostics.specs.Warnings.{owned_warning};
-    ghost use Rattle.kc_solve.specs.Solved.{Solution};
+    ghost use Rattle.kc_language.specs.Texts.{Solution};
     ghost use Rattle.kc_solve.specs.Kept.{IsSolved, solution_in};
     ghost use Rattle.kc_solve.specs.SolutionCode.{solution_code};
 

@@ -5,7 +5,7 @@ use Rattle.std.specs.List.{slice_split, onto_first, join_with_byte}
 use Rattle.std.proofs.lemmas.Bool.{cases_Bool, ne_eqb}
 use Rattle.std.proofs.lemmas.List.Sums.{sum_by-cons}
 use Rattle.std.proofs.lemmas.List.Splits.{length-slice_split, join_with_byte-slice_split}
-use Rattle.kc_text.specs.Lines.{physical_lines, lines_of_parts}
+use Rattle.kc_language.specs.Lines.{physical_lines, lines_of_parts}
 use Rattle.kc_text.proofs.Physicals.{parts_cons, lf}
 
 -- a byte before the first part changes nothing, where that is not an empty last one

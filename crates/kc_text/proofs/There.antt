@@ -6,12 +6,12 @@ use Rattle.std.specs.Str.{bytes_eq}
 use Rattle.std.proofs.lemmas.List.{length-take-le, take_all}
 use Rattle.std.proofs.lemmas.List.Elements.{All-cons}
 use Rattle.std.proofs.lemmas.Slice.Eq.{bytes_eq-Decides}
-use Rattle.kc_text.specs.declared.faults.TextFault.{TextFault}
-use Rattle.kc_text.specs.declared.faults.TextFault.TheVariants as faults
-use Rattle.kc_text.specs.declared.tokens.Op.{Op}
-use Rattle.kc_text.specs.declared.tokens.Op.TheVariants as ops
-use Rattle.kc_text.specs.Lexemes.{is_blank, is_word_byte, IsQuote, IsQuotedBody, op_text, Lexeme, AWord, AQuoted, AnOp}
-use Rattle.kc_text.specs.Tokens.{IsEnd, IsLongest, HasNoToken, IsReason, CannotBeCut, IsCut, ended, stuck, skipped, taken, OneCutting}
+use Rattle.kc_language.specs.declared.tokens.TextFault.{TextFault}
+use Rattle.kc_language.specs.declared.tokens.TextFault.TheVariants as faults
+use Rattle.kc_language.specs.declared.tokens.Op.{Op}
+use Rattle.kc_language.specs.declared.tokens.Op.TheVariants as ops
+use Rattle.kc_language.specs.Tokens.{is_blank, is_word_byte, IsQuote, IsQuotedBody, op_text, Lexeme, AWord, AQuoted, AnOp, IsEnd, IsLongest, HasNoToken, IsReason, CannotBeCut, IsCut, ended, stuck, skipped, taken}
+use Rattle.kc_text.specs.Tokens.{OneCutting}
 use Rattle.kc_text.specs.LexerParts.{IsLongestOp, HasNoOp, IsQuoteFault}
 use Rattle.kc_text.proofs.Quoted.{IsScanned, scanned_none, scanned_plain, scanned_taken, holds_dollar, holds_dollar_taken, no_end, no_end_taken, no_dollar_last}
 use Rattle.kc_text.proofs.Spelled.{apart, word_token_more, quoted_token, quoted_fault, op_token, no_token, no_macro_here, op_length, spelled_nonempty}

@@ -1,11 +1,10 @@
 -- For proofs: What the parts of the lexer find: plain bytes, signs, and why a quoted text is none.
 use Rattle.std.specs.Prelude.{◌≡◌, ◌≢◌, ℕ, ◌<◌, ◌≤◌, List, length, take, slice_index, All, Bool, not, ◌||◌, ◌==◌, IsTrue}
-use Rattle.kc_text.specs.Bytes.{byte}
-use Rattle.kc_text.specs.declared.faults.TextFault.{TextFault}
-use Rattle.kc_text.specs.declared.faults.TextFault.TheVariants as faults
-use Rattle.kc_text.specs.declared.tokens.Op.{Op}
-use Rattle.kc_text.specs.Lexemes.{EndsQuoted, op_text}
-use Rattle.kc_text.specs.Tokens.{HoldsDollar}
+use Rattle.kc_language.specs.Text.{byte}
+use Rattle.kc_language.specs.declared.tokens.TextFault.{TextFault}
+use Rattle.kc_language.specs.declared.tokens.TextFault.TheVariants as faults
+use Rattle.kc_language.specs.declared.tokens.Op.{Op}
+use Rattle.kc_language.specs.Tokens.{EndsQuoted, op_text, HoldsDollar}
 
 -- any byte but `"`, `'`, `$` and `\`
 abbrev pub is_plain : ℕ → Bool

@@ -1,7 +1,7 @@
 //! Bytes that mean the same in Kconfig files and in `.config` files.
 ghost use Rattle.std.specs.Prelude.{◌≡◌};
 ghost use Rattle.std.specs.Str.Lines.{strip_carriage_return};
-ghost use Rattle.kc_text.specs.Lexemes.{is_blank};
+ghost use Rattle.kc_language.specs.Tokens.{is_blank};
 
 /// Whether a byte is a blank: a space or a tab. (Our own, after the kernel's tools.)
 pub fn is_blank(byte: u8) -> bool

@@ -1,6 +1,6 @@
 //! The text of a file, with what is counted and looked for only once.
 ghost use Rattle.std.specs.Prelude.{◌≡◌, length};
-ghost use Rattle.kc_text.specs.Lines.{physical_lines};
+ghost use Rattle.kc_language.specs.Lines.{physical_lines};
 ghost use Rattle.kc_text.specs.LongLines.{AreLong};
 
 use crate::long_lines::{LongLine, long_lines};
@@ -19,7 +19,7 @@ pub struct FileText {
 
 impl Model for FileText {
     ghost use Rattle.std.specs.Prelude.{◌≡◌, ℕ, List, length};
-    ghost use Rattle.kc_text.specs.Lines.{physical_lines};
+    ghost use Rattle.kc_language.specs.Lines.{physical_lines};
     ghost use Rattle.kc_text.specs.LongLines.{AreLong};
 
     ghost Value = { List ℕ };

@@ -2,12 +2,12 @@
 use Rattle.std.proofs.Common.{◌≡◌, ℕ, zero, suc, ◌+◌, ◌-◌, ◌<◌, ◌≤◌, List, [], ◌∷◌, ◌++◌, length, take, drop, Option, Some, None, refl, ap, sym, ◌∙◌, arith, get_or, ◌⊎◌, inl, inr, is_some}
 use Rattle.std.specs.List.{slice_get}
 use Rattle.std.specs.Borrow.{Bor}
-use Rattle.std.specs.Option.{option_map}
+use Rattle.std.specs.Prelude.{option_map}
 use Rattle.std.proofs.lemmas.List.{get_or_append_left, get_or_past, length-append, take-append-drop, take-append-le}
 use Rattle.std.proofs.lemmas.Option.{slice_get_within, slice_get_cases}
 use Rattle.std.proofs.Math.Seq.{get_or-append_seam, take-append_seam}
 use Rattle.kc_tree.specs.Contexts.{top, condition_in, condition_of, conditions_from, conditions_of, mode_view, AreNested, KeepsMode, BeginsMode, KeepModes, IsContextAt, IsContext}
-use Rattle.kc_tree.specs.TreeFacts.{Condition}
+use Rattle.kc_language.specs.Symbols.{Condition}
 use Rattle.kc_tree.specs.declared.rows.Context.{Context}
 
 pub from-snoc : (table : List Condition) (cs : List Context) (c : Context) → conditions_from table (cs ++ c ∷ []) ≡ conditions_from table cs ++ condition_of (conditions_from table cs) c ∷ []

@@ -2,7 +2,7 @@
 use Rattle.std.proofs.Common.{◌≡◌, ℕ, zero, suc, ◌+◌, List, [], ◌∷◌, ◌++◌, length, map, Option, Some, None, refl, ap, sym, ◌∙◌, arith}
 use Rattle.std.specs.Borrow.{Bor}
 use Rattle.std.specs.List.{slice_get, filter_map, range_with_len}
-use Rattle.std.specs.Option.{option_map}
+use Rattle.std.specs.Prelude.{option_map}
 use Rattle.std.proofs.lemmas.List.{append_assoc, length-append}
 use Rattle.kc_tree.specs.RowFacts.{IsSymbolRowOf, AreChoicesOf, IsEntryOf, AreEntriesOf}
 use Rattle.kc_tree.specs.Layouts.{facts_of, facts_at, symbols_in, choice_facts, shown_of}

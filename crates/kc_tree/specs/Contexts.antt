@@ -1,12 +1,11 @@
 -- Trusted: What contexts ask for: of each the whole condition that it stands for, that of the top first.
 use Rattle.std.specs.Prelude.{◌≡◌, ◌<◌, ◌≤◌, ℕ, List, [], ◌∷◌, ◌++◌, take, is_some, false, Option, Some, None, option_map, slice_get, slice_index_or}
 use Rattle.std.specs.Borrow.{Bor}
-use Rattle.kc_expr.specs.Form.{Form}
+use Rattle.kc_language.specs.Expressions.{Form}
 use Rattle.kc_expr.specs.When.{when_view}
-use Rattle.kc_tree.specs.declared.rows.ChoiceId.{ChoiceId}
+use Rattle.kc_language.specs.declared.symbols.ChoiceId.{ChoiceId}
 use Rattle.kc_tree.specs.declared.rows.Context.{Context}
-use Rattle.kc_tree.specs.Common.{listed}
-use Rattle.kc_tree.specs.TreeFacts.{Condition}
+use Rattle.kc_language.specs.Symbols.{listed, Condition}
 
 -- nothing is asked for
 abbrev pub top : Condition

@@ -1,11 +1,11 @@
 -- For proofs: That a tree is laid out in tables is proved in one way alone.
 use Rattle.std.specs.Prelude.{ℕ}
 use Rattle.std.specs.Coded.{Coded, Coded-set, coded_list, coded_option}
-use Rattle.kc_expr.specs.contracts.expression.SymId as sym_id
+use Rattle.kc_language.specs.contracts.expressions.SymId as sym_id
 use Rattle.kc_tree.specs.declared.layout.Layout.{Layout}
 use Rattle.kc_tree.specs.Layouts.{IsLayoutOf}
 use Rattle.kc_tree.specs.TreeCode.{choice_code, shown_code, symbol_code}
-use Rattle.kc_tree.specs.TreeFacts.{TreeFacts}
+use Rattle.kc_language.specs.Symbols.{TreeFacts}
 
 pub layout-prop : (t : TreeFacts) (l : Layout) → IsProp (IsLayoutOf t l)
 layout-prop t l a b = λ i. record {

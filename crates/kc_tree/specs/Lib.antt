@@ -12,4 +12,3 @@ pub mod TreeCode
 pub mod TreeFacts
 pub mod TreeView
 pub mod Wholes
-pub mod Common

@@ -1,7 +1,7 @@
 -- Trusted: A choice or none, as a number.
 use Rattle.std.specs.Prelude.{ℕ, zero, suc, Option, Some, None, refl}
 use Rattle.std.specs.Coded.{Coded, code_by, coded_ℕ}
-use Rattle.kc_tree.specs.declared.rows.ChoiceId.{ChoiceId}
+use Rattle.kc_language.specs.declared.symbols.ChoiceId.{ChoiceId}
 
 -- the choice with a number, counted from 1; none at 0
 abbrev pub choice_numbered : ℕ → Option ChoiceId

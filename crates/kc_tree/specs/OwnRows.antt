@@ -1,6 +1,7 @@
 -- Trusted: What a default and a range say by themselves, without what their entry depends on.
 use Rattle.std.specs.Prelude.{Option}
-use Rattle.kc_expr.specs.Form.{Form, Leaf, form_of, leaf_of}
+use Rattle.kc_language.specs.Expressions.{Form, Leaf}
+use Rattle.kc_expr.specs.Form.{form_of, leaf_of}
 use Rattle.kc_expr.specs.When.{when_view}
 use Rattle.kc_tree.specs.declared.rows.SymbolDefault.{SymbolDefault}
 use Rattle.kc_tree.specs.declared.rows.SymbolRange.{SymbolRange}

@@ -6,7 +6,7 @@ use Rattle.kc_tree.specs.declared.rows.ShownEntry.{ShownEntry}
 use Rattle.kc_tree.specs.declared.rows.ShownEntry.TheVariants as entry
 use Rattle.kc_tree.specs.declared.rows.Symbol.{Symbol}
 use Rattle.kc_tree.specs.Contexts.{mode_view}
-use Rattle.kc_tree.specs.TreeFacts.{SymbolFacts, ChoiceFacts, Shown, SymbolShown, MenuShown, EndShown, CommentShown}
+use Rattle.kc_language.specs.Symbols.{SymbolFacts, ChoiceFacts, Shown, SymbolShown, MenuShown, EndShown, CommentShown}
 
 -- a row has the type and the choice of its symbol
 pub record HasTypeAndChoice (f : SymbolFacts) (s : Symbol) : Type 0 where

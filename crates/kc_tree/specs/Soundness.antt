@@ -2,7 +2,7 @@
 -- no mode counts. Each fact is a function to an inequality or an equation of truth values, so that a table may hold it as a
 -- ghost field.
 use Rattle.std.specs.Prelude.{◌≡◌, ◌<◌, ℕ, List, length, Option, Some, None, slice_get}
-use Rattle.kc_tree.specs.TreeFacts.{Condition}
+use Rattle.kc_language.specs.Symbols.{Condition}
 use Rattle.kc_tree.specs.declared.rows.Choice.{Choice}
 use Rattle.kc_tree.specs.declared.rows.Definition.{Definition}
 use Rattle.kc_tree.specs.declared.rows.EntryPrompt.{EntryPrompt}

@@ -2,13 +2,13 @@
 use Rattle.std.specs.Prelude.{◌≡◌, ℕ, List, Option, ◌⊎◌, refl}
 use Rattle.std.proofs.Common.{inl, inr}
 use Rattle.std.specs.Coded.{Coded, code_by, coded×, coded⊎, coded_ℕ, coded_list, coded_option}
-use Rattle.kc_expr.specs.declared.expression.SymId.{SymId}
-use Rattle.kc_expr.specs.declared.expression.SymbolType.{SymbolType}
-use Rattle.kc_expr.specs.contracts.expression.SymId as sym_id
-use Rattle.kc_expr.specs.contracts.expression.SymbolType as symbol_type
-use Rattle.kc_expr.specs.Form.{Form, Leaf}
+use Rattle.kc_language.specs.declared.expressions.SymId.{SymId}
+use Rattle.kc_language.specs.declared.expressions.SymbolType.{SymbolType}
+use Rattle.kc_language.specs.contracts.expressions.SymId as sym_id
+use Rattle.kc_language.specs.contracts.expressions.SymbolType as symbol_type
+use Rattle.kc_language.specs.Expressions.{Form, Leaf}
 use Rattle.kc_expr.specs.FormCode.{bytes_code, form_code, leaf_code}
-use Rattle.kc_tree.specs.TreeFacts.{Condition, Guarded, Bounds, SymbolFacts, ChoiceFacts, Shown, SymbolShown, MenuShown, EndShown, CommentShown, TreeFacts}
+use Rattle.kc_language.specs.Symbols.{Condition, Guarded, Bounds, SymbolFacts, ChoiceFacts, Shown, SymbolShown, MenuShown, EndShown, CommentShown, TreeFacts}
 
 abbrev sym_code : Coded SymId
 sym_code = sym_id.the_row.coded

@@ -1,66 +1,11 @@
 -- Trusted: What a tree says, without where it lies in memory.
-use Rattle.std.specs.Prelude.{◌≡◌, ◌≢◌, ℕ, true, ◌<◌, ◌≤◌, List, length, Option, Some, None, slice_get, Contains, All}
-use Rattle.kc_expr.specs.declared.expression.SymId.{SymId}
-use Rattle.kc_expr.specs.declared.expression.SymbolType.{SymbolType}
-use Rattle.kc_expr.specs.declared.expression.SymbolType.TheVariants as symbol_type
-use Rattle.kc_expr.specs.Form.{Form, Leaf, Text, Symbol, Single, Related, Negated, LoneM, Every, Some_of}
-use Rattle.kc_text.specs.Limits.{longest_line}
-use Rattle.kc_text.specs.Lines.{HoldsNoLineFeed}
-use Rattle.kc_expr.specs.Limits.{longest_name}
-use Rattle.kc_expr.specs.Names.{is_name_byte}
-use Rattle.kc_expr.specs.Limits.{most_symbols}
-
--- the `&&` of these, and of that choice's mode
-pub record Condition : Type 0 where
-  pub conjuncts : List Form
-  pub mode : Option ℕ
-
--- something that counts under a condition
-pub record Guarded (X : Type 0) : Type 0 where
-  pub what : X
-  pub when : Condition
-
-pub record Bounds : Type 0 where
-  pub low : Leaf
-  pub high : Leaf
-
-pub record SymbolFacts : Type 0 where
-  pub symbol_type : SymbolType
-  pub choice : Option ℕ
-  pub dependencies : List Condition
-  pub prompts : List Condition
-  pub defaults : List (Guarded Form)
-  pub ranges : List (Guarded Bounds)
-  pub selectors : List (Guarded SymId)
-  pub impliers : List (Guarded SymId)
-
-pub record ChoiceFacts : Type 0 where
-  pub prompt : Option Condition
-  pub defaults : List (Guarded SymId)
-  pub members : List SymId
-
--- a symbol at its first definition; a menu or comment with its text and the condition under which it is shown; the end
--- of a menu, with that menu's place among the entries
-pub data Shown : Type 0 where
-  SymbolShown : SymId → Shown
-  MenuShown : List ℕ → Condition → Shown
-  EndShown : ℕ → Shown
-  CommentShown : List ℕ → Condition → Shown
-
--- Symbol i has name i, and its facts are facts i. A name that is mentioned and not defined is a symbol without a type and
--- without lines. `defined` are those that are defined, in the order of their first definition. `modules` is None where the
--- modules symbol is not defined.
-pub record TreeFacts : Type 0 where
-  pub names : List (List ℕ)
-  pub symbols : List SymbolFacts
-  pub defined : List SymId
-  pub choices : List ChoiceFacts
-  pub entries : List Shown
-  pub warnings : List (List ℕ)
-  pub main_menu : List ℕ
-  pub modules : Option SymId
-
--- What holds of the facts of every tree.
+use Rattle.std.specs.Prelude.{◌≡◌, ◌≢◌, ℕ, true, ◌<◌, ◌≤◌, List, length, Some, None, slice_get, Contains, All}
+use Rattle.kc_language.specs.Expressions.{Form, Text, Symbol, Single, Related, Negated, LoneM, Every, Some_of, is_name_byte}
+use Rattle.kc_language.specs.Lines.{HoldsNoLineFeed}
+use Rattle.kc_language.specs.Symbols.{Condition, Guarded, Bounds, SymbolFacts, ChoiceFacts, Shown, SymbolShown, MenuShown, EndShown, CommentShown, TreeFacts}
+use Rattle.kc_language.specs.Text.{longest_line, longest_name, most_symbols}
+use Rattle.kc_language.specs.declared.expressions.SymId.{SymId}
+use Rattle.kc_language.specs.declared.expressions.SymbolType.TheVariants as symbol_type
 
 -- one byte or more that may stand in a name, and not too many
 pub record IsSymbolName (name : List ℕ) : Type 0 where

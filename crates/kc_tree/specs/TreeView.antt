@@ -1,6 +1,6 @@
 -- Trusted: What the fields of a tree say.
 use Rattle.kc_tree.specs.declared.tree.Tree.TheInside.{Inside}
-use Rattle.kc_tree.specs.TreeFacts.{TreeFacts}
+use Rattle.kc_language.specs.Symbols.{TreeFacts}
 use Rattle.kc_tree.specs.Wholes.{tree_of}
 
 abbrev pub tree_of_parts : Inside → TreeFacts

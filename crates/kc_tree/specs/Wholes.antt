@@ -2,7 +2,7 @@
 use Rattle.std.specs.Prelude.{ℕ, List, map}
 use Rattle.kc_tree.specs.declared.layout.TreeParts.{TreeParts}
 use Rattle.kc_tree.specs.Layouts.{symbols_in, choices_in, entries_in}
-use Rattle.kc_tree.specs.TreeFacts.{TreeFacts}
+use Rattle.kc_language.specs.Symbols.{TreeFacts}
 
 abbrev pub tree_of : List (List ℕ) → TreeParts → TreeFacts
 tree_of names p = record {

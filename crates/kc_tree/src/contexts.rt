@@ -20,7 +20,7 @@ pub struct Contexts {
 
 impl Model for Contexts {
     ghost use Rattle.std.specs.Prelude.{List};
-    ghost use Rattle.kc_tree.specs.TreeFacts.{Condition};
+    ghost use Rattle.kc_language.specs.Symbols.{Condition};
     ghost use Rattle.kc_tree.specs.TreeCode.{conditions_code};
 
     ghost Value = { List Condition };

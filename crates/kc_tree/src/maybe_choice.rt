@@ -16,7 +16,7 @@ pub struct MaybeChoice {
 impl Model for MaybeChoice {
     ghost use Rattle.std.specs.Prelude.{Option};
     ghost use Rattle.std.specs.Coded.{coded_option};
-    ghost use Rattle.kc_tree.specs.declared.rows.ChoiceId.{ChoiceId};
+    ghost use Rattle.kc_language.specs.declared.symbols.ChoiceId.{ChoiceId};
     ghost use Rattle.kc_tree.specs.MaybeChoices.{choice_numbered, choice_id_code};
 
     ghost Value = { Option ChoiceId };

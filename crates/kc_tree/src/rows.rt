@@ -7,13 +7,9 @@ ghost use Rattle.kc_tree.specs.OwnRows.{default_row, range_row};
 use crate::definitions::SymbolDefinitions;
 use crate::maybe_choice::MaybeChoice;
 use kc_expr::expression::{Expr, Operand, SymId, SymbolType, shared_condition};
+pub use kc_language::symbols::ChoiceId;
 use std::alloc::AllocError;
 use std::rc::Rc;
-
-/// The number of a choice: its place among the tree's choices, in the order in which they open. The numbers are our
-/// own.
-#[derive(Clone, Copy, PartialEq, Eq, Debug)]
-pub struct ChoiceId(pub u32);
 
 /// The number of a context: 0 is the top of the tree, where nothing is asked for. The numbers are our own.
 #[derive(Clone, Copy, PartialEq, Eq, Debug)]

@@ -1,8 +1,7 @@
 //! The tree of a Kconfig file.
 
-ghost use Rattle.std.specs.Prelude.{◌≡◌, ◌<◌, length, map, Some, slice_get, position};
-ghost use Rattle.std.specs.Option.{option_map};
-ghost use Rattle.kc_expr.specs.Names.{symbol, same_name};
+ghost use Rattle.std.specs.Prelude.{◌≡◌, ◌<◌, length, map, Some, slice_get, position, option_map};
+ghost use Rattle.kc_language.specs.Expressions.{symbol, same_name};
 ghost use Rattle.kc_tree.specs.Wholes.{tree_of};
 ghost use Rattle.kc_tree.specs.RowFacts.{IsSymbolRowOf, AreChoicesOf, AreEntriesOf};
 ghost use Rattle.kc_tree.specs.Layouts.{IsLayoutOf};
@@ -27,7 +26,8 @@ pub struct Tree {
 }
 
 impl Model for Tree {
-    ghost use Rattle.kc_tree.specs.TreeFacts.{TreeFacts, IsWellFormed};
+    ghost use Rattle.kc_language.specs.Symbols.{TreeFacts};
+    ghost use Rattle.kc_tree.specs.TreeFacts.{IsWellFormed};
     ghost use Rattle.kc_tree.specs.TreeCode.{tree_code};
 
     ghost Value = { TreeFacts };

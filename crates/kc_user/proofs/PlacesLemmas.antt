@@ -4,12 +4,12 @@ use Rattle.std.specs.Prelude.{slice_get, slice_index_or, slice_set}
 use Rattle.std.specs.List.{Contains}
 use Rattle.std.proofs.lemmas.Bool.{cases_eq, cases_lt, false≢true, leb-true}
 use Rattle.std.proofs.lemmas.List.{get_or-replicate, get_or_past, length-replicate, length-set}
-use Rattle.kc_expr.specs.Names.{symbol}
-use Rattle.kc_expr.specs.declared.expression.SymbolType.{SymbolType}
-use Rattle.kc_expr.specs.declared.expression.SymbolType.TheVariants as symbol_type
-use Rattle.kc_text.specs.Escapes.{escape}
-use Rattle.kc_tree.specs.TreeFacts.{SymbolFacts}
-use Rattle.kc_user.specs.GivenValue.{GivenText}
+use Rattle.kc_language.specs.Expressions.{symbol}
+use Rattle.kc_language.specs.declared.expressions.SymbolType.{SymbolType}
+use Rattle.kc_language.specs.declared.expressions.SymbolType.TheVariants as symbol_type
+use Rattle.kc_language.specs.Text.{escape}
+use Rattle.kc_language.specs.Symbols.{SymbolFacts}
+use Rattle.kc_language.specs.Values.{GivenText}
 use Rattle.kc_user.proofs.UserLemmas.{length-escape}
 use Rattle.kc_user.specs.Laws.{EmptyArePlaces, SettingKeepsPlaces, SelectingKeepsPlaces, TextsAreShort}
 use Rattle.kc_user.specs.Places.{allowed, allowed_for, allowed_text, fits_quoted, is_short, members_of}

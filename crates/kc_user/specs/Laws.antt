@@ -1,11 +1,12 @@
 -- Trusted: What holds of the places of every tree.
 use Rattle.std.specs.Prelude.{◌≡◌, ◌≤◌, ℕ, true, List, length, None, Some, slice_get, slice_index_or, slice_set}
 use Rattle.std.specs.List.{Contains}
-use Rattle.kc_user.specs.Limits.{longest_value}
-use Rattle.kc_expr.specs.declared.expression.SymId.{SymId}
-use Rattle.kc_tree.specs.TreeFacts.{TreeFacts}
-use Rattle.kc_user.specs.GivenValue.{GivenValue, GivenText}
-use Rattle.kc_user.specs.Places.{Places, ArePlaces, no_places, allowed, members_of}
+use Rattle.kc_language.specs.Text.{longest_value}
+use Rattle.kc_language.specs.declared.expressions.SymId.{SymId}
+use Rattle.kc_language.specs.Symbols.{TreeFacts}
+use Rattle.kc_language.specs.Values.{GivenValue, GivenText}
+use Rattle.kc_language.specs.ConfigFile.{Places, no_places}
+use Rattle.kc_user.specs.Places.{ArePlaces, allowed, members_of}
 
 -- Empty places are places of the tree.
 abbrev pub EmptyArePlaces : Type 0

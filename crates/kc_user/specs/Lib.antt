@@ -1,6 +1,4 @@
-pub mod GivenValue
 pub mod Laws
-pub mod Limits
 pub mod Places
 pub mod Sparse
 pub mod UserView

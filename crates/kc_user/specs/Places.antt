@@ -1,46 +1,17 @@
 -- Trusted: What stands in the user's places, and what may stand there.
-use Rattle.std.specs.Prelude.{◌≡◌, ℕ, ◌+◌, List, [], length, Bool, true, false, not, ◌&&◌, nat_le, Option, Some, None, is_some, slice_get, slice_index_or, replicate}
 use Rattle.std.specs.List.{Contains, list_any}
-use Rattle.kc_text.specs.Escapes.{escape}
-use Rattle.kc_text.specs.Lines.{is_line_feed}
-use Rattle.kc_text.specs.Numbers.{int_of, hex_of}
-use Rattle.kc_expr.specs.declared.expression.SymId.{SymId}
-use Rattle.kc_expr.specs.declared.expression.Tri.{Tri}
-use Rattle.kc_expr.specs.declared.expression.Tri.TheVariants.{N, M, Y}
-use Rattle.kc_expr.specs.declared.expression.SymbolType.{SymbolType}
-use Rattle.kc_expr.specs.declared.expression.SymbolType.TheVariants as symbol_type
-use Rattle.kc_expr.specs.Names.{symbol}
-use Rattle.kc_tree.specs.TreeFacts.{TreeFacts, SymbolFacts, ChoiceFacts}
-use Rattle.kc_user.specs.Limits.{longest_value}
-use Rattle.kc_user.specs.GivenValue.{GivenValue, GivenTruth, GivenText, Member, UserPlace, SymbolPlace, ChoicePlace}
-
--- one place for each symbol and one for each choice, by their numbers
-pub record Places : Type 0 where
-  pub symbols : List (Option GivenValue)
-  pub choices : List (Option SymId)
-
--- the member in a choice's place
-abbrev pub member_place : Option SymId → Option GivenValue
-member_place None = None
-member_place (Some m) = Some (Member m)
-
-abbrev pub place_at : Places → UserPlace → Option GivenValue
-place_at places (SymbolPlace i) = slice_index_or places.symbols i None
-place_at places (ChoicePlace c) = member_place (slice_index_or places.choices c None)
-
--- the places are those of the tree: one a symbol, one a choice
-pub record ArePlacesOf (tree : TreeFacts) (places : Places) : Type 0 where
-  pub symbols : length places.symbols ≡ length tree.symbols
-  pub choices : length places.choices ≡ length tree.choices
-
--- every place of a tree is there and empty
-abbrev pub no_places : TreeFacts → Places
-no_places tree = record {
-  symbols = replicate (length tree.symbols) None;
-  choices = replicate (length tree.choices) None;
-}
-
--- Allowed: exactly the values that some set or unset line of a .config gives.
+use Rattle.std.specs.Prelude.{◌≡◌, ℕ, ◌+◌, List, [], length, Bool, true, false, not, ◌&&◌, nat_le, Option, Some, None, is_some, slice_get, slice_index_or}
+use Rattle.kc_language.specs.ConfigFile.{Places, place_at, ArePlacesOf}
+use Rattle.kc_language.specs.Expressions.{symbol}
+use Rattle.kc_language.specs.Lines.{is_line_feed}
+use Rattle.kc_language.specs.Symbols.{TreeFacts, SymbolFacts, ChoiceFacts}
+use Rattle.kc_language.specs.Text.{escape, int_of, hex_of, longest_value}
+use Rattle.kc_language.specs.Values.{GivenValue, GivenTruth, GivenText, Member, UserPlace, SymbolPlace}
+use Rattle.kc_language.specs.declared.expressions.SymId.{SymId}
+use Rattle.kc_language.specs.declared.expressions.SymbolType.{SymbolType}
+use Rattle.kc_language.specs.declared.expressions.Tri.{Tri}
+use Rattle.kc_language.specs.declared.expressions.Tri.TheVariants.{N, M, Y}
+use Rattle.kc_language.specs.declared.expressions.SymbolType.TheVariants as symbol_type
 
 -- `"TEXT"` with a `\` before each `"` and `\` is no longer than a value may be, and no line end stands in it
 abbrev pub fits_quoted : List ℕ → Bool

@@ -1,7 +1,6 @@
 -- Trusted: What the fields of a user's places say.
-use Rattle.std.specs.Prelude.{map}
-use Rattle.std.specs.Option.{option_map}
-use Rattle.kc_user.specs.Places.{Places}
+use Rattle.std.specs.Prelude.{map, option_map}
+use Rattle.kc_language.specs.ConfigFile.{Places}
 use Rattle.kc_user.specs.ValueView.{given_of_value}
 use Rattle.kc_user.specs.declared.user.User.TheInside.{Inside}
 

@@ -1,5 +1,5 @@
 -- Trusted: What a value stands for.
-use Rattle.kc_user.specs.GivenValue.{GivenValue, GivenTruth, GivenText}
+use Rattle.kc_language.specs.Values.{GivenValue, GivenTruth, GivenText}
 use Rattle.kc_user.specs.declared.value.UserValue.{UserValue}
 use Rattle.kc_user.specs.declared.value.UserValue.TheVariants.{Tri, Text}
 

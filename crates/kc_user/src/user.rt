@@ -1,7 +1,6 @@
 //! The user's places.
-ghost use Rattle.std.specs.Prelude.{◌≡◌, ◌<◌, length, map, slice_set, slice_index_or, Some, None, IfOk, OnErr, OnOk, replicate};
-ghost use Rattle.std.specs.Option.{option_map};
-ghost use Rattle.kc_user.specs.Places as spec;
+ghost use Rattle.std.specs.Prelude.{◌≡◌, ◌<◌, length, map, slice_set, slice_index_or, Some, None, IfOk, OnErr, OnOk, replicate, option_map};
+ghost use Rattle.kc_language.specs.ConfigFile as spec;
 ghost use Rattle.kc_user.specs.ValueView.{given_of_value};
 
 use crate::sparse::SparseVec;
@@ -22,7 +21,7 @@ pub struct User {
 }
 
 impl Model for User {
-    ghost use Rattle.kc_user.specs.Places.{Places};
+    ghost use Rattle.kc_language.specs.ConfigFile.{Places};
 
     ghost Value = { Places };
 

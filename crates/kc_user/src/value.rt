@@ -1,9 +1,8 @@
 //! What a user may give for one symbol.
 ghost use Rattle.std.specs.Prelude.{◌≡◌, ◌+◌, length, nat_le, count_by};
 ghost use Rattle.std.specs.List.{list_any};
-ghost use Rattle.kc_text.specs.Lines.{is_line_feed};
-ghost use Rattle.kc_user.specs.Limits.{longest_value};
-ghost use Rattle.kc_text.specs.Escapes.{escape, is_escaped};
+ghost use Rattle.kc_language.specs.Lines.{is_line_feed};
+ghost use Rattle.kc_language.specs.Text.{longest_value, escape, is_escaped};
 ghost use Rattle.kc_user.specs.Places as spec;
 ghost use Rattle.kc_user.specs.ValueView.{given_of_value};
 

@@ -4,18 +4,17 @@ use Rattle.std.specs.List.{slice_get, filter_map, cons_option}
 use Rattle.std.specs.Option.{option_and_then}
 use Rattle.std.proofs.Math.Seq.{get_or-append_seam}
 use Rattle.std.proofs.lemmas.List.{get_or_append_left, get_or_past}
-use Rattle.kc_expr.specs.declared.expression.SymId.{SymId}
-use Rattle.kc_expr.specs.declared.expression.Tri.{Tri}
-use Rattle.kc_expr.specs.declared.expression.Tri.TheVariants.{N}
-use Rattle.kc_expr.specs.Value.{SymbolValue, truth_of_value, lesser, greater}
+use Rattle.kc_language.specs.declared.expressions.SymId.{SymId}
+use Rattle.kc_language.specs.declared.expressions.Tri.{Tri}
+use Rattle.kc_language.specs.declared.expressions.Tri.TheVariants.{N}
+use Rattle.kc_language.specs.Expressions.{SymbolValue, truth_of_value, lesser, greater}
 use Rattle.kc_tree.specs.declared.layout.Tables.{Tables}
 use Rattle.kc_tree.specs.declared.rows.Selector.{Selector}
 use Rattle.kc_tree.specs.declared.rows.SelectorId.{SelectorId}
 use Rattle.kc_tree.specs.Chains.{chain_of, chains_from, chains_of, AreChained}
 use Rattle.kc_tree.specs.Layouts.{selector_at, selector_facts, selectors_from}
-use Rattle.kc_tree.specs.TreeFacts.{Guarded, TreeFacts}
-use Rattle.kc_tree.specs.Common.{listed}
-use Rattle.kc_values.specs.Values.{condition, selector_values}
+use Rattle.kc_language.specs.Symbols.{Guarded, TreeFacts, listed}
+use Rattle.kc_language.specs.Values.{condition, selector_values}
 use Rattle.kc_values.proofs.DefinitionLemmas.{greatest-cons}
 use Rattle.kc_values.proofs.TriLemmas.{greatest-reverse}
 

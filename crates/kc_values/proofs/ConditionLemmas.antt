@@ -1,20 +1,18 @@
 -- What conditions are worth that are made of others.
 use Rattle.std.proofs.Common.{◌≡◌, ℕ, List, ◌++◌, map, is_some, false, Option, Some, None, refl, sym, ap, ◌∙◌}
 use Rattle.std.proofs.lemmas.List.{map-append}
-use Rattle.kc_expr.specs.declared.expression.SymId.{SymId}
-use Rattle.kc_expr.specs.declared.expression.Tri.{Tri}
-use Rattle.kc_expr.specs.declared.expression.Tri.TheVariants.{Y}
-use Rattle.kc_expr.specs.Form.{Form}
-use Rattle.kc_expr.specs.Value.{SymbolValue, value, lesser, least}
+use Rattle.kc_language.specs.declared.expressions.SymId.{SymId}
+use Rattle.kc_language.specs.declared.expressions.Tri.{Tri}
+use Rattle.kc_language.specs.declared.expressions.Tri.TheVariants.{Y}
+use Rattle.kc_language.specs.Expressions.{Form, SymbolValue, value, lesser, least}
 use Rattle.kc_expr.specs.When.{when_view}
 use Rattle.kc_tree.specs.declared.rows.Context.{Context}
 use Rattle.kc_tree.specs.declared.rows.EntryPrompt.{EntryPrompt}
 use Rattle.kc_tree.specs.Contexts.{condition_in, HasNoMode, IsContextAt}
 use Rattle.kc_tree.specs.Layouts.{with_when, with_conjuncts, prompt_view}
-use Rattle.kc_tree.specs.TreeFacts.{Condition, TreeFacts}
-use Rattle.kc_tree.specs.Common.{listed}
+use Rattle.kc_language.specs.Symbols.{Condition, TreeFacts, listed}
 use Rattle.kc_values.specs.Computed.{when_value}
-use Rattle.kc_values.specs.Values.{and_value, mode_value, condition}
+use Rattle.kc_language.specs.Values.{and_value, mode_value, condition}
 use Rattle.kc_values.proofs.TriLemmas.{lesser_y, lesser_comm, lesser_assoc, least-append}
 
 pub no_mode : (o : Option ℕ) → is_some o ≡ false → o ≡ None

@@ -3,14 +3,14 @@ use Rattle.std.proofs.Common.{◌≡◌, ℕ, [], length, map, Option, Some, Non
 use Rattle.std.specs.List.{Contains}
 use Rattle.std.proofs.Math.ListN.{get_or-map}
 use Rattle.std.proofs.lemmas.List.{length-map}
-use Rattle.kc_expr.specs.Names.{symbol}
-use Rattle.kc_expr.specs.declared.expression.SymId.{SymId}
-use Rattle.kc_expr.specs.declared.expression.SymbolType.TheVariants.{Undefined}
-use Rattle.kc_order.specs.Needs.{needs_in}
-use Rattle.kc_tree.specs.TreeFacts.{IsWellFormed, SymbolFacts, TreeFacts}
+use Rattle.kc_language.specs.Expressions.{symbol}
+use Rattle.kc_language.specs.declared.expressions.SymId.{SymId}
+use Rattle.kc_language.specs.declared.expressions.SymbolType.TheVariants.{Undefined}
+use Rattle.kc_language.specs.Needs.{needs_in, mentioned_numbers, names_by_choice, names_by_type, names_of, needs}
+use Rattle.kc_tree.specs.TreeFacts.{IsWellFormed}
+use Rattle.kc_language.specs.Symbols.{SymbolFacts, TreeFacts}
 use Rattle.kc_values.specs.Laws.{NeedingAreDefined}
-use Rattle.kc_values.specs.Lookups.{facts}
-use Rattle.kc_values.specs.Needs.{mentioned_numbers, names_by_choice, names_by_type, names_of, needs}
+use Rattle.kc_language.specs.Values.{facts}
 use Rattle.kc_values.proofs.ModeLaws.{members_are_bools}
 use Rattle.kc_values.proofs.TreeNeeds.{needs_at}
 

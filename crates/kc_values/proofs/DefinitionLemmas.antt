@@ -1,22 +1,22 @@
 -- The definitions of a symbol, one after another.
 use Rattle.std.proofs.Common.{◌≡◌, ℕ, ◌+◌, ◌<◌, ◌≤◌, List, [], ◌∷◌, drop, length, map, not, get_or, Option, Some, None, ◌⊎◌, inl, inr, refl, sym, ap, ◌∙◌, arith}
 use Rattle.std.specs.List.{slice_get, filter_map, flat_map, cons_option}
-use Rattle.std.specs.Option.{option_map, option_and_then, option_or}
+use Rattle.std.specs.Prelude.{option_map}
+use Rattle.std.specs.Option.{option_and_then, option_or}
 use Rattle.std.proofs.lemmas.List.{drop_more, drop_all}
 use Rattle.std.proofs.lemmas.List.Folds.{find-append}
 use Rattle.std.proofs.lemmas.Option.{slice_get_cases}
-use Rattle.kc_expr.specs.declared.expression.SymId.{SymId}
-use Rattle.kc_expr.specs.declared.expression.Tri.{Tri}
-use Rattle.kc_expr.specs.Value.{SymbolValue, greater, greatest}
+use Rattle.kc_language.specs.declared.expressions.SymId.{SymId}
+use Rattle.kc_language.specs.declared.expressions.Tri.{Tri}
+use Rattle.kc_language.specs.Expressions.{SymbolValue, greater, greatest}
 use Rattle.kc_tree.specs.declared.layout.Layout.{Layout}
 use Rattle.kc_tree.specs.declared.rows.Definition.{Definition}
 use Rattle.kc_tree.specs.declared.rows.DefinitionId.{DefinitionId}
 use Rattle.kc_tree.specs.declared.rows.Symbol.{Symbol}
 use Rattle.kc_tree.specs.Layouts.{DefinitionFacts, definition_at, definition_facts}
 use Rattle.kc_tree.specs.Spans.{definition_ids}
-use Rattle.kc_tree.specs.TreeFacts.{Guarded, TreeFacts}
-use Rattle.kc_tree.specs.Common.{listed}
-use Rattle.kc_values.specs.Values.{is_n, condition, conditions, first_met}
+use Rattle.kc_language.specs.Symbols.{Guarded, TreeFacts, listed}
+use Rattle.kc_language.specs.Values.{is_n, condition, conditions, first_met}
 use Rattle.kc_values.proofs.TriLemmas.{greater_n}
 
 -- an option before what is taken the greatest of

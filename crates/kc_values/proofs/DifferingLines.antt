@@ -1,24 +1,18 @@
 -- The value of a symbol that differs is one that a user may give.
 use Rattle.std.proofs.Common.{◌≡◌, ℕ, Bool, true, false, not, List, Option, Some, None, sym, ◌∙◌, ap, inl, inr, refl, cond, ◌⊎◌, unwrap_or}
 use Rattle.std.proofs.lemmas.Bool.{true≢false, and_parts}
-use Rattle.kc_expr.specs.declared.expression.SymId.{SymId}
-use Rattle.kc_expr.specs.declared.expression.Tri.{Tri}
-use Rattle.kc_expr.specs.declared.expression.Tri.TheVariants.{N, M, Y}
-use Rattle.kc_expr.specs.declared.expression.SymbolType.{SymbolType}
-use Rattle.kc_expr.specs.declared.expression.SymbolType.TheVariants.{Undefined, Bool as IsBool, Tristate, Str, Int, Hex}
-use Rattle.kc_expr.specs.Names.{symbol}
-use Rattle.kc_expr.specs.Value.{SymbolValue, Truth, TextValue}
-use Rattle.kc_tree.specs.TreeFacts.{SymbolFacts, TreeFacts}
-use Rattle.kc_values.specs.declared.numbers.Interval.{Interval}
-use Rattle.kc_values.specs.Lookups.{facts}
-use Rattle.kc_values.specs.Numbers.{is_within_range, if_within_range, clamped}
-use Rattle.kc_values.specs.Values as v
-use Rattle.kc_user.specs.GivenValue.{GivenValue, GivenTruth, GivenText, Member, SymbolPlace, ChoicePlace}
+use Rattle.kc_language.specs.declared.expressions.SymId.{SymId}
+use Rattle.kc_language.specs.declared.expressions.Tri.{Tri}
+use Rattle.kc_language.specs.declared.expressions.Tri.TheVariants.{N, M, Y}
+use Rattle.kc_language.specs.declared.expressions.SymbolType.{SymbolType}
+use Rattle.kc_language.specs.declared.expressions.SymbolType.TheVariants.{Undefined, Bool as IsBool, Tristate, Str, Int, Hex}
+use Rattle.kc_language.specs.Expressions.{symbol, SymbolValue, Truth, TextValue}
+use Rattle.kc_language.specs.Symbols.{SymbolFacts, TreeFacts, is_symbol_of}
+use Rattle.kc_language.specs.declared.values.Interval.{Interval}
+use Rattle.kc_language.specs.Values.{facts, is_within_range, if_within_range, clamped, GivenValue, GivenTruth, GivenText, Member, SymbolPlace, ChoicePlace, known_from, rhs, given_of, default_selection}
+use Rattle.kc_language.specs.Values as v
 use Rattle.kc_user.specs.Places.{allowed_truth, allowed_text, allowed_by, allowed_for, allowed}
-use Rattle.kc_tree.specs.Common.{is_symbol_of}
-use Rattle.kc_values.specs.Solution as sol
-use Rattle.kc_values.specs.Solution.{known_from, rhs}
-use Rattle.kc_values.specs.Differs.{given_of, default_selection}
+use Rattle.kc_language.specs.Values as sol
 use Rattle.kc_values.specs.Laws.{DifferingAreAllowed}
 use Rattle.kc_values.specs.Members.{MembersAreBools}
 use Rattle.kc_values.proofs.FixedLines.{place_cases, Sel, member_now, other_value, differs-member}

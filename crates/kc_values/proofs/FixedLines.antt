@@ -1,28 +1,20 @@
 -- The line of a value that differs gives the value again.
 use Rattle.std.proofs.Common.{◌≡◌, ℕ, ◌<◌, ◌&&◌, Bool, true, false, List, sym, ◌∙◌, ap, inl, inr, refl, cond, not, Option, Some, None, ◌⊎◌, unwrap_or}
-use Rattle.std.specs.Option.{option_map}
+use Rattle.std.specs.Prelude.{option_map}
 use Rattle.std.proofs.lemmas.Bool.{cases_Bool, true≢false, not-true, not-false, and_parts, both_ways}
-use Rattle.kc_expr.specs.declared.expression.SymId.{SymId}
-use Rattle.kc_expr.specs.declared.expression.Tri.{Tri}
-use Rattle.kc_expr.specs.declared.expression.Tri.TheVariants.{N, Y}
-use Rattle.kc_expr.specs.declared.expression.SymbolType.{SymbolType}
-use Rattle.kc_expr.specs.declared.expression.SymbolType.TheVariants.{Undefined, Bool as IsBool, Tristate, Str, Int, Hex}
-use Rattle.kc_expr.specs.Value.{SymbolValue, Truth, TextValue, greater}
-use Rattle.kc_expr.specs.Names.{symbol}
-use Rattle.kc_tree.specs.TreeFacts.{SymbolFacts, ChoiceFacts, TreeFacts}
-use Rattle.kc_values.specs.declared.numbers.Interval.{Interval}
-use Rattle.kc_order.specs.Solution.{Solves}
+use Rattle.kc_language.specs.declared.expressions.SymId.{SymId}
+use Rattle.kc_language.specs.declared.expressions.Tri.{Tri}
+use Rattle.kc_language.specs.declared.expressions.Tri.TheVariants.{N, Y}
+use Rattle.kc_language.specs.declared.expressions.SymbolType.{SymbolType}
+use Rattle.kc_language.specs.declared.expressions.SymbolType.TheVariants.{Undefined, Bool as IsBool, Tristate, Str, Int, Hex}
+use Rattle.kc_language.specs.Expressions.{SymbolValue, Truth, TextValue, greater, symbol}
+use Rattle.kc_language.specs.Symbols.{SymbolFacts, ChoiceFacts, TreeFacts, is_symbol_of}
+use Rattle.kc_language.specs.declared.values.Interval.{Interval}
+use Rattle.kc_language.specs.Values.{Solves, facts, choice_at, is_within_range, if_within_range, clamped, GivenValue, GivenTruth, GivenText, Member, UserPlace, SymbolPlace, ChoicePlace, is_n, name_count, known_from, rhs, user_place, equations, same_value, given_of, selection, default_selection, differs, differs_at}
 use Rattle.kc_order.specs.Minimal.{KeepsWhatDiffers}
-use Rattle.kc_values.specs.Lookups.{facts, choice_at}
-use Rattle.kc_values.specs.Numbers.{is_within_range, if_within_range, clamped}
-use Rattle.kc_values.specs.Values as v
-use Rattle.kc_user.specs.GivenValue.{GivenValue, GivenTruth, GivenText, Member, UserPlace, SymbolPlace, ChoicePlace}
-use Rattle.kc_tree.specs.Common.{is_symbol_of}
-use Rattle.kc_values.specs.Values.{is_n}
-use Rattle.kc_values.specs.Solution as sol
-use Rattle.kc_values.specs.Solution.{name_count, known_from, rhs, user_place, equations}
+use Rattle.kc_language.specs.Values as v
+use Rattle.kc_language.specs.Values as sol
 use Rattle.kc_values.specs.Members.{MembersAreTheirs}
-use Rattle.kc_values.specs.Differs.{same_value, given_of, selection, default_selection, differs, differs_at}
 use Rattle.kc_values.specs.GivenLines.{minimal_line, TellsDiffering}
 use Rattle.kc_values.proofs.SameValue.{same_value_itself, same_again}
 use Rattle.kc_values.proofs.Same.{same_symbol_itself, same_symbol-true}

@@ -1,30 +1,21 @@
 -- The written values as the user's give the values again where no symbol changes on rereading.
 use Rattle.std.proofs.Common.{◌≡◌, ℕ, Bool, true, false, List, [], ◌∷◌, sym, ◌∙◌, ap, inl, inr, refl, cond, not, ◌&&◌, ◌||◌, Option, Some, None, ◌⊎◌, ◌<◌, zero, suc, arith, unwrap_or, subst}
 use Rattle.std.specs.List.{Contains, find}
-use Rattle.std.specs.Option.{option_map}
+use Rattle.std.specs.Prelude.{option_map}
 use Rattle.std.proofs.lemmas.Bool.{cases_Bool, true≢false, and_parts, and_right, and_from}
-use Rattle.kc_expr.specs.declared.expression.SymId.{SymId}
-use Rattle.kc_expr.specs.declared.expression.Tri.{Tri}
-use Rattle.kc_expr.specs.declared.expression.Tri.TheVariants.{N, M, Y}
-use Rattle.kc_expr.specs.declared.expression.SymbolType.{SymbolType}
-use Rattle.kc_expr.specs.declared.expression.SymbolType.TheVariants.{Undefined, Bool as IsBool, Tristate, Str, Int, Hex}
-use Rattle.kc_expr.specs.Value.{SymbolValue, Truth, TextValue, greater, lesser, truth_of_value}
-use Rattle.kc_expr.specs.Names.{symbol}
-use Rattle.kc_tree.specs.TreeFacts.{SymbolFacts, ChoiceFacts, TreeFacts}
-use Rattle.kc_values.specs.declared.numbers.Interval.{Interval}
-use Rattle.kc_order.specs.Solution.{Solves}
-use Rattle.kc_values.specs.Lookups.{facts, choice_at}
-use Rattle.kc_values.specs.Numbers.{is_within_range, if_within_range, clamped}
-use Rattle.kc_values.specs.Values as v
-use Rattle.kc_user.specs.GivenValue.{GivenValue, GivenTruth, GivenText, Member, UserPlace, SymbolPlace, ChoicePlace, is_yes}
+use Rattle.kc_language.specs.declared.expressions.SymId.{SymId}
+use Rattle.kc_language.specs.declared.expressions.Tri.{Tri}
+use Rattle.kc_language.specs.declared.expressions.Tri.TheVariants.{N, M, Y}
+use Rattle.kc_language.specs.declared.expressions.SymbolType.{SymbolType}
+use Rattle.kc_language.specs.declared.expressions.SymbolType.TheVariants.{Undefined, Bool as IsBool, Tristate, Str, Int, Hex}
+use Rattle.kc_language.specs.Expressions.{SymbolValue, Truth, TextValue, greater, lesser, truth_of_value, symbol}
+use Rattle.kc_language.specs.Symbols.{SymbolFacts, ChoiceFacts, TreeFacts, is_symbol_of}
+use Rattle.kc_language.specs.declared.values.Interval.{Interval}
+use Rattle.kc_language.specs.Values.{Solves, facts, choice_at, is_within_range, if_within_range, clamped, GivenValue, GivenTruth, GivenText, Member, UserPlace, SymbolPlace, ChoicePlace, is_yes, is_n, upgrade, name_count, known_from, rhs, equations, above, given_of, changes_on_reread}
+use Rattle.kc_language.specs.Values as v
 use Rattle.kc_user.specs.Places.{is_m, allowed_truth, allowed_text, allowed_by, allowed_for, allowed, members_of, AllowedPlaces}
-use Rattle.kc_tree.specs.Common.{is_symbol_of}
-use Rattle.kc_values.specs.Values.{is_n, upgrade}
-use Rattle.kc_values.specs.Solution as sol
-use Rattle.kc_values.specs.Solution.{name_count, known_from, rhs, equations}
-use Rattle.kc_values.specs.WrittenSymbols as ls
-use Rattle.kc_values.specs.WrittenSymbols.{above}
-use Rattle.kc_values.specs.Differs.{given_of, changes_on_reread}
+use Rattle.kc_language.specs.Values as sol
+use Rattle.kc_language.specs.Values as ls
 use Rattle.kc_values.specs.GivenLines.{reread_places}
 use Rattle.kc_values.specs.Laws.{IdempotentWhere}
 use Rattle.kc_values.specs.Members.{MembersAreTheirs}

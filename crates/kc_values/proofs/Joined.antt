@@ -1,19 +1,16 @@
 -- Steps of the code, over plain values.
 use Rattle.std.proofs.Common.{◌≡◌, ℕ, List, [], ◌∷◌, ◌++◌, append_assoc, Bool, true, false, cond, is_some, Option, None, Some, refl, sym, ◌∙◌, ap}
-use Rattle.kc_diagnostics.specs.Warnings.{Warning}
-use Rattle.kc_expr.specs.declared.expression.SymId.{SymId}
-use Rattle.kc_expr.specs.declared.expression.Tri.{Tri}
-use Rattle.kc_expr.specs.declared.expression.SymbolType.{SymbolType}
-use Rattle.kc_expr.specs.Value.{SymbolValue}
-use Rattle.kc_tree.specs.declared.rows.ChoiceId.{ChoiceId}
+use Rattle.kc_language.specs.Symbols.{Warning, SymbolFacts, TreeFacts}
+use Rattle.kc_language.specs.declared.expressions.SymId.{SymId}
+use Rattle.kc_language.specs.declared.expressions.Tri.{Tri}
+use Rattle.kc_language.specs.declared.expressions.SymbolType.{SymbolType}
+use Rattle.kc_language.specs.Expressions.{SymbolValue}
+use Rattle.kc_language.specs.declared.symbols.ChoiceId.{ChoiceId}
 use Rattle.kc_tree.specs.Contexts.{mode_view}
-use Rattle.kc_tree.specs.TreeFacts.{SymbolFacts, TreeFacts}
-use Rattle.kc_user.specs.GivenValue.{GivenValue}
-use Rattle.kc_values.specs.declared.numbers.Interval.{Interval}
-use Rattle.kc_values.specs.Numbers.{if_within_range}
-use Rattle.kc_values.specs.Values as v
-use Rattle.kc_values.specs.Warnings as w
-use Rattle.kc_values.specs.WrittenSymbols.{above}
+use Rattle.kc_language.specs.Values.{GivenValue, if_within_range, above}
+use Rattle.kc_language.specs.declared.values.Interval.{Interval}
+use Rattle.kc_language.specs.Values as v
+use Rattle.kc_language.specs.Texts as w
 
 pub no_choice : (o : Option ChoiceId) → is_some o ≡ false → mode_view o ≡ None
 no_choice None e = refl

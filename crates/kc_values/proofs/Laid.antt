@@ -1,17 +1,17 @@
 -- What a tree says of a symbol and a choice is what the rows of its layout say.
 use Rattle.std.proofs.Common.{length, ◌≡◌, ℕ, List, Option, Some, None, refl, sym, ap, ◌∙◌}
 use Rattle.std.specs.List.{slice_get}
-use Rattle.std.specs.Option.{option_map}
+use Rattle.std.specs.Prelude.{option_map}
 use Rattle.std.proofs.lemmas.Option.{slice_get-map}
-use Rattle.kc_expr.specs.declared.expression.SymbolType.{SymbolType}
-use Rattle.kc_expr.specs.declared.expression.SymbolType.TheVariants.{Undefined}
+use Rattle.kc_language.specs.declared.expressions.SymbolType.{SymbolType}
+use Rattle.kc_language.specs.declared.expressions.SymbolType.TheVariants.{Undefined}
 use Rattle.kc_tree.specs.declared.layout.Layout.{Layout}
 use Rattle.kc_tree.specs.declared.rows.Choice.{Choice}
 use Rattle.kc_tree.specs.declared.rows.Symbol.{Symbol}
 use Rattle.kc_tree.specs.Layouts.{IsLayoutOf, facts_of, facts_at, choice_facts}
-use Rattle.kc_tree.specs.TreeFacts.{SymbolFacts, ChoiceFacts, TreeFacts}
+use Rattle.kc_language.specs.Symbols.{SymbolFacts, ChoiceFacts, TreeFacts}
 use Rattle.kc_tree.proofs.TreeLemmas.{symbols-at, symbols-length}
-use Rattle.kc_values.specs.Lookups.{type_in}
+use Rattle.kc_language.specs.Values.{type_in}
 
 module _ (tree : TreeFacts) (l : Layout) (laid : IsLayoutOf tree l) where
   pub facts_laid : (i : ℕ) → slice_get tree.symbols i ≡ facts_at l i

@@ -2,20 +2,19 @@
 use Rattle.std.proofs.Common.{◌≡◌, Option, Some, None, refl, ap, ◌∙◌}
 use Rattle.std.specs.Borrow.{Bor}
 use Rattle.std.specs.Option.{option_or}
-use Rattle.kc_expr.specs.Form.{Form, Leaf, leaf_of}
-use Rattle.kc_expr.specs.Value.{text}
-use Rattle.kc_expr.specs.declared.expression.SymbolType.{SymbolType}
-use Rattle.kc_expr.specs.declared.expression.Tri.{Tri}
+use Rattle.kc_language.specs.Expressions.{Form, Leaf, text}
+use Rattle.kc_expr.specs.Form.{leaf_of}
+use Rattle.kc_language.specs.declared.expressions.SymbolType.{SymbolType}
+use Rattle.kc_language.specs.declared.expressions.Tri.{Tri}
 use Rattle.kc_tree.specs.declared.rows.SymbolDefault.{SymbolDefault}
 use Rattle.kc_tree.specs.declared.rows.SymbolRange.{SymbolRange}
 use Rattle.kc_tree.specs.Layouts.{range_view}
-use Rattle.kc_tree.specs.TreeFacts.{Condition, Guarded, Bounds}
+use Rattle.kc_language.specs.Symbols.{Condition, Guarded, Bounds}
 use Rattle.kc_values.specs.declared.table.Table.{Table}
-use Rattle.kc_values.specs.declared.numbers.Interval.{Interval}
+use Rattle.kc_language.specs.declared.values.Interval.{Interval}
 use Rattle.kc_values.specs.TableFacts.{known_at}
 use Rattle.kc_values.specs.FoundRows.{IsMetDefault, IsMetRange}
-use Rattle.kc_values.specs.Numbers.{number_or_zero}
-use Rattle.kc_values.specs.Values.{interval}
+use Rattle.kc_language.specs.Values.{number_or_zero, interval}
 
 module _ (t : Table) where
   -- then what else there is does not count

@@ -2,11 +2,12 @@
 use Rattle.std.proofs.Common.{◌≡◌, Some, refl, sym, ◌∙◌, ap}
 use Rattle.std.proofs.lemmas.Option.{slice_get_within}
 use Rattle.std.proofs.lemmas.List.Elements.{All-contains}
-use Rattle.kc_expr.specs.declared.expression.Tri.{Tri}
-use Rattle.kc_expr.specs.declared.expression.Tri.TheVariants.{N, M, Y}
-use Rattle.kc_expr.specs.Value.{lesser}
-use Rattle.kc_tree.specs.TreeFacts.{SymbolFacts, TreeFacts, IsMemberOf, IsWellFormed}
-use Rattle.kc_values.specs.Values.{and_value, mode_value, prompt_value}
+use Rattle.kc_language.specs.declared.expressions.Tri.{Tri}
+use Rattle.kc_language.specs.declared.expressions.Tri.TheVariants.{N, M, Y}
+use Rattle.kc_language.specs.Expressions.{lesser}
+use Rattle.kc_language.specs.Symbols.{SymbolFacts, TreeFacts}
+use Rattle.kc_tree.specs.TreeFacts.{IsMemberOf, IsWellFormed}
+use Rattle.kc_language.specs.Values.{and_value, mode_value, prompt_value}
 use Rattle.kc_values.specs.Laws.{ModeIsPromptCondition}
 use Rattle.kc_values.specs.Members.{MembersAreBools, MembersAreTheirs}
 

@@ -1,7 +1,6 @@
 -- The symbols of the graph of a tree's needs need what the tree's symbols do.
 use Rattle.std.proofs.Common.{◌≡◌, ◌==◌, ℕ, ◌<◌, ◌≤◌, Bool, true, false, ◌||◌, ◌&&◌, cond, List, [], ◌∷◌, ◌++◌, length, get_or, Option, Some, None, map, sym, ap, ◌∙◌, subst, refl, inl, inr, arith, nat_lt, zero, suc}
-use Rattle.std.specs.Prelude.{filter, is_some, slice_get}
-use Rattle.std.specs.Option.{option_map}
+use Rattle.std.specs.Prelude.{filter, is_some, slice_get, option_map}
 use Rattle.std.specs.List.{list_any, Contains}
 use Rattle.std.specs.declared.alloc.Global.{Global}
 use Rattle.std.specs.declared.rc.Rc.{Rc}
@@ -9,27 +8,27 @@ use Rattle.std.proofs.lemmas.Bool.{cases_lt, ltb-true}
 use Rattle.std.proofs.lemmas.List.{get_or_past}
 use Rattle.std.proofs.lemmas.List.Folds.{list_any-append}
 use Rattle.std.proofs.lemmas.Option.{slice_get_cases}
-use Rattle.kc_expr.specs.Form.{Form, form_of, symbols}
-use Rattle.kc_expr.specs.Names.{symbol}
+use Rattle.kc_language.specs.Expressions.{Form, symbols, symbol}
+use Rattle.kc_expr.specs.Form.{form_of}
 use Rattle.kc_expr.specs.When.{when_view}
 use Rattle.kc_expr.specs.declared.expression.Expr.{Expr}
-use Rattle.kc_expr.specs.declared.expression.SymId.{SymId}
+use Rattle.kc_language.specs.declared.expressions.SymId.{SymId}
 use Rattle.kc_order.proofs.Groups.{group_stands, needs_count, needs_stand, stands_symbol}
 use Rattle.kc_order.specs.Graph.{IsGraph, Nodes, groups_of, needs_of, stands_for}
-use Rattle.kc_order.specs.Needs.{AreAlike, needs_in}
+use Rattle.kc_order.specs.Needs.{AreAlike}
+use Rattle.kc_language.specs.Needs.{needs_in}
 use Rattle.kc_tree.specs.Contexts.{HasNoMode, condition_in, mode_view}
 use Rattle.kc_tree.specs.Layouts.{IsLayoutOf, choice_facts, facts_of}
-use Rattle.kc_tree.specs.TreeFacts.{TreeFacts}
-use Rattle.kc_tree.specs.Common.{listed}
+use Rattle.kc_language.specs.Symbols.{TreeFacts, listed}
 use Rattle.kc_tree.specs.declared.layout.Layout.{Layout}
 use Rattle.kc_tree.specs.declared.rows.Choice.{Choice}
-use Rattle.kc_tree.specs.declared.rows.ChoiceId.{ChoiceId}
+use Rattle.kc_language.specs.declared.symbols.ChoiceId.{ChoiceId}
 use Rattle.kc_tree.specs.declared.rows.EntryPrompt.{EntryPrompt}
-use Rattle.kc_values.specs.Lookups.{choice_at, facts, is_mentioned}
+use Rattle.kc_language.specs.Values.{choice_at, facts, is_mentioned}
 use Rattle.kc_values.specs.NeedRows as rows
 use Rattle.kc_values.specs.NeedRows.{AreNodeRows, IsContextRow, of_top, of_inner}
 use Rattle.kc_values.specs.MadeRows.{AreChoicesThere}
-use Rattle.kc_values.specs.Needs as spec
+use Rattle.kc_language.specs.Needs as spec
 use Rattle.kc_values.specs.Nodes.{choice_number, context_number, node_count}
 use Rattle.kc_values.proofs.AnyLemmas.{any_filter, any_flat, any_map, any_same, in_stands, stands, stands_in}
 use Rattle.kc_values.proofs.GraphNeeds.{behind, row_of_choice, row_of_context, row_of_symbol}

@@ -4,13 +4,13 @@ use Rattle.std.specs.Prelude.{filter, is_some, slice_get}
 use Rattle.std.specs.List.{list_any, flat_map, filter_map, Contains}
 use Rattle.std.proofs.lemmas.Bool.{cases_lt, true≢false}
 use Rattle.std.proofs.lemmas.List.Folds.{list_any-append, list_any_at}
-use Rattle.kc_expr.specs.declared.expression.SymbolType.{SymbolType}
-use Rattle.kc_expr.specs.declared.expression.SymbolType.TheVariants.{Undefined, Bool as IsBool, Tristate, Str, Int, Hex}
-use Rattle.kc_expr.specs.declared.expression.SymId.{SymId}
+use Rattle.kc_language.specs.declared.expressions.SymbolType.{SymbolType}
+use Rattle.kc_language.specs.declared.expressions.SymbolType.TheVariants.{Undefined, Bool as IsBool, Tristate, Str, Int, Hex}
+use Rattle.kc_language.specs.declared.expressions.SymId.{SymId}
 use Rattle.kc_tree.specs.Spans.{definition_ids}
 use Rattle.kc_tree.specs.declared.layout.Layout.{Layout}
 use Rattle.kc_tree.specs.declared.rows.Choice.{Choice}
-use Rattle.kc_tree.specs.declared.rows.ChoiceId.{ChoiceId}
+use Rattle.kc_language.specs.declared.symbols.ChoiceId.{ChoiceId}
 use Rattle.kc_tree.specs.declared.rows.Context.{Context}
 use Rattle.kc_tree.specs.declared.rows.Definition.{Definition}
 use Rattle.kc_tree.specs.declared.rows.DefinitionId.{DefinitionId}

@@ -2,16 +2,13 @@
 use Rattle.std.proofs.Common.{◌≡◌, ℕ, true, false, List, [], ◌∷◌, refl, Some, None}
 use Rattle.std.specs.Prelude.{codes}
 use Rattle.std.specs.Fmt.{digits}
-use Rattle.kc_text.specs.Numbers.{natural_of}
-use Rattle.kc_text.specs.declared.tokens.Op.TheVariants.{Gt, Lt, Eq}
-use Rattle.kc_expr.specs.declared.expression.Tri.TheVariants.{N, Y}
-use Rattle.kc_expr.specs.declared.expression.SymbolType.TheVariants.{Undefined, Bool as IsBool, Str, Int, Hex}
-use Rattle.kc_expr.specs.Form.{Form, Related, Negated, Text, Symbol}
-use Rattle.kc_expr.specs.Names.{symbol}
-use Rattle.kc_expr.specs.Value.{SymbolValue, Truth, TextValue}
-use Rattle.kc_tree.specs.TreeFacts.{SymbolFacts, TreeFacts}
-use Rattle.kc_user.specs.GivenValue.{GivenText}
-use Rattle.kc_values.specs.Solution.{rhs}
+use Rattle.kc_language.specs.Text.{natural_of}
+use Rattle.kc_language.specs.declared.tokens.Op.TheVariants.{Gt, Lt, Eq}
+use Rattle.kc_language.specs.declared.expressions.Tri.TheVariants.{N, Y}
+use Rattle.kc_language.specs.declared.expressions.SymbolType.TheVariants.{Undefined, Bool as IsBool, Str, Int, Hex}
+use Rattle.kc_language.specs.Expressions.{Form, Related, Negated, Text, Symbol, symbol, SymbolValue, Truth, TextValue}
+use Rattle.kc_language.specs.Symbols.{SymbolFacts, TreeFacts}
+use Rattle.kc_language.specs.Values.{GivenText, rhs}
 use Rattle.kc_values.proofs.Trees.{tree, plain, always, named, constant, line, from_to, nothing, at_place, given_by, written_now, differing, warned}
 
 -- A user's number outside the range is dropped, and the default is clamped; both are told.

@@ -3,25 +3,19 @@ use Rattle.std.proofs.Common.{◌≡◌, ℕ, Bool, true, false, List, [], ◌�
 use Rattle.std.specs.List.{AllByRecursion, flat_map, list_any, filter, Contains}
 use Rattle.std.proofs.lemmas.Bool.{cases_Bool, true≢false}
 use Rattle.std.proofs.lemmas.List.Elements.{All-from_recursion}
-use Rattle.kc_expr.specs.declared.expression.SymId.{SymId}
-use Rattle.kc_expr.specs.declared.expression.Tri.{Tri}
-use Rattle.kc_expr.specs.declared.expression.Tri.TheVariants.{N, M, Y}
-use Rattle.kc_expr.specs.declared.expression.SymbolType.{SymbolType}
-use Rattle.kc_expr.specs.declared.expression.SymbolType.TheVariants.{Undefined, Bool as IsBool, Tristate, Str, Int, Hex}
-use Rattle.kc_expr.specs.Form.{Form, Leaf, Text, Symbol, Single, Related, Negated, LoneM, Every, Some_of, symbols, leaf_symbols}
-use Rattle.kc_expr.specs.Value.{SymbolValue, Truth, TextValue, value, text, least, greatest, lesser, greater, truth_of_value, text_of_value, DependsOnSymbols}
-use Rattle.kc_tree.specs.TreeFacts.{Condition, Guarded, Bounds, SymbolFacts, ChoiceFacts, TreeFacts}
-use Rattle.kc_expr.specs.Names.{symbol, same_symbol}
-use Rattle.kc_values.specs.declared.numbers.Interval.{Interval}
-use Rattle.kc_values.specs.Lookups.{facts, name, choice_at, is_mentioned}
-use Rattle.kc_values.specs.Numbers.{number_or_zero}
-use Rattle.kc_values.specs.Values as v
-use Rattle.kc_user.specs.GivenValue.{GivenValue, GivenTruth, GivenText, Member, UserPlace}
-use Rattle.kc_tree.specs.Common.{is_symbol_of, listed}
-use Rattle.kc_values.specs.Values.{is_n, upgrade}
-use Rattle.kc_values.specs.Needs as n
-use Rattle.kc_values.specs.Needs.{needs_of}
-use Rattle.kc_values.specs.Solution.{user_place, known_from, equations}
+use Rattle.kc_language.specs.declared.expressions.SymId.{SymId}
+use Rattle.kc_language.specs.declared.expressions.Tri.{Tri}
+use Rattle.kc_language.specs.declared.expressions.Tri.TheVariants.{N, M, Y}
+use Rattle.kc_language.specs.declared.expressions.SymbolType.{SymbolType}
+use Rattle.kc_language.specs.declared.expressions.SymbolType.TheVariants.{Undefined, Bool as IsBool, Tristate, Str, Int, Hex}
+use Rattle.kc_language.specs.Expressions.{Form, Leaf, Text, Symbol, Single, Related, Negated, LoneM, Every, Some_of, symbols, leaf_symbols, SymbolValue, Truth, TextValue, value, text, least, greatest, lesser, greater, truth_of_value, text_of_value, symbol, same_symbol}
+use Rattle.kc_expr.specs.Value.{DependsOnSymbols}
+use Rattle.kc_language.specs.Symbols.{Condition, Guarded, Bounds, SymbolFacts, ChoiceFacts, TreeFacts, is_symbol_of, listed}
+use Rattle.kc_language.specs.declared.values.Interval.{Interval}
+use Rattle.kc_language.specs.Values.{facts, name, choice_at, is_mentioned, number_or_zero, GivenValue, GivenTruth, GivenText, Member, UserPlace, is_n, upgrade, user_place, known_from, equations}
+use Rattle.kc_language.specs.Values as v
+use Rattle.kc_language.specs.Needs as n
+use Rattle.kc_language.specs.Needs.{needs_of}
 use Rattle.kc_order.specs.Solution.{ReadsNeeds}
 use Rattle.kc_values.proofs.Same.{front_of, back_of, map_same, found_same, same_symbol-true}
 

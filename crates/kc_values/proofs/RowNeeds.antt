@@ -1,28 +1,28 @@
 -- What the nodes and names of a row stand for: a symbol is among them where the equation of the row's symbol, or a condition,
 -- names it.
 use Rattle.std.proofs.Common.{◌≡◌, ◌==◌, ℕ, ◌<◌, Bool, true, false, ◌||◌, ◌&&◌, cond, List, [], ◌∷◌, ◌++◌, suc, length, Option, Some, None, map, reverse, refl, sym, ap, ◌∙◌, arith, nat_lt, append-nil}
-use Rattle.std.specs.Prelude.{slice_get, is_some}
-use Rattle.std.specs.Option.{option_map, option_and_then}
+use Rattle.std.specs.Prelude.{slice_get, is_some, option_map}
+use Rattle.std.specs.Option.{option_and_then}
 use Rattle.std.specs.List.{list_any, flat_map, filter_map, cons_option}
 use Rattle.std.proofs.lemmas.Bool.{lt-ltb}
 use Rattle.std.proofs.lemmas.Grind.{flat_map-append}
 use Rattle.std.proofs.lemmas.List.Folds.{list_any-append}
-use Rattle.kc_expr.specs.Form.{Form, form_of, leaf_of, leaf_symbols, symbols}
+use Rattle.kc_language.specs.Expressions.{Form, leaf_symbols, symbols}
+use Rattle.kc_expr.specs.Form.{form_of, leaf_of}
 use Rattle.kc_expr.specs.When.{when_view}
-use Rattle.kc_expr.specs.declared.expression.SymbolType.{SymbolType}
-use Rattle.kc_expr.specs.declared.expression.SymbolType.TheVariants.{Undefined, Bool as IsBool, Tristate, Str, Int, Hex}
-use Rattle.kc_expr.specs.declared.expression.SymId.{SymId}
+use Rattle.kc_language.specs.declared.expressions.SymbolType.{SymbolType}
+use Rattle.kc_language.specs.declared.expressions.SymbolType.TheVariants.{Undefined, Bool as IsBool, Tristate, Str, Int, Hex}
+use Rattle.kc_language.specs.declared.expressions.SymId.{SymId}
 use Rattle.kc_tree.specs.Chains.{chain_of, chains_of}
 use Rattle.kc_tree.specs.Contexts.{HasNoMode, condition_in, mode_view}
 use Rattle.kc_tree.specs.Layouts as laid
 use Rattle.kc_tree.specs.Layouts.{DefinitionFacts, IsLayoutOf, choice_facts, definition_facts, facts_of, prompt_view, default_view, range_view, choice_default_view, with_conjuncts, with_when, selector_at, selector_facts, selectors_from}
 use Rattle.kc_tree.specs.Spans.{definition_ids}
-use Rattle.kc_tree.specs.TreeFacts.{Condition, Guarded, TreeFacts}
-use Rattle.kc_tree.specs.Common.{listed}
+use Rattle.kc_language.specs.Symbols.{Condition, Guarded, TreeFacts, listed}
 use Rattle.kc_tree.specs.declared.layout.Layout.{Layout}
 use Rattle.kc_tree.specs.declared.rows.Choice.{Choice}
 use Rattle.kc_tree.specs.declared.rows.ChoiceDefault.{ChoiceDefault}
-use Rattle.kc_tree.specs.declared.rows.ChoiceId.{ChoiceId}
+use Rattle.kc_language.specs.declared.symbols.ChoiceId.{ChoiceId}
 use Rattle.kc_tree.specs.declared.rows.Definition.{Definition}
 use Rattle.kc_tree.specs.declared.rows.DefinitionId.{DefinitionId}
 use Rattle.kc_tree.specs.declared.rows.EntryPrompt.{EntryPrompt}
@@ -31,9 +31,9 @@ use Rattle.kc_tree.specs.declared.rows.SelectorId.{SelectorId}
 use Rattle.kc_tree.specs.declared.rows.Symbol.{Symbol}
 use Rattle.kc_tree.specs.declared.rows.SymbolDefault.{SymbolDefault}
 use Rattle.kc_tree.specs.declared.rows.SymbolRange.{SymbolRange}
-use Rattle.kc_values.specs.Lookups.{choice_at, facts}
+use Rattle.kc_language.specs.Values.{choice_at, facts}
 use Rattle.kc_values.specs.NeedRows as rows
-use Rattle.kc_values.specs.Needs as spec
+use Rattle.kc_language.specs.Needs as spec
 use Rattle.kc_values.specs.Nodes.{choice_number}
 use Rattle.kc_values.proofs.Laid.{facts_laid}
 use Rattle.kc_values.proofs.AnyLemmas.{any_beside, any_flat, any_found, any_map, any_or, any_reverse, any_same, found_same, has_some, passes}

@@ -3,14 +3,12 @@ use Rattle.std.proofs.Common.{◌≡◌, Bool, true, false, List, [], ◌∷◌,
 use Rattle.std.specs.List.{Contains, find, list_any}
 use Rattle.std.proofs.lemmas.Bool.{and_parts, and_from}
 use Rattle.std.proofs.lemmas.List.Folds.{list_any_at}
-use Rattle.kc_expr.specs.declared.expression.SymId.{SymId}
-use Rattle.kc_expr.specs.Value.{SymbolValue}
+use Rattle.kc_language.specs.declared.expressions.SymId.{SymId}
+use Rattle.kc_language.specs.Expressions.{SymbolValue, same_symbol}
 use Rattle.std.specs.Option.{option_or}
-use Rattle.kc_tree.specs.TreeFacts.{Guarded, ChoiceFacts, TreeFacts}
-use Rattle.kc_values.specs.Values as v
-use Rattle.kc_user.specs.GivenValue.{GivenValue, GivenTruth, GivenText, Member}
-use Rattle.kc_expr.specs.Names.{same_symbol}
-use Rattle.kc_values.specs.Values.{is_n}
+use Rattle.kc_language.specs.Symbols.{Guarded, ChoiceFacts, TreeFacts}
+use Rattle.kc_language.specs.Values as v
+use Rattle.kc_language.specs.Values.{GivenValue, GivenTruth, GivenText, Member, is_n}
 use Rattle.kc_values.proofs.Same.{same_symbol_itself}
 use Rattle.kc_values.proofs.TreeNeeds.{among}
 

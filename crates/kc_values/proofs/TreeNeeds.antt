@@ -6,15 +6,13 @@ use Rattle.std.proofs.lemmas.List.FromFn.{length-map-range_with_len, get_or-map-
 use Rattle.std.proofs.lemmas.List.{get_or_past}
 use Rattle.std.proofs.lemmas.Option.{slice_get_past}
 use Rattle.kc_expr.specs.Value.{DependsOnSymbols}
-use Rattle.kc_expr.specs.declared.expression.SymId.{SymId}
-use Rattle.kc_order.specs.Needs.{needs_in, AreWithin, NeedsBelow, NothingUnordered, IsAccepted}
+use Rattle.kc_language.specs.declared.expressions.SymId.{SymId}
+use Rattle.kc_language.specs.Needs.{needs_in, NothingUnordered, AreAccepted as IsAccepted, needs, needs_of, names_of, mentioned_numbers}
+use Rattle.kc_order.specs.Needs.{AreWithin, NeedsBelow}
 use Rattle.kc_order.specs.Solution.{ReadsNeeds}
-use Rattle.kc_tree.specs.TreeFacts.{TreeFacts}
-use Rattle.kc_values.specs.Lookups.{is_mentioned}
-use Rattle.kc_user.specs.GivenValue.{UserPlace, GivenValue}
-use Rattle.kc_values.specs.Solution.{name_count, equations}
-use Rattle.kc_expr.specs.Names.{same_symbol}
-use Rattle.kc_values.specs.Needs.{needs, needs_of, names_of, mentioned_numbers}
+use Rattle.kc_language.specs.Symbols.{TreeFacts}
+use Rattle.kc_language.specs.Values.{is_mentioned, UserPlace, GivenValue, name_count, equations}
+use Rattle.kc_language.specs.Expressions.{same_symbol}
 use Rattle.kc_values.proofs.Same.{same_symbol-true}
 use Rattle.kc_values.proofs.OnlyNamed.{reads_needs}
 

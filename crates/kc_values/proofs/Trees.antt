@@ -2,21 +2,15 @@
 use Rattle.std.proofs.Common.{ℕ, Bool, List, [], ◌∷◌, map, Option, Some, None, length}
 use Rattle.std.specs.Prelude.{slice_index_or}
 use Rattle.std.specs.List.{range_with_len}
-use Rattle.kc_expr.specs.declared.expression.SymId.{SymId}
-use Rattle.kc_expr.specs.declared.expression.Tri.TheVariants.{N}
-use Rattle.kc_expr.specs.declared.expression.SymbolType.{SymbolType}
-use Rattle.kc_expr.specs.declared.expression.SymbolType.TheVariants.{Undefined, Bool as IsBool}
-use Rattle.kc_expr.specs.Form.{Form, Leaf, Single, Text, Symbol}
-use Rattle.kc_expr.specs.Names.{symbol}
-use Rattle.kc_expr.specs.Value.{SymbolValue, Truth}
-use Rattle.kc_tree.specs.TreeFacts.{Condition, Guarded, Bounds, SymbolFacts, ChoiceFacts, TreeFacts}
-use Rattle.kc_user.specs.GivenValue.{GivenValue, Member, UserPlace, SymbolPlace, ChoicePlace}
-use Rattle.kc_values.specs.Needs.{needs}
-use Rattle.kc_values.specs.Solution.{equations, known_from}
-use Rattle.kc_values.specs.WrittenSymbols.{written}
-use Rattle.kc_values.specs.Differs.{differs}
-use Rattle.kc_diagnostics.specs.Warnings.{warning_line}
-use Rattle.kc_values.specs.Warnings.{value_warnings}
+use Rattle.kc_language.specs.declared.expressions.SymId.{SymId}
+use Rattle.kc_language.specs.declared.expressions.Tri.TheVariants.{N}
+use Rattle.kc_language.specs.declared.expressions.SymbolType.{SymbolType}
+use Rattle.kc_language.specs.declared.expressions.SymbolType.TheVariants.{Undefined, Bool as IsBool}
+use Rattle.kc_language.specs.Expressions.{Form, Leaf, Single, Text, Symbol, symbol, SymbolValue, Truth}
+use Rattle.kc_language.specs.Symbols.{Condition, Guarded, Bounds, SymbolFacts, ChoiceFacts, TreeFacts, warning_line}
+use Rattle.kc_language.specs.Values.{GivenValue, Member, UserPlace, SymbolPlace, ChoicePlace, equations, known_from, written, differs}
+use Rattle.kc_language.specs.Needs.{needs}
+use Rattle.kc_language.specs.Texts.{warnings_of_values as value_warnings}
 
 abbrev pub always : Condition
 always = record { conjuncts = []; mode = None }

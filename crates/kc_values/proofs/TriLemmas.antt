@@ -3,10 +3,10 @@ use Rattle.std.proofs.Common.{◌≡◌, List, [], ◌∷◌, ◌++◌, map, rev
 use Rattle.std.proofs.lemmas.List.{map-append}
 use mathlib.Core.List.{reverse-cons}
 use Rattle.std.specs.Coded.{Coded-set}
-use Rattle.kc_expr.specs.declared.expression.Tri.{Tri}
-use Rattle.kc_expr.specs.declared.expression.Tri.TheVariants.{N, M, Y}
-use Rattle.kc_expr.specs.contracts.expression.Tri as tri
-use Rattle.kc_expr.specs.Value.{lesser, greater, least, greatest}
+use Rattle.kc_language.specs.declared.expressions.Tri.{Tri}
+use Rattle.kc_language.specs.declared.expressions.Tri.TheVariants.{N, M, Y}
+use Rattle.kc_language.specs.contracts.expressions.Tri as tri
+use Rattle.kc_language.specs.Expressions.{lesser, greater, least, greatest}
 use Rattle.kc_values.specs.Computed.{rank}
 
 -- two truths are the same in one way at most

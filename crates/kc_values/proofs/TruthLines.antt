@@ -1,11 +1,10 @@
 -- A bool or tristate under its own value as the user's.
 use Rattle.std.proofs.Common.{◌≡◌, Bool, true, false, not, ◌&&◌, cond, inl, inr, refl, ◌⊎◌}
 use Rattle.std.proofs.lemmas.Bool.{true≢false}
-use Rattle.kc_expr.specs.declared.expression.Tri.{Tri}
-use Rattle.kc_expr.specs.declared.expression.Tri.TheVariants.{N, M, Y}
-use Rattle.kc_expr.specs.Value.{lesser, greater}
-use Rattle.kc_values.specs.Values.{is_n, upgrade}
-use Rattle.kc_values.specs.WrittenSymbols.{above}
+use Rattle.kc_language.specs.declared.expressions.Tri.{Tri}
+use Rattle.kc_language.specs.declared.expressions.Tri.TheVariants.{N, M, Y}
+use Rattle.kc_language.specs.Expressions.{lesser, greater}
+use Rattle.kc_language.specs.Values.{is_n, upgrade, above}
 
 -- the tristate upgrade, under a test
 abbrev pub upgrade_if : Bool → Tri → Tri

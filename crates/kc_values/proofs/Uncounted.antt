@@ -2,16 +2,15 @@
 use Rattle.std.proofs.Common.{◌≡◌, ◌&&◌, not, false, Option, Some, None, refl, ap, unwrap_or}
 use Rattle.std.specs.Option.{is_some}
 use Rattle.std.proofs.lemmas.Bool.{true≢false}
-use Rattle.kc_expr.specs.Value.{SymbolValue, Truth, TextValue, greater}
-use Rattle.kc_expr.specs.declared.expression.SymId.{SymId}
-use Rattle.kc_expr.specs.declared.expression.Tri.{Tri}
-use Rattle.kc_expr.specs.declared.expression.Tri.TheVariants.{N, M, Y}
-use Rattle.kc_expr.specs.declared.expression.SymbolType.{SymbolType}
-use Rattle.kc_expr.specs.declared.expression.SymbolType.TheVariants.{Undefined, Bool as IsBool, Tristate, Str, Int, Hex}
-use Rattle.kc_tree.specs.TreeFacts.{SymbolFacts, TreeFacts}
-use Rattle.kc_user.specs.GivenValue.{GivenValue, GivenTruth, GivenText, Member}
-use Rattle.kc_values.specs.Numbers.{if_within_range, clamped}
-use Rattle.kc_values.specs.Values as v
+use Rattle.kc_language.specs.Expressions.{SymbolValue, Truth, TextValue, greater}
+use Rattle.kc_language.specs.declared.expressions.SymId.{SymId}
+use Rattle.kc_language.specs.declared.expressions.Tri.{Tri}
+use Rattle.kc_language.specs.declared.expressions.Tri.TheVariants.{N, M, Y}
+use Rattle.kc_language.specs.declared.expressions.SymbolType.{SymbolType}
+use Rattle.kc_language.specs.declared.expressions.SymbolType.TheVariants.{Undefined, Bool as IsBool, Tristate, Str, Int, Hex}
+use Rattle.kc_language.specs.Symbols.{SymbolFacts, TreeFacts}
+use Rattle.kc_language.specs.Values.{GivenValue, GivenTruth, GivenText, Member, if_within_range, clamped}
+use Rattle.kc_language.specs.Values as v
 
 user_or_uncounted : (user : Option GivenValue) (vis other : Tri) → (is_some user && not (v.is_n vis)) ≡ false → v.user_or user vis other ≡ v.user_or None vis other
 user_or_uncounted None vis other e = refl

@@ -1,18 +1,18 @@
 -- The tristate upgrade, by whether the type is tristate under the values.
 use Rattle.std.proofs.Common.{◌≡◌, Bool, true, false, Option, Some, None, reverse, refl, sym, ap, ◌∙◌, cond}
 use Rattle.std.specs.Prelude.{not}
-use Rattle.kc_expr.specs.Value.{SymbolValue}
-use Rattle.kc_expr.specs.declared.expression.SymId.{SymId}
-use Rattle.kc_expr.specs.declared.expression.Tri.{Tri}
-use Rattle.kc_expr.specs.declared.expression.Tri.TheVariants.{N, M, Y}
-use Rattle.kc_expr.specs.declared.expression.SymbolType.{SymbolType}
-use Rattle.kc_expr.specs.declared.expression.SymbolType.TheVariants.{Undefined, Bool as IsBool, Tristate, Str, Int, Hex}
+use Rattle.kc_language.specs.Expressions.{SymbolValue}
+use Rattle.kc_language.specs.declared.expressions.SymId.{SymId}
+use Rattle.kc_language.specs.declared.expressions.Tri.{Tri}
+use Rattle.kc_language.specs.declared.expressions.Tri.TheVariants.{N, M, Y}
+use Rattle.kc_language.specs.declared.expressions.SymbolType.{SymbolType}
+use Rattle.kc_language.specs.declared.expressions.SymbolType.TheVariants.{Undefined, Bool as IsBool, Tristate, Str, Int, Hex}
 use Rattle.kc_tree.specs.declared.layout.Tables.{Tables}
 use Rattle.kc_tree.specs.declared.rows.SelectorId.{SelectorId}
 use Rattle.kc_tree.specs.Layouts.{selectors_from}
-use Rattle.kc_tree.specs.TreeFacts.{TreeFacts}
-use Rattle.kc_values.specs.Values as v
-use Rattle.kc_values.specs.WrittenSymbols as written
+use Rattle.kc_language.specs.Symbols.{TreeFacts}
+use Rattle.kc_language.specs.Values as v
+use Rattle.kc_language.specs.Values as written
 use Rattle.kc_values.proofs.ChainLemmas.{selector_values_from, selector_values-reverse}
 
 module _ (tree : TreeFacts) (known : SymId → SymbolValue) where

@@ -1,17 +1,13 @@
 -- Worked trees: the values that solve, the written symbols, those that differ, the warnings.
 use Rattle.std.proofs.Common.{◌≡◌, ℕ, true, false, List, [], ◌∷◌, refl, Option, Some, None}
 use Rattle.std.specs.Prelude.{codes}
-use Rattle.kc_expr.specs.declared.expression.SymId.{SymId}
-use Rattle.kc_expr.specs.declared.expression.Tri.TheVariants.{N, M, Y}
-use Rattle.kc_expr.specs.declared.expression.SymbolType.{SymbolType}
-use Rattle.kc_expr.specs.declared.expression.SymbolType.TheVariants.{Undefined, Bool as IsBool, Tristate, Str}
-use Rattle.kc_expr.specs.Form.{Form}
-use Rattle.kc_expr.specs.Names.{symbol}
-use Rattle.kc_expr.specs.Value.{SymbolValue, Truth, TextValue}
-use Rattle.kc_tree.specs.TreeFacts.{Guarded, SymbolFacts, ChoiceFacts, TreeFacts}
-use Rattle.kc_user.specs.GivenValue.{GivenValue, GivenTruth, SymbolPlace}
-use Rattle.kc_values.specs.Solution.{rhs}
-use Rattle.kc_values.specs.Differs.{changes_on_reread, default_selection}
+use Rattle.kc_language.specs.declared.expressions.SymId.{SymId}
+use Rattle.kc_language.specs.declared.expressions.Tri.TheVariants.{N, M, Y}
+use Rattle.kc_language.specs.declared.expressions.SymbolType.{SymbolType}
+use Rattle.kc_language.specs.declared.expressions.SymbolType.TheVariants.{Undefined, Bool as IsBool, Tristate, Str}
+use Rattle.kc_language.specs.Expressions.{Form, symbol, SymbolValue, Truth, TextValue}
+use Rattle.kc_language.specs.Symbols.{Guarded, SymbolFacts, ChoiceFacts, TreeFacts}
+use Rattle.kc_language.specs.Values.{GivenValue, GivenTruth, SymbolPlace, rhs, changes_on_reread, default_selection}
 use Rattle.kc_values.specs.GivenLines.{reread_places}
 use Rattle.kc_values.proofs.Trees as t
 use Rattle.kc_values.proofs.Trees.{tree, plain, member, always, if_of, in_choice, named, constant, line, by, nothing, at_place, in_first, given_by, written_now, differing, warned, needed}

@@ -1,26 +1,24 @@
 -- Trusted: What the equations say under the values of a table, of its rows.
 use Rattle.std.specs.Prelude.{ℕ, Bool, List, Option, Some}
-use Rattle.kc_diagnostics.specs.Warnings.{Warning}
-use Rattle.kc_expr.specs.Form.{Form}
-use Rattle.kc_expr.specs.Value.{SymbolValue}
-use Rattle.kc_expr.specs.declared.expression.SymId.{SymId}
-use Rattle.kc_expr.specs.declared.expression.SymbolType.{SymbolType}
-use Rattle.kc_expr.specs.declared.expression.Tri.{Tri}
+use Rattle.kc_language.specs.Symbols.{Warning, ChoiceFacts, Condition, Guarded, SymbolFacts}
+use Rattle.kc_language.specs.Expressions.{Form, SymbolValue}
+use Rattle.kc_language.specs.declared.expressions.SymId.{SymId}
+use Rattle.kc_language.specs.declared.expressions.SymbolType.{SymbolType}
+use Rattle.kc_language.specs.declared.expressions.Tri.{Tri}
 use Rattle.kc_tree.specs.Contexts.{condition_in}
 use Rattle.kc_tree.specs.declared.rows.Choice.{Choice}
 use Rattle.kc_tree.specs.declared.rows.Definition.{Definition}
 use Rattle.kc_tree.specs.declared.rows.Symbol.{Symbol}
 use Rattle.kc_tree.specs.declared.rows.SymbolRange.{SymbolRange}
 use Rattle.kc_tree.specs.Layouts.{DefinitionFacts, choice_facts, definition_facts, facts_of, range_view}
-use Rattle.kc_tree.specs.TreeFacts.{ChoiceFacts, Condition, Guarded, SymbolFacts}
-use Rattle.kc_user.specs.GivenValue.{GivenValue}
+use Rattle.kc_language.specs.Values.{GivenValue}
 use Rattle.kc_values.specs.Computed as computed
-use Rattle.kc_values.specs.Lookups as lookup
+use Rattle.kc_language.specs.Values as lookup
 use Rattle.kc_values.specs.TableFacts.{facts_in, known_at}
-use Rattle.kc_values.specs.Values as value
-use Rattle.kc_values.specs.Warnings as warning
-use Rattle.kc_values.specs.WrittenSymbols as written
-use Rattle.kc_values.specs.declared.numbers.Interval.{Interval}
+use Rattle.kc_language.specs.Values as value
+use Rattle.kc_language.specs.Texts as warning
+use Rattle.kc_language.specs.Values as written
+use Rattle.kc_language.specs.declared.values.Interval.{Interval}
 use Rattle.kc_values.specs.declared.table.Table.{Table}
 
 module _ (t : Table) where

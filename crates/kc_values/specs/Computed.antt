@@ -1,16 +1,15 @@
 -- Trusted: What a table has computed: the values of contexts and the selections of choices.
 use Rattle.std.specs.Prelude.{◌≡◌, ℕ, List, Option, Some, None, slice_index_or}
-use Rattle.kc_expr.specs.Form.{Form}
-use Rattle.kc_expr.specs.Value.{SymbolValue, value}
-use Rattle.kc_expr.specs.declared.expression.SymId.{SymId}
-use Rattle.kc_expr.specs.declared.expression.Tri.{Tri}
-use Rattle.kc_expr.specs.declared.expression.Tri.TheVariants.{N, M, Y}
+use Rattle.kc_language.specs.Expressions.{Form, SymbolValue, value}
+use Rattle.kc_language.specs.declared.expressions.SymId.{SymId}
+use Rattle.kc_language.specs.declared.expressions.Tri.{Tri}
+use Rattle.kc_language.specs.declared.expressions.Tri.TheVariants.{N, M, Y}
 use Rattle.kc_tree.specs.declared.layout.Layout.{Layout}
 use Rattle.kc_tree.specs.Contexts.{condition_in}
-use Rattle.kc_tree.specs.TreeFacts.{TreeFacts}
+use Rattle.kc_language.specs.Symbols.{TreeFacts}
 use Rattle.kc_values.specs.declared.table.Value.{Value}
 use Rattle.kc_values.specs.Table.{known_in}
-use Rattle.kc_values.specs.Values.{condition}
+use Rattle.kc_language.specs.Values.{condition}
 
 -- the value of an `if`, y where there is none
 abbrev pub when_value : TreeFacts → (SymId → SymbolValue) → Option Form → Tri

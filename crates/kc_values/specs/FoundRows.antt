@@ -1,16 +1,17 @@
 -- For proofs: What was found among the rows that a table is asked of.
 use Rattle.std.specs.Prelude.{◌≡◌, Option, Some, None}
 use Rattle.std.specs.Borrow.{Bor}
-use Rattle.kc_expr.specs.Form.{Form, form_of, leaf_of}
-use Rattle.kc_expr.specs.declared.expression.Tri.{Tri}
+use Rattle.kc_language.specs.Expressions.{Form}
+use Rattle.kc_expr.specs.Form.{form_of, leaf_of}
+use Rattle.kc_language.specs.declared.expressions.Tri.{Tri}
 use Rattle.kc_tree.specs.declared.rows.Definition.{Definition}
 use Rattle.kc_tree.specs.declared.rows.DefinitionId.{DefinitionId}
 use Rattle.kc_tree.specs.declared.rows.SymbolDefault.{SymbolDefault}
 use Rattle.kc_tree.specs.declared.rows.SymbolRange.{SymbolRange}
-use Rattle.kc_tree.specs.TreeFacts.{Guarded, Bounds}
+use Rattle.kc_language.specs.Symbols.{Guarded, Bounds}
 use Rattle.kc_values.specs.declared.table.Table.{Table}
 use Rattle.kc_values.specs.TableFacts.{definition_row, known_at}
-use Rattle.kc_values.specs.Values.{condition}
+use Rattle.kc_language.specs.Values.{condition}
 
 -- the row of a definition that there is
 abbrev pub IsDefinitionAt : Table → Definition → Type 0

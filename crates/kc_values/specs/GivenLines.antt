@@ -1,15 +1,9 @@
 -- Trusted: The lines that values give to the user: those of the minimal file, and those of all that is written.
-use Rattle.std.specs.Prelude.{◌≡◌, ℕ, ◌<◌, ◌&&◌, Bool, true, find, Option, Some, None, if◌then◌else◌}
-use Rattle.std.specs.Option.{option_map}
-use Rattle.kc_expr.specs.Names.{symbol}
-use Rattle.kc_expr.specs.Value.{SymbolValue}
-use Rattle.kc_tree.specs.TreeFacts.{TreeFacts}
-use Rattle.kc_user.specs.GivenValue.{GivenValue, Member, UserPlace, SymbolPlace, ChoicePlace, is_yes}
+use Rattle.std.specs.Prelude.{◌≡◌, ℕ, ◌<◌, ◌&&◌, Bool, true, find, Option, Some, None, if◌then◌else◌, option_map}
+use Rattle.kc_language.specs.Expressions.{symbol, SymbolValue}
+use Rattle.kc_language.specs.Symbols.{TreeFacts}
+use Rattle.kc_language.specs.Values.{GivenValue, Member, UserPlace, SymbolPlace, ChoicePlace, is_yes, differs, given_of, selection, choice_at, name_count, known_from, user_place, written}
 use Rattle.kc_user.specs.Places.{allowed, members_of}
-use Rattle.kc_values.specs.Differs.{differs, given_of, selection}
-use Rattle.kc_values.specs.Lookups.{choice_at}
-use Rattle.kc_values.specs.Solution.{name_count, known_from, user_place}
-use Rattle.kc_values.specs.WrittenSymbols.{written}
 
 -- Under the user's places and values V.
 module _ (tree : TreeFacts) (user : UserPlace → Option GivenValue) (V : ℕ → SymbolValue) where

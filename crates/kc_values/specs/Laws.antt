@@ -1,23 +1,18 @@
 -- Trusted: What holds of the equations of a tree.
-use Rattle.std.specs.Prelude.{◌≡◌, ℕ, ◌<◌, ◌↔◌, map, Option, Some, Bool, true, false, slice_get}
-use Rattle.std.specs.Option.{option_map}
-use Rattle.kc_expr.specs.Value.{SymbolValue}
-use Rattle.kc_expr.specs.Names.{symbol}
-use Rattle.kc_expr.specs.declared.expression.SymId.{SymId}
+use Rattle.std.specs.Prelude.{◌≡◌, ℕ, ◌<◌, ◌↔◌, map, Option, Some, Bool, true, false, slice_get, option_map}
+use Rattle.kc_language.specs.Expressions.{SymbolValue, symbol}
+use Rattle.kc_language.specs.declared.expressions.SymId.{SymId}
 use Rattle.kc_tree.specs.Layouts.{IsLayoutOf, facts_of}
-use Rattle.kc_tree.specs.TreeFacts.{Condition, ChoiceFacts, TreeFacts, IsWellFormed}
+use Rattle.kc_language.specs.Symbols.{Condition, ChoiceFacts, TreeFacts}
+use Rattle.kc_tree.specs.TreeFacts.{IsWellFormed}
 use Rattle.kc_tree.specs.declared.layout.Layout.{Layout}
 use Rattle.kc_order.specs.Loop.{HoldsNeeding}
-use Rattle.kc_order.specs.Needs.{needs_in, AreWithin}
-use Rattle.kc_order.specs.Solution.{Solves, IsOnlySolution, HasOneSolution, ReadsNeeds}
+use Rattle.kc_language.specs.Needs.{needs_in, IsAccepted, needs}
+use Rattle.kc_order.specs.Needs.{AreWithin}
+use Rattle.kc_language.specs.Values.{Solves, IsOnlySolution, choice_at, facts, GivenValue, UserPlace, prompt_value, condition, name_count, equations, rhs, user_place, differs, given_of, changes_on_reread}
+use Rattle.kc_order.specs.Solution.{HasOneSolution, ReadsNeeds}
 use Rattle.kc_order.specs.Minimal.{Restores, NothingCanGo}
-use Rattle.kc_values.specs.Lookups.{choice_at, facts}
-use Rattle.kc_user.specs.GivenValue.{GivenValue, UserPlace}
 use Rattle.kc_user.specs.Places.{allowed, AllowedPlaces}
-use Rattle.kc_values.specs.Values.{prompt_value, condition}
-use Rattle.kc_values.specs.Needs.{IsAccepted, needs}
-use Rattle.kc_values.specs.Solution.{name_count, equations, rhs, user_place}
-use Rattle.kc_values.specs.Differs.{differs, given_of, changes_on_reread}
 use Rattle.kc_values.specs.GivenLines.{TellsDiffering, minimal_line, reread_places}
 
 -- An equation reads only what its symbol needs, whatever the places.

@@ -1,10 +1,3 @@
-pub mod Lookups
-pub mod Numbers
-pub mod Values
-pub mod Needs
-pub mod Solution
-pub mod WrittenSymbols
-pub mod Differs
 pub mod GivenLines
 pub mod Warnings
 pub mod Laws

@@ -1,11 +1,10 @@
 -- For proofs: What the members of choices are, of a well-formed tree.
 use Rattle.std.specs.Prelude.{◌≡◌, ℕ, ◌<◌, Some}
 use Rattle.std.specs.List.{Contains}
-use Rattle.kc_expr.specs.declared.expression.SymId.{SymId}
-use Rattle.kc_expr.specs.declared.expression.SymbolType.TheVariants.{Bool as IsBool}
-use Rattle.kc_tree.specs.TreeFacts.{ChoiceFacts, SymbolFacts, TreeFacts}
-use Rattle.kc_values.specs.Lookups.{choice_at, facts}
-use Rattle.kc_values.specs.Solution.{name_count}
+use Rattle.kc_language.specs.declared.expressions.SymId.{SymId}
+use Rattle.kc_language.specs.declared.expressions.SymbolType.TheVariants.{Bool as IsBool}
+use Rattle.kc_language.specs.Symbols.{ChoiceFacts, SymbolFacts, TreeFacts}
+use Rattle.kc_language.specs.Values.{choice_at, facts, name_count}
 
 -- a member of a choice is a symbol of that choice
 abbrev pub MembersAreTheirs : TreeFacts → Type 0

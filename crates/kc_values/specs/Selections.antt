@@ -1,9 +1,9 @@
 -- Trusted: The places that members read.
 use Rattle.std.specs.Prelude.{ℕ, List, Option, Some, None, slice_index_or}
-use Rattle.kc_expr.specs.declared.expression.SymId.{SymId}
-use Rattle.kc_tree.specs.declared.rows.ChoiceId.{ChoiceId}
-use Rattle.kc_user.specs.GivenValue.{GivenValue}
-use Rattle.kc_user.specs.Places.{member_place}
+use Rattle.kc_language.specs.declared.expressions.SymId.{SymId}
+use Rattle.kc_language.specs.declared.symbols.ChoiceId.{ChoiceId}
+use Rattle.kc_language.specs.Values.{GivenValue}
+use Rattle.kc_language.specs.ConfigFile.{member_place}
 
 -- the user's member of choice c
 abbrev pub member_given : List (Option SymId) → ℕ → Option GivenValue

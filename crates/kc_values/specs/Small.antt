@@ -1,7 +1,7 @@
 -- Trusted: Numbers of 64 bits and a sign.
 use Rattle.std.specs.Prelude.{◌<◌, unsigned_abs}
-use Rattle.kc_text.specs.Limits.{hex_limit}
-use Rattle.kc_values.specs.declared.numbers.Interval.{Interval}
+use Rattle.kc_language.specs.Text.{hex_limit}
+use Rattle.kc_language.specs.declared.values.Interval.{Interval}
 
 -- both bounds are hexes without their sign
 pub record HasSmallBounds (r : Interval) : Type 0 where

@@ -1,22 +1,20 @@
 -- Trusted: What a table tells, and the rows that it is asked of.
-use Rattle.std.specs.Prelude.{◌≡◌, ℕ, List, Option, Some, None, slice_get, slice_index_or}
-use Rattle.std.specs.Option.{option_map, option_and_then}
+use Rattle.std.specs.Prelude.{◌≡◌, ℕ, List, Option, Some, None, slice_get, slice_index_or, option_map}
+use Rattle.std.specs.Option.{option_and_then}
 use Rattle.std.specs.Borrow.{Bor}
-use Rattle.kc_expr.specs.Value.{SymbolValue}
-use Rattle.kc_expr.specs.declared.expression.SymId.{SymId}
+use Rattle.kc_language.specs.Expressions.{SymbolValue}
+use Rattle.kc_language.specs.declared.expressions.SymId.{SymId}
 use Rattle.kc_tree.specs.declared.rows.Definition.{Definition}
 use Rattle.kc_tree.specs.declared.rows.DefinitionId.{DefinitionId}
 use Rattle.kc_tree.specs.declared.rows.Symbol.{Symbol}
 use Rattle.kc_tree.specs.Contexts.{condition_in}
 use Rattle.kc_tree.specs.Layouts.{facts_of}
 use Rattle.kc_tree.specs.Spans.{definition_ids}
-use Rattle.kc_tree.specs.TreeFacts.{Condition, SymbolFacts}
-use Rattle.kc_user.specs.GivenValue.{GivenValue}
-use Rattle.kc_user.specs.Places.{member_place}
+use Rattle.kc_language.specs.Symbols.{Condition, SymbolFacts}
+use Rattle.kc_language.specs.Values.{GivenValue, choice_at, by_type, selected}
+use Rattle.kc_language.specs.ConfigFile.{member_place}
 use Rattle.kc_values.specs.declared.table.Table.{Table}
-use Rattle.kc_values.specs.Lookups.{choice_at}
 use Rattle.kc_values.specs.Table.{known_in}
-use Rattle.kc_values.specs.Values.{by_type, selected}
 
 -- what a table tells of each symbol
 abbrev pub known_at : Table → SymId → SymbolValue

@@ -1,7 +1,7 @@
 -- Trusted: What a user gave, as the code holds it.
 use Rattle.std.specs.Prelude.{Option, Some, None}
 use Rattle.std.specs.Borrow.{Bor}
-use Rattle.kc_user.specs.GivenValue.{GivenValue}
+use Rattle.kc_language.specs.Values.{GivenValue}
 use Rattle.kc_user.specs.ValueView.{given_of_value}
 use Rattle.kc_user.specs.declared.value.UserValue.{UserValue}
 

@@ -2,9 +2,9 @@
 
 ghost use Rattle.std.specs.Prelude.{◌≡◌, Some};
 ghost use Rattle.std.specs.List.{list_any};
-ghost use Rattle.kc_expr.specs.Names.{same_symbol};
-ghost use Rattle.kc_user.specs.Places.{member_place};
-ghost use Rattle.kc_values.specs.Lookups.{choice_at};
+ghost use Rattle.kc_language.specs.Expressions.{same_symbol};
+ghost use Rattle.kc_language.specs.ConfigFile.{member_place};
+ghost use Rattle.kc_language.specs.Values.{choice_at};
 ghost use Rattle.kc_values.specs.TableFacts.{IsSelected};
 ghost use Rattle.kc_values.specs.AtTable as spec;
 

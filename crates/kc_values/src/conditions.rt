@@ -1,14 +1,14 @@
 //! Conditions under the values so far.
 
 ghost use Rattle.std.specs.Prelude.{◌≡◌};
-ghost use Rattle.kc_expr.specs.Value.{lesser};
+ghost use Rattle.kc_language.specs.Expressions.{lesser};
 ghost use Rattle.kc_expr.specs.When.{when_view};
 ghost use Rattle.kc_tree.specs.Contexts.{HasNoMode, mode_view};
 ghost use Rattle.kc_tree.specs.Layouts.{prompt_view, title_condition, with_when};
 ghost use Rattle.kc_tree.specs.Soundness.{IsChoiceThere};
 ghost use Rattle.kc_values.specs.AtTable as at;
 ghost use Rattle.kc_values.specs.TableFacts.{condition_at};
-ghost use Rattle.kc_values.specs.Values as spec;
+ghost use Rattle.kc_language.specs.Values as spec;
 
 use crate::table::Table;
 use kc_expr::expression::{Expr, Tri};

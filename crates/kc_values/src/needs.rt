@@ -2,12 +2,13 @@
 
 ghost use Rattle.std.specs.Prelude.{◌≡◌, ℕ, List, ◌<◌, ◌^◌, ◌++◌, ◌∷◌, [], length, IfOk, IfSome, OnOk};
 ghost use Rattle.std.specs.List.{flat_map};
-ghost use Rattle.kc_expr.specs.Form.{leaf_of, leaf_symbols};
+ghost use Rattle.kc_expr.specs.Form.{leaf_of};
+ghost use Rattle.kc_language.specs.Expressions.{leaf_symbols};
 ghost use Rattle.kc_order.specs.Graph.{IsGraph, needs_of};
 ghost use Rattle.kc_order.specs.Needs.{AreAlike};
 ghost use Rattle.kc_expr.specs.When.{when_view};
 ghost use Rattle.kc_tree.specs.Soundness.{IsChoiceThere, IsDefinitionThere, IsPromptThere};
-ghost use Rattle.kc_values.specs.Needs as spec;
+ghost use Rattle.kc_language.specs.Needs as spec;
 ghost use Rattle.kc_values.specs.NeedRows as rows;
 ghost use Rattle.kc_values.specs.MadeRows.{Adds, AreChoicesThere, IsRow, row_of};
 

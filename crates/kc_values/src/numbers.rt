@@ -2,10 +2,10 @@
 
 ghost use Rattle.std.specs.Prelude.{◌≡◌, ◌<◌, None, Some, IfOk, IfSome, bytes_eq, not, unsigned_abs};
 ghost use Rattle.std.specs.Option.{option_copied};
-ghost use Rattle.kc_text.specs.Limits.{hex_limit};
+ghost use Rattle.kc_language.specs.Text.{hex_limit};
 ghost use Rattle.kc_values.specs.AtTable as spec;
 ghost use Rattle.kc_values.specs.FoundRows.{IsMetRange};
-ghost use Rattle.kc_values.specs.Numbers as digits;
+ghost use Rattle.kc_language.specs.Values as digits;
 ghost use Rattle.kc_values.specs.Small.{HasSmallBounds};
 ghost use Rattle.kc_values.specs.User.{given_in};
 
@@ -15,20 +15,11 @@ use crate::texts::{default_text, visible_text_of};
 use crate::truths::definition;
 use kc_expr::expression::SymbolType;
 use kc_expr::values::text;
+pub use kc_language::values::Interval;
 use kc_text::{read_hex, read_int};
 use kc_tree::rows::{Definition, Symbol, SymbolRange};
 use kc_user::value::UserValue;
 use std::alloc::{AllocError, Global};
-
-/// The bounds of a range, both of them inside (the kernel's kconfig-language document, "Menu attributes": numerical
-/// ranges). Nothing asks that the low one is below the high one.
-#[derive(Clone, Copy, Debug)]
-pub struct Interval {
-    /// The least number inside.
-    pub low: i128,
-    /// The greatest number inside.
-    pub high: i128,
-}
 
 /// The number that a text writes, read by the type: decimal for int, with or without `0x` for hex; none for another type or
 /// text (our own limits, 64 bits each).

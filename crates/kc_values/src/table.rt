@@ -4,10 +4,10 @@ ghost use Rattle.std.specs.Prelude.{◌≡◌, None, length, replicate, slice_in
 ghost use Rattle.std.specs.Option.{option_copied};
 ghost use Rattle.kc_tree.specs.Layouts.{IsLayoutOf};
 ghost use Rattle.kc_tree.specs.TreeFacts.{IsWellFormed};
-ghost use Rattle.kc_values.specs.Lookups as lookup;
+ghost use Rattle.kc_language.specs.Values as lookup;
 ghost use Rattle.kc_values.specs.Computed.{AreContextsComputed};
 ghost use Rattle.kc_values.specs.Table.{value_in, tri_in, text_in};
-ghost use Rattle.kc_values.specs.Lookups.{type_in};
+ghost use Rattle.kc_language.specs.Values.{type_in};
 
 use kc_expr::expression::{SymId, SymbolType, Tri};
 use kc_expr::values::Values;

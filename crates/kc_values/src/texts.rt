@@ -6,7 +6,7 @@ ghost use Rattle.kc_expr.specs.Form.{form_of};
 ghost use Rattle.kc_expr.specs.Value.{values_by};
 ghost use Rattle.kc_values.specs.AtTable as at;
 ghost use Rattle.kc_values.specs.User.{given_in};
-ghost use Rattle.kc_values.specs.Values as spec;
+ghost use Rattle.kc_language.specs.Values as spec;
 
 use crate::conditions::is_n;
 use crate::table::Table;

@@ -1,13 +1,13 @@
 //! The equation of a bool or tristate symbol outside a choice.
 
 ghost use Rattle.std.specs.Prelude.{◌≡◌};
-ghost use Rattle.kc_tree.specs.Common.{listed};
+ghost use Rattle.kc_language.specs.Symbols.{listed};
 ghost use Rattle.kc_tree.specs.Layouts.{selector_facts, selectors_from};
 ghost use Rattle.kc_values.specs.AtTable as spec;
 ghost use Rattle.kc_values.specs.TableFacts.{IsDefinitionOf};
 ghost use Rattle.kc_values.specs.FoundRows.{IsDefinitionAt, IsMetDefault};
 ghost use Rattle.kc_values.specs.User.{given_in};
-ghost use Rattle.kc_values.specs.Values.{user_or};
+ghost use Rattle.kc_language.specs.Values.{user_or};
 
 use crate::conditions::{condition, context, is_n, prompt_condition};
 use crate::table::Table;

@@ -1,14 +1,15 @@
 -- Names in lists, and what is known of the files of many configurations once all are compared.
 use Rattle.std.proofs.Common.{if◌then◌else◌, ◌&&◌, not, ◌≡◌, ◌≢◌, ◌⊎◌, inl, inr, ℕ, ◌+◌, ◌<◌, ◌≤◌, List, [], ◌∷◌, ◌++◌, map, take, length, get_or, Bool, true, false, ◌||◌, refl, ap, sym, ◌∙◌, arith, append-nil, bytes_eq, Option, Some, None, suc, zero, below_more, String, string_bytes}
 use Rattle.std.specs.List.{flat_map, list_any}
-use Rattle.std.specs.Option.{is_some, option_map}
+use Rattle.std.specs.Option.{is_some}
+use Rattle.std.specs.Prelude.{option_map}
 use Rattle.std.specs.declared.alloc.Global.{Global}
 use Rattle.std.proofs.lemmas.List.{get_or-map, map-append, take_more}
 use Rattle.std.proofs.lemmas.List.Concat.{flat_map-append}
 use Rattle.std.proofs.lemmas.List.Folds.{list_any-append, list_any_at, list_any_more}
 use Rattle.std.proofs.lemmas.Slice.Eq.{bytes_eq-Decides}
 use Rattle.clap.specs.Words.{Text}
-use Rattle.kc_expr.specs.Names.{all_mentioned, mention}
+use Rattle.kc_language.specs.Expressions.{all_mentioned, mention}
 use Rattle.kc_words.specs.Apart.{AreApart, IsClash, IsWrittenAndRead, Writes, is_among, writes, written_and_read_text, written_twice_text}
 use Rattle.kc_words.specs.Clashes.{AreNamesWritten, Holds, IsOverwrite, IsTwice, is_overwritten}
 use Rattle.kc_words.specs.Refusals.{IsBadFor}

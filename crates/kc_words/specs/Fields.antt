@@ -1,10 +1,10 @@
 -- Trusted: What the options hold.
 use Rattle.std.specs.Prelude.{◌≡◌, ◌++◌, List, [], true, false, Some, None, if◌then◌else◌, map, option_map, unwrap_or, string_bytes, codes}
 use Rattle.clap.specs.Words.{Row, Text, first_of}
-use Rattle.kc_options.specs.declared.options.Options.{Options}
-use Rattle.kc_options.specs.declared.options.Delivery.{Delivery}
-use Rattle.kc_options.specs.declared.options.Delivery.TheVariants as delivery
-use Rattle.kc_config_file.specs.Prefixes.{is_prefix}
+use Rattle.kc_language.specs.Outcome.{Options}
+use Rattle.kc_language.specs.declared.outcome.Delivery.{Delivery}
+use Rattle.kc_language.specs.declared.outcome.Delivery.TheVariants as delivery
+use Rattle.kc_language.specs.ConfigFile.{is_prefix}
 use Rattle.kc_words.specs.Exclusions.{exclusion_of, is_each, is_given, values_of}
 use Rattle.kc_words.specs.declared.each.Each.{Each}
 use Rattle.kc_words.specs.declared.options.Request.{Request}

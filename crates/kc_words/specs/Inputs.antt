@@ -1,6 +1,6 @@
 -- For proofs: The options hold what differs between one configuration and many.
 use Rattle.std.specs.Prelude.{◌≡◌}
-use Rattle.kc_options.specs.declared.options.Options.{Options}
+use Rattle.kc_language.specs.Outcome.{Options}
 use Rattle.kc_words.specs.declared.options.Inputs.{Inputs}
 
 pub record HasInputs (inputs : Inputs) (options : Options) : Type 0 where

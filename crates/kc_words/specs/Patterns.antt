@@ -2,8 +2,8 @@
 use Rattle.std.specs.Prelude.{◌≡◌, ◌==◌, ◌++◌, List, [], ◌∷◌, None, drop, map, nat_eq, unwrap_or, option_map, string_bytes, codes, if◌then◌else◌}
 use Rattle.std.specs.List.{flat_map, last_or, slice_split, starts_with}
 use Rattle.clap.specs.Words.{Text}
-use Rattle.kc_text.specs.Bytes.{byte}
-use Rattle.kc_options.specs.declared.options.Options.{Options}
+use Rattle.kc_language.specs.Text.{byte}
+use Rattle.kc_language.specs.Outcome.{Options}
 use Rattle.kc_words.specs.declared.each.Each.{Each}
 
 -- what follows the last `/`

@@ -3,9 +3,9 @@ use Rattle.std.specs.Prelude.{◌≡◌, ◌≢◌, ◌<◌, ◌⊎◌, ◌++◌
 use Rattle.clap.specs.Words.{Kinds, IsAmong, Row, Text}
 use Rattle.clap.specs.declared.error.kind.ErrorKind.{ErrorKind}
 use Rattle.clap.specs.declared.error.kind.ErrorKind.TheVariants as kind
-use Rattle.kc_config_file.specs.Limits.{longest_prefix}
-use Rattle.kc_config_file.specs.Prefixes.{is_prefix}
-use Rattle.kc_diagnostics.specs.RunErrors.{out_of_memory_line}
+use Rattle.kc_language.specs.Text.{longest_prefix}
+use Rattle.kc_language.specs.ConfigFile.{is_prefix}
+use Rattle.kc_language.specs.Outcome.{out_of_memory_line}
 use Rattle.kc_words.specs.Exclusions.{exclusion_of}
 use Rattle.kc_words.specs.Fields.{prefix_option}
 use Rattle.kc_words.specs.declared.usage.UsageError.{UsageError}

@@ -1,7 +1,7 @@
 //! What the arguments of the command line ask for.
 
 ghost use Rattle.std.specs.Prelude.{◌≡◌, ◌++◌, ◌<◌, [], IfOk, IfErr, None, false, length, map, option_map, string_bytes, unwrap_or, true};
-ghost use Rattle.kc_config_file.specs.Prefixes.{is_prefix};
+ghost use Rattle.kc_language.specs.ConfigFile.{is_prefix};
 ghost use Rattle.clap.specs.Words.{takes, rows_of, found_of, kind_of, first_of, fault_of};
 ghost use Rattle.kc_words.specs.Exclusions.{exclusion_of, has_value, is_each, is_given, values_of};
 ghost use Rattle.kc_words.specs.Fields.{AreOptionsOf, AreSharedOptions, AsksFor, IsEachOf, IsRequestOf, delivery_of, prefix_option};

@@ -1,11 +1,12 @@
 use Rattle.std.proofs.Common.{◌+◌, Bor, ap, ◌∙◌, map, arith, refl}
-use Rattle.std.specs.Option.{option_map}
-use Rattle.kc_expr.specs.Form.{Form}
-use Rattle.kc_read.specs.Statements.{InputPrompt}
+use Rattle.std.specs.Prelude.{option_map}
+use Rattle.kc_language.specs.Expressions.{Form}
+use Rattle.kc_language.specs.Statements.{InputPrompt}
 use Rattle.kc_read.specs.declared.statement.Prompt.{Prompt}
 use Rattle.kc_read.specs.StatementViews.{input_prompt_view}
-use Rattle.kc_build.specs.EntryLines.{default_line, default_row, range_line, range_row}
-use Rattle.kc_build.specs.Facts.{depends_form, prompt_of}
+use Rattle.kc_build.specs.EntryLines.{default_line, range_line}
+use Rattle.kc_tree.specs.OwnRows.{default_row, range_row}
+use Rattle.kc_language.specs.Symbols.{depends_form, prompt_of}
 use Rattle.kc_build.proofs.AttributeLemmas.{context_start, context_next, context_grown, context_end}
 use Rattle.kc_build.proofs.ScanLemmas.{adds_next, adds_end, last_start, last_next, last_end, one_more}
 use Rattle.kc_build.proofs.attributes.add_attributes.Goals as goal

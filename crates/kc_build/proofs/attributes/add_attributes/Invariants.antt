@@ -1,9 +1,10 @@
 use Rattle.std.proofs.Common.{Bor, ◌≤◌, ◌+◌, length, map}
-use Rattle.std.specs.Option.{option_map}
+use Rattle.std.specs.Prelude.{option_map}
 use Rattle.kc_read.specs.declared.statement.Prompt.{Prompt}
 use Rattle.kc_read.specs.StatementViews.{input_prompt_view}
-use Rattle.kc_build.specs.EntryLines.{default_line, default_row, range_line, range_row}
-use Rattle.kc_build.specs.Facts.{depends_form, prompt_of}
+use Rattle.kc_build.specs.EntryLines.{default_line, range_line}
+use Rattle.kc_tree.specs.OwnRows.{default_row, range_row}
+use Rattle.kc_language.specs.Symbols.{depends_form, prompt_of}
 use Rattle.kc_build.proofs.AttributeLemmas.{ContextSoFar}
 use Rattle.kc_build.proofs.ScanLemmas.{Adds, LastIs}
 use Rattle.kc_build.proofs.attributes.add_attributes.Given as goal

@@ -8,7 +8,7 @@ use Rattle.kc_expr.specs.When.{when_view}
 use Rattle.kc_read.specs.StatementViews.{attribute_view}
 use Rattle.kc_tree.specs.declared.rows.ChoiceDefault.{ChoiceDefault}
 use Rattle.kc_build.specs.EntryLines.{choice_default_line, named_line}
-use Rattle.kc_build.specs.Facts.{single_symbol}
+use Rattle.kc_language.specs.Symbols.{single_symbol}
 use Rattle.kc_build.specs.Passes.{stated_default_view}
 use Rattle.kc_build.proofs.AttributeLemmas.{default_missing, default_named, default_unnamed}
 use Rattle.kc_build.proofs.ScanLemmas.{list_none, list_push, list_end}

@@ -1,4 +1,4 @@
-use Rattle.kc_build.specs.Facts.{stated_type}
+use Rattle.kc_language.specs.Symbols.{stated_type}
 use Rattle.kc_build.proofs.ScanLemmas.{first_here, first_later, first_none}
 use Rattle.kc_build.proofs.attributes.first_type.Goals as goal
 

@@ -1,4 +1,4 @@
-use Rattle.kc_build.specs.Facts.{stated_type}
+use Rattle.kc_language.specs.Symbols.{stated_type}
 use Rattle.kc_build.proofs.ScanLemmas.{FirstIs}
 use Rattle.kc_build.proofs.attributes.first_type.Given as goal
 

@@ -1,8 +1,8 @@
 use Rattle.std.proofs.Common.{Bor}
-use Rattle.std.specs.Option.{option_map}
+use Rattle.std.specs.Prelude.{option_map}
 use Rattle.kc_read.specs.declared.statement.Prompt.{Prompt}
 use Rattle.kc_read.specs.StatementViews.{input_prompt_view}
-use Rattle.kc_build.specs.Facts.{prompt_of}
+use Rattle.kc_language.specs.Symbols.{prompt_of}
 use Rattle.kc_build.proofs.ScanLemmas.{last_start, last_next, last_end}
 use Rattle.kc_build.proofs.attributes.last_prompt.Goals as goal
 

@@ -1,8 +1,6 @@
 use Rattle.std.proofs.Common.{◌+◌, ◌^◌, ◌<◌, List, length, ap, ◌∙◌, arith}
-use Rattle.kc_expr.specs.declared.expression.SymId.{SymId}
-use Rattle.kc_expr.specs.DistinctSymbols.{stands_in}
-use Rattle.kc_build.specs.Facts.{defined_symbols}
-use Rattle.kc_build.specs.Trees.{symbol_if}
+use Rattle.kc_language.specs.declared.expressions.SymId.{SymId}
+use Rattle.kc_language.specs.Symbols.{stands_in, defined_symbols, symbol_if}
 use Rattle.kc_build.specs.Passes.{statements_in}
 use Rattle.kc_build.proofs.PartsLemmas.{refused-is, whole}
 use Rattle.kc_build.proofs.build.build_parts.Goals as goal

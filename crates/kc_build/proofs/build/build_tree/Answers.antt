@@ -1,6 +1,6 @@
 -- The tree of the lines that were read.
 use Rattle.std.proofs.lemmas.Result.{IfErr-weaker, IfOk-weaker}
-use Rattle.kc_read.specs.Files.{bytes_in}
+use Rattle.kc_language.specs.Expansion.{bytes_in}
 use Rattle.kc_build.proofs.build.build_tree.Goals as goal
 
 pub returns-clause-built : goal.returns-clause-built

@@ -2,7 +2,7 @@ use Rattle.std.proofs.Common.{◌≡◌, Ok, Err, ap, ◌∙◌, arith}
 use Rattle.kc_read.specs.Entries.{lines_in}
 use Rattle.kc_tree.specs.Wholes.{tree_of as facts_of}
 use Rattle.kc_build.specs.PartsView.{parts_view}
-use Rattle.kc_build.specs.Trees.{tree_with}
+use Rattle.kc_language.specs.Symbols.{tree_with}
 use Rattle.kc_build.proofs.BuildLemmas.{parts-lines, refused-memory, lines-apart, lines-below, lines-define, lines-formed, lines-modules, lines-opened, lines-typed}
 use Rattle.kc_build.proofs.FewLemmas.{listing-few}
 use Rattle.kc_build.proofs.build.tree_of.Goals as goal

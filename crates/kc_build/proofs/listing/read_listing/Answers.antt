@@ -1,7 +1,6 @@
 use Rattle.std.proofs.Common.{◌∙◌, ◌≢◌, Err}
-use Rattle.kc_read.specs.Files.{bytes_in}
-use Rattle.kc_diagnostics.specs.declared.cause.Cause.TheVariants.{Memory}
-use Rattle.kc_read.specs.Expansion.{Expands}
+use Rattle.kc_language.specs.Expansion.{bytes_in, Expands}
+use Rattle.kc_language.specs.declared.diagnostics.Cause.TheVariants.{Memory}
 use Rattle.kc_read.specs.RefusalView.{refusal_view}
 use Rattle.kc_read.proofs.OpenedOnce.{are_opened}
 use Rattle.kc_read.proofs.RestLemmas.{refusal_passed}

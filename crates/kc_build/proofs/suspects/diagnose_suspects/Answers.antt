@@ -1,6 +1,6 @@
 use Rattle.std.proofs.Common.{◌≡◌, ◌+◌, ◌∷◌, ◌∙◌, suc, false, None, ap, drop, drop-cons, get_or, length, subst, arith}
 use Rattle.kc_read.specs.Entries.{lines_in}
-use Rattle.kc_build.specs.declared.diagnostics.MenuEntry.TheVariants as menu_entry
+use Rattle.kc_language.specs.declared.symbols.MenuEntry.TheVariants as menu_entry
 use Rattle.kc_build.specs.declared.suspects.Suspect.{Suspect}
 use Rattle.kc_build.specs.Passes.{statements_of}
 use Rattle.kc_build.specs.Suspected.{AreSuspects}

@@ -1,7 +1,7 @@
 use Rattle.std.proofs.Common.{◌≡◌, ℕ, map, ap, ◌∙◌, arith, Option}
-use Rattle.kc_read.specs.Blocks.{numbers}
+use Rattle.kc_language.specs.Expansion.{numbers}
 use Rattle.kc_tree.specs.Contexts.{mode_view}
-use Rattle.kc_tree.specs.declared.rows.ChoiceId.{ChoiceId}
+use Rattle.kc_language.specs.declared.symbols.ChoiceId.{ChoiceId}
 use Rattle.kc_build.specs.SymbolRows.{row_view}
 use Rattle.kc_build.specs.SymbolWalk.{unknown}
 use Rattle.kc_build.proofs.PlaceLemmas.{view_next}

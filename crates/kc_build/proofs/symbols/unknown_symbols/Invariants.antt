@@ -1,5 +1,5 @@
 use Rattle.std.proofs.Common.{◌≡◌, map}
-use Rattle.kc_read.specs.Blocks.{numbers}
+use Rattle.kc_language.specs.Expansion.{numbers}
 use Rattle.kc_build.specs.SymbolRows.{row_view}
 use Rattle.kc_build.specs.SymbolWalk.{unknown}
 use Rattle.kc_build.proofs.symbols.unknown_symbols.Given as goal

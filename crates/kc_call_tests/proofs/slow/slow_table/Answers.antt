@@ -1,10 +1,10 @@
 use Rattle.std.proofs.Common.{◌≡◌, length, None, ◌∙◌, sym, ap, subst, arith}
 use Rattle.std.specs.Prelude.{replicate}
 use Rattle.std.proofs.lemmas.List.{length-replicate}
-use Rattle.kc_expr.specs.Names.{symbol}
-use Rattle.kc_tree.specs.TreeFacts.{TreeFacts}
-use Rattle.kc_user.specs.Places.{place_at}
-use Rattle.kc_values.specs.Solution.{name_count}
+use Rattle.kc_language.specs.Expressions.{symbol}
+use Rattle.kc_language.specs.Symbols.{TreeFacts}
+use Rattle.kc_language.specs.ConfigFile.{place_at}
+use Rattle.kc_language.specs.Values.{name_count}
 use Rattle.kc_solve.specs.Computing.{AreComputedValues}
 use Rattle.kc_solve.specs.Kept.{valuation}
 use Rattle.kc_solve.proofs.OrderSteps.{tree_accepted}

@@ -1,6 +1,6 @@
 use Rattle.std.proofs.Common.{◌≡◌, length, None}
 use Rattle.std.specs.Prelude.{replicate}
-use Rattle.kc_values.specs.Solution.{name_count}
+use Rattle.kc_language.specs.Values.{name_count}
 use Rattle.kc_call_tests.proofs.SlowSteps.{HoldAfter, HoldUpTo}
 use Rattle.kc_call_tests.proofs.slow.slow_table.Given as goal
 

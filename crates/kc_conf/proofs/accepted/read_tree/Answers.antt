@@ -1,5 +1,5 @@
 -- The tree is that of the lines of the files.
-use Rattle.kc_read.specs.Files.{bytes_in}
+use Rattle.kc_language.specs.Expansion.{bytes_in}
 use Rattle.kc_conf.proofs.accepted.read_tree.Goals as goal
 
 pub returns-in-Ok-tree_of : goal.returns-in-Ok-tree_of

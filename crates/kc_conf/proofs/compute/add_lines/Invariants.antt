@@ -1,7 +1,7 @@
 -- The lines so far were added.
 use Rattle.std.proofs.Common.{◌≡◌, ◌++◌, map, take}
 use Rattle.std.specs.List.{flat_map}
-use Rattle.kc_conf.specs.Outcome.{lines_text}
+use Rattle.kc_language.specs.Outcome.{lines_text}
 use Rattle.kc_conf.proofs.compute.add_lines.Given as goal
 
 abbrev pub invariant-loop-line : goal.invariant-loop-line

@@ -1,10 +1,10 @@
 -- The lines of the warnings behind the lead, and then those of the lost values.
 use Rattle.std.proofs.Common.{◌≡◌, ◌∙◌, ℕ, List, [], ◌∷◌, ◌++◌, ap, map, refl, append_assoc, Vec, Global}
 use Rattle.std.specs.List.{flat_map}
-use Rattle.kc_diagnostics.specs.Warnings.{owned_warning, warning_line}
-use Rattle.kc_diagnostics.specs.declared.warning.Warning.{Warning}
-use Rattle.kc_options.specs.Asked.{lead}
-use Rattle.kc_conf.specs.Outcome.{lines_text}
+use Rattle.kc_diagnostics.specs.Warnings.{owned_warning}
+use Rattle.kc_language.specs.Symbols.{warning_line}
+use Rattle.kc_language.specs.declared.diagnostics.Warning.{Warning}
+use Rattle.kc_language.specs.Outcome.{lead, lines_text}
 use Rattle.kc_conf.proofs.compute.add_value_lines.Goals as goal
 
 led : (l : List ℕ) (ws : List (Warning (Vec ℕ Global))) →

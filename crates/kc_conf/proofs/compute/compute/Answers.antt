@@ -1,15 +1,12 @@
 -- The texts are those of the solution, or are refused.
 use Rattle.std.proofs.Common.{◌∙◌, ℕ, Bool, List, ap, sym, map, Option, None, Some, Vec, Global}
 use Rattle.std.specs.Prelude.{◌||◌, ◌&&◌, ◌++◌, if◌then◌else◌}
-use Rattle.kc_tree.specs.TreeFacts.{TreeFacts}
-use Rattle.kc_solve.specs.Solved.{Solution, warnings}
+use Rattle.kc_language.specs.Symbols.{TreeFacts}
+use Rattle.kc_language.specs.Texts.{Solution, warnings}
 use Rattle.kc_io.specs.Scripts.{NamedText}
-use Rattle.kc_options.specs.Asked.{lead}
+use Rattle.kc_language.specs.Outcome.{Options, lead, has_text, lines_text, refuses_input}
 use Rattle.kc_conf.specs.Computed.{ruled_files}
 use Rattle.kc_conf.specs.Ends.{texts_of}
-use Rattle.kc_conf.specs.Outcome.{has_text, lines_text}
-use Rattle.kc_options.specs.declared.options.Options.{Options}
-use Rattle.kc_conf.specs.Taken.{refuses_input}
 use Rattle.kc_conf.proofs.compute.compute.Goals as goal
 
 given_by : Options → TreeFacts → Solution → Option (List (List ℕ)) → Bool → Option (List NamedText)

@@ -5,7 +5,7 @@ use Rattle.std.proofs.lemmas.List.{take_all}
 use Rattle.std.proofs.lemmas.List.Folds.{list_any_at}
 use Rattle.kc_diagnostics.specs.Warnings.{owned_warning}
 use Rattle.kc_conf.proofs.ListLemmas.{list_any-map}
-use Rattle.kc_conf.specs.Taken.{is_outside}
+use Rattle.kc_language.specs.Outcome.{is_outside}
 use Rattle.kc_conf.proofs.compute.is_any_outside.Goals as goal
 
 pub returns-then-is_outside : goal.returns-then-is_outside

@@ -1,6 +1,6 @@
 -- Lines are whole lines.
 use Rattle.std.proofs.Common.{◌++◌, ◌∙◌, Global, Vec, ap, map, subst, sym, ℕ}
-use Rattle.kc_conf.specs.Outcome.{lines_text}
+use Rattle.kc_language.specs.Outcome.{lines_text}
 use Rattle.kc_conf.specs.Reads.{IsWholeEnd}
 use Rattle.kc_conf.proofs.SayLemmas.{ends-some}
 use Rattle.kc_conf.proofs.diagnostics.say_lines.Goals as goal

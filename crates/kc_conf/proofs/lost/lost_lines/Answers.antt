@@ -1,8 +1,8 @@
 -- The lines of one symbol more, and of all.
 use Rattle.std.proofs.Common.{◌∙◌, ℕ, List, ap, arith}
 use Rattle.std.specs.List.{flat_map}
-use Rattle.kc_expr.specs.declared.expression.SymId.{SymId}
-use Rattle.kc_conf.specs.Lost.{lost_at}
+use Rattle.kc_language.specs.declared.expressions.SymId.{SymId}
+use Rattle.kc_language.specs.Texts.{lost_at}
 use Rattle.kc_conf.proofs.LostLemmas.{all_lost, one_more_lost}
 use Rattle.kc_conf.proofs.lost.lost_lines.Goals as goal
 

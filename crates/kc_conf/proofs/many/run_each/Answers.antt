@@ -1,7 +1,7 @@
 -- The tree is refused, or its configurations take their turns.
-use Rattle.kc_read.specs.Files.{bytes_in}
+use Rattle.kc_language.specs.Expansion.{bytes_in}
 use Rattle.kc_conf.specs.Many.{stops}
-use Rattle.kc_conf.specs.Outcome.{no_tree}
+use Rattle.kc_language.specs.Outcome.{no_tree}
 use Rattle.kc_conf.proofs.many.run_each.Goals as goal
 
 pub returns-in-Err : goal.returns-in-Err

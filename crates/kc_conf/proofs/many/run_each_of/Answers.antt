@@ -1,7 +1,7 @@
 -- The tree's warnings are said, or all ends there.
 use Rattle.std.proofs.Common.{◌∙◌, ap, not}
 use Rattle.kc_conf.specs.Many.{stops, turns}
-use Rattle.kc_conf.specs.Outcome.{has_text, lines_text}
+use Rattle.kc_language.specs.Outcome.{has_text, lines_text}
 use Rattle.kc_conf.proofs.ManyLemmas.{IsAcceptedOf-rooted}
 use Rattle.kc_conf.proofs.OutcomeLemmas.{lines_some}
 use Rattle.kc_conf.proofs.many.run_each_of.Goals as goal

@@ -1,9 +1,9 @@
 -- The tree's symbols need one another in a loop, or it is accepted.
 use Rattle.std.proofs.Common.{subst, sym}
 use Rattle.std.specs.Prelude.{Ok}
-use Rattle.kc_build.specs.Trees.{IsTreeOf}
+use Rattle.kc_language.specs.Symbols.{IsTreeOf}
 use Rattle.kc_conf.specs.Many.{stops}
-use Rattle.kc_conf.specs.Outcome.{looped}
+use Rattle.kc_language.specs.Outcome.{looped}
 use Rattle.kc_conf.proofs.many.run_each_over.Goals as goal
 
 pub returns-in-Err : goal.returns-in-Err

@@ -1,7 +1,7 @@
 -- One turn after another.
 use Rattle.std.proofs.Common.{◌+◌, ◌<◌, ◌≤◌, ℕ, arith, subst, sym, Bool}
 use Rattle.kc_conf.specs.Many.{TakeTurns, TakesTurn}
-use Rattle.kc_options.specs.declared.options.Status.{Status}
+use Rattle.kc_language.specs.declared.outcome.Status.{Status}
 use Rattle.kc_conf.proofs.ManyLemmas.{TakeTurns-all, TakeTurns-last, TurnsSoFar, TurnsSoFar-next, TurnsSoFar-none}
 use Rattle.kc_conf.proofs.many.take_turns.Goals as goal
 

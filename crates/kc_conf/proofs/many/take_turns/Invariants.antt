@@ -1,8 +1,8 @@
 -- The turns so far.
-use Rattle.kc_read.specs.Files.{Files}
+use Rattle.kc_language.specs.Expansion.{Files}
 use Rattle.std.proofs.Common.{ℕ}
 use Rattle.kc_conf.specs.Accepted.{IsAcceptedOf}
-use Rattle.kc_options.specs.declared.options.Options.{Options}
+use Rattle.kc_language.specs.Outcome.{Options}
 use Rattle.kc_conf.proofs.ManyLemmas.{TurnsSoFar}
 use Rattle.kc_conf.proofs.many.take_turns.Given as goal
 

@@ -1,7 +1,7 @@
 -- File by file.
 use Rattle.std.proofs.Common.{◌≤◌, ◌∙◌, Global, Vec, ap, arith, length, sym, ℕ}
 use Rattle.std.proofs.lemmas.List.{length-map}
-use Rattle.kc_options.specs.Asked.{input_files}
+use Rattle.kc_language.specs.Outcome.{input_files}
 use Rattle.kc_conf.specs.ReadSteps.{stand}
 use Rattle.kc_conf.proofs.InputLemmas.{breaks-inputs, names-count, places-fresh, reads-all, reads-to-long, so_far-file, so_far-nothing, stream-at, within-inputs}
 use Rattle.kc_conf.proofs.reading.read_inputs.Goals as goal

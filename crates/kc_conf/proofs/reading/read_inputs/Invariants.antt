@@ -1,5 +1,5 @@
 -- The files so far were read.
-use Rattle.kc_user.specs.Places.{ArePlacesOf}
+use Rattle.kc_language.specs.ConfigFile.{ArePlacesOf}
 use Rattle.kc_conf.specs.ReadSteps.{ReadsSoFar, stand}
 use Rattle.kc_conf.proofs.reading.read_inputs.Given as goal
 

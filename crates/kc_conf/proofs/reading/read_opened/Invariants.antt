@@ -1,5 +1,5 @@
 -- So many bytes of the file were read, and taken.
-use Rattle.kc_user.specs.Places.{ArePlacesOf}
+use Rattle.kc_language.specs.ConfigFile.{ArePlacesOf}
 use Rattle.kc_conf.specs.ReadSteps.{IsStillFresh, TakesSoFar, stand}
 use Rattle.kc_conf.proofs.reading.read_opened.Given as goal
 

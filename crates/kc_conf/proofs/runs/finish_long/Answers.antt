@@ -1,8 +1,8 @@
 -- What waits is said first, or not.
 use Rattle.std.proofs.Common.{[]}
-use Rattle.kc_conf.specs.ErrorLines.{too_long_line}
+use Rattle.kc_language.specs.Outcome.{too_long_line}
 use Rattle.kc_conf.specs.Reads.{stop_of}
-use Rattle.kc_options.specs.declared.options.Status.TheVariants.{Refused}
+use Rattle.kc_language.specs.declared.outcome.Status.TheVariants.{Refused}
 use Rattle.kc_conf.proofs.EndingLemmas.{Ends-behind, Ends-unsaid}
 use Rattle.kc_conf.proofs.runs.finish_long.Goals as goal
 

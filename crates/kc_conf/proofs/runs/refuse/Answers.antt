@@ -1,7 +1,7 @@
 -- The line was said, or not.
 use Rattle.std.proofs.Common.{[]}
 use Rattle.kc_read.specs.RefusalView.{refusal_view}
-use Rattle.kc_conf.specs.ErrorLines.{refusal_line}
+use Rattle.kc_language.specs.Outcome.{refusal_line}
 use Rattle.kc_conf.proofs.EndingLemmas.{BreaksEnd-report, IsEnded-line, some-refusal}
 use Rattle.kc_conf.proofs.runs.refuse.Goals as goal
 

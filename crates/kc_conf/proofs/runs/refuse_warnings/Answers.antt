@@ -1,7 +1,6 @@
 -- The line was said, or not.
 use Rattle.std.proofs.Common.{◌++◌, []}
-use Rattle.kc_options.specs.Asked.{lead}
-use Rattle.kc_conf.specs.ErrorLines.{strict_line}
+use Rattle.kc_language.specs.Outcome.{lead, strict_line}
 use Rattle.kc_conf.proofs.EndingLemmas.{BreaksEnd-report, IsEnded-line, some-strict}
 use Rattle.kc_conf.proofs.runs.refuse_warnings.Goals as goal
 

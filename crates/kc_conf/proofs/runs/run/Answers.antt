@@ -1,5 +1,5 @@
 -- A run that was broken off says why.
-use Rattle.kc_read.specs.Files.{bytes_in}
+use Rattle.kc_language.specs.Expansion.{bytes_in}
 use Rattle.kc_conf.proofs.RunParts.{Runs-answered}
 use Rattle.kc_conf.proofs.runs.run.Goals as goal
 

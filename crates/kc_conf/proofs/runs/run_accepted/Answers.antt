@@ -2,7 +2,7 @@
 use Rattle.std.proofs.Common.{◌∙◌, ap, sym, option_map, not}
 use Rattle.std.proofs.lemmas.Result.{err_from_is_err_and}
 use Rattle.kc_io.proofs.LogLemmas.{leads_nothing}
-use Rattle.kc_conf.specs.Outcome.{has_text, lines_text}
+use Rattle.kc_language.specs.Outcome.{has_text, lines_text}
 use Rattle.kc_conf.proofs.OutcomeLemmas.{lines_some}
 use Rattle.kc_conf.proofs.PartOutcomes.{names-read}
 use Rattle.kc_conf.proofs.RunParts.{LeavesRun-memory, LeavesRun-name, LeavesRun-part, LeavesRun-unsaid}

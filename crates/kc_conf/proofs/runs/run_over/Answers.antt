@@ -1,6 +1,6 @@
 -- The tree is refused.
-use Rattle.kc_read.specs.Files.{bytes_in}
-use Rattle.kc_conf.specs.Outcome.{no_tree}
+use Rattle.kc_language.specs.Expansion.{bytes_in}
+use Rattle.kc_language.specs.Outcome.{no_tree}
 use Rattle.kc_conf.proofs.RunParts.{LeavesRun-refusal}
 use Rattle.kc_conf.proofs.runs.run_over.Goals as goal
 

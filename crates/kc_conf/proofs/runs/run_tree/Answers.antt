@@ -1,9 +1,8 @@
 -- The tree's symbols need one another in a loop.
 use Rattle.std.proofs.Common.{subst, sym}
 use Rattle.std.specs.Prelude.{Ok}
-use Rattle.kc_build.specs.Trees.{IsTreeOf}
-use Rattle.kc_options.specs.Asked.{root_file}
-use Rattle.kc_conf.specs.Outcome.{looped}
+use Rattle.kc_language.specs.Symbols.{IsTreeOf}
+use Rattle.kc_language.specs.Outcome.{root_file, looped}
 use Rattle.kc_conf.proofs.RunParts.{LeavesRun-refusal}
 use Rattle.kc_conf.proofs.runs.run_tree.Goals as goal
 

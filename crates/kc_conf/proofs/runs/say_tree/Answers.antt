@@ -2,7 +2,7 @@
 use Rattle.std.proofs.Common.{◌≡◌, ◌≢◌, ◌∙◌, ℕ, List, [], ap, map, sym, true, false, not, OnOk, Result, Ok, Err}
 use Rattle.std.specs.Prelude.{IfErr}
 use Rattle.kc_io.specs.Log.{Leads, Log}
-use Rattle.kc_conf.specs.Outcome.{has_text, lines_text}
+use Rattle.kc_language.specs.Outcome.{has_text, lines_text}
 use Rattle.kc_conf.specs.PartRuns.{SaysLines}
 use Rattle.kc_conf.specs.Reads.{IsReportOrMemory}
 use Rattle.kc_conf.specs.Stops.{event_of}

@@ -1,12 +1,12 @@
 use Rattle.std.proofs.Common.{◌++◌, false, ap, get_or, ◌∙◌, sym}
 use Rattle.std.proofs.lemmas.List.{get_or_default}
-use Rattle.kc_expr.specs.Names.{symbol}
+use Rattle.kc_language.specs.Expressions.{symbol}
 use Rattle.kc_tree.specs.Layouts.{shown_of}
 use Rattle.kc_tree.specs.declared.rows.ShownEntry.TheVariants.{Symbol}
 use Rattle.kc_config_file.specs.EntryTexts.{entries_after}
 use Rattle.kc_config_file.proofs.EntryLemmas.{entries_text-after}
 use Rattle.kc_config_file.proofs.TextLemmas.{entries_are, entries_next, entries_end, entry_at, entry_has_name, grows, is_grown}
-use Rattle.kc_config_file.specs.SolvedView.{solution_view}
+use Rattle.kc_language.specs.Texts.{solution_view}
 use Rattle.kc_config_file.proofs.config.add_entries.Goals as goal
 
 pub add_entry-requires-clause-there : goal.add_entry-requires-clause-there

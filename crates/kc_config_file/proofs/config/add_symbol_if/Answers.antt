@@ -1,9 +1,7 @@
 use Rattle.std.proofs.Common.{◌∙◌, ◌++◌, ap, sym, append_assoc}
-use Rattle.kc_config_file.specs.SymbolLines.{config_file_line}
-use Rattle.kc_config_file.specs.Texts.{gap}
+use Rattle.kc_language.specs.Texts.{config_file_line, gap, solution_view}
 use Rattle.kc_config_file.specs.KnownValue.{value_view}
 use Rattle.kc_config_file.proofs.TextLemmas.{symbol-written}
-use Rattle.kc_config_file.specs.SolvedView.{solution_view}
 use Rattle.kc_config_file.proofs.config.add_symbol_if.Goals as goal
 
 pub returns-clause-text : goal.returns-clause-text

@@ -1,7 +1,6 @@
 use Rattle.std.proofs.Common.{List, ℕ, ◌∙◌, subst, arith}
-use Rattle.kc_config_file.specs.Texts.{config_text}
+use Rattle.kc_language.specs.Texts.{config_text, solution_view}
 use Rattle.kc_config_file.specs.Writing.{Writes}
-use Rattle.kc_config_file.specs.SolvedView.{solution_view}
 use Rattle.kc_config_file.proofs.WritingLemmas.{writes_nothing}
 use Rattle.kc_config_file.proofs.config.put_config.Goals as goal
 

@@ -1,6 +1,6 @@
 use Rattle.std.proofs.Common.{subst, sym}
 use Rattle.std.proofs.lemmas.Result.{IfOk-weaker}
-use Rattle.kc_config_file.specs.Effects.{symbol_named}
+use Rattle.kc_language.specs.ConfigFile.{symbol_named}
 use Rattle.kc_config_file.specs.EffectView.{AssignsDefined}
 use Rattle.kc_config_file.proofs.StepLemmas.{set_defined}
 use Rattle.kc_config_file.proofs.effect.line_effect.Goals as goal

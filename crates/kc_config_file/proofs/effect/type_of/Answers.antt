@@ -1,5 +1,5 @@
 use Rattle.std.proofs.Common.{◌∙◌, ap, sym}
-use Rattle.kc_config_file.specs.Effects.{type_in}
+use Rattle.kc_language.specs.Values.{type_in}
 use Rattle.kc_config_file.proofs.effect.type_of.Goals as goal
 
 pub returns-in-Some : goal.returns-in-Some

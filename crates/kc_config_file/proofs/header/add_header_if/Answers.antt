@@ -1,7 +1,7 @@
 use Rattle.std.proofs.Common.{◌≡◌, ◌∙◌, ◌++◌, ap, sym, subst, List, ℕ, OnOk, append-nil}
 use Rattle.kc_config_file.specs.KnownValue.{value_view}
 use Rattle.kc_config_file.proofs.TextLemmas.{header_if-written, header_if-not}
-use Rattle.kc_config_file.specs.SolvedView.{solution_view}
+use Rattle.kc_language.specs.Texts.{solution_view}
 use Rattle.kc_config_file.proofs.header.add_header_if.Goals as goal
 
 pub returns-then-not-written : goal.returns-then-not-written

@@ -1,7 +1,7 @@
 use Rattle.std.proofs.Common.{◌≡◌, ◌∙◌, ◌++◌, ap, sym, subst, List, ℕ, OnOk, append-nil}
 use Rattle.kc_config_file.specs.KnownValue.{value_view}
 use Rattle.kc_config_file.proofs.TextLemmas.{minimal_if-differs, minimal_if-not}
-use Rattle.kc_config_file.specs.SolvedView.{solution_view}
+use Rattle.kc_language.specs.Texts.{solution_view}
 use Rattle.kc_config_file.proofs.header.add_minimal_if.Goals as goal
 
 pub returns-then-not-differs-clause-line : goal.returns-then-not-differs-clause-line

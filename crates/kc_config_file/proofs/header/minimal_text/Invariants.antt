@@ -1,7 +1,6 @@
 use Rattle.std.proofs.Common.{◌≡◌, ◌++◌, drop}
 use Rattle.std.specs.Prelude.{flat_map}
-use Rattle.kc_config_file.specs.Texts.{minimal_if, minimal_text}
-use Rattle.kc_config_file.specs.SolvedView.{solution_view}
+use Rattle.kc_language.specs.Texts.{minimal_if, minimal_text, solution_view}
 use Rattle.kc_config_file.proofs.header.minimal_text.Given as goal
 
 -- the lines of the symbols behind are still to come

@@ -1,7 +1,6 @@
 use Rattle.std.proofs.Common.{List, ℕ, ◌∙◌, subst}
-use Rattle.kc_config_file.specs.Texts.{minimal_text}
+use Rattle.kc_language.specs.Texts.{minimal_text, solution_view}
 use Rattle.kc_config_file.specs.Writing.{Writes}
-use Rattle.kc_config_file.specs.SolvedView.{solution_view}
 use Rattle.kc_config_file.proofs.WritingLemmas.{writes_nothing}
 use Rattle.kc_config_file.proofs.header.put_minimal.Goals as goal
 

@@ -1,6 +1,6 @@
 use Rattle.std.proofs.Common.{subst}
 use Rattle.kc_tree.specs.TreeFacts.{IsWellFormed}
-use Rattle.kc_solve.specs.Solved.{value_of}
+use Rattle.kc_language.specs.Texts.{value_of}
 use Rattle.kc_config_file.proofs.SolutionLemmas.{solution_of}
 use Rattle.kc_config_file.proofs.header.write_minimal.Goals as goal
 

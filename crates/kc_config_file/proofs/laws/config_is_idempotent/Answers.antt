@@ -1,4 +1,4 @@
-use Rattle.kc_user.specs.Places.{place_at}
+use Rattle.kc_language.specs.ConfigFile.{place_at}
 use Rattle.kc_config_file.proofs.IdempotentLaws.{idempotent_again}
 use Rattle.kc_config_file.proofs.SolutionLemmas.{has_names}
 use Rattle.kc_config_file.proofs.ValueTextLemmas.{values_fit_lines}

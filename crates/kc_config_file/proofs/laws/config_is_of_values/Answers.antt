@@ -1,5 +1,5 @@
 -- The view of the other places differs only in which symbols differ, and the text does not ask for it.
-use Rattle.kc_config_file.specs.Reread.{valuation_view}
+use Rattle.kc_language.specs.Texts.{valuation_view}
 use Rattle.kc_config_file.proofs.EntryLemmas.{config_text-same}
 use Rattle.kc_config_file.proofs.laws.config_is_of_values.Goals as goal
 

@@ -1,4 +1,4 @@
-use Rattle.kc_user.specs.Places.{place_at}
+use Rattle.kc_language.specs.ConfigFile.{place_at}
 use Rattle.kc_config_file.proofs.MinimalLaws.{gives_back, none_to_spare}
 use Rattle.kc_config_file.proofs.MinimalTextLemmas.{keeps_differing, tells_differing}
 use Rattle.kc_config_file.proofs.SolutionLemmas.{has_names}

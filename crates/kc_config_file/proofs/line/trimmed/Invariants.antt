@@ -1,5 +1,5 @@
 use Rattle.std.proofs.Common.{◌≡◌, ℕ, ◌≤◌, ◌<◌, length, get_or, true}
-use Rattle.kc_text.specs.Lexemes.{is_blank}
+use Rattle.kc_language.specs.Tokens.{is_blank}
 use Rattle.kc_config_file.proofs.line.trimmed.Given as goal
 
 -- only blanks stand from the end on

@@ -1,5 +1,5 @@
 use Rattle.std.proofs.Common.{◌≡◌, ◌≤◌, ◌-◌, length, take}
-use Rattle.kc_user.specs.Places.{ArePlacesOf}
+use Rattle.kc_language.specs.ConfigFile.{ArePlacesOf}
 use Rattle.kc_config_file.specs.Feeding.{IsWithinLine, Feeds, fed}
 use Rattle.kc_config_file.specs.ReaderView.{position_of}
 use Rattle.kc_config_file.proofs.line_buffer.take_piece.Given as goal

@@ -1,7 +1,7 @@
 -- The line of one symbol.
 use Rattle.std.proofs.Common.{Some}
 use Rattle.std.proofs.lemmas.List.{map-set}
-use Rattle.std.specs.Option.{option_map}
+use Rattle.std.specs.Prelude.{option_map}
 use Rattle.kc_config_file.specs.ShownView.{location_of}
 use Rattle.kc_config_file.proofs.step.set_line.Goals as goal
 

@@ -1,7 +1,6 @@
 -- For each symbol no line yet.
 use Rattle.std.proofs.Common.{◌≡◌, ◌∙◌, ap, map, sym, true, None, arith}
-use Rattle.std.specs.Prelude.{replicate}
-use Rattle.std.specs.Option.{option_map}
+use Rattle.std.specs.Prelude.{replicate, option_map}
 use Rattle.std.proofs.lemmas.Result.{IfOk-weaker}
 use Rattle.kc_user.proofs.UserLemmas.{map-replicate}
 use Rattle.kc_config_file.specs.ShownView.{location_of}

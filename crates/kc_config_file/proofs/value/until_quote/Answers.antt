@@ -1,5 +1,5 @@
 use Rattle.kc_config_file.proofs.QuotedLemmas.{preceded-nothing, inside_found, inside_over, inside_over_taken}
-use Rattle.kc_config_file.specs.LineValue.{until_quote}
+use Rattle.kc_language.specs.ConfigFile.{until_quote}
 use Rattle.kc_config_file.proofs.value.until_quote.Goals as goal
 use Rattle.kc_config_file.proofs.value.until_quote.Goals.{then-body-at-eq92, else-body-at-eq92}
 

@@ -1,7 +1,7 @@
 -- The files that were loaded stand for those of the folder.
 use Rattle.std.proofs.Common.{List, ℕ, refl, sym, subst, subst₂, Err, map, string_bytes, length}
 use Rattle.std.proofs.lemmas.List.{length-map}
-use Rattle.kc_read.specs.Files.{bytes_in}
+use Rattle.kc_language.specs.Expansion.{bytes_in}
 use Rattle.kc_load.specs.Expanding.{Suffices}
 use Rattle.kc_load.specs.Faults.{IsLoadFault, failed_load}
 use Rattle.kc_load.specs.Folders.{Leads, files_told}

@@ -1,9 +1,9 @@
 -- What the check left open in `relation`.
 use Rattle.std.proofs.Common.{ℕ, ◌≡◌, ◌≤◌, ◌<◌, ◌+◌, ◌∙◌, ap, ◌∷◌, length, arith}
-use Rattle.kc_expr.specs.Grammar.{terminals_from, OperandToken, Compares}
-use Rattle.kc_expr.specs.Reading.{starts_operand}
+use Rattle.kc_expr.specs.Grammar.{terminals_from}
+use Rattle.kc_language.specs.Expressions.{OperandToken, Compares}
+use Rattle.kc_expr.specs.Reading.{starts_operand, FailsNot}
 use Rattle.kc_expr.specs.declared.parse.ExprFault.TheVariants.{Memory}
-use Rattle.kc_expr.specs.Reading.{FailsNot}
 use Rattle.kc_expr.proofs.NamesLemmas.{extends_on}
 use Rattle.kc_expr.proofs.OperandLemmas.{is_memory, memory_at, memory_not, operand_here}
 use Rattle.kc_expr.proofs.ParseLemmas.{fault_passed, no_left, no_right_side, parsed_lone, parsed_compare}

@@ -1,9 +1,10 @@
 -- The steps of the loops of `eval`.
 use Rattle.std.proofs.Common.{◌≡◌, ℕ, suc, ◌+◌, ◌<◌, List, ◌∷◌, ◌∙◌, length, get_or, map, drop, refl, ap, sym, drop-cons, add-one}
 use Rattle.kc_expr.specs.declared.expression.Expr.{Expr}
-use Rattle.kc_expr.specs.declared.expression.Tri.{Tri}
+use Rattle.kc_language.specs.declared.expressions.Tri.{Tri}
 use Rattle.kc_expr.specs.Form.{form_of}
-use Rattle.kc_expr.specs.Value.{values_by, value, least, greatest, lesser, greater}
+use Rattle.kc_expr.specs.Value.{values_by}
+use Rattle.kc_language.specs.Expressions.{value, least, greatest, lesser, greater}
 use Rattle.kc_expr.proofs.FormLemmas.{lesser-assoc, greater-assoc}
 use Rattle.kc_expr.proofs.values.+eval.Goals as goal
 

@@ -6,8 +6,9 @@ use Rattle.std.specs.declared.boxed.Box.{Box}
 use Rattle.kc_expr.specs.declared.expression.Expr.{Expr, All, Any}
 use Rattle.kc_expr.specs.declared.expression.Operands.{Operands}
 use Rattle.kc_expr.specs.declared.expression.Parts.{Parts}
-use Rattle.kc_expr.specs.declared.expression.SymId.{SymId}
-use Rattle.kc_expr.specs.Form.{form_of, symbols, leaf_of, leaf_symbols, AppendsFront}
+use Rattle.kc_language.specs.declared.expressions.SymId.{SymId}
+use Rattle.kc_expr.specs.Form.{form_of, leaf_of, AppendsFront}
+use Rattle.kc_language.specs.Expressions.{symbols, leaf_symbols}
 use Rattle.kc_expr.proofs.FormLemmas.{both_on_err, front_between, front_within, symbols_of_all, symbols-All, symbols-Any}
 use Rattle.kc_expr.proofs.NamesLemmas.{on_err}
 use Rattle.kc_expr.proofs.values.+symbols_into.Goals as goal

@@ -1,5 +1,5 @@
 use Rattle.std.proofs.Common.{◌≡◌, map, take, string_bytes}
-use Rattle.kc_expr.specs.Names.{all_mentioned}
+use Rattle.kc_language.specs.Expressions.{all_mentioned}
 use Rattle.kc_load.proofs.prerequisites.add_fragments.Given as goal
 
 -- the fragments so far are mentioned

@@ -1,7 +1,7 @@
 use Rattle.std.proofs.Common.{ap, ◌∙◌, sym}
 use Rattle.std.proofs.lemmas.Option.{get_or_from_slice_get, slice_get_within}
-use Rattle.kc_expr.specs.Names.{mention}
-use Rattle.kc_load.specs.Folders.{path_of}
+use Rattle.kc_language.specs.Expressions.{mention}
+use Rattle.kc_language.specs.Outcome.{path_of}
 use Rattle.kc_load.proofs.MentionLemmas.{mention_next}
 use Rattle.kc_load.proofs.prerequisites.add_paths.Goals as goal
 

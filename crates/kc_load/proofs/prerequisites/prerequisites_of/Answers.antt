@@ -1,7 +1,6 @@
 use Rattle.std.proofs.Common.{List, [], ℕ, map, string_bytes, ap, sym, ◌∙◌}
-use Rattle.kc_expr.specs.Names.{all_mentioned}
-use Rattle.kc_load.specs.Folders.{path_of}
-use Rattle.kc_load.specs.Prerequisites.{inputs_of}
+use Rattle.kc_language.specs.Expressions.{all_mentioned}
+use Rattle.kc_language.specs.Outcome.{path_of, inputs_of}
 use Rattle.kc_load.proofs.MentionLemmas.{all_append}
 use Rattle.kc_load.proofs.prerequisites.prerequisites_of.Goals as goal
 

@@ -1,5 +1,5 @@
 use Rattle.std.proofs.Common.{length}
-use Rattle.kc_order.specs.Needs.{needs_in}
+use Rattle.kc_language.specs.Needs.{needs_in}
 use Rattle.kc_order.proofs.OneSolution.{exists}
 use Rattle.kc_order.proofs.laws.accepted_have_one_solution.Goals as goal
 

@@ -1,5 +1,5 @@
 use Rattle.std.proofs.Common.{length}
-use Rattle.kc_order.specs.Needs.{needs_in}
+use Rattle.kc_language.specs.Needs.{needs_in}
 use Rattle.kc_order.proofs.Rings.{cycle_of}
 use Rattle.kc_order.proofs.laws.cycles_are_unordered.Goals as goal
 

@@ -1,5 +1,5 @@
 use Rattle.std.proofs.Common.{length}
-use Rattle.kc_order.specs.Needs.{needs_in}
+use Rattle.kc_language.specs.Needs.{needs_in}
 use Rattle.kc_order.proofs.MinimalLaws.{nothing_can_go}
 use Rattle.kc_order.proofs.laws.minimal_has_nothing_to_spare.Goals as goal
 

@@ -1,5 +1,5 @@
 use Rattle.std.proofs.Common.{length}
-use Rattle.kc_order.specs.Needs.{needs_in}
+use Rattle.kc_language.specs.Needs.{needs_in}
 use Rattle.kc_order.proofs.Rings.{is_closed}
 use Rattle.kc_order.proofs.laws.named_loop_is_closed.Goals as goal
 

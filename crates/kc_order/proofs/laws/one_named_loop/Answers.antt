@@ -1,5 +1,5 @@
 use Rattle.std.proofs.Common.{length}
-use Rattle.kc_order.specs.Needs.{needs_in}
+use Rattle.kc_language.specs.Needs.{needs_in}
 use Rattle.kc_order.proofs.OneLoop.{one_loop}
 use Rattle.kc_order.proofs.laws.one_named_loop.Goals as goal
 

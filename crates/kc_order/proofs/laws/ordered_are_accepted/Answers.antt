@@ -1,5 +1,5 @@
 use Rattle.std.proofs.Common.{length}
-use Rattle.kc_order.specs.Needs.{needs_in}
+use Rattle.kc_language.specs.Needs.{needs_in}
 use Rattle.kc_order.proofs.ByOrder.{nothing_unordered}
 use Rattle.kc_order.proofs.laws.ordered_are_accepted.Goals as goal
 

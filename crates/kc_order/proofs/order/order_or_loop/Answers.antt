@@ -3,8 +3,9 @@ use Rattle.std.proofs.lemmas.List.{get_or_default}
 use Rattle.kc_order.specs.declared.search.NodeState.TheVariants.{New}
 use Rattle.kc_order.specs.FirstUnordered.{TellsUnordered, is_unordered_at}
 use Rattle.kc_order.specs.Graph.{IsGraph, needs_of}
-use Rattle.kc_order.specs.Loop.{HoldsNeeding, IsNamedLoop}
-use Rattle.kc_order.specs.Needs.{AreWithin, needs_in, unordered_after}
+use Rattle.kc_order.specs.Loop.{HoldsNeeding}
+use Rattle.kc_language.specs.Needs.{IsNamedLoop, needs_in, unordered_after}
+use Rattle.kc_order.specs.Needs.{AreWithin}
 use Rattle.kc_order.specs.Order.{IsOrderOf}
 use Rattle.kc_order.specs.Search.{is_unordered}
 use Rattle.kc_order.proofs.FirstLemmas.{find_by_place, find_without_place, same_found}

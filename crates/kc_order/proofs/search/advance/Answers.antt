@@ -6,7 +6,7 @@ use Rattle.std.proofs.lemmas.List.Elements.{Contains-get_or}
 use Rattle.std.proofs.lemmas.Bool.{cases_lt}
 use Rattle.kc_order.specs.declared.search.NodeState.{NodeState}
 use Rattle.kc_order.specs.declared.search.NodeState.TheVariants.{New, Done}
-use Rattle.kc_order.specs.Needs.{needs_in}
+use Rattle.kc_language.specs.Needs.{needs_in}
 use Rattle.kc_order.specs.Search.{IsSearch}
 use Rattle.kc_order.proofs.Held.{needs_below}
 use Rattle.kc_order.proofs.SearchSteps.{opens_sound, opens_less, closes_sound, closes_less, gives_up_sound, gives_up_less, passed_to, row_passes_to, found, needs_unordered, last_is}

@@ -1,7 +1,7 @@
 use Rattle.std.proofs.Common.{arith, length, ◌∙◌, ap}
 use Rattle.std.proofs.lemmas.List.{length-replicate, get_or-replicate, length-map}
 use Rattle.kc_order.specs.declared.search.NodeState.TheVariants.{New}
-use Rattle.kc_order.specs.Needs.{needs_in}
+use Rattle.kc_language.specs.Needs.{needs_in}
 use Rattle.kc_order.proofs.SearchSteps.{starts, counts_are}
 use Rattle.kc_order.proofs.search.search_all.Goals as goal
 

@@ -4,7 +4,7 @@ use Rattle.std.proofs.lemmas.Grind.{common_steps}
 use Rattle.std.proofs.lemmas.List.Elements.{Contains-push}
 use Rattle.std.proofs.lemmas.List.{get_or_read}
 use Rattle.kc_order.specs.declared.search.NodeState.TheVariants.{New}
-use Rattle.kc_order.specs.Needs.{needs_in}
+use Rattle.kc_language.specs.Needs.{needs_in}
 use Rattle.kc_order.proofs.SearchSteps.{opens_sound, opens_met, opens_there, open≢new}
 use Rattle.kc_order.proofs.search.visit.Goals as goal
 

@@ -1,9 +1,8 @@
 use Rattle.std.proofs.Common.{◌≢◌, Ok, Err}
-use Rattle.kc_read.specs.Expansion.{Expands, nothing_read, with_file, root_context}
-use Rattle.kc_read.specs.Files.{bytes_in}
+use Rattle.kc_language.specs.Expansion.{Expands, nothing_read, with_file, root_context, bytes_in}
 use Rattle.kc_read.specs.LineReads.{cause_of}
 use Rattle.kc_read.specs.RefusalView.{refusal_view}
-use Rattle.kc_diagnostics.specs.declared.cause.Cause.TheVariants.{Memory}
+use Rattle.kc_language.specs.declared.diagnostics.Cause.TheVariants.{Memory}
 use Rattle.kc_read.proofs.RestLemmas.{refusal_passed}
 use Rattle.kc_read.proofs.StateLemmas.{expands_read, expands_refused, state_begun}
 use Rattle.kc_read.proofs.expansion.expand.Goals as goal

@@ -1,14 +1,12 @@
 use Rattle.std.proofs.Common.{◌≡◌, [], None, Ok, sym, ap, ◌∙◌, subst, refl, map, arith}
-use Rattle.kc_expr.specs.Names.{all_mentioned}
-use Rattle.kc_text.specs.Lines.{unread_lines}
-use Rattle.kc_read.specs.Expansion.{NextStatement, context_of, inside, with_file}
+use Rattle.kc_language.specs.Expressions.{all_mentioned, number_of}
+use Rattle.kc_language.specs.Lines.{unread_lines}
+use Rattle.kc_language.specs.Expansion.{NextStatement, context_of, inside, with_file, bytes_in}
 use Rattle.kc_read.specs.LineReads.{cause_of}
-use Rattle.kc_read.specs.declared.statement.EntryKind.TheVariants as entry
+use Rattle.kc_language.specs.declared.statements.EntryKind.TheVariants as entry
 use Rattle.kc_read.specs.declared.statement.Statement.TheVariants as made
-use Rattle.kc_read.specs.Files.{bytes_in}
 use Rattle.kc_read.specs.Progress.{context_in, HasAdvanced, IsEnded, IsState}
-use Rattle.kc_read.specs.Statements.{SourceLine, names_in_statement}
-use Rattle.kc_expr.specs.Names.{number_of}
+use Rattle.kc_language.specs.Statements.{SourceLine, names_in_statement}
 use Rattle.kc_expr.proofs.NamesLemmas.{extends_on}
 use Rattle.kc_read.proofs.NameLemmas.{extends_none}
 use Rattle.kc_read.proofs.RestLemmas.{blank_goes, effect_refused, end_refused, ended, file_read, file_refused, goes_on, inside_refused, last_is, next_less, next_clear, next_passed, no_memory, popped, reading_passed, source_goes, source_refused, statement_goes, statement_passed, step_refused}

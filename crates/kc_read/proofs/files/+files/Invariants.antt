@@ -1,9 +1,8 @@
 use Rattle.std.proofs.Common.{◌≡◌, ◌+◌, ◌-◌, ◌*◌, List, [], None, length}
 use Rattle.std.proofs.Common.{ℕ}
-use Rattle.kc_text.specs.Lines.{unread_lines}
+use Rattle.kc_language.specs.Lines.{unread_lines}
 use Rattle.kc_expr.specs.Names.{Extends}
-use Rattle.kc_read.specs.Expansion.{FileContext, Log}
-use Rattle.kc_read.specs.Files.{bytes_in}
+use Rattle.kc_language.specs.Expansion.{FileContext, Log, bytes_in}
 use Rattle.kc_read.specs.Progress.{HasAdvanced, IsBounded, IsShallow, IsState}
 use Rattle.kc_read.proofs.files.+files.Given as goal
 

@@ -1,5 +1,5 @@
 use Rattle.std.proofs.Common.{refl, ◌∙◌, ap}
-use Rattle.kc_expr.specs.Names.{mention}
+use Rattle.kc_language.specs.Expressions.{mention}
 use Rattle.kc_read.proofs.files.enter.Goals as goal
 
 pub returns-clause-progress : goal.returns-clause-progress

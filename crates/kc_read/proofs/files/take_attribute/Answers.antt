@@ -1,5 +1,5 @@
 use Rattle.std.proofs.Common.{[], ◌∷◌, ◌++◌, Some, if◌then◌else◌, refl, ap, sym, ◌∙◌, subst}
-use Rattle.kc_read.specs.Blocks.{entry_of}
+use Rattle.kc_language.specs.Expansion.{entry_of}
 use Rattle.kc_read.specs.Entries.{attribute_line, lines_in, IsLastFile}
 use Rattle.kc_read.specs.Progress.{open_blocks_after}
 use Rattle.kc_read.specs.StatementViews.{attribute_view}

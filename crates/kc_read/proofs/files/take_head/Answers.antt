@@ -1,5 +1,5 @@
 use Rattle.std.proofs.Common.{[], ◌∷◌, ◌++◌, if◌then◌else◌, ap, sym, ◌∙◌, subst}
-use Rattle.kc_read.specs.Blocks.{entry_of}
+use Rattle.kc_language.specs.Expansion.{entry_of}
 use Rattle.kc_read.specs.Entries.{head_line, lines_in, IsLastFile}
 use Rattle.kc_read.proofs.HeadLemmas.{no_attribute}
 use Rattle.kc_read.proofs.files.take_head.Goals as goal

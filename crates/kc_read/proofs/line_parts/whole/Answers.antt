@@ -1,6 +1,6 @@
 use Rattle.std.proofs.Common.{true}
 use Rattle.kc_expr.specs.Form.{form_of}
-use Rattle.kc_read.specs.Lines.{WholeFault}
+use Rattle.kc_language.specs.Statements.{WholeFault}
 use Rattle.kc_read.specs.LineReads.{IsFault, lexemes_from}
 use Rattle.kc_read.proofs.PartLemmas.{fault_passed, whole_more}
 use Rattle.kc_read.proofs.line_parts.whole.Goals as goal

@@ -1,5 +1,5 @@
 use Rattle.std.proofs.Common.{refl}
-use Rattle.kc_read.specs.Statements.{ChoiceLine}
+use Rattle.kc_language.specs.Statements.{ChoiceLine}
 use Rattle.kc_read.proofs.reader.choice_line.Goals as goal
 
 pub returns-in-None : goal.returns-in-None

@@ -1,5 +1,5 @@
 use Rattle.std.proofs.Common.{refl, ap}
-use Rattle.kc_read.specs.Statements.{IfLine}
+use Rattle.kc_language.specs.Statements.{IfLine}
 use Rattle.kc_read.proofs.reader.if_line.Goals as goal
 
 pub returns-clause-read : goal.returns-clause-read

@@ -1,8 +1,6 @@
-use Rattle.kc_read.specs.Lines.{ReadsTarget}
-use Rattle.kc_expr.specs.Names.{all_mentioned}
-use Rattle.kc_read.specs.Statements.{names_in_condition}
+use Rattle.kc_language.specs.Statements.{ReadsTarget, names_in_condition, ImplyLine}
+use Rattle.kc_language.specs.Expressions.{all_mentioned}
 use Rattle.kc_expr.proofs.NamesLemmas.{extends_on}
-use Rattle.kc_read.specs.Statements.{ImplyLine}
 use Rattle.std.proofs.Common.{◌∙◌, ap}
 use Rattle.kc_read.specs.LineReads.{lexemes_from}
 use Rattle.kc_read.proofs.FrontLemmas.{after_one}

@@ -1,4 +1,4 @@
-use Rattle.kc_read.specs.Statements.{ModulesLine, IgnoredLine}
+use Rattle.kc_language.specs.Statements.{ModulesLine, IgnoredLine}
 use Rattle.kc_read.proofs.PartLemmas.{option_modules, option_ignored}
 use Rattle.std.proofs.Common.{◌∙◌, sym, refl}
 use Rattle.kc_read.specs.LineReads.{lexemes_from}

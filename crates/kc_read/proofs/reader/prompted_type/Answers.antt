@@ -1,6 +1,5 @@
 use Rattle.std.proofs.Common.{[], ap, Some}
-use Rattle.kc_read.specs.Statements.{TypeLine}
-use Rattle.kc_read.specs.Lines.{ReadsPrompt}
+use Rattle.kc_language.specs.Statements.{TypeLine, ReadsPrompt}
 use Rattle.kc_read.specs.LineReads.{unquoted_text, lexemes_from}
 use Rattle.kc_read.proofs.FrontLemmas.{after_one}
 use Rattle.kc_read.proofs.PartLemmas.{read_passed, asked_ok, asked_fault}

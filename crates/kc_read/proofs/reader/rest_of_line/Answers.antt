@@ -1,5 +1,5 @@
 use Rattle.std.proofs.Common.{refl}
-use Rattle.kc_read.specs.Statements.{EndIfLine, EndMenuLine, EndChoiceLine, HelpLine, ModulesLine}
+use Rattle.kc_language.specs.Statements.{EndIfLine, EndMenuLine, EndChoiceLine, HelpLine, ModulesLine}
 use Rattle.kc_read.proofs.reader.rest_of_line.Goals as goal
 
 pub returns-in-Config-clause-read : goal.returns-in-Config-clause-read

@@ -1,10 +1,8 @@
-use Rattle.kc_read.specs.Lines.{ReadsTarget}
-use Rattle.kc_expr.specs.Names.{all_mentioned}
-use Rattle.kc_read.specs.Statements.{names_in_condition}
+use Rattle.kc_language.specs.Statements.{ReadsTarget, names_in_condition, SelectLine}
+use Rattle.kc_language.specs.Expressions.{all_mentioned}
 use Rattle.kc_expr.proofs.NamesLemmas.{extends_on}
 use Rattle.std.proofs.Common.{◌∙◌, ap}
 use Rattle.kc_read.specs.LineReads.{lexemes_from}
-use Rattle.kc_read.specs.Statements.{SelectLine}
 use Rattle.kc_read.proofs.FrontLemmas.{after_one}
 use Rattle.kc_read.proofs.PartLemmas.{read_passed, target_ok, target_fault}
 use Rattle.kc_read.proofs.reader.select_line.Goals as goal

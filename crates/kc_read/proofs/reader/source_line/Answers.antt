@@ -1,5 +1,5 @@
 use Rattle.std.proofs.Common.{refl}
-use Rattle.kc_read.specs.Statements.{SourceLine}
+use Rattle.kc_language.specs.Statements.{SourceLine}
 use Rattle.kc_read.proofs.reader.source_line.Goals as goal
 
 pub returns : goal.returns

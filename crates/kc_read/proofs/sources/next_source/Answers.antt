@@ -1,5 +1,6 @@
 use Rattle.std.proofs.Common.{◌≡◌, ◌∙◌, MatchOption, ap, subst, sym}
-use Rattle.kc_text.specs.Lines.{IsLineFault, UnreadLines, TakesLine}
+use Rattle.kc_text.specs.Lines.{IsLineFault}
+use Rattle.kc_language.specs.Lines.{UnreadLines, TakesLine}
 use Rattle.kc_read.specs.SourceSteps.{IsFound}
 use Rattle.kc_read.proofs.SourceLemmas.{ended_found, line_ends, says_clear, says_less}
 use Rattle.kc_read.proofs.SourceLines.{at_end}

@@ -1,4 +1,4 @@
-use Rattle.kc_text.specs.Lines.{unread_lines}
+use Rattle.kc_language.specs.Lines.{unread_lines}
 use Rattle.std.proofs.Common.{map, sym, subst}
 use Rattle.kc_read.proofs.QuietFiles.{no_names}
 use Rattle.kc_read.proofs.SourceLemmas.{Follows, follows_name, follows_other}

@@ -1,5 +1,5 @@
 use Rattle.std.proofs.Common.{◌≡◌, None, map, length}
-use Rattle.kc_text.specs.Lines.{unread_lines}
+use Rattle.kc_language.specs.Lines.{unread_lines}
 use Rattle.kc_read.proofs.SourceLemmas.{Follows}
 use Rattle.kc_read.proofs.sources.sources_of.Given as goal
 

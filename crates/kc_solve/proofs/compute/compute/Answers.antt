@@ -1,7 +1,7 @@
 use Rattle.std.proofs.Common.{◌≡◌, ◌+◌, ℕ, arith, length, sym, subst, ◌∙◌, ap}
 use Rattle.std.specs.Prelude.{slice_index_or, None}
-use Rattle.kc_tree.specs.TreeFacts.{TreeFacts}
-use Rattle.kc_values.specs.Solution.{name_count}
+use Rattle.kc_language.specs.Symbols.{TreeFacts}
+use Rattle.kc_language.specs.Values.{name_count}
 use Rattle.kc_solve.specs.Computing.{IsSelection, IsUnreadIn, IsComputedTable, IsComputedTo}
 use Rattle.kc_solve.proofs.ComputeSteps.{begins, choice_next, choice_there, choices_length, context_next, solves, symbol_next, unread}
 use Rattle.kc_solve.proofs.GroupNames.{names_there}

@@ -1,5 +1,5 @@
 use Rattle.std.proofs.Common.{◌≡◌, ◌++◌, drop}
-use Rattle.kc_solve.specs.LoopText.{arrows}
+use Rattle.kc_language.specs.Needs.{arrows}
 use Rattle.kc_solve.proofs.evaluation_order.arrows_into.Given as goal
 
 abbrev pub invariant-loop-symbol : goal.invariant-loop-symbol

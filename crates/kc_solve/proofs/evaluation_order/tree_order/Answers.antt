@@ -1,6 +1,6 @@
 use Rattle.std.proofs.Common.{◌<◌, ap, map, subst, sym, ◌∙◌}
 use Rattle.std.specs.List.{All, Contains}
-use Rattle.kc_expr.specs.declared.expression.SymId.{SymId}
+use Rattle.kc_language.specs.declared.expressions.SymId.{SymId}
 use Rattle.kc_solve.specs.Graphs.{IsGraphOf}
 use Rattle.kc_solve.proofs.SequenceSteps.{numbers_below, row_defined, rows_there}
 use Rattle.kc_solve.proofs.evaluation_order.tree_order.Goals as goal

@@ -1,12 +1,11 @@
 use Rattle.std.proofs.Common.{length, sym, ◌∙◌, ap, refl, arith}
 use Rattle.std.proofs.lemmas.List.FromFn.{length-map-range_with_len}
-use Rattle.kc_expr.specs.Names.{symbol}
+use Rattle.kc_language.specs.Expressions.{symbol}
 use Rattle.kc_tree.specs.Layouts.{facts_of}
-use Rattle.kc_user.specs.Places.{place_at}
-use Rattle.kc_values.specs.Differs.{selection, default_selection}
+use Rattle.kc_language.specs.ConfigFile.{place_at}
+use Rattle.kc_language.specs.Values.{selection, default_selection, written_facts}
 use Rattle.kc_values.specs.Table.{known_in}
 use Rattle.kc_values.specs.User.{given_in}
-use Rattle.kc_values.specs.WrittenSymbols.{written_facts}
 use Rattle.kc_solve.specs.Answers.{visibility_by}
 use Rattle.kc_solve.specs.Kept.{valuation}
 use Rattle.kc_solve.proofs.FlagSteps.{one_more_differs, one_more_visible, one_more_written, solved_here}

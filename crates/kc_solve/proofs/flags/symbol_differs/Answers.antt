@@ -4,7 +4,7 @@ use Rattle.kc_tree.specs.Contexts.{mode_view}
 use Rattle.kc_tree.specs.Layouts.{facts_of}
 use Rattle.kc_values.specs.TableFacts.{known_at}
 use Rattle.kc_values.specs.User.{given_in}
-use Rattle.kc_values.specs.Values.{is_n}
+use Rattle.kc_language.specs.Values.{is_n}
 use Rattle.kc_solve.proofs.FlagSteps.{does_not_differ}
 use Rattle.kc_solve.proofs.flags.symbol_differs.Goals as goal
 

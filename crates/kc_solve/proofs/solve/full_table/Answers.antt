@@ -2,9 +2,9 @@ use Rattle.std.proofs.Common.{◌∙◌, ap, length, subst}
 use Rattle.kc_values.specs.TableFacts.{AreSelected}
 use Rattle.kc_solve.proofs.OrderSteps.{accepted_through}
 use Rattle.kc_order.specs.Graph.{needs_of}
-use Rattle.kc_values.specs.Needs.{needs}
+use Rattle.kc_language.specs.Needs.{needs}
 use Rattle.kc_solve.specs.Kept.{valuation}
-use Rattle.kc_user.specs.Places.{place_at}
+use Rattle.kc_language.specs.ConfigFile.{place_at}
 use Rattle.kc_solve.proofs.UserSteps.{count_shown, solves_as_shown}
 use Rattle.kc_solve.proofs.solve.full_table.Goals as goal
 

@@ -1,9 +1,8 @@
 use Rattle.std.proofs.Common.{refl, sym, ◌∙◌, ap, subst}
-use Rattle.kc_order.specs.Solution.{Solves, IsOnlySolution}
-use Rattle.kc_tree.specs.TreeFacts.{TreeFacts}
-use Rattle.kc_user.specs.Places.{ArePlacesOf, place_at}
-use Rattle.kc_values.specs.Needs.{IsAccepted}
-use Rattle.kc_values.specs.Solution.{name_count, equations}
+use Rattle.kc_language.specs.Values.{Solves, IsOnlySolution, name_count, equations}
+use Rattle.kc_language.specs.Symbols.{TreeFacts}
+use Rattle.kc_language.specs.ConfigFile.{ArePlacesOf, place_at}
+use Rattle.kc_language.specs.Needs.{IsAccepted}
 use Rattle.kc_solve.specs.Kept.{valuation}
 use Rattle.kc_solve.proofs.SolvedSteps.{only_here}
 use Rattle.kc_solve.proofs.solve.solve.Goals as goal

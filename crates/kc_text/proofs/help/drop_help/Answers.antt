@@ -2,8 +2,7 @@
 use Rattle.std.proofs.Common.{◌≡◌, sym, ◌∙◌, arith, false}
 use Rattle.std.specs.Prelude.{Some, None}
 use Rattle.std.proofs.lemmas.Bool.{eqb-true}
-use Rattle.kc_text.specs.Help.{column, is_help_line}
-use Rattle.kc_text.specs.Lines.{Physical}
+use Rattle.kc_language.specs.Lines.{column, is_help_line, Physical}
 use Rattle.kc_text.proofs.LongLineLemmas.{end_of_end, long_in_end}
 use Rattle.kc_text.proofs.Helps.{column-ge, dropping_ends, dropping_stops, not_before, help_ends, help_none, help_text, drops_first, first_is_help}
 use Rattle.kc_text.proofs.help.drop_help.Goals as goal

@@ -1,8 +1,7 @@
 -- What holds at each turn of the loop of `drop_help`.
 use Rattle.std.proofs.Common.{length}
 use Rattle.std.specs.Prelude.{None}
-use Rattle.kc_text.specs.Help.{is_help_line}
-use Rattle.kc_text.specs.Lines.{physical_lines}
+use Rattle.kc_language.specs.Lines.{is_help_line, physical_lines}
 use Rattle.kc_text.specs.LongLines.{IsEndOf}
 use Rattle.kc_text.proofs.Helps.{IsDropping}
 use Rattle.kc_text.proofs.help.drop_help.Given as goal

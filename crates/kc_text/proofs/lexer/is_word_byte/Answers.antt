@@ -1,7 +1,7 @@
 -- Why `is_word_byte` keeps its contract: the map is held against the definition at each of the 256 bytes, by computing.
 use Rattle.std.proofs.Common.{refl, arith}
 use Rattle.kc_text.specs.declared.lexer.TheConstants.{WORD_MAP}
-use Rattle.kc_text.specs.Lexemes.{is_word_byte}
+use Rattle.kc_language.specs.Tokens.{is_word_byte}
 use Rattle.kc_text.proofs.Tables.{agree_below, from_map}
 use Rattle.kc_text.proofs.lexer.is_word_byte.Goals as goal
 

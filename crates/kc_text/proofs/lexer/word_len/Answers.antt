@@ -4,7 +4,7 @@ use Rattle.std.specs.Prelude.{IsTrue}
 use Rattle.std.proofs.lemmas.List.{get_or-take, length-take-le}
 use Rattle.std.proofs.lemmas.List.Elements.{All-from_get_or}
 use Rattle.kc_text.specs.declared.lexer.TheConstants.{WORD_MAP}
-use Rattle.kc_text.specs.Lexemes.{is_word_byte}
+use Rattle.kc_language.specs.Tokens.{is_word_byte}
 use Rattle.kc_text.proofs.Tables.{agree_below, sign_passes, comma_stops}
 use Rattle.kc_text.proofs.lexer.word_len.Goals as goal
 

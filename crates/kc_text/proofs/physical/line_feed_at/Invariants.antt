@@ -1,7 +1,7 @@
 -- What holds at each turn of the loop of `line_feed_at`.
 use Rattle.std.proofs.Common.{◌-◌, ◌≤◌, length}
 use Rattle.bstr.specs.Find.{Nowhere, Passes}
-use Rattle.kc_text.specs.Lines.{is_line_feed}
+use Rattle.kc_language.specs.Lines.{is_line_feed}
 use Rattle.kc_text.proofs.physical.line_feed_at.Given as goal
 
 abbrev pub invariant-lanes : goal.invariant-lanes

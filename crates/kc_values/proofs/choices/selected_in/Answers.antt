@@ -1,11 +1,11 @@
 use Rattle.std.proofs.Common.{Some, None, sym, ap, ◌∙◌}
 use Rattle.std.proofs.Math.Logic.{∥∥₁_elim}
 use Rattle.std.specs.Coded.{Coded-set, coded_option}
-use Rattle.kc_expr.specs.contracts.expression.SymId as sym_id
+use Rattle.kc_language.specs.contracts.expressions.SymId as sym_id
 use Rattle.kc_tree.specs.TreeCode.{choice_code}
-use Rattle.kc_user.specs.Places.{member_place}
+use Rattle.kc_language.specs.ConfigFile.{member_place}
 use Rattle.kc_values.specs.TableFacts.{known_at}
-use Rattle.kc_values.specs.Values as spec
+use Rattle.kc_language.specs.Values as spec
 use Rattle.kc_values.proofs.Laid.{choice_found}
 use Rattle.kc_values.proofs.choices.selected_in.Goals as goal
 

@@ -1,10 +1,10 @@
 use Rattle.std.proofs.Common.{sym, ap, ◌∙◌}
-use Rattle.std.specs.Option.{option_map}
-use Rattle.kc_expr.specs.Value.{lesser}
+use Rattle.std.specs.Prelude.{option_map}
+use Rattle.kc_language.specs.Expressions.{lesser}
 use Rattle.kc_tree.specs.Contexts.{condition_in}
 use Rattle.kc_tree.specs.Layouts.{prompt_view}
 use Rattle.kc_values.specs.TableFacts.{known_at}
-use Rattle.kc_values.specs.Values.{and_value, prompt_value}
+use Rattle.kc_language.specs.Values.{and_value, prompt_value}
 use Rattle.kc_values.proofs.ConditionLemmas.{prompt_asked}
 use Rattle.kc_values.proofs.conditions.choice_prompt.Goals as goal
 

@@ -1,5 +1,5 @@
 use Rattle.std.proofs.Common.{sym, ap, ◌∙◌}
-use Rattle.kc_expr.specs.Value.{lesser}
+use Rattle.kc_language.specs.Expressions.{lesser}
 use Rattle.kc_expr.specs.When.{when_view}
 use Rattle.kc_values.specs.TableFacts.{known_at, condition_at}
 use Rattle.kc_values.specs.Computed.{when_value}

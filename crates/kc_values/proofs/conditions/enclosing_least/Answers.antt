@@ -1,5 +1,5 @@
 use Rattle.std.proofs.Common.{sym, ap, ◌∙◌}
-use Rattle.kc_expr.specs.Value.{lesser}
+use Rattle.kc_language.specs.Expressions.{lesser}
 use Rattle.kc_values.specs.TableFacts.{known_at}
 use Rattle.kc_values.proofs.ConditionLemmas.{conjuncts_value, mode_at, enclosing_least-step, enclosing_least-mode, enclosing_least-computed}
 use Rattle.kc_values.proofs.TriLemmas.{rank-same}

@@ -1,7 +1,7 @@
 use Rattle.std.proofs.Common.{Some, None, ap, ◌∙◌}
 use Rattle.std.proofs.Math.Logic.{∥∥₁_elim}
 use Rattle.kc_values.specs.TableFacts.{known_at}
-use Rattle.kc_values.specs.Values.{upgrade, mode_of}
+use Rattle.kc_language.specs.Values.{upgrade, mode_of}
 use Rattle.kc_values.proofs.Laid.{choice_found}
 use Rattle.kc_values.proofs.TriLemmas.{one_way}
 use Rattle.kc_values.proofs.conditions.mode_of.Goals as goal

@@ -1,9 +1,9 @@
 use Rattle.std.proofs.Common.{sym, ap, ◌∙◌}
-use Rattle.kc_expr.specs.Value.{lesser}
+use Rattle.kc_language.specs.Expressions.{lesser}
 use Rattle.kc_expr.specs.When.{when_view}
 use Rattle.kc_values.specs.TableFacts.{known_at, condition_at}
 use Rattle.kc_values.specs.Computed.{when_value}
-use Rattle.kc_values.specs.Values.{condition}
+use Rattle.kc_language.specs.Values.{condition}
 use Rattle.kc_values.proofs.ConditionLemmas.{condition-prompt}
 use Rattle.kc_values.proofs.conditions.prompt_condition.Goals as goal
 

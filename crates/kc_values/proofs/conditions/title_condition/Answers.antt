@@ -1,7 +1,7 @@
 use Rattle.std.proofs.Common.{sym, ap, ◌∙◌}
-use Rattle.kc_expr.specs.Value.{lesser}
+use Rattle.kc_language.specs.Expressions.{lesser}
 use Rattle.kc_values.specs.TableFacts.{known_at, condition_at}
-use Rattle.kc_values.specs.Values.{condition}
+use Rattle.kc_language.specs.Values.{condition}
 use Rattle.kc_values.proofs.ConditionLemmas.{condition-both}
 use Rattle.kc_values.proofs.conditions.title_condition.Goals as goal
 

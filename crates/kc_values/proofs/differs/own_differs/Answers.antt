@@ -1,8 +1,8 @@
 use Rattle.std.proofs.Common.{◌≡◌, Some, rules, sym}
 use Rattle.std.proofs.Math.Logic.{∥∥₁_elim}
 use Rattle.std.specs.Coded.{Coded-set}
-use Rattle.kc_expr.specs.contracts.expression.SymbolType as symbol_type
-use Rattle.kc_values.specs.Lookups.{facts, type_in}
+use Rattle.kc_language.specs.contracts.expressions.SymbolType as symbol_type
+use Rattle.kc_language.specs.Values.{facts, type_in}
 use Rattle.kc_values.proofs.Laid.{type_laid}
 use Rattle.kc_values.proofs.differs.own_differs.Goals as goal
 

@@ -1,7 +1,6 @@
-use Rattle.kc_order.specs.Needs.{needs_in}
+use Rattle.kc_language.specs.Needs.{needs_in, needs}
 use Rattle.kc_order.proofs.MinimalLaws.{restores, nothing_can_go}
-use Rattle.kc_values.specs.Needs.{needs}
-use Rattle.kc_values.specs.Solution.{name_count, user_place, rhs}
+use Rattle.kc_language.specs.Values.{name_count, user_place, rhs}
 use Rattle.kc_values.specs.GivenLines.{minimal_line}
 use Rattle.kc_values.proofs.FixedLines.{is_minimal}
 use Rattle.kc_values.proofs.ModeLaws.{members_are_theirs}

@@ -1,6 +1,6 @@
 use Rattle.std.proofs.Common.{◌≡◌, ◌++◌, take, map, nat_lt}
 use Rattle.std.specs.Prelude.{filter}
-use Rattle.kc_expr.specs.declared.expression.SymId.{SymId}
+use Rattle.kc_language.specs.declared.expressions.SymId.{SymId}
 use Rattle.kc_values.proofs.needs.close_row.Given as goal
 
 abbrev pub invariant-loop-name : goal.invariant-loop-name

@@ -1,6 +1,6 @@
 use Rattle.std.proofs.Common.{◌≡◌, ℕ, List, ◌++◌, [], cond, ap, ◌∙◌, append-nil}
 use Rattle.std.specs.List.{flat_map}
-use Rattle.kc_expr.specs.declared.expression.SymId.{SymId}
+use Rattle.kc_language.specs.declared.expressions.SymId.{SymId}
 use Rattle.kc_values.specs.NeedRows as rows
 use Rattle.kc_values.specs.MadeRows.{Adds}
 use Rattle.kc_values.specs.declared.needs.NeedRow.{NeedRow}

@@ -1,7 +1,7 @@
 use Rattle.std.proofs.Common.{◌≡◌}
 use Rattle.kc_values.specs.TableFacts.{known_at}
 use Rattle.kc_values.proofs.DefinitionLemmas.{deps_from}
-use Rattle.kc_expr.specs.Value.{greater}
+use Rattle.kc_language.specs.Expressions.{greater}
 use Rattle.kc_values.proofs.truths.direct.Given as goal
 
 abbrev pub invariant-loop-i : goal.invariant-loop-i

@@ -1,7 +1,7 @@
 use Rattle.std.proofs.Common.{◌≡◌, map, drop}
 use Rattle.kc_tree.specs.Layouts.{definition_facts, default_view}
 use Rattle.kc_values.specs.TableFacts.{known_at, condition_at}
-use Rattle.kc_values.specs.Values.{first_met}
+use Rattle.kc_language.specs.Values.{first_met}
 use Rattle.kc_values.proofs.truths.first_met.Given as goal
 
 abbrev pub invariant-loop-default : goal.invariant-loop-default

@@ -2,7 +2,7 @@ use Rattle.std.proofs.Common.{◌+◌, Some, sym, subst, ◌∙◌}
 use Rattle.kc_tree.specs.Layouts.{DefinitionFacts, definition_facts}
 use Rattle.kc_values.specs.TableFacts.{known_at}
 use Rattle.kc_values.specs.FoundRows.{IsMetDefault}
-use Rattle.kc_values.specs.Values.{first_met}
+use Rattle.kc_language.specs.Values.{first_met}
 use Rattle.kc_values.proofs.DefinitionLemmas.{met_from, met-some, met-none}
 use Rattle.kc_values.proofs.MetLemmas.{default-some, default-none}
 use Rattle.kc_values.proofs.truths.met_default.Goals as goal

@@ -1,5 +1,5 @@
 use Rattle.std.proofs.Common.{◌+◌, sym, ap, ◌∙◌}
-use Rattle.kc_expr.specs.Value.{greater}
+use Rattle.kc_language.specs.Expressions.{greater}
 use Rattle.kc_values.specs.TableFacts.{known_at}
 use Rattle.kc_values.proofs.DefinitionLemmas.{prompts_from, prompts-some, prompts-none}
 use Rattle.kc_values.proofs.TriLemmas.{greater-step}

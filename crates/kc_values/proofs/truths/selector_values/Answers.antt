@@ -1,5 +1,5 @@
 use Rattle.std.proofs.Common.{sym, ap, ◌∙◌}
-use Rattle.kc_expr.specs.Value.{greater}
+use Rattle.kc_language.specs.Expressions.{greater}
 use Rattle.kc_values.specs.TableFacts.{known_at}
 use Rattle.kc_values.proofs.ChainLemmas.{selector_values_from, selector_values-at, selector_values-past}
 use Rattle.kc_values.proofs.TriLemmas.{greater_n, greater-step}

@@ -1,5 +1,5 @@
 use Rattle.std.proofs.Common.{◌≡◌}
-use Rattle.kc_expr.specs.Value.{greater}
+use Rattle.kc_language.specs.Expressions.{greater}
 use Rattle.kc_values.specs.TableFacts.{known_at}
 use Rattle.kc_values.proofs.ChainLemmas.{selector_values_from, steps_left}
 use Rattle.kc_values.proofs.truths.selector_values.Given as goal

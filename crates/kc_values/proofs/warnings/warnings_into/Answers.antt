@@ -1,10 +1,10 @@
 use Rattle.std.proofs.Common.{◌≡◌, ◌++◌, map, OnOk, subst, refl, ◌∙◌, sym}
 use Rattle.kc_diagnostics.specs.Warnings.{owned_warning}
-use Rattle.kc_expr.specs.declared.expression.SymbolType.TheVariants.{Bool as IsBool, Tristate}
+use Rattle.kc_language.specs.declared.expressions.SymbolType.TheVariants.{Bool as IsBool, Tristate}
 use Rattle.kc_tree.specs.Contexts.{mode_view}
 use Rattle.kc_tree.specs.Layouts.{facts_of}
 use Rattle.kc_values.specs.TableFacts.{known_at}
-use Rattle.kc_values.specs.Lookups.{name}
+use Rattle.kc_language.specs.Values.{name}
 use Rattle.kc_values.specs.User.{given_in}
 use Rattle.kc_values.proofs.Joined.{truth_warned, no_choice}
 use Rattle.kc_values.proofs.warnings.warnings_into.Goals as goal

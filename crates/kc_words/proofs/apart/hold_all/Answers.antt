@@ -1,6 +1,6 @@
 -- One name more is added.
 use Rattle.std.proofs.Common.{◌∙◌, ap, sym, arith, string_bytes}
-use Rattle.kc_expr.specs.Names.{mention}
+use Rattle.kc_language.specs.Expressions.{mention}
 use Rattle.kc_words.proofs.ApartLemmas.{mentioned-more}
 use Rattle.kc_words.proofs.apart.hold_all.Goals as goal
 

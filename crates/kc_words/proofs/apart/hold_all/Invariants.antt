@@ -1,5 +1,5 @@
 use Rattle.std.proofs.Common.{◌≡◌, map, take, string_bytes}
-use Rattle.kc_expr.specs.Names.{all_mentioned}
+use Rattle.kc_language.specs.Expressions.{all_mentioned}
 use Rattle.kc_words.proofs.apart.hold_all.Given as goal
 
 -- the names so far are added

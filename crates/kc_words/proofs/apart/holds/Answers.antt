@@ -1,7 +1,7 @@
 -- A name is in the table where it has a number.
 use Rattle.std.proofs.Common.{◌∙◌, ap, position}
 use Rattle.std.specs.Option.{is_some}
-use Rattle.kc_expr.specs.Names.{same_name, symbol}
+use Rattle.kc_language.specs.Expressions.{same_name, symbol}
 use Rattle.kc_words.proofs.PlaceLemmas.{position-any}
 use Rattle.kc_words.specs.Apart.{is_among}
 use Rattle.kc_words.proofs.ApartLemmas.{some-map}

@@ -2,7 +2,7 @@
 use Rattle.std.proofs.Common.{◌≡◌, ◌+◌, ◌∙◌, ap, sym, subst, true, arith, length, map, string_bytes, List, String, Global}
 use Rattle.std.proofs.lemmas.List.{length-map}
 use Rattle.clap.specs.Words.{Text}
-use Rattle.kc_expr.specs.Names.{all_mentioned}
+use Rattle.kc_language.specs.Expressions.{all_mentioned}
 use Rattle.kc_words.specs.Apart.{is_among, writes}
 use Rattle.kc_words.specs.Clashes.{Holds, NoneIsAmong}
 use Rattle.kc_words.proofs.ApartLemmas.{holds-more, name-at, twice-found}

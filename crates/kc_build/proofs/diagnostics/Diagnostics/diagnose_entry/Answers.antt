@@ -1,15 +1,15 @@
 use Rattle.std.proofs.Common.{◌≡◌, ◌∙◌, ◌||◌, ◌+◌, ◌<◌, ℕ, Bool, List, length, drop, get_or, Option, ap, sym}
 use Rattle.std.specs.Option.{is_some}
-use Rattle.kc_expr.specs.Form.{Form}
+use Rattle.kc_language.specs.Expressions.{Form}
 use Rattle.kc_read.specs.declared.entries.AttributeLine.{AttributeLine}
 use Rattle.kc_read.specs.declared.entries.Entry.{Entry}
 use Rattle.kc_read.specs.Entries.{attribute_line, first_line, own_lines}
-use Rattle.kc_read.specs.Statements.{InputPrompt}
+use Rattle.kc_language.specs.Statements.{InputPrompt}
 use Rattle.kc_read.specs.StatementViews.{attribute_view}
 use Rattle.kc_tree.specs.declared.rows.Symbol.{Symbol}
 use Rattle.kc_build.specs.declared.diagnostics.EntrySummary.{EntrySummary}
 use Rattle.kc_build.specs.Diagnosed.{Diagnosis, lines_diagnosed, diagnosis_view, line_diagnosed}
-use Rattle.kc_build.specs.Facts.{prompt_of}
+use Rattle.kc_language.specs.Symbols.{prompt_of}
 use Rattle.kc_build.proofs.QuietLemmas.{no_prompt}
 use Rattle.kc_build.proofs.ScanLemmas.{drop_at, drop_past}
 use Rattle.kc_build.proofs.diagnostics.Diagnostics.diagnose_entry.Goals as goal

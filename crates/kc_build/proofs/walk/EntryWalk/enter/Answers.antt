@@ -1,7 +1,7 @@
 -- The entry at the head of its attributes, by what it begins.
 use Rattle.std.proofs.Common.{◌≡◌, ap, refl, sym, ◌∙◌}
 use Rattle.kc_read.specs.StatementViews.{head_view}
-use Rattle.kc_read.specs.Statements.{CommentLine, MenuLine}
+use Rattle.kc_language.specs.Statements.{CommentLine, MenuLine}
 use Rattle.kc_build.specs.Passes.{statements_of}
 use Rattle.kc_build.proofs.CloserLemmas.{closer_enters}
 use Rattle.kc_build.proofs.EnteredLemmas.{end_is, enters_by, main_menu_enters}

@@ -1,15 +1,15 @@
 -- A choice: its own context, its row, and the context of its members.
 use Rattle.std.proofs.Common.{refl, ap, ◌∙◌, arith, is_ok, ◌≡◌, ◌+◌, ◌++◌, ◌∷◌, [], length}
 use Rattle.std.specs.List.{filter_map}
-use Rattle.std.specs.Option.{option_map}
+use Rattle.std.specs.Prelude.{option_map}
 use Rattle.std.proofs.lemmas.List.{length-map, length_push}
 use Rattle.kc_read.specs.StatementViews.{attribute_view}
-use Rattle.kc_expr.specs.Form.{Form}
-use Rattle.kc_read.specs.Blocks.{last_of}
-use Rattle.kc_read.specs.Statements.{InputPrompt}
+use Rattle.kc_language.specs.Expressions.{Form}
+use Rattle.kc_language.specs.Expansion.{last_of}
+use Rattle.kc_language.specs.Statements.{InputPrompt}
 use Rattle.kc_tree.specs.Contexts.{condition_in, in_choice}
 use Rattle.kc_build.specs.EntryLines.{prompt_line}
-use Rattle.kc_build.specs.Facts.{prompt_of, depends_form}
+use Rattle.kc_language.specs.Symbols.{prompt_of, depends_form}
 use Rattle.kc_build.specs.Growth.{IsGrown, Stands}
 use Rattle.kc_build.specs.Passes.{statements_of}
 use Rattle.kc_build.specs.declared.blocks.BlockScope.{BlockScope}

@@ -1,5 +1,5 @@
 use Rattle.std.proofs.Common.{ap, is_some, ◌∙◌}
-use Rattle.kc_expr.specs.Names.{same_name}
+use Rattle.kc_language.specs.Expressions.{same_name}
 use Rattle.kc_load.proofs.ListLemmas.{found_is}
 use Rattle.kc_load.proofs.loading.Loading.was_requested.Goals as goal
 

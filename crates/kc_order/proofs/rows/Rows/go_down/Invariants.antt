@@ -1,5 +1,5 @@
 use Rattle.std.proofs.Common.{◌-◌, ◌≤◌, ◌<◌, ℕ, All}
-use Rattle.kc_order.specs.Needs.{needs_in}
+use Rattle.kc_language.specs.Needs.{needs_in}
 use Rattle.kc_order.proofs.rows.Rows.go_down.Given as goal
 
 abbrev pub invariant-loop-row : goal.invariant-loop-row

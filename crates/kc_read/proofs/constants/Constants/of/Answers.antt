@@ -1,4 +1,4 @@
-use Rattle.kc_expr.specs.declared.expression.Tri.TheVariants.{N, M, Y}
+use Rattle.kc_language.specs.declared.expressions.Tri.TheVariants.{N, M, Y}
 use Rattle.kc_read.proofs.ConstantLemmas.{form-constant}
 use Rattle.kc_read.proofs.constants.Constants.of.Goals as goal
 

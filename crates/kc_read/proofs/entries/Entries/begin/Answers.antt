@@ -1,7 +1,7 @@
 use Rattle.std.proofs.Common.{◌≡◌, List, length, refl, ap, sym, ◌∙◌, subst}
 use Rattle.std.specs.Result.{is_ok}
 use Rattle.kc_read.specs.declared.entries.Entry.{Entry}
-use Rattle.kc_read.specs.Blocks.{last_of}
+use Rattle.kc_language.specs.Expansion.{last_of}
 use Rattle.kc_read.specs.Entries.{lines_of}
 use Rattle.kc_read.specs.EntryStarts.{AreInOrder}
 use Rattle.kc_read.proofs.EntryLemmas.{lines-push, order-push_if}

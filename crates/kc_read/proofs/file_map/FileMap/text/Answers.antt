@@ -1,5 +1,5 @@
 use Rattle.std.proofs.Common.{◌∙◌, ap}
-use Rattle.kc_read.specs.Files.{bytes_in}
+use Rattle.kc_language.specs.Expansion.{bytes_in}
 use Rattle.kc_read.proofs.FileLemmas.{bytes_found}
 use Rattle.kc_read.proofs.file_map.FileMap.text.Goals as goal
 

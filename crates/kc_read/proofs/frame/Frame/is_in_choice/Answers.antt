@@ -1,7 +1,7 @@
 use Rattle.std.proofs.Common.{rules, tests}
 use Rattle.std.proofs.lemmas.Iterator.{YieldsList-from_slice}
 use Rattle.std.proofs.lemmas.Iterator.Search.{any_from_yields_List}
-use Rattle.kc_read.specs.Expansion.{is_choice}
+use Rattle.kc_language.specs.Expansion.{is_choice}
 use Rattle.kc_read.proofs.frame.Frame.is_in_choice.Goals as goal
 
 pub returns-else-self : goal.returns-else-self

@@ -1,5 +1,5 @@
 use Rattle.std.proofs.Common.{◌∙◌, ◌<◌, List, None, Option, ap, get_or, length, subst, sym}
-use Rattle.kc_expr.specs.declared.expression.SymId.{SymId}
+use Rattle.kc_language.specs.declared.expressions.SymId.{SymId}
 use Rattle.kc_solve.proofs.SolvedSteps.{default_is, defaults_within}
 use Rattle.kc_solve.proofs.solved.Solved.default_selection.Goals as goal
 

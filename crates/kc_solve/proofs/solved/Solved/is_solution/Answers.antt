@@ -1,5 +1,5 @@
 use Rattle.std.proofs.Common.{subst}
-use Rattle.kc_solve.specs.Solved.{IsSolution}
+use Rattle.kc_language.specs.Texts.{IsSolution}
 use Rattle.kc_solve.proofs.SolvedSteps.{is_solution}
 use Rattle.kc_solve.proofs.solved.Solved.is_solution.Goals as goal
 

@@ -1,5 +1,5 @@
 use Rattle.std.proofs.Common.{◌∙◌, ◌<◌, List, None, Option, ap, get_or, length, subst, sym}
-use Rattle.kc_expr.specs.declared.expression.SymId.{SymId}
+use Rattle.kc_language.specs.declared.expressions.SymId.{SymId}
 use Rattle.kc_solve.proofs.SolvedSteps.{selection_is, selection_within}
 use Rattle.kc_solve.proofs.solved.Solved.selection.Goals as goal
 

@@ -1,6 +1,6 @@
 use Rattle.std.proofs.Common.{◌≡◌, map, subst}
 use Rattle.kc_diagnostics.specs.Warnings.{owned_warning}
-use Rattle.kc_solve.specs.Solved.{Solution, value_warnings}
+use Rattle.kc_language.specs.Texts.{Solution, value_warnings}
 use Rattle.kc_solve.proofs.SolvedSteps.{warnings_too}
 use Rattle.kc_solve.proofs.solved.Solved.value_warnings.Goals as goal
 

@@ -1,6 +1,6 @@
 use Rattle.std.proofs.Common.{◌∙◌, List, ap, get_or}
-use Rattle.kc_expr.specs.declared.expression.Tri.{Tri}
-use Rattle.kc_expr.specs.declared.expression.Tri.TheVariants.{N}
+use Rattle.kc_language.specs.declared.expressions.Tri.{Tri}
+use Rattle.kc_language.specs.declared.expressions.Tri.TheVariants.{N}
 use Rattle.kc_solve.proofs.SolvedSteps.{visible_is}
 use Rattle.kc_solve.proofs.solved.Solved.visibility.Goals as goal
 

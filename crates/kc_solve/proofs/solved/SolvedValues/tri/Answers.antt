@@ -1,6 +1,6 @@
-use Rattle.kc_expr.specs.Value.{SymbolValue, truth_of_value}
-use Rattle.kc_expr.specs.declared.expression.SymId.{SymId}
-use Rattle.kc_tree.specs.TreeFacts.{TreeFacts}
+use Rattle.kc_language.specs.Expressions.{SymbolValue, truth_of_value}
+use Rattle.kc_language.specs.declared.expressions.SymId.{SymId}
+use Rattle.kc_language.specs.Symbols.{TreeFacts}
 use Rattle.kc_solve.proofs.SolvedSteps.{told}
 use Rattle.kc_solve.proofs.solved.SolvedValues.tri.Goals as goal
 

@@ -1,7 +1,7 @@
 -- Why `next_single` keeps its contract.
 use Rattle.std.proofs.Common.{arith, ◌∙◌, sym, ap, refl}
 use Rattle.std.proofs.lemmas.Bool.{eqb-true}
-use Rattle.kc_text.specs.Lines.{UnreadLines}
+use Rattle.kc_language.specs.Lines.{UnreadLines}
 use Rattle.kc_text.proofs.Joins.{single_line, none_single, refused_none}
 use Rattle.kc_text.proofs.LongLineLemmas.{long_in_end}
 use Rattle.kc_text.proofs.Physicals.{lines_at_end}

@@ -1,6 +1,6 @@
 use Rattle.std.proofs.Common.{◌≡◌, ◌<◌, ◌-◌, ap, ◌∙◌}
 use Rattle.std.specs.List.{slice_get}
-use Rattle.std.specs.Option.{option_map}
+use Rattle.std.specs.Prelude.{option_map}
 use Rattle.kc_tree.proofs.ContextLemmas.{context-found}
 use Rattle.kc_tree.proofs.contexts.Contexts.context.Goals as goal
 

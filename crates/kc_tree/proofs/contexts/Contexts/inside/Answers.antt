@@ -1,7 +1,7 @@
 use Rattle.std.proofs.Common.{◌≡◌, ℕ, List, Option, ◌≤◌, ◌++◌, ◌∷◌, [], length, ap, ◌∙◌, arith, Some, None}
 use Rattle.kc_expr.specs.Form.{form_of}
 use Rattle.kc_tree.specs.Contexts.{top, condition_in, conditions_of, mode_view}
-use Rattle.kc_tree.specs.TreeFacts.{Condition}
+use Rattle.kc_language.specs.Symbols.{Condition}
 use Rattle.kc_tree.proofs.ContextLemmas.{from-snoc, conditions-length, nested-push, modes-push}
 use Rattle.kc_tree.proofs.contexts.Contexts.inside.Goals as goal
 

@@ -1,7 +1,7 @@
 use Rattle.std.proofs.Common.{◌≡◌, ◌≤◌, ◌++◌, ◌∷◌, [], length, ap, ◌∙◌, arith, Some, None, Option}
 use Rattle.std.proofs.lemmas.List.{append-nil}
 use Rattle.kc_tree.specs.Contexts.{top, condition_in, conditions_of, mode_view, HasNoMode}
-use Rattle.kc_tree.specs.declared.rows.ChoiceId.{ChoiceId}
+use Rattle.kc_language.specs.declared.symbols.ChoiceId.{ChoiceId}
 use Rattle.kc_tree.proofs.ContextLemmas.{from-snoc, conditions-length, nested-push, modes-push}
 use Rattle.kc_tree.proofs.contexts.Contexts.inside_choice.Goals as goal
 

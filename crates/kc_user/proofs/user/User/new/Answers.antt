@@ -1,7 +1,7 @@
 use Rattle.std.proofs.Common.{ap, length, sym, ◌∙◌}
 use Rattle.std.proofs.lemmas.List.{length-map}
 use Rattle.kc_tree.specs.declared.rows.Choice.{Choice}
-use Rattle.kc_tree.specs.TreeFacts.{ChoiceFacts}
+use Rattle.kc_language.specs.Symbols.{ChoiceFacts}
 use Rattle.kc_user.proofs.UserLemmas.{empties}
 use Rattle.kc_user.proofs.user.User.new.Goals as goal
 

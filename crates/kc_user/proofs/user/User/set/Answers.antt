@@ -1,6 +1,6 @@
 use Rattle.std.proofs.Common.{◌∙◌, ap, List, Option, map}
-use Rattle.std.specs.Option.{option_map}
-use Rattle.kc_user.specs.Places.{Places}
+use Rattle.std.specs.Prelude.{option_map}
+use Rattle.kc_language.specs.ConfigFile.{Places}
 use Rattle.kc_user.specs.ValueView.{given_of_value}
 use Rattle.kc_user.specs.declared.value.UserValue.{UserValue}
 use Rattle.kc_user.proofs.UserLemmas.{fills, on_err, on_ok}

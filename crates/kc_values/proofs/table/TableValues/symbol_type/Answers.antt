@@ -1,7 +1,7 @@
 use Rattle.std.proofs.Common.{Some, None}
 use Rattle.std.proofs.Math.Logic.{∥∥₁_elim}
 use Rattle.std.specs.Coded.{Coded-set}
-use Rattle.kc_expr.specs.contracts.expression.SymbolType as symbol_type
+use Rattle.kc_language.specs.contracts.expressions.SymbolType as symbol_type
 use Rattle.kc_values.proofs.Laid.{type_laid}
 use Rattle.kc_values.proofs.table.TableValues.symbol_type.Goals as goal
 

@@ -1,0 +1,70 @@
+//! What is asked of a run, and how it ends.
+
+/// What is done with the texts of a run.
+#[derive(Clone, Copy, Debug, PartialEq, Eq)]
+pub enum Delivery {
+    /// Each is written to its file.
+    Write,
+    /// Those that differ from their files take their places at the end, each in one step.
+    Replace,
+    /// Each is compared with its file, and none is written.
+    Check,
+}
+
+/// What is asked of a run. The names of files are as they were given. `P` keeps the prefix.
+#[derive(Drop)]
+pub struct Options<P> {
+    /// The folder of the Kconfig files, for names that do not begin with `/`.
+    pub root: String,
+    /// The `.config` to read.
+    pub config: String,
+    /// The full `.config` to write. A dependency file needs one: its rule makes this file.
+    pub out: Option<String>,
+    /// The Kconfig file to begin with.
+    pub kconfig: String,
+    /// The header to write.
+    pub header: Option<String>,
+    /// The minimal `.config` to write.
+    pub minimal: Option<String>,
+    /// The dependency file to write.
+    pub depfile: Option<String>,
+    /// The files to read after the `.config`, in this order.
+    pub fragments: Vec<String>,
+    /// What stands before each symbol's name.
+    pub prefix: P,
+    /// Whether the `.config` to read has to exist, as a fragment has to.
+    pub must_exist: bool,
+    /// Whether the run is refused if a line of the `.config` or of a fragment is not taken as written: any K7, K8, K9, K12
+    /// or K14, or a K10 between different values.
+    pub strict: bool,
+    /// Whether the run is refused on any warning, also about the tree.
+    pub strict_tree: bool,
+    /// Whether a value that was given and is not the symbol's is warned of (K14), and a line that changes a value (K15).
+    pub warn_lost: bool,
+    /// What is done with the texts.
+    pub delivery: Delivery,
+    /// Whether each diagnostic that is not about a line of the `.config` begins with the name of the `.config`, as where many are run.
+    pub names_config: bool,
+}
+
+/// How a run ends (our own).
+#[derive(Clone, Copy, Debug, PartialEq, Eq)]
+pub enum Status {
+    /// The files are written, or up to date.
+    Done,
+    /// The tree, a name for make, a line of a stream or a warning is refused, and nothing was begun; or a file is not up to date.
+    Refused,
+    /// The command line is bad. `run` never answers it.
+    Usage,
+    /// A device failed, or there was no memory.
+    Faulted,
+}
+
+/// Where a name stands in the rule of a dependency file.
+#[derive(Clone, Copy)]
+pub enum Position {
+    /// Before the colon.
+    Target,
+    /// After it.
+    Prerequisite,
+}

@@ -1,0 +1,49 @@
+//! Keywords, blocks and entries.
+
+use crate::expressions::SymbolType;
+
+/// What a first word says (the kernel's kconfig-language document).
+#[derive(Clone, Copy, Debug, PartialEq, Eq)]
+pub enum Keyword {
+    Config,
+    If,
+    EndIf,
+    Comment,
+    Source,
+    Menu,
+    EndMenu,
+    Choice,
+    EndChoice,
+    MainMenu,
+    Type(SymbolType),
+    Prompt,
+    Default,
+    Def(SymbolType),
+    Depends,
+    Visible,
+    Select,
+    Imply,
+    Range,
+    Help,
+    Modules,
+    Option,
+    LeftOut,
+}
+
+/// A block: the lines up to the word that ends it (the kernel's kconfig-language document, "Kconfig syntax").
+#[derive(Clone, Copy, Debug, PartialEq, Eq)]
+pub enum Block {
+    If,
+    Menu,
+    Choice,
+}
+
+/// The entry to which an attribute would belong (the kernel's kconfig-language document, "Menu attributes").
+#[derive(Clone, Copy, Debug, PartialEq, Eq)]
+pub enum EntryKind {
+    Nothing,
+    Config,
+    Choice,
+    Menu,
+    Comment,
+}

@@ -1,0 +1,11 @@
+//! The bounds of a range.
+
+/// The bounds of a range, both of them inside (the kernel's kconfig-language document, "Menu attributes": numerical
+/// ranges). Nothing asks that the low one is below the high one.
+#[derive(Clone, Copy, Debug)]
+pub struct Interval {
+    /// The least number inside.
+    pub low: i128,
+    /// The greatest number inside.
+    pub high: i128,
+}
