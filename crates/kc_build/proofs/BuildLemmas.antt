@@ -10,13 +10,15 @@ use Rattle.kc_language.specs.Statements.{Cause, Numbered, Located, Named, statem
 use Rattle.kc_diagnostics.specs.Causes.{owned_cause}
 use Rattle.kc_language.specs.declared.diagnostics.Cause.TheVariants as cause
 use Rattle.kc_read.specs.declared.refusal.Refusal.{Refusal}
-use Rattle.kc_language.specs.Expansion.{Expands, Log, Refused, defined, refused, Files, names_of, numbered_lines}
+use Rattle.kc_language.specs.Expansion.{Expands, Log, Refused, refused, Files, names_of, numbered_lines}
+use Rattle.kc_read.specs.PartsOfExpansion.{defined}
 use Rattle.kc_read.specs.Expansion.{OneExpansion}
 use Rattle.kc_read.specs.Entries.{lines_in}
 use Rattle.kc_read.specs.RefusalView.{IsMemory, refusal_view}
 use Rattle.kc_build.specs.declared.listing.Listing.{Listing}
 use Rattle.kc_build.specs.PartsView.{parts_view}
-use Rattle.kc_language.specs.Symbols.{listed, defined_symbols, TreeFacts, facts_with, modules_symbol, tree_of_lines, tree_of_log, tree_with, unless_refused, bad_defaults, bad_members, entry_name, whole_list_refusals, menu_entry_at, entry_symbol, refused_at}
+use Rattle.kc_language.specs.Symbols.{listed, defined_symbols, TreeFacts, facts_with, modules_symbol, tree_of_log, tree_with, unless_refused, bad_defaults, bad_members, entry_name, whole_list_refusals, menu_entry_at, entry_symbol, refused_at}
+use Rattle.kc_build.specs.PartsOfSymbols.{tree_of_lines}
 use Rattle.kc_build.specs.SymbolRows.{AreBelow, AreChoicesApart, AreMenusOpened, AreTypesDefined}
 use Rattle.kc_build.specs.Listings.{IsListing}
 use Rattle.kc_build.specs.Passes.{statements_in}

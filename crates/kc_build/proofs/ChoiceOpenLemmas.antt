@@ -20,7 +20,8 @@ use Rattle.kc_tree.specs.declared.rows.EntryPrompt.{EntryPrompt}
 use Rattle.kc_tree.specs.declared.rows.Title.{Title}
 use Rattle.kc_tree.specs.Contexts.{HasNoMode, condition_in, in_choice, top}
 use Rattle.kc_tree.specs.Layouts.{choice_default_view, choice_facts as choice_in, prompt_view, with_when, with_conjuncts}
-use Rattle.kc_language.specs.Symbols.{Condition, ChoiceFacts, Guarded, listed, StatedDefault, prompt_of, prompt_condition, block_conjuncts, choice_number, enclosing_choice, dependency, depends_form, shown_number, stated_default, is_member_index, of_block, prompt_at, single_symbol, symbol_at, enclosing_visible}
+use Rattle.kc_language.specs.Symbols.{Condition, ChoiceFacts, Guarded, listed, StatedDefault, prompt_of, block_conjuncts, choice_number, enclosing_choice, dependency, shown_number, stated_default, of_block, prompt_at, single_symbol, symbol_at}
+use Rattle.kc_build.specs.PartsOfSymbols.{prompt_condition, depends_form, is_member_index, enclosing_visible}
 use Rattle.kc_build.specs.Before.{choice_before, choices_before, members_before, named_default}
 use Rattle.kc_build.specs.EntryLines.{choice_default_line, named_line, named_symbol, prompt_line}
 use Rattle.kc_build.specs.Growth.{IsGrown, Stands}

@@ -11,7 +11,8 @@ use Rattle.kc_language.specs.declared.statements.Block.TheVariants as block
 use Rattle.kc_language.specs.Statements.{Numbered, ConfigLine, IfLine, EndIfLine, CommentLine, MenuLine, EndMenuLine, ChoiceLine, EndChoiceLine, MainMenuLine}
 use Rattle.kc_language.specs.Expansion.{NoBracket, bracket, enclosing, is_attribute, numbers}
 use Rattle.kc_build.specs.Before.{definition_line, definitions_before, entries_before, members_before}
-use Rattle.kc_language.specs.Symbols.{shown_at, is_member_index, naming_at, of_block, symbol_at, symbol_of, title_of}
+use Rattle.kc_language.specs.Symbols.{shown_at, naming_at, of_block, symbol_at}
+use Rattle.kc_build.specs.PartsOfSymbols.{is_member_index, symbol_of, title_of}
 use Rattle.kc_build.specs.Walks.{IsHead, index_after}
 use Rattle.kc_build.proofs.BlockLemmas.{enclosing-no, take-next}
 use Rattle.kc_build.proofs.PlaceLemmas.{filter-next, filter_map-next, flat_map-next}

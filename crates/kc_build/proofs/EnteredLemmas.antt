@@ -8,7 +8,8 @@ use Rattle.kc_read.specs.declared.statement.Head.TheVariants as made
 use Rattle.kc_read.specs.StatementViews.{head_view}
 use Rattle.kc_language.specs.Statements.{Numbered, MainMenuLine}
 use Rattle.kc_language.specs.Expansion.{Closes, bracket, last_of}
-use Rattle.kc_language.specs.Symbols.{shown_at, symbol_of, title_of}
+use Rattle.kc_language.specs.Symbols.{shown_at}
+use Rattle.kc_build.specs.PartsOfSymbols.{symbol_of, title_of}
 use Rattle.kc_build.specs.Walks.{Enters}
 use Rattle.kc_build.specs.declared.walk.EntryWalk.{EntryWalk}
 use Rattle.kc_build.proofs.CloserLemmas.{extends_equal}

@@ -17,7 +17,8 @@ use Rattle.kc_build.specs.Before.{definition_facts_at}
 use Rattle.kc_build.specs.declared.blocks.BlockScope.{BlockScope}
 use Rattle.kc_language.specs.declared.symbols.MenuEntry.TheVariants as menu_entry
 use Rattle.kc_build.specs.declared.walk.EntryWalk.{EntryWalk}
-use Rattle.kc_language.specs.Symbols.{choice_number, enclosing_choice, symbol_at, symbol_of, first_of_symbol, is_first_definition_at, begun, menu_entry_at, menu_entry_before}
+use Rattle.kc_language.specs.Symbols.{choice_number, enclosing_choice, symbol_at, is_first_definition_at, begun, menu_entry_at}
+use Rattle.kc_build.specs.PartsOfSymbols.{symbol_of, first_of_symbol, menu_entry_before}
 use Rattle.kc_build.specs.SymbolRows.{AreBelow, definition_number, is_new_by}
 use Rattle.kc_build.specs.SymbolWalk.{AreRowsBefore}
 use Rattle.kc_build.specs.Walks.{IsHead, IsWalk}

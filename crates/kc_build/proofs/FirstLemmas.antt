@@ -9,7 +9,8 @@ use Rattle.kc_language.specs.declared.expressions.SymId.{SymId}
 use Rattle.kc_language.specs.Expressions.{symbol, same_symbol}
 use Rattle.kc_language.specs.Statements.{Numbered, ConfigLine}
 use Rattle.kc_language.specs.Expansion.{definitions, defined_name}
-use Rattle.kc_language.specs.Symbols.{is_symbol_of, symbol_at, symbol_of, is_first_definition}
+use Rattle.kc_language.specs.Symbols.{is_symbol_of, symbol_at, is_first_definition}
+use Rattle.kc_build.specs.PartsOfSymbols.{symbol_of}
 use Rattle.kc_build.specs.SymbolWalk.{defined_before}
 use Rattle.kc_build.proofs.BlockLemmas.{take-next, there}
 use Rattle.kc_build.proofs.PlaceLemmas.{filter-next}

@@ -18,7 +18,8 @@ use Rattle.kc_tree.specs.Layouts as layouts
 use Rattle.kc_tree.specs.Layouts.{DefinitionFacts, facts_at, facts_by, facts_of, impliers_at, selectors_at, symbols_in}
 use Rattle.kc_tree.specs.Contexts.{mode_view}
 use Rattle.kc_tree.specs.Spans.{definition_ids}
-use Rattle.kc_language.specs.Symbols.{is_symbol_of, choice_of, definitions_of, impliers_of, type_of, selectors_of, symbol_at, symbol_facts}
+use Rattle.kc_language.specs.Symbols.{is_symbol_of, choice_of, definitions_of, type_of, symbol_at, symbol_facts}
+use Rattle.kc_build.specs.PartsOfSymbols.{impliers_of, selectors_of}
 use Rattle.kc_build.specs.Before.{definition_facts_at, definition_line, definitions_before}
 use Rattle.kc_build.specs.SymbolRows.{AreSymbols, SymbolRow, definition_number, row_of, row_view}
 use Rattle.kc_build.proofs.BlockLemmas.{numbers_from, numbers-from}

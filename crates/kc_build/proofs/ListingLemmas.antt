@@ -7,7 +7,8 @@ use Rattle.std.specs.declared.alloc.Global.{Global}
 use Rattle.kc_language.specs.declared.expressions.SymId.{SymId}
 use Rattle.kc_language.specs.Expressions.{number_of, same_name, symbol}
 use Rattle.kc_read.specs.declared.expansion.Expansion.{Expansion}
-use Rattle.kc_language.specs.Expansion.{modules_of, Log, defined as defined_names, located_numbered, names_of}
+use Rattle.kc_language.specs.Expansion.{modules_of, Log, names_of}
+use Rattle.kc_read.specs.PartsOfExpansion.{defined as defined_names, located_numbered}
 use Rattle.kc_read.specs.Expanded.{IsExpansion}
 use Rattle.kc_language.specs.Statements.{statements}
 use Rattle.kc_read.proofs.NameLemmas.{extends_none}

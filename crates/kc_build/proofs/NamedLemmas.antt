@@ -20,7 +20,8 @@ use Rattle.kc_tree.specs.declared.rows.SelectorId.{SelectorId}
 use Rattle.kc_tree.specs.declared.rows.Symbol.{Symbol}
 use Rattle.kc_tree.specs.Chains.{chain_of, chains_of}
 use Rattle.kc_tree.specs.Layouts.{DefinitionFacts, definition_facts, impliers_at, selector_at, selector_facts, selectors_at, with_when}
-use Rattle.kc_language.specs.Symbols.{Guarded, listed, imply_of, guarded_symbol, naming_at, select_of, symbol_at, target_of}
+use Rattle.kc_language.specs.Symbols.{Guarded, listed, naming_at, symbol_at, target_of}
+use Rattle.kc_build.specs.PartsOfSymbols.{imply_of, guarded_symbol, select_of}
 use Rattle.kc_language.specs.declared.symbols.SelectOrImply.{SelectOrImply}
 use Rattle.kc_language.specs.declared.symbols.SelectOrImply.TheVariants as select_or_imply
 use Rattle.kc_language.specs.Symbols as facts

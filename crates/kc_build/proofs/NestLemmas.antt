@@ -7,8 +7,10 @@ use Rattle.std.proofs.lemmas.Option.{slice_get-map}
 use Rattle.kc_language.specs.declared.statements.Block.{Block}
 use Rattle.kc_language.specs.declared.statements.Block.TheVariants as block
 use Rattle.kc_language.specs.Statements.{Named, Numbered, Located, numbered, ConfigLine, IfLine, MenuLine, EndMenuLine, ChoiceLine, statements}
-use Rattle.kc_language.specs.Expansion.{bracket, bracket_at, bracket_of, opened, depth_after, stays_open, is_open, open_block_indices, open_blocks, enclosing, numbers, last_of, Log, Expands, is_choice, Files, located_numbered}
-use Rattle.kc_language.specs.Symbols.{is_block, of_block, block_at, enclosing_block, enclosing_choice, choice_number}
+use Rattle.kc_language.specs.Expansion.{bracket, bracket_at, opened, depth_after, stays_open, is_open, open_block_indices, open_blocks, enclosing, numbers, last_of, Log, Expands, is_choice, Files}
+use Rattle.kc_read.specs.PartsOfExpansion.{bracket_of, located_numbered}
+use Rattle.kc_language.specs.Symbols.{is_block, of_block, enclosing_choice, choice_number}
+use Rattle.kc_build.specs.PartsOfSymbols.{block_at, enclosing_block}
 use Rattle.kc_read.proofs.TurnLemmas.{Leaves, turn}
 use Rattle.kc_build.proofs.ExpansionLemmas.{Suits, AreNested, expansion_is_nested}
 

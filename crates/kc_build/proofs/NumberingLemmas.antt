@@ -10,9 +10,12 @@ use Rattle.std.proofs.lemmas.Option.{slice_get_within}
 use Rattle.kc_language.specs.declared.expressions.SymId.{SymId}
 use Rattle.kc_expr.specs.Names.{AreDistinct, IsNumber, Extends}
 use Rattle.kc_language.specs.Expressions.{same_name, number_of, symbol, mention, all_mentioned}
-use Rattle.kc_language.specs.Symbols.{added, all_added, defined_symbols, symbol_of}
+use Rattle.kc_expr.specs.PartsOfSymbols.{added}
+use Rattle.kc_language.specs.Symbols.{all_added, defined_symbols}
+use Rattle.kc_build.specs.PartsOfSymbols.{symbol_of}
 use Rattle.kc_expr.proofs.NamesLemmas.{all_mentioned_extends, number_later, same_name-refl}
-use Rattle.kc_language.specs.Expansion.{definitions, defined_name, is_modules, last_of, modules_of, defined, names_of, located_numbered, numbered_lines}
+use Rattle.kc_language.specs.Expansion.{definitions, defined_name, is_modules, last_of, modules_of, names_of, numbered_lines}
+use Rattle.kc_read.specs.PartsOfExpansion.{defined, located_numbered}
 use Rattle.kc_read.specs.Expanded.{AreNumbers, IsNamed}
 use Rattle.kc_language.specs.Statements.{Named, Located, ConfigLine, ModulesLine, numbered, names_in_statement, statements}
 use Rattle.kc_read.proofs.FileLemmas.{same_name_eq}

@@ -5,7 +5,9 @@ use Rattle.std.specs.Option.{option_and_then, option_or, unwrap_or}
 use Rattle.std.proofs.Math.Seq.{take-length}
 use Rattle.kc_language.specs.declared.expressions.SymId.{SymId}
 use Rattle.kc_language.specs.Expressions.{symbol}
-use Rattle.kc_language.specs.Symbols.{stands_in, ChoiceFacts, listed, StatedDefault, choice_number, defined_symbols, choice_lines, choices, stated_default, is_member, members_of, guarded_symbol, prompt_at, single_symbol, symbol_facts, title_of, facts_with, modules_symbol, symbol_if, tree_with, unless_refused, bad_members}
+use Rattle.kc_expr.specs.PartsOfSymbols.{stands_in}
+use Rattle.kc_language.specs.Symbols.{ChoiceFacts, listed, StatedDefault, choice_number, defined_symbols, choices, stated_default, is_member, members_of, prompt_at, single_symbol, symbol_facts, facts_with, modules_symbol, tree_with, unless_refused, bad_members}
+use Rattle.kc_build.specs.PartsOfSymbols.{choice_lines, guarded_symbol, title_of, symbol_if}
 use Rattle.kc_read.specs.declared.entries.Entries.{Entries}
 use Rattle.kc_language.specs.Expansion.{attributes, last_of, numbers, Refused}
 use Rattle.kc_read.specs.Entries.{lines_in}

@@ -9,7 +9,8 @@ use Rattle.kc_read.specs.declared.entries.AttributeLine.{AttributeLine}
 use Rattle.kc_read.specs.StatementViews.{attribute_view}
 use Rattle.kc_language.specs.Statements.{Numbered}
 use Rattle.kc_language.specs.Expansion.{last_of}
-use Rattle.kc_language.specs.Symbols.{listed, first_of}
+use Rattle.kc_language.specs.Symbols.{listed}
+use Rattle.kc_build.specs.PartsOfSymbols.{first_of}
 use Rattle.kc_build.specs.Passes.{statements_of}
 use Rattle.kc_build.proofs.PlaceLemmas.{statement_at, length-statements_of}
 

@@ -19,7 +19,8 @@ use Rattle.kc_tree.specs.declared.rows.Symbol.{Symbol}
 use Rattle.kc_tree.specs.declared.rows.Title.{Title}
 use Rattle.kc_tree.specs.Contexts.{condition_in}
 use Rattle.kc_tree.specs.Layouts.{choice_default_view, choice_facts as choice_in, definition_facts, impliers_at, prompt_view, selectors_at, shown_of}
-use Rattle.kc_language.specs.Symbols.{ChoiceFacts, Condition, Guarded, StatedDefault, choice_lines, choice_number, guarded_symbol, impliers_of, of_block, selectors_of, single_symbol, stated_default}
+use Rattle.kc_language.specs.Symbols.{ChoiceFacts, Condition, Guarded, StatedDefault, choice_number, of_block, single_symbol, stated_default}
+use Rattle.kc_build.specs.PartsOfSymbols.{choice_lines, guarded_symbol, impliers_of, selectors_of}
 use Rattle.kc_build.specs.Before.{choice_before, choices_before, definitions_before, entries_before, impliers_before, main_menu_before, named_default, selectors_before}
 use Rattle.kc_build.specs.ChoiceRows.{ChoiceRow, HaveMemberDefaults, choice_row, map_from, with_member_defaults}
 use Rattle.kc_language.specs.Symbols as facts

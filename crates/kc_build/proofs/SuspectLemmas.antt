@@ -21,7 +21,8 @@ use Rattle.kc_language.specs.declared.symbols.MenuEntry.{MenuEntry}
 use Rattle.kc_language.specs.declared.symbols.MenuEntry.TheVariants as menu_entry
 use Rattle.kc_build.specs.declared.suspects.Suspect.{Suspect}
 use Rattle.kc_build.specs.Diagnosed.{diagnosis_view}
-use Rattle.kc_language.specs.Symbols.{choice_number, first_of, is_first_definition, symbol_at, symbol_of, stated_type, first_of_symbol, begun}
+use Rattle.kc_language.specs.Symbols.{choice_number, is_first_definition, symbol_at, stated_type, begun}
+use Rattle.kc_build.specs.PartsOfSymbols.{first_of, symbol_of, first_of_symbol}
 use Rattle.kc_build.specs.Passes.{statements_in, statements_of}
 use Rattle.kc_build.specs.Quiet.{is_quiet, is_quiet_entry}
 use Rattle.kc_build.specs.Suspected.{AreSuspects, IsQuietBetween, IsSuspectAt}

@@ -8,13 +8,16 @@ use Rattle.std.proofs.lemmas.Option.{slice_get-map, slice_get_within}
 use Rattle.kc_language.specs.declared.expressions.SymId.{SymId}
 use Rattle.kc_expr.specs.Names.{AreDistinct}
 use Rattle.kc_language.specs.Expressions.{number_of, same_name, symbol, if_word, is_tristate_constant, is_name_byte}
-use Rattle.kc_language.specs.Symbols.{stands_in, Condition, EndShown, MenuShown, SymbolFacts, TreeFacts, listed, entries, enclosing_choice, choice_of, type_of, of_block, symbol_facts, indices, facts_with, modules_symbol, symbol_if, is_first_definition_at, bad_members, bad_defaults, is_bad_member, entry_name, whole_list_refusals, menu_entry_at, entry_symbol, refused_at}
+use Rattle.kc_expr.specs.PartsOfSymbols.{stands_in}
+use Rattle.kc_language.specs.Symbols.{Condition, EndShown, MenuShown, SymbolFacts, TreeFacts, listed, entries, enclosing_choice, choice_of, type_of, of_block, symbol_facts, indices, facts_with, modules_symbol, is_first_definition_at, bad_members, bad_defaults, entry_name, whole_list_refusals, menu_entry_at, entry_symbol, refused_at}
+use Rattle.kc_build.specs.PartsOfSymbols.{symbol_if, is_bad_member}
 use Rattle.kc_expr.proofs.NamesLemmas.{same_name-refl}
 use Rattle.kc_language.specs.declared.expressions.SymbolType.TheVariants as symbol_type
 use Rattle.kc_language.specs.Statements.{Cause, is_good_name, Named, Numbered, Located, statements}
 use Rattle.kc_language.specs.declared.diagnostics.Cause.TheVariants as cause
 use Rattle.kc_language.specs.declared.statements.Block.TheVariants as block
-use Rattle.kc_language.specs.Expansion.{Files, Expands, Log, Refused, refused, defined, definitions, names_of, numbered_lines}
+use Rattle.kc_language.specs.Expansion.{Files, Expands, Log, Refused, refused, definitions, names_of, numbered_lines}
+use Rattle.kc_read.specs.PartsOfExpansion.{defined}
 use Rattle.kc_read.proofs.NameLemmas.{known_at}
 use Rattle.kc_tree.specs.TreeFacts.{IsMentioned, IsSymbolName, IsWellFormed}
 use Rattle.kc_build.proofs.DefinedLemmas.{AreNames}

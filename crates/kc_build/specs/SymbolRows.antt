@@ -13,7 +13,8 @@ use Rattle.kc_language.specs.declared.symbols.ChoiceId.{ChoiceId}
 use Rattle.kc_tree.specs.declared.rows.DefinitionId.{DefinitionId}
 use Rattle.kc_tree.specs.declared.rows.Symbol.{Symbol}
 use Rattle.kc_language.specs.declared.symbols.LineWarning.{LineWarning as Warning}
-use Rattle.kc_language.specs.Symbols.{listed, type_of, choice_of, enclosing_choice, definitions_of, stated_default, enclosing_block, single_symbol, symbol_at, is_selectable, stated_type, is_first_definition_at, menu_entry_at, line_warnings_by}
+use Rattle.kc_language.specs.Symbols.{listed, type_of, choice_of, enclosing_choice, definitions_of, stated_default, single_symbol, symbol_at, is_selectable, stated_type, is_first_definition_at, menu_entry_at}
+use Rattle.kc_build.specs.PartsOfSymbols.{enclosing_block, line_warnings_by}
 use Rattle.kc_tree.specs.Spans.{definition_ids}
 
 -- each defined symbol has a number below this one

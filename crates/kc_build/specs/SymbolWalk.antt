@@ -8,7 +8,8 @@ use Rattle.kc_language.specs.declared.expressions.SymId.{SymId}
 use Rattle.kc_language.specs.Expressions.{symbol}
 use Rattle.kc_language.specs.Expansion.{attributes, numbers}
 use Rattle.kc_language.specs.Statements.{Numbered}
-use Rattle.kc_language.specs.Symbols.{is_symbol_of, enclosing_choice, first_of, symbol_at, stated_type}
+use Rattle.kc_language.specs.Symbols.{is_symbol_of, enclosing_choice, symbol_at, stated_type}
+use Rattle.kc_build.specs.PartsOfSymbols.{first_of}
 use Rattle.kc_tree.specs.declared.rows.Symbol.{Symbol}
 use Rattle.kc_build.specs.SymbolRows.{SymbolRow, definition_number, row_view}
 use Rattle.kc_build.specs.Passes.{changed}

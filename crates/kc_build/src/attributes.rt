@@ -7,6 +7,7 @@ ghost use Rattle.kc_read.specs.StatementViews.{attribute_view, input_prompt_view
 ghost use Rattle.kc_language.specs.Symbols.{listed};
 ghost use Rattle.kc_tree.specs.Contexts.{condition_in};
 ghost use Rattle.kc_language.specs.Symbols as facts;
+ghost use Rattle.kc_build.specs.PartsOfSymbols as facts_parts;
 ghost use Rattle.kc_build.specs.Growth.{IsGrown, IsInside, Stands};
 ghost use Rattle.kc_build.specs.EntryLines.{prompt_line, default_line, range_line, named_line, choice_default_line};
 ghost use Rattle.kc_tree.specs.OwnRows.{default_row, range_row};
@@ -27,7 +28,7 @@ use std::alloc::{AllocError, Global};
 
 /// The first type that attributes give.
 pub(crate) fn first_type(attributes: &[AttributeLine]) -> Option<SymbolType>
-    ensures { result ≡ facts.first_of (filter_map facts.stated_type (statements_of attributes.now)) }
+    ensures { result ≡ facts_parts.first_of (filter_map facts.stated_type (statements_of attributes.now)) }
 {
     for line in attributes {
         if let Some(symbol_type) = stated_type(&line.attribute) {
@@ -82,7 +83,7 @@ pub(crate) fn entry_context(
 ) -> Result<ContextId, AllocError>
     requires there { outer.0 < length contexts.old }
     requires few { length contexts.old + length attributes.now < 2 ^ 32 }
-    ensures made { IfOk result (λ id. Stands contexts.new id.0 (with_conjuncts (condition_in contexts.old outer.0) (filter_map facts.depends_form (statements_of attributes.now)))) }
+    ensures made { IfOk result (λ id. Stands contexts.new id.0 (with_conjuncts (condition_in contexts.old outer.0) (filter_map facts_parts.depends_form (statements_of attributes.now)))) }
     ensures kept { IsGrown contexts.old contexts.new (condition_in contexts.old outer.0).mode (length attributes.now) }
 {
     let mut at = outer;
@@ -103,7 +104,7 @@ pub(crate) fn visible_context(
 ) -> Result<ContextId, AllocError>
     requires there { outer.0 < length contexts.old }
     requires few { length contexts.old + length attributes.now < 2 ^ 32 }
-    ensures made { IfOk result (λ id. Stands contexts.new id.0 (with_conjuncts (condition_in contexts.old outer.0) (filter_map facts.visible_form (statements_of attributes.now)))) }
+    ensures made { IfOk result (λ id. Stands contexts.new id.0 (with_conjuncts (condition_in contexts.old outer.0) (filter_map facts_parts.visible_form (statements_of attributes.now)))) }
     ensures kept { IsGrown contexts.old contexts.new (condition_in contexts.old outer.0).mode (length attributes.now) }
 {
     let mut at = outer;
@@ -123,7 +124,7 @@ fn line_context(
 ) -> Result<ContextId, AllocError>
     requires there { outer.0 < length contexts.old }
     requires few { length contexts.old < 2 ^ 32 }
-    ensures made { IfOk result (λ id. IsInside contexts.old outer.0 (facts.depends_form (attribute_view attribute.now)) contexts.new id.0) }
+    ensures made { IfOk result (λ id. IsInside contexts.old outer.0 (facts_parts.depends_form (attribute_view attribute.now)) contexts.new id.0) }
     ensures unchanged { OnErr result (contexts.new ≡ contexts.old) }
 {
     match depends_of(attribute) {
@@ -180,7 +181,7 @@ pub(crate) fn add_attributes(
     requires few { length contexts.old + length attributes.now < 2 ^ 32 }
     requires few_defaults { length defaults.old.items + length attributes.now < 2 ^ 32 }
     requires few_ranges { length ranges.old.items + length attributes.now < 2 ^ 32 }
-    ensures made { IfOk result (λ p. Stands contexts.new p.within.0 (with_conjuncts (condition_in contexts.old outer.within.0) (filter_map facts.depends_form (statements_of attributes.now)))) }
+    ensures made { IfOk result (λ p. Stands contexts.new p.within.0 (with_conjuncts (condition_in contexts.old outer.within.0) (filter_map facts_parts.depends_form (statements_of attributes.now)))) }
     ensures kept { IsGrown contexts.old contexts.new (condition_in contexts.old outer.within.0).mode (length attributes.now) }
     ensures prompt { IfOk result (λ p. option_map prompt_line p.prompt ≡ option_map (λ q. (outer.visible.0, q.when)) (blocks.last_of (filter_map facts.prompt_of (statements_of attributes.now)))) }
     ensures defaults { OnOk result (map default_row defaults.new.items ≡ map default_row defaults.old.items ++ filter_map default_line (statements_of attributes.now)) }

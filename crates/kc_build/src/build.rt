@@ -1,7 +1,9 @@
 //! The tree of a root file.
 
 ghost use Rattle.std.specs.Prelude.{◌≡◌, ◌≢◌, ◌<◌, ◌≤◌, ◌+◌, ◌*◌, ◌^◌, ℕ, List, length, map, IfOk, IfErr, OnOk, Ok, Err};
-ghost use Rattle.kc_language.specs.Symbols.{stands_in, defined_symbols, IsTreeOf, modules_symbol, symbol_if, tree_with};
+ghost use Rattle.kc_expr.specs.PartsOfSymbols.{stands_in};
+ghost use Rattle.kc_language.specs.Symbols.{defined_symbols, IsTreeOf, modules_symbol, tree_with};
+ghost use Rattle.kc_build.specs.PartsOfSymbols.{symbol_if};
 ghost use Rattle.kc_language.specs.Expansion.{Files, bytes_in};
 ghost use Rattle.kc_read.specs.RefusalView.{IsMemory, refusal_view};
 ghost use Rattle.kc_read.specs.Entries.{lines_in};

@@ -13,6 +13,7 @@ ghost use Rattle.kc_language.specs.Symbols.{listed};
 ghost use Rattle.kc_build.specs.SymbolRows.{type_by, choice_by, member_by, default_symbol, line_warnings_in};
 ghost use Rattle.kc_build.specs.WholeListRefusals as entry_refusal;
 ghost use Rattle.kc_language.specs.Symbols as spec;
+ghost use Rattle.kc_build.specs.PartsOfSymbols as spec_parts;
 
 use crate::lines::{
     is_single, prompt_of, single_symbol, stated_default, stated_type, symbol_of, target_of,
@@ -73,7 +74,7 @@ fn type_redefined(
     entry: MenuEntry,
     symbols: &[Symbol],
 ) -> Option<LineWarning>
-    ensures { listed result ≡ spec.type_redefined (type_by symbols.now) entry (attribute_view attribute.now) }
+    ensures { listed result ≡ spec_parts.type_redefined (type_by symbols.now) entry (attribute_view attribute.now) }
 {
     match (entry_symbol(entry), stated_type(attribute)) {
         (Some(symbol), Some(symbol_type)) => {
@@ -85,7 +86,7 @@ fn type_redefined(
 
 // A second prompt in one entry.
 fn prompt_redefined(attribute: &Attribute, entry: MenuEntry, prompted: bool) -> Option<LineWarning>
-    ensures { listed result ≡ spec.prompt_redefined entry prompted (attribute_view attribute.now) }
+    ensures { listed result ≡ spec_parts.prompt_redefined entry prompted (attribute_view attribute.now) }
 {
     (prompt_of(attribute).is_some() && prompted).then_some(LineWarning::PromptRedefined(
         entry_symbol(entry),
@@ -101,14 +102,14 @@ pub(crate) fn is_prompted(prompted: bool, attribute: &Attribute) -> bool
 
 // The symbol has a type, or is a member of a choice.
 fn has_type(symbol: SymId, symbols: &[Symbol]) -> bool
-    ensures { result ≡ spec.has_type (type_by symbols.now symbol) (choice_by symbols.now symbol) }
+    ensures { result ≡ spec_parts.has_type (type_by symbols.now symbol) (choice_by symbols.now symbol) }
 {
     choice_of(symbols, symbol).is_some() || type_of(symbols, symbol) != SymbolType::Undefined
 }
 
 // The first definition of a symbol without a type.
 fn without_type(head: &Head, first: bool, symbols: &[Symbol]) -> Option<LineWarning>
-    ensures { listed result ≡ spec.without_type (type_by symbols.now) (choice_by symbols.now) first (head_view head.now) }
+    ensures { listed result ≡ spec_parts.without_type (type_by symbols.now) (choice_by symbols.now) first (head_view head.now) }
 {
     match symbol_of(head) {
         Some(symbol) => (first && !has_type(symbol, symbols)).then_some(LineWarning::WithoutType(
@@ -120,7 +121,7 @@ fn without_type(head: &Head, first: bool, symbols: &[Symbol]) -> Option<LineWarn
 
 // A select or imply of a symbol whose value is a text.
 fn text_target(attribute: &Attribute, symbols: &[Symbol]) -> Option<LineWarning>
-    ensures { listed result ≡ spec.text_target (type_by symbols.now) (attribute_view attribute.now) }
+    ensures { listed result ≡ spec_parts.text_target (type_by symbols.now) (attribute_view attribute.now) }
 {
     match target_of(attribute) {
         Some(target) => has_text(type_of(symbols, target.symbol)).then_some(LineWarning::TextTarget(
@@ -133,7 +134,7 @@ fn text_target(attribute: &Attribute, symbols: &[Symbol]) -> Option<LineWarning>
 
 // A select or imply of a member of a choice.
 fn member_target(attribute: &Attribute, symbols: &[Symbol]) -> Option<LineWarning>
-    ensures { listed result ≡ spec.member_target (choice_by symbols.now) (attribute_view attribute.now) }
+    ensures { listed result ≡ spec_parts.member_target (choice_by symbols.now) (attribute_view attribute.now) }
 {
     match target_of(attribute) {
         Some(target) => choice_of(symbols, target.symbol)
@@ -159,7 +160,7 @@ fn default_not_member(
     entry: MenuEntry,
     symbols: &[Symbol],
 ) -> Option<LineWarning>
-    ensures { listed result ≡ spec.default_not_member (member_by symbols.now) entry (attribute_view attribute.now) }
+    ensures { listed result ≡ spec_parts.default_not_member (member_by symbols.now) entry (attribute_view attribute.now) }
 {
     match (entry_choice(entry), default_symbol(attribute)) {
         (Some(choice), Some(symbol)) => {
@@ -200,7 +201,7 @@ fn warnings_of(
 
 // A second definition of a member; a definition in a choice whose type is not bool.
 fn is_bad_member(head: &Head, summary: EntrySummary, symbols: &[Symbol]) -> bool
-    ensures { result ≡ spec.is_bad_member (type_by symbols.now) (choice_by symbols.now) summary.first (option_map (λ k. k.0) summary.within_choice) (head_view head.now) }
+    ensures { result ≡ spec_parts.is_bad_member (type_by symbols.now) (choice_by symbols.now) summary.first (option_map (λ k. k.0) summary.within_choice) (head_view head.now) }
 {
     match symbol_of(head) {
         Some(symbol) => {
@@ -223,7 +224,7 @@ fn is_text_entry(entry: MenuEntry, symbols: &[Symbol]) -> bool
 
 // A default of such a symbol that is no single operand; one of a choice that is no single name.
 fn is_bad_default(attribute: &Attribute, entry: MenuEntry, symbols: &[Symbol]) -> bool
-    ensures { result ≡ spec.is_bad_default (type_by symbols.now) entry (attribute_view attribute.now) }
+    ensures { result ≡ spec_parts.is_bad_default (type_by symbols.now) entry (attribute_view attribute.now) }
 {
     match stated_default(attribute) {
         Some(stated) => {
@@ -254,7 +255,7 @@ fn warn(
     out: &mut Vec<Vec<u8>>,
 ) -> Result<(), AllocError>
     ensures { OnOk result (map (λ v. v.items) out.new.items ≡ map (λ v. v.items) out.old.items
-        ++ map (spec.line_of names.now place.entry.file.now place.entry.line) (listed warning)) }
+        ++ map (spec_parts.line_of names.now place.entry.file.now place.entry.line) (listed warning)) }
 {
     match warning {
         Some(warning) => {
@@ -278,7 +279,7 @@ fn warn_attribute(
     out: &mut Vec<Vec<u8>>,
 ) -> Result<(), AllocError>
     ensures { OnOk result (map (λ v. v.items) out.new.items ≡ map (λ v. v.items) out.old.items
-        ++ map (spec.line_of names.now place.entry.file.now place.entry.line) (line_warnings_in symbols.now summary prompted (attribute_view attribute.now))) }
+        ++ map (spec_parts.line_of names.now place.entry.file.now place.entry.line) (line_warnings_in symbols.now summary prompted (attribute_view attribute.now))) }
 {
     match warnings_of(attribute, summary, prompted, symbols) {
         (None, None) => Ok(()),

@@ -5,6 +5,7 @@ ghost use Rattle.kc_expr.specs.Form.{form_of};
 ghost use Rattle.kc_expr.specs.When.{when_view};
 ghost use Rattle.kc_read.specs.StatementViews.{attribute_view, head_view, input_prompt_view};
 ghost use Rattle.kc_language.specs.Symbols as facts;
+ghost use Rattle.kc_build.specs.PartsOfSymbols as facts_parts;
 ghost use Rattle.kc_tree.specs.OwnRows.{range_row};
 ghost use Rattle.kc_build.specs.Passes.{stated_default_view, target_view};
 ghost use Rattle.kc_build.specs.EntryLines.{range_line};
@@ -26,7 +27,7 @@ pub(crate) struct Target<'a> {
 
 /// The symbol that a `config` line defines.
 pub(crate) fn symbol_of(head: &Head) -> Option<SymId>
-    ensures { result ≡ facts.symbol_of (Some (head_view head.now)) }
+    ensures { result ≡ facts_parts.symbol_of (Some (head_view head.now)) }
 {
     match head {
         Head::Config(s) => Some(*s),
@@ -79,7 +80,7 @@ pub(crate) fn stated_default(attribute: &Attribute) -> Option<&SymbolDefault>
 
 /// The expression of a `depends on` line.
 pub(crate) fn depends_of(attribute: &Attribute) -> Option<&Rc<Expr>>
-    ensures { option_map (λ e. form_of e.now.value) result ≡ facts.depends_form (attribute_view attribute.now) }
+    ensures { option_map (λ e. form_of e.now.value) result ≡ facts_parts.depends_form (attribute_view attribute.now) }
 {
     match attribute {
         Attribute::Depends(e) => Some(e),
@@ -89,7 +90,7 @@ pub(crate) fn depends_of(attribute: &Attribute) -> Option<&Rc<Expr>>
 
 /// The expression of a `visible if` line.
 pub(crate) fn visible_of(attribute: &Attribute) -> Option<&Rc<Expr>>
-    ensures { option_map (λ e. form_of e.now.value) result ≡ facts.visible_form (attribute_view attribute.now) }
+    ensures { option_map (λ e. form_of e.now.value) result ≡ facts_parts.visible_form (attribute_view attribute.now) }
 {
     match attribute {
         Attribute::Visible(e) => Some(e),
@@ -144,7 +145,7 @@ pub(crate) fn single_symbol(value: &Expr) -> Option<SymId>
 
 /// The expression is one operand.
 pub(crate) fn is_single(value: &Expr) -> bool
-    ensures { result ≡ facts.is_single (form_of value.now) }
+    ensures { result ≡ facts_parts.is_single (form_of value.now) }
 {
     match value {
         Expr::One(_) => true,

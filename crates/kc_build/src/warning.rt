@@ -4,6 +4,7 @@ ghost use Rattle.std.specs.Prelude.{◌≡◌, IfOk};
 ghost use Rattle.kc_diagnostics.specs.Warnings.{shown_warning};
 ghost use Rattle.kc_language.specs.Symbols.{name_by};
 ghost use Rattle.kc_language.specs.Symbols as spec;
+ghost use Rattle.kc_build.specs.PartsOfSymbols as spec_parts;
 
 use crate::lines::SelectOrImply;
 use kc_diagnostics::{Warning, add_located};
@@ -76,7 +77,7 @@ pub(crate) fn line_of(
     place: Place<'_>,
     warning: LineWarning,
 ) -> Result<Vec<u8>, AllocError>
-    ensures { IfOk result (λ v. v.items ≡ spec.line_of names.now place.entry.file.now place.entry.line warning) }
+    ensures { IfOk result (λ v. v.items ≡ spec_parts.line_of names.now place.entry.file.now place.entry.line warning) }
 {
     let mut line = Vec::new(alloc);
     add_located(

@@ -17,8 +17,10 @@ use Rattle.kc_language.specs.Symbols.{Condition, SymbolFacts, TreeFacts, Warning
 use Rattle.kc_tree.specs.TreeFacts.{IsWellFormed}
 use Rattle.kc_build.specs.Trees.{TreesAreWellFormed}
 use Rattle.kc_language.specs.Values.{GivenValue, GivenTruth, GivenText, Member, SymbolPlace, same_given, same_tri, given_of, facts, name, type_in}
-use Rattle.kc_language.specs.ConfigFile.{ArePlacesOf, Places, place_at, StreamLocation, change_line, change_text, Effect, Silent, Warns, Assigns, type_of, warning_line, Line, UserInput, before_too_long, effect, effect_text, input_after, is_within, lines_of, reading, stream_location, warning, warning_line_if, warnings}
-use Rattle.kc_language.specs.Texts.{Solution, known, warnings as value_warnings, solution_view, config_text, has_prompt, lost_at, lost_by, lost_line, lost_lines, lost_of}
+use Rattle.kc_language.specs.ConfigFile.{ArePlacesOf, Places, place_at, StreamLocation, change_line, change_text, Effect, Silent, Warns, Assigns, warning_line, Line, UserInput, effect, input_after, is_within, lines_of, reading, stream_location, warning, warnings}
+use Rattle.kc_config_file.specs.PartsOfConfigFile.{type_of, before_too_long, effect_text, warning_line_if}
+use Rattle.kc_language.specs.Texts.{Solution, known, warnings as value_warnings, solution_view, config_text, has_prompt, lost_by, lost_line, lost_lines, lost_of}
+use Rattle.kc_conf.specs.PartsOfTexts.{lost_at}
 use Rattle.kc_language.specs.declared.diagnostics.Warning.TheVariants.{SetAgain}
 use Rattle.kc_config_file.specs.ReadingLaws.{LinesGiveInTurn, LinesInTurn}
 use Rattle.kc_conf.specs.Accounted.{HoldsLine, IsAccountedFor, IsKeptOrWarned, IsSetAgain, LeavesAlone, NothingIsLost}

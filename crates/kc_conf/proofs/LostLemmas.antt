@@ -14,7 +14,8 @@ use Rattle.kc_tree.specs.declared.layout.Layout.{Layout}
 use Rattle.kc_tree.specs.declared.rows.Symbol.{Symbol}
 use Rattle.kc_language.specs.Values.{SymbolPlace, GivenValue, given_of, facts, name}
 use Rattle.kc_values.specs.Laws.{RowsTellFacts}
-use Rattle.kc_language.specs.Texts.{Solution, known, has_prompt, lost_at, lost_by, lost_of}
+use Rattle.kc_language.specs.Texts.{Solution, known, has_prompt, lost_by, lost_of}
+use Rattle.kc_conf.specs.PartsOfTexts.{lost_at}
 
 -- the lines of one symbol more
 pub one_more_lost : (lines : List (Option StreamLocation)) (s : Solution) (ids : List SymId) (i : ℕ) (id : SymId) (old new : List (List ℕ)) → slice_get ids i ≡ Some id →

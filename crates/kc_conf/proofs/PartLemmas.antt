@@ -12,7 +12,8 @@ use Rattle.kc_language.specs.Lines.{HoldsNoLineFeed, is_line_feed}
 use Rattle.kc_language.specs.Symbols.{TreeFacts, Warning, located_warning}
 use Rattle.kc_language.specs.declared.expressions.SymbolType.{SymbolType}
 use Rattle.kc_language.specs.Values.{GivenValue, SymbolPlace, same_given, name as name_of}
-use Rattle.kc_language.specs.ConfigFile.{place_at, StreamLocation, change_line, change_text, value_text, Effect, Silent, Warns, Assigns, type_of, warning_line, UserInput, Line, ReadResult, before_too_long, effect, effect_change, effect_text, effect_warning, is_within, last_line, line, lines_from, lines_in_stream, input_after, reading, stream_location, warning, warning_line_if, warnings}
+use Rattle.kc_language.specs.ConfigFile.{place_at, StreamLocation, change_line, change_text, value_text, Effect, Silent, Warns, Assigns, warning_line, UserInput, Line, ReadResult, effect, effect_warning, is_within, lines_from, lines_in_stream, input_after, reading, stream_location, warning, warnings}
+use Rattle.kc_config_file.specs.PartsOfConfigFile.{type_of, before_too_long, effect_change, effect_text, last_line, line, warning_line_if}
 use Rattle.kc_language.specs.declared.diagnostics.Warning.TheVariants.{Changed}
 use Rattle.kc_config_file.specs.Feeding.{StreamPosition, stream_start, ReadsPiece}
 use Rattle.kc_language.specs.Texts.{HasShortLines}

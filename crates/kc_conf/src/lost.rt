@@ -11,6 +11,7 @@ ghost use Rattle.kc_language.specs.ConfigFile.{place_at};
 ghost use Rattle.kc_values.specs.User.{given_in};
 ghost use Rattle.kc_config_file.specs.ShownView.{given_by, location_of};
 ghost use Rattle.kc_language.specs.Texts as spec;
+ghost use Rattle.kc_conf.specs.PartsOfTexts as spec_parts;
 ghost use Rattle.kc_conf.specs.LostView.{is_prompted};
 ghost use Rattle.kc_language.specs.Outcome.{lost_warnings};
 
@@ -156,7 +157,7 @@ fn lost_into(
     lines: &mut Vec<Vec<u8>>,
 ) -> Result<(), AllocError>
     requires { id.0 < name_count solved.now.tree }
-    ensures { OnOk result (map (λ l. l.items) lines.new.items ≡ map (λ l. l.items) lines.old.items ++ spec.lost_at input.now.lines solved.now id.0) }
+    ensures { OnOk result (map (λ l. l.items) lines.new.items ≡ map (λ l. l.items) lines.old.items ++ spec_parts.lost_at input.now.lines solved.now id.0) }
 {
     solved.is_solution();
     rows_tell_facts();

@@ -19,7 +19,8 @@ use Rattle.kc_language.specs.declared.expressions.SymbolType.TheVariants as symb
 use Rattle.kc_language.specs.Symbols.{TreeFacts, SymbolFacts}
 use Rattle.kc_language.specs.Values.{GivenValue, GivenTruth, GivenText, type_in}
 use Rattle.kc_user.specs.Places.{allowed, allowed_by, allowed_for, fits_quoted}
-use Rattle.kc_language.specs.ConfigFile.{LineMeaning, Nothing, Unset, Set, Malformed, meaning_of, meaning_of_text, not_unset, unset_name, unset_or, is_comment, set_or_malformed, name_and_value, split_at_equals, is_equals, trimmed, Assigns, effect_of, set_effect, unset_effect, set_by_type, unset_by_type, assigned_or, symbol_named, until_quote, string_value, number_value, value_by, line_value, yes_m_or_no}
+use Rattle.kc_language.specs.ConfigFile.{LineMeaning, Nothing, Unset, Set, Malformed, meaning_of, unset_name, name_and_value, Assigns, effect_of, set_by_type, unset_by_type, symbol_named, until_quote, value_by}
+use Rattle.kc_config_file.specs.PartsOfConfigFile.{meaning_of_text, not_unset, unset_or, is_comment, set_or_malformed, split_at_equals, is_equals, trimmed, set_effect, unset_effect, assigned_or, string_value, number_value, line_value, yes_m_or_no}
 use Rattle.kc_config_file.proofs.LineLemmas.{HasNoLf}
 
 preceded_some : (front : List ℕ) (o : Option (List ℕ)) (raw : List ℕ) → preceded front o ≡ Some raw → (rest : List ℕ) × (o ≡ Some rest) × (front ++ rest ≡ raw)

@@ -16,7 +16,8 @@ use Rattle.kc_language.specs.Symbols.{TreeFacts, SymbolFacts}
 use Rattle.kc_tree.specs.TreeFacts.{IsWellFormed}
 use Rattle.kc_language.specs.Values.{GivenValue, GivenTruth, GivenText, Member, name as name_of}
 use Rattle.kc_user.specs.Places.{allowed, allowed_by, allowed_for, allowed_truth, allowed_text}
-use Rattle.kc_language.specs.ConfigFile.{Assigns, set_by_type, assigned_or, is_prefix, Line, line, is_within, effect}
+use Rattle.kc_language.specs.ConfigFile.{Assigns, set_by_type, is_prefix, Line, is_within, effect}
+use Rattle.kc_config_file.specs.PartsOfConfigFile.{assigned_or, line}
 use Rattle.kc_config_file.specs.HasNames.{HasNames}
 use Rattle.kc_config_file.specs.WrittenLaws.{AllowedAreAssigned}
 use Rattle.kc_language.specs.Texts.{EndsPlainly}

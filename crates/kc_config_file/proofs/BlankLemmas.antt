@@ -7,7 +7,7 @@ use Rattle.std.proofs.lemmas.List.{take_rest}
 use Rattle.std.proofs.lemmas.List.Sums.{suffix_len_is, position_or_len_is}
 use Rattle.bstr.specs.Find.{NoneBefore, Nowhere, Passes, is_byte}
 use Rattle.kc_language.specs.Tokens.{is_blank}
-use Rattle.kc_language.specs.ConfigFile.{trimmed, split_at_equals, is_equals}
+use Rattle.kc_config_file.specs.PartsOfConfigFile.{trimmed, split_at_equals, is_equals}
 
 -- the last byte that is no blank ends the line, or the line is empty
 pub trimmed_to : (bytes : List ℕ) (end : ℕ) → end ≤ length bytes → ((k : ℕ) → end ≤ k → k < length bytes → is_blank (get_or bytes k 0) ≡ true) →

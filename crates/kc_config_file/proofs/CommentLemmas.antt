@@ -13,7 +13,8 @@ use Rattle.std.proofs.lemmas.List.Folds.{list_any_at}
 use Rattle.std.proofs.lemmas.Slice.Eq.{bytes_eq-Decides}
 use Rattle.kc_language.specs.Tokens.{is_blank}
 use Rattle.kc_language.specs.Symbols.{TreeFacts}
-use Rattle.kc_language.specs.ConfigFile.{Nothing, Unset, trimmed, without_prefix, without_suffix, is_plain, plain, unset_name, unset_or, meaning_of, meaning_of_text, effect_of, is_prefix, assignment_of}
+use Rattle.kc_language.specs.ConfigFile.{Nothing, Unset, without_prefix, without_suffix, unset_name, meaning_of, effect_of, is_prefix}
+use Rattle.kc_config_file.specs.PartsOfConfigFile.{trimmed, is_plain, plain, unset_or, meaning_of_text, assignment_of}
 use Rattle.kc_language.specs.Texts.{IsNotUnsetLine}
 use Rattle.kc_config_file.proofs.RoundTripLemmas.{prefix_bytes, name_no_blank}
 use Rattle.kc_config_file.proofs.RoundTripLemmas.{strip_solid}

@@ -12,11 +12,13 @@ use Rattle.kc_language.specs.Expressions.{symbol, SymbolValue, Truth, TextValue}
 use Rattle.kc_language.specs.Values.{Solves, GivenValue, Member, UserPlace, SymbolPlace, ChoicePlace, is_yes, given_of, choice_at, name_count, known_from, user_place, equations, name as name_of}
 use Rattle.kc_language.specs.Symbols.{TreeFacts, SymbolFacts, ChoiceFacts, Shown, SymbolShown, MenuShown, EndShown, CommentShown}
 use Rattle.kc_tree.specs.TreeFacts.{IsLineText, IsWellFormed, OfTitles, ShowsEach}
-use Rattle.kc_language.specs.ConfigFile.{Places, place_at, no_places, is_prefix, Assignment, places_given}
+use Rattle.kc_language.specs.ConfigFile.{Places, place_at, is_prefix, Assignment, places_given}
+use Rattle.kc_user.specs.PartsOfConfigFile.{no_places}
 use Rattle.kc_user.specs.Places.{allowed, allowed_by, allowed_for, members_of}
 use Rattle.kc_values.specs.GivenLines.{reread_places}
 use Rattle.kc_values.specs.Members.{MembersAreTheirs, MembersAreBools}
 use Rattle.kc_language.specs.Values as ls
+use Rattle.kc_values.specs.PartsOfValues as ls_parts
 use Rattle.kc_values.proofs.FixedLines.{place_cases, place_of_member, Sel}
 use Rattle.kc_values.proofs.Selection.{found}
 use Rattle.kc_language.specs.Texts.{HasPlainTitles, valuation_view, read_alone, config_file_line, config_text, symbol_config}
@@ -43,7 +45,7 @@ missing p (x ∷ xs) y e c = missing_at p (p x) x y xs refl (missing p xs y) e c
 
 -- a symbol without a type is not written
 not_written : (tree : TreeFacts) (known : SymId → SymbolValue) (f : SymbolFacts) (choice : Option ℕ) → ((c : ℕ) → choice ≡ Some c → f.symbol_type ≡ symbol_type.Bool) →
-    f.symbol_type ≡ symbol_type.Undefined → ls.written_by_choice tree known f choice ≡ false
+    f.symbol_type ≡ symbol_type.Undefined → ls_parts.written_by_choice tree known f choice ≡ false
 not_written tree known f None bools e = ap (ls.written_by_type tree known f) e
 not_written tree known f (Some c) bools e = let never : symbol_type.Bool ≡ symbol_type.Undefined = sym (bools c refl) ∙ e in cc
 
@@ -84,7 +86,7 @@ module _ (tree : TreeFacts) (user : UserPlace → Option GivenValue) (V : ℕ �
       let (f, at) = there tree.symbols s.0 lt in
       let value_is : known_from tree V s ≡ V s.0 = rw (lt-ltb s.0 (length tree.symbols) lt) refl in
       let shape : IsOf f.symbol_type (V s.0) = elim (value_shape tree (known_from tree V) s f (user (user_place tree s.0)) at bools) [
-        | inl untyped ↦ absurd (true≢false (sym w ∙ ap (ls.written_facts tree K) at ∙ not_written tree K f f.choice (λ c e. bools s f c at e) untyped))
+        | inl untyped ↦ absurd (true≢false (sym w ∙ ap (ls_parts.written_facts tree K) at ∙ not_written tree K f f.choice (λ c e. bools s f c at e) untyped))
         | inr of ↦ rw (solves s.0 lt) of
       ] in
       let line = symbol_gives tree prefix stream is_pre formed named_all s f at defined (V s.0) shape (fits s lt w) in

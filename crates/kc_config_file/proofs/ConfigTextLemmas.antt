@@ -10,8 +10,10 @@ use Rattle.kc_language.specs.Lines.{is_line_feed}
 use Rattle.kc_language.specs.declared.expressions.SymId.{SymId}
 use Rattle.kc_language.specs.Symbols.{TreeFacts, Shown, SymbolShown, MenuShown, EndShown, CommentShown}
 use Rattle.kc_tree.specs.TreeFacts.{IsLineText, OfTitles}
-use Rattle.kc_language.specs.ConfigFile.{meaning_of, effect_of, is_prefix, Assignment, assignment_of}
-use Rattle.kc_language.specs.Texts.{IsNotUnsetLine, HasPlainTitles, title_line, config_heading, config_text, title_lines, end_line, title_if, end_if, gap, shown_title, symbol_config, end_is_last, entry_text, entries_text, SolutionView, is_shown}
+use Rattle.kc_language.specs.ConfigFile.{meaning_of, effect_of, is_prefix, Assignment}
+use Rattle.kc_config_file.specs.PartsOfConfigFile.{assignment_of}
+use Rattle.kc_language.specs.Texts.{IsNotUnsetLine, HasPlainTitles, config_text, title_lines, shown_title, symbol_config, end_is_last, entry_text, SolutionView, is_shown}
+use Rattle.kc_config_file.specs.PartsOfTexts.{title_line, config_heading, end_line, title_if, end_if, gap, entries_text}
 use Rattle.kc_config_file.proofs.CommentLemmas.{silent, silent_plain, unset_not_last, end_unsets_nothing}
 use Rattle.kc_config_file.proofs.FilledLemmas.{contains_here, contains_later}
 use Rattle.kc_config_file.proofs.GivesLemmas.{Gives, gives_line, gives_append, gives_nothing}

@@ -9,7 +9,8 @@ use Rattle.kc_language.specs.declared.expressions.Tri.{Tri}
 use Rattle.kc_language.specs.Expressions.{SymbolValue}
 use Rattle.kc_language.specs.Symbols.{Condition, TreeFacts, Shown, SymbolShown, MenuShown, EndShown, CommentShown}
 use Rattle.kc_config_file.specs.EntryTexts.{ends_after, entries_after}
-use Rattle.kc_language.specs.Texts.{SolutionView, config_heading, config_text, end_is_last, entries_text, entry_text, has_lines, is_end, shown_title}
+use Rattle.kc_language.specs.Texts.{SolutionView, config_text, end_is_last, entry_text, has_lines, shown_title}
+use Rattle.kc_config_file.specs.PartsOfTexts.{config_heading, entries_text, is_end}
 use Rattle.kc_config_file.proofs.InTurnLemmas.{each_after, each_after-cons}
 use Rattle.kc_config_file.proofs.PlaceLemmas.{last_or-append}
 

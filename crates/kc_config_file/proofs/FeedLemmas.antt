@@ -9,7 +9,8 @@ use Rattle.kc_config_file.specs.declared.fault.InputFault.{InputFault}
 use Rattle.kc_config_file.specs.declared.fault.InputFault.TheVariants.{InputLineTooLong, Memory}
 use Rattle.kc_config_file.specs.Feeding.{StreamPosition, IsWithinLine, fed, to_come, ReadsPiece, Feeds, StopsBecause, Refuses, FinishesStream}
 use Rattle.kc_language.specs.Text.{one_more, longest_input_line}
-use Rattle.kc_language.specs.ConfigFile.{UserInput, line, lines_from, reading, input_after, warning}
+use Rattle.kc_language.specs.ConfigFile.{UserInput, lines_from, reading, input_after, warning}
+use Rattle.kc_config_file.specs.PartsOfConfigFile.{line}
 use Rattle.kc_config_file.specs.Reading.{with_warnings}
 use Rattle.kc_config_file.proofs.LineLemmas.{HasNoLf, lines_from-lf, lines_from-last, is_within-line}
 use Rattle.kc_config_file.proofs.LongLineLemmas.{MeetsLongLine-long, MeetsLongLine-longer}

@@ -9,7 +9,9 @@ use Rattle.kc_language.specs.declared.expressions.SymId.{SymId}
 use Rattle.kc_language.specs.Expressions.{symbol}
 use Rattle.kc_language.specs.Symbols.{TreeFacts}
 use Rattle.kc_language.specs.Values.{GivenValue, Member, SymbolPlace, ChoicePlace, is_yes}
-use Rattle.kc_language.specs.ConfigFile.{Places, place_at, no_places, member_place, Assignment, each_from, given_to, chosen_in, is_this_choice, choice_of, places_given}
+use Rattle.kc_language.specs.ConfigFile.{Places, place_at, Assignment, each_from, chosen_in, places_given}
+use Rattle.kc_user.specs.PartsOfConfigFile.{no_places, member_place}
+use Rattle.kc_config_file.specs.PartsOfConfigFile.{given_to, is_this_choice, choice_of}
 
 -- Elements of a list.
 pub contains_here : {X : Type 0} (x : X) (xs : List X) → Contains (x ∷ xs) x

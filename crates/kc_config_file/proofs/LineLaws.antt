@@ -4,7 +4,8 @@ use Rattle.std.specs.Prelude.{slice_set}
 use Rattle.kc_language.specs.declared.expressions.SymId.{SymId}
 use Rattle.kc_language.specs.Symbols.{TreeFacts}
 use Rattle.kc_language.specs.Values.{GivenValue}
-use Rattle.kc_language.specs.ConfigFile.{Places, Effect, Silent, Warns, Assigns, Line, UserInput, assignments, effect, input_after, places_after, stream_location, text_of, untaken, untaken_line, warning, warnings}
+use Rattle.kc_language.specs.ConfigFile.{Places, Effect, Silent, Warns, Assigns, Line, UserInput, effect, input_after, places_after, stream_location, untaken, untaken_line, warning, warnings}
+use Rattle.kc_config_file.specs.PartsOfConfigFile.{assignments, text_of}
 use Rattle.kc_config_file.specs.LineSteps.{input_by}
 use Rattle.kc_config_file.specs.ReadingLaws.{GoesLineByLine, LinesAddUp, LinesAreCut, LinesDoWhatTheySay, LinesInTurn, LinesKeepCounts}
 use Rattle.kc_config_file.proofs.LineLemmas.{input_after-line, lines_from-last, lines_from-lf}

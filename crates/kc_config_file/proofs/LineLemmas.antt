@@ -6,7 +6,8 @@ use Rattle.std.proofs.lemmas.Bool.{cases_Bool, le-leb}
 use Rattle.std.proofs.lemmas.List.Splits.{slice_split_at, slice_split_none, slice_split-cons_no, slice_split-cons_yes}
 use Rattle.kc_language.specs.Lines.{is_line_feed}
 use Rattle.kc_language.specs.Symbols.{TreeFacts}
-use Rattle.kc_language.specs.ConfigFile.{Places, meaning_of, Effect, Silent, Warns, Assigns, effect_of, Line, StreamLocation, UserInput, line, is_within, last_line, lines_from, text_of, effect, effect_text, each_from, assignment_of, input_after, is_taken, line_for, lines_after, places_given, stream_location, untaken, untaken_line, warning}
+use Rattle.kc_language.specs.ConfigFile.{Places, meaning_of, Effect, Silent, Warns, Assigns, effect_of, Line, StreamLocation, UserInput, is_within, lines_from, effect, each_from, input_after, is_taken, lines_after, places_given, stream_location, untaken, untaken_line, warning}
+use Rattle.kc_config_file.specs.PartsOfConfigFile.{line, last_line, text_of, effect_text, assignment_of, line_for}
 use Rattle.kc_config_file.specs.LineSteps.{input_by}
 use Rattle.kc_config_file.proofs.StepEffects.{places_by, lines_by, all_by}
 use Rattle.kc_language.specs.Text.{one_more}

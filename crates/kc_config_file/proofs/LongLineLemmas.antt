@@ -8,7 +8,8 @@ use Rattle.std.proofs.lemmas.List.Splits.{slice_split-cons_no}
 use Rattle.kc_language.specs.Lines.{is_line_feed}
 use Rattle.kc_language.specs.Symbols.{TreeFacts}
 use Rattle.kc_config_file.specs.Feeding.{StreamPosition, IsWithinLine, MeetsLongLine}
-use Rattle.kc_language.specs.ConfigFile.{UserInput, Line, line, is_within, lines_from, lines_in_stream}
+use Rattle.kc_language.specs.ConfigFile.{UserInput, Line, is_within, lines_from, lines_in_stream}
+use Rattle.kc_config_file.specs.PartsOfConfigFile.{line}
 use Rattle.kc_config_file.proofs.LineLemmas.{HasNoLf, split_form}
 use Rattle.kc_config_file.proofs.ReadingLemmas.{reading_long}
 

@@ -8,13 +8,15 @@ use Rattle.kc_order.specs.Minimal.{kept, Restores, NothingCanGo}
 use Rattle.kc_language.specs.Values.{Solves, GivenValue, UserPlace, SymbolPlace, ChoicePlace, differs, default_selection, name_count, user_place, rhs, equations}
 use Rattle.kc_language.specs.Symbols.{TreeFacts, is_symbol_of}
 use Rattle.kc_tree.specs.TreeFacts.{IsWellFormed}
-use Rattle.kc_language.specs.ConfigFile.{Places, place_at, no_places, is_prefix, Assignment, ReadResult, lines_from, no_input, reading, places_given}
+use Rattle.kc_language.specs.ConfigFile.{Places, place_at, is_prefix, Assignment, ReadResult, lines_from, no_input, reading, places_given}
+use Rattle.kc_user.specs.PartsOfConfigFile.{no_places}
 use Rattle.kc_user.specs.Places.{AllowedPlaces}
 use Rattle.kc_values.specs.GivenLines.{minimal_line}
 use Rattle.kc_values.specs.Laws.{DifferingAreAllowed}
 use Rattle.kc_values.specs.Members.{MembersAreTheirs, MembersAreBools}
 use Rattle.kc_values.proofs.FixedLines.{place_cases, named, Sel, differs-member}
-use Rattle.kc_language.specs.Texts.{valuation_view, kept_lines, read_alone, IsOneSolution, HasOtherSolution, IsOneLine, minimal_text, symbol_config}
+use Rattle.kc_language.specs.Texts.{valuation_view, read_alone, IsOneSolution, HasOtherSolution, IsOneLine, minimal_text, symbol_config}
+use Rattle.kc_config_file.specs.PartsOfTexts.{kept_lines}
 use Rattle.kc_config_file.specs.HasNames.{HasNames}
 use Rattle.kc_config_file.proofs.GivesLemmas.{Gives, gives_whole}
 use Rattle.kc_config_file.proofs.MinimalTextLemmas.{differing_line, keeps_differing, tells_differing, stays, stays_member, all_given, minimal_gives, left_at}

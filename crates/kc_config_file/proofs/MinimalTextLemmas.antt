@@ -12,15 +12,18 @@ use Rattle.kc_order.specs.Minimal.{kept}
 use Rattle.kc_language.specs.Values.{Solves, GivenValue, Member, UserPlace, SymbolPlace, ChoicePlace, is_yes, given_of, differs, default_selection, facts, choice_at, name_count, known_from, user_place, equations, name as name_of}
 use Rattle.kc_language.specs.Symbols.{TreeFacts, SymbolFacts, is_symbol_of}
 use Rattle.kc_tree.specs.TreeFacts.{IsWellFormed}
-use Rattle.kc_language.specs.ConfigFile.{place_at, no_places, is_prefix, Assignment, choice_of, places_given}
+use Rattle.kc_language.specs.ConfigFile.{place_at, is_prefix, Assignment, places_given}
+use Rattle.kc_user.specs.PartsOfConfigFile.{no_places}
+use Rattle.kc_config_file.specs.PartsOfConfigFile.{choice_of}
 use Rattle.kc_user.specs.Places.{allowed, allowed_by, allowed_for, AllowedPlaces}
 use Rattle.kc_values.specs.GivenLines.{minimal_line, TellsDiffering}
 use Rattle.kc_values.specs.Laws.{DifferingAreAllowed}
 use Rattle.kc_values.specs.Members.{MembersAreTheirs, MembersAreBools}
-use Rattle.kc_language.specs.Values as sol
+use Rattle.kc_values.specs.PartsOfValues as sol
 use Rattle.kc_values.proofs.FixedLines.{place_cases, place_of_member, names_itself, named, Sel, member_now, differs-member}
 use Rattle.kc_values.proofs.Selection.{selected_member}
-use Rattle.kc_language.specs.Texts.{valuation_view, kept_lines, IsOneLine, symbol_config, config_file_line}
+use Rattle.kc_language.specs.Texts.{valuation_view, IsOneLine, symbol_config, config_file_line}
+use Rattle.kc_config_file.specs.PartsOfTexts.{kept_lines}
 use Rattle.kc_config_file.specs.HasNames.{HasNames}
 use Rattle.kc_config_file.proofs.FilledLemmas.{Holds, IsCandidate, filled_symbol, filled_member, filled_none, in_flat_map, to_flat_map, contains_here, contains_cases, no_element}
 use Rattle.kc_config_file.proofs.GivesLemmas.{Gives, gives_all, gives_nothing}

@@ -7,7 +7,8 @@ use Rattle.std.proofs.lemmas.List.Elements.{filter_map-append}
 use Rattle.kc_language.specs.declared.expressions.SymId.{SymId}
 use Rattle.kc_language.specs.Symbols.{TreeFacts}
 use Rattle.kc_language.specs.Values.{GivenValue, is_yes}
-use Rattle.kc_language.specs.ConfigFile.{Places, ArePlacesOf, Assignment, each_from, given_to, chosen_in, places_given, choice_of, is_this_choice}
+use Rattle.kc_language.specs.ConfigFile.{Places, ArePlacesOf, Assignment, each_from, chosen_in, places_given}
+use Rattle.kc_config_file.specs.PartsOfConfigFile.{given_to, choice_of, is_this_choice}
 use Rattle.kc_config_file.specs.LineSteps.{with_member}
 
 pub each_from-each_from : {A B C : Type 0} (f : ℕ → B → C) (g : ℕ → A → B) (n : ℕ) (xs : List A) → each_from f n (each_from g n xs) ≡ each_from (λ i x. f i (g i x)) n xs

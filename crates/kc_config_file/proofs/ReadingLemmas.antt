@@ -6,7 +6,8 @@ use Rattle.std.proofs.Math.Dec.{eqb-suc-zero}
 use Rattle.std.proofs.lemmas.List.Elements.{filter_map-append}
 use Rattle.std.proofs.lemmas.List.Sums.{take_while-cons}
 use Rattle.kc_language.specs.Symbols.{TreeFacts}
-use Rattle.kc_language.specs.ConfigFile.{Places, Line, StreamLocation, UserInput, ReadResult, stream_location, is_within, assignments, effect, input_after, line_for, lines_after, places_after, untaken, untaken_line, warning, warnings, before_too_long, reading}
+use Rattle.kc_language.specs.ConfigFile.{Places, Line, StreamLocation, UserInput, ReadResult, stream_location, is_within, effect, input_after, lines_after, places_after, untaken, untaken_line, warning, warnings, reading}
+use Rattle.kc_config_file.specs.PartsOfConfigFile.{assignments, line_for, before_too_long}
 use Rattle.kc_config_file.specs.Reading.{with_warnings}
 use Rattle.kc_config_file.proofs.InTurnLemmas.{told-append, told-cons}
 use Rattle.kc_config_file.proofs.PlaceLemmas.{each_last, each_same, length-each_from, places_given-append, places_given-nothing}

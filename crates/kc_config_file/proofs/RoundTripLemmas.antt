@@ -15,11 +15,13 @@ use Rattle.std.proofs.lemmas.Slice.Eq.{bytes_eq-Decides}
 use Rattle.kc_language.specs.Expressions.{SymbolValue, Truth, TextValue, is_name_byte}
 use Rattle.kc_language.specs.declared.expressions.Tri.TheVariants.{N, M, Y}
 use Rattle.kc_language.specs.declared.expressions.SymbolType.TheVariants as symbol_type
-use Rattle.kc_language.specs.Texts.{config_file_line, is_end_byte, EndsPlainly}
+use Rattle.kc_language.specs.Texts.{config_file_line, EndsPlainly}
+use Rattle.kc_config_file.specs.PartsOfTexts.{is_end_byte}
 use Rattle.kc_language.specs.Text.{escape, preceded}
 use Rattle.kc_language.specs.Tokens.{is_blank}
 use Rattle.kc_text.proofs.Unescaping.{unescape_law}
-use Rattle.kc_language.specs.ConfigFile.{Set, Unset, meaning_of, trimmed, without_prefix, without_suffix, plain, unset_name, is_equals, split_at_equals, name_and_value, is_comment, until_quote, is_prefix}
+use Rattle.kc_language.specs.ConfigFile.{Set, Unset, meaning_of, without_prefix, without_suffix, unset_name, name_and_value, until_quote, is_prefix}
+use Rattle.kc_config_file.specs.PartsOfConfigFile.{trimmed, plain, is_equals, split_at_equals, is_comment}
 use Rattle.kc_config_file.specs.RoundTrip.{IsName, IsShortText, UnsetLineReadAgain, SetLineReadAgain, StringReadAgain}
 
 same_bytes : (bytes : List ℕ) → bytes_eq bytes bytes ≡ true

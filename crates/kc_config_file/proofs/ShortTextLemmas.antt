@@ -16,8 +16,10 @@ use Rattle.kc_language.specs.Symbols.{TreeFacts, Shown, SymbolShown, MenuShown, 
 use Rattle.kc_tree.specs.TreeFacts.{IsLineText, IsWellFormed, OfTitles}
 use Rattle.kc_language.specs.Values.{GivenValue, UserPlace, name_count, known_from, name as name_of}
 use Rattle.kc_config_file.specs.HasNames.{HasNames}
-use Rattle.kc_language.specs.Texts.{HasShortLines, title_line, valuation_view, config_file_line, config_heading, config_text, title_lines, end_line, end_if, gap, shown_title, symbol_config, end_is_last, entry_text, entries_text, minimal_if, minimal_text, SolutionView, is_shown}
-use Rattle.kc_language.specs.ConfigFile.{is_prefix, Line, line, is_within, lines_from}
+use Rattle.kc_language.specs.Texts.{HasShortLines, valuation_view, config_file_line, config_text, title_lines, shown_title, symbol_config, end_is_last, entry_text, minimal_text, SolutionView, is_shown}
+use Rattle.kc_config_file.specs.PartsOfTexts.{title_line, config_heading, end_line, end_if, gap, entries_text, minimal_if}
+use Rattle.kc_language.specs.ConfigFile.{is_prefix, Line, is_within, lines_from}
+use Rattle.kc_config_file.specs.PartsOfConfigFile.{line}
 use Rattle.kc_config_file.proofs.FilledLemmas.{contains_here, contains_later}
 use Rattle.kc_config_file.proofs.LineLemmas.{HasNoLf, lines_from-lf, lines_from-last, is_within-line}
 use Rattle.kc_config_file.proofs.MinimalTextLemmas.{there}

@@ -10,7 +10,8 @@ use Rattle.kc_tree.specs.TreeFacts.{IsWellFormed}
 use Rattle.kc_tree.specs.Contexts.{mode_view}
 use Rattle.kc_language.specs.declared.symbols.ChoiceId.{ChoiceId}
 use Rattle.kc_language.specs.Values.{GivenValue, is_yes, type_in}
-use Rattle.kc_language.specs.ConfigFile.{Places, set_effect, set_by_type, assigned_or, line_value, places_given, choice_of}
+use Rattle.kc_language.specs.ConfigFile.{Places, set_by_type, places_given}
+use Rattle.kc_config_file.specs.PartsOfConfigFile.{set_effect, assigned_or, line_value, choice_of}
 use Rattle.kc_config_file.specs.EffectView.{AssignsDefined}
 use Rattle.kc_config_file.specs.LineSteps.{with_member}
 use Rattle.kc_config_file.proofs.PlaceLemmas.{places_given-one}

@@ -15,7 +15,8 @@ use Rattle.kc_tree.specs.TreeFacts.{IsWellFormed}
 use Rattle.kc_language.specs.Values.{GivenValue, is_yes}
 use Rattle.kc_user.specs.Laws.{EmptyArePlaces, SettingKeepsPlaces, SelectingKeepsPlaces}
 use Rattle.kc_user.specs.Places.{ArePlaces, allowed, members_of}
-use Rattle.kc_language.specs.ConfigFile.{Places, meaning_of, Effect, Silent, Warns, Assigns, effect_of, Assignment, Line, ReadResult, Stream, StreamLocation, UserInput, no_input, assignment_of, assignments, choice_of, before_too_long, effect, is_within, last_line, line, lines_from, lines_of, lines_in_stream, places_given, reading, stream_location, text_of}
+use Rattle.kc_language.specs.ConfigFile.{Places, meaning_of, Effect, Silent, Warns, Assigns, effect_of, Assignment, Line, ReadResult, Stream, StreamLocation, UserInput, no_input, effect, is_within, lines_from, lines_of, lines_in_stream, places_given, reading, stream_location}
+use Rattle.kc_config_file.specs.PartsOfConfigFile.{assignment_of, assignments, choice_of, before_too_long, last_line, line, text_of}
 use Rattle.kc_config_file.specs.Calls.{Call, Feed, Finish, NextStream, Answers, AllAnswered, rest_of, more_of, lines_fed}
 use Rattle.kc_config_file.specs.Feeding.{StreamPosition, fed, ended, stream_start, ReadsPiece, EndsStream}
 use Rattle.kc_config_file.specs.LineSteps.{with_member}

@@ -23,8 +23,10 @@ use Rattle.kc_language.specs.Symbols.{TreeFacts, SymbolFacts}
 use Rattle.kc_tree.specs.TreeFacts.{IsWellFormed}
 use Rattle.kc_language.specs.Values.{GivenValue, GivenTruth, GivenText, given_of, name as name_of}
 use Rattle.kc_user.specs.Places.{allowed, allowed_by, allowed_for, fits_quoted}
-use Rattle.kc_language.specs.ConfigFile.{Set, Unset, meaning_of, effect_of, set_by_type, unset_by_type, assigned_or, symbol_named, line_value, number_value, is_prefix, Assignment, assignment_of}
-use Rattle.kc_language.specs.Texts.{is_end_byte, EndsPlainly, IsOneLine, config_file_line}
+use Rattle.kc_language.specs.ConfigFile.{Set, Unset, meaning_of, effect_of, set_by_type, unset_by_type, symbol_named, is_prefix, Assignment}
+use Rattle.kc_config_file.specs.PartsOfConfigFile.{assigned_or, line_value, number_value, assignment_of}
+use Rattle.kc_config_file.specs.PartsOfTexts.{is_end_byte}
+use Rattle.kc_language.specs.Texts.{EndsPlainly, IsOneLine, config_file_line}
 use Rattle.kc_config_file.specs.HasNames.{HasNames}
 use Rattle.kc_config_file.specs.RoundTrip.{IsShortText}
 use Rattle.kc_config_file.proofs.GivesLemmas.{Gives, gives_line}

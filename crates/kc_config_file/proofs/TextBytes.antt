@@ -8,8 +8,10 @@ use Rattle.std.proofs.lemmas.Bool.{ne_eqb, eqb-true, lt-ltb, ltb-true, and_parts
 use Rattle.std.proofs.lemmas.List.{length-append}
 use Rattle.std.proofs.lemmas.List.Elements.{All-append, All-cons, All-nil}
 use Rattle.std.proofs.lemmas.List.Sums.{AllPass-from_list_all}
-use Rattle.kc_language.specs.Text.{escape, natural_of, is_numeral, int_of, hex_of, has_hex_prefix, negated}
-use Rattle.kc_language.specs.Texts.{is_end_byte, EndsPlainly}
+use Rattle.kc_language.specs.Text.{escape, natural_of, int_of, hex_of, has_hex_prefix}
+use Rattle.kc_text.specs.PartsOfText.{is_numeral, negated}
+use Rattle.kc_config_file.specs.PartsOfTexts.{is_end_byte}
+use Rattle.kc_language.specs.Texts.{EndsPlainly}
 use Rattle.kc_config_file.proofs.LineLemmas.{HasNoLf}
 
 -- a byte that passes is none that does not

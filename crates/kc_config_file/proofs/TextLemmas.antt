@@ -14,7 +14,8 @@ use Rattle.kc_tree.specs.declared.layout.Tables.{Tables}
 use Rattle.kc_tree.specs.declared.rows.ShownEntry.{ShownEntry}
 use Rattle.kc_config_file.specs.Named.{HasName}
 use Rattle.kc_language.specs.Values.{name as name_of}
-use Rattle.kc_language.specs.Texts.{config_file_line, header_line, header_if, minimal_if, gap, entry_text, SolutionView}
+use Rattle.kc_language.specs.Texts.{config_file_line, header_line, entry_text, SolutionView}
+use Rattle.kc_config_file.specs.PartsOfTexts.{header_if, minimal_if, gap}
 use Rattle.kc_config_file.specs.EntryTexts.{ends_after, entries_after}
 
 -- a text grows by the next part of what is still to come

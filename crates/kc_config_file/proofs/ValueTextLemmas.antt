@@ -24,7 +24,7 @@ use Rattle.kc_tree.specs.TreeFacts.{HasLineTexts, IsLineForm, IsLineText}
 use Rattle.kc_user.specs.Places.{allowed_by, allowed_for, allowed_text, AllowedPlaces}
 use Rattle.kc_language.specs.declared.values.Interval.{Interval}
 use Rattle.kc_values.specs.Laws.{EquationsReadNeeds, NeedsAreSymbols}
-use Rattle.kc_language.specs.Values as sol
+use Rattle.kc_values.specs.PartsOfValues as sol
 use Rattle.kc_language.specs.Values as v
 use Rattle.kc_values.proofs.Selection.{found}
 use Rattle.kc_language.specs.Texts.{IsPlainNumber, HasPlainNumbers}

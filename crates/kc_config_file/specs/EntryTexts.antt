@@ -1,7 +1,8 @@
 -- For proofs: What entries give, one after another.
 use Rattle.std.specs.Prelude.{ℕ, ◌++◌, List, [], ◌∷◌, Bool, if◌then◌else◌}
 use Rattle.kc_language.specs.Symbols.{TreeFacts, Shown}
-use Rattle.kc_language.specs.Texts.{SolutionView, entry_text, has_lines, is_end}
+use Rattle.kc_language.specs.Texts.{SolutionView, entry_text, has_lines}
+use Rattle.kc_config_file.specs.PartsOfTexts.{is_end}
 
 -- whether the last line is an end line after an entry
 abbrev pub ends_after : TreeFacts → SolutionView → Bool → Shown → Bool

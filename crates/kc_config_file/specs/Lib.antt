@@ -5,9 +5,12 @@ pub mod EntryTexts
 pub mod Feeding
 pub mod HasNames
 pub mod InputView
+pub mod KnownValue
 pub mod LineByLine
 pub mod LineSteps
 pub mod Named
+pub mod PartsOfConfigFile
+pub mod PartsOfTexts
 pub mod Pending
 pub mod Prefixes
 pub mod ReaderCalls
@@ -19,7 +22,6 @@ pub mod RoundTrip
 pub mod ShownView
 pub mod Sink
 pub mod Streams
-pub mod KnownValue
 pub mod WholeLines
 pub mod Writing
 pub mod WrittenLaws

@@ -1,7 +1,8 @@
 -- For proofs: What the lines and pieces of a stream with a name, a tree and a prefix give.
 use Rattle.std.specs.Prelude.{ℕ, List, [], ◌∷◌, Bool}
 use Rattle.kc_config_file.specs.Feeding.{StreamPosition, Feeds}
-use Rattle.kc_language.specs.ConfigFile.{Line, UserInput, input_after, line, warning}
+use Rattle.kc_language.specs.ConfigFile.{Line, UserInput, input_after, warning}
+use Rattle.kc_config_file.specs.PartsOfConfigFile.{line}
 use Rattle.kc_config_file.specs.declared.step.NamedStream.{NamedStream}
 
 -- the line at a position, with a line feed behind it or at the end of the stream

@@ -6,7 +6,8 @@ use Rattle.kc_language.specs.Text.{one_more}
 use Rattle.kc_language.specs.Lines.{HoldsNoLineFeed, is_line_feed}
 use Rattle.kc_language.specs.Symbols.{TreeFacts, Warning}
 use Rattle.kc_language.specs.Values.{GivenValue}
-use Rattle.kc_language.specs.ConfigFile.{ArePlacesOf, Places, Silent, Warns, Assigns, Line, UserInput, effect, input_after, is_within, last_line, line, lines_from, places_after, reading, stream_location, untaken, untaken_line, warning, warnings}
+use Rattle.kc_language.specs.ConfigFile.{ArePlacesOf, Places, Silent, Warns, Assigns, Line, UserInput, effect, input_after, is_within, lines_from, places_after, reading, stream_location, untaken, untaken_line, warning, warnings}
+use Rattle.kc_config_file.specs.PartsOfConfigFile.{last_line, line}
 use Rattle.kc_config_file.specs.Reading.{with_warnings}
 
 -- The lines of a stream's bytes: a line feed ends a line, and the next line follows; bytes without one are the last line,

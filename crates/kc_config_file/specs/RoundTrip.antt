@@ -5,7 +5,8 @@ use Rattle.kc_language.specs.Values.{GivenText}
 use Rattle.kc_language.specs.Expressions.{is_name_byte, SymbolValue, Truth, TextValue}
 use Rattle.kc_language.specs.declared.expressions.SymbolType.TheVariants as symbol_type
 use Rattle.kc_language.specs.Texts.{config_file_line, EndsPlainly}
-use Rattle.kc_language.specs.ConfigFile.{Set, Unset, ended_meaning, line_value, is_prefix}
+use Rattle.kc_language.specs.ConfigFile.{Set, Unset, is_prefix}
+use Rattle.kc_config_file.specs.PartsOfConfigFile.{ended_meaning, line_value}
 
 -- one byte or more, each of which may stand in a name
 pub record IsName (name : List ℕ) : Type 0 where

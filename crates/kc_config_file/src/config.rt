@@ -3,7 +3,8 @@ ghost use Rattle.std.specs.Prelude.{◌≡◌, ◌++◌, ◌<◌, length, slice_
 ghost use Rattle.std.specs.Option.{option_copied};
 ghost use Rattle.kc_language.specs.Symbols.{SymbolShown};
 ghost use Rattle.kc_tree.specs.Layouts.{shown_of, title_at, title_text};
-ghost use Rattle.kc_language.specs.Texts.{ConfigGivesBack, HasShortLines, solution_view, title_if, end_if, gap, shown_title, entry_text, entries_text, config_heading, config_text, is_shown, value_of};
+ghost use Rattle.kc_language.specs.Texts.{ConfigGivesBack, HasShortLines, solution_view, shown_title, entry_text, config_text, is_shown, value_of};
+ghost use Rattle.kc_config_file.specs.PartsOfTexts.{title_if, end_if, gap, entries_text, config_heading};
 ghost use Rattle.kc_config_file.specs.EntryTexts.{ends_after};
 ghost use Rattle.kc_config_file.specs.Named.{HasName};
 ghost use Rattle.kc_config_file.specs.Writing.{Writes};

@@ -3,6 +3,7 @@ ghost use Rattle.std.specs.Prelude.{◌≡◌, ◌++◌, IfOk, OnOk, OnErr, Some
 ghost use Rattle.kc_diagnostics.specs.Warnings.{shown_warning};
 ghost use Rattle.kc_config_file.specs.ConfigFileLine.{meaning_view};
 ghost use Rattle.kc_language.specs.ConfigFile as spec;
+ghost use Rattle.kc_config_file.specs.PartsOfConfigFile as spec_parts;
 ghost use Rattle.kc_config_file.specs.EffectView.{AssignsDefined, effect_view};
 
 use crate::line::ConfigFileLine;
@@ -41,7 +42,7 @@ pub fn line_effect<'a>(
 
 // The type of a symbol; a name that is not defined has none.
 pub(crate) fn type_of(tree: &Tree, id: SymId) -> SymbolType
-    ensures { result ≡ spec.type_of tree.now id }
+    ensures { result ≡ spec_parts.type_of tree.now id }
 {
     match tree.facts(id) {
         Some(symbol) => symbol.symbol_type,
@@ -50,7 +51,7 @@ pub(crate) fn type_of(tree: &Tree, id: SymId) -> SymbolType
 }
 
 fn unset_effect<'a>(tree: &Tree, name: &'a [u8]) -> Effect<'a>
-    ensures { effect_view result ≡ spec.unset_effect tree.now name.now (spec.symbol_named tree.now name.now) }
+    ensures { effect_view result ≡ spec_parts.unset_effect tree.now name.now (spec.symbol_named tree.now name.now) }
 {
     match tree.find(name) {
         None => Effect::Warns(Warning::UnknownSymbol(name)),
@@ -68,7 +69,7 @@ fn set_effect<'a>(
     name: &'a [u8],
     text: &[u8],
 ) -> Result<Effect<'a>, AllocError>
-    ensures { IfOk result (λ effect. effect_view effect ≡ spec.set_effect tree.now name.now text.now (spec.symbol_named tree.now name.now)) }
+    ensures { IfOk result (λ effect. effect_view effect ≡ spec_parts.set_effect tree.now name.now text.now (spec.symbol_named tree.now name.now)) }
 {
     match tree.find(name) {
         None => Ok(Effect::Warns(Warning::UnknownSymbol(name))),

@@ -1,6 +1,7 @@
 //! The writers of the header and of the minimal file.
 ghost use Rattle.std.specs.Prelude.{◌≡◌, ◌<◌, ◌++◌, length, OnOk, OnErr, IfOk, flat_map};
-ghost use Rattle.kc_language.specs.Texts.{HasShortLines, MinimalGivesBack, MinimalNeedsEach, header_heading, header_text, minimal_text, header_if, minimal_if, solution_view, value_of};
+ghost use Rattle.kc_language.specs.Texts.{HasShortLines, MinimalGivesBack, MinimalNeedsEach, header_text, minimal_text, solution_view, value_of};
+ghost use Rattle.kc_config_file.specs.PartsOfTexts.{header_heading, header_if, minimal_if};
 ghost use Rattle.kc_config_file.specs.Writing.{Writes};
 ghost use Rattle.kc_user.specs.Places.{ArePlaces};
 ghost use Rattle.kc_language.specs.Values.{name_count};

@@ -4,6 +4,7 @@ ghost use Rattle.std.specs.Option.{option_copied};
 ghost use Rattle.std.specs.List.{list_any};
 ghost use Rattle.kc_language.specs.Tokens.{is_blank};
 ghost use Rattle.kc_language.specs.ConfigFile as spec;
+ghost use Rattle.kc_config_file.specs.PartsOfConfigFile as spec_parts;
 ghost use Rattle.kc_config_file.specs.ConfigFileLine as spec_of_configfileline;
 
 use bstr::ByteSlice;
@@ -48,7 +49,7 @@ pub fn parse_config_file_line<'a>(prefix: &[u8], bytes: &'a [u8]) -> ConfigFileL
 // The line without the blanks at its end.
 #[tactic(auto, using(crate::proofs::BlankLemmas::trimmed_to))]
 fn trimmed(bytes: &[u8]) -> &[u8]
-    ensures { result.now ≡ spec.trimmed bytes.now }
+    ensures { result.now ≡ spec_parts.trimmed bytes.now }
 {
     let mut end = bytes.len();
     while end > 0 && is_blank(bytes[end - 1]) {
@@ -66,7 +67,7 @@ fn has_blank(text: &[u8]) -> bool
 
 // Whether the text has a byte, and no blank.
 fn is_plain(name: &[u8]) -> bool
-    ensures { result ≡ spec.is_plain name.now }
+    ensures { result ≡ spec_parts.is_plain name.now }
 {
     !name.is_empty() && !has_blank(name)
 }
@@ -91,7 +92,7 @@ fn first_nonblank(text: &[u8]) -> Option<u8>
 
 // Whether the first byte that is no blank is `#`.
 fn is_comment(text: &[u8]) -> bool
-    ensures { result ≡ spec.is_comment text.now }
+    ensures { result ≡ spec_parts.is_comment text.now }
 {
     match first_nonblank(text) {
         Some(first) => first == b'#',
@@ -108,7 +109,7 @@ fn name_and_value<'a>(prefix: &[u8], text: &'a [u8]) -> Option<(&'a [u8], &'a [u
 
 // The bytes up to the first `=` and those after it.
 fn split_at_equals(text: &[u8]) -> Option<(&[u8], &[u8])>
-    ensures { option_map (λ parts. (parts.0.now, parts.1.now)) result ≡ spec.split_at_equals text.now }
+    ensures { option_map (λ parts. (parts.0.now, parts.1.now)) result ≡ spec_parts.split_at_equals text.now }
 {
     match text.find_byte(b'=') {
         None => None,

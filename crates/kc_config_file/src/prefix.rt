@@ -1,6 +1,7 @@
 //! What stands before the name of a symbol in the files that are read and written.
 ghost use Rattle.std.specs.Prelude.{◌≡◌, ◌<◌, length, true, IfOk, OnErr};
 ghost use Rattle.kc_language.specs.ConfigFile as spec;
+ghost use Rattle.kc_config_file.specs.PartsOfConfigFile as spec_parts;
 ghost use Rattle.kc_config_file.specs.Prefixes as spec_of_prefixes;
 
 use kc_expr::names::are_name_bytes;
@@ -56,7 +57,7 @@ impl Prefix {
 
 // Whether the first byte is a digit.
 fn begins_with_digit(text: &[u8]) -> bool
-    ensures { result ≡ spec.begins_with_digit text.now }
+    ensures { result ≡ spec_parts.begins_with_digit text.now }
 {
     match text {
         [first, ..] => first.is_ascii_digit(),

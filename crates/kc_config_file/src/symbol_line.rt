@@ -1,7 +1,8 @@
 //! A symbol's value, and the line that tells it.
 ghost use Rattle.std.specs.Prelude.{◌≡◌, ◌<◌, ◌++◌, length, OnOk, OnErr, codes, flat_map};
 ghost use Rattle.kc_language.specs.Text.{escape};
-ghost use Rattle.kc_language.specs.Texts.{solution_view, config_file_line, header_line, hex_text};
+ghost use Rattle.kc_language.specs.Texts.{solution_view, config_file_line, header_line};
+ghost use Rattle.kc_config_file.specs.PartsOfTexts.{hex_text};
 ghost use Rattle.kc_config_file.specs.KnownValue.{value_view};
 
 use crate::prefix::Prefix;

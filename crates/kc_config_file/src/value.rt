@@ -3,6 +3,7 @@ ghost use Rattle.std.specs.Prelude.{◌≡◌, slice_index, IfOk, option_map};
 ghost use Rattle.kc_language.specs.Values.{GivenTruth};
 ghost use Rattle.kc_user.specs.ValueView.{given_of_value};
 ghost use Rattle.kc_language.specs.ConfigFile as spec;
+ghost use Rattle.kc_config_file.specs.PartsOfConfigFile as spec_parts;
 
 use kc_expr::expression::{SymbolType, Tri};
 use kc_text::{read_hex, read_int, unescape_into};
@@ -18,7 +19,7 @@ pub fn line_value(
     symbol_type: SymbolType,
     text: &[u8],
 ) -> Result<Option<UserValue>, AllocError>
-    ensures { IfOk result (λ found. option_map given_of_value found ≡ spec.line_value symbol_type text.now) }
+    ensures { IfOk result (λ found. option_map given_of_value found ≡ spec_parts.line_value symbol_type text.now) }
 {
     if text.len() > LONGEST_VALUE {
         return Ok(None);
@@ -54,7 +55,7 @@ fn yes_or_no(byte: u8) -> Option<Tri>
 }
 
 fn yes_m_or_no(byte: u8) -> Option<Tri>
-    ensures { result ≡ spec.yes_m_or_no byte }
+    ensures { result ≡ spec_parts.yes_m_or_no byte }
 {
     if byte == b'm' {
         return Some(Tri::M);
@@ -77,7 +78,7 @@ fn number_value(
     text: &[u8],
     is_number: bool,
 ) -> Result<Option<UserValue>, AllocError>
-    ensures { IfOk result (λ found. option_map given_of_value found ≡ spec.number_value text.now is_number) }
+    ensures { IfOk result (λ found. option_map given_of_value found ≡ spec_parts.number_value text.now is_number) }
 {
     if !is_number {
         return Ok(None);
@@ -87,7 +88,7 @@ fn number_value(
 
 // The text of a string.
 fn string_value(alloc: Global, text: &[u8]) -> Result<Option<UserValue>, AllocError>
-    ensures { IfOk result (λ found. option_map given_of_value found ≡ spec.string_value text.now) }
+    ensures { IfOk result (λ found. option_map given_of_value found ≡ spec_parts.string_value text.now) }
 {
     match quoted(text) {
         Some(raw) => {
@@ -101,7 +102,7 @@ fn string_value(alloc: Global, text: &[u8]) -> Result<Option<UserValue>, AllocEr
 
 // What stands between the `"` that the text begins with and the one that closes it.
 fn quoted(text: &[u8]) -> Option<&[u8]>
-    ensures { option_map (λ raw. raw.now) result ≡ spec.quoted text.now }
+    ensures { option_map (λ raw. raw.now) result ≡ spec_parts.quoted text.now }
 {
     match text {
         [b'"', body @ ..] => until_quote(body),

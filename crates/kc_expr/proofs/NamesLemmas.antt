@@ -12,7 +12,8 @@ use Rattle.kc_expr.specs.declared.name.Name.{Name}
 use Rattle.std.specs.declared.hash.FoldHasher.{FoldHasher}
 use Rattle.std.specs.declared.hash.BuildHasherDefault.{BuildHasherDefault}
 use Rattle.indexmap.specs.IndexSet.{IndexSet}
-use Rattle.kc_language.specs.Expressions.{Terminal, Close, names_in_terminal, names_in_terminals, symbol, same_name, number_of, mention, all_mentioned}
+use Rattle.kc_language.specs.Expressions.{Terminal, Close, symbol, same_name, number_of, mention, all_mentioned}
+use Rattle.kc_expr.specs.PartsOfExpressions.{names_in_terminal, names_in_terminals}
 use Rattle.kc_expr.specs.Names.{Extends, IsNumber, AreDistinct}
 use Rattle.kc_language.specs.declared.expressions.SymId.{SymId}
 

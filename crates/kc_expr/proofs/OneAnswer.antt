@@ -7,7 +7,8 @@ use Rattle.kc_language.specs.declared.expressions.Connective.{Connective}
 use Rattle.kc_language.specs.declared.expressions.Connective.TheVariants.{And, Or}
 use Rattle.kc_expr.specs.declared.parse.ExprFault.{ExprFault}
 use Rattle.kc_expr.specs.declared.parse.ExprFault.TheVariants.{Syntax, TooDeep, Memory}
-use Rattle.kc_language.specs.Expressions.{Atom, Terminal, OperandToken, Compares, Bang, Joins, Open, Close, Keyword, Chain, Part, Disjunction, only, negation, conjunction, bang, group, lone, compare, spell, spell_part, spell_not, spell_or, levels, levels_part, levels_not, LongestFront, IsNoExpression, IsTooDeep}
+use Rattle.kc_language.specs.Expressions.{Atom, Terminal, OperandToken, Compares, Bang, Joins, Open, Close, Keyword, Chain, Part, Disjunction, only, negation, conjunction, bang, group, lone, compare, spell, spell_part, spell_not, levels, levels_part, levels_not, LongestFront, IsNoExpression, IsTooDeep}
+use Rattle.kc_expr.specs.PartsOfExpressions.{spell_or}
 use Rattle.kc_expr.specs.Scan.{lone_in}
 use Rattle.kc_expr.specs.Parsing.{Answer, Derived, NoExpression, TooManyLevels, Answers, OneAnswer}
 use Rattle.kc_expr.specs.Reading.{starts_compares, starts_joins, starts_close, starts_operand, starts_bang, starts_open, same_connective, NoneWithin, StopsNot, StopsPart, StopsChain, FailsNot, FailsPart, FailsChain}

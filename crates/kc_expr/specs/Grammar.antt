@@ -6,7 +6,8 @@
 --     rel  = operand [ ( "=" | "!=" | "<" | ">" | "<=" | ">=" ) operand ]
 --     operand = a word other than if | a quoted text
 use Rattle.std.specs.Prelude.{◌≡◌, ℕ, List, map, drop}
-use Rattle.kc_language.specs.Expressions.{Terminal, terminal_of, Disjunction, spell_or, LongestFront}
+use Rattle.kc_language.specs.Expressions.{Terminal, terminal_of, Disjunction, LongestFront}
+use Rattle.kc_expr.specs.PartsOfExpressions.{spell_or}
 use Rattle.kc_text.specs.Lexemes.{lexeme}
 use Rattle.kc_text.specs.declared.tokens.Token.{Token}
 

@@ -3,7 +3,8 @@ use Rattle.std.specs.Prelude.{◌≡◌, ℕ, ◌≤◌, List, ◌∷◌, ◌++�
 use Rattle.kc_expr.specs.Names.{Extends}
 use Rattle.kc_expr.specs.declared.parse.ExprFault.{ExprFault}
 use Rattle.kc_expr.specs.declared.parse.ExprFault.TheVariants.{Syntax, TooDeep, Memory}
-use Rattle.kc_language.specs.Expressions.{Form, number_of, all_mentioned, Atom, Terminal, OperandToken, Disjunction, spell_or, levels_or, meaning_or, names_in, LongestFront, IsNoExpression, IsTooDeep}
+use Rattle.kc_language.specs.Expressions.{Form, number_of, all_mentioned, Atom, Terminal, OperandToken, Disjunction, names_in, LongestFront, IsNoExpression, IsTooDeep}
+use Rattle.kc_expr.specs.PartsOfExpressions.{spell_or, levels_or, meaning_or}
 use Rattle.kc_language.specs.Text.{most_levels}
 
 -- what parsing answers: the one expression of the longest front that begins some expression

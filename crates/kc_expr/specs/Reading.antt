@@ -7,7 +7,8 @@ use Rattle.kc_language.specs.declared.tokens.Op.TheVariants as op
 use Rattle.kc_expr.specs.declared.expression.Operand.{Operand}
 use Rattle.kc_text.specs.declared.tokens.Token.{Token}
 use Rattle.kc_text.specs.Lexemes.{lexeme}
-use Rattle.kc_language.specs.Expressions.{Form, Leaf, number_of, all_mentioned, Terminal, OperandToken, Compares, Bang, Joins, Open, Close, Keyword, Chain, Part, Negation, spell, spell_part, spell_not, levels, levels_part, levels_not, meaning, meaning_part, meaning_not, terminal_of, Atom, leaf, op_terminal, names_in_atom, names_in_terminals}
+use Rattle.kc_language.specs.Expressions.{Form, Leaf, number_of, all_mentioned, Terminal, OperandToken, Compares, Bang, Joins, Open, Close, Keyword, Chain, Part, Negation, spell, spell_part, spell_not, levels, levels_part, levels_not, meaning, meaning_part, meaning_not, terminal_of, Atom, leaf, names_in_atom}
+use Rattle.kc_expr.specs.PartsOfExpressions.{op_terminal, names_in_terminals}
 use Rattle.kc_expr.specs.Form.{leaf_of}
 use Rattle.kc_expr.specs.Names.{Extends}
 use Rattle.kc_language.specs.declared.expressions.Connective.{Connective}

@@ -1,7 +1,7 @@
 //! Symbols in an order of their own.
 
 ghost use Rattle.std.specs.Prelude.{◌≡◌, ◌<◌, ◌∷◌, ◌++◌, ℕ, [], false, length, OnOk, OnErr};
-ghost use Rattle.kc_language.specs.Symbols.{added, stands_in};
+ghost use Rattle.kc_expr.specs.PartsOfSymbols.{added, stands_in};
 ghost use Rattle.kc_expr.specs.DistinctSymbols.{is_marked};
 
 use crate::expression::SymId;

@@ -9,7 +9,8 @@ use Rattle.std.specs.declared.alloc.Global.{Global}
 use Rattle.kc_load.specs.Faults.{IsLoadFault, IsNext}
 use Rattle.kc_load.specs.Folders.{FolderFiles, AnswersAs}
 use Rattle.kc_language.specs.Outcome.{path_of, AreSourcesOf, AskedAlong, ended, asked}
-use Rattle.kc_language.specs.Text.{most_lines, last_count}
+use Rattle.kc_language.specs.Text.{most_lines}
+use Rattle.kc_text.specs.PartsOfText.{last_count}
 use Rattle.kc_language.specs.Expansion.{lines_of}
 use Rattle.kc_load.specs.Loaded.{Answer, AreAsked, Loads, files_found}
 use Rattle.kc_load.specs.Steps.{FailsAt, IsDue, State, Visits, no_text, not_new, no_file, file, initial_state, was_requested}

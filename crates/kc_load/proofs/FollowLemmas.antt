@@ -21,7 +21,8 @@ use Rattle.kc_read.proofs.SourceLines as lines
 use Rattle.kc_read.proofs.SourceWord.{source_begins, begins_source}
 use Rattle.kc_load.specs.Expanding.{named}
 use Rattle.kc_language.specs.Outcome.{path_of, AreSources}
-use Rattle.kc_language.specs.Text.{most_lines, last_count}
+use Rattle.kc_language.specs.Text.{most_lines}
+use Rattle.kc_text.specs.PartsOfText.{last_count}
 use Rattle.kc_load.specs.Steps.{was_requested}
 use Rattle.kc_load.proofs.RequestedLemmas.{requested_cases, requested_itself, requested_still, only_element}
 use Rattle.kc_load.proofs.Walks.{IsMetIn, Walks, stopped, passed, missing, taken, all_passed, first_is_met, first_or_later, grows, meets, no_name, split}

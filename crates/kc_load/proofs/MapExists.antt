@@ -4,7 +4,8 @@ use Rattle.std.proofs.lemmas.Bool.{both_ways}
 use Rattle.std.proofs.lemmas.Str.{IsUtf8-from_is_utf8, is_utf8-from_IsUtf8}
 use Rattle.std.specs.Str.{is_utf8}
 use Rattle.kc_language.specs.Lines.{unread_lines}
-use Rattle.kc_language.specs.Text.{last_count, most_lines}
+use Rattle.kc_text.specs.PartsOfText.{last_count}
+use Rattle.kc_language.specs.Text.{most_lines}
 use Rattle.kc_language.specs.Expressions.{same_name, mention}
 use Rattle.kc_read.proofs.OpenedFileLemmas.{has_one_list_of_names}
 use Rattle.kc_language.specs.Expansion.{lines_of, Files}

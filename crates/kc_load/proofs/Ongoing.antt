@@ -1,6 +1,6 @@
 -- What holds while files are loaded.
 use Rattle.std.proofs.Common.{◌≡◌, ℕ, List, ◌++◌, reverse, min, true, All, IsUtf8}
-use Rattle.kc_language.specs.Text.{last_count}
+use Rattle.kc_text.specs.PartsOfText.{last_count}
 use Rattle.kc_language.specs.Expansion.{Files}
 use Rattle.kc_load.specs.Folders.{FolderFiles, AnswersAs}
 use Rattle.kc_language.specs.Outcome.{path_of, AskedAlong, AskedInOrder}

@@ -3,7 +3,8 @@ use Rattle.std.proofs.Common.{◌≡◌, ℕ, ◌+◌, ◌≤◌, suc, Bool, tru
 use Rattle.std.proofs.lemmas.List.{reverse-append, reverse-reverse, take_at, take-append-le}
 use Rattle.std.proofs.lemmas.List.Elements.{All-push, Contains-append_left, Contains-push}
 use Rattle.kc_language.specs.Expressions.{same_name, mention}
-use Rattle.kc_language.specs.Text.{last_count, most_lines}
+use Rattle.kc_text.specs.PartsOfText.{last_count}
+use Rattle.kc_language.specs.Text.{most_lines}
 use Rattle.kc_read.proofs.FileLemmas.{same_name_eq}
 use Rattle.kc_language.specs.Expansion.{Files}
 use Rattle.kc_load.specs.Folders.{FolderFiles, AnswersAs}

@@ -2,7 +2,7 @@
 use Rattle.std.specs.Prelude.{◌≡◌, ◌+◌, ℕ, List, [], ◌∷◌, ◌++◌, map, reverse, min, Bool, true, false, None, Some}
 use Rattle.std.specs.List.{list_any}
 use Rattle.std.specs.Str.{IsUtf8}
-use Rattle.kc_language.specs.Text.{last_count}
+use Rattle.kc_text.specs.PartsOfText.{last_count}
 use Rattle.kc_language.specs.Expressions.{same_name, mention}
 use Rattle.kc_language.specs.Expansion.{Files, bytes_in, lines_of}
 use Rattle.kc_read.specs.Files.{Puts}

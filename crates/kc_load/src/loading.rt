@@ -7,7 +7,8 @@ ghost use Rattle.kc_language.specs.Outcome.{path_of};
 ghost use Rattle.kc_load.specs.Faults.{IsLoadFault, failed_load};
 ghost use Rattle.kc_load.specs.Loaded.{Loads};
 ghost use Rattle.kc_language.specs.Expansion.{bytes_in, lines_of};
-ghost use Rattle.kc_language.specs.Text.{most_lines, last_count};
+ghost use Rattle.kc_language.specs.Text.{most_lines};
+ghost use Rattle.kc_text.specs.PartsOfText.{last_count};
 ghost use Rattle.kc_load.specs.Steps.{FailsAt, PushesSources, AddsFile, Visits, initial_state, state_of, was_requested};
 
 use crate::fault::LoadFault;

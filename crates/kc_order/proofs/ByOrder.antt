@@ -7,7 +7,8 @@ use Rattle.std.proofs.lemmas.List.Elements.{Contains-get_or}
 use Rattle.std.proofs.lemmas.List.Folds.{list_any_none, Any-from_list_any}
 use Rattle.std.proofs.lemmas.Map.Keys.{apart_from_distinct}
 use Rattle.std.proofs.lemmas.Map.Steps.{length-le_from_distinct_below}
-use Rattle.kc_language.specs.Needs.{unordered_after, NothingUnordered}
+use Rattle.kc_language.specs.Needs.{unordered_after}
+use Rattle.kc_order.specs.PartsOfNeeds.{NothingUnordered}
 use Rattle.kc_order.specs.Order.{IsOrderOf}
 use Rattle.kc_language.specs.Values.{Solves}
 use Rattle.kc_order.specs.Solution.{ReadsNeeds, IsUpdate}

@@ -5,7 +5,8 @@ use Rattle.std.proofs.lemmas.Bool.{cases_Bool, cases_lt, eqb-true}
 use Rattle.std.proofs.lemmas.List.{get_or_default, length_push}
 use Rattle.std.proofs.lemmas.List.Folds.{Any-from_list_any}
 use Rattle.kc_order.specs.Needs.{AreWithin, SomeUnordered}
-use Rattle.kc_language.specs.Needs.{NothingUnordered, needs_in, unordered_after, IsNamedLoop}
+use Rattle.kc_order.specs.PartsOfNeeds.{NothingUnordered}
+use Rattle.kc_language.specs.Needs.{needs_in, unordered_after, IsNamedLoop}
 use Rattle.kc_order.specs.Loop.{HoldsNeeding}
 use Rattle.kc_order.proofs.FirstLemmas.{finds, found}
 use Rattle.kc_order.proofs.Held.{has_row}

@@ -2,7 +2,7 @@
 use Rattle.std.proofs.Common.{ℕ, Bool, Option, None, sym, ◌∙◌, ap, inl, inr, List, cond}
 use Rattle.std.proofs.lemmas.Bool.{cases_Bool}
 use Rattle.kc_order.specs.Needs.{NeedsBelow}
-use Rattle.kc_language.specs.Needs.{NothingUnordered}
+use Rattle.kc_order.specs.PartsOfNeeds.{NothingUnordered}
 use Rattle.kc_language.specs.Values.{Solves}
 use Rattle.kc_order.specs.Solution.{ReadsNeeds}
 use Rattle.kc_order.specs.Minimal.{equations, kept, Restores, NothingCanGo, KeepsWhatDiffers}

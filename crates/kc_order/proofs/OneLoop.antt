@@ -7,7 +7,8 @@ use Rattle.std.proofs.lemmas.Grind.{same_number_lists}
 use Rattle.std.proofs.Math.Seq.{drop-append_seam}
 use Rattle.std.proofs.lemmas.Map.Keys.{apart_from_distinct}
 use Rattle.std.specs.List.{IsDistinct}
-use Rattle.kc_language.specs.Needs.{IsNext, IsUnorderedWalk, IsNamedLoop}
+use Rattle.kc_order.specs.PartsOfNeeds.{IsNext}
+use Rattle.kc_language.specs.Needs.{IsUnorderedWalk, IsNamedLoop}
 
 -- two walks go the same way as far as both go
 same_steps : (sequence : List ℕ) (n : ℕ) (needs : ℕ → List ℕ) (walk other : List ℕ) →

@@ -2,7 +2,8 @@
 use Rattle.std.proofs.Common.{◌≡◌, ℕ, ◌<◌, false, List, zero, suc, sym}
 use Rattle.std.proofs.lemmas.Bool.{true≢false}
 use Rattle.kc_order.specs.Needs.{NeedsBelow}
-use Rattle.kc_language.specs.Needs.{unordered_after, NothingUnordered}
+use Rattle.kc_language.specs.Needs.{unordered_after}
+use Rattle.kc_order.specs.PartsOfNeeds.{NothingUnordered}
 use Rattle.kc_language.specs.Values.{Solves}
 use Rattle.kc_order.specs.Solution.{ReadsNeeds, HasOneSolution}
 use Rattle.kc_order.proofs.Unique.{only, fails_each}

@@ -4,7 +4,8 @@ use Rattle.std.specs.List.{Contains}
 use Rattle.std.proofs.lemmas.Bool.{cases_lt}
 use Rattle.std.proofs.lemmas.List.{get_or_default, get_or_append_left, get_or-append-add, length-append, length-take-le}
 use Rattle.std.proofs.lemmas.List.Elements.{Contains-get_or}
-use Rattle.kc_language.specs.Needs.{needs_in, unordered_after, IsNamedLoop, IsNext}
+use Rattle.kc_language.specs.Needs.{needs_in, unordered_after, IsNamedLoop}
+use Rattle.kc_order.specs.PartsOfNeeds.{IsNext}
 use Rattle.kc_order.specs.Needs.{SomeUnordered}
 use Rattle.kc_order.specs.Loop.{IsPath}
 use Rattle.kc_order.proofs.FirstLemmas.{found}

@@ -4,7 +4,8 @@ use Rattle.std.specs.List.{Contains, list_any}
 use Rattle.std.proofs.lemmas.Bool.{true≢false, cases_Bool, both_ways}
 use Rattle.std.proofs.lemmas.List.Folds.{list_any_at}
 use Rattle.kc_order.specs.Needs.{NeedsBelow}
-use Rattle.kc_language.specs.Needs.{unordered_after, NothingUnordered}
+use Rattle.kc_language.specs.Needs.{unordered_after}
+use Rattle.kc_order.specs.PartsOfNeeds.{NothingUnordered}
 use Rattle.kc_language.specs.Values.{Solves, IsOnlySolution}
 use Rattle.kc_order.specs.Solution.{ReadsNeeds}
 

@@ -13,7 +13,8 @@ use Rattle.std.specs.List.{Contains, list_any, IsDistinct}
 use Rattle.std.proofs.lemmas.Bool.{and_from, and_parts, eqb-false, cases_eq, ne_eqb, eqb-true, cases_lt}
 use Rattle.std.proofs.lemmas.List.Elements.{Contains-get_or, All-push, Contains-push}
 use Rattle.kc_order.specs.Needs.{NeedsBelow}
-use Rattle.kc_language.specs.Needs.{unordered_after, IsFirstUnordered, IsNext, IsUnorderedWalk, IsNamedLoop}
+use Rattle.kc_language.specs.Needs.{unordered_after, IsUnorderedWalk, IsNamedLoop}
+use Rattle.kc_order.specs.PartsOfNeeds.{IsFirstUnordered, IsNext}
 use Rattle.kc_order.specs.Rows.{AreFlags}
 use Rattle.kc_order.proofs.FirstLemmas.{finds, found}
 use Rattle.kc_order.proofs.Stays.{needs_unordered}

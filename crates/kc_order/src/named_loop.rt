@@ -4,7 +4,8 @@ ghost use Rattle.std.specs.Prelude.{◌≡◌, ◌<◌, ◌≢◌, length, slice
 ghost use Rattle.kc_order.specs.FirstUnordered.{lesser_of, ArePlaces, AreFirsts, TellsUnordered};
 ghost use Rattle.kc_order.specs.Graph.{IsGraph, needs_of};
 ghost use Rattle.kc_order.specs.Loop.{HoldsNeeding};
-ghost use Rattle.kc_language.specs.Needs.{IsFirstUnordered, IsNext, IsNamedLoop, needs_in, unordered_after};
+ghost use Rattle.kc_order.specs.PartsOfNeeds.{IsFirstUnordered, IsNext};
+ghost use Rattle.kc_language.specs.Needs.{IsNamedLoop, needs_in, unordered_after};
 
 use crate::rows::Rows;
 use crate::search::{NodeState, is_unordered};

@@ -3,7 +3,7 @@ use Rattle.std.proofs.Common.{◌≡◌, ◌∙◌, sym, ap, refl, ℕ, Bool, tr
 use Rattle.std.specs.Option.{option_or}
 use Rattle.kc_language.specs.Expressions.{same_name}
 use Rattle.kc_language.specs.declared.statements.Keyword.{Keyword}
-use Rattle.kc_language.specs.Statements.{keyword_in}
+use Rattle.kc_read.specs.PartsOfStatements.{keyword_in}
 
 pass : (b : Bool) (k : Keyword) (o p : Option Keyword) → cond b (Some k) (option_or o p) ≡ option_or (cond b (Some k) o) p
 pass true k o p = refl

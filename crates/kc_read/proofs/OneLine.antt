@@ -4,12 +4,14 @@ use Rattle.std.proofs.Common.{◌≡◌, ◌⊎◌, inl, inr, ℕ, zero, suc, Bo
 use Rattle.std.proofs.lemmas.List.{length-map}
 use Rattle.kc_language.specs.Tokens.{Lexeme}
 use Rattle.kc_language.specs.declared.expressions.SymbolType.{SymbolType}
-use Rattle.kc_language.specs.Expressions.{Disjunction, spell_or, terminals, terminal_of, if_word}
+use Rattle.kc_language.specs.Expressions.{Disjunction, terminals, terminal_of, if_word}
+use Rattle.kc_expr.specs.PartsOfExpressions.{spell_or}
 use Rattle.kc_expr.proofs.OneTree.{unambiguous}
 use Rattle.kc_expr.proofs.LongestLemmas.{one_longest, is_expression, not_too_deep, determined}
 use Rattle.kc_language.specs.declared.statements.Keyword.{Keyword}
 use Rattle.kc_language.specs.declared.statements.Keyword.TheVariants as key
-use Rattle.kc_language.specs.Statements.{Named, InputPrompt, IfLine, EndIfLine, CommentLine, SourceLine, MenuLine, EndMenuLine, EndChoiceLine, MainMenuLine, TypeLine, PromptLine, DefaultLine, DefLine, DependsLine, VisibleLine, SelectLine, ImplyLine, RangeLine, HelpLine, ModulesLine, Cause, LineContext, Front, front, StartsExpression, ExpressionFault, IsMore, IsWhole, WholeFault, ReadsWhole, IsCondition, ConditionFault, ReadsCondition, After, finish, text_of, word_of, named_target, operand_of, plain_text, good_name, choice_line, option_line, expected, keyword_of, keyword_or_refusal, in_place, placement_cause, ReadsTextLine, ReadsSource, ReadsConfig, ReadsPrompt, ReadsType, ReadsValue, ReadsTarget, ReadsRange, ReadsRest, ReadsPlaced, ReadsLine, begins_with}
+use Rattle.kc_language.specs.Statements.{Named, InputPrompt, IfLine, EndIfLine, CommentLine, SourceLine, MenuLine, EndMenuLine, EndChoiceLine, MainMenuLine, TypeLine, PromptLine, DefaultLine, DefLine, DependsLine, VisibleLine, SelectLine, ImplyLine, RangeLine, HelpLine, ModulesLine, Cause, LineContext, Front, StartsExpression, ExpressionFault, IsMore, IsWhole, WholeFault, ReadsWhole, IsCondition, ConditionFault, ReadsCondition, After, finish, text_of, word_of, named_target, operand_of, plain_text, choice_line, option_line, expected, keyword_of, placement_cause, ReadsTextLine, ReadsSource, ReadsConfig, ReadsPrompt, ReadsType, ReadsValue, ReadsTarget, ReadsRest, ReadsLine, begins_with}
+use Rattle.kc_read.specs.PartsOfStatements.{front, good_name, keyword_or_refusal, in_place, ReadsRange, ReadsPlaced}
 
 -- ---- Expressions
 

@@ -10,7 +10,8 @@ use Rattle.kc_language.specs.Expressions.{Form, Text, Symbol, tri_text, tristate
 use Rattle.kc_expr.proofs.ConstantLemmas.{constant_text}
 use Rattle.kc_expr.specs.Names.{IsNumber}
 use Rattle.kc_language.specs.declared.diagnostics.Cause.TheVariants as cause
-use Rattle.kc_language.specs.Statements.{Cause, LineContext, ReadsValue, front, begins_with, operand_of, IsWhole, IsCondition, WholeFault, ConditionFault, ExpressionFault, text_of, word_of, named_target, is_pattern, is_good_name, ReadsTextLine, ReadsSource, ReadsConfig, ReadsPrompt, ReadsDepends, ReadsTarget, ReadsVisible, ReadsType, ReadsRange, ReadsRest, ReadsLine, IsMore, keyword_of, placement_cause, option_line, Named, InputPrompt, SourceLine, ConfigLine, DependsLine, VisibleLine, ModulesLine, IgnoredLine, TypeLine, RangeLine}
+use Rattle.kc_language.specs.Statements.{Cause, LineContext, ReadsValue, begins_with, operand_of, IsWhole, IsCondition, WholeFault, ConditionFault, ExpressionFault, text_of, word_of, named_target, is_good_name, ReadsTextLine, ReadsSource, ReadsConfig, ReadsPrompt, ReadsTarget, ReadsType, ReadsRest, ReadsLine, IsMore, keyword_of, placement_cause, option_line, Named, InputPrompt, SourceLine, ConfigLine, DependsLine, VisibleLine, ModulesLine, IgnoredLine, TypeLine, RangeLine}
+use Rattle.kc_read.specs.PartsOfStatements.{front, is_pattern, ReadsDepends, ReadsVisible, ReadsRange}
 use Rattle.kc_language.specs.declared.expressions.SymbolType.{SymbolType}
 use Rattle.kc_language.specs.declared.statements.Keyword.{Keyword}
 use Rattle.kc_read.specs.declared.statement.Statement.{Statement}

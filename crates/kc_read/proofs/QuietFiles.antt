@@ -10,7 +10,8 @@ use Rattle.std.proofs.Math.Seq.{take-append_seam}
 use Rattle.bstr.specs.Find.{OccursAt, Passes, is_byte}
 use Rattle.kc_language.specs.declared.tokens.TextFault.{TextFault}
 use Rattle.kc_language.specs.Lines.{after_text, column, from_other, is_help_line, IsFirstLine, UnreadLines, Physical, continues, joined_text, unread_lines, lines_of_parts, physical_lines}
-use Rattle.kc_language.specs.Tokens.{Lexeme, AWord, AQuoted, AnOp, Spells, IsAtBlank, IsCut, ended as cut_ends, stuck, skipped, taken}
+use Rattle.kc_language.specs.Tokens.{Lexeme, AWord, AQuoted, AnOp, Spells, IsCut, ended as cut_ends, stuck, skipped, taken}
+use Rattle.kc_text.specs.PartsOfTokens.{IsAtBlank}
 use Rattle.kc_text.proofs.Physicals.{lf}
 use Rattle.kc_language.specs.Expansion.{NextLine, is_help, without_help, IsSource, SourceNames, none, here, past}
 use Rattle.kc_language.specs.Statements.{begins_with}

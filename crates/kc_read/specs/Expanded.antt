@@ -5,7 +5,8 @@ use Rattle.kc_language.specs.declared.expressions.SymId.{SymId}
 use Rattle.kc_language.specs.Expressions.{all_mentioned, symbol}
 use Rattle.kc_expr.specs.Names.{IsNumber}
 use Rattle.kc_read.specs.declared.expansion.Expansion.{Expansion}
-use Rattle.kc_language.specs.Expansion.{modules_of, Log, defined, located_numbered}
+use Rattle.kc_language.specs.Expansion.{modules_of, Log}
+use Rattle.kc_read.specs.PartsOfExpansion.{defined, located_numbered}
 use Rattle.kc_read.specs.Entries.{lines_in}
 use Rattle.kc_read.specs.StatementViews.{ForLater}
 use Rattle.kc_language.specs.Statements.{names_in_statement, statements}

@@ -1,7 +1,8 @@
 -- For proofs: What the calls that read a line answer.
 use Rattle.std.specs.Borrow.{Bor}
 use Rattle.std.specs.Prelude.{◌≡◌, ◌≢◌, ℕ, ◌+◌, ◌<◌, List, [], ◌∷◌, length, drop, Bool, true, false, Option, Some, None, Result, Ok, Err, option_map}
-use Rattle.kc_language.specs.Expressions.{Form, Leaf, Disjunction, Atom, leaf, meaning_or, names_in, names_in_atom, all_mentioned}
+use Rattle.kc_language.specs.Expressions.{Form, Leaf, Disjunction, Atom, leaf, names_in, names_in_atom, all_mentioned}
+use Rattle.kc_expr.specs.PartsOfExpressions.{meaning_or}
 use Rattle.kc_expr.specs.declared.parse.ExprFault.{ExprFault}
 use Rattle.kc_expr.specs.declared.parse.ExprFault.TheVariants as expr
 use Rattle.kc_language.specs.Text.{unescape}
@@ -10,7 +11,8 @@ use Rattle.kc_text.specs.Lexemes.{lexeme, lexemes}
 use Rattle.kc_text.specs.declared.tokens.Token.{Token}
 use Rattle.kc_language.specs.declared.diagnostics.Cause.TheVariants as cause
 use Rattle.kc_read.specs.declared.statement.Statement.{Statement}
-use Rattle.kc_language.specs.Statements.{Named, numbered, names_in_statement, names_in_condition, Cause, front, StartsExpression, IsWhole, IsCondition}
+use Rattle.kc_language.specs.Statements.{Named, numbered, names_in_statement, names_in_condition, Cause, StartsExpression, IsWhole, IsCondition}
+use Rattle.kc_read.specs.PartsOfStatements.{front}
 use Rattle.kc_diagnostics.specs.Causes.{shown_cause}
 use Rattle.kc_language.specs.declared.diagnostics.Cause as declared
 use Rattle.kc_read.specs.StatementViews.{ForLater, statement_view}

@@ -9,7 +9,7 @@ use Rattle.kc_language.specs.Text.{most_symbols, most_blocks, most_files, most_l
 use Rattle.kc_language.specs.Lines.{UnreadLines}
 use Rattle.kc_language.specs.declared.expressions.SymId.{SymId}
 use Rattle.kc_language.specs.Expressions.{all_mentioned, mention, same_symbol}
-use Rattle.kc_language.specs.Symbols.{added}
+use Rattle.kc_expr.specs.PartsOfSymbols.{added}
 use Rattle.kc_read.specs.declared.frame.Frame.{Frame}
 use Rattle.kc_read.specs.declared.progress.Progress.{Progress}
 use Rattle.kc_language.specs.declared.diagnostics.Cause.TheVariants as cause
@@ -17,7 +17,8 @@ use Rattle.kc_read.specs.declared.refusal.Refusal.{Refusal}
 use Rattle.kc_language.specs.declared.statements.EntryKind.{EntryKind}
 use Rattle.kc_language.specs.declared.statements.EntryKind.TheVariants as entry
 use Rattle.kc_read.specs.declared.statement.OpenBlock.{OpenBlock}
-use Rattle.kc_language.specs.Expansion.{Bracket, Opens, Closes, NoBracket, bracket, opened, open_block_indices, last_of, last_no_attribute, entry_of, is_attribute, definitions, modules_of, defined_name, is_modules, FileContext, Log, Refused, Rest, defined, is_choice, refused, symbol_cause, nesting_cause, Files, located_numbered}
+use Rattle.kc_language.specs.Expansion.{Bracket, Opens, Closes, NoBracket, bracket, opened, open_block_indices, last_of, entry_of, is_attribute, definitions, modules_of, defined_name, is_modules, FileContext, Log, Refused, Rest, is_choice, refused, Files}
+use Rattle.kc_read.specs.PartsOfExpansion.{last_no_attribute, defined, symbol_cause, nesting_cause, located_numbered}
 use Rattle.kc_language.specs.Statements.{Cause, LineContext, is_config, is_entry, Statement, Named, Numbered, Located, names_in_statement, statements}
 use Rattle.kc_read.specs.Entries.{lines_in, IsLastFile}
 use Rattle.kc_read.specs.StatementViews.{ForLater}

@@ -2,7 +2,7 @@
 use Rattle.std.specs.Prelude.{◌≡◌, ℕ, ◌<◌, ◌⊎◌, List, [], ◌∷◌, ◌++◌, length, slice_index, IsTrue}
 use Rattle.kc_language.specs.Text.{byte}
 use Rattle.kc_language.specs.Tokens.{is_blank}
-use Rattle.kc_language.specs.Statements.{source_word}
+use Rattle.kc_read.specs.PartsOfStatements.{source_word}
 
 -- nothing but blanks
 abbrev pub AreAllBlank : List ℕ → Type 0

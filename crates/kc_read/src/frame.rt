@@ -4,6 +4,7 @@ ghost use Rattle.std.specs.Prelude.{◌≡◌, ◌+◌, ◌||◌, IfErr, OnOk, N
 ghost use Rattle.std.specs.List.{list_any};
 ghost use Rattle.kc_language.specs.Expansion as blocks;
 ghost use Rattle.kc_language.specs.Expansion as expansion;
+ghost use Rattle.kc_read.specs.PartsOfExpansion as expansion_parts;
 ghost use Rattle.kc_read.specs.Progress.{IsShallow, is_closer, open_blocks_after};
 ghost use Rattle.kc_read.specs.StatementViews.{head_view};
 ghost use Rattle.kc_read.specs.LineReads.{IsFault};
@@ -98,8 +99,8 @@ impl Frame {
         ensures entry { OnOk result (self.new.entry ≡ blocks.entry_of (Some (head_view head.now))) }
         ensures kept { (self.new.file ≡ self.old.file) × (self.new.depth ≡ self.old.depth) × (self.new.in_choice ≡ self.old.in_choice) }
         ensures shallow { IsShallow self.new }
-        ensures allowed { OnOk result (expansion.nesting_cause (self.old.depth + length self.old.blocks.items) (blocks.bracket (head_view head.now)) ≡ None) }
-        ensures fault { IfErr result (λ f. IsFault f (λ c. expansion.nesting_cause (self.old.depth + length self.old.blocks.items) (blocks.bracket (head_view head.now)) ≡ Some c)) }
+        ensures allowed { OnOk result (expansion_parts.nesting_cause (self.old.depth + length self.old.blocks.items) (blocks.bracket (head_view head.now)) ≡ None) }
+        ensures fault { IfErr result (λ f. IsFault f (λ c. expansion_parts.nesting_cause (self.old.depth + length self.old.blocks.items) (blocks.bracket (head_view head.now)) ≡ Some c)) }
     {
         if let Some(block) = opened(head) {
             if self.depth + self.blocks.len() >= MOST_BLOCKS {

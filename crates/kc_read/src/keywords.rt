@@ -3,6 +3,7 @@
 ghost use Rattle.std.specs.Prelude.{◌≡◌};
 ghost use Rattle.kc_language.specs.Expressions.{same_name};
 ghost use Rattle.kc_language.specs.Statements as spec;
+ghost use Rattle.kc_read.specs.PartsOfStatements as spec_parts;
 
 use crate::statement::Keyword;
 use kc_expr::expression::SymbolType;
@@ -17,7 +18,7 @@ pub(crate) fn same_word(word: &[u8], other: &[u8]) -> bool
 
 // The words that begin statements.
 fn block_word(word: &[u8]) -> Option<Keyword>
-    ensures { result ≡ spec.keyword_in spec.block_words word.now }
+    ensures { result ≡ spec_parts.keyword_in spec_parts.block_words word.now }
 {
     if same_word(word, b"config") {
         Some(Keyword::Config)
@@ -48,7 +49,7 @@ fn block_word(word: &[u8]) -> Option<Keyword>
 
 // The words that begin types.
 fn type_word(word: &[u8]) -> Option<Keyword>
-    ensures { result ≡ spec.keyword_in spec.type_words word.now }
+    ensures { result ≡ spec_parts.keyword_in spec_parts.type_words word.now }
 {
     if same_word(word, b"bool") {
         Some(Keyword::Type(SymbolType::Bool))
@@ -71,7 +72,7 @@ fn type_word(word: &[u8]) -> Option<Keyword>
 
 // The words that begin other attributes.
 fn attribute_word(word: &[u8]) -> Option<Keyword>
-    ensures { result ≡ spec.keyword_in spec.attribute_words word.now }
+    ensures { result ≡ spec_parts.keyword_in spec_parts.attribute_words word.now }
 {
     if same_word(word, b"default") {
         Some(Keyword::Default)
@@ -102,7 +103,7 @@ fn attribute_word(word: &[u8]) -> Option<Keyword>
 
 // The words that are left out.
 fn left_out_word(word: &[u8]) -> Option<Keyword>
-    ensures { result ≡ spec.keyword_in spec.left_out_words word.now }
+    ensures { result ≡ spec_parts.keyword_in spec_parts.left_out_words word.now }
 {
     if same_word(word, b"rsource") {
         Some(Keyword::LeftOut)

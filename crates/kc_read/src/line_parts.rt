@@ -6,6 +6,7 @@ ghost use Rattle.kc_language.specs.Expressions.{if_word, is_tristate_constant, s
 ghost use Rattle.kc_expr.specs.Names.{IsNumber, Extends};
 ghost use Rattle.kc_language.specs.declared.diagnostics.Cause.TheVariants.{Memory, Syntax};
 ghost use Rattle.kc_language.specs.Statements as spec;
+ghost use Rattle.kc_read.specs.PartsOfStatements as spec_parts;
 ghost use Rattle.kc_language.specs.Statements.{IsMore, ExpressionFault, WholeFault, ConditionFault};
 ghost use Rattle.kc_expr.specs.When.{when_view};
 ghost use Rattle.kc_read.specs.LineReads.{IsToken, IsFault, IsPart, IsFront, IsWholeForm, IsConditionForm, IsOperand, cause_of, expression_cause, unquoted_text, lexemes_from};
@@ -294,7 +295,7 @@ pub(crate) fn is_good_name(word: &[u8]) -> bool
 
 /// `*`, `?` or `[` stands in the text.
 pub(crate) fn is_pattern(text: &[u8]) -> bool
-    ensures { result ≡ spec.is_pattern text.now }
+    ensures { result ≡ spec_parts.is_pattern text.now }
 {
     text.iter().any(|b| *b == b'*' || *b == b'?' || *b == b'[')
 }

@@ -2,7 +2,7 @@
 
 ghost use Rattle.std.specs.Prelude.{◌≡◌, IfErr, OnOk, None, Some};
 ghost use Rattle.std.specs.Option.{option_or};
-ghost use Rattle.kc_language.specs.Symbols.{added};
+ghost use Rattle.kc_expr.specs.PartsOfSymbols.{added};
 ghost use Rattle.kc_read.specs.Progress.{defining_cause, ids_match, HasSymbolsWithin, IsRemembered, symbol_limit_cause, KeepsWhenDefining, KeepsWhenMarking};
 ghost use Rattle.kc_read.specs.StatementViews.{attribute_view, head_view};
 ghost use Rattle.kc_read.specs.LineReads.{IsFault};

@@ -3,7 +3,8 @@
 ghost use Rattle.std.specs.Prelude.{◌≡◌, ◌≤◌, ℕ, length, IfOk, IfErr, Ok, Some, Err, List, Option};
 ghost use Rattle.kc_expr.specs.Names.{Extends};
 ghost use Rattle.kc_language.specs.Statements as spec;
-ghost use Rattle.kc_language.specs.Statements.{finish, ReadsLine, ReadsRest, ReadsWhole, ReadsValue, ReadsPrompt, ReadsType, ReadsTarget, ReadsRange, ReadsDepends, ReadsVisible, ReadsConfig, ReadsSource, ReadsTextLine, Named, SourceLine, IfLine, CommentLine, DefaultLine, PromptLine, SelectLine, ImplyLine, MenuLine, MainMenuLine, DefLine, TypeLine};
+ghost use Rattle.kc_language.specs.Statements.{finish, ReadsLine, ReadsRest, ReadsWhole, ReadsValue, ReadsPrompt, ReadsType, ReadsTarget, ReadsConfig, ReadsSource, ReadsTextLine, Named, SourceLine, IfLine, CommentLine, DefaultLine, PromptLine, SelectLine, ImplyLine, MenuLine, MainMenuLine, DefLine, TypeLine};
+ghost use Rattle.kc_read.specs.PartsOfStatements.{ReadsRange, ReadsDepends, ReadsVisible};
 ghost use Rattle.kc_read.specs.LineReads.{IsFault, IsRead, IsMade, lexemes_from};
 ghost use Rattle.kc_read.specs.Progress.{context_in};
 

@@ -21,7 +21,7 @@ use Rattle.kc_tree.specs.Layouts.{IsLayoutOf, choice_facts}
 use Rattle.kc_language.specs.Symbols.{TreeFacts}
 use Rattle.kc_tree.specs.declared.layout.Layout.{Layout}
 use Rattle.kc_tree.proofs.TreeLemmas.{symbols-length}
-use Rattle.kc_language.specs.ConfigFile.{member_place}
+use Rattle.kc_user.specs.PartsOfConfigFile.{member_place}
 use Rattle.kc_user.specs.declared.value.UserValue.{UserValue}
 use Rattle.kc_values.specs.Nodes.{choice_number, context_number}
 use Rattle.kc_values.specs.Computed.{AreContextsComputed, rank}

@@ -14,13 +14,14 @@ use Rattle.kc_language.specs.declared.expressions.Tri.{Tri}
 use Rattle.kc_language.specs.declared.expressions.Tri.TheVariants.{N}
 use Rattle.kc_language.specs.declared.expressions.SymbolType.{SymbolType}
 use Rattle.kc_language.specs.declared.expressions.SymbolType.TheVariants.{Undefined, Bool as IsBool, Tristate, Str, Int, Hex}
-use Rattle.kc_language.specs.Values.{Solves, IsOnlySolution, GivenValue, UserPlace, SymbolPlace, ChoicePlace, differs, differs_at, same_value, selection, default_selection, choice_at, is_mentioned, facts, name, type_in, equations, rhs, known_from, user_place, name_count, equation, selected}
+use Rattle.kc_language.specs.Values.{Solves, IsOnlySolution, GivenValue, UserPlace, SymbolPlace, ChoicePlace, differs, differs_at, selection, default_selection, choice_at, is_mentioned, facts, name, type_in, equations, rhs, known_from, user_place, name_count, equation, selected}
+use Rattle.kc_values.specs.PartsOfValues.{same_value}
 use Rattle.kc_tree.specs.TreeFacts.{IsWellFormed}
 use Rattle.kc_language.specs.ConfigFile.{Places, place_at}
 use Rattle.kc_values.specs.Laws.{MinimalRestores, MinimalHasNothingToSpare, IdempotentWhere as Law}
 use Rattle.kc_values.specs.Table.{value_in, tri_in, text_in, known_in}
 use Rattle.kc_language.specs.Texts.{warnings_of, IsSolution, Solution, known, value_of, value_warnings}
-use Rattle.kc_language.specs.Values as writing
+use Rattle.kc_values.specs.PartsOfValues as writing
 use Rattle.kc_values.specs.declared.table.Value.{Value}
 use Rattle.kc_solve.proofs.WarningSteps.{tables_known}
 use Rattle.kc_solve.specs.Answers as solved

@@ -10,7 +10,8 @@ use Rattle.kc_language.specs.declared.expressions.SymId.{SymId}
 use Rattle.kc_language.specs.declared.expressions.Tri.{Tri}
 use Rattle.kc_language.specs.declared.expressions.Tri.TheVariants.{N}
 use Rattle.kc_language.specs.Values.{facts, name, SymbolPlace, GivenValue, name_count, known_from, visibility}
-use Rattle.kc_language.specs.Texts.{warnings_of, warnings_at}
+use Rattle.kc_language.specs.Texts.{warnings_of}
+use Rattle.kc_values.specs.PartsOfTexts.{warnings_at}
 use Rattle.kc_values.specs.declared.table.Value.{Value}
 use Rattle.kc_solve.specs.Answers.{visibility_by}
 use Rattle.kc_solve.specs.Flags.{visibility_at}

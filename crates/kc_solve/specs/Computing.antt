@@ -17,7 +17,7 @@ use Rattle.kc_tree.specs.declared.layout.Layout.{Layout}
 use Rattle.kc_tree.specs.declared.rows.Symbol.{Symbol}
 use Rattle.kc_language.specs.Symbols.{TreeFacts}
 use Rattle.kc_language.specs.Values.{GivenValue, choice_at, equations, user_place, rhs, by_choice, selected}
-use Rattle.kc_language.specs.ConfigFile.{member_place}
+use Rattle.kc_user.specs.PartsOfConfigFile.{member_place}
 use Rattle.kc_user.specs.declared.value.UserValue.{UserValue}
 use Rattle.kc_values.specs.NeedRows.{AreNodeRows}
 use Rattle.kc_language.specs.Needs.{condition_names, names_of_choice, needs}

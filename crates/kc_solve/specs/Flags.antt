@@ -6,7 +6,8 @@ use Rattle.kc_language.specs.declared.expressions.SymId.{SymId}
 use Rattle.kc_language.specs.declared.expressions.Tri.{Tri}
 use Rattle.kc_tree.specs.declared.rows.Symbol.{Symbol}
 use Rattle.kc_language.specs.Symbols.{SymbolFacts, TreeFacts, is_symbol_of}
-use Rattle.kc_language.specs.Values.{GivenValue, by_type, facts, default_selection, differs, same_value, selection, known_from, name_count, written}
+use Rattle.kc_language.specs.Values.{GivenValue, by_type, facts, default_selection, differs, selection, known_from, name_count, written}
+use Rattle.kc_values.specs.PartsOfValues.{same_value}
 use Rattle.kc_language.specs.ConfigFile.{Places, place_at}
 use Rattle.kc_values.specs.TableFacts.{facts_in, known_at}
 use Rattle.kc_values.specs.declared.table.Table.{Table}

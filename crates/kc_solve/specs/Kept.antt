@@ -10,7 +10,7 @@ use Rattle.kc_language.specs.ConfigFile.{ArePlacesOf, Places, place_at}
 use Rattle.kc_language.specs.Values as values
 use Rattle.kc_language.specs.Needs.{IsAccepted}
 use Rattle.kc_values.specs.Table.{known_in}
-use Rattle.kc_language.specs.Texts as warning
+use Rattle.kc_values.specs.PartsOfTexts as warning
 use Rattle.kc_language.specs.Values as writing
 use Rattle.kc_values.specs.declared.table.Value.{Value}
 use Rattle.kc_solve.specs.Answers.{visibility_by}

@@ -5,13 +5,14 @@ ghost use Rattle.kc_language.specs.declared.expressions.Tri.TheVariants.{N};
 ghost use Rattle.kc_language.specs.Values.{Solves, name_count, equations};
 ghost use Rattle.kc_solve.specs.Flags as flag;
 ghost use Rattle.kc_solve.specs.Flags.{row_differs, visibilities_in, IsSolvedRow};
-ghost use Rattle.kc_language.specs.ConfigFile.{ArePlacesOf, member_place, place_at};
+ghost use Rattle.kc_language.specs.ConfigFile.{ArePlacesOf, place_at};
+ghost use Rattle.kc_user.specs.PartsOfConfigFile.{member_place};
 ghost use Rattle.kc_values.specs.Differs as spec;
 ghost use Rattle.kc_values.specs.AtTable as at;
 ghost use Rattle.kc_values.specs.TableFacts.{AreSelected, IsRowOf};
 ghost use Rattle.kc_values.specs.User.{given_in};
 ghost use Rattle.kc_diagnostics.specs.Warnings.{owned_warning};
-ghost use Rattle.kc_language.specs.Texts.{warnings_of_values as value_warnings};
+ghost use Rattle.kc_values.specs.PartsOfTexts.{warnings_of_values as value_warnings};
 
 use crate::compute::symbol_row;
 use kc_diagnostics::Warning;

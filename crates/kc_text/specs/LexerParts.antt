@@ -4,7 +4,8 @@ use Rattle.kc_language.specs.Text.{byte}
 use Rattle.kc_language.specs.declared.tokens.TextFault.{TextFault}
 use Rattle.kc_language.specs.declared.tokens.TextFault.TheVariants as faults
 use Rattle.kc_language.specs.declared.tokens.Op.{Op}
-use Rattle.kc_language.specs.Tokens.{EndsQuoted, op_text, HoldsDollar}
+use Rattle.kc_text.specs.PartsOfTokens.{EndsQuoted}
+use Rattle.kc_language.specs.Tokens.{op_text, HoldsDollar}
 
 -- any byte but `"`, `'`, `$` and `\`
 abbrev pub is_plain : ℕ → Bool

@@ -1,7 +1,8 @@
 -- Trusted: The long lines of a file.
 use Rattle.std.specs.Prelude.{◌≡◌, ℕ, ◌-◌, ◌≤◌, List, ◌∷◌, ◌++◌, length, take, drop, All, Option, IfSome}
 use Rattle.bstr.specs.Find.{IsFirstByte}
-use Rattle.kc_language.specs.Lines.{column, is_blank_line, Physical, is_line_feed, physical_lines}
+use Rattle.kc_language.specs.Lines.{column, Physical, is_line_feed, physical_lines}
+use Rattle.kc_text.specs.PartsOfLines.{is_blank_line}
 use Rattle.kc_text.specs.declared.help.LineStart.{LineStart}
 use Rattle.kc_text.specs.declared.long_lines.LongLine.{LongLine}
 

@@ -1,6 +1,7 @@
 //! The lines of a help text.
 ghost use Rattle.std.specs.Prelude.{◌≡◌, ◌<◌, ◌≤◌, ◌∷◌, ℕ, List, ◌++◌, ◌||◌, Some, length, nat_le};
-ghost use Rattle.kc_language.specs.Lines.{column, is_blank_line, is_help_line, from_other, after_help, physical_lines, unread_lines};
+ghost use Rattle.kc_language.specs.Lines.{column, is_help_line, from_other, after_help, physical_lines, unread_lines};
+ghost use Rattle.kc_text.specs.PartsOfLines.{is_blank_line};
 ghost use Rattle.kc_text.specs.Help.{Drops};
 ghost use Rattle.kc_text.specs.LongLines.{AreLong, IsEndOf, IsLineStart, KnowsStart};
 

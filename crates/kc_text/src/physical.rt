@@ -1,7 +1,8 @@
 //! The physical lines of a file.
 ghost use Rattle.std.specs.Prelude.{◌≡◌, ◌<◌, ◌≤◌, ◌∷◌, length, count_by};
 ghost use Rattle.bstr.specs.Find.{IsFirstByte};
-ghost use Rattle.kc_language.specs.Lines.{physical_lines, continues, is_line_feed, without_continuation};
+ghost use Rattle.kc_language.specs.Lines.{physical_lines, continues, is_line_feed};
+ghost use Rattle.kc_text.specs.PartsOfLines.{without_continuation};
 ghost use Rattle.kc_text.specs.LongLines.{IsEndOf};
 
 use crate::bytes::without_carriage_return;

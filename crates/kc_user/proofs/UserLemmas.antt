@@ -5,11 +5,13 @@ use Rattle.std.proofs.lemmas.List.{map-set}
 use Rattle.std.proofs.lemmas.List.Sums.{sum_by-cons}
 use Rattle.std.specs.Prelude.{option_map}
 use Rattle.std.specs.Result.{OnOk, OnErr}
-use Rattle.kc_language.specs.Text.{escape, escape_byte, is_escaped}
+use Rattle.kc_language.specs.Text.{escape}
+use Rattle.kc_text.specs.PartsOfText.{escape_byte, is_escaped}
 use Rattle.kc_language.specs.declared.expressions.SymId.{SymId}
 use Rattle.kc_language.specs.Symbols.{TreeFacts}
 use Rattle.kc_language.specs.Values.{GivenValue}
-use Rattle.kc_language.specs.ConfigFile.{Places, no_places}
+use Rattle.kc_language.specs.ConfigFile.{Places}
+use Rattle.kc_user.specs.PartsOfConfigFile.{no_places}
 use Rattle.kc_user.specs.ValueView.{given_of_value}
 use Rattle.kc_user.specs.declared.value.UserValue.{UserValue}
 

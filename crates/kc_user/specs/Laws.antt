@@ -5,7 +5,8 @@ use Rattle.kc_language.specs.Text.{longest_value}
 use Rattle.kc_language.specs.declared.expressions.SymId.{SymId}
 use Rattle.kc_language.specs.Symbols.{TreeFacts}
 use Rattle.kc_language.specs.Values.{GivenValue, GivenText}
-use Rattle.kc_language.specs.ConfigFile.{Places, no_places}
+use Rattle.kc_language.specs.ConfigFile.{Places}
+use Rattle.kc_user.specs.PartsOfConfigFile.{no_places}
 use Rattle.kc_user.specs.Places.{ArePlaces, allowed, members_of}
 
 -- Empty places are places of the tree.

@@ -1,4 +1,5 @@
 pub mod Laws
+pub mod PartsOfConfigFile
 pub mod Places
 pub mod Sparse
 pub mod UserView

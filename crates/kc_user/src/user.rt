@@ -1,6 +1,6 @@
 //! The user's places.
 ghost use Rattle.std.specs.Prelude.{◌≡◌, ◌<◌, length, map, slice_set, slice_index_or, Some, None, IfOk, OnErr, OnOk, replicate, option_map};
-ghost use Rattle.kc_language.specs.ConfigFile as spec;
+ghost use Rattle.kc_user.specs.PartsOfConfigFile as spec;
 ghost use Rattle.kc_user.specs.ValueView.{given_of_value};
 
 use crate::sparse::SparseVec;

@@ -2,7 +2,8 @@
 ghost use Rattle.std.specs.Prelude.{◌≡◌, ◌+◌, length, nat_le, count_by};
 ghost use Rattle.std.specs.List.{list_any};
 ghost use Rattle.kc_language.specs.Lines.{is_line_feed};
-ghost use Rattle.kc_language.specs.Text.{longest_value, escape, is_escaped};
+ghost use Rattle.kc_language.specs.Text.{longest_value, escape};
+ghost use Rattle.kc_text.specs.PartsOfText.{is_escaped};
 ghost use Rattle.kc_user.specs.Places as spec;
 ghost use Rattle.kc_user.specs.ValueView.{given_of_value};
 

@@ -12,7 +12,8 @@ use Rattle.kc_tree.specs.Contexts.{condition_in, HasNoMode, IsContextAt}
 use Rattle.kc_tree.specs.Layouts.{with_when, with_conjuncts, prompt_view}
 use Rattle.kc_language.specs.Symbols.{Condition, TreeFacts, listed}
 use Rattle.kc_values.specs.Computed.{when_value}
-use Rattle.kc_language.specs.Values.{and_value, mode_value, condition}
+use Rattle.kc_language.specs.Values.{and_value, condition}
+use Rattle.kc_values.specs.PartsOfValues.{mode_value}
 use Rattle.kc_values.proofs.TriLemmas.{lesser_y, lesser_comm, lesser_assoc, least-append}
 
 pub no_mode : (o : Option ℕ) → is_some o ≡ false → o ≡ None

@@ -6,7 +6,8 @@ use Rattle.std.proofs.lemmas.List.{length-map}
 use Rattle.kc_language.specs.Expressions.{symbol}
 use Rattle.kc_language.specs.declared.expressions.SymId.{SymId}
 use Rattle.kc_language.specs.declared.expressions.SymbolType.TheVariants.{Undefined}
-use Rattle.kc_language.specs.Needs.{needs_in, mentioned_numbers, names_by_choice, names_by_type, names_of, needs}
+use Rattle.kc_language.specs.Needs.{needs_in, names_by_type, names_of, needs}
+use Rattle.kc_values.specs.PartsOfNeeds.{mentioned_numbers, names_by_choice}
 use Rattle.kc_tree.specs.TreeFacts.{IsWellFormed}
 use Rattle.kc_language.specs.Symbols.{SymbolFacts, TreeFacts}
 use Rattle.kc_values.specs.Laws.{NeedingAreDefined}

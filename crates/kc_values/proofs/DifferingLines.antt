@@ -12,7 +12,7 @@ use Rattle.kc_language.specs.declared.values.Interval.{Interval}
 use Rattle.kc_language.specs.Values.{facts, is_within_range, if_within_range, clamped, GivenValue, GivenTruth, GivenText, Member, SymbolPlace, ChoicePlace, known_from, rhs, given_of, default_selection}
 use Rattle.kc_language.specs.Values as v
 use Rattle.kc_user.specs.Places.{allowed_truth, allowed_text, allowed_by, allowed_for, allowed}
-use Rattle.kc_language.specs.Values as sol
+use Rattle.kc_values.specs.PartsOfValues as sol
 use Rattle.kc_values.specs.Laws.{DifferingAreAllowed}
 use Rattle.kc_values.specs.Members.{MembersAreBools}
 use Rattle.kc_values.proofs.FixedLines.{place_cases, Sel, member_now, other_value, differs-member}

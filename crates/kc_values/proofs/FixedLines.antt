@@ -10,10 +10,12 @@ use Rattle.kc_language.specs.declared.expressions.SymbolType.TheVariants.{Undefi
 use Rattle.kc_language.specs.Expressions.{SymbolValue, Truth, TextValue, greater, symbol}
 use Rattle.kc_language.specs.Symbols.{SymbolFacts, ChoiceFacts, TreeFacts, is_symbol_of}
 use Rattle.kc_language.specs.declared.values.Interval.{Interval}
-use Rattle.kc_language.specs.Values.{Solves, facts, choice_at, is_within_range, if_within_range, clamped, GivenValue, GivenTruth, GivenText, Member, UserPlace, SymbolPlace, ChoicePlace, is_n, name_count, known_from, rhs, user_place, equations, same_value, given_of, selection, default_selection, differs, differs_at}
+use Rattle.kc_language.specs.Values.{Solves, facts, choice_at, is_within_range, if_within_range, clamped, GivenValue, GivenTruth, GivenText, Member, UserPlace, SymbolPlace, ChoicePlace, is_n, name_count, known_from, rhs, user_place, equations, given_of, selection, default_selection, differs, differs_at}
+use Rattle.kc_values.specs.PartsOfValues.{same_value}
 use Rattle.kc_order.specs.Minimal.{KeepsWhatDiffers}
 use Rattle.kc_language.specs.Values as v
-use Rattle.kc_language.specs.Values as sol
+use Rattle.kc_values.specs.PartsOfValues as v_parts
+use Rattle.kc_values.specs.PartsOfValues as sol
 use Rattle.kc_values.specs.Members.{MembersAreTheirs}
 use Rattle.kc_values.specs.GivenLines.{minimal_line, TellsDiffering}
 use Rattle.kc_values.proofs.SameValue.{same_value_itself, same_again}
@@ -52,7 +54,7 @@ module _ (tree : TreeFacts) (k : SymId → SymbolValue) where
     truth_fixed : (user : Option GivenValue) → Again (λ u. Truth (v.truth_equation tree k f u)) (Truth (v.truth_equation tree k f user))
     truth_fixed user =
         truth_by_type f.symbol_type user (v.conditions tree k f.prompts) (v.selector_values tree k f.selectors)
-        (v.implied (v.default_value tree k (v.first_met tree k f.defaults)) (v.implied_to tree k f) (v.direct tree k f))
+        (v_parts.implied (v.default_value tree k (v.first_met tree k f.defaults)) (v.implied_to tree k f) (v.direct tree k f))
 
     text_again : (b : Bool) (t d : List ℕ) → (unwrap_or (cond b None (Some t)) d ≡ d) ⊎ (unwrap_or (cond b None (Some (unwrap_or (cond b None (Some t)) d))) d ≡ unwrap_or (cond b None (Some t)) d)
     text_again true t d = inl refl

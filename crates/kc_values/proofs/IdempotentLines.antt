@@ -13,9 +13,11 @@ use Rattle.kc_language.specs.Symbols.{SymbolFacts, ChoiceFacts, TreeFacts, is_sy
 use Rattle.kc_language.specs.declared.values.Interval.{Interval}
 use Rattle.kc_language.specs.Values.{Solves, facts, choice_at, is_within_range, if_within_range, clamped, GivenValue, GivenTruth, GivenText, Member, UserPlace, SymbolPlace, ChoicePlace, is_yes, is_n, upgrade, name_count, known_from, rhs, equations, above, given_of, changes_on_reread}
 use Rattle.kc_language.specs.Values as v
+use Rattle.kc_values.specs.PartsOfValues as v_parts
 use Rattle.kc_user.specs.Places.{is_m, allowed_truth, allowed_text, allowed_by, allowed_for, allowed, members_of, AllowedPlaces}
-use Rattle.kc_language.specs.Values as sol
+use Rattle.kc_values.specs.PartsOfValues as sol
 use Rattle.kc_language.specs.Values as ls
+use Rattle.kc_values.specs.PartsOfValues as ls_parts
 use Rattle.kc_values.specs.GivenLines.{reread_places}
 use Rattle.kc_values.specs.Laws.{IdempotentWhere}
 use Rattle.kc_values.specs.Members.{MembersAreTheirs}
@@ -171,51 +173,51 @@ module _ (tree : TreeFacts) (k : SymId → SymbolValue) where
   shown_first b c e = ap (λ x. not x || c) e
 
   module _ (s : SymId) (f : SymbolFacts) where
-    not_tristate : (symbol_type : SymbolType) (t : Tri) → ls.is_tristate tree k symbol_type ≡ false → symbol_type ≡ f.symbol_type → ls.changes_on_reread_truth tree k f t ≡ false
+    not_tristate : (symbol_type : SymbolType) (t : Tri) → ls.is_tristate tree k symbol_type ≡ false → symbol_type ≡ f.symbol_type → ls_parts.changes_on_reread_truth tree k f t ≡ false
     not_tristate symbol_type t n h =
         ap (λ x. ls.is_tristate tree k x && (ls.is_visible tree k f && (above t (v.visibility tree k f) && above t (v.selected_to tree k f)))) (sym h)
         ∙ ap (λ b. b && (ls.is_visible tree k f && (above t (v.visibility tree k f) && above t (v.selected_to tree k f)))) n
 
     truth_line : (u : Option GivenValue) → is_truth_type f.symbol_type ≡ true →
-        Settling (λ p. Truth (v.truth_equation tree k f p)) (ls.written_truth tree k f) (allowed_by f.symbol_type) (ls.changes_on_reread_truth tree k f) (Truth (v.truth_equation tree k f u))
+        Settling (λ p. Truth (v.truth_equation tree k f p)) (ls.written_truth tree k f) (allowed_by f.symbol_type) (ls_parts.changes_on_reread_truth tree k f) (Truth (v.truth_equation tree k f u))
     truth_line u e =
         truth_settles f.symbol_type e u (v.conditions tree k f.prompts) (v.selector_values tree k f.selectors)
-        (v.implied (v.default_value tree k (v.first_met tree k f.defaults)) (v.implied_to tree k f) (v.direct tree k f))
+        (v_parts.implied (v.default_value tree k (v.first_met tree k f.defaults)) (v.implied_to tree k f) (v.direct tree k f))
         (ls.written_truth tree k f) (λ h. shown_first (is_n (v.visibility tree k f)) _ h)
 
     settles_by_type : (symbol_type : SymbolType) (u : Option GivenValue) → symbol_type ≡ f.symbol_type → ((g : GivenValue) → u ≡ Some g → allowed_by f.symbol_type g ≡ true) →
-        Settling (v.by_type tree k s f symbol_type) (ls.written_by_type tree k f symbol_type) (allowed_by f.symbol_type) (ls.changes_on_reread_truth tree k f) (v.by_type tree k s f symbol_type u)
+        Settling (v.by_type tree k s f symbol_type) (ls.written_by_type tree k f symbol_type) (allowed_by f.symbol_type) (ls_parts.changes_on_reread_truth tree k f) (v.by_type tree k s f symbol_type u)
     settles_by_type Undefined u h given = inl (refl, not_tristate Undefined N refl h)
     settles_by_type IsBool u h given = truth_line u (ap is_truth_type (sym h))
     settles_by_type Tristate u h given = truth_line u (ap is_truth_type (sym h))
     settles_by_type Str u h given =
         inl (
-          ap (TextValue Str) (text_settles (allowed_text f.symbol_type) u (v.visibility tree k f) (v.default_text k (v.first_met tree k f.defaults)) (ls.written_text tree k f)
+          ap (TextValue Str) (text_settles (allowed_text f.symbol_type) u (v.visibility tree k f) (v.default_text k (v.first_met tree k f.defaults)) (ls_parts.written_text tree k f)
               (λ e. shown_first (is_n (v.visibility tree k f)) _ e) (λ t e. given (GivenText t) e)),
           not_tristate Str N refl h,
         )
     settles_by_type Int u h given =
         inl (
           ap (TextValue Int) (number_settles f.symbol_type (v.active_range tree k f) (allowed_text f.symbol_type) u (v.visibility tree k f)
-              (clamped f.symbol_type (v.active_range tree k f) (v.default_text k (v.first_met tree k f.defaults))) (ls.written_text tree k f)
+              (clamped f.symbol_type (v.active_range tree k f) (v.default_text k (v.first_met tree k f.defaults))) (ls_parts.written_text tree k f)
               (λ e. shown_first (is_n (v.visibility tree k f)) _ e) (λ t e. given (GivenText t) e)),
           not_tristate Int N refl h,
         )
     settles_by_type Hex u h given =
         inl (
           ap (TextValue Hex) (number_settles f.symbol_type (v.active_range tree k f) (allowed_text f.symbol_type) u (v.visibility tree k f)
-              (clamped f.symbol_type (v.active_range tree k f) (v.default_text k (v.first_met tree k f.defaults))) (ls.written_text tree k f)
+              (clamped f.symbol_type (v.active_range tree k f) (v.default_text k (v.first_met tree k f.defaults))) (ls_parts.written_text tree k f)
               (λ e. shown_first (is_n (v.visibility tree k f)) _ e) (λ t e. given (GivenText t) e)),
           not_tristate Hex N refl h,
         )
 
     settles_by_choice : (i : ℕ) (c : Option ℕ) (u : Option GivenValue) → sol.user_place_by i c ≡ SymbolPlace i → ((g : GivenValue) → u ≡ Some g → allowed_by f.symbol_type g ≡ true) →
-        Settling (v.by_choice tree k s f c) (ls.written_by_choice tree k f c) (allowed_by f.symbol_type) (ls.changes_on_reread_by tree k f c) (v.by_choice tree k s f c u)
+        Settling (v.by_choice tree k s f c) (ls_parts.written_by_choice tree k f c) (allowed_by f.symbol_type) (ls.changes_on_reread_by tree k f c) (v.by_choice tree k s f c u)
     settles_by_choice i None u at given = settles_by_type f.symbol_type u refl given
     settles_by_choice i (Some c) u at given = cc
 
   settles_facts : (s : SymId) (i : ℕ) (f : Option SymbolFacts) (u : Option GivenValue) → sol.user_place_of i f ≡ SymbolPlace i → ((g : GivenValue) → u ≡ Some g → allowed_for f g ≡ true) →
-      Settling (v.equation tree k s f) (ls.written_facts tree k f) (allowed_for f) (ls.changes_on_reread_facts tree k f) (v.equation tree k s f u)
+      Settling (v.equation tree k s f) (ls_parts.written_facts tree k f) (allowed_for f) (ls.changes_on_reread_facts tree k f) (v.equation tree k s f u)
   settles_facts s i None u at given = inl (refl, refl)
   settles_facts s i (Some f) u at given = settles_by_choice s f i f.choice u at given
 
@@ -248,10 +250,10 @@ module _ (tree : TreeFacts) (k : SymId → SymbolValue) where
   -- a visible member is written
   member_written : (m : SymId) (g : SymbolFacts) (c : ℕ) → facts tree m ≡ Some g → g.choice ≡ Some c → v.visible tree k m ≡ true → ls.written tree k m ≡ true
   member_written m g c e h vis =
-      ap (ls.written_facts tree k) e
-      ∙ ap (ls.written_by_choice tree k g) h
+      ap (ls_parts.written_facts tree k) e
+      ∙ ap (ls_parts.written_by_choice tree k g) h
       ∙ ap not (is_n-upgraded g.symbol_type (v.conditions tree k g.prompts))
-      ∙ sym (ap (v.visible_facts tree k) e)
+      ∙ sym (ap (v_parts.visible_facts tree k) e)
       ∙ vis
 
 yes_if : (b : Bool) → is_yes (given_of (Truth (cond b Y N))) ≡ true → b ≡ true

@@ -11,6 +11,7 @@ use Rattle.kc_language.specs.Values.{GivenValue, if_within_range, above}
 use Rattle.kc_language.specs.declared.values.Interval.{Interval}
 use Rattle.kc_language.specs.Values as v
 use Rattle.kc_language.specs.Texts as w
+use Rattle.kc_values.specs.PartsOfTexts as w_parts
 
 pub no_choice : (o : Option ChoiceId) → is_some o ≡ false → mode_view o ≡ None
 no_choice None e = refl
@@ -18,13 +19,13 @@ no_choice (Some c) e = absurd cc
 
 module _ (tree : TreeFacts) (k : SymId → SymbolValue) where
   pub select_joined : (name : List ℕ) (f : SymbolFacts) (selected_to direct : Tri) (over : Bool) (warning : Warning) (old new : List Warning) → selected_to ≡ v.selected_to tree k f → direct ≡ v.direct tree k f →
-      over ≡ above selected_to direct → over ≡ true → warning ≡ w.selected_warning name selected_to direct → new ≡ old ++ warning ∷ [] → new ≡ old ++ w.select_warnings tree k name f
+      over ≡ above selected_to direct → over ≡ true → warning ≡ w_parts.selected_warning name selected_to direct → new ≡ old ++ warning ∷ [] → new ≡ old ++ w.select_warnings tree k name f
   select_joined name f selected_to direct over warning old new e1 e2 e3 e4 e5 e6 =
       let R = v.selected_to tree k f in
       let D = v.direct tree k f in
       let yes : above R D ≡ true = sym (e3 ∙ ap (λ x. above x direct) e1 ∙ ap (above R) e2) ∙ e4 in
-      let this : warning ≡ w.selected_warning name R D = e5 ∙ ap (λ x. w.selected_warning name x direct) e1 ∙ ap (w.selected_warning name R) e2 in
-      e6 ∙ ap (λ x. old ++ x ∷ []) this ∙ ap (λ b. old ++ cond b (w.selected_warning name R D ∷ []) []) (sym yes)
+      let this : warning ≡ w_parts.selected_warning name R D = e5 ∙ ap (λ x. w_parts.selected_warning name x direct) e1 ∙ ap (w_parts.selected_warning name R) e2 in
+      e6 ∙ ap (λ x. old ++ x ∷ []) this ∙ ap (λ b. old ++ cond b (w_parts.selected_warning name R D ∷ []) []) (sym yes)
 
   -- a bool or tristate outside a choice
   pub truth_warned : (name told : List ℕ) (f : SymbolFacts) (choice : Option ℕ) (user : Option GivenValue) (symbol_type : SymbolType) →
@@ -35,7 +36,7 @@ module _ (tree : TreeFacts) (k : SymId → SymbolValue) where
 
   pub range_joined : (name : List ℕ) (f : SymbolFacts) (user : Option GivenValue) (range : Option Interval) (vis : Tri) (given used default : Option (List ℕ))
       (old mid new : List Warning) → range ≡ v.active_range tree k f → vis ≡ v.visibility tree k f → given ≡ v.visible_text user vis → used ≡ if_within_range f.symbol_type range given →
-      default ≡ w.met_text k (v.first_met tree k f.defaults) → mid ≡ old ++ w.user_warnings f.symbol_type name range given →
+      default ≡ w_parts.met_text k (v.first_met tree k f.defaults) → mid ≡ old ++ w.user_warnings f.symbol_type name range given →
       new ≡ mid ++ w.default_warnings f.symbol_type name range used default → new ≡ old ++ w.range_warnings tree k name f user
   range_joined name f user range vis given used default old mid new e1 e2 e3 e4 e5 e6 e7 =
       let r = v.active_range tree k f in
@@ -45,9 +46,9 @@ module _ (tree : TreeFacts) (k : SymId → SymbolValue) where
       let first_is : w.user_warnings f.symbol_type name range given ≡ w.user_warnings f.symbol_type name r t =
       ap (λ x. w.user_warnings f.symbol_type name x given) e1 ∙ ap (w.user_warnings f.symbol_type name r) given_is
       in
-      let second_is : w.default_warnings f.symbol_type name range used default ≡ w.default_warnings f.symbol_type name r (if_within_range f.symbol_type r t) (w.met_text k (v.first_met tree k f.defaults)) =
+      let second_is : w.default_warnings f.symbol_type name range used default ≡ w.default_warnings f.symbol_type name r (if_within_range f.symbol_type r t) (w_parts.met_text k (v.first_met tree k f.defaults)) =
       ap (λ x. w.default_warnings f.symbol_type name x used default) e1 ∙ ap (λ x. w.default_warnings f.symbol_type name r x default) used_is ∙ ap (w.default_warnings f.symbol_type name r (if_within_range f.symbol_type r t)) e5
       in
       e7 ∙ ap (λ x. x ++ w.default_warnings f.symbol_type name range used default) (e6 ∙ ap (λ x. old ++ x) first_is)
       ∙ ap (λ x. (old ++ w.user_warnings f.symbol_type name r t) ++ x) second_is
-      ∙ append_assoc old (w.user_warnings f.symbol_type name r t) (w.default_warnings f.symbol_type name r (if_within_range f.symbol_type r t) (w.met_text k (v.first_met tree k f.defaults)))
+      ∙ append_assoc old (w.user_warnings f.symbol_type name r t) (w.default_warnings f.symbol_type name r (if_within_range f.symbol_type r t) (w_parts.met_text k (v.first_met tree k f.defaults)))

@@ -14,7 +14,8 @@ use Rattle.kc_values.specs.declared.table.Table.{Table}
 use Rattle.kc_language.specs.declared.values.Interval.{Interval}
 use Rattle.kc_values.specs.TableFacts.{known_at}
 use Rattle.kc_values.specs.FoundRows.{IsMetDefault, IsMetRange}
-use Rattle.kc_language.specs.Values.{number_or_zero, interval}
+use Rattle.kc_language.specs.Values.{number_or_zero}
+use Rattle.kc_values.specs.PartsOfValues.{interval}
 
 module _ (t : Table) where
   -- then what else there is does not count

@@ -29,6 +29,7 @@ use Rattle.kc_values.specs.NeedRows as rows
 use Rattle.kc_values.specs.NeedRows.{AreNodeRows, IsContextRow, of_top, of_inner}
 use Rattle.kc_values.specs.MadeRows.{AreChoicesThere}
 use Rattle.kc_language.specs.Needs as spec
+use Rattle.kc_values.specs.PartsOfNeeds as spec_parts
 use Rattle.kc_values.specs.Nodes.{choice_number, context_number, node_count}
 use Rattle.kc_values.proofs.AnyLemmas.{any_filter, any_flat, any_map, any_same, in_stands, stands, stands_in}
 use Rattle.kc_values.proofs.GraphNeeds.{behind, row_of_choice, row_of_context, row_of_symbol}
@@ -75,7 +76,7 @@ module _ (tree : TreeFacts) (l : Layout) (laid : IsLayoutOf tree l) (g : Nodes) 
   module _ (bound : ℕ) (stand : ContextsStand bound) where
     mode_row : (k : ℕ) (o : Option Choice) → slice_get l.tables.choices.items k ≡ o →
         ((c : Choice) → o ≡ Some c → (c.within.0 < bound) × ((p : EntryPrompt) → c.prompt ≡ Some p → p.visible.0 < bound)) →
-        (list_any st (rows.nodes_of_choice l o) || names tree l v (rows.names_of_choice l.modules o)) ≡ names tree l v (spec.prompt_names tree (option_map (choice_facts l.tables) o))
+        (list_any st (rows.nodes_of_choice l o) || names tree l v (rows.names_of_choice l.modules o)) ≡ names tree l v (spec_parts.prompt_names tree (option_map (choice_facts l.tables) o))
     mode_row k None e there = refl
     mode_row k (Some c) e there =
         let h = there c refl in
@@ -85,7 +86,7 @@ module _ (tree : TreeFacts) (l : Layout) (laid : IsLayoutOf tree l) (g : Nodes) 
         (list_any st (rows.mode_nodes l o) || names tree l v (rows.mode_names l o)) ≡ mode tree l v (mode_view o)
     mode_needs None there = refl
     mode_needs (Some k) there =
-        mode_row k.0 (slice_get l.tables.choices.items k.0) refl there ∙ ap (λ o. names tree l v (spec.prompt_names tree o)) (sym (choices_laid tree l laid k.0))
+        mode_row k.0 (slice_get l.tables.choices.items k.0) refl there ∙ ap (λ o. names tree l v (spec_parts.prompt_names tree o)) (sym (choices_laid tree l laid k.0))
 
     -- what a context asks for besides the one outside it
     asked_needs : (outer : ℕ) (w : Option (Rc Expr Global)) (o : Option ChoiceId) → outer < bound →

@@ -14,7 +14,9 @@ use Rattle.kc_language.specs.Symbols.{Condition, Guarded, Bounds, SymbolFacts, C
 use Rattle.kc_language.specs.declared.values.Interval.{Interval}
 use Rattle.kc_language.specs.Values.{facts, name, choice_at, is_mentioned, number_or_zero, GivenValue, GivenTruth, GivenText, Member, UserPlace, is_n, upgrade, user_place, known_from, equations}
 use Rattle.kc_language.specs.Values as v
+use Rattle.kc_values.specs.PartsOfValues as v_parts
 use Rattle.kc_language.specs.Needs as n
+use Rattle.kc_values.specs.PartsOfNeeds as n_parts
 use Rattle.kc_language.specs.Needs.{needs_of}
 use Rattle.kc_order.specs.Solution.{ReadsNeeds}
 use Rattle.kc_values.proofs.Same.{front_of, back_of, map_same, found_same, same_symbol-true}
@@ -42,15 +44,15 @@ module _ (law : DependsOnSymbols) (tree : TreeFacts) (k l : SymId → SymbolValu
   same_and_value : (conjuncts : List Form) → Sames (flat_map (symbols tree.modules) conjuncts) → v.and_value tree k conjuncts ≡ v.and_value tree l conjuncts
   same_and_value conjuncts h = ap least (map_same Same (symbols tree.modules) (value k tree.modules) (value l tree.modules) same_value conjuncts h)
 
-  same_prompt : (p : Option Condition) → Sames (n.conjunct_names tree p) → v.prompt_value tree k p ≡ v.prompt_value tree l p
+  same_prompt : (p : Option Condition) → Sames (n.conjunct_names tree p) → v_parts.prompt_value tree k p ≡ v_parts.prompt_value tree l p
   same_prompt None h = refl
   same_prompt (Some c) h = same_and_value c.conjuncts h
 
-  same_mode : (c : Option ChoiceFacts) → Sames (n.prompt_names tree c) → v.mode_of tree k c ≡ v.mode_of tree l c
+  same_mode : (c : Option ChoiceFacts) → Sames (n_parts.prompt_names tree c) → v.mode_of tree k c ≡ v.mode_of tree l c
   same_mode None h = refl
   same_mode (Some c) h = ap upgrade (same_prompt c.prompt h)
 
-  same_mode_value : (m : Option ℕ) → Sames (n.mode_names tree m) → v.mode_value tree k m ≡ v.mode_value tree l m
+  same_mode_value : (m : Option ℕ) → Sames (n.mode_names tree m) → v_parts.mode_value tree k m ≡ v_parts.mode_value tree l m
   same_mode_value None h = refl
   same_mode_value (Some c) h = same_mode (choice_at tree c) h
 
@@ -78,7 +80,7 @@ module _ (law : DependsOnSymbols) (tree : TreeFacts) (k l : SymId → SymbolValu
   same_modules None h = refl
   same_modules (Some m) h = ap truth_of_value h.0
 
-  same_upgraded : (symbol_type : SymbolType) → Sames (n.type_names tree symbol_type) → (t u : Tri) → t ≡ u → v.upgraded tree k symbol_type t ≡ v.upgraded tree l symbol_type u
+  same_upgraded : (symbol_type : SymbolType) → Sames (n_parts.type_names tree symbol_type) → (t u : Tri) → t ≡ u → v.upgraded tree k symbol_type t ≡ v.upgraded tree l symbol_type u
   same_upgraded Undefined h t u e = ap upgrade e
   same_upgraded IsBool h t u e = ap upgrade e
   same_upgraded Tristate h t u e = let m = same_modules tree.modules h in cc
@@ -116,10 +118,10 @@ module _ (law : DependsOnSymbols) (tree : TreeFacts) (k l : SymId → SymbolValu
       visible_text-is_n user (v.visibility tree k f) (v.visibility tree l f)
       (is_n-upgraded k f.symbol_type (v.conditions tree k f.prompts) ∙ ap is_n (same_conditions f.prompts h) ∙ sym (is_n-upgraded l f.symbol_type (v.conditions tree l f.prompts)))
 
-  same_selector_values : (gs : List (Guarded SymId)) → Sames (n.guarded_names tree (n.one_name) gs) → v.selector_values tree k gs ≡ v.selector_values tree l gs
+  same_selector_values : (gs : List (Guarded SymId)) → Sames (n.guarded_names tree (n_parts.one_name) gs) → v.selector_values tree k gs ≡ v.selector_values tree l gs
   same_selector_values gs h =
       ap greatest
-      (map_same Same (λ (g : Guarded SymId). n.one_name g.what ++ n.condition_names tree g.when)
+      (map_same Same (λ (g : Guarded SymId). n_parts.one_name g.what ++ n.condition_names tree g.when)
       (λ g. lesser (truth_of_value (k g.what)) (v.condition tree k g.when))
       (λ g. lesser (truth_of_value (l g.what)) (v.condition tree l g.when))
       (λ g hs. let a = ap truth_of_value hs.0 in let b = same_condition g.when hs.1 in cc)
@@ -144,22 +146,22 @@ module _ (law : DependsOnSymbols) (tree : TreeFacts) (k l : SymId → SymbolValu
       same_first (symbols tree.modules) (v.default_text k) (v.default_text l) refl (λ g a b. same_single g.what a) f.defaults h
 
   same_base : (user : Option GivenValue) (vis vis' d d' implied_to weak' dir dir' selected_to rev' : Tri) → vis ≡ vis' → d ≡ d' → implied_to ≡ weak' → dir ≡ dir' → selected_to ≡ rev' →
-      greater (v.user_or user vis (v.implied d implied_to dir)) selected_to ≡ greater (v.user_or user vis' (v.implied d' weak' dir')) rev'
+      greater (v.user_or user vis (v_parts.implied d implied_to dir)) selected_to ≡ greater (v.user_or user vis' (v_parts.implied d' weak' dir')) rev'
   same_base None vis vis' d d' implied_to weak' dir dir' selected_to rev' a b c e g = cc
   same_base (Some (GivenTruth u)) vis vis' d d' implied_to weak' dir dir' selected_to rev' a b c e g = cc
   same_base (Some (GivenText t)) vis vis' d d' implied_to weak' dir dir' selected_to rev' a b c e g = cc
   same_base (Some (Member m)) vis vis' d d' implied_to weak' dir dir' selected_to rev' a b c e g = cc
 
-  same_interval : (symbol_type : SymbolType) (g : Guarded Bounds) → Sames (n.bounds_names g.what) → v.interval k symbol_type (Some g) ≡ v.interval l symbol_type (Some g)
+  same_interval : (symbol_type : SymbolType) (g : Guarded Bounds) → Sames (n_parts.bounds_names g.what) → v_parts.interval k symbol_type (Some g) ≡ v_parts.interval l symbol_type (Some g)
   same_interval symbol_type g h =
       let a = same_text g.what.low (front (leaf_symbols g.what.low) (leaf_symbols g.what.high) h) in
       let b = same_text g.what.high (back (leaf_symbols g.what.low) (leaf_symbols g.what.high) h) in
       let made : List ℕ → List ℕ → Option Interval = λ x y. Some (record { low = number_or_zero symbol_type x; high = number_or_zero symbol_type y }) in
       ap (λ x. made x (text k g.what.high)) a ∙ ap (made (text l g.what.low)) b
 
-  same_active : (f : SymbolFacts) → Sames (n.guarded_names tree n.bounds_names f.ranges) → v.active_range tree k f ≡ v.active_range tree l f
+  same_active : (f : SymbolFacts) → Sames (n.guarded_names tree n_parts.bounds_names f.ranges) → v.active_range tree k f ≡ v.active_range tree l f
   same_active f h =
-      same_first n.bounds_names (v.interval k f.symbol_type) (v.interval l f.symbol_type) refl (λ g a b. same_interval f.symbol_type g a) f.ranges h
+      same_first n_parts.bounds_names (v_parts.interval k f.symbol_type) (v_parts.interval l f.symbol_type) refl (λ g a b. same_interval f.symbol_type g a) f.ranges h
 
   module _ (f : SymbolFacts) where
     abbrev Prompts : List SymId
@@ -172,16 +174,16 @@ module _ (law : DependsOnSymbols) (tree : TreeFacts) (k l : SymId → SymbolValu
     Deps = flat_map (n.condition_names tree) f.dependencies
 
     abbrev Selectors : List SymId
-    Selectors = n.guarded_names tree (n.one_name) f.selectors
+    Selectors = n.guarded_names tree (n_parts.one_name) f.selectors
 
     abbrev Impliers : List SymId
-    Impliers = n.guarded_names tree (n.one_name) f.impliers
+    Impliers = n.guarded_names tree (n_parts.one_name) f.impliers
 
     abbrev Own : List SymId
-    Own = n.type_names tree f.symbol_type
+    Own = n_parts.type_names tree f.symbol_type
 
     abbrev Ranges : List SymId
-    Ranges = n.guarded_names tree (n.bounds_names) f.ranges
+    Ranges = n.guarded_names tree (n_parts.bounds_names) f.ranges
 
     same_text_equation : (user : Option GivenValue) → Sames (n.names_of_all tree f) → v.text_equation tree k f user ≡ v.text_equation tree l f user
     same_text_equation user h =
@@ -203,7 +205,7 @@ module _ (law : DependsOnSymbols) (tree : TreeFacts) (k l : SymId → SymbolValu
         let d = same_default f (back Prompts Defaults all) in
         same_upgraded f.symbol_type own _ _ (same_base user _ _ _ _ _ _ _ _ _ _ vis d implied_to dir selected_to)
 
-    pub same_number_equation : (user : Option GivenValue) → Sames (n.names_of_number tree f) → v.number_equation tree k f user ≡ v.number_equation tree l f user
+    pub same_number_equation : (user : Option GivenValue) → Sames (n_parts.names_of_number tree f) → v.number_equation tree k f user ≡ v.number_equation tree l f user
     same_number_equation user h =
         let all = front (Prompts ++ Defaults) Ranges h in
         let a = same_visible_text f user (front Prompts Defaults all) in
@@ -212,19 +214,19 @@ module _ (law : DependsOnSymbols) (tree : TreeFacts) (k l : SymId → SymbolValu
         cc
 
   -- Choices.
-  same_visible_facts : (f : Option SymbolFacts) → Sames (n.prompts_names tree f) → v.visible_facts tree k f ≡ v.visible_facts tree l f
+  same_visible_facts : (f : Option SymbolFacts) → Sames (n_parts.prompts_names tree f) → v_parts.visible_facts tree k f ≡ v_parts.visible_facts tree l f
   same_visible_facts None h = refl
   same_visible_facts (Some f) h = ap (λ t. not (is_n t)) (same_conditions f.prompts h)
 
-  same_visible : (m : SymId) → Sames (n.prompts_names tree (facts tree m)) → v.visible tree k m ≡ v.visible tree l m
+  same_visible : (m : SymId) → Sames (n_parts.prompts_names tree (facts tree m)) → v.visible tree k m ≡ v.visible tree l m
   same_visible m h = same_visible_facts (facts tree m) h
 
-  same_among : (m : SymId) (ms : List SymId) → Sames (flat_map (λ m. n.prompts_names tree (facts tree m)) ms) →
+  same_among : (m : SymId) (ms : List SymId) → Sames (flat_map (λ m. n_parts.prompts_names tree (facts tree m)) ms) →
       (list_any (same_symbol m) ms && v.visible tree k m) ≡ (list_any (same_symbol m) ms && v.visible tree l m)
   same_among m [] h = refl
   same_among m (x ∷ ms) h =
-      let here = front (n.prompts_names tree (facts tree x)) (flat_map (λ m. n.prompts_names tree (facts tree m)) ms) h in
-      let there = back (n.prompts_names tree (facts tree x)) (flat_map (λ m. n.prompts_names tree (facts tree m)) ms) h in
+      let here = front (n_parts.prompts_names tree (facts tree x)) (flat_map (λ m. n_parts.prompts_names tree (facts tree m)) ms) h in
+      let there = back (n_parts.prompts_names tree (facts tree x)) (flat_map (λ m. n_parts.prompts_names tree (facts tree m)) ms) h in
       elim (cases_Bool (same_symbol m x)) [
         | inl t ↦
             let e = same_symbol-true m x t in
@@ -237,24 +239,24 @@ module _ (law : DependsOnSymbols) (tree : TreeFacts) (k l : SymId → SymbolValu
 
   module _ (c : ChoiceFacts) where
     abbrev Shown : List SymId
-    Shown = flat_map (λ m. n.prompts_names tree (facts tree m)) c.members
+    Shown = flat_map (λ m. n_parts.prompts_names tree (facts tree m)) c.members
 
     same_visible_member : Sames Shown → (m : SymId) → v.visible_member tree k c m ≡ v.visible_member tree l c m
     same_visible_member h m = same_among m c.members h
 
-    same_unselected : Sames Shown → Sames (n.guarded_names tree (n.no_name) c.defaults) → v.unselected tree k c ≡ v.unselected tree l c
+    same_unselected : Sames Shown → Sames (n.guarded_names tree (n_parts.no_name) c.defaults) → v.unselected tree k c ≡ v.unselected tree l c
     same_unselected h d =
         let first =
-        found_same Same (λ (g : Guarded SymId). n.no_name g.what ++ n.condition_names tree g.when)
+        found_same Same (λ (g : Guarded SymId). n_parts.no_name g.what ++ n.condition_names tree g.when)
         (λ g. not (is_n (v.condition tree k g.when)) && v.visible_member tree k c g.what)
         (λ g. not (is_n (v.condition tree l g.when)) && v.visible_member tree l c g.what)
-        (v.what_of) (v.what_of) refl
+        (v_parts.what_of) (v_parts.what_of) refl
         (λ g hs. let a = same_condition g.when hs in let b = same_visible_member h g.what in cc)
         (λ g hs. refl)
         c.defaults d
         in
         let any =
-        found_same Same (λ m. n.prompts_names tree (facts tree m)) (v.visible tree k) (v.visible tree l) (λ o. o) (λ o. o) refl same_visible (λ m hs. refl) c.members h
+        found_same Same (λ m. n_parts.prompts_names tree (facts tree m)) (v.visible tree k) (v.visible tree l) (λ o. o) (λ o. o) refl same_visible (λ m hs. refl) c.members h
         in
         cc
 
@@ -268,7 +270,7 @@ module _ (law : DependsOnSymbols) (tree : TreeFacts) (k l : SymId → SymbolValu
   same_selected None user h = refl
   same_selected (Some c) user h =
       let Own = n.conjunct_names tree c.prompt in
-      let Defaults = n.guarded_names tree (n.no_name) c.defaults in
+      let Defaults = n.guarded_names tree (n_parts.no_name) c.defaults in
       let shown = front (Shown c) (Own ++ Defaults) h in
       let more1 = back (Shown c) (Own ++ Defaults) h in
       let mode = same_prompt c.prompt (front Own Defaults more1) in
@@ -284,7 +286,7 @@ module _ (law : DependsOnSymbols) (tree : TreeFacts) (k l : SymId → SymbolValu
   same_by_type s f Int user h = ap (TextValue Int) (same_number_equation f user h)
   same_by_type s f Hex user h = ap (TextValue Hex) (same_number_equation f user h)
 
-  same_by_choice : (s : SymId) (f : SymbolFacts) (c : Option ℕ) (user : Option GivenValue) → Sames (n.names_by_choice tree f c) → v.by_choice tree k s f c user ≡ v.by_choice tree l s f c user
+  same_by_choice : (s : SymId) (f : SymbolFacts) (c : Option ℕ) (user : Option GivenValue) → Sames (n_parts.names_by_choice tree f c) → v.by_choice tree k s f c user ≡ v.by_choice tree l s f c user
   same_by_choice s f None user h = same_by_type s f f.symbol_type user h
   same_by_choice s f (Some c) user h =
       ap (λ o. Truth (cond (is_symbol_of s o) Y N)) (same_selected (choice_at tree c) user h)
@@ -319,7 +321,7 @@ module _ (tree : TreeFacts) (V W : ℕ → SymbolValue) where
         seen_alike all (λ t i. h t (kept_more number (is_mentioned tree s) s t (filter (is_mentioned tree) all) i)),
       )
 
-  pub same_seen : (all : List SymId) → ((t : ℕ) → Contains (n.mentioned_numbers tree all) t → V t ≡ W t) → AllByRecursion (λ s. known_from tree V s ≡ known_from tree W s) all
+  pub same_seen : (all : List SymId) → ((t : ℕ) → Contains (n_parts.mentioned_numbers tree all) t → V t ≡ W t) → AllByRecursion (λ s. known_from tree V s ≡ known_from tree W s) all
   same_seen all h = seen_alike all h
 
 pub reads_needs : DependsOnSymbols → (tree : TreeFacts) (user : UserPlace → Option GivenValue) → ReadsNeeds (needs_of tree) (equations tree user)

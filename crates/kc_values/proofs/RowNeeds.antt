@@ -34,6 +34,7 @@ use Rattle.kc_tree.specs.declared.rows.SymbolRange.{SymbolRange}
 use Rattle.kc_language.specs.Values.{choice_at, facts}
 use Rattle.kc_values.specs.NeedRows as rows
 use Rattle.kc_language.specs.Needs as spec
+use Rattle.kc_values.specs.PartsOfNeeds as spec_parts
 use Rattle.kc_values.specs.Nodes.{choice_number}
 use Rattle.kc_values.proofs.Laid.{facts_laid}
 use Rattle.kc_values.proofs.AnyLemmas.{any_beside, any_flat, any_found, any_map, any_or, any_reverse, any_same, found_same, has_some, passes}
@@ -146,8 +147,8 @@ module _ (tree : TreeFacts) (l : Layout) (v : ℕ) where
             ∙ ap (λ b. condition_hits c || b) (sym (list_any-append hit (symbols l.modules (form_of d.value.value)) (rows.when_names l.modules (when_view d.when))))
 
     ranges_names : (c : Condition) (rs : List SymbolRange) →
-        names (spec.guarded_names tree spec.bounds_names (map (range_view c) rs)) ≡ ((has_some rs && condition_hits c) || names (flat_map (rows.range_names l.modules) rs))
-    ranges_names c = guarded (range_view c) spec.bounds_names (rows.range_names l.modules) (condition_hits c) one
+        names (spec.guarded_names tree spec_parts.bounds_names (map (range_view c) rs)) ≡ ((has_some rs && condition_hits c) || names (flat_map (rows.range_names l.modules) rs))
+    ranges_names c = guarded (range_view c) spec_parts.bounds_names (rows.range_names l.modules) (condition_hits c) one
       where
         turned : (x a w : Bool) → (x || (a || w)) ≡ (a || (x || w))
         turned x a w = grind arith
@@ -160,8 +161,8 @@ module _ (tree : TreeFacts) (l : Layout) (v : ℕ) where
             ∙ ap (λ b. condition_hits c || b) (sym (list_any-append hit bounds (rows.when_names l.modules (when_view r.when))))
 
     choice_defaults_names : (c : Condition) (ds : List ChoiceDefault) →
-        names (spec.guarded_names tree spec.no_name (map (choice_default_view c) ds)) ≡ ((has_some ds && condition_hits c) || names (flat_map (rows.choice_default_names l.modules) ds))
-    choice_defaults_names c = guarded (choice_default_view c) spec.no_name (rows.choice_default_names l.modules) (condition_hits c) (λ d. hits_when c (when_view d.when))
+        names (spec.guarded_names tree spec_parts.no_name (map (choice_default_view c) ds)) ≡ ((has_some ds && condition_hits c) || names (flat_map (rows.choice_default_names l.modules) ds))
+    choice_defaults_names c = guarded (choice_default_view c) spec_parts.no_name (rows.choice_default_names l.modules) (condition_hits c) (λ d. hits_when c (when_view d.when))
 
 -- Under what each node stands for: of contexts below a bound what their conditions name.
 module _ (tree : TreeFacts) (l : Layout) (v : ℕ) (alike : l.modules ≡ tree.modules) (st : ℕ → Bool) (bound : ℕ)
@@ -241,7 +242,7 @@ module _ (tree : TreeFacts) (l : Layout) (v : ℕ) (alike : l.modules ≡ tree.m
     definition_needs : (symbol_type : SymbolType) → (known (rows.definition_nodes l symbol_type d) || names tree l v (rows.definition_names l symbol_type d)) ≡
         ((rows.is_truth symbol_type && condition_hits tree l v (definition_facts l.tables d).dependency)
         || ((passes (condition_hits tree l v) (definition_facts l.tables d).prompt || names tree l v (spec.guarded_names tree (symbols tree.modules) (definition_facts l.tables d).defaults))
-        || (rows.is_number symbol_type && names tree l v (spec.guarded_names tree spec.bounds_names (definition_facts l.tables d).ranges))))
+        || (rows.is_number symbol_type && names tree l v (spec.guarded_names tree spec_parts.bounds_names (definition_facts l.tables d).ranges))))
     definition_needs symbol_type =
         let c = cond_at d.within.0 in
         let ds = rows.defaults_of l d in
@@ -262,7 +263,7 @@ module _ (tree : TreeFacts) (l : Layout) (v : ℕ) (alike : l.modules ≡ tree.m
         let rf = ranges_names tree l v alike c rs in
         together (rows.is_truth symbol_type) (is_some d.prompt) (has_some ds) (has_some rs) (nat_lt 0 (length ds)) (nat_lt 0 (length rs)) (rows.is_number symbol_type) (condition_hits tree l v c) pn pw dn rn
         (known (rows.definition_nodes l symbol_type d)) (names tree l v (rows.definition_names l symbol_type d)) (passes (condition_hits tree l v) (definition_facts l.tables d).prompt)
-        (names tree l v (spec.guarded_names tree (symbols tree.modules) (definition_facts l.tables d).defaults)) (names tree l v (spec.guarded_names tree spec.bounds_names (definition_facts l.tables d).ranges))
+        (names tree l v (spec.guarded_names tree (symbols tree.modules) (definition_facts l.tables d).defaults)) (names tree l v (spec.guarded_names tree spec_parts.bounds_names (definition_facts l.tables d).ranges))
         (some_length ds) (some_length rs) nodes own p df rf
       where
         together : (t sp sd sr ld lr n a pn pw dn rn ns ow p df rf : Bool) → ld ≡ sd → lr ≡ sr →
@@ -292,7 +293,7 @@ module _ (tree : TreeFacts) (l : Layout) (v : ℕ) (alike : l.modules ≡ tree.m
   defaults_of d = names tree l v (spec.guarded_names tree (symbols tree.modules) (definition_facts l.tables d).defaults)
 
   abbrev ranges_of : Definition → Bool
-  ranges_of d = names tree l v (spec.guarded_names tree spec.bounds_names (definition_facts l.tables d).ranges)
+  ranges_of d = names tree l v (spec.guarded_names tree spec_parts.bounds_names (definition_facts l.tables d).ranges)
 
   -- what the tree says of the definitions of a symbol, one after another
   prompts_seen : (ids : List DefinitionId) →
@@ -359,7 +360,7 @@ module _ (tree : TreeFacts) (l : Layout) (v : ℕ) (alike : l.modules ≡ tree.m
 
   -- a line that selects or implies
   abbrev line : Guarded SymId → Bool
-  line g = names tree l v (spec.one_name g.what ++ spec.condition_names tree g.when)
+  line g = names tree l v (spec_parts.one_name g.what ++ spec.condition_names tree g.when)
 
   source_needs : (r : Selector) (o : Option Definition) → rows.stored_definition l r.source ≡ o →
       (list_any st (rows.source_nodes l o) || names tree l v (rows.source_names l.modules r o)) ≡
@@ -381,12 +382,12 @@ module _ (tree : TreeFacts) (l : Layout) (v : ℕ) (alike : l.modules ≡ tree.m
   selector_needs (Some r) = source_needs r (rows.stored_definition l r.source) refl
 
   selectors_needs : (last : Option SelectorId) →
-      (list_any st (rows.selectors_nodes l last) || names tree l v (rows.selectors_names l last)) ≡ names tree l v (spec.guarded_names tree spec.one_name (selectors_from l.tables last))
+      (list_any st (rows.selectors_nodes l last) || names tree l v (rows.selectors_names l last)) ≡ names tree l v (spec.guarded_names tree spec_parts.one_name (selectors_from l.tables last))
   selectors_needs last =
       let chain = chain_of (chains_of l.tables.selector_rows.lines.items) last in
       let node : Selector → Bool = λ r. list_any st (rows.source_nodes l (rows.stored_definition l r.source)) in
       let name : Selector → Bool = λ r. names tree l v (rows.source_names l.modules r (rows.stored_definition l r.source)) in
-      let each : Guarded SymId → List SymId = λ g. spec.one_name g.what ++ spec.condition_names tree g.when in
+      let each : Guarded SymId → List SymId = λ g. spec_parts.one_name g.what ++ spec.condition_names tree g.when in
       ap (λ b. b || names tree l v (rows.selectors_names l last)) (any_flat st (λ (r : Selector). rows.source_nodes l (rows.stored_definition l r.source)) (rows.lines_from l last))
       ∙ ap (λ b. list_any node (rows.lines_from l last) || b) (any_flat (hit tree l v) (λ (r : Selector). rows.source_names l.modules r (rows.stored_definition l r.source)) (rows.lines_from l last))
       ∙ sym (any_or node name (rows.lines_from l last))
@@ -427,15 +428,15 @@ module _ (tree : TreeFacts) (l : Layout) (v : ℕ) (alike : l.modules ≡ tree.m
         close t n a p d r e f = grind arith
 
     number_needs : rows.is_truth s.symbol_type ≡ false → rows.is_number s.symbol_type ≡ true →
-        (list_any st (rows.definitions_nodes l s) || name (rows.definitions_names l s)) ≡ name (spec.names_of_number tree (facts_of l i s))
+        (list_any st (rows.definitions_nodes l s) || name (rows.definitions_names l s)) ≡ name (spec_parts.names_of_number tree (facts_of l i s))
     number_needs t n =
         definitions_needs s.symbol_type (definition_ids s)
         ∙ close (rows.is_truth s.symbol_type) (rows.is_number s.symbol_type) (list_any dep_of (rows.definitions_of l (definition_ids s))) (list_any prompt_of (rows.definitions_of l (definition_ids s)))
         (list_any defaults_of (rows.definitions_of l (definition_ids s))) (list_any ranges_of (rows.definitions_of l (definition_ids s))) t n
-        ∙ sym (name_both (spec.names_of_all tree (facts_of l i s)) (spec.guarded_names tree spec.bounds_names (facts_of l i s).ranges)
-        ∙ ap (λ b. b || name (spec.guarded_names tree spec.bounds_names (facts_of l i s).ranges)) common_seen
+        ∙ sym (name_both (spec.names_of_all tree (facts_of l i s)) (spec.guarded_names tree spec_parts.bounds_names (facts_of l i s).ranges)
+        ∙ ap (λ b. b || name (spec.guarded_names tree spec_parts.bounds_names (facts_of l i s).ranges)) common_seen
         ∙ ap (λ b. (list_any prompt_of (rows.definitions_of l (definition_ids s)) || list_any defaults_of (rows.definitions_of l (definition_ids s))) || b)
-        (several spec.bounds_names (λ (d : DefinitionFacts). d.ranges) (definition_ids s)))
+        (several spec_parts.bounds_names (λ (d : DefinitionFacts). d.ranges) (definition_ids s)))
       where
         close : (t n a p d r : Bool) → t ≡ false → n ≡ true → ((t && a) || ((p || d) || (n && r))) ≡ ((p || d) || r)
         close t n a p d r e f = grind arith
@@ -450,10 +451,10 @@ module _ (tree : TreeFacts) (l : Layout) (v : ℕ) (alike : l.modules ≡ tree.m
         let dw = rows.definitions_names l s in
         let sw = rows.selectors_names l (rows.last_select l i) in
         let iw = rows.selectors_names l (rows.last_imply l i) in
-        let kw = spec.type_names tree s.symbol_type in
+        let kw = spec_parts.type_names tree s.symbol_type in
         let dependencies = flat_map (spec.condition_names tree) f.dependencies in
-        let sel = spec.guarded_names tree spec.one_name f.selectors in
-        let imp = spec.guarded_names tree spec.one_name f.impliers in
+        let sel = spec.guarded_names tree spec_parts.one_name f.selectors in
+        let imp = spec.guarded_names tree spec_parts.one_name f.impliers in
         let nodes : list_any st (rows.truth_nodes l i s) ≡ ((list_any st dn || list_any st sn) || list_any st in') =
         list_any-append st (dn ++ sn) in' ∙ ap (λ b. b || list_any st in') (list_any-append st dn sn) in
         let own : name (rows.truth_names tree l i s) ≡ (((name dw || name sw) || name iw) || name kw) =
@@ -467,8 +468,8 @@ module _ (tree : TreeFacts) (l : Layout) (v : ℕ) (alike : l.modules ≡ tree.m
         (list_any st dn) (list_any st sn) (list_any st in') (name dw) (name sw) (name iw) (name kw) (name (spec.names_of_all tree f)) (name dependencies) (name sel) (name imp)
         (list_any st (rows.truth_nodes l i s)) (name (rows.truth_names tree l i s)) (name (spec.names_of_truth tree f))
         t n nodes own seen (definitions_needs s.symbol_type (definition_ids s)) common_seen (deps_seen (definition_ids s))
-        (selectors_needs (rows.last_select l i) ∙ sym (guarded_selector spec.one_name (selectors_from l.tables (rows.last_select l i))))
-        (selectors_needs (rows.last_imply l i) ∙ sym (guarded_selector spec.one_name (selectors_from l.tables (rows.last_imply l i))))
+        (selectors_needs (rows.last_select l i) ∙ sym (guarded_selector spec_parts.one_name (selectors_from l.tables (rows.last_select l i))))
+        (selectors_needs (rows.last_imply l i) ∙ sym (guarded_selector spec_parts.one_name (selectors_from l.tables (rows.last_imply l i))))
       where
         close : (t n de p df r dn sn in' dw sw iw kw all dependencies sel imp ns ow want : Bool) → t ≡ true → n ≡ false → ns ≡ ((dn || sn) || in') → ow ≡ (((dw || sw) || iw) || kw) →
             want ≡ (all || (dependencies || (sel || (imp || kw)))) → (dn || dw) ≡ ((t && de) || ((p || df) || (n && r))) → all ≡ (p || df) → dependencies ≡ de →
@@ -485,7 +486,7 @@ module _ (tree : TreeFacts) (l : Layout) (v : ℕ) (alike : l.modules ≡ tree.m
     by_type_needs Hex e = number_needs (ap rows.is_truth e) (ap rows.is_number e)
 
     by_choice_needs : (o : Option ChoiceId) → ((k : ChoiceId) → o ≡ Some k → st (choice_number l k.0) ≡ name (spec.names_of_choice tree (choice_at tree k.0))) →
-        (list_any st (rows.nodes_by_choice l i s o) || name (cond (is_some o) [] (rows.names_by_type tree l i s s.symbol_type))) ≡ name (spec.names_by_choice tree (facts_of l i s) (mode_view o))
+        (list_any st (rows.nodes_by_choice l i s o) || name (cond (is_some o) [] (rows.names_by_type tree l i s s.symbol_type))) ≡ name (spec_parts.names_by_choice tree (facts_of l i s) (mode_view o))
     by_choice_needs None h = by_type_needs s.symbol_type refl
     by_choice_needs (Some k) h = alone (st (choice_number l k.0)) ∙ h k refl
       where
@@ -500,12 +501,12 @@ module _ (tree : TreeFacts) (l : Layout) (v : ℕ) (alike : l.modules ≡ tree.m
   -- the selection of a choice
   module _ (laid : IsLayoutOf tree l) where
     member_needs : (m : SymId) (o : Option Symbol) → rows.member_row l m ≡ o →
-        passes (λ s. list_any st (rows.prompts_nodes l s) || name (rows.prompts_names l s)) o ≡ name (spec.prompts_names tree (option_map (facts_of l m.0) o))
+        passes (λ s. list_any st (rows.prompts_nodes l s) || name (rows.prompts_names l s)) o ≡ name (spec_parts.prompts_names tree (option_map (facts_of l m.0) o))
     member_needs m None e = refl
     member_needs m (Some s) e = prompts_needs m.0 s
 
     members_needs : (ms : List SymId) →
-        (list_any st (rows.members_nodes l ms) || name (rows.members_names l ms)) ≡ name (flat_map (λ m. spec.prompts_names tree (facts tree m)) ms)
+        (list_any st (rows.members_nodes l ms) || name (rows.members_names l ms)) ≡ name (flat_map (λ m. spec_parts.prompts_names tree (facts tree m)) ms)
     members_needs ms =
         let node : Symbol → Bool = λ s. list_any st (rows.prompts_nodes l s) in
         let own : Symbol → Bool = λ s. name (rows.prompts_names l s) in
@@ -513,9 +514,9 @@ module _ (tree : TreeFacts) (l : Layout) (v : ℕ) (alike : l.modules ≡ tree.m
         ∙ ap (λ b. list_any node (filter_map (rows.member_row l) ms) || b) (any_flat (hit tree l v) (rows.prompts_names l) (filter_map (rows.member_row l) ms))
         ∙ sym (any_or node own (filter_map (rows.member_row l) ms))
         ∙ any_found (λ s. node s || own s) (rows.member_row l) ms
-        ∙ any_same (λ m. passes (λ s. node s || own s) (rows.member_row l m)) (λ m. name (spec.prompts_names tree (facts tree m)))
-        (λ m. member_needs m (rows.member_row l m) refl ∙ ap (λ o. name (spec.prompts_names tree o)) (sym (facts_laid tree l laid m.0))) ms
-        ∙ sym (any_flat (hit tree l v) (λ m. spec.prompts_names tree (facts tree m)) ms)
+        ∙ any_same (λ m. passes (λ s. node s || own s) (rows.member_row l m)) (λ m. name (spec_parts.prompts_names tree (facts tree m)))
+        (λ m. member_needs m (rows.member_row l m) refl ∙ ap (λ o. name (spec_parts.prompts_names tree o)) (sym (facts_laid tree l laid m.0))) ms
+        ∙ sym (any_flat (hit tree l v) (λ m. spec_parts.prompts_names tree (facts tree m)) ms)
 
     pub choice_needs : (k : ℕ) (c : Choice) → slice_get l.tables.choices.items k ≡ Some c →
         (list_any st (rows.choice_nodes l c) || name (rows.choice_names l c)) ≡ name (spec.names_of_choice tree (Some (choice_facts l.tables c)))
@@ -529,9 +530,9 @@ module _ (tree : TreeFacts) (l : Layout) (v : ℕ) (alike : l.modules ≡ tree.m
         let mw = rows.members_names l c.members.items in
         let pw = rows.prompt_names l.modules c.prompt in
         let dw = flat_map (rows.choice_default_names l.modules) c.defaults.items in
-        let m = flat_map (λ m. spec.prompts_names tree (facts tree m)) c.members.items in
+        let m = flat_map (λ m. spec_parts.prompts_names tree (facts tree m)) c.members.items in
         let p = spec.conjunct_names tree (choice_facts l.tables c).prompt in
-        let d = spec.guarded_names tree spec.no_name (choice_facts l.tables c).defaults in
+        let d = spec.guarded_names tree spec_parts.no_name (choice_facts l.tables c).defaults in
         let nodes : list_any st (rows.choice_nodes l c) ≡ ((list_any st mn || list_any st pn) || list_any st dn) =
         list_any-append st (mn ++ pn) dn ∙ ap (λ b. b || list_any st dn) (list_any-append st mn pn) in
         let own : name (rows.choice_names l c) ≡ ((name mw || name pw) || name dw) = name_both (mw ++ pw) dw ∙ ap (λ b. b || name dw) (name_both mw pw) in

@@ -11,7 +11,8 @@ use Rattle.kc_language.specs.declared.expressions.SymbolType.TheVariants.{Undefi
 use Rattle.kc_language.specs.Expressions.{SymbolValue, Truth, TextValue}
 use Rattle.kc_language.specs.Symbols.{SymbolFacts, TreeFacts}
 use Rattle.kc_language.specs.Values as v
-use Rattle.kc_language.specs.Values.{GivenValue, same_tri, same_value}
+use Rattle.kc_language.specs.Values.{GivenValue, same_tri}
+use Rattle.kc_values.specs.PartsOfValues.{same_value}
 
 pub same_tri-true : (t u : Tri) → same_tri t u ≡ true → t ≡ u
 same_tri-true N N e = refl

@@ -8,6 +8,7 @@ use Rattle.kc_language.specs.Expressions.{SymbolValue, same_symbol}
 use Rattle.std.specs.Option.{option_or}
 use Rattle.kc_language.specs.Symbols.{Guarded, ChoiceFacts, TreeFacts}
 use Rattle.kc_language.specs.Values as v
+use Rattle.kc_values.specs.PartsOfValues as v_parts
 use Rattle.kc_language.specs.Values.{GivenValue, GivenTruth, GivenText, Member, is_n}
 use Rattle.kc_values.proofs.Same.{same_symbol_itself}
 use Rattle.kc_values.proofs.TreeNeeds.{among}
@@ -47,14 +48,14 @@ module _ (tree : TreeFacts) (k : SymId → SymbolValue) where
   chosen_visible c (Some (GivenText t)) m e = cc
   chosen_visible c (Some (Member x)) m e = let h = chosen_if (v.visible_member tree k c x) x m e in sym (ap (v.visible_member tree k c) h.1) ∙ h.0
 
-  what_some : (o : Option (Guarded SymId)) (m : SymId) → v.what_of o ≡ Some m → (g : Guarded SymId) × (o ≡ Some g) × (g.what ≡ m)
+  what_some : (o : Option (Guarded SymId)) (m : SymId) → v_parts.what_of o ≡ Some m → (g : Guarded SymId) × (o ≡ Some g) × (g.what ≡ m)
   what_some None m e = cc
   what_some (Some g) m e = (g, refl, cc)
 
   unselected_visible : (c : ChoiceFacts) (m : SymId) → v.unselected tree k c ≡ Some m → v.visible_member tree k c m ≡ true
   unselected_visible c m e =
       let p = λ (g : Guarded SymId). not (is_n (v.condition tree k g.when)) && v.visible_member tree k c g.what in
-      elim (either_some (v.what_of (find p c.defaults)) (find (v.visible tree k) c.members) m e) [
+      elim (either_some (v_parts.what_of (find p c.defaults)) (find (v.visible tree k) c.members) m e) [
         | inl d ↦
             let w = what_some (find p c.defaults) m d in
             let f = found p c.defaults w.0 w.1 in

@@ -3,7 +3,8 @@ use Rattle.std.proofs.Common.{◌≡◌, ℕ, zero, suc, ◌<◌, ◌+◌, ◌^�
 use Rattle.std.specs.Prelude.{unsigned_abs, nat_lt, int_lt, option_map}
 use Rattle.std.specs.Str.Parse.{digits_value, starts_with_minus}
 use Rattle.std.proofs.lemmas.Bool.{and_parts, ltb-true}
-use Rattle.kc_language.specs.Text.{natural_of, is_numeral, negated, without_hex_prefix}
+use Rattle.kc_language.specs.Text.{natural_of}
+use Rattle.kc_text.specs.PartsOfText.{is_numeral, negated, without_hex_prefix}
 use Rattle.kc_language.specs.declared.expressions.SymbolType.{SymbolType}
 use Rattle.kc_language.specs.declared.expressions.SymbolType.TheVariants.{Undefined, Bool as IsBool, Tristate, Str, Int, Hex}
 use Rattle.kc_language.specs.Values.{number_or_zero, number_text, is_within_range, clamped}

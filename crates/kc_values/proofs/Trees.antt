@@ -10,7 +10,7 @@ use Rattle.kc_language.specs.Expressions.{Form, Leaf, Single, Text, Symbol, symb
 use Rattle.kc_language.specs.Symbols.{Condition, Guarded, Bounds, SymbolFacts, ChoiceFacts, TreeFacts, warning_line}
 use Rattle.kc_language.specs.Values.{GivenValue, Member, UserPlace, SymbolPlace, ChoicePlace, equations, known_from, written, differs}
 use Rattle.kc_language.specs.Needs.{needs}
-use Rattle.kc_language.specs.Texts.{warnings_of_values as value_warnings}
+use Rattle.kc_values.specs.PartsOfTexts.{warnings_of_values as value_warnings}
 
 abbrev pub always : Condition
 always = record { conjuncts = []; mode = None }

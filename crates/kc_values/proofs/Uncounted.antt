@@ -11,6 +11,7 @@ use Rattle.kc_language.specs.declared.expressions.SymbolType.TheVariants.{Undefi
 use Rattle.kc_language.specs.Symbols.{SymbolFacts, TreeFacts}
 use Rattle.kc_language.specs.Values.{GivenValue, GivenTruth, GivenText, Member, if_within_range, clamped}
 use Rattle.kc_language.specs.Values as v
+use Rattle.kc_values.specs.PartsOfValues as v_parts
 
 user_or_uncounted : (user : Option GivenValue) (vis other : Tri) → (is_some user && not (v.is_n vis)) ≡ false → v.user_or user vis other ≡ v.user_or None vis other
 user_or_uncounted None vis other e = refl
@@ -33,7 +34,7 @@ module _ (tree : TreeFacts) (known : SymId → SymbolValue) where
       v.truth_equation tree known f user ≡ v.truth_equation tree known f None
   truth_uncounted f user e =
       ap (λ b. v.upgraded tree known f.symbol_type (greater b (v.selected_to tree known f)))
-      (user_or_uncounted user (v.visibility tree known f) (v.implied (v.default_value tree known (v.first_met tree known f.defaults)) (v.implied_to tree known f) (v.direct tree known f)) e)
+      (user_or_uncounted user (v.visibility tree known f) (v_parts.implied (v.default_value tree known (v.first_met tree known f.defaults)) (v.implied_to tree known f) (v.direct tree known f)) e)
 
   text_uncounted : (f : SymbolFacts) (user : Option GivenValue) → (is_some user && not (v.is_n (v.visibility tree known f))) ≡ false →
       v.text_equation tree known f user ≡ v.text_equation tree known f None

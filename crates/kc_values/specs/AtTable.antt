@@ -16,8 +16,11 @@ use Rattle.kc_values.specs.Computed as computed
 use Rattle.kc_language.specs.Values as lookup
 use Rattle.kc_values.specs.TableFacts.{facts_in, known_at}
 use Rattle.kc_language.specs.Values as value
+use Rattle.kc_values.specs.PartsOfValues as value_parts
 use Rattle.kc_language.specs.Texts as warning
+use Rattle.kc_values.specs.PartsOfTexts as warning_parts
 use Rattle.kc_language.specs.Values as written
+use Rattle.kc_values.specs.PartsOfValues as written_parts
 use Rattle.kc_language.specs.declared.values.Interval.{Interval}
 use Rattle.kc_values.specs.declared.table.Table.{Table}
 
@@ -40,13 +43,13 @@ module _ (t : Table) where
   and_value conjuncts = value.and_value t.tree.now (known_at t) conjuncts
 
   abbrev pub prompt_value : Choice → Tri
-  prompt_value c = value.prompt_value t.tree.now (known_at t) (choice_in c).prompt
+  prompt_value c = value_parts.prompt_value t.tree.now (known_at t) (choice_in c).prompt
 
   abbrev pub mode_of : ℕ → Tri
   mode_of c = value.mode_of t.tree.now (known_at t) (lookup.choice_at t.tree.now c)
 
   abbrev pub mode_value : Option ℕ → Tri
-  mode_value mode = value.mode_value t.tree.now (known_at t) mode
+  mode_value mode = value_parts.mode_value t.tree.now (known_at t) mode
 
   abbrev pub condition : Condition → Tri
   condition c = value.condition t.tree.now (known_at t) c
@@ -78,13 +81,13 @@ module _ (t : Table) where
   default_value s = value.default_value t.tree.now (known_at t) (met_default s)
 
   abbrev pub met_text : Symbol → Option (List ℕ)
-  met_text s = warning.met_text (known_at t) (met_default s)
+  met_text s = warning_parts.met_text (known_at t) (met_default s)
 
   abbrev pub default_text : Symbol → List ℕ
   default_text s = value.default_text (known_at t) (met_default s)
 
   abbrev pub interval : SymbolType → SymbolRange → Option Interval
-  interval symbol_type r = value.interval (known_at t) symbol_type (Some (range_view (condition_in t.layout.now.tables.contexts 0) r))
+  interval symbol_type r = value_parts.interval (known_at t) symbol_type (Some (range_view (condition_in t.layout.now.tables.contexts 0) r))
 
   abbrev pub active_range : Symbol → Option Interval
   active_range s = value.active_range t.tree.now (known_at t) (own_lines s)
@@ -113,7 +116,7 @@ module _ (t : Table) where
   number_equation s given = value.number_equation t.tree.now (known_at t) (own_lines s) given
 
   abbrev pub member_equation : SymId → ℕ → Option GivenValue → Tri
-  member_equation id c given = value.member_equation t.tree.now (known_at t) id c given
+  member_equation id c given = value_parts.member_equation t.tree.now (known_at t) id c given
 
   abbrev pub equation : SymId → Symbol → Option GivenValue → SymbolValue
   equation id s given = value.by_choice t.tree.now (known_at t) id (facts_in t id s) (facts_in t id s).choice given
@@ -126,10 +129,10 @@ module _ (t : Table) where
   visible_member c id = value.visible_member t.tree.now (known_at t) (choice_in c) id
 
   abbrev pub first_default : Choice → Option SymId
-  first_default c = value.first_default t.tree.now (known_at t) (choice_in c) (choice_in c).defaults
+  first_default c = value_parts.first_default t.tree.now (known_at t) (choice_in c) (choice_in c).defaults
 
   abbrev pub first_visible : List SymId → Option SymId
-  first_visible members = value.first_visible t.tree.now (known_at t) members
+  first_visible members = value_parts.first_visible t.tree.now (known_at t) members
 
   abbrev pub unselected : Choice → Option SymId
   unselected c = value.unselected t.tree.now (known_at t) (choice_in c)
@@ -145,13 +148,13 @@ module _ (t : Table) where
   written_truth id s = written.written_truth t.tree.now (known_at t) (facts_in t id s)
 
   abbrev pub written_text : Symbol → Bool
-  written_text s = written.written_text t.tree.now (known_at t) (own_lines s)
+  written_text s = written_parts.written_text t.tree.now (known_at t) (own_lines s)
 
   abbrev pub written_by_type : SymId → Symbol → Bool
   written_by_type id s = written.written_by_type t.tree.now (known_at t) (facts_in t id s) s.symbol_type
 
   abbrev pub is_written : SymId → Symbol → Bool
-  is_written id s = written.written_facts t.tree.now (known_at t) (Some (facts_in t id s))
+  is_written id s = written_parts.written_facts t.tree.now (known_at t) (Some (facts_in t id s))
 
   -- what a symbol is warned of
   abbrev pub select_warnings : List ℕ → SymId → Symbol → List Warning

@@ -9,7 +9,8 @@ use Rattle.kc_tree.specs.declared.layout.Layout.{Layout}
 use Rattle.kc_order.specs.Loop.{HoldsNeeding}
 use Rattle.kc_language.specs.Needs.{needs_in, IsAccepted, needs}
 use Rattle.kc_order.specs.Needs.{AreWithin}
-use Rattle.kc_language.specs.Values.{Solves, IsOnlySolution, choice_at, facts, GivenValue, UserPlace, prompt_value, condition, name_count, equations, rhs, user_place, differs, given_of, changes_on_reread}
+use Rattle.kc_language.specs.Values.{Solves, IsOnlySolution, choice_at, facts, GivenValue, UserPlace, condition, name_count, equations, rhs, user_place, differs, given_of, changes_on_reread}
+use Rattle.kc_values.specs.PartsOfValues.{prompt_value}
 use Rattle.kc_order.specs.Solution.{HasOneSolution, ReadsNeeds}
 use Rattle.kc_order.specs.Minimal.{Restores, NothingCanGo}
 use Rattle.kc_user.specs.Places.{allowed, AllowedPlaces}

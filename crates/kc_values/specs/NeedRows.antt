@@ -26,7 +26,7 @@ use Rattle.kc_tree.specs.Chains.{chain_of, chains_of}
 use Rattle.kc_tree.specs.Contexts.{IsContextAt, condition_in, top}
 use Rattle.kc_tree.specs.Spans.{definition_ids, slice_of}
 use Rattle.kc_language.specs.Symbols.{TreeFacts}
-use Rattle.kc_language.specs.Needs.{type_names}
+use Rattle.kc_values.specs.PartsOfNeeds.{type_names}
 use Rattle.kc_values.specs.Nodes.{choice_number, context_number, node_count}
 
 -- names, where this is the modules symbol

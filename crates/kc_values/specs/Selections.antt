@@ -3,7 +3,7 @@ use Rattle.std.specs.Prelude.{ℕ, List, Option, Some, None, slice_index_or}
 use Rattle.kc_language.specs.declared.expressions.SymId.{SymId}
 use Rattle.kc_language.specs.declared.symbols.ChoiceId.{ChoiceId}
 use Rattle.kc_language.specs.Values.{GivenValue}
-use Rattle.kc_language.specs.ConfigFile.{member_place}
+use Rattle.kc_user.specs.PartsOfConfigFile.{member_place}
 
 -- the user's member of choice c
 abbrev pub member_given : List (Option SymId) → ℕ → Option GivenValue

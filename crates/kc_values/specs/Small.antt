@@ -1,6 +1,6 @@
 -- Trusted: Numbers of 64 bits and a sign.
 use Rattle.std.specs.Prelude.{◌<◌, unsigned_abs}
-use Rattle.kc_language.specs.Text.{hex_limit}
+use Rattle.kc_text.specs.PartsOfText.{hex_limit}
 use Rattle.kc_language.specs.declared.values.Interval.{Interval}
 
 -- both bounds are hexes without their sign

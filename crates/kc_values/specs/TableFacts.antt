@@ -12,7 +12,7 @@ use Rattle.kc_tree.specs.Layouts.{facts_of}
 use Rattle.kc_tree.specs.Spans.{definition_ids}
 use Rattle.kc_language.specs.Symbols.{Condition, SymbolFacts}
 use Rattle.kc_language.specs.Values.{GivenValue, choice_at, by_type, selected}
-use Rattle.kc_language.specs.ConfigFile.{member_place}
+use Rattle.kc_user.specs.PartsOfConfigFile.{member_place}
 use Rattle.kc_values.specs.declared.table.Table.{Table}
 use Rattle.kc_values.specs.Table.{known_in}
 

@@ -3,7 +3,7 @@
 ghost use Rattle.std.specs.Prelude.{◌≡◌, Some};
 ghost use Rattle.std.specs.List.{list_any};
 ghost use Rattle.kc_language.specs.Expressions.{same_symbol};
-ghost use Rattle.kc_language.specs.ConfigFile.{member_place};
+ghost use Rattle.kc_user.specs.PartsOfConfigFile.{member_place};
 ghost use Rattle.kc_language.specs.Values.{choice_at};
 ghost use Rattle.kc_values.specs.TableFacts.{IsSelected};
 ghost use Rattle.kc_values.specs.AtTable as spec;

@@ -3,7 +3,7 @@
 ghost use Rattle.std.specs.Prelude.{◌≡◌, ◌&&◌, None, not, IfOk};
 ghost use Rattle.std.specs.Option.{is_some};
 ghost use Rattle.kc_language.specs.Symbols.{is_symbol_of};
-ghost use Rattle.kc_language.specs.Values.{same_value};
+ghost use Rattle.kc_values.specs.PartsOfValues.{same_value};
 ghost use Rattle.kc_values.specs.TableFacts.{known_at, own_value, IsRowOf};
 ghost use Rattle.kc_values.specs.User.{given_in};
 ghost use Rattle.kc_language.specs.Values as value;

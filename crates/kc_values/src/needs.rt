@@ -9,6 +9,7 @@ ghost use Rattle.kc_order.specs.Needs.{AreAlike};
 ghost use Rattle.kc_expr.specs.When.{when_view};
 ghost use Rattle.kc_tree.specs.Soundness.{IsChoiceThere, IsDefinitionThere, IsPromptThere};
 ghost use Rattle.kc_language.specs.Needs as spec;
+ghost use Rattle.kc_values.specs.PartsOfNeeds as spec_parts;
 ghost use Rattle.kc_values.specs.NeedRows as rows;
 ghost use Rattle.kc_values.specs.MadeRows.{Adds, AreChoicesThere, IsRow, row_of};
 
@@ -252,7 +253,7 @@ fn selectors_into(
 
 // Adds the modules symbol, which a tristate names.
 fn modules_into(tree: &Tree, symbol_type: SymbolType, out: &mut NeedRow) -> Result<(), AllocError>
-    ensures { OnOk result (Adds out.old out.new [] (spec.type_names tree.now symbol_type)) }
+    ensures { OnOk result (Adds out.old out.new [] (spec_parts.type_names tree.now symbol_type)) }
 {
     if symbol_type != SymbolType::Tristate {
         return Ok(());

@@ -2,7 +2,7 @@
 
 ghost use Rattle.std.specs.Prelude.{◌≡◌, ◌<◌, None, Some, IfOk, IfSome, bytes_eq, not, unsigned_abs};
 ghost use Rattle.std.specs.Option.{option_copied};
-ghost use Rattle.kc_language.specs.Text.{hex_limit};
+ghost use Rattle.kc_text.specs.PartsOfText.{hex_limit};
 ghost use Rattle.kc_values.specs.AtTable as spec;
 ghost use Rattle.kc_values.specs.FoundRows.{IsMetRange};
 ghost use Rattle.kc_language.specs.Values as digits;

@@ -8,6 +8,7 @@ ghost use Rattle.kc_language.specs.Values.{number_text, above};
 ghost use Rattle.kc_values.specs.Small.{HasSmallBounds};
 ghost use Rattle.kc_values.specs.User.{given_in};
 ghost use Rattle.kc_language.specs.Texts as spec;
+ghost use Rattle.kc_values.specs.PartsOfTexts as spec_parts;
 ghost use Rattle.kc_values.specs.Warnings as spec_of_warnings;
 
 use crate::numbers::{
@@ -43,7 +44,7 @@ fn selected_warning(
     selected_to: Tri,
     direct: Tri,
 ) -> Result<Warning<Vec<u8>>, AllocError>
-    ensures { IfOk result (λ w. owned_warning w ≡ spec.selected_warning name.now selected_to direct) }
+    ensures { IfOk result (λ w. owned_warning w ≡ spec_parts.selected_warning name.now selected_to direct) }
 {
     Ok(Warning::Selected {
         name: Vec::from_slice(alloc, name)?,
@@ -79,7 +80,7 @@ fn user_outside(
     text: &[u8],
 ) -> Result<Warning<Vec<u8>>, AllocError>
     requires { HasSmallBounds range }
-    ensures { IfOk result (λ w. owned_warning w ≡ spec.user_warning symbol_type range name.now text.now) }
+    ensures { IfOk result (λ w. owned_warning w ≡ spec_parts.user_warning symbol_type range name.now text.now) }
 {
     Ok(Warning::UserOutside {
         name: Vec::from_slice(alloc, name)?,
@@ -98,7 +99,7 @@ fn default_outside(
     text: &[u8],
 ) -> Result<Warning<Vec<u8>>, AllocError>
     requires { HasSmallBounds range }
-    ensures { IfOk result (λ w. owned_warning w ≡ spec.default_warning symbol_type range name.now text.now) }
+    ensures { IfOk result (λ w. owned_warning w ≡ spec_parts.default_warning symbol_type range name.now text.now) }
 {
     Ok(Warning::DefaultOutside {
         name: Vec::from_slice(alloc, name)?,

@@ -7,7 +7,8 @@ use Rattle.kc_language.specs.declared.expressions.SymId.{SymId}
 use Rattle.kc_read.specs.declared.statement.Head.{Head}
 use Rattle.kc_read.specs.StatementViews.{head_view}
 use Rattle.kc_tree.specs.declared.rows.Symbol.{Symbol}
-use Rattle.kc_language.specs.Symbols.{enclosing_choice, first_of, symbol_at, symbol_of, stated_type}
+use Rattle.kc_language.specs.Symbols.{enclosing_choice, symbol_at, stated_type}
+use Rattle.kc_build.specs.PartsOfSymbols.{first_of, symbol_of}
 use Rattle.kc_build.specs.Suspected.{AreSuspects}
 use Rattle.kc_build.specs.SymbolRows.{definition_number, row_view}
 use Rattle.kc_build.specs.SymbolWalk.{AreRowsBefore, entry_type, with_definition}

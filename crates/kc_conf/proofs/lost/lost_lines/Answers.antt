@@ -2,7 +2,7 @@
 use Rattle.std.proofs.Common.{◌∙◌, ℕ, List, ap, arith}
 use Rattle.std.specs.List.{flat_map}
 use Rattle.kc_language.specs.declared.expressions.SymId.{SymId}
-use Rattle.kc_language.specs.Texts.{lost_at}
+use Rattle.kc_conf.specs.PartsOfTexts.{lost_at}
 use Rattle.kc_conf.proofs.LostLemmas.{all_lost, one_more_lost}
 use Rattle.kc_conf.proofs.lost.lost_lines.Goals as goal
 

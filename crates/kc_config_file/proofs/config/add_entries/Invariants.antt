@@ -1,7 +1,8 @@
 use Rattle.std.proofs.Common.{◌≡◌, ◌++◌, drop, map}
 use Rattle.kc_tree.specs.Layouts.{shown_of}
 use Rattle.kc_config_file.specs.EntryTexts.{entries_after}
-use Rattle.kc_language.specs.Texts.{entries_text, solution_view}
+use Rattle.kc_config_file.specs.PartsOfTexts.{entries_text}
+use Rattle.kc_language.specs.Texts.{solution_view}
 use Rattle.kc_config_file.proofs.config.add_entries.Given as goal
 
 -- what the entries behind give is still to come

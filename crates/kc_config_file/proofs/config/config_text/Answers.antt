@@ -1,5 +1,6 @@
 use Rattle.std.proofs.Common.{◌∙◌, ◌++◌, ap}
-use Rattle.kc_language.specs.Texts.{config_text, entries_text, solution_view}
+use Rattle.kc_language.specs.Texts.{config_text, solution_view}
+use Rattle.kc_config_file.specs.PartsOfTexts.{entries_text}
 use Rattle.kc_config_file.proofs.config.config_text.Goals as goal
 
 pub returns : goal.returns

@@ -1,6 +1,7 @@
 use Rattle.std.proofs.Common.{◌≤◌, length, ap, arith}
 use Rattle.kc_language.specs.Symbols.{TreeFacts}
-use Rattle.kc_language.specs.Texts.{header_if, solution_view}
+use Rattle.kc_config_file.specs.PartsOfTexts.{header_if}
+use Rattle.kc_language.specs.Texts.{solution_view}
 use Rattle.kc_config_file.proofs.TextLemmas.{defined_named, symbols_next, symbols_end, grows, is_grown}
 use Rattle.kc_config_file.proofs.header.add_header_lines.Goals as goal
 

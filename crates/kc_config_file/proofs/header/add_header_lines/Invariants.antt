@@ -1,6 +1,7 @@
 use Rattle.std.proofs.Common.{◌≡◌, ◌++◌, drop}
 use Rattle.std.specs.Prelude.{flat_map}
-use Rattle.kc_language.specs.Texts.{header_if, solution_view}
+use Rattle.kc_config_file.specs.PartsOfTexts.{header_if}
+use Rattle.kc_language.specs.Texts.{solution_view}
 use Rattle.kc_config_file.proofs.header.add_header_lines.Given as goal
 
 -- the lines of the symbols behind are still to come

@@ -1,6 +1,7 @@
 use Rattle.std.proofs.Common.{◌∙◌, ◌++◌, ap}
 use Rattle.std.specs.Prelude.{flat_map}
-use Rattle.kc_language.specs.Texts.{header_text, header_if, solution_view}
+use Rattle.kc_language.specs.Texts.{header_text, solution_view}
+use Rattle.kc_config_file.specs.PartsOfTexts.{header_if}
 use Rattle.kc_config_file.proofs.header.header_text.Goals as goal
 
 pub returns : goal.returns

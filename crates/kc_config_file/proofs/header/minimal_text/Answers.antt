@@ -1,7 +1,8 @@
 use Rattle.std.proofs.Common.{◌≤◌, length, ap, arith, refl}
 use Rattle.kc_language.specs.Symbols.{TreeFacts}
 use Rattle.kc_expr.proofs.NamesLemmas.{on_err}
-use Rattle.kc_language.specs.Texts.{minimal_if, minimal_text, solution_view}
+use Rattle.kc_config_file.specs.PartsOfTexts.{minimal_if}
+use Rattle.kc_language.specs.Texts.{minimal_text, solution_view}
 use Rattle.kc_config_file.proofs.TextLemmas.{defined_named, symbols_next, symbols_end, grows, grows_some, is_grown}
 use Rattle.kc_config_file.proofs.header.minimal_text.Goals as goal
 

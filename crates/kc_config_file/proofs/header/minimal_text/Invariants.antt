@@ -1,6 +1,7 @@
 use Rattle.std.proofs.Common.{◌≡◌, ◌++◌, drop}
 use Rattle.std.specs.Prelude.{flat_map}
-use Rattle.kc_language.specs.Texts.{minimal_if, minimal_text, solution_view}
+use Rattle.kc_config_file.specs.PartsOfTexts.{minimal_if}
+use Rattle.kc_language.specs.Texts.{minimal_text, solution_view}
 use Rattle.kc_config_file.proofs.header.minimal_text.Given as goal
 
 -- the lines of the symbols behind are still to come

@@ -1,6 +1,6 @@
 use Rattle.std.proofs.Common.{[], ◌∷◌, false, arith}
 use Rattle.std.proofs.lemmas.Result.{on_err_weaker, on_ok_weaker}
-use Rattle.kc_language.specs.ConfigFile.{line, assignments}
+use Rattle.kc_config_file.specs.PartsOfConfigFile.{line, assignments}
 use Rattle.kc_config_file.specs.ReaderView.{position_of}
 use Rattle.kc_config_file.proofs.FedLemmas.{no_bytes, some_bytes}
 use Rattle.kc_config_file.proofs.FeedLemmas.{FinishesStream-nothing, FinishesStream-line, OnOk-three}

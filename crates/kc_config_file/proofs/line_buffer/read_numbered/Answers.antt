@@ -1,5 +1,5 @@
 use Rattle.std.proofs.Common.{◌++◌, ◌∙◌, sym, ap}
-use Rattle.kc_language.specs.ConfigFile.{line}
+use Rattle.kc_config_file.specs.PartsOfConfigFile.{line}
 use Rattle.kc_config_file.proofs.LineLemmas.{input_after-line, warning-line}
 use Rattle.kc_config_file.proofs.line_buffer.read_numbered.Goals as goal
 

@@ -1,6 +1,6 @@
 use Rattle.std.proofs.Common.{true, ◌≤◌, [], ◌∷◌, length, arith}
 use Rattle.std.proofs.lemmas.Bool.{eq-eqb, ne_eqb}
-use Rattle.kc_language.specs.ConfigFile.{line, assignments}
+use Rattle.kc_config_file.specs.PartsOfConfigFile.{line, assignments}
 use Rattle.kc_config_file.specs.ReaderView.{position_of}
 use Rattle.kc_config_file.proofs.FedLemmas.{fed-other}
 use Rattle.kc_config_file.proofs.FeedLemmas.{Feeds-lf, StopsBecause-long}

@@ -3,7 +3,7 @@ use Rattle.std.proofs.lemmas.Bool.{eq-eqb}
 use Rattle.std.proofs.lemmas.List.{drop_more, take_more}
 use Rattle.std.proofs.lemmas.Result.{err_from_is_err_and}
 use Rattle.kc_config_file.specs.ReaderView.{position_of}
-use Rattle.kc_language.specs.ConfigFile.{line, assignments}
+use Rattle.kc_config_file.specs.PartsOfConfigFile.{line, assignments}
 use Rattle.kc_config_file.proofs.FedLemmas.{fed-others, fed-append, fed-line, line_next, no_bytes}
 use Rattle.kc_config_file.proofs.FeedLemmas.{StopsBecause-longer, Feeds-line}
 use Rattle.kc_config_file.proofs.PlaceLemmas.{ArePlacesOf-given}

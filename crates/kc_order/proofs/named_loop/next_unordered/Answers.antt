@@ -1,7 +1,8 @@
 use Rattle.std.proofs.Common.{arith, rules, sym, ◌∙◌, ◌≡◌, ◌<◌, get_or, length}
 use Rattle.std.proofs.lemmas.Option.{none-some}
 use Rattle.kc_order.specs.FirstUnordered.{place_among}
-use Rattle.kc_language.specs.Needs.{IsNext, unordered_after}
+use Rattle.kc_order.specs.PartsOfNeeds.{IsNext}
+use Rattle.kc_language.specs.Needs.{unordered_after}
 use Rattle.kc_order.proofs.FirstLemmas.{find_by_place, find_without_place}
 use Rattle.kc_order.proofs.Groups.{graph, flat, needs_within}
 use Rattle.kc_order.proofs.Held.{row_nodes}

@@ -1,5 +1,5 @@
 use Rattle.std.proofs.Common.{refl}
-use Rattle.kc_language.specs.Statements.{attribute_words, type_words, block_words, left_out_words}
+use Rattle.kc_read.specs.PartsOfStatements.{attribute_words, type_words, block_words, left_out_words}
 use Rattle.kc_read.proofs.KeywordLemmas.{in_first, in_second, in_third}
 use Rattle.kc_read.proofs.keywords.keyword_of.Goals as goal
 

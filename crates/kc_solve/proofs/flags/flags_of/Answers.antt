@@ -3,7 +3,8 @@ use Rattle.std.proofs.lemmas.List.FromFn.{length-map-range_with_len}
 use Rattle.kc_language.specs.Expressions.{symbol}
 use Rattle.kc_tree.specs.Layouts.{facts_of}
 use Rattle.kc_language.specs.ConfigFile.{place_at}
-use Rattle.kc_language.specs.Values.{selection, default_selection, written_facts}
+use Rattle.kc_language.specs.Values.{selection, default_selection}
+use Rattle.kc_values.specs.PartsOfValues.{written_facts}
 use Rattle.kc_values.specs.Table.{known_in}
 use Rattle.kc_values.specs.User.{given_in}
 use Rattle.kc_solve.specs.Answers.{visibility_by}

@@ -1,6 +1,7 @@
 use Rattle.std.proofs.Common.{◌∙◌, ap, subst, sym}
 use Rattle.kc_language.specs.Values.{choice_at, selected}
-use Rattle.kc_language.specs.ConfigFile.{member_place, place_at}
+use Rattle.kc_user.specs.PartsOfConfigFile.{member_place}
+use Rattle.kc_language.specs.ConfigFile.{place_at}
 use Rattle.kc_values.specs.TableFacts.{IsSelected}
 use Rattle.kc_values.specs.Table.{known_in}
 use Rattle.kc_solve.proofs.FlagSteps.{one_more_default, one_more_selected}

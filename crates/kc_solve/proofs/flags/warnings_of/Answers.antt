@@ -4,7 +4,7 @@ use Rattle.kc_language.specs.Expressions.{symbol}
 use Rattle.kc_tree.specs.Layouts.{facts_of}
 use Rattle.kc_language.specs.ConfigFile.{place_at}
 use Rattle.kc_values.specs.User.{given_in}
-use Rattle.kc_language.specs.Texts.{warnings_at}
+use Rattle.kc_values.specs.PartsOfTexts.{warnings_at}
 use Rattle.kc_solve.specs.Flags.{values_in}
 use Rattle.kc_solve.proofs.TableSteps.{defined_are, defined_below, row_count, row_facts}
 use Rattle.kc_solve.proofs.UserSteps.{place_mapped}

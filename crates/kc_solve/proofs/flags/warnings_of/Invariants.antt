@@ -1,7 +1,7 @@
 use Rattle.std.proofs.Common.{◌≡◌, flat_map, map, take}
 use Rattle.kc_diagnostics.specs.Warnings.{owned_warning}
 use Rattle.kc_language.specs.ConfigFile.{place_at}
-use Rattle.kc_language.specs.Texts.{warnings_at}
+use Rattle.kc_values.specs.PartsOfTexts.{warnings_at}
 use Rattle.kc_solve.specs.Flags.{values_in}
 use Rattle.kc_solve.proofs.flags.warnings_of.Given as goal
 

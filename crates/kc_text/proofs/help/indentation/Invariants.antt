@@ -1,6 +1,7 @@
 -- What holds at each turn of the loop of `indentation`.
 use Rattle.std.proofs.Common.{◌≡◌, ℕ, List, ◌-◌, ◌≤◌, ◌*◌, ◌++◌, length, take, drop}
-use Rattle.kc_language.specs.Lines.{column, is_blank_line}
+use Rattle.kc_language.specs.Lines.{column}
+use Rattle.kc_text.specs.PartsOfLines.{is_blank_line}
 use Rattle.kc_text.proofs.help.indentation.Given as goal
 
 abbrev pub invariant-blanks : goal.invariant-blanks

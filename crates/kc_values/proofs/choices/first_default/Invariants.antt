@@ -1,7 +1,7 @@
 use Rattle.std.proofs.Common.{◌≡◌, map, drop}
 use Rattle.kc_tree.specs.Layouts.{choice_default_view, choice_facts}
 use Rattle.kc_values.specs.TableFacts.{known_at, condition_at}
-use Rattle.kc_language.specs.Values as spec
+use Rattle.kc_values.specs.PartsOfValues as spec
 use Rattle.kc_values.proofs.choices.first_default.Given as goal
 
 abbrev pub invariant-loop-default : goal.invariant-loop-default

@@ -1,6 +1,6 @@
 use Rattle.std.proofs.Common.{◌≡◌, drop}
 use Rattle.kc_values.specs.TableFacts.{known_at}
-use Rattle.kc_language.specs.Values as spec
+use Rattle.kc_values.specs.PartsOfValues as spec
 use Rattle.kc_values.proofs.choices.first_visible.Given as goal
 
 abbrev pub invariant-loop-member : goal.invariant-loop-member

@@ -3,7 +3,7 @@ use Rattle.std.proofs.Math.Logic.{∥∥₁_elim}
 use Rattle.std.specs.Coded.{Coded-set, coded_option}
 use Rattle.kc_language.specs.contracts.expressions.SymId as sym_id
 use Rattle.kc_tree.specs.TreeCode.{choice_code}
-use Rattle.kc_language.specs.ConfigFile.{member_place}
+use Rattle.kc_user.specs.PartsOfConfigFile.{member_place}
 use Rattle.kc_values.specs.TableFacts.{known_at}
 use Rattle.kc_language.specs.Values as spec
 use Rattle.kc_values.proofs.Laid.{choice_found}

@@ -2,7 +2,8 @@ use Rattle.std.proofs.Common.{Some, None, not, ap, ◌∙◌}
 use Rattle.std.proofs.Math.Logic.{∥∥₁_elim}
 use Rattle.std.specs.Coded.{Coded-set, coded_bool}
 use Rattle.kc_values.specs.TableFacts.{known_at}
-use Rattle.kc_language.specs.Values.{is_n, visible_facts}
+use Rattle.kc_language.specs.Values.{is_n}
+use Rattle.kc_values.specs.PartsOfValues.{visible_facts}
 use Rattle.kc_values.proofs.Laid.{symbol_found}
 use Rattle.kc_values.proofs.choices.visible.Goals as goal
 

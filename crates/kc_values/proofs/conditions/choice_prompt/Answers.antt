@@ -4,7 +4,8 @@ use Rattle.kc_language.specs.Expressions.{lesser}
 use Rattle.kc_tree.specs.Contexts.{condition_in}
 use Rattle.kc_tree.specs.Layouts.{prompt_view}
 use Rattle.kc_values.specs.TableFacts.{known_at}
-use Rattle.kc_language.specs.Values.{and_value, prompt_value}
+use Rattle.kc_language.specs.Values.{and_value}
+use Rattle.kc_values.specs.PartsOfValues.{prompt_value}
 use Rattle.kc_values.proofs.ConditionLemmas.{prompt_asked}
 use Rattle.kc_values.proofs.conditions.choice_prompt.Goals as goal
 

@@ -2,7 +2,8 @@ use Rattle.std.proofs.Common.{◌+◌, sym, ap, ◌∙◌}
 use Rattle.kc_tree.specs.Contexts.{condition_in}
 use Rattle.kc_tree.specs.Layouts.{DefinitionFacts, definition_facts}
 use Rattle.kc_values.specs.TableFacts.{known_at}
-use Rattle.kc_language.specs.Values.{first_met, interval}
+use Rattle.kc_language.specs.Values.{first_met}
+use Rattle.kc_values.specs.PartsOfValues.{interval}
 use Rattle.kc_values.proofs.DefinitionLemmas.{met_from, met-some, met-none}
 use Rattle.kc_values.proofs.MetLemmas.{range-some, range-none, range-bounds}
 use Rattle.kc_values.proofs.numbers.active_range.Goals as goal

@@ -2,7 +2,7 @@ use Rattle.std.proofs.Common.{ℕ, List, min, ◌+◌, Some, ap, subst, ◌∙�
 use Rattle.kc_language.specs.Expressions.{same_name}
 use Rattle.kc_language.specs.Expansion.{Files, lines_of}
 use Rattle.kc_language.specs.Outcome.{AreSources}
-use Rattle.kc_language.specs.Text.{last_count}
+use Rattle.kc_text.specs.PartsOfText.{last_count}
 use Rattle.kc_load.proofs.loading.Loading.take.Goals as goal
 
 pub returns : goal.returns

@@ -1,0 +1,12 @@
+-- Trusted: Parts of the definitions of Texts, by names of their own.
+use Rattle.std.specs.Prelude.{List, None, Option, slice_index_or, ℕ}
+use Rattle.kc_language.specs.ConfigFile.{StreamLocation, place_at}
+use Rattle.kc_language.specs.Expressions.{symbol}
+use Rattle.kc_language.specs.Texts.{Solution, known, lost_of}
+use Rattle.kc_language.specs.Values.{SymbolPlace, facts, given_of, name}
+
+-- For the lines that gave the user's values, and a solution.
+module _ (lines : List (Option StreamLocation)) (s : Solution) where
+  -- A member of a choice is told of as any other symbol, by its own value.
+  abbrev pub lost_at : ℕ → List (List ℕ)
+  lost_at i = lost_of (name s.tree (symbol i)) (facts s.tree (symbol i)) (slice_index_or lines i None) (place_at s.places (SymbolPlace i)) (given_of (known s (symbol i)))

@@ -1,0 +1,159 @@
+-- Trusted: Parts of the definitions of ConfigFile, by names of their own.
+use Rattle.std.specs.Char.{is_ascii_digit}
+use Rattle.std.specs.List.{after_first, before_first, filter_map, list_any, position_or_len, suffix_len}
+use Rattle.std.specs.Option.{option_and_then, option_map_or}
+use Rattle.std.specs.Prelude.{Bool, List, None, Option, Some, [], drop, false, find, if◌then◌else◌, length, nat_le, nat_lt, not, option_map, slice_index, slice_index_or, take, take_while, ℕ, ◌&&◌, ◌++◌, ◌-◌, ◌==◌, ◌∷◌}
+use Rattle.std.specs.Str.Lines.{strip_carriage_return}
+use Rattle.kc_language.specs.ConfigFile.{Assignment, Assigns, Effect, Line, LineMeaning, Malformed, Nothing, Set, Silent, StreamLocation, Unset, UserInput, Warns, change_text, effect, effect_warning, is_within, meaning_of, name_and_value, place_at, set_by_type, unset_by_type, unset_name, until_quote, value_by, warning_line, yes_or_no}
+use Rattle.kc_language.specs.Expressions.{symbol}
+use Rattle.kc_language.specs.Symbols.{TreeFacts, Warning}
+use Rattle.kc_language.specs.Text.{byte, longest_value, unescape}
+use Rattle.kc_language.specs.Tokens.{is_blank}
+use Rattle.kc_language.specs.Values.{GivenText, GivenValue, SymbolPlace, facts, name as name_of, type_in}
+use Rattle.kc_language.specs.declared.diagnostics.Warning.TheVariants.{NotAllowed, UnknownSymbol}
+use Rattle.kc_language.specs.declared.expressions.SymId.{SymId}
+use Rattle.kc_language.specs.declared.expressions.SymbolType.{SymbolType}
+use Rattle.kc_language.specs.declared.expressions.Tri.{Tri}
+use Rattle.kc_language.specs.declared.expressions.Tri.TheVariants.{M}
+
+abbrev pub begins_with_digit : List ℕ → Bool
+begins_with_digit text = is_ascii_digit (slice_index text 0)
+
+-- the line without the blanks at its end
+abbrev pub trimmed : List ℕ → List ℕ
+trimmed bytes = take (length bytes - suffix_len is_blank bytes) bytes
+
+-- one byte or more, and no blank
+abbrev pub is_plain : List ℕ → Bool
+is_plain name = nat_lt 0 (length name) && not (list_any is_blank name)
+
+abbrev pub plain : List ℕ → Option (List ℕ)
+plain name = if is_plain name then Some name else None
+
+abbrev pub is_equals : ℕ → Bool
+is_equals b = b == byte "="
+
+abbrev pub is_hash : ℕ → Bool
+is_hash b = b == byte "#"
+
+-- the bytes up to the first `=`, of which there is one or more, and those after it
+abbrev pub split_at_equals : List ℕ → Option (List ℕ × List ℕ)
+split_at_equals text =
+    if nat_lt 0 (position_or_len is_equals text) && nat_lt (position_or_len is_equals text) (length text)
+    then Some (before_first is_equals text, after_first is_equals text) else None
+
+-- the first byte that is no blank is `#`
+abbrev pub is_comment : List ℕ → Bool
+is_comment text = option_map_or is_hash (find (λ b. not (is_blank b)) text) false
+
+abbrev pub set_or_malformed : Option (List ℕ × List ℕ) → LineMeaning
+set_or_malformed None = Malformed
+set_or_malformed (Some parts) = Set parts.0 parts.1
+
+abbrev pub not_unset : List ℕ → List ℕ → LineMeaning
+not_unset prefix text = if is_comment text then Nothing else set_or_malformed (name_and_value prefix text)
+
+abbrev pub unset_or : Option (List ℕ) → LineMeaning → LineMeaning
+unset_or None other = other
+unset_or (Some name) other = Unset name
+
+-- the meaning of a line that ends in no blank
+abbrev pub meaning_of_text : List ℕ → List ℕ → LineMeaning
+meaning_of_text prefix text = if length text == 0 then Nothing else unset_or (unset_name prefix text) (not_unset prefix text)
+
+-- the meaning of a line that has these bytes before its line feed: a carriage return directly before that belongs to the end
+abbrev pub ended_meaning : List ℕ → List ℕ → LineMeaning
+ended_meaning prefix bytes = meaning_of prefix (strip_carriage_return bytes)
+
+-- y, m and n
+abbrev pub yes_m_or_no : ℕ → Option Tri
+yes_m_or_no b = if b == byte "m" then Some M else yes_or_no b
+
+-- what stands between the `"` that the text begins with and the one that closes it
+abbrev pub quoted : List ℕ → Option (List ℕ)
+quoted text = if slice_index text 0 == byte "\"" then until_quote (drop 1 text) else None
+
+abbrev pub string_value : List ℕ → Option GivenValue
+string_value text = option_map (λ raw. GivenText (unescape raw)) (quoted text)
+
+abbrev pub number_value : List ℕ → Bool → Option GivenValue
+number_value text is_number = if is_number then Some (GivenText text) else None
+
+-- a text that is too long gives no value
+abbrev pub line_value : SymbolType → List ℕ → Option GivenValue
+line_value symbol_type text = if nat_le (length text) longest_value then value_by symbol_type text else None
+
+-- the type of a symbol; a name that is not defined has none
+abbrev pub type_of : TreeFacts → SymId → SymbolType
+type_of tree s = type_in (facts tree s)
+
+abbrev pub assigned_or : List ℕ → SymId → Option GivenValue → Effect
+assigned_or name s None = Warns (NotAllowed name)
+assigned_or name s (Some given) = Assigns s given
+
+abbrev pub set_effect : TreeFacts → List ℕ → List ℕ → Option SymId → Effect
+set_effect tree name text None = Warns (UnknownSymbol name)
+set_effect tree name text (Some s) = set_by_type name s text (type_of tree s)
+
+abbrev pub unset_effect : TreeFacts → List ℕ → Option SymId → Effect
+unset_effect tree name None = Warns (UnknownSymbol name)
+unset_effect tree name (Some s) = unset_by_type name s (type_of tree s)
+
+abbrev pub line : List ℕ → ℕ → List ℕ → Bool → Line
+line stream number bytes ended = record { stream = stream; number = number; bytes = bytes; ended = ended }
+
+-- a last part without LF is a line where it is not empty
+abbrev pub last_line : List ℕ → ℕ → List ℕ → List Line
+last_line stream n bytes = if length bytes == 0 then [] else line stream n bytes false ∷ []
+
+-- One carriage return directly before the LF belongs to the line's end.
+abbrev pub text_of : Line → List ℕ
+text_of l = if l.ended then strip_carriage_return l.bytes else l.bytes
+
+abbrev pub assignment_of : Effect → Option Assignment
+assignment_of Silent = None
+assignment_of (Warns line_warning) = None
+assignment_of (Assigns s given) = Some (record { symbol = s; given = given })
+
+abbrev pub is_this_choice : ℕ → Option ℕ → Bool
+is_this_choice c None = false
+is_this_choice c (Some d) = d == c
+
+-- the choice that a symbol is a member of
+abbrev pub choice_of : TreeFacts → SymId → Option ℕ
+choice_of tree s = option_and_then (λ f. f.choice) (facts tree s)
+
+-- the value that an assignment gives to symbol i
+abbrev pub given_to : ℕ → Assignment → Option GivenValue
+given_to i a = if a.symbol.0 == i then Some a.given else None
+
+abbrev pub warning_line_if : List ℕ → ℕ → Option Warning → List ℕ
+warning_line_if stream number None = []
+warning_line_if stream number (Some line_warning) = warning_line stream number line_warning
+
+-- what a line changes, where the lines of the user's values are kept
+abbrev pub effect_change : TreeFacts → UserInput → StreamLocation → Effect → List ℕ
+effect_change tree input at Silent = []
+effect_change tree input at (Warns line_warning) = []
+effect_change tree input at (Assigns s given) =
+    change_text at (name_of tree s) (type_of tree s) (place_at input.places (SymbolPlace s.0)) (slice_index_or input.lines s.0 None) given
+
+-- what a line of this effect warns of, given the input before it
+abbrev pub effect_text : TreeFacts → UserInput → StreamLocation → Effect → List ℕ
+effect_text tree input at effect = warning_line_if at.stream at.number (effect_warning tree input.places effect) ++ effect_change tree input at effect
+
+-- the line that gives symbol i a value
+abbrev pub line_for : ℕ → StreamLocation → Effect → Option StreamLocation
+line_for i at Silent = None
+line_for i at (Warns line_warning) = None
+line_for i at (Assigns s given) = if s.0 == i then Some at else None
+
+-- the lines before the first that is too long count
+abbrev pub before_too_long : List Line → List Line
+before_too_long lines = take_while is_within lines
+
+-- For a tree and a prefix.
+module _ (tree : TreeFacts) (prefix : List ℕ) where
+  -- the valid assignments of the lines, in order
+  abbrev pub assignments : List Line → List Assignment
+  assignments lines = filter_map (λ l. assignment_of (effect l)) lines

@@ -1,0 +1,65 @@
+-- Trusted: Parts of the definitions of Texts, by names of their own.
+use Rattle.std.specs.List.{enumerate_from, flat_map}
+use Rattle.std.specs.Prelude.{Bool, List, None, Option, Some, [], codes, false, if◌then◌else◌, take, true, ℕ, ◌++◌, ◌==◌, ◌||◌}
+use Rattle.kc_language.specs.Symbols.{CommentShown, EndShown, MenuShown, Shown, SymbolShown, TreeFacts}
+use Rattle.kc_language.specs.Text.{byte, has_hex_prefix}
+use Rattle.kc_language.specs.Texts.{SolutionView, end_is_last, entry_text, header_line, symbol_config, title_lines}
+use Rattle.kc_language.specs.Tokens.{is_blank}
+use Rattle.kc_language.specs.Values.{name as name_of}
+use Rattle.kc_language.specs.declared.expressions.SymId.{SymId}
+
+-- a hex begins with `0x` in a header
+abbrev pub hex_text : List ℕ → List ℕ
+hex_text text = if has_hex_prefix text then text else codes "0x" ++ text
+
+abbrev pub config_heading : List ℕ → List ℕ
+config_heading title = codes "#\n# Automatically generated file; DO NOT EDIT.\n# " ++ title ++ codes "\n#\n"
+
+abbrev pub header_heading : List ℕ → List ℕ
+header_heading title = codes "/*\n * Automatically generated file; DO NOT EDIT.\n * " ++ title ++ codes "\n */\n"
+
+abbrev pub end_line : List ℕ → List ℕ
+end_line text = codes "# end of " ++ text ++ codes "\n"
+
+abbrev pub title_if : Bool → List ℕ → List ℕ
+title_if shown text = if shown then title_lines text else []
+
+abbrev pub end_if : Option (List ℕ) → List ℕ
+end_if None = []
+end_if (Some text) = end_line text
+
+-- an empty line stands between an end line and a symbol's line that follows it directly
+abbrev pub gap : Bool → List ℕ
+gap after_end = if after_end then codes "\n" else []
+
+abbrev pub is_end : Shown → Bool
+is_end (SymbolShown s) = false
+is_end (MenuShown text when) = false
+is_end (EndShown menu) = true
+is_end (CommentShown text when) = false
+
+module _ (tree : TreeFacts) (prefix : List ℕ) (solution : SolutionView) where
+  abbrev pub symbol_header : SymId → List ℕ
+  symbol_header s = header_line (prefix ++ name_of tree s) (solution.value s)
+
+  -- what all give, in order: each after the entries before it
+  abbrev pub entries_text : List Shown → List ℕ
+  entries_text entries = flat_map (λ (i, entry). entry_text (end_is_last tree solution (take i entries)) entry) (enumerate_from 0 entries)
+
+  abbrev pub header_if : SymId → List ℕ
+  header_if s = if solution.written s then symbol_header s else []
+
+  abbrev pub minimal_if : SymId → List ℕ
+  minimal_if s = if solution.differs s then symbol_config s else []
+
+-- a blank or a carriage return
+abbrev pub is_end_byte : ℕ → Bool
+is_end_byte b = is_blank b || b == byte "\r"
+
+-- the line of a title, between the `#` lines around it
+abbrev pub title_line : List ℕ → List ℕ
+title_line text = codes "# " ++ text
+
+-- the minimal file's lines of the symbols that pass the test
+abbrev pub kept_lines : TreeFacts → List ℕ → SolutionView → (SymId → Bool) → List ℕ
+kept_lines tree prefix solution keep = flat_map (λ s. if keep s then minimal_if tree prefix solution s else []) tree.defined

@@ -1,0 +1,52 @@
+-- Trusted: Parts of the definitions of Expressions, by names of their own.
+use Rattle.std.specs.List.{flat_map}
+use Rattle.std.specs.Prelude.{Bool, List, None, Option, Some, [], ℕ}
+use Rattle.kc_language.specs.Expressions.{Bang, Close, Compares, Disjunction, Form, Joins, Keyword, Open, OperandToken, SymbolValue, Terminal, lesser, levels, meaning, names_in_atom, number, spell, truth_of_value}
+use Rattle.kc_language.specs.declared.expressions.Connective.TheVariants.{And, Or}
+use Rattle.kc_language.specs.declared.expressions.SymId.{SymId}
+use Rattle.kc_language.specs.declared.expressions.Tri.{Tri}
+use Rattle.kc_language.specs.declared.expressions.Tri.TheVariants.{M, N}
+use Rattle.kc_language.specs.declared.tokens.Op.{Op}
+use Rattle.kc_language.specs.declared.tokens.Op.TheVariants as op
+
+module _ (known : SymId → SymbolValue) where
+  -- a lone m of a condition: n where no modules symbol is defined
+  abbrev pub lone_m : Option SymId → Tri
+  lone_m None = N
+  lone_m (Some s) = lesser M (truth_of_value (known s))
+
+abbrev pub op_terminal : Op → Terminal
+op_terminal op.Eq = Compares op.Eq
+op_terminal op.Ne = Compares op.Ne
+op_terminal op.Lt = Compares op.Lt
+op_terminal op.Gt = Compares op.Gt
+op_terminal op.Le = Compares op.Le
+op_terminal op.Ge = Compares op.Ge
+op_terminal op.Not = Bang
+op_terminal op.And = Joins And
+op_terminal op.Or = Joins Or
+op_terminal op.LParen = Open
+op_terminal op.RParen = Close
+
+abbrev pub spell_or : Disjunction → List Terminal
+spell_or d = spell d
+
+abbrev pub levels_or : Disjunction → ℕ
+levels_or d = levels d
+
+module _ (condition : Bool) (number : List ℕ → ℕ) where
+  abbrev pub meaning_or : Disjunction → Form
+  meaning_or d = meaning d
+
+abbrev pub names_in_terminal : Terminal → List (List ℕ)
+names_in_terminal (OperandToken a) = names_in_atom a
+names_in_terminal (Compares o) = []
+names_in_terminal Bang = []
+names_in_terminal (Joins c) = []
+names_in_terminal Open = []
+names_in_terminal Close = []
+names_in_terminal Keyword = []
+
+-- the names that tokens mention, from left to right
+abbrev pub names_in_terminals : List Terminal → List (List ℕ)
+names_in_terminals = flat_map names_in_terminal

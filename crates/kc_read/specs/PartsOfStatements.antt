@@ -1,0 +1,125 @@
+-- Trusted: Parts of the definitions of Statements, by names of their own.
+use Rattle.std.specs.List.{list_any}
+use Rattle.std.specs.Map.{lookup}
+use Rattle.std.specs.Prelude.{Bool, Err, List, None, Ok, Option, Result, Some, [], codes, drop, false, if◌then◌else◌, ℕ, ◌==◌, ◌||◌, ◌∷◌}
+use Rattle.kc_language.specs.Expressions.{Disjunction, Form, if_word, same_name}
+use Rattle.kc_language.specs.Statements.{After, Cause, ConfigLine, DependsLine, Front, LineContext, Named, RangeLine, ReadsCondition, ReadsRest, ReadsWhole, VisibleLine, expected, is_good_name, operand_of, placement_cause}
+use Rattle.kc_language.specs.Text.{byte}
+use Rattle.kc_language.specs.Tokens.{Lexeme}
+use Rattle.kc_language.specs.declared.statements.Keyword.{Keyword}
+use Rattle.kc_expr.specs.PartsOfExpressions.{meaning_or}
+use Rattle.kc_language.specs.declared.diagnostics.Cause.TheVariants as cause
+use Rattle.kc_language.specs.declared.expressions.SymbolType.TheVariants as symbol_type
+use Rattle.kc_language.specs.declared.statements.Keyword.TheVariants as key
+
+-- a value: a lone m is m
+abbrev pub value_form : (List ℕ → ℕ) → Disjunction → Form
+value_form number d = meaning_or false number d
+
+-- the keyword of a word in a table of words, each with its keyword
+abbrev pub keyword_in : List (List ℕ × Keyword) → List ℕ → Option Keyword
+keyword_in keywords w = lookup (same_name w) keywords
+
+-- words that more than the table of words speaks of; `if` stands with the grammar of expressions
+abbrev pub source_word : List ℕ
+source_word = codes "source"
+
+abbrev pub modules_word : List ℕ
+modules_word = codes "modules"
+
+abbrev pub help_word : List ℕ
+help_word = codes "help"
+
+-- the older spelling of `help`
+abbrev pub old_help_word : List ℕ
+old_help_word = codes "---help---"
+
+-- the words that begin a line: of blocks and entries
+abbrev pub block_words : List (List ℕ × Keyword)
+block_words =
+    (codes "config", key.Config) ∷
+    (codes "menuconfig", key.Config) ∷
+    (if_word, key.If) ∷
+    (codes "endif", key.EndIf) ∷
+    (codes "comment", key.Comment) ∷
+    (source_word, key.Source) ∷
+    (codes "menu", key.Menu) ∷
+    (codes "endmenu", key.EndMenu) ∷
+    (codes "choice", key.Choice) ∷
+    (codes "endchoice", key.EndChoice) ∷
+    (codes "mainmenu", key.MainMenu) ∷
+    []
+
+-- of types
+abbrev pub type_words : List (List ℕ × Keyword)
+type_words =
+    (codes "bool", key.Type symbol_type.Bool) ∷
+    (codes "tristate", key.Type symbol_type.Tristate) ∷
+    (codes "string", key.Type symbol_type.Str) ∷
+    (codes "int", key.Type symbol_type.Int) ∷
+    (codes "hex", key.Type symbol_type.Hex) ∷
+    (codes "def_bool", key.Def symbol_type.Bool) ∷
+    (codes "def_tristate", key.Def symbol_type.Tristate) ∷
+    []
+
+-- of attributes
+abbrev pub attribute_words : List (List ℕ × Keyword)
+attribute_words =
+    (codes "default", key.Default) ∷
+    (codes "depends", key.Depends) ∷
+    (help_word, key.Help) ∷
+    (codes "select", key.Select) ∷
+    (codes "prompt", key.Prompt) ∷
+    (codes "imply", key.Imply) ∷
+    (codes "range", key.Range) ∷
+    (codes "visible", key.Visible) ∷
+    (modules_word, key.Modules) ∷
+    (codes "option", key.«Option») ∷
+    (old_help_word, key.Help) ∷
+    []
+
+-- of what is left out
+abbrev pub left_out_words : List (List ℕ × Keyword)
+left_out_words =
+    (codes "rsource", key.LeftOut) ∷
+    (codes "osource", key.LeftOut) ∷
+    (codes "orsource", key.LeftOut) ∷
+    (codes "boolean", key.LeftOut) ∷
+    (codes "def_int", key.LeftOut) ∷
+    (codes "def_hex", key.LeftOut) ∷
+    (codes "def_string", key.LeftOut) ∷
+    (codes "transitional", key.LeftOut) ∷
+    (codes "optional", key.LeftOut) ∷
+    []
+
+abbrev pub front : Disjunction → List Lexeme → Front
+front d rest = record { tree = d; rest = rest }
+
+-- `*`, `?` or `[` stands in the text
+abbrev pub is_pattern : List ℕ → Bool
+is_pattern t = list_any (λ b. b == byte "*" || b == byte "?" || b == byte "[") t
+
+abbrev pub good_name : List ℕ → Result Named Cause
+good_name w = if is_good_name w then Ok (ConfigLine w) else Err (cause.BadName w)
+
+abbrev pub ReadsDepends : List Lexeme → Result Named Cause → Type 0
+ReadsDepends ts r = After (expected (codes "on") ts) (λ us. ReadsWhole DependsLine us) r
+
+abbrev pub ReadsVisible : List Lexeme → Result Named Cause → Type 0
+ReadsVisible ts r = After (expected if_word ts) (λ us. ReadsWhole VisibleLine us) r
+
+abbrev pub ReadsRange : List Lexeme → Result Named Cause → Type 0
+ReadsRange ts = After (operand_of ts) (λ a. After (operand_of (drop 1 ts)) (λ b. ReadsCondition (RangeLine a b) (drop 2 ts)))
+
+-- nothing is wrong with the placement
+abbrev pub in_place : Keyword → Option Cause → Result Keyword Cause
+in_place k None = Ok k
+in_place k (Some why) = Err why
+
+abbrev pub keyword_or_refusal : Option Keyword → Result Keyword Cause
+keyword_or_refusal None = Err cause.Syntax
+keyword_or_refusal (Some k) = Ok k
+
+-- the placement, and then the rest
+abbrev pub ReadsPlaced : LineContext → List ℕ → List Lexeme → Keyword → Result Named Cause → Type 0
+ReadsPlaced c w ts k r = After (in_place k (placement_cause c w ts k)) (λ j. ReadsRest w j ts) r

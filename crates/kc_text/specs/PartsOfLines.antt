@@ -1,0 +1,13 @@
+-- Trusted: Parts of the definitions of Lines, by names of their own.
+use Rattle.std.specs.List.{list_all}
+use Rattle.std.specs.Prelude.{Bool, List, if◌then◌else◌, length, take, ℕ, ◌-◌}
+use Rattle.kc_language.specs.Lines.{Physical, continues}
+use Rattle.kc_language.specs.Tokens.{is_blank}
+
+-- what the line gives to its logical line: its text without the `\` that joins it
+abbrev pub without_continuation : Physical → List ℕ
+without_continuation l = if continues l then take (length l.text - 1) l.text else l.text
+
+-- the line holds blanks alone
+abbrev pub is_blank_line : List ℕ → Bool
+is_blank_line text = list_all is_blank text

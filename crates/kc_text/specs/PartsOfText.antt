@@ -1,0 +1,33 @@
+-- Trusted: Parts of the definitions of Text, by names of their own.
+use Rattle.std.specs.Char.{is_digit}
+use Rattle.std.specs.List.{list_all}
+use Rattle.std.specs.Prelude.{Bool, List, [], drop, if◌then◌else◌, length, nat_lt, neg_ℤ, pos, ℕ, ℤ, ◌&&◌, ◌-◌, ◌==◌, ◌^◌, ◌||◌, ◌∷◌}
+use Rattle.kc_language.specs.Text.{byte, has_hex_prefix}
+
+-- the greatest number of 64 bits
+abbrev pub last_count : ℕ
+last_count = 2 ^ 64 - 1
+
+-- a hex is below this
+abbrev pub hex_limit : ℕ
+hex_limit = 2 ^ 64
+
+-- `"` and `\`, which an escaped text has a `\` before
+abbrev pub is_escaped : ℕ → Bool
+is_escaped b = b == byte "\"" || b == byte "\\"
+
+abbrev pub escape_byte : ℕ → List ℕ
+escape_byte b = if is_escaped b then byte "\\" ∷ b ∷ [] else b ∷ []
+
+abbrev pub all_digits : ℕ → List ℕ → Bool
+all_digits radix ds = list_all (λ c. is_digit c radix) ds
+
+-- one digit or more of this radix, and nothing else
+abbrev pub is_numeral : ℕ → List ℕ → Bool
+is_numeral radix ds = nat_lt 0 (length ds) && all_digits radix ds
+
+abbrev pub negated : ℕ → ℤ
+negated n = neg_ℤ (pos n)
+
+abbrev pub without_hex_prefix : List ℕ → List ℕ
+without_hex_prefix text = if has_hex_prefix text then drop 2 text else text

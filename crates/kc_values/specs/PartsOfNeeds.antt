@@ -1,0 +1,50 @@
+-- Trusted: Parts of the definitions of Needs, by names of their own.
+use Rattle.std.specs.List.{filter, flat_map}
+use Rattle.std.specs.Prelude.{List, None, Option, Some, [], map, ℕ, ◌++◌, ◌∷◌}
+use Rattle.kc_language.specs.Expressions.{leaf_symbols}
+use Rattle.kc_language.specs.Needs.{condition_names, conjunct_names, guarded_names, names_by_type, names_of_all, names_of_choice}
+use Rattle.kc_language.specs.Symbols.{Bounds, ChoiceFacts, SymbolFacts, TreeFacts, listed}
+use Rattle.kc_language.specs.Values.{choice_at, is_mentioned}
+use Rattle.kc_language.specs.declared.expressions.SymId.{SymId}
+use Rattle.kc_language.specs.declared.expressions.SymbolType.{SymbolType}
+use Rattle.kc_language.specs.declared.expressions.SymbolType.TheVariants.{Bool as IsBool, Hex, Int, Str, Tristate, Undefined}
+
+abbrev pub one_name : SymId → List SymId
+one_name s = s ∷ []
+
+abbrev pub no_name : SymId → List SymId
+no_name s = []
+
+abbrev pub bounds_names : Bounds → List SymId
+bounds_names r = leaf_symbols r.low ++ leaf_symbols r.high
+
+module _ (tree : TreeFacts) where
+  -- a mode names what the choice's prompt condition names
+  abbrev pub prompt_names : Option ChoiceFacts → List SymId
+  prompt_names None = []
+  prompt_names (Some c) = conjunct_names c.prompt
+
+  abbrev pub prompts_names : Option SymbolFacts → List SymId
+  prompts_names None = []
+  prompts_names (Some f) = flat_map condition_names f.prompts
+
+  -- a tristate type names the modules symbol
+  abbrev pub type_names : SymbolType → List SymId
+  type_names Undefined = []
+  type_names IsBool = []
+  type_names Tristate = listed tree.modules
+  type_names Str = []
+  type_names Int = []
+  type_names Hex = []
+
+  -- int and hex: also the bounds and conditions of its ranges
+  abbrev pub names_of_number : SymbolFacts → List SymId
+  names_of_number f = names_of_all f ++ guarded_names bounds_names f.ranges
+
+  abbrev pub names_by_choice : SymbolFacts → Option ℕ → List SymId
+  names_by_choice f (Some c) = names_of_choice (choice_at tree c)
+  names_by_choice f None = names_by_type f f.symbol_type
+
+  -- the numbers of the symbols in a list that the tree mentions
+  abbrev pub mentioned_numbers : List SymId → List ℕ
+  mentioned_numbers ss = map (λ (s : SymId). s.0) (filter (is_mentioned tree) ss)

@@ -1,0 +1,38 @@
+-- Trusted: Parts of the definitions of Texts, by names of their own.
+use Rattle.std.specs.List.{flat_map}
+use Rattle.std.specs.Prelude.{List, None, Option, Some, ℕ}
+use Rattle.kc_language.specs.Expressions.{Form, SymbolValue, symbol, tri_text}
+use Rattle.kc_language.specs.Symbols.{Guarded, TreeFacts, Warning}
+use Rattle.kc_language.specs.Texts.{known, warnings_of}
+use Rattle.kc_language.specs.Values.{GivenValue, SymbolPlace, UserPlace, clamped, direct, facts, known_from, name, number_text, selected_to, single_text}
+use Rattle.kc_language.specs.declared.expressions.SymId.{SymId}
+use Rattle.kc_language.specs.declared.expressions.SymbolType.{SymbolType}
+use Rattle.kc_language.specs.declared.expressions.Tri.{Tri}
+use Rattle.kc_language.specs.declared.values.Interval.{Interval}
+use Rattle.kc_language.specs.declared.diagnostics.Warning.TheVariants as warning
+
+-- a symbol is selected above its dependency
+abbrev pub selected_warning : List ℕ → Tri → Tri → Warning
+selected_warning name selected_to direct = warning.Selected name (tri_text selected_to) (tri_text direct)
+
+-- a user's text is outside the range
+abbrev pub user_warning : SymbolType → Interval → List ℕ → List ℕ → Warning
+user_warning symbol_type r name t = warning.UserOutside name t (number_text symbol_type r.low) (number_text symbol_type r.high)
+
+-- a default is outside the range
+abbrev pub default_warning : SymbolType → Interval → List ℕ → List ℕ → Warning
+default_warning symbol_type r name t =
+    warning.DefaultOutside name t (number_text symbol_type r.low) (number_text symbol_type r.high) (clamped symbol_type (Some r) t)
+
+-- the text of the met default, if there is one
+abbrev pub met_text : (SymId → SymbolValue) → Option (Guarded Form) → Option (List ℕ)
+met_text known None = None
+met_text known (Some g) = Some (single_text known g.what)
+
+module _ (tree : TreeFacts) (user : UserPlace → Option GivenValue) (V : ℕ → SymbolValue) where
+  abbrev pub warnings_at : ℕ → List Warning
+  warnings_at i = warnings_of tree (known_from tree V) (name tree (symbol i)) (facts tree (symbol i)) (user (SymbolPlace i))
+
+  -- In order of first definition.
+  abbrev pub warnings_of_values : List Warning
+  warnings_of_values = flat_map (λ s. warnings_at s.0) tree.defined
