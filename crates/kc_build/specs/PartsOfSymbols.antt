@@ -59,20 +59,20 @@ module _ (ss : List Numbered) where
 
   -- the choices, in order; the number of the choice that begins at a place
   abbrev pub choice_lines : List ℕ
-  choice_lines = filter (of_block block.Choice) indices
+  choice_lines = filter (of_block ss block.Choice) (indices ss)
 
   -- the condition of one of its lines, of a prompt, of a menu
   abbrev pub line_condition : ℕ → Option Form → Condition
-  line_condition i w = record { conjuncts = (dependency i).conjuncts ++ listed w; mode = (dependency i).mode }
+  line_condition i w = record { conjuncts = (dependency ss i).conjuncts ++ listed w; mode = (dependency ss i).mode }
 
   abbrev pub enclosing_visible : ℕ → List Form
-  enclosing_visible i = flat_map own_visible (filter (of_block block.Menu) (enclosing ss i))
+  enclosing_visible i = flat_map (own_visible ss) (filter (of_block ss block.Menu) (enclosing ss i))
 
   abbrev pub prompt_condition : ℕ → InputPrompt Form → Condition
-  prompt_condition i p = record { conjuncts = (dependency i).conjuncts ++ enclosing_visible i ++ listed p.when; mode = (dependency i).mode }
+  prompt_condition i p = record { conjuncts = (dependency ss i).conjuncts ++ enclosing_visible i ++ listed p.when; mode = (dependency ss i).mode }
 
   abbrev pub shown_when : ℕ → Condition
-  shown_when i = record { conjuncts = (dependency i).conjuncts ++ enclosing_visible i ++ own_visible i; mode = (dependency i).mode }
+  shown_when i = record { conjuncts = (dependency ss i).conjuncts ++ enclosing_visible i ++ own_visible ss i; mode = (dependency ss i).mode }
 
   abbrev pub guarded_default : ℕ → StatedDefault → Guarded Form
   guarded_default i g = record { what = g.value; when = line_condition i g.when }
@@ -88,18 +88,18 @@ module _ (ss : List Numbered) where
   guarded_symbol i s w = record { what = s; when = line_condition i w }
 
   abbrev pub selectors_of : SymId → List (Guarded SymId)
-  selectors_of t = if can_be_target t then flat_map (naming_at (select_of t)) indices else []
+  selectors_of t = if can_be_target ss t then flat_map (naming_at ss (select_of t)) (indices ss) else []
 
   abbrev pub impliers_of : SymId → List (Guarded SymId)
-  impliers_of t = if can_be_target t then flat_map (naming_at (imply_of t)) indices else []
+  impliers_of t = if can_be_target ss t then flat_map (naming_at ss (imply_of t)) (indices ss) else []
 
   -- the members of the choice with a number
   abbrev pub is_member_index : ℕ → ℕ → Bool
-  is_member_index k i = is_some (symbol_at i) && list_any (λ j. j == k) (listed (enclosing_choice i))
+  is_member_index k i = is_some (symbol_at ss i) && list_any (λ j. j == k) (listed (enclosing_choice ss i))
 
   -- a default of the choice at a place, where it names a member
   abbrev pub member_default : ℕ → StatedDefault → Option (Guarded SymId)
-  member_default i g = option_and_then (λ s. if is_member (choice_number i) s then Some (guarded_symbol i s g.when) else None) (single_symbol g.value)
+  member_default i g = option_and_then (λ s. if is_member ss (choice_number ss i) s then Some (guarded_symbol i s g.when) else None) (single_symbol g.value)
 
 abbrev pub first_of_symbol : List Numbered → ℕ → Option SymId → Bool
 first_of_symbol ss i None = false
@@ -115,7 +115,7 @@ module _ (ss : List Numbered) where
   entry_before i = last_of (filter (λ j. is_some_other (slice_get ss j)) (numbers i))
 
   abbrev pub menu_entry_before : ℕ → MenuEntry
-  menu_entry_before i = unwrap_or (option_map begun_at (entry_before i)) menu_entry.Other
+  menu_entry_before i = unwrap_or (option_map (begun_at ss) (entry_before i)) menu_entry.Other
 
   -- a prompt stands among the attributes right before a place
   abbrev pub prompt_before : ℕ → Bool
@@ -169,7 +169,7 @@ is_bad_default types o s =
 module _ (names : List (List ℕ)) where
   -- the whole line of a warning about a line
   abbrev pub line_of : List ℕ → ℕ → LineWarning → List ℕ
-  line_of file line w = located_warning file line (named w)
+  line_of file line w = located_warning file line (named names w)
 
 -- Of these lines, where names have these numbers.
 module _ (names : List (List ℕ)) (ls : List (Located Numbered)) where

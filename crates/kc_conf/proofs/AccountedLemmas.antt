@@ -23,10 +23,9 @@ use Rattle.kc_language.specs.Texts.{Solution, known, warnings as value_warnings,
 use Rattle.kc_conf.specs.PartsOfTexts.{lost_at}
 use Rattle.kc_language.specs.declared.diagnostics.Warning.TheVariants.{SetAgain}
 use Rattle.kc_config_file.specs.ReadingLaws.{LinesGiveInTurn, LinesInTurn}
-use Rattle.kc_conf.specs.Accounted.{HoldsLine, IsAccountedFor, IsKeptOrWarned, IsSetAgain, LeavesAlone, NothingIsLost}
+use Rattle.kc_conf.specs.Laws.{HoldsLine, IsAccountedFor, IsKeptOrWarned, IsSetAgain, LeavesAlone, NothingIsLost, RefusesNothing, WrittenAreWhole}
 use Rattle.kc_language.specs.Outcome.{Options, lead, AreLines, Outcome, fresh_input, lines_text, lost_warnings, names_of, reported, read_of, root_file, streams, warned_files, with_rule}
 use Rattle.kc_conf.proofs.OutcomeLemmas.{text_if_is}
-use Rattle.kc_conf.specs.Reruns.{RefusesNothing, WrittenAreWhole}
 use Rattle.kc_conf.proofs.PartLemmas.{AreLines-append, AreLines-nothing, AreLines-reading, AreLines-warning_if, AreLines-warnings}
 
 -- ---- lines that stand in texts

@@ -13,15 +13,12 @@ use Rattle.kc_io.proofs.LogLemmas.{keeps_reported}
 use Rattle.kc_language.specs.Expansion.{Files}
 use Rattle.kc_language.specs.Symbols.{TreeFacts}
 use Rattle.kc_language.specs.Outcome.{Options, input_files, Outcome, lines_text}
-use Rattle.kc_conf.specs.Ends.{stale_by, stale_texts, status_with, texts_of}
-use Rattle.kc_conf.specs.Given.{AreInputs, InputFile, IsAsTold}
-use Rattle.kc_conf.specs.Many.{EndsTurn, StopsAtTree, TakeTurns, TakesTurn}
+use Rattle.kc_conf.specs.Faults.{stale_by, stale_texts, status_with, texts_of, AreInputs, InputFile, IsAsTold}
+use Rattle.kc_conf.specs.Many.{EndsTurn, StopsAtTree, TakeTurns, TakesTurn, AreSeparate, EachLeavesItsPart, EndsAmong, HoldAlike, TakesTurnAmong, TurnsAmong, is_among, output_files, written_by, written_files}
 use Rattle.kc_conf.specs.Many as many
 use Rattle.kc_language.specs.declared.outcome.Delivery.{Delivery}
 use Rattle.kc_language.specs.declared.outcome.Delivery.TheVariants as delivered
 use Rattle.kc_language.specs.declared.outcome.Status.{Status}
-use Rattle.kc_conf.specs.Separate.{AreSeparate, EachLeavesItsPart, EndsAmong, HoldAlike, TakesTurnAmong, TurnsAmong, is_among, output_files, written_by, written_files}
-use Rattle.kc_conf.specs.Separate as among
 use Rattle.kc_conf.proofs.SeparateLemmas.{broken_held, completes_held, completes_last, kept_held, texts_lack}
 
 or-first : (a b : Bool) → a ≡ true → (a || b) ≡ true
@@ -144,7 +141,7 @@ module _ (files : Files) (tree : TreeFacts) where
     module _ (before last : Journal) where
       ends_among : (o : Options) (inputs : List InputFile) (part : Outcome) (old new : Journal) (status : Status) (is_over : Bool) → HoldAlike o before old → HoldAlike o new last →
           EndsTurn files o inputs part (Some old) (Some new) status is_over → EndsAmong files o inputs part before last status is_over
-      ends_among o inputs part old new status is_over first after (many.whole c goes_on) = among.whole
+      ends_among o inputs part old new status is_over first after (many.whole c goes_on) = many.whole
           (λ name written.
           let named : (is_among name (input_files o) || is_among name (output_files o)) ≡ true =
           or-second (is_among name (input_files o)) (is_among name (output_files o)) (written_output name o.delivery (output_files o) written) in
@@ -152,18 +149,18 @@ module _ (files : Files) (tree : TreeFacts) where
           (c.status_is ∙ ap (λ (l : List NamedText). status_with l part.status) ((c.of_old old refl).1
           ∙ stale_texts-alike before old o part (λ name output. first name (or-second (is_among name (input_files o)) (is_among name (output_files o)) output))))
           goes_on
-      ends_among o inputs part old new status is_over first after (many.broken b ends) = among.broken old new first after b ends
+      ends_among o inputs part old new status is_over first after (many.broken b ends) = many.broken old new first after b ends
 
       takes_among : (old new : Journal) (status : Status) (is_over : Bool) → ((o : Options) → are_options o → HoldAlike o before old) → ((o : Options) → are_options o → HoldAlike o new last) →
           TakesTurn files tree are_options (Some old) (Some new) status is_over → TakesTurnAmong files tree are_options before last status is_over
-      takes_among old new status is_over first after (many.runs o are r) = among.runs o are (record {
+      takes_among old new status is_over first after (many.runs o are r) = many.runs o are (record {
         inputs = r.inputs;
         are_inputs = inputs-alike before old o r.inputs (λ name input. first o are name (or-first (is_among name (input_files o)) (is_among name (output_files o)) input)) r.are_inputs;
         part = r.part;
         is_part = r.is_part;
         ends = ends_among o r.inputs r.part old new status is_over (first o are) (after o are) r.ends;
       })
-      takes_among old new status is_over first after (many.no_options says is over) = among.no_options is over
+      takes_among old new status is_over first after (many.no_options says is over) = many.no_options is over
 
 -- ---- all turns
 
@@ -219,17 +216,17 @@ module _ (files : Files) (tree : TreeFacts) (options : ℕ → Options → Type 
 
     turns_among : (i left : ℕ) (start end : Log) (status : Status) → TakeTurns files tree options i left start end status → (old : Journal) → start ≡ Some old → end ≡ Some last → i + left ≡ count → IsFresh i old →
         TurnsAmong files tree options before last i left status
-    turns_among _ _ _ _ _ (many.none i log) old is_start is_end whole fresh = among.none i
+    turns_among _ _ _ _ _ (many.none i log) old is_start is_end whole fresh = many.none i
     turns_among _ _ _ _ _ (many.next i left start mid end status others turn rest) old is_start is_end whole fresh =
         let (m, is_mid, later) = turns_keep (suc i) left mid end others rest last is_end in
         let here = of_known (λ l k. TakesTurn files tree (options i) l k status false) start mid old m is_start is_mid turn in
-        among.next i left status others
+        many.next i left status others
         (takes_among files tree (options i) before last old m status false (first_of i old (omega (arith, whole)) fresh) (last_of_all m i left (omega (arith, whole)) later) here)
         (turns_among (suc i) left mid end others rest m is_mid is_end (omega (arith, whole))
         (more_fresh i old m fresh (λ name none. takes_keeps files tree (options i) name old m status false none here)))
     turns_among _ _ _ _ _ (many.last i left start end status turn) old is_start is_end whole fresh =
         let here = of_known (λ l k. TakesTurn files tree (options i) l k status true) start end old last is_start is_end turn in
-        among.last i left status (takes_among files tree (options i) before last old last status true (first_of i old (omega (arith, whole)) fresh) (λ o are name named. refl) here)
+        many.last i left status (takes_among files tree (options i) before last old last status true (first_of i old (omega (arith, whole)) fresh) (λ o are name named. refl) here)
 
 -- ---- the whole run
 
@@ -241,11 +238,11 @@ stops_keep files root old new status (many.no_memory (Ok u, leads) e) name = kep
 stops_keep files root old new status (many.no_memory (Err fault, leads) e) name = kept_held name (failed Report [] fault) _ old new leads refl
 
 pub each_leaves_its_part_law : (options : ℕ → Options → Type 0) (count : ℕ) → EachLeavesItsPart options count
-each_leaves_its_part_law options count files root before after status separate (many.stops s) = among.stops s (stops_keep files root before after status s)
+each_leaves_its_part_law options count files root before after status separate (many.stops s) = many.stops s (stops_keep files root before after status s)
 each_leaves_its_part_law options count files root before after status separate (many.turns tree mid accepted said ts) =
     let (m, is_mid, later) = turns_keep files tree options 0 count mid (Some after) status ts after refl in
     let warned = subst (λ (l : Log). Leads [] (lines_text tree.warnings) (Some before) l) is_mid said in
     let quiet : (name : List ℕ) → held m name ≡ held before name = λ name. kept_held name [] (lines_text tree.warnings) before m warned refl in
-    among.turns tree accepted
+    many.turns tree accepted
     (turns_among files tree options count separate before after 0 count mid (Some after) status ts m is_mid refl (omega arith) (λ name none. quiet name))
     (λ name none. later name (λ k o from below are. none k o (omega (arith, below)) are) ∙ quiet name)

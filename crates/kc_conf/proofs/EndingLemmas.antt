@@ -18,13 +18,12 @@ use Rattle.kc_io.specs.declared.device.Action.TheVariants.{Create, Close, Clear,
 use Rattle.kc_io.specs.declared.device.Site.TheVariants.{Beside}
 use Rattle.kc_io.specs.declared.steps.Failure.{Failure}
 use Rattle.kc_io.proofs.LogLemmas.{leads_as, leads_both, leads_nothing, leads_said}
-use Rattle.kc_language.specs.Outcome.{Options, lead, error_if_at, first_line, refusal_line, stale_line, strict_line, too_long_line, unreadable_line, AreLines, lines_text}
+use Rattle.kc_language.specs.Outcome.{Options, lead, error_if_at, first_line, refusal_line, stale_line, too_long_line, unreadable_line, AreLines, lines_text}
+use Rattle.kc_conf.specs.PartsOfOutcome.{strict_line}
 use Rattle.kc_conf.specs.Endings.{BreaksEnd, EndStops, Ends, HandsBy, IsChecked, IsEnded, in_delivery, in_diagnostics}
-use Rattle.kc_conf.specs.Ends.{delivered_by, delivers, stale_by, stale_lines, stale_texts, status_with}
+use Rattle.kc_conf.specs.Faults.{delivered_by, delivers, stale_by, stale_lines, stale_texts, status_with, still_told, cleared_by, clearing, event_of}
 use Rattle.kc_language.specs.Statements.{cause_text, error_at}
-use Rattle.kc_conf.specs.Given.{still_told}
 use Rattle.kc_conf.specs.Reads.{IsReportStop}
-use Rattle.kc_conf.specs.Stops.{cleared_by, clearing, event_of}
 use Rattle.kc_language.specs.declared.outcome.Delivery.{Delivery}
 use Rattle.kc_language.specs.declared.outcome.Delivery.TheVariants.{Write, Replace, Check}
 use Rattle.kc_language.specs.declared.outcome.Status.{Status}

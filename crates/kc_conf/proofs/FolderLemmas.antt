@@ -6,8 +6,7 @@ use Rattle.kc_io.specs.Log.{Event, Log}
 use Rattle.kc_load.specs.Expanding.{ExpandsAlike}
 use Rattle.kc_language.specs.declared.outcome.Status.{Status}
 use Rattle.kc_conf.specs.declared.stop.Stop.{Stop}
-use Rattle.kc_conf.specs.Ends.{AreReads, Breaks, Broken, Completes, Runs, in_delivery, in_input, in_diagnostics, no_memory, of_tree, refused_name as reads_no_name, refused_tree as reads_no_tree}
-use Rattle.kc_conf.specs.Given.{InputFile}
+use Rattle.kc_conf.specs.Faults.{AreReads, Breaks, Broken, Completes, Runs, in_delivery, in_input, in_diagnostics, no_memory, of_tree, refused_name as reads_no_name, refused_tree as reads_no_tree, InputFile}
 use Rattle.kc_conf.specs.Many.{AreRootedAt, EndsTurn, IsPart, RunsEach, RunsTurn, StopsAtTree, TakeTurns, TakesTurn}
 use Rattle.kc_conf.specs.Many as many
 use Rattle.kc_language.specs.Outcome.{Options, IsAcceptedTree, IsLenientOutcome, IsOutcome, IsRefusedName, IsRefusedTree, NamesAreRead, Outcome, accepted_tree, looped, no_tree, refused_name, refused_tree, root_file}

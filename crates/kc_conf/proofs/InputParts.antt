@@ -9,12 +9,13 @@ use Rattle.kc_io.specs.Scripts.{NamedText}
 use Rattle.kc_io.proofs.LogLemmas.{leads_nothing}
 use Rattle.kc_language.specs.ConfigFile.{ReadResult, StreamLocation, UserInput, lines_of, reading}
 use Rattle.kc_language.specs.Text.{BeginsWith}
-use Rattle.kc_language.specs.Outcome.{Options, holds_warnings, lead, names_of, too_long_line, AreLines, IsAcceptedTree, IsOutcomeOfReading, OneAnswer, Outcome, fresh_input, has_text, lines_text, lost_warnings, names_listed, reported, outcome_of, read_of, refused, root_file, streams, unreadable_name}
+use Rattle.kc_language.specs.Outcome.{Options, holds_warnings, lead, names_of, too_long_line, AreLines, IsAcceptedTree, IsOutcomeOfReading, Outcome, fresh_input, has_text, lines_text, lost_warnings, names_listed, reported, read_of, refused, root_file, streams, unreadable_name}
+use Rattle.kc_conf.specs.PartsOfOutcome.{outcome_of}
+use Rattle.kc_conf.specs.LawSteps.{OneAnswer}
 use Rattle.kc_conf.specs.Computed.{Computes, refuses, ruled_files, value_lines}
 use Rattle.kc_conf.specs.Endings.{Ends, line_if, status_if, texts_or}
-use Rattle.kc_conf.specs.Ends.{AreReads, of_tree, texts_of, nothing_said}
-use Rattle.kc_conf.specs.Existence.{ExactlyOneOutcome}
-use Rattle.kc_conf.specs.Given.{AreInputs, AreThere, InputFile, ReadsTo, bytes_of, reads, still_told}
+use Rattle.kc_conf.specs.Faults.{AreReads, of_tree, texts_of, nothing_said, AreInputs, AreThere, InputFile, ReadsTo, bytes_of, reads, still_told}
+use Rattle.kc_conf.specs.Laws.{ExactlyOneOutcome}
 use Rattle.kc_conf.specs.PartRuns.{LeavesPart}
 use Rattle.kc_conf.specs.Reads.{BreaksInputs, ReadsInputs, ended_with}
 use Rattle.kc_language.specs.declared.outcome.Status.{Status}

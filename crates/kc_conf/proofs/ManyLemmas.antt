@@ -10,16 +10,15 @@ use Rattle.kc_io.specs.declared.device.Action.{Action}
 use Rattle.kc_io.specs.declared.device.Action.TheVariants.{Report}
 use Rattle.kc_io.proofs.LogLemmas.{leads_both, leads_nothing}
 use Rattle.kc_conf.specs.Accepted.{IsAcceptedOf}
-use Rattle.kc_language.specs.Outcome.{Options, lead, unreadable_line, IsAcceptedTree, IsLenientOutcome, IsOutcome, OneAnswer, OneOutcome, Outcome, accepted_tree, has_text, lines_text, reported, refused, refused_name, refused_tree, root_file, strictly, unreadable_name, with_rule}
+use Rattle.kc_language.specs.Outcome.{Options, lead, unreadable_line, IsAcceptedTree, IsLenientOutcome, IsOutcome, Outcome, accepted_tree, has_text, lines_text, reported, refused, refused_name, refused_tree, root_file, strictly, unreadable_name, with_rule}
+use Rattle.kc_conf.specs.LawSteps.{OneAnswer, OneOutcome}
 use Rattle.kc_conf.specs.Endings.{Ends}
-use Rattle.kc_conf.specs.Ends.{nothing_said, texts_of}
-use Rattle.kc_conf.specs.Ends as ends
-use Rattle.kc_conf.specs.Existence.{ExactlyOneOutcome}
-use Rattle.kc_conf.specs.Given.{bytes_of, reads, still_told}
+use Rattle.kc_conf.specs.Faults.{nothing_said, texts_of, bytes_of, reads, still_told, Reports, TriesToSay, clearing, event_of, stop_line}
+use Rattle.kc_conf.specs.Faults as ends
+use Rattle.kc_conf.specs.Laws.{ExactlyOneOutcome}
 use Rattle.kc_conf.specs.Many.{AreRootedAt, CannotSay, ExactlyOnePart, IsPart, IsWholeOf, PartsAreOfRuns, RunsTurn, TakeTurns, TakesTurn, broken, ends_all, greater, last, next, none, warned_before, whole}
 use Rattle.kc_conf.specs.PartRuns.{LeavesPart, LeavesTurn, strictly_after}
 use Rattle.kc_conf.specs.Reads.{IsReportStop}
-use Rattle.kc_conf.specs.Stops.{Reports, TriesToSay, clearing, event_of, stop_line}
 use Rattle.kc_conf.specs.declared.accepted.OrderedTree.{OrderedTree}
 use Rattle.kc_language.specs.declared.outcome.Status.{Status}
 use Rattle.kc_language.specs.declared.outcome.Status.TheVariants.{Done, Refused, Usage, Faulted}

@@ -11,7 +11,9 @@ use Rattle.kc_order.specs.Laws.{NamedAreUnordered, OneNamedLoop}
 use Rattle.kc_language.specs.Values.{Solves, equations, name_count}
 use Rattle.kc_language.specs.Needs.{IsAccepted, needs, loop_text, IsLoopText, loop_refused}
 use Rattle.kc_language.specs.Texts.{Solution, value_of}
-use Rattle.kc_language.specs.Outcome.{Options, lead, refusal_line, too_long_line, unreadable_line, Outcome, IsLenientOutcome, OneAnswer, OneOutcome, strictly, reported, lines_text, refused, outcome_of, read_of, root_file, IsRefusedTree, no_tree, looped, IsAcceptedTree, IsSolutionFor, refused_tree, refused_name, accepted_tree, IsOutcomeOfReading, IsOutcomeOfTree, long_line, whole, with_rule}
+use Rattle.kc_language.specs.Outcome.{Options, lead, refusal_line, too_long_line, unreadable_line, Outcome, IsLenientOutcome, strictly, reported, lines_text, refused, read_of, root_file, IsRefusedTree, no_tree, looped, IsAcceptedTree, IsSolutionFor, refused_tree, refused_name, accepted_tree, IsOutcomeOfReading, long_line, whole, with_rule}
+use Rattle.kc_conf.specs.PartsOfOutcome.{outcome_of, IsOutcomeOfTree}
+use Rattle.kc_conf.specs.LawSteps.{OneAnswer, OneOutcome}
 use Rattle.std.proofs.lemmas.List.{ext_get_or}
 
 -- ---- trees

@@ -19,7 +19,7 @@ use Rattle.kc_config_file.specs.Feeding.{StreamPosition, stream_start, ReadsPiec
 use Rattle.kc_language.specs.Texts.{HasShortLines}
 use Rattle.kc_config_file.specs.Reading.{with_warnings}
 use Rattle.kc_language.specs.Outcome.{AreLines, lines_text}
-use Rattle.kc_conf.specs.Given.{ended_lines}
+use Rattle.kc_conf.specs.Faults.{ended_lines}
 
 -- ---- whole lines
 

@@ -11,7 +11,8 @@ use Rattle.kc_io.specs.declared.device.Action.TheVariants.{Open, Read}
 use Rattle.kc_io.specs.declared.steps.Failure.{Failure}
 use Rattle.kc_io.proofs.LogLemmas.{leads_as, leads_both, leads_nothing, leads_said}
 use Rattle.kc_language.specs.Text.{BeginsWith, GoesBeyond}
-use Rattle.kc_language.specs.Outcome.{Options, lead, refusal_line, unreadable_line, AreLines, IsAcceptedTree, IsLenientOutcome, IsOutcome, IsRefusedTree, NamesAreRead, refused, unreadable_name, OneAnswer, Outcome, accepted_tree, has_text, is_done, lines_text, reported, diagnostics_of, refused_name, refused_tree, root_file, strictly}
+use Rattle.kc_language.specs.Outcome.{Options, lead, refusal_line, unreadable_line, AreLines, IsAcceptedTree, IsLenientOutcome, IsOutcome, IsRefusedTree, NamesAreRead, refused, unreadable_name, Outcome, accepted_tree, has_text, is_done, lines_text, reported, diagnostics_of, refused_name, refused_tree, root_file, strictly}
+use Rattle.kc_conf.specs.LawSteps.{OneAnswer}
 use Rattle.kc_conf.specs.Endings.{Answers, BreaksEnd, EndStops, Ends, IsEnded}
 use Rattle.kc_conf.specs.Endings as tail
 use Rattle.kc_read.specs.OpenedFiles.{OpenedAreOneList}
@@ -20,13 +21,11 @@ use Rattle.kc_diagnostics.proofs.CauseLemmas.{memory_or_not}
 use Rattle.kc_language.specs.declared.diagnostics.Cause.TheVariants.{Memory as NoMemory}
 use Rattle.kc_read.specs.declared.refusal.Refusal.{Refusal}
 use Rattle.kc_language.specs.declared.outcome.Status.TheVariants.{Refused}
-use Rattle.kc_conf.specs.Ends.{AreReads, Breaks, Completes, Runs, delivers, in_delivery, in_input, in_diagnostics, no_memory, nothing_said, refused_name as name_refused, refused_tree as tree_refused, said_of_tree, stale_lines, stale_texts, texts_of}
-use Rattle.kc_conf.specs.Given.{InputFile, bytes_of, reads, still_told}
-use Rattle.kc_conf.specs.Existence.{ExactlyOneOutcome}
+use Rattle.kc_conf.specs.Faults.{AreReads, Breaks, Completes, Runs, delivers, in_delivery, in_input, in_diagnostics, no_memory, nothing_said, refused_name as name_refused, refused_tree as tree_refused, said_of_tree, stale_lines, stale_texts, texts_of, InputFile, bytes_of, reads, still_told, cleared_by, clearing, event_of, stop_line}
+use Rattle.kc_conf.specs.Laws.{ExactlyOneOutcome}
 use Rattle.kc_conf.specs.PartRuns.{EndsSo, IsBrokenOff, LeavesPart, LeavesRun, StopsLines}
 use Rattle.kc_conf.specs.Reads.{IsReportStop, StopsInputs}
 use Rattle.kc_conf.specs.Reads as reading_stops
-use Rattle.kc_conf.specs.Stops.{cleared_by, clearing, event_of, stop_line}
 use Rattle.kc_language.specs.declared.outcome.Delivery.{Delivery}
 use Rattle.kc_language.specs.declared.outcome.Delivery.TheVariants.{Write, Replace, Check}
 use Rattle.kc_language.specs.declared.outcome.Status.{Status}

@@ -14,7 +14,7 @@ use Rattle.kc_io.specs.WholeLines.{ends_line, is_whole_lines}
 use Rattle.kc_config_file.specs.WholeLines.{AddsWholeLines}
 use Rattle.kc_language.specs.Outcome.{Options, cannot_read_line, first_line, AreLines, lines_text, lead}
 use Rattle.kc_conf.specs.Reads.{IsWholeEnd, LastEndsLine, SaysIf, failure_line}
-use Rattle.kc_conf.specs.Stops.{Reports}
+use Rattle.kc_conf.specs.Faults.{Reports}
 use Rattle.kc_conf.specs.declared.stop.Stop.TheVariants.{Failed}
 
 -- ---- the bytes before the first line feed

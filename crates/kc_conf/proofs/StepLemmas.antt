@@ -20,7 +20,7 @@ use Rattle.kc_config_file.specs.declared.fault.InputFault.TheVariants.{InputLine
 use Rattle.kc_language.specs.Outcome.{AreLines}
 use Rattle.kc_conf.specs.Reads.{ended_with}
 use Rattle.kc_conf.specs.ReadSteps.{BreaksEnd, BreaksPiece, EndsFile, FailsAt, OnlyHeldWaits, SaysWaiting, Stand, StopsWarnings, TakesPiece, Warns, held_back, said_now}
-use Rattle.kc_conf.specs.Stops.{event_of}
+use Rattle.kc_conf.specs.Faults.{event_of}
 use Rattle.kc_conf.specs.declared.reading.Waiting.{Waiting}
 use Rattle.kc_conf.specs.declared.stop.Stop.{Stop}
 use Rattle.kc_conf.specs.declared.stop.Stop.TheVariants.{OutOfMemory, Failed}

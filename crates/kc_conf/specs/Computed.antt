@@ -4,8 +4,9 @@ use Rattle.kc_language.specs.Symbols.{TreeFacts}
 use Rattle.kc_language.specs.Texts.{Solution, warnings}
 use Rattle.kc_language.specs.ConfigFile.{UserInput}
 use Rattle.kc_io.specs.Scripts.{NamedText}
-use Rattle.kc_language.specs.Outcome.{Options, rule_text, lead, target, IsSolutionFor, Outcome, files_of, has_text, lines_text, lost_warnings, refuses_input}
-use Rattle.kc_conf.specs.Ends.{texts_of}
+use Rattle.kc_language.specs.Outcome.{Options, rule_text, lead, target, IsSolutionFor, Outcome, has_text, lines_text, lost_warnings, refuses_input}
+use Rattle.kc_conf.specs.PartsOfOutcome.{files_of}
+use Rattle.kc_conf.specs.Faults.{texts_of}
 
 -- the files of a solution, with a dependency file that lists these names
 abbrev pub ruled_files : Options → TreeFacts → Solution → Option (List (List ℕ)) → Outcome

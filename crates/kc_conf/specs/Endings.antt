@@ -7,11 +7,10 @@ use Rattle.kc_io.specs.Scripts.{NamedText, stale}
 use Rattle.kc_io.specs.declared.delivery.Manner.{Manner}
 use Rattle.kc_io.specs.declared.device.Action.TheVariants.{Report}
 use Rattle.kc_io.specs.declared.steps.Failure.{Failure}
-use Rattle.kc_language.specs.Outcome.{Options, lead, strict_line, AreLines}
-use Rattle.kc_conf.specs.Ends.{delivers, stale_lines, stale_texts, status_with}
-use Rattle.kc_conf.specs.Given.{still_told}
+use Rattle.kc_language.specs.Outcome.{Options, lead, AreLines}
+use Rattle.kc_conf.specs.PartsOfOutcome.{strict_line}
+use Rattle.kc_conf.specs.Faults.{delivers, stale_lines, stale_texts, status_with, still_told, Reports, clearing, event_of}
 use Rattle.kc_conf.specs.Reads.{IsReportStop}
-use Rattle.kc_conf.specs.Stops.{Reports, clearing, event_of}
 use Rattle.kc_language.specs.declared.outcome.Delivery.TheVariants.{Check}
 use Rattle.kc_language.specs.declared.outcome.Status.{Status}
 use Rattle.kc_language.specs.declared.outcome.Status.TheVariants.{Done, Refused, Faulted}

@@ -1,18 +1,14 @@
+-- The definitions that the contracts speak in.
 pub mod Accepted
-pub mod Accounted
 pub mod Computed
 pub mod Endings
-pub mod Ends
-pub mod Existence
-pub mod FolderRuns
-pub mod Given
+pub mod Faults
+pub mod LawSteps
+pub mod Laws
 pub mod LostView
 pub mod Many
 pub mod PartRuns
+pub mod PartsOfOutcome
 pub mod PartsOfTexts
 pub mod ReadSteps
 pub mod Reads
-pub mod Reruns
-pub mod Separate
-pub mod Stops
-pub mod Strict

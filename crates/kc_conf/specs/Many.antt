@@ -1,72 +1,61 @@
--- Trusted: What a run leaves for many configurations of one tree.
-use Rattle.std.specs.Prelude.{◌≡◌, ◌≢◌, ◌⊎◌, ℕ, suc, Bool, true, false, not, ◌||◌, List, [], Option, None, Some}
-use Rattle.std.specs.Result.{is_ok}
-use Rattle.kc_language.specs.Expansion.{Refused, Files, AreOpened}
+-- Trusted: What a run for many configurations of one tree leaves, and that these do not touch one another's files.
+-- Our own. It ends in `RunsEach`, and in the law `EachLeavesItsPart` of configurations whose files are apart.
+use Rattle.std.specs.Prelude.{◌≡◌, ◌≢◌, ◌⊎◌, ℕ, suc, ◌<◌, Bool, true, false, not, ◌||◌, List, [], ◌∷◌, ◌++◌, Option, None, Some, String, string_bytes, bytes_eq, is_ok}
+use Rattle.std.specs.List.{list_any}
+use Rattle.std.specs.declared.alloc.Global.{Global}
+use Rattle.kc_language.specs.Expansion.{AreOpened, Files, Refused}
 use Rattle.kc_language.specs.Symbols.{TreeFacts}
-use Rattle.kc_io.specs.Log.{Log, Leads, failed}
-use Rattle.kc_io.specs.declared.device.Action.{Action}
-use Rattle.kc_io.specs.declared.device.Action.TheVariants.{Report}
-use Rattle.kc_io.specs.declared.device.Fault.{Fault}
-use Rattle.kc_io.specs.declared.device.Fault.TheVariants as fault
-use Rattle.kc_conf.specs.Ends.{Broken, Completes, nothing_said}
-use Rattle.kc_language.specs.Outcome.{Options, refusal_line, out_of_memory_line, IsAcceptedTree, IsOutcome, IsRefusedName, IsRefusedTree, Outcome, lines_text, reported, root_file, unreadable_name}
-use Rattle.kc_conf.specs.Given.{AreInputs, InputFile, bytes_of, still_told}
-use Rattle.kc_conf.specs.Stops.{TriesToSay}
+use Rattle.kc_language.specs.Outcome.{IsAcceptedTree, IsOutcome, IsRefusedName, IsRefusedTree, Options, Outcome, input_files, lines_text, out_of_memory_line, refusal_line, reported, root_file, unreadable_name}
+use Rattle.kc_language.specs.declared.outcome.Delivery.{Delivery}
 use Rattle.kc_language.specs.declared.outcome.Status.{Status}
-use Rattle.kc_language.specs.declared.outcome.Status.TheVariants as answered
+use Rattle.kc_io.specs.Held.{last_of}
+use Rattle.kc_io.specs.Log.{Journal, Leads, Log, failed, held}
+use Rattle.kc_io.specs.declared.device.Action.{Action}
+use Rattle.kc_io.specs.declared.device.Fault.{Fault}
+use Rattle.kc_conf.specs.Faults.{AreInputs, Broken, Completes, InputFile, TriesToSay, bytes_of, nothing_said, stale_texts, status_with, still_told, texts_of}
 use Rattle.kc_conf.specs.declared.stop.Stop.{Stop}
-use Rattle.kc_conf.specs.declared.stop.Stop.TheVariants.{OutOfMemory, Failed}
 
--- ---- what one configuration leaves
+-- ---- What one configuration leaves
 
--- the tree's warnings, which a run says before all else, unless it refuses a name
+-- A run reports the tree's warnings before all else, unless it refuses a name that make cannot read. The run for one configuration leaves its part
+-- behind them: with them before it, it is what that run leaves alone. A name is refused for one configuration.
 abbrev pub warned_before : TreeFacts → Option (List ℕ) → List ℕ
 warned_before tree None = lines_text tree.warnings
-warned_before tree (Some name) = []
-
--- What the run for one configuration leaves behind the tree's warnings: with these before it, it is what that run leaves alone. A name
--- that make cannot read is refused for this configuration.
+warned_before tree _ = []
 abbrev pub IsPart : Files → TreeFacts → Options → List (List ℕ) → Outcome → Type 0
-IsPart files tree options all part =
-    (opened : List (List ℕ)) × AreOpened files (root_file options) opened
+IsPart files tree options all part = (opened : List (List ℕ)) × AreOpened files (root_file options) opened
     × IsOutcome files options all (reported (warned_before tree (unreadable_name options opened)) part)
 
 -- A configuration of an accepted tree leaves one part, in whatever company and order: its own options and input files determine it.
 abbrev pub ExactlyOnePart : Type 0
-ExactlyOnePart =
-    (files : Files) (tree : TreeFacts) (options : Options) (all : List (List ℕ)) → IsAcceptedTree files (root_file options) tree →
+ExactlyOnePart = (files : Files) (tree : TreeFacts) (options : Options) (all : List (List ℕ)) → IsAcceptedTree files (root_file options) tree →
     (part : Outcome) × IsPart files tree options all part × ((other : Outcome) → IsPart files tree options all other → part ≡ other)
-
--- with the tree's warnings before it, or where a name is refused, it is all that is left
-abbrev pub IsWholeOf : Files → TreeFacts → Options → Outcome → Outcome → Type 0
-IsWholeOf files tree options part outcome =
-    (outcome ≡ reported (lines_text tree.warnings) part) ⊎ ((name : List ℕ) × IsRefusedName files options name × (outcome ≡ part))
-
 -- What its own run leaves is the tree's warnings and then its part, or where a name is refused, its part.
+abbrev pub IsWholeOf : Files → TreeFacts → Options → Outcome → Outcome → Type 0
+IsWholeOf files tree options part outcome = (outcome ≡ reported (lines_text tree.warnings) part)
+    ⊎ ((name : List ℕ) × IsRefusedName files options name × (outcome ≡ part))
 abbrev pub PartsAreOfRuns : Type 0
-PartsAreOfRuns =
-    (files : Files) (tree : TreeFacts) (options : Options) (all : List (List ℕ)) (outcome : Outcome) →
+PartsAreOfRuns = (files : Files) (tree : TreeFacts) (options : Options) (all : List (List ℕ)) (outcome : Outcome) →
     IsAcceptedTree files (root_file options) tree → IsOutcome files options all outcome →
     (part : Outcome) × IsPart files tree options all part × IsWholeOf files tree options part outcome
 
--- ---- one turn
+-- ---- One turn
 
--- Want of memory ends the runs for all, and so do diagnostics that fail.
+-- A run for one configuration is whole; or it was broken off, and reports why. That ends the runs for all if memory ran out or the diagnostics
+-- failed.
 abbrev pub ends_all : Stop → Bool
-ends_all OutOfMemory = true
-ends_all (Failed f) = by f.action f.fault
+ends_all Stop.OutOfMemory = true
+ends_all (Stop.Failed f) = by f.action f.fault
   where
     by : Action → Fault → Bool
-    by Report _ = true
-    by action fault.Memory = true
-    by action fault.Refused = false
-
--- A run for one configuration is whole; or it was broken off, and says why. That ends all if it has to, or if the diagnostics do not take it.
-pub data EndsTurn (files : Files) (options : Options) (inputs : List InputFile) (part : Outcome) (old new : Log) (status : Status) (is_over : Bool) : Type 0 where
+    by Action.Report _ = true
+    by action Fault.Memory = true
+    by action Fault.Refused = false
+pub data EndsTurn (files : Files) (options : Options) (inputs : List InputFile) (part : Outcome) (old new : Log) (status : Status) (is_over : Bool) :
+    Type 0 where
   whole : Completes files options inputs part old new status → is_over ≡ false → EndsTurn files options inputs part old new status is_over
   broken : (b : Broken files options nothing_said inputs part old new status) → is_over ≡ (ends_all b.stop || not (is_ok b.report)) →
       EndsTurn files options inputs part old new status is_over
-
 -- It leaves its part of what its own input files hold when its turn comes.
 pub record RunsTurn (files : Files) (tree : TreeFacts) (options : Options) (old new : Log) (status : Status) (is_over : Bool) : Type 0 where
   pub inputs : List InputFile
@@ -74,47 +63,126 @@ pub record RunsTurn (files : Files) (tree : TreeFacts) (options : Options) (old 
   pub part : Outcome
   pub is_part : IsPart files tree options (bytes_of inputs) part
   pub ends : EndsTurn files options inputs part old new status is_over
-
 -- A configuration with such options is run; or there was no memory for its options, which ends all.
 pub data TakesTurn (files : Files) (tree : TreeFacts) (are_options : Options → Type 0) (old new : Log) (status : Status) (is_over : Bool) : Type 0 where
-  runs : (options : Options) → are_options options → RunsTurn files tree options old new status is_over → TakesTurn files tree are_options old new status is_over
-  no_options : TriesToSay out_of_memory_line old new → status ≡ answered.Faulted → is_over ≡ true → TakesTurn files tree are_options old new status is_over
+  runs : (options : Options) → are_options options → RunsTurn files tree options old new status is_over →
+      TakesTurn files tree are_options old new status is_over
+  no_options : TriesToSay out_of_memory_line old new → status ≡ Status.Faulted → is_over ≡ true →
+      TakesTurn files tree are_options old new status is_over
 
--- ---- all of them
+-- ---- All turns
 
--- the greater of two statuses
+-- The configurations from one number on, so many as are left, take their turns one after another, up to one that ends all. The status is the
+-- greatest of theirs.
 abbrev pub greater : Status → Status → Status
-greater answered.Done b = b
-greater answered.Refused answered.Done = answered.Refused
-greater answered.Refused b = b
-greater answered.Usage answered.Faulted = answered.Faulted
-greater answered.Usage b = answered.Usage
-greater answered.Faulted b = answered.Faulted
-
--- The configurations from one number on, so many as are left, take their turns one after another, up to one that ends all. The status is the greatest of theirs.
+greater Status.Done b = b
+greater Status.Refused Status.Done = Status.Refused
+greater Status.Refused b = b
+greater Status.Usage Status.Faulted = Status.Faulted
+greater Status.Usage b = Status.Usage
+greater Status.Faulted b = Status.Faulted
 pub data TakeTurns (files : Files) (tree : TreeFacts) (options : ℕ → Options → Type 0) : ℕ → ℕ → Log → Log → Status → Type 0 where
-  none : (i : ℕ) (log : Log) → TakeTurns files tree options i 0 log log answered.Done
+  none : (i : ℕ) (log : Log) → TakeTurns files tree options i 0 log log Status.Done
   next : (i left : ℕ) (old mid new : Log) (status others : Status) → TakesTurn files tree (options i) old mid status false →
       TakeTurns files tree options (suc i) left mid new others → TakeTurns files tree options i (suc left) old new (greater status others)
-  last : (i left : ℕ) (old new : Log) (status : Status) → TakesTurn files tree (options i) old new status true → TakeTurns files tree options i (suc left) old new status
+  last : (i left : ℕ) (old new : Log) (status : Status) → TakesTurn files tree (options i) old new status true →
+      TakeTurns files tree options i (suc left) old new status
 
--- all options name this Kconfig file to begin with
+-- all options name this root file
 abbrev pub AreRootedAt : List ℕ → (ℕ → Options → Type 0) → Type 0
 AreRootedAt root options = (i : ℕ) (o : Options) → options i o → root_file o ≡ root
-
 -- the diagnostics failed
 abbrev pub CannotSay : Log → Log → Type 0
-CannotSay old new = (fault : Fault) × Leads (failed Report [] fault) [] old new
-
--- No configuration takes its turn: the tree is refused, which is told, or the diagnostics do not take it or the tree's warnings, or memory ran out.
+CannotSay old new = (fault : Fault) × Leads (failed Action.Report [] fault) [] old new
+-- No configuration takes its turn: the tree is refused, which is reported; or the diagnostics do not take that or the tree's warnings; or memory
+-- ran out.
 pub data StopsAtTree (files : Files) (root : List ℕ) (old new : Log) (status : Status) : Type 0 where
-  refused_tree : (r : Refused) → IsRefusedTree files root r → Leads [] (refusal_line r) old new → status ≡ answered.Refused → StopsAtTree files root old new status
-  unsaid_refusal : (r : Refused) → IsRefusedTree files root r → CannotSay old new → status ≡ answered.Faulted → StopsAtTree files root old new status
-  unsaid_warnings : (tree : TreeFacts) → IsAcceptedTree files root tree → lines_text tree.warnings ≢ [] → CannotSay old new → status ≡ answered.Faulted → StopsAtTree files root old new status
-  no_memory : TriesToSay out_of_memory_line old new → status ≡ answered.Faulted → StopsAtTree files root old new status
-
--- A run for so many configurations of the tree of these files. It ends at the tree; or the tree is accepted, its warnings are said once, and then the configurations take their turns.
+  refused_tree : (r : Refused) → IsRefusedTree files root r → Leads [] (refusal_line r) old new → status ≡ Status.Refused →
+      StopsAtTree files root old new status
+  unsaid_refusal : (r : Refused) → IsRefusedTree files root r → CannotSay old new → status ≡ Status.Faulted → StopsAtTree files root old new status
+  unsaid_warnings : (tree : TreeFacts) → IsAcceptedTree files root tree → lines_text tree.warnings ≢ [] → CannotSay old new →
+      status ≡ Status.Faulted → StopsAtTree files root old new status
+  no_memory : TriesToSay out_of_memory_line old new → status ≡ Status.Faulted → StopsAtTree files root old new status
+-- A run for so many configurations of the tree of these files. It ends at the tree; or the tree is accepted, its warnings are reported once, and
+-- then the configurations take their turns.
 pub data RunsEach (files : Files) (root : List ℕ) (options : ℕ → Options → Type 0) (count : ℕ) (old new : Log) (status : Status) : Type 0 where
   stops : StopsAtTree files root old new status → RunsEach files root options count old new status
   turns : (tree : TreeFacts) (mid : Log) → IsAcceptedTree files root tree → Leads [] (lines_text tree.warnings) old mid →
       TakeTurns files tree options 0 count mid new status → RunsEach files root options count old new status
+
+-- ---- Configurations whose files are apart
+
+-- the files that a run with these options writes, or compares with --check; those that it writes; and whether a name is one of these
+abbrev pub name_if : Option (String Global) → List (List ℕ)
+name_if None = []
+name_if (Some name) = string_bytes name ∷ []
+abbrev pub output_files : Options → List (List ℕ)
+output_files options = name_if options.out ++ (name_if options.header ++ (name_if options.minimal ++ name_if options.depfile))
+abbrev pub written_by : Delivery → List (List ℕ) → List (List ℕ)
+written_by Delivery.Check names = []
+written_by _ names = names
+abbrev pub written_files : Options → List (List ℕ)
+written_files options = written_by options.delivery (output_files options)
+abbrev pub is_among : List ℕ → List (List ℕ) → Bool
+is_among name = list_any (bytes_eq name)
+
+-- No file that one of so many configurations writes is an input or an output of another one.
+abbrev pub AreSeparate : (ℕ → Options → Type 0) → ℕ → Type 0
+AreSeparate options count = (i j : ℕ) (one other : Options) (name : List ℕ) →
+    i < count → j < count → i ≢ j → options i one → options j other →
+    is_among name (written_files one) ≡ true → (is_among name (input_files other) ≡ false) × (is_among name (output_files other) ≡ false)
+-- No configuration writes the file.
+abbrev pub IsWrittenByNone : (ℕ → Options → Type 0) → ℕ → List ℕ → Type 0
+IsWrittenByNone options count name = (i : ℕ) (one : Options) → i < count → options i one → is_among name (written_files one) ≡ false
+-- The files that the options name hold the same at both times.
+abbrev pub HoldAlike : Options → Journal → Journal → Type 0
+HoldAlike options earlier later = (name : List ℕ) →
+    (is_among name (input_files options) || is_among name (output_files options)) ≡ true → held later name ≡ held earlier name
+
+-- How the turn of a configuration ended, among others. (`before` tells what the files held before all turns, and `after` what they hold after all.)
+pub data EndsAmong (files : Files) (options : Options) (inputs : List InputFile) (part : Outcome) (before after : Journal) (status : Status)
+    (is_over : Bool) : Type 0 where
+  -- It is whole: each file that it writes holds its text. With --check it was compared with what was there before all.
+  whole : ((name : List ℕ) → is_among name (written_files options) ≡ true →
+      held after name ≡ last_of name (texts_of options part) (held before name)) →
+      status ≡ status_with (stale_texts options (texts_of options part) before) part.status → is_over ≡ false →
+      EndsAmong files options inputs part before after status is_over
+  -- It was broken off. Its files held the same when its turn came and before all, and hold the same after its turn and after all.
+  broken : (old new : Journal) → HoldAlike options before old → HoldAlike options new after →
+      (b : Broken files options nothing_said inputs part (Some old) (Some new) status) →
+      is_over ≡ (ends_all b.stop || not (is_ok b.report)) → EndsAmong files options inputs part before after status is_over
+-- It leaves its part of what its own input files held before all turns.
+pub record RunsAmong (files : Files) (tree : TreeFacts) (options : Options) (before after : Journal) (status : Status) (is_over : Bool) : Type 0 where
+  pub inputs : List InputFile
+  pub are_inputs : AreInputs (Some before) options inputs
+  pub part : Outcome
+  pub is_part : IsPart files tree options (bytes_of inputs) part
+  pub ends : EndsAmong files options inputs part before after status is_over
+-- A configuration with such options is run; or there was no memory for its options.
+pub data TakesTurnAmong (files : Files) (tree : TreeFacts) (are_options : Options → Type 0) (before after : Journal) (status : Status)
+    (is_over : Bool) : Type 0 where
+  runs : (options : Options) → are_options options → RunsAmong files tree options before after status is_over →
+      TakesTurnAmong files tree are_options before after status is_over
+  no_options : status ≡ Status.Faulted → is_over ≡ true → TakesTurnAmong files tree are_options before after status is_over
+-- The configurations from one number on, so many as are left, take their turns, up to one that ends all. Each leaves what it leaves of the files as
+-- they were before all turns, whatever the others do.
+pub data TurnsAmong (files : Files) (tree : TreeFacts) (options : ℕ → Options → Type 0) (before after : Journal) : ℕ → ℕ → Status → Type 0 where
+  none : (i : ℕ) → TurnsAmong files tree options before after i 0 Status.Done
+  next : (i left : ℕ) (status others : Status) → TakesTurnAmong files tree (options i) before after status false →
+      TurnsAmong files tree options before after (suc i) left others → TurnsAmong files tree options before after i (suc left) (greater status others)
+  last : (i left : ℕ) (status : Status) → TakesTurnAmong files tree (options i) before after status true →
+      TurnsAmong files tree options before after i (suc left) status
+-- A run for so many configurations, where the files held these before and those after. It ends at the tree, and changes no file; or the
+-- configurations take their turns, none of which touches what another one reads or leaves, and a file that none of them writes holds what it held.
+pub data LeavesEach (files : Files) (root : List ℕ) (options : ℕ → Options → Type 0) (count : ℕ) (before after : Journal) (status : Status) :
+    Type 0 where
+  stops : StopsAtTree files root (Some before) (Some after) status → ((name : List ℕ) → held after name ≡ held before name) →
+      LeavesEach files root options count before after status
+  turns : (tree : TreeFacts) → IsAcceptedTree files root tree → TurnsAmong files tree options before after 0 count status →
+      ((name : List ℕ) → IsWrittenByNone options count name → held after name ≡ held before name) →
+      LeavesEach files root options count before after status
+-- If no file that one of them writes is another one's, a run for all of them leaves, over a device that tells, what each leaves of the files as they
+-- were before it.
+abbrev pub EachLeavesItsPart : (ℕ → Options → Type 0) → ℕ → Type 0
+EachLeavesItsPart options count = (files : Files) (root : List ℕ) (before after : Journal) (status : Status) → AreSeparate options count →
+    RunsEach files root options count (Some before) (Some after) status → LeavesEach files root options count before after status

@@ -11,8 +11,7 @@ use Rattle.kc_io.specs.declared.steps.Failure.{Failure}
 use Rattle.kc_language.specs.ConfigFile.{ReadResult, StreamLocation, UserInput, lines_of, reading}
 use Rattle.kc_language.specs.Text.{BeginsWith, GoesBeyond}
 use Rattle.kc_language.specs.Outcome.{Options, names_of, out_of_memory_line, AreLines, streams}
-use Rattle.kc_conf.specs.Stops.{event_of}
-use Rattle.kc_conf.specs.Given.{AreInputs, AreThere, InputFile, ReadsTo, ReadsUpTo, bytes_of, reads, still_told}
+use Rattle.kc_conf.specs.Faults.{event_of, AreInputs, AreThere, InputFile, ReadsTo, ReadsUpTo, bytes_of, reads, still_told}
 use Rattle.kc_conf.specs.declared.reading.LongLine.{LongLine}
 use Rattle.kc_conf.specs.declared.reading.Waiting.{Waiting}
 use Rattle.kc_conf.specs.declared.stop.Stop.{Stop}

@@ -8,7 +8,7 @@ ghost use Rattle.kc_diagnostics.specs.RunErrors.{shown_run_error};
 ghost use Rattle.kc_read.specs.RefusalView.{refusal_view};
 ghost use Rattle.kc_io.specs.Log.{Leads};
 ghost use Rattle.kc_conf.specs.Reads.{IsReportOrMemory, LastEndsLine, Says, SaysIf, failure_line, stop_of};
-ghost use Rattle.kc_conf.specs.Stops.{Reports, event_of, TriesToSay};
+ghost use Rattle.kc_conf.specs.Faults.{Reports, event_of, TriesToSay};
 
 use crate::compute::add_lines;
 use crate::reading::LongLine;

@@ -1,11 +1,7 @@
 //! What holds of the outcomes of runs, stated as the contracts of functions that do nothing.
-ghost use Rattle.kc_conf.specs.Existence.{AcceptedHaveAnOutcome, AnswerExists, ExactlyOneAnswer, ExactlyOneOutcome, OutcomeExists, SolutionExists};
-ghost use Rattle.kc_conf.specs.Accounted.{NothingIsLost};
-ghost use Rattle.kc_conf.specs.Many.{ExactlyOnePart, PartsAreOfRuns};
-ghost use Rattle.kc_conf.specs.Separate.{EachLeavesItsPart};
-ghost use Rattle.kc_conf.specs.Strict.{StrictTakesAll};
-ghost use Rattle.kc_language.specs.Outcome.{DiagnosticsAreLines, OneAnswer, OneOutcome};
-ghost use Rattle.kc_conf.specs.Reruns.{ConfigIsReadAgain, MinimalIsReadAgain, MinimalIsRunAgain, OutcomesAreReadAgain, TextsHaveShortLines, WrittenAreWhole};
+ghost use Rattle.kc_conf.specs.Laws.{ExactlyOneAnswer, ExactlyOneOutcome, SolutionExists, NothingIsLost, StrictTakesAll, DiagnosticsAreLines, ConfigIsReadAgain, MinimalIsReadAgain, MinimalIsRunAgain, OutcomesAreReadAgain, TextsHaveShortLines, WrittenAreWhole};
+ghost use Rattle.kc_conf.specs.LawSteps.{AcceptedHaveAnOutcome, AnswerExists, OutcomeExists, OneAnswer, OneOutcome};
+ghost use Rattle.kc_conf.specs.Many.{ExactlyOnePart, PartsAreOfRuns, EachLeavesItsPart};
 
 use crate::many::Configurations;
 use kc_build::laws::{one_tree, trees_are_well_formed};

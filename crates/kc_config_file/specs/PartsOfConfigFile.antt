@@ -156,4 +156,4 @@ before_too_long lines = take_while is_within lines
 module _ (tree : TreeFacts) (prefix : List ℕ) where
   -- the valid assignments of the lines, in order
   abbrev pub assignments : List Line → List Assignment
-  assignments lines = filter_map (λ l. assignment_of (effect l)) lines
+  assignments lines = filter_map (λ l. assignment_of (effect tree prefix l)) lines

@@ -44,13 +44,13 @@ module _ (tree : TreeFacts) (prefix : List ℕ) (solution : SolutionView) where
 
   -- what all give, in order: each after the entries before it
   abbrev pub entries_text : List Shown → List ℕ
-  entries_text entries = flat_map (λ (i, entry). entry_text (end_is_last tree solution (take i entries)) entry) (enumerate_from 0 entries)
+  entries_text entries = flat_map (λ (i, entry). entry_text tree prefix solution (end_is_last tree solution (take i entries)) entry) (enumerate_from 0 entries)
 
   abbrev pub header_if : SymId → List ℕ
   header_if s = if solution.written s then symbol_header s else []
 
   abbrev pub minimal_if : SymId → List ℕ
-  minimal_if s = if solution.differs s then symbol_config s else []
+  minimal_if s = if solution.differs s then symbol_config tree prefix solution s else []
 
 -- a blank or a carriage return
 abbrev pub is_end_byte : ℕ → Bool

@@ -1,4 +1,5 @@
 -- The definitions that the contracts speak in.
 pub mod Causes
+pub mod PartsOfOutcome
 pub mod RunErrors
 pub mod Warnings

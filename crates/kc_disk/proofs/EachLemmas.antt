@@ -7,8 +7,7 @@ use Rattle.kc_load.specs.declared.fault.LoadFault.TheVariants.{CannotRead, Memor
 use Rattle.kc_words.specs.Apart.{AreApart, IsClash}
 use Rattle.kc_words.specs.declared.each.Each.{Each}
 use Rattle.kc_words.specs.declared.usage.UsageError.{UsageError}
-use Rattle.kc_conf.specs.FolderRuns.{load_line}
-use Rattle.kc_conf.specs.Stops.{TriesToSay}
+use Rattle.kc_conf.specs.Faults.{load_line, TriesToSay}
 use Rattle.kc_language.specs.declared.outcome.Status.{Status}
 use Rattle.kc_language.specs.declared.outcome.Status.TheVariants as answered
 use Rattle.kc_disk.specs.EachRuns.{AreListed, AreNames, FolderRunsEach, SaysClash, clashing, loaded, no_memory, unlisted, unloaded, unreadable}

@@ -11,8 +11,8 @@ use Rattle.kc_words.specs.declared.each.Each.{Each}
 use Rattle.kc_words.specs.declared.usage.UsageError.{UsageError}
 use Rattle.kc_words.specs.declared.usage.UsageError.TheVariants as usage
 use Rattle.kc_language.specs.Outcome.{Options, input_files}
-use Rattle.kc_conf.specs.Separate.{AreSeparate, is_among, name_if, output_files}
-use Rattle.kc_conf.specs.Stops.{TriesToSay}
+use Rattle.kc_conf.specs.Many.{AreSeparate, is_among, name_if, output_files}
+use Rattle.kc_conf.specs.Faults.{TriesToSay}
 use Rattle.kc_conf.proofs.AmongLemmas.{each_leaves_its_part_law, written_output}
 use Rattle.kc_disk.specs.EachLeaves.{NamedStandApart, ends_before, leaves}
 use Rattle.kc_disk.specs.EachRuns.{GivesOptions, clashing, loaded, unlisted, unloaded}

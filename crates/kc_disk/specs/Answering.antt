@@ -16,7 +16,7 @@ use Rattle.kc_words.specs.declared.options.Request.{Request}
 use Rattle.kc_words.specs.declared.options.Request.TheVariants as request
 use Rattle.kc_words.specs.declared.usage.UsageError.{UsageError}
 use Rattle.kc_words.specs.declared.usage.UsageError.TheVariants.{Help, Version, Bad, Memory}
-use Rattle.kc_conf.specs.FolderRuns.{FolderRuns}
+use Rattle.kc_conf.specs.Faults.{FolderRuns}
 use Rattle.kc_language.specs.declared.outcome.Status.{Status}
 use Rattle.kc_disk.specs.EachRuns.{FolderRunsEach}
 use Rattle.kc_disk.specs.declared.arguments.Arguments.{Arguments}

@@ -5,7 +5,7 @@ use Rattle.kc_language.specs.Expansion.{Files}
 use Rattle.kc_load.specs.Expanding.{AreFilesOf}
 use Rattle.kc_load.specs.Folders.{FolderState, files_told}
 use Rattle.kc_words.specs.declared.each.Each.{Each}
-use Rattle.kc_conf.specs.Separate.{LeavesEach}
+use Rattle.kc_conf.specs.Many.{LeavesEach}
 use Rattle.kc_language.specs.declared.outcome.Status.{Status}
 use Rattle.kc_disk.specs.EachRuns.{AreNames, FolderRunsEach, GivesOptions}
 

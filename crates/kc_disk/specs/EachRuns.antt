@@ -14,8 +14,7 @@ use Rattle.kc_words.specs.Patterns.{AreOptionsFor}
 use Rattle.kc_words.specs.declared.each.Each.{Each}
 use Rattle.kc_words.specs.declared.usage.UsageError.{UsageError}
 use Rattle.kc_language.specs.Outcome.{Options, cannot_read_line, out_of_memory_line}
-use Rattle.kc_conf.specs.FolderRuns.{load_line}
-use Rattle.kc_conf.specs.Stops.{TriesToSay}
+use Rattle.kc_conf.specs.Faults.{load_line, TriesToSay}
 use Rattle.kc_conf.specs.Many.{RunsEach}
 use Rattle.kc_language.specs.declared.outcome.Status.{Status}
 use Rattle.kc_disk.specs.Usage.{EndsUsage, SaysUsage}

@@ -36,7 +36,7 @@ levels_or d = levels d
 
 module _ (condition : Bool) (number : List ℕ → ℕ) where
   abbrev pub meaning_or : Disjunction → Form
-  meaning_or d = meaning d
+  meaning_or d = meaning condition number d
 
 abbrev pub names_in_terminal : Terminal → List (List ℕ)
 names_in_terminal (OperandToken a) = names_in_atom a

@@ -1,7 +1,8 @@
-pub mod Folders
-pub mod Order
-pub mod Loaded
-pub mod Reached
 pub mod Expanding
 pub mod Faults
+pub mod Folders
+pub mod Loaded
+pub mod Order
+pub mod PartsOfOutcome
+pub mod Reached
 pub mod Steps

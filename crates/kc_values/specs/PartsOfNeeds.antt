@@ -22,11 +22,11 @@ module _ (tree : TreeFacts) where
   -- a mode names what the choice's prompt condition names
   abbrev pub prompt_names : Option ChoiceFacts → List SymId
   prompt_names None = []
-  prompt_names (Some c) = conjunct_names c.prompt
+  prompt_names (Some c) = conjunct_names tree c.prompt
 
   abbrev pub prompts_names : Option SymbolFacts → List SymId
   prompts_names None = []
-  prompts_names (Some f) = flat_map condition_names f.prompts
+  prompts_names (Some f) = flat_map (condition_names tree) f.prompts
 
   -- a tristate type names the modules symbol
   abbrev pub type_names : SymbolType → List SymId
@@ -39,11 +39,11 @@ module _ (tree : TreeFacts) where
 
   -- int and hex: also the bounds and conditions of its ranges
   abbrev pub names_of_number : SymbolFacts → List SymId
-  names_of_number f = names_of_all f ++ guarded_names bounds_names f.ranges
+  names_of_number f = names_of_all tree f ++ guarded_names tree bounds_names f.ranges
 
   abbrev pub names_by_choice : SymbolFacts → Option ℕ → List SymId
-  names_by_choice f (Some c) = names_of_choice (choice_at tree c)
-  names_by_choice f None = names_by_type f f.symbol_type
+  names_by_choice f (Some c) = names_of_choice tree (choice_at tree c)
+  names_by_choice f None = names_by_type tree f f.symbol_type
 
   -- the numbers of the symbols in a list that the tree mentions
   abbrev pub mentioned_numbers : List SymId → List ℕ

@@ -30,37 +30,37 @@ module _ (known : SymId → SymbolValue) where
 module _ (tree : TreeFacts) (known : SymId → SymbolValue) where
   abbrev pub prompt_value : Option Condition → Tri
   prompt_value None = N
-  prompt_value (Some c) = and_value c.conjuncts
+  prompt_value (Some c) = and_value tree known c.conjuncts
 
   abbrev pub mode_value : Option ℕ → Tri
   mode_value None = Y
-  mode_value (Some c) = mode_of (choice_at tree c)
+  mode_value (Some c) = mode_of tree known (choice_at tree c)
 
   abbrev pub visible_facts : Option SymbolFacts → Bool
   visible_facts None = false
-  visible_facts (Some f) = not (is_n (conditions f.prompts))
+  visible_facts (Some f) = not (is_n (conditions tree known f.prompts))
 
   -- the first default whose condition is not n and that names a visible member
   abbrev pub first_default : ChoiceFacts → List (Guarded SymId) → Option SymId
-  first_default c gs = what_of (find (λ g. not (is_n (condition g.when)) && visible_member c g.what) gs)
+  first_default c gs = what_of (find (λ g. not (is_n (condition tree known g.when)) && visible_member tree known c g.what) gs)
 
   abbrev pub first_visible : List SymId → Option SymId
-  first_visible ms = find visible ms
+  first_visible ms = find (visible tree known) ms
 
   -- A member is y where it is selected, which is visible, else n; its own defaults have no effect.
   abbrev pub member_equation : SymId → ℕ → Option GivenValue → Tri
-  member_equation s c user = if is_symbol_of s (selected (choice_at tree c) user) then Y else N
+  member_equation s c user = if is_symbol_of s (selected tree known (choice_at tree c) user) then Y else N
 
 -- Under what is known of the symbols.
 module _ (tree : TreeFacts) (known : SymId → SymbolValue) where
   -- a string, int or hex: visible, or a default's condition is not n
   abbrev pub written_text : SymbolFacts → Bool
-  written_text f = is_visible f || is_some (first_met tree known f.defaults)
+  written_text f = is_visible tree known f || is_some (first_met tree known f.defaults)
 
   -- a member is written where it is visible
   abbrev pub written_by_choice : SymbolFacts → Option ℕ → Bool
-  written_by_choice f (Some c) = is_visible f
-  written_by_choice f None = written_by_type f f.symbol_type
+  written_by_choice f (Some c) = is_visible tree known f
+  written_by_choice f None = written_by_type tree known f f.symbol_type
 
   abbrev pub written_facts : Option SymbolFacts → Bool
   written_facts None = false
@@ -69,7 +69,7 @@ module _ (tree : TreeFacts) (known : SymId → SymbolValue) where
   -- of type tristate, visible, and greater than both its visibility and what it is selected to
   abbrev pub changes_on_reread_truth : SymbolFacts → Tri → Bool
   changes_on_reread_truth f t =
-      is_tristate f.symbol_type && (is_visible f && (above t (visibility tree known f) && above t (selected_to tree known f)))
+      (is_tristate tree known) f.symbol_type && (is_visible tree known f && (above t (visibility tree known f) && above t (selected_to tree known f)))
 
 abbrev pub user_place_by : ℕ → Option ℕ → UserPlace
 user_place_by i None = SymbolPlace i

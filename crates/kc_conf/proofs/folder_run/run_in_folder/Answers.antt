@@ -5,7 +5,7 @@ use Rattle.kc_load.specs.Faults.{IsLoadFault, failed_load}
 use Rattle.kc_load.specs.Folders.{Leads, files_told}
 use Rattle.kc_language.specs.Expansion.{bytes_in}
 use Rattle.kc_language.specs.Outcome.{root_file}
-use Rattle.kc_conf.specs.FolderRuns.{loaded, unloaded}
+use Rattle.kc_conf.specs.Faults.{loaded, unloaded}
 use Rattle.kc_conf.proofs.FolderLemmas.{flipped, runs_over}
 use Rattle.kc_conf.proofs.folder_run.run_in_folder.Goals as goal
 

@@ -5,7 +5,7 @@ use Rattle.kc_io.specs.Log.{Leads, Log}
 use Rattle.kc_language.specs.Outcome.{has_text, lines_text}
 use Rattle.kc_conf.specs.PartRuns.{SaysLines}
 use Rattle.kc_conf.specs.Reads.{IsReportOrMemory}
-use Rattle.kc_conf.specs.Stops.{event_of}
+use Rattle.kc_conf.specs.Faults.{event_of}
 use Rattle.kc_conf.specs.declared.stop.Stop.{Stop}
 use Rattle.kc_conf.specs.declared.stop.Stop.TheVariants.{OutOfMemory, Failed}
 use Rattle.kc_conf.proofs.OutcomeLemmas.{lines_some}

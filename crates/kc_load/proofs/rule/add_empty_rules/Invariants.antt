@@ -1,6 +1,6 @@
 use Rattle.std.proofs.Common.{◌≡◌, ◌++◌, take}
 use Rattle.std.specs.Prelude.{flat_map}
-use Rattle.kc_language.specs.Outcome.{empty_rule}
+use Rattle.kc_load.specs.PartsOfOutcome.{empty_rule}
 use Rattle.kc_load.proofs.rule.add_empty_rules.Given as goal
 
 -- the files so far are added

@@ -1,6 +1,6 @@
 use Rattle.std.proofs.Common.{◌≡◌, ◌++◌, take}
 use Rattle.std.specs.Prelude.{flat_map}
-use Rattle.kc_language.specs.Outcome.{prerequisite}
+use Rattle.kc_load.specs.PartsOfOutcome.{prerequisite}
 use Rattle.kc_load.proofs.rule.add_prerequisites.Given as goal
 
 -- the files so far are added

@@ -1,0 +1,35 @@
+-- Trusted: Parts of the definitions of Outcome, by names of their own.
+use Rattle.std.specs.List.{list_any}
+use Rattle.std.specs.Prelude.{Bool, List, Option, [], codes, if◌then◌else◌, map, nat_le, ℕ, ◌&&◌, ◌++◌, ◌==◌, ◌||◌, ◌∷◌}
+use Rattle.kc_language.specs.Expressions.{all_mentioned, same_name}
+use Rattle.kc_language.specs.Outcome.{ends_in, escaped, first_unreadable, path_of}
+use Rattle.kc_language.specs.declared.outcome.Position.TheVariants.{Prerequisite, Target}
+
+-- ` \` ends the line before, and the prerequisite stands on its own
+abbrev pub prerequisite : List ℕ → List ℕ
+prerequisite name = codes " \\\n " ++ escaped Prerequisite name
+
+-- the rule of a file that needs nothing
+abbrev pub empty_rule : List ℕ → List ℕ
+empty_rule name = codes "\n" ++ escaped Target name ++ codes ":\n"
+
+-- no line ends in `\`: ` |` follows, and after it no prerequisite
+abbrev pub closed : List ℕ → List ℕ
+closed line = line ++ (if ends_in (codes "\\") line then codes " |" else [])
+
+-- make reads the byte as more than a part of a name, in some position or in all, and no `\` helps
+abbrev pub is_beyond_make : ℕ → Bool
+is_beyond_make b = b == 0 || nat_le 9 b && nat_le b 13 || list_any (λ c. c == b) (codes "=;*?[")
+
+-- the first unreadable name of a rule
+abbrev pub unreadable_of : List ℕ → List (List ℕ) → Option (List ℕ)
+unreadable_of out names = first_unreadable (out ∷ names)
+
+-- The input files that `out` is made of: the `.config`, unless `out` takes its place, and the fragments.
+abbrev pub inputs_of : List ℕ → List ℕ → List (List ℕ) → List (List ℕ)
+inputs_of out config fragments = if same_name config out then fragments else config ∷ fragments
+
+-- The prerequisites of what is made from the files that a tree opens and from input files, each once: the tree's files by their
+-- paths, as they were read, and then the input files.
+abbrev pub prerequisites_of : List ℕ → List (List ℕ) → List (List ℕ) → List (List ℕ)
+prerequisites_of dir opened inputs = all_mentioned [] (map (path_of dir) opened ++ inputs)
