@@ -1,16 +1,18 @@
 #!/usr/bin/env python3
 """Lists the definitions that the contracts of public functions cite, which a reader has to trust: bench/trusted.py [--cited | --run | --table]
 
-Each file of a crate's specs/ begins with `-- Trusted: ` where the contract of a public function cites some of its
-definitions, directly or through other definitions, and with `-- For proofs: ` where none does. Without an argument the
-trusted files are listed with their line counts, and a file without such a head line ends the run with status 1.
-With --cited the definitions are followed from the contracts, by name, and each file whose head line says something else
-than was found is printed, with the names that are cited in it; the status is then 1.
-With --run only the files are listed that the contracts of `run`, of the laws over runs and deliveries, of the program and of the traits of
-its devices cite: what somebody has to trust who uses kconf and calls no crate of it. Then come the lines of these contracts and of the views of
-the types that they cite, which stand in the code; and in one number all that is to be trusted. At the end it says how many definitions
-are cited and how many lines those definitions take alone. The other trusted files say what the crates promise each other.
-With --table the table of docs/architecture.md is printed, and the lines and files that serve proofs.
+Each file of a crate's specs/ begins with `-- Trusted: ` if a contract of a public function cites some of its definitions, directly or
+through other definitions, and with `-- For proofs: ` if none does. Without an argument this lists the trusted files with their lines. A
+file without such a first line ends it with status 1.
+
+--cited  Follows the definitions from the contracts, by name. Prints each file whose first line says something else than was found, with
+         the names that are cited in it. If there is one, the status is 1.
+--run    Lists only the files that the program rests on: those that the contracts of `run`, of the laws over runs and deliveries, of the
+         program and of the traits of its devices cite. You have to trust these if you use kconf and call none of its crates. The other
+         trusted files say what the crates promise each other. Then it prints the lines of these contracts, of the views of the types
+         that they cite, and of the enums and structs that the definitions name, which all stand in the code (src/). It ends with three
+         sums over the cited definitions alone, without comments: the language, the I/O layer with the command line, and all.
+--table  Prints the table of docs/architecture.md, and the lines and files that serve proofs.
 """
 import os
 import re
@@ -18,7 +20,7 @@ import sys
 
 TOP = os.path.dirname(os.path.dirname(os.path.abspath(__file__)))
 # The calls that a user of the program rests on: the run, the laws over runs and deliveries, the program; and what the traits of the devices
-# ask of these. None is all of a room.
+# ask of these. None stands for all calls of the module.
 RUN = {
     ("kc_conf", "runs"): {"run"},
     ("kc_conf", "many"): None,
@@ -32,6 +34,11 @@ RUN = {
     ("kc_disk", "laws"): None,
     ("kc_disk", "program"): {"kconf", "exit_status"},
 }
+# The crates of the sums at the end of --run, each with its name.
+PARTS = (
+    ("the language", ("kc_language", "kc_conf")),
+    ("the I/O layer and the command line", ("kc_io", "kc_load", "kc_words", "kc_disk")),
+)
 HEADS = {"-- Trusted: ": True, "-- For proofs: ": False}
 WORD = re.compile(r"[A-Za-z_][\w'«»-]*(?:\.[A-Za-z_0-9][\w'-]*)*")
 
@@ -53,22 +60,70 @@ def spec_files(crate):
     return sorted(name for name in os.listdir(folder) if name.endswith(".antt") and name != "Lib.antt")
 
 
+def items_of(group):
+    """The items of the braces of a `use` line, with those of nested braces behind their path."""
+    depth, start = 0, 0
+    for at, letter in enumerate(group + ","):
+        depth += {"{": 1, "}": -1}.get(letter, 0)
+        if letter == "," and depth == 0:
+            item, start = group[start:at].strip(), at + 1
+            if item.endswith("}"):
+                path, _, inner = item[:-1].partition(".{")
+                yield from (f"{path}.{it}" for it in items_of(inner))
+            elif item:
+                yield item
+
+
+def used(text):
+    """What `use` lines bring: each path, and the name that it has here."""
+    for path, group, name in re.findall(r"use (Rattle\.[\w.«»+-]+?)(?:\.\{(.*)\}| as (\w+))?;?$", text, re.M):
+        if not group:
+            yield path, name or path.split(".")[-1]
+        for item in items_of(group):
+            to, _, alias = item.partition(" as ")
+            yield f"{path}.{to}", alias or to.split(".")[-1]
+
+
 def imports(text):
     """What `use` lines bring: the names, and the names of whole modules, each with where it comes from."""
     names, modules = {}, {}
-    for crate, module, rest in re.findall(r"use Rattle\.(\w+)\.specs\.(\w+)(\.\{[^}]*\}| as \w+)", text):
-        if rest.startswith(" as "):
-            modules[rest[4:]] = (crate, module)
-            continue
-        for item in rest[2:-1].split(","):
-            parts = item.strip().split(" as ")
-            names[parts[-1].strip()] = (crate, module, parts[0].strip())
+    for path, name in used(text):
+        parts = path.split(".")
+        if len(parts) == 4 and parts[2] == "specs":
+            modules[name] = (parts[1], parts[3])
+        elif len(parts) == 5 and parts[2] == "specs" and parts[3] != "declared":
+            names[name] = (parts[1], parts[3], parts[4])
     return names, modules
 
 
 def types(text):
     """The types that `use` lines bring, each with the crate and the module of the code that it stands in."""
-    return {kind: (crate, module, kind) for crate, module, kind in re.findall(r"use Rattle\.(\w+)\.specs\.declared\.(\w+)\.(\w+)", text)}
+    paths = (path.split(".") for path, _ in used(text))
+    return {parts[5]: (parts[1], parts[4], parts[5]) for parts in paths if len(parts) > 5 and parts[2:4] == ["specs", "declared"]}
+
+
+def declared(text):
+    """The names that `use` lines bring of enums and structs, of their variants and constructors, each with the type that it is of."""
+    paths = ((path.split("."), name) for path, name in used(text))
+    return {name: (parts[1], parts[4], parts[5]) for parts, name in paths if len(parts) > 5 and parts[2:4] == ["specs", "declared"]}
+
+
+def enums_and_structs(named):
+    """The declarations of these enums and structs, and of those of the same crate that they hold, without comments and attributes."""
+    found, waiting = {}, sorted(named)
+    while waiting:
+        crate, module, kind = waiting.pop()
+        folder = os.path.join(TOP, "crates", crate, "src")
+        if (crate, module, kind) in found or not os.path.exists(os.path.join(folder, f"{module}.rt")):
+            continue
+        code = read(os.path.join(folder, f"{module}.rt"))
+        block = re.search(rf"^(?:pub(?:\(\w+\))? )?(?:enum|struct) {kind}\b(?:[^{{;]*;|.*?^\}})", code, re.M | re.S)
+        if block is not None:
+            lines = [line for line in block.group().split("\n") if line.strip() and not line.lstrip().startswith(("//", "#["))]
+            found[crate, module, kind] = "\n".join(lines)
+            words = set(re.findall(r"\w+", found[crate, module, kind]))
+            waiting += [(crate, name[:-3], word) for name in os.listdir(folder) for word in words]
+    return found
 
 
 def views():
@@ -84,26 +139,35 @@ def views():
     return found
 
 
+TYPE = re.compile(r" *(?:pub )?(?:data|record) ([A-Za-z_][\w'-]*)")
+MARKS = r"(?:(?:pattern|unfoldable|abbrev|mutual|pub|data|record) +)*"
+DECLARES = re.compile(rf"( *){MARKS}((?:[A-Za-z_«][\w'«»-]* )+)(?:[({{][^:]*:[^:]*[)}}] )*: ")
+
+
 def definitions(text):
-    """The definitions of a file: each name with the blocks that it stands in. The parts of a block share its text, and a
-    record is one definition with its fields."""
-    blocks, current = [], []
+    """The definitions of a file: each name with its text. A record is one definition with its fields, and a type one with its
+    constructors. What a `module` line says goes with each definition below it."""
+    found, module, block, inside = {}, "", None, None
     for line in text.split("\n"):
-        if line.startswith("use ") or line.startswith("-- "):
+        indent = len(line) - len(line.lstrip())
+        if not line.strip() or line.lstrip().startswith("--") or re.match(r"(pub )?use ", line):
             continue
-        if line.strip() == "" and current:
-            blocks.append("\n".join(current))
-            current = []
-        elif line.strip():
-            current.append(line)
-    blocks.append("\n".join(current))
-    found = {}
-    for block in blocks:
-        records = re.findall(r"^ *(?:pub )?record ([A-Za-z_][\w'-]*)", block, re.M)
-        names = records or re.findall(r"^ *(?!module )(?:mutual +)?(?:abbrev +|unfoldable +)*(?:pub +)?(?:data +|record +)?([A-Za-z_][\w'-]*)(?: [^:=→\n]*)? : ", block, re.M)
-        for name in names:
-            found.setdefault(name, []).append(block)
-    return found
+        if re.match(r"module _ ", line):
+            module, block, inside = line, None, None
+            continue
+        if inside is not None and indent > inside:
+            block.append(line)
+            continue
+        inside, module = None, module if indent else ""
+        kind, declares = TYPE.match(line), DECLARES.match(line)
+        if kind or declares:
+            block, names = [module] if module else [], declares.group(2).split() if not kind else [kind.group(1)]
+            inside = indent if kind else None
+            for name in names:
+                found.setdefault(name, []).append(block)
+        if block is not None:
+            block.append(line)
+    return {name: ["\n".join(block) for block in blocks] for name, blocks in found.items()}
 
 
 def public_items(crate):
@@ -166,27 +230,28 @@ def contracts(crate, calls=None):
             if part == "item" and line.endswith(("};", "},")) or part == "clause" and line.endswith(";"):
                 part = None
         if clauses:
-            yield "\n".join(clauses), imports(text), types(text)
+            yield "\n".join(clauses), imports(text), types(text), declared(text)
 
 
 def cited(calls=None):
-    """What public contracts cite, or those of these calls, as (crate, module, name); and the definitions among that, which
-    constructors and fields are none of, as (crate, module, name, block of text)."""
+    """What public contracts cite, or those of these calls, as (crate, module, name); the definitions among that, which constructors
+    and fields are none of, as (crate, module, name, block of text); the contracts; the views; and the enums and structs."""
     texts = {}
     for crate in crates():
         for name in spec_files(crate):
             text = read(os.path.join(TOP, "crates", crate, "specs", name))
-            texts[crate, name[:-5]] = (definitions(text), imports(text), types(text))
+            texts[crate, name[:-5]] = (definitions(text), imports(text), types(text), declared(text))
     found, defined, waiting, seen = set(), set(), [], views()
-    shown, clauses = {}, []
+    shown, clauses, named = {}, [], set()
 
-    def follow(text, uses, here, kinds):
+    def follow(text, uses, here, kinds, declares):
         names, modules = uses
+        named.update(declares[word.split(".")[0]] for word in set(WORD.findall(text)) if word.split(".")[0] in declares)
         for word in set(WORD.findall(text)):
             view = kinds.get(word.split(".")[0])
             if view in seen and view not in shown:
                 shown[view] = seen[view][0]
-                follow(seen[view][0], imports(seen[view][1]), None, types(seen[view][1]))
+                follow(seen[view][0], imports(seen[view][1]), None, types(seen[view][1]), declared(seen[view][1]))
         for word in set(WORD.findall(text)):
             parts = word.split(".")
             if parts[0] in modules and len(parts) > 1:
@@ -202,22 +267,22 @@ def cited(calls=None):
                 waiting.append(goal)
 
     for crate in crates():
-        for text, uses, kinds in contracts(crate, calls):
+        for text, uses, kinds, declares in contracts(crate, calls):
             clauses.append(text)
-            follow(text, uses, None, kinds)
+            follow(text, uses, None, kinds, declares)
     while waiting:
         crate, module, name = waiting.pop()
-        known, uses, kinds = texts[crate, module]
+        known, uses, kinds, declares = texts[crate, module]
         defined.update((crate, module, name, block) for block in known.get(name, []))
         # Another name is a constructor or a field: it stands in the block of its type.
         for block in known.get(name) or [block for blocks in known.values() for block in blocks]:
             if name in known or re.search(rf"(?<![\w.]){re.escape(name)}(?![\w'])", block):
-                follow(block, uses, (crate, module), kinds)
-    return found, defined, clauses, shown
+                follow(block, uses, (crate, module), kinds, declares)
+    return found, defined, clauses, shown, enums_and_structs(named)
 
 
 def missing_calls():
-    """The calls of RUN that no room has, each with its room."""
+    """The calls of RUN that their module does not have."""
     for (crate, module), names in RUN.items():
         text = read(os.path.join(TOP, "crates", crate, "src", f"{module}.rt"))
         yield from (f"{crate} {module} has no {name}" for name in sorted(names or ()) if not re.search(rf"^pub fn {name}\b", text, re.M))
@@ -234,8 +299,29 @@ def table():
         serving += proofs
         if texts:
             names = ", ".join(f"`{name}` {count}" for name, count in trusted) or "none"
-            print(f"| `{crate}` | {names} | {sum(count for _, count in trusted):,} | {f'{sum(proofs)} in {len(proofs)}' if proofs else 'none'} |")
+            print(f"| `{crate}` | {names} | {sum(count for _, count in trusted):,} | {f'{sum(proofs):,} in {len(proofs)}' if proofs else 'none'} |")
     print(f"{sum(serving):,} lines in {len(serving)} files serve proofs")
+
+
+def size(texts):
+    return sum(text.count("\n") + 1 for text in texts)
+
+
+def summary(defined, clauses, shown, named):
+    """What stands in the code, and the sums over the cited definitions alone."""
+    code = [f"{size(clauses)} lines of contracts"]
+    code += [f"{size(shown.values())} of views of {len(shown)} types"] if shown else []
+    print(f"In the code: {', '.join(code)}, {size(named.values())} of {len(named)} enums and structs that the definitions name")
+    print("The cited definitions alone, without comments:")
+    groups = list(PARTS)
+    rest = tuple(sorted({crate for crate, *_ in defined} - {crate for _, group in PARTS for crate in group}))
+    groups += [("other crates", rest)] if rest else []
+    for title, group in groups + [("all", None)]:
+        inside = [it for it in defined if group is None or it[0] in group]
+        blocks = {(crate, module, block) for crate, module, _, block in inside}
+        lines = sum(not line.lstrip().startswith("--") for _, _, text in blocks for line in text.split("\n"))
+        names = len({(crate, module, name) for crate, module, name, _ in inside})
+        print(f"{lines:5} lines in {names:3} definitions: {title}" + (f" ({', '.join(group)})" if group else ""))
 
 
 def main():
@@ -245,7 +331,7 @@ def main():
     if missing:
         sys.exit("\n".join(missing))
     compare, of_run = "--cited" in sys.argv[1:], "--run" in sys.argv[1:]
-    found, defined, clauses, shown = cited(RUN if of_run else None) if compare or of_run else (set(), set(), [], {})
+    found, defined, clauses, shown, named = cited(RUN if of_run else None) if compare or of_run else (set(), set(), [], {}, {})
     wrong, files, lines = 0, 0, 0
     for crate in crates():
         for name in spec_files(crate):
@@ -265,16 +351,10 @@ def main():
                 if bool(names) != trusted:
                     print(f"{path}: {'cited' if names else 'not cited'} {' '.join(names)}")
                     wrong += trusted is not None
-    print(f"{lines:5} lines in {files} trusted files")
+    if not compare:
+        print(f"{lines:5} lines in {files} trusted files")
     if of_run:
-        told = sum(text.count("\n") + 1 for text in clauses)
-        seen = sum(text.count("\n") + 1 for text in shown.values())
-        print(f"{told:5} lines of contracts that cite them, and {seen} of views of {len(shown)} types")
-        print(f"{lines + told + seen:5} lines in all")
-        names = {(crate, module, name) for crate, module, name, _ in defined}
-        texts = {(crate, module, block) for crate, module, _, block in defined}
-        alone = sum(not line.lstrip().startswith("--") for _, _, text in texts for line in text.split("\n"))
-        print(f"{alone:5} lines of them are the {len(names)} definitions that are cited, without comments")
+        summary(defined, clauses, shown, named)
     sys.exit(1 if wrong else 0)
 
 

@@ -1,4 +1,4 @@
--- Trusted: Parts of the definitions of Symbols, by names of their own.
+-- For proofs: Parts of the definitions of Symbols, by names of their own.
 use Rattle.std.specs.List.{filter_map, flat_map, list_any, take_while}
 use Rattle.std.specs.Option.{option_and_then}
 use Rattle.std.specs.Prelude.{Bool, List, None, Option, Result, Some, [], false, filter, if◌then◌else◌, is_none, is_some, map, not, option_map, reverse, slice_get, take, true, unwrap_or, ℕ, ◌&&◌, ◌++◌, ◌==◌, ◌||◌}

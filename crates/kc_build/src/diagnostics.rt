@@ -12,7 +12,6 @@ ghost use Rattle.kc_language.specs.Symbols as facts;
 ghost use Rattle.kc_language.specs.Symbols.{listed};
 ghost use Rattle.kc_build.specs.SymbolRows.{type_by, choice_by, member_by, default_symbol, line_warnings_in};
 ghost use Rattle.kc_build.specs.WholeListRefusals as entry_refusal;
-ghost use Rattle.kc_language.specs.Symbols as spec;
 ghost use Rattle.kc_build.specs.PartsOfSymbols as spec_parts;
 
 use crate::lines::{
@@ -50,7 +49,7 @@ pub(crate) struct Diagnostics {
 
 // The symbol whose entry it is.
 fn entry_symbol(entry: MenuEntry) -> Option<SymId>
-    ensures { result ≡ spec.entry_symbol entry }
+    ensures { result ≡ facts.entry_symbol entry }
 {
     match entry {
         MenuEntry::Symbol(s) => Some(s),
@@ -60,7 +59,7 @@ fn entry_symbol(entry: MenuEntry) -> Option<SymId>
 
 // The choice whose entry it is.
 fn entry_choice(entry: MenuEntry) -> Option<ChoiceId>
-    ensures { option_map (λ k. k.0) result ≡ spec.entry_choice entry }
+    ensures { option_map (λ k. k.0) result ≡ facts.entry_choice entry }
 {
     match entry {
         MenuEntry::Choice(k) => Some(k),
@@ -214,7 +213,7 @@ fn is_bad_member(head: &Head, summary: EntrySummary, symbols: &[Symbol]) -> bool
 
 // The entry is that of a symbol whose value is a text.
 fn is_text_entry(entry: MenuEntry, symbols: &[Symbol]) -> bool
-    ensures { result ≡ list_any (λ t. facts.has_text (type_by symbols.now t)) (listed (spec.entry_symbol entry)) }
+    ensures { result ≡ list_any (λ t. facts.has_text (type_by symbols.now t)) (listed (facts.entry_symbol entry)) }
 {
     match entry_symbol(entry) {
         Some(symbol) => has_text(type_of(symbols, symbol)),

@@ -9,7 +9,6 @@ ghost use Rattle.kc_build.specs.PartsOfSymbols as facts_parts;
 ghost use Rattle.kc_tree.specs.OwnRows.{range_row};
 ghost use Rattle.kc_build.specs.Passes.{stated_default_view, target_view};
 ghost use Rattle.kc_build.specs.EntryLines.{range_line};
-ghost use Rattle.kc_language.specs.Symbols as targets;
 
 use kc_expr::expression::{Expr, Operand, SymId, SymbolType};
 pub(crate) use kc_language::symbols::SelectOrImply;
@@ -100,7 +99,7 @@ pub(crate) fn visible_of(attribute: &Attribute) -> Option<&Rc<Expr>>
 
 /// The symbol that a `select` or `imply` line names.
 pub(crate) fn target_of(attribute: &Attribute) -> Option<Target<'_>>
-    ensures { option_map target_view result ≡ targets.target_of (attribute_view attribute.now) }
+    ensures { option_map target_view result ≡ facts.target_of (attribute_view attribute.now) }
 {
     match attribute {
         Attribute::Select(symbol, when) => Some(Target {

@@ -1,5 +1,6 @@
 //! Files that are put into a map, parts of which are repeated, and a refusal as a text.
 
+use kc_diagnostics::cause_parts;
 use kc_read::{FileMap, Refusal};
 use std::alloc::{AllocError, Global};
 
@@ -112,7 +113,7 @@ pub(crate) fn refusal_into(refusal: &Refusal, text: &mut String) {
         letters_into(file, text);
         let _ = write!(text, ":{line} ");
     }
-    for part in refusal.cause.parts() {
+    for part in cause_parts(&refusal.cause) {
         letters_into(part, text);
     }
 }

@@ -4,7 +4,7 @@ ghost use Rattle.std.specs.Prelude.{◌≡◌, length};
 ghost use Rattle.kc_language.specs.ConfigFile.{ArePlacesOf};
 
 use kc_build::build_tree;
-use kc_diagnostics::{Warning, add_warning};
+use kc_diagnostics::{Warning, add_warning, borrowed};
 use kc_expr::expression::{SymId, Tri};
 use kc_expr::values::tri_text;
 use kc_read::file_map::FileMap;
@@ -173,7 +173,7 @@ pub(crate) fn warnings_into(
     out: &mut Vec<u8>,
 ) -> Result<(), AllocError> {
     for warning in warnings {
-        add_warning(warning.borrowed(), out)?;
+        add_warning(borrowed(warning), out)?;
         out.push(b'\n')?;
     }
     Ok(())

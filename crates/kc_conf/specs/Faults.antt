@@ -1,37 +1,18 @@
 -- Trusted: What a run reads, why it breaks off, and how it ends.
--- Our own. It ends in `Runs`, of which everything before is a part, and `FolderRuns`, the same for the tree of a folder. What is claimed of files
--- is claimed where the device tells in its log what they hold (kc_io).
-use Rattle.std.specs.Prelude.{◌≡◌, ◌⊎◌, ℕ, ◌<◌, Bool, true, false, not, ◌&&◌, if◌then◌else◌, List, [], ◌∷◌, ◌++◌, All, map, take, filter, flat_map, is_none, is_ok, is_some, unwrap_or, slice_get, slice_index_or, string_bytes, Option, None, Some, Result, Ok, Err, String, ⊤}
-use Rattle.std.specs.declared.alloc.Global.{Global}
-use Rattle.kc_language.specs.Text.{BeginsWith, GoesBeyond}
-use Rattle.kc_language.specs.Expansion.{Files, Refused}
-use Rattle.kc_language.specs.Symbols.{TreeFacts}
-use Rattle.kc_language.specs.ConfigFile.{Line, StreamLocation, lines_from, lines_of, reading}
-use Rattle.kc_language.specs.Texts.{HasShortLines}
+-- Our own. It ends in `Runs` and, for the tree of a folder, `FolderRuns`. Claims about files are for devices whose log tells what they hold (kc_io).
+use Rattle.std.specs.{Prelude.{◌≡◌, ◌⊎◌, ℕ, ◌<◌, Bool, true, false, not, ◌&&◌, if◌then◌else◌, List, [], ◌∷◌, ◌++◌, All, map, take, filter, flat_map, is_none, is_ok, is_some, unwrap_or, slice_get, slice_index_or, string_bytes, Option, None, Some, Result, Ok, Err, String, ⊤}, declared.alloc.Global.Global}
+use Rattle.kc_language.specs.{ConfigFile.{Line, StreamLocation, lines_from, lines_of, reading}, Expansion.{Files, Refused}, Symbols.TreeFacts, Text.{BeginsWith, GoesBeyond}, Texts.HasShortLines, declared.outcome.{Delivery.Delivery, Status.Status}}
 use Rattle.kc_language.specs.Outcome.{AreLines, IsAcceptedTree, IsOutcome, IsRefusedName, IsRefusedTree, NamesAreRead, Options, Outcome, cannot_read_line, cannot_write_line, diagnostics_of, fresh_input, holds_warnings, input_files, lead, lines_text, names_of, out_of_memory_line, read_of, root_file, stale_line, streams}
-use Rattle.kc_language.specs.declared.outcome.Delivery.{Delivery}
-use Rattle.kc_language.specs.declared.outcome.Status.{Status}
-use Rattle.kc_io.specs.Delivered.{StopsBefore}
-use Rattle.kc_io.specs.Log.{Event, Journal, Leads, Log, Tells, did, each_byte, failed, held, reported, said}
-use Rattle.kc_io.specs.Scripts.{NamedText, chosen, delivery, stale}
-use Rattle.kc_io.specs.declared.delivery.Manner.TheVariants.{InPlace, Replacing}
-use Rattle.kc_io.specs.declared.device.Action.{Action}
-use Rattle.kc_io.specs.declared.device.Action.TheVariants.{Clear, Close, Create, Miss, Move, Open, Read, Report, Write}
-use Rattle.kc_io.specs.declared.device.Fault.{Fault}
-use Rattle.kc_io.specs.declared.steps.Failure.{Failure}
-use Rattle.kc_load.specs.Expanding.{AreFilesOf}
-use Rattle.kc_load.specs.Faults.{IsLoadFault, failed_load}
-use Rattle.kc_load.specs.Folders.{FolderState, Leads as FolderLeads, files_told}
-use Rattle.kc_load.specs.declared.fault.LoadFault.{LoadFault}
+use Rattle.kc_io.specs.{Delivered.StopsBefore, Log.{Event, Journal, Leads, Log, Tells, did, each_byte, failed, held, reported, said}, Scripts.{NamedText, chosen, delivery, stale}}
+use Rattle.kc_io.specs.declared.{delivery.Manner.TheVariants.{InPlace, Replacing}, device.{Action.{Action, TheVariants.{Clear, Close, Create, Miss, Move, Open, Read, Report, Write}}, Fault.Fault}, steps.Failure.Failure}
+use Rattle.kc_load.specs.{Expanding.AreFilesOf, Faults.{IsLoadFault, failed_load}, Folders.{FolderState, Leads as FolderLeads, files_told}, declared.fault.LoadFault.LoadFault}
 use Rattle.kc_conf.specs.declared.stop.Stop.{Stop}
 
 -- what the device told at first, if it still tells at the end
 abbrev pub still_told : Log → Log → Log
-still_told old None = None
-still_told old (Some journal) = old
+still_told old new = elim new [ None ↦ None | Some journal ↦ old ]
 
 -- ---- What a run reads
-
 -- an input file: its name, whether it is missing, and its bytes (none if it is missing)
 pub record InputFile : Type 0 where
   pub name : List ℕ
@@ -71,7 +52,7 @@ pub data ReadsTo (files : List InputFile) : Option StreamLocation → List Event
   line : (stop : StreamLocation) (i : ℕ) (file : InputFile) (events : List Event) → slice_get files i ≡ Some file → HasTurn files i →
       (HasShortLines file.bytes → ⊥) → ReadsInto file events → ReadsTo files (Some stop) (reads (take i files) ++ events)
 
--- the lines that a line feed ends in these first bytes of an input file; and the warnings of the files before file i and of such lines of it
+-- The lines that a line feed ends in these first bytes of an input file; and the warnings of the files before file i and of such lines of it.
 abbrev pub ended_lines : List ℕ → List ℕ → List Line
 ended_lines name bytes = filter (λ l. l.ended) (lines_from name 1 bytes)
 abbrev pub warned_by : Options → TreeFacts → List InputFile → ℕ → List ℕ → List ℕ
@@ -79,8 +60,7 @@ warned_by options tree files i bytes = (reading tree options.prefix (fresh_input
     (lines_of (streams (names_of options) (bytes_of (take i files))) ++ ended_lines (slice_index_or (names_of options) i []) bytes)).warned
 -- what was done with a file, of which these bytes were read, before this action failed
 abbrev pub begun : Action → List ℕ → List ℕ → List Event
-begun Read name bytes = did Open name ++ each_byte Read name bytes
-begun _ name bytes = []
+begun action = elim action [ Read ↦ λ name bytes. did Open name ++ each_byte Read name bytes | _ ↦ λ name bytes. [] ]
 -- This was done when a file could not be opened or read on. The files before it were there and were read, its turn had come, and these of its bytes
 -- were read, in which no line is too long. Their warnings up to there were reported, unless warnings are held back.
 pub record ReadsUpTo (told : Log) (options : Options) (tree : TreeFacts) (files : List InputFile) (action : Action) (file : InputFile)
@@ -97,44 +77,27 @@ pub record ReadsUpTo (told : Log) (options : Options) (tree : TreeFacts) (files 
   pub said_is : said ≡ (if holds_warnings options then [] else warned_by options tree files i bytes)
 
 -- ---- Why a run is broken off
-
 -- the event of what failed, and the removal of the temporary files after a failure to write with --replace
 abbrev pub event_of : Stop → List Event
-event_of Stop.OutOfMemory = []
-event_of (Stop.Failed f) = failed f.action f.name.now f.fault
+event_of stop = elim stop [ Stop.OutOfMemory ↦ [] | Stop.Failed f ↦ failed f.action f.name.now f.fault ]
 abbrev pub cleared_by : Delivery → Action → List Event
-cleared_by Delivery.Replace (Create _) = did Clear []
-cleared_by Delivery.Replace (Write _) = did Clear []
-cleared_by Delivery.Replace (Close _) = did Clear []
-cleared_by Delivery.Replace Move = did Clear []
+cleared_by Delivery.Replace action =
+    elim action [ Create _ ↦ did Clear [] | Write _ ↦ did Clear [] | Close _ ↦ did Clear [] | Move ↦ did Clear [] | _ ↦ [] ]
 cleared_by _ _ = []
 abbrev pub clearing : Options → Stop → List Event
-clearing options Stop.OutOfMemory = []
-clearing options (Stop.Failed f) = cleared_by options.delivery f.action
-
+clearing options stop = elim stop [ Stop.OutOfMemory ↦ [] | Stop.Failed f ↦ cleared_by options.delivery f.action ]
 -- the error line of a run that was broken off; a failure of the diagnostics has none
 abbrev pub refusal_by : Action → List ℕ → List ℕ
-refusal_by Open name = cannot_read_line name
-refusal_by Read name = cannot_read_line name
-refusal_by Report name = []
-refusal_by _ name = cannot_write_line name
+refusal_by action = elim action [ Open ↦ cannot_read_line | Read ↦ cannot_read_line | Report ↦ λ name. [] | _ ↦ cannot_write_line ]
 abbrev pub stop_line : Options → Stop → List ℕ
 stop_line options Stop.OutOfMemory = lead options ++ out_of_memory_line
-stop_line options (Stop.Failed f) = by f.action f.fault
-  where
-    by : Action → Fault → List ℕ
-    by Report _ = []
-    by action Fault.Memory = lead options ++ out_of_memory_line
-    by action Fault.Refused = lead options ++ refusal_by action f.name.now
+stop_line options (Stop.Failed f) = elim f.action [ Report ↦ [] | action ↦ elim f.fault [
+  Fault.Memory ↦ lead options ++ out_of_memory_line | Fault.Refused ↦ lead options ++ refusal_by action f.name.now ] ]
 
 -- The run reports why it was broken off, unless the diagnostics fail. Diagnostics that failed already are asked for nothing more.
 abbrev pub IsReport : Stop → Result (Unit {0}) Fault → Type 0
 IsReport Stop.OutOfMemory report = ⊤
-IsReport (Stop.Failed f) report = by f.action
-  where
-    by : Action → Type 0
-    by Report = report ≡ Ok tt
-    by _ = ⊤
+IsReport (Stop.Failed f) report = elim f.action [ Report ↦ report ≡ Ok tt | _ ↦ ⊤ ]
 abbrev pub Reports : Options → Stop → Bool → Log → Log → Type 0
 Reports options stop is_told old new = (report : Result (Unit {0}) Fault) × IsReport stop report × (is_told ≡ is_ok report)
     × Leads (reported report) (said report (stop_line options stop)) old new
@@ -143,7 +106,6 @@ abbrev pub TriesToSay : List ℕ → Log → Log → Type 0
 TriesToSay text old new = (report : Result (Unit {0}) Fault) × Leads (reported report) (said report text) old new
 
 -- ---- What becomes of the texts
-
 -- the texts of an outcome with the names of their files, in the order in which they are delivered
 abbrev pub text_at : Option (String Global) → Option (List ℕ) → List NamedText
 text_at (Some name) (Some bytes) = record { name = string_bytes name; bytes = bytes } ∷ []
@@ -152,26 +114,19 @@ abbrev pub texts_of : Options → Outcome → List NamedText
 texts_of options outcome = text_at options.out outcome.config ++ text_at options.header outcome.header
     ++ text_at options.minimal outcome.minimal ++ text_at options.depfile outcome.depfile
 -- They are written; with --replace those that differ from their files replace these; with --check nothing is written.
-abbrev pub delivered_by : Delivery → List NamedText → Journal → List Event
-delivered_by Delivery.Write texts journal = delivery InPlace texts
-delivered_by Delivery.Replace texts journal = delivery Replacing (chosen Replacing texts journal)
-delivered_by Delivery.Check texts journal = []
 abbrev pub delivers : Options → List NamedText → Journal → List Event
-delivers options texts journal = delivered_by options.delivery texts journal
+delivers options = elim options.delivery [
+  Delivery.Write ↦ λ texts journal. delivery InPlace texts | Delivery.Check ↦ λ texts journal. []
+  | Delivery.Replace ↦ λ texts journal. delivery Replacing (chosen Replacing texts journal) ]
 -- the texts that --check finds to differ from their files, and their error lines; if there is one, a run that was done is refused
-abbrev pub stale_by : Delivery → List NamedText → Journal → List NamedText
-stale_by Delivery.Check texts journal = stale texts journal
-stale_by _ texts journal = []
 abbrev pub stale_texts : Options → List NamedText → Journal → List NamedText
-stale_texts options texts journal = stale_by options.delivery texts journal
+stale_texts options = elim options.delivery [ Delivery.Check ↦ stale | _ ↦ λ texts journal. [] ]
 abbrev pub stale_lines : Options → List NamedText → List ℕ
 stale_lines options texts = flat_map (λ text. lead options ++ stale_line text.name) texts
 abbrev pub status_with : List NamedText → Status → Status
-status_with [] status = status
-status_with _ status = Status.Refused
+status_with texts = elim texts [ [] ↦ λ status. status | _ ↦ λ status. Status.Refused ]
 
 -- ---- How a run ends
-
 -- What a run that is not broken off reads: nothing for a tree or a name that is refused; else its input files, up to a line that is too long. Each
 -- of them is there, unless it is found to be missing. (`told` is what the device told at first.)
 pub data AreReads (files : Files) (options : Options) (inputs : List InputFile) (told : Log) : List Event → Type 0 where
@@ -212,8 +167,7 @@ pub data Breaks (files : Files) (options : Options) (before : TreeFacts → List
   in_delivery : (f : Failure) (events done : List Event) → AreReads files options inputs told events →
       Tells told (λ journal. (left : List Event) × (done ++ left ≡ delivers options (texts_of options outcome) journal) × StopsBefore left (Err f)) →
       Breaks files options before inputs outcome told (Stop.Failed f) (events ++ done) (diagnostics_of outcome)
--- The run did this, and then there are the event that failed, the removal of the temporary files, and the error line or the failure of the
--- diagnostics to take it. Its status is `Faulted`.
+-- After that come the event that failed, the removal of the temporary files, and the error line or its failure. The status is `Faulted`.
 pub record Broken (files : Files) (options : Options) (before : TreeFacts → List ℕ) (inputs : List InputFile) (outcome : Outcome) (old new : Log)
     (status : Status) : Type 0 where
   pub stop : Stop
@@ -241,8 +195,7 @@ pub record Runs (files : Files) (options : Options) (old new : Log) (status : St
 -- A run over the files of a folder; or these could not be loaded, which is reported, and nothing more is done. The file that could not be read is
 -- one whose turn it was, and the folder failed at its path and nowhere else.
 abbrev pub load_line : LoadFault → List ℕ
-load_line (LoadFault.CannotRead name) = cannot_read_line name.items
-load_line LoadFault.Memory = out_of_memory_line
+load_line fault = elim fault [ LoadFault.CannotRead name ↦ cannot_read_line name.items | LoadFault.Memory ↦ out_of_memory_line ]
 pub data FolderRuns (options : Options) (folder folder_after : Option FolderState) (old new : Log) (status : Status) : Type 0 where
   loaded : (files : Files) → AreFilesOf (files_told folder_after) (string_bytes options.root) files → FolderLeads [] folder folder_after →
       Runs files options old new status → FolderRuns options folder folder_after old new status

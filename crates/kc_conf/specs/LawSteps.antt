@@ -1,4 +1,4 @@
--- For proofs: Laws on the way to those of Laws, which imply them.
+-- For proofs: Laws that the laws of `Laws` follow from.
 use Rattle.std.specs.Prelude.{◌≡◌, ◌⊎◌, ℕ, List}
 use Rattle.kc_language.specs.Expansion.{Files, Refused}
 use Rattle.kc_language.specs.Symbols.{TreeFacts}

@@ -1,20 +1,12 @@
 -- Trusted: The laws of outcomes: there is exactly one, its texts give the values back, no line of the input files is lost, and what --strict takes.
 -- Our own. Each law is the contract of a function that does nothing (src/laws.rt).
-use Rattle.std.specs.Prelude.{◌≡◌, ◌⊎◌, ℕ, Bool, true, false, All, Contains, List, [], ◌∷◌, ◌++◌, Some, None, codes, is_some}
-use Rattle.std.specs.List.{list_any}
-use Rattle.kc_language.specs.Expansion.{AreOpened, Files, Refused}
-use Rattle.kc_language.specs.Symbols.{SymbolFacts, TreeFacts}
-use Rattle.kc_language.specs.Values.{GivenValue, facts, given_of, name, same_given}
-use Rattle.kc_language.specs.Needs.{IsAccepted}
+use Rattle.std.specs.{List.list_any, Prelude.{◌≡◌, ◌⊎◌, ℕ, Bool, true, false, All, Contains, List, [], ◌∷◌, ◌++◌, Some, None, codes, is_some}}
+use Rattle.kc_language.specs.{Expansion.{AreOpened, Files, Refused}, Needs.IsAccepted, Symbols.{SymbolFacts, TreeFacts}, Values.{GivenValue, facts, given_of, name, same_given}, declared.{diagnostics.Warning.TheVariants.SetAgain, expressions.{SymId.SymId, SymbolType.SymbolType}}}
 use Rattle.kc_language.specs.ConfigFile.{ArePlacesOf, Assigns, Effect, Line, Places, Silent, Warns, change_line, effect, is_prefix, lines_of, place_at, stream_location, warning_line}
 use Rattle.kc_language.specs.Texts.{ConfigGivesBack, HasShortLines, MinimalGivesBack, MinimalNeedsEach, Solution, config_text, has_prompt, known, lost_line, minimal_text, solution_view, valuation_view, value_of, value_warnings}
 use Rattle.kc_language.specs.Outcome.{AreLines, IsAcceptedTree, IsOutcome, IsRefusedTree, IsSolutionFor, NamesAreRead, Options, Outcome, diagnostics_of, is_outside, lines_text, names_of, read_of, refuses_input, reported, root_file, streams, warned_files, with_rule}
-use Rattle.kc_language.specs.declared.expressions.SymId.{SymId}
-use Rattle.kc_language.specs.declared.expressions.SymbolType.{SymbolType}
-use Rattle.kc_language.specs.declared.diagnostics.Warning.TheVariants.{SetAgain}
 
 -- ---- There is exactly one outcome
-
 -- An accepted tree has a solution under any user values of it.
 abbrev pub SolutionExists : Type 0
 SolutionExists =
@@ -40,7 +32,6 @@ DiagnosticsAreLines = (files : Files) (options : Options) (all : List (List ℕ)
     IsOutcome files options all outcome → AreLines (diagnostics_of outcome)
 
 -- ---- What the texts give when they are read again
-
 -- A run that refuses nothing: its tree is accepted, no line of its input files is too long, and these are the values.
 pub record RefusesNothing (files : Files) (options : Options) (all : List (List ℕ)) (tree : TreeFacts) (solution : Solution) : Type 0 where
   pub accepted : IsAcceptedTree files (root_file options) tree
@@ -95,15 +86,13 @@ MinimalIsRunAgain = (files : Files) (options alone : Options) (all : List (List 
     IsOutcome files options all outcome → outcome.minimal ≡ Some text → IsOutcome files alone (text ∷ []) later → later.config ≡ outcome.config
 
 -- ---- With warn_lost, no line of the input files is lost
-
 -- The line stands in the text, after whole lines.
 abbrev pub HoldsLine : List ℕ → List ℕ → Type 0
 HoldsLine text line = (before after : List ℕ) × (text ≡ before ++ line ++ after) × AreLines before
 -- The line gives that symbol no value.
 abbrev pub LeavesAlone : TreeFacts → List ℕ → SymId → Line → Type 0
 LeavesAlone tree prefix s l = (given : GivenValue) → effect tree prefix l ≡ Assigns s given → ⊥
--- The next line that gives the symbol a value is reported to set it again, and if that is another value, to change it: which value it was, by this
--- line, and is now.
+-- The next line that gives the symbol a value is reported to set it again and, if the value is another one, to change it from this line's value.
 abbrev pub IsSetAgain : TreeFacts → List ℕ → List ℕ → Line → SymId → SymbolType → GivenValue → List Line → Type 0
 IsSetAgain tree prefix warned l s symbol_type given later = (front back : List Line) × (next : Line) × (other : GivenValue)
     × (later ≡ front ++ next ∷ back) × All (LeavesAlone tree prefix s) front × (effect tree prefix next ≡ Assigns s other)
@@ -114,8 +103,7 @@ abbrev pub IsKeptOrWarned : TreeFacts → Solution → List ℕ → Line → Sym
 IsKeptOrWarned tree solution warned l s f given = (given ≡ given_of (known solution s))
     ⊎ HoldsLine warned (lost_line (stream_location l) (name tree s) f.symbol_type given (given_of (known solution s)) ++ codes "\n")
 
--- A line that has this effect, before these lines, is accounted for: it is warned of; or what it gives a symbol with a prompt is replaced, kept or
--- reported.
+-- A line of this effect, before these lines, is accounted for: it is warned of, or what it gives a prompted symbol is replaced, kept or reported.
 module _ (tree : TreeFacts) (prefix : List ℕ) (solution : Solution) (warned : List ℕ) where
   abbrev pub IsAccountedFor : Line → List Line → Effect → Type 0
   IsAccountedFor l later Silent = Unit {0}
@@ -132,7 +120,6 @@ NothingIsLost = (files : Files) (options : Options) (all : List (List ℕ)) (out
     IsAccountedFor tree options.prefix solution outcome.warned l later (effect tree options.prefix l))
 
 -- ---- With --strict, no line passes that was not taken as written
-
 -- A line of this effect, before these lines: it was not warned of, no later line gives its symbol another value, and where lost values are asked
 -- for, what it gives a symbol with a prompt is the symbol's value.
 abbrev pub IsTakenAsWritten : TreeFacts → List ℕ → Bool → Solution → List Line → Effect → Type 0

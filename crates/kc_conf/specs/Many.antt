@@ -1,27 +1,16 @@
 -- Trusted: What a run for many configurations of one tree leaves, and that these do not touch one another's files.
 -- Our own. It ends in `RunsEach`, and in the law `EachLeavesItsPart` of configurations whose files are apart.
-use Rattle.std.specs.Prelude.{◌≡◌, ◌≢◌, ◌⊎◌, ℕ, suc, ◌<◌, Bool, true, false, not, ◌||◌, List, [], ◌∷◌, ◌++◌, Option, None, Some, String, string_bytes, bytes_eq, is_ok}
-use Rattle.std.specs.List.{list_any}
-use Rattle.std.specs.declared.alloc.Global.{Global}
-use Rattle.kc_language.specs.Expansion.{AreOpened, Files, Refused}
-use Rattle.kc_language.specs.Symbols.{TreeFacts}
+use Rattle.std.specs.{List.list_any, Prelude.{◌≡◌, ◌≢◌, ◌⊎◌, ℕ, suc, ◌<◌, Bool, true, false, not, ◌||◌, List, [], ◌∷◌, ◌++◌, Option, None, Some, String, string_bytes, bytes_eq, is_ok}, declared.alloc.Global.Global}
+use Rattle.kc_language.specs.{Expansion.{AreOpened, Files, Refused}, Symbols.TreeFacts, declared.outcome.{Delivery.Delivery, Status.Status}}
 use Rattle.kc_language.specs.Outcome.{IsAcceptedTree, IsOutcome, IsRefusedName, IsRefusedTree, Options, Outcome, input_files, lines_text, out_of_memory_line, refusal_line, reported, root_file, unreadable_name}
-use Rattle.kc_language.specs.declared.outcome.Delivery.{Delivery}
-use Rattle.kc_language.specs.declared.outcome.Status.{Status}
-use Rattle.kc_io.specs.Held.{last_of}
-use Rattle.kc_io.specs.Log.{Journal, Leads, Log, failed, held}
-use Rattle.kc_io.specs.declared.device.Action.{Action}
-use Rattle.kc_io.specs.declared.device.Fault.{Fault}
-use Rattle.kc_conf.specs.Faults.{AreInputs, Broken, Completes, InputFile, TriesToSay, bytes_of, nothing_said, stale_texts, status_with, still_told, texts_of}
-use Rattle.kc_conf.specs.declared.stop.Stop.{Stop}
+use Rattle.kc_io.specs.{Held.last_of, Log.{Journal, Leads, Log, failed, held}, declared.device.{Action.Action, Fault.Fault}}
+use Rattle.kc_conf.specs.{Faults.{AreInputs, Broken, Completes, InputFile, TriesToSay, bytes_of, nothing_said, stale_texts, status_with, still_told, texts_of}, declared.stop.Stop.Stop}
 
 -- ---- What one configuration leaves
-
 -- A run reports the tree's warnings before all else, unless it refuses a name that make cannot read. The run for one configuration leaves its part
 -- behind them: with them before it, it is what that run leaves alone. A name is refused for one configuration.
 abbrev pub warned_before : TreeFacts → Option (List ℕ) → List ℕ
-warned_before tree None = lines_text tree.warnings
-warned_before tree _ = []
+warned_before tree refused = elim refused [ None ↦ lines_text tree.warnings | _ ↦ [] ]
 abbrev pub IsPart : Files → TreeFacts → Options → List (List ℕ) → Outcome → Type 0
 IsPart files tree options all part = (opened : List (List ℕ)) × AreOpened files (root_file options) opened
     × IsOutcome files options all (reported (warned_before tree (unreadable_name options opened)) part)
@@ -40,17 +29,10 @@ PartsAreOfRuns = (files : Files) (tree : TreeFacts) (options : Options) (all : L
     (part : Outcome) × IsPart files tree options all part × IsWholeOf files tree options part outcome
 
 -- ---- One turn
-
--- A run for one configuration is whole; or it was broken off, and reports why. That ends the runs for all if memory ran out or the diagnostics
--- failed.
+-- A run for one configuration is whole; or it was broken off and reports why. That ends all runs if memory ran out or the diagnostics failed.
 abbrev pub ends_all : Stop → Bool
 ends_all Stop.OutOfMemory = true
-ends_all (Stop.Failed f) = by f.action f.fault
-  where
-    by : Action → Fault → Bool
-    by Action.Report _ = true
-    by action Fault.Memory = true
-    by action Fault.Refused = false
+ends_all (Stop.Failed f) = elim f.action [ Action.Report ↦ true | _ ↦ elim f.fault [ Fault.Memory ↦ true | Fault.Refused ↦ false ] ]
 pub data EndsTurn (files : Files) (options : Options) (inputs : List InputFile) (part : Outcome) (old new : Log) (status : Status) (is_over : Bool) :
     Type 0 where
   whole : Completes files options inputs part old new status → is_over ≡ false → EndsTurn files options inputs part old new status is_over
@@ -71,16 +53,11 @@ pub data TakesTurn (files : Files) (tree : TreeFacts) (are_options : Options →
       TakesTurn files tree are_options old new status is_over
 
 -- ---- All turns
-
--- The configurations from one number on, so many as are left, take their turns one after another, up to one that ends all. The status is the
--- greatest of theirs.
+-- The configurations from number i on, so many as are left, take their turns, up to one that ends all. The status is the greatest of theirs.
 abbrev pub greater : Status → Status → Status
-greater Status.Done b = b
-greater Status.Refused Status.Done = Status.Refused
-greater Status.Refused b = b
-greater Status.Usage Status.Faulted = Status.Faulted
-greater Status.Usage b = Status.Usage
-greater Status.Faulted b = Status.Faulted
+greater a = elim a [
+  Status.Done ↦ λ b. b | Status.Refused ↦ λ b. elim b [ Status.Done ↦ Status.Refused | b ↦ b ]
+  | Status.Usage ↦ λ b. elim b [ Status.Faulted ↦ Status.Faulted | _ ↦ Status.Usage ] | Status.Faulted ↦ λ b. Status.Faulted ]
 pub data TakeTurns (files : Files) (tree : TreeFacts) (options : ℕ → Options → Type 0) : ℕ → ℕ → Log → Log → Status → Type 0 where
   none : (i : ℕ) (log : Log) → TakeTurns files tree options i 0 log log Status.Done
   next : (i left : ℕ) (old mid new : Log) (status others : Status) → TakesTurn files tree (options i) old mid status false →
@@ -88,14 +65,12 @@ pub data TakeTurns (files : Files) (tree : TreeFacts) (options : ℕ → Options
   last : (i left : ℕ) (old new : Log) (status : Status) → TakesTurn files tree (options i) old new status true →
       TakeTurns files tree options i (suc left) old new status
 
--- all options name this root file
+-- all options name this root file; the diagnostics failed
 abbrev pub AreRootedAt : List ℕ → (ℕ → Options → Type 0) → Type 0
 AreRootedAt root options = (i : ℕ) (o : Options) → options i o → root_file o ≡ root
--- the diagnostics failed
 abbrev pub CannotSay : Log → Log → Type 0
 CannotSay old new = (fault : Fault) × Leads (failed Action.Report [] fault) [] old new
--- No configuration takes its turn: the tree is refused, which is reported; or the diagnostics do not take that or the tree's warnings; or memory
--- ran out.
+-- No configuration takes its turn: the tree is refused and this is reported, or the diagnostics (for it or for its warnings) or memory failed.
 pub data StopsAtTree (files : Files) (root : List ℕ) (old new : Log) (status : Status) : Type 0 where
   refused_tree : (r : Refused) → IsRefusedTree files root r → Leads [] (refusal_line r) old new → status ≡ Status.Refused →
       StopsAtTree files root old new status
@@ -103,24 +78,20 @@ pub data StopsAtTree (files : Files) (root : List ℕ) (old new : Log) (status :
   unsaid_warnings : (tree : TreeFacts) → IsAcceptedTree files root tree → lines_text tree.warnings ≢ [] → CannotSay old new →
       status ≡ Status.Faulted → StopsAtTree files root old new status
   no_memory : TriesToSay out_of_memory_line old new → status ≡ Status.Faulted → StopsAtTree files root old new status
--- A run for so many configurations of the tree of these files. It ends at the tree; or the tree is accepted, its warnings are reported once, and
--- then the configurations take their turns.
+-- A run for so many configurations. It ends at the tree; or the tree is accepted, its warnings are reported once, and then they take their turns.
 pub data RunsEach (files : Files) (root : List ℕ) (options : ℕ → Options → Type 0) (count : ℕ) (old new : Log) (status : Status) : Type 0 where
   stops : StopsAtTree files root old new status → RunsEach files root options count old new status
   turns : (tree : TreeFacts) (mid : Log) → IsAcceptedTree files root tree → Leads [] (lines_text tree.warnings) old mid →
       TakeTurns files tree options 0 count mid new status → RunsEach files root options count old new status
 
 -- ---- Configurations whose files are apart
-
 -- the files that a run with these options writes, or compares with --check; those that it writes; and whether a name is one of these
 abbrev pub name_if : Option (String Global) → List (List ℕ)
-name_if None = []
-name_if (Some name) = string_bytes name ∷ []
+name_if file = elim file [ None ↦ [] | Some name ↦ string_bytes name ∷ [] ]
 abbrev pub output_files : Options → List (List ℕ)
 output_files options = name_if options.out ++ (name_if options.header ++ (name_if options.minimal ++ name_if options.depfile))
 abbrev pub written_by : Delivery → List (List ℕ) → List (List ℕ)
-written_by Delivery.Check names = []
-written_by _ names = names
+written_by how = elim how [ Delivery.Check ↦ λ names. [] | _ ↦ λ names. names ]
 abbrev pub written_files : Options → List (List ℕ)
 written_files options = written_by options.delivery (output_files options)
 abbrev pub is_among : List ℕ → List (List ℕ) → Bool
@@ -181,8 +152,7 @@ pub data LeavesEach (files : Files) (root : List ℕ) (options : ℕ → Options
   turns : (tree : TreeFacts) → IsAcceptedTree files root tree → TurnsAmong files tree options before after 0 count status →
       ((name : List ℕ) → IsWrittenByNone options count name → held after name ≡ held before name) →
       LeavesEach files root options count before after status
--- If no file that one of them writes is another one's, a run for all of them leaves, over a device that tells, what each leaves of the files as they
--- were before it.
+-- If none of them writes a file of another one, a run for all leaves, over a device that tells, what each leaves of the files before the run.
 abbrev pub EachLeavesItsPart : (ℕ → Options → Type 0) → ℕ → Type 0
 EachLeavesItsPart options count = (files : Files) (root : List ℕ) (before after : Journal) (status : Status) → AreSeparate options count →
     RunsEach files root options count (Some before) (Some after) status → LeavesEach files root options count before after status

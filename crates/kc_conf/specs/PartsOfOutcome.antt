@@ -1,4 +1,4 @@
--- Trusted: Parts of the definitions of Outcome, by names of their own.
+-- For proofs: Parts of the definitions of Outcome, by names of their own.
 use Rattle.std.specs.Prelude.{List, None, Option, [], option_map, ℕ, ◌≡◌}
 use Rattle.kc_language.specs.ConfigFile.{UserInput}
 use Rattle.kc_language.specs.Outcome.{IsOutcomeOfReading, Options, Outcome, lines_text, names_listed, read_of, refused_if, refuses_input, reported, rule_text, run_error_text, target, text_if, warned_files}

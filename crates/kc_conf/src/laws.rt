@@ -16,7 +16,7 @@ use kc_values::laws::{
 };
 
 /// The law of the tree: a root file has at most one accepted tree, at most one refusal, and not both. It does nothing.
-pub fn one_answer()
+pub(crate) fn one_answer()
     ensures { OneAnswer }
 {
     one_tree();
@@ -25,7 +25,7 @@ pub fn one_answer()
 }
 
 /// The law of the outcome: for files, options and the bytes of the streams there is at most one. It does nothing.
-pub fn one_outcome()
+pub(crate) fn one_outcome()
     ensures { OneOutcome }
 {
     one_answer();
@@ -109,7 +109,7 @@ pub fn minimal_is_run_again()
 
 /// There is an outcome, whatever the files, the options and the streams: a root file has an accepted tree or a refusal, of
 /// which a loop that is named is one, and an accepted tree has a solution. (Our own.)
-pub fn outcome_exists()
+pub(crate) fn outcome_exists()
     ensures solution { SolutionExists }
     ensures answer { AnswerExists }
     ensures accepted { AcceptedHaveAnOutcome }

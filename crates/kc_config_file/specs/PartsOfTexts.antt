@@ -1,4 +1,4 @@
--- Trusted: Parts of the definitions of Texts, by names of their own.
+-- For proofs: Parts of the definitions of Texts, by names of their own.
 use Rattle.std.specs.List.{enumerate_from, flat_map}
 use Rattle.std.specs.Prelude.{Bool, List, None, Option, Some, [], codes, false, if◌then◌else◌, take, true, ℕ, ◌++◌, ◌==◌, ◌||◌}
 use Rattle.kc_language.specs.Symbols.{CommentShown, EndShown, MenuShown, Shown, SymbolShown, TreeFacts}

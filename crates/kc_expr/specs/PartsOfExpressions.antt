@@ -1,7 +1,7 @@
 -- Trusted: Parts of the definitions of Expressions, by names of their own.
 use Rattle.std.specs.List.{flat_map}
-use Rattle.std.specs.Prelude.{Bool, List, None, Option, Some, [], ℕ}
-use Rattle.kc_language.specs.Expressions.{Bang, Close, Compares, Disjunction, Form, Joins, Keyword, Open, OperandToken, SymbolValue, Terminal, lesser, levels, meaning, names_in_atom, number, spell, truth_of_value}
+use Rattle.std.specs.Prelude.{Bool, List, None, Option, Some, [], false, ℕ}
+use Rattle.kc_language.specs.Expressions.{Bang, Close, Compares, Disjunction, Form, Joins, Keyword, Leaf, Open, OperandToken, Symbol, SymbolValue, Terminal, Text, lesser, levels, meaning, names_in_atom, number, same_name, spell, tri_text, truth_of_value}
 use Rattle.kc_language.specs.declared.expressions.Connective.TheVariants.{And, Or}
 use Rattle.kc_language.specs.declared.expressions.SymId.{SymId}
 use Rattle.kc_language.specs.declared.expressions.Tri.{Tri}
@@ -33,6 +33,13 @@ spell_or d = spell d
 
 abbrev pub levels_or : Disjunction → ℕ
 levels_or d = levels d
+
+abbrev pub m_word : List ℕ
+m_word = tri_text M
+
+abbrev pub is_m_leaf : Leaf → Bool
+is_m_leaf (Symbol s) = false
+is_m_leaf (Text t) = same_name t m_word
 
 module _ (condition : Bool) (number : List ℕ → ℕ) where
   abbrev pub meaning_or : Disjunction → Form

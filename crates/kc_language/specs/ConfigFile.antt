@@ -1,24 +1,16 @@
 -- Trusted: 10. ConfigFile: what reading a `.config` and its fragments gives: the user's values, and the warnings K7 to K10 and K15.
 -- Source: our own, in the manner of the kernel's `conf` and kconfiglib (docs/formats.md, "The .config format").
 -- A text is a list of bytes. `elim x [ p ↦ a | q ↦ b ]` is a if x is p, and b if x is q. The last definition, `reading_of`, is the result.
-use Rattle.std.specs.Char.{is_ascii_digit}
-use Rattle.std.specs.List.{enumerate_from, filter_map, flat_map, last_or, list_all, list_any, position_or_len, slice_split, suffix_len}
-use Rattle.std.specs.Option.{option_and_then, option_map_or}
-use Rattle.std.specs.Prelude.{Bool, List, None, Option, Some, [], codes, drop, false, find, if◌then◌else◌, is_some, length, nat_le, nat_lt, not, option_map, position, replicate, slice_index, slice_index_or, take, take_while, true, ℕ, ◌&&◌, ◌++◌, ◌+◌, ◌-◌, ◌==◌, ◌∷◌, ◌≡◌}
-use Rattle.std.specs.Str.{bytes_eq}
-use Rattle.std.specs.Str.Lines.{strip_carriage_return}
+use Rattle.std.specs.{Char.is_ascii_digit, Option.option_map_or, Str.Lines.strip_carriage_return}
+use Rattle.std.specs.List.{enumerate_from, last_or, list_all, list_any, position_or_len, slice_split, suffix_len}
+use Rattle.std.specs.Prelude.{Bool, List, None, Option, Some, [], bytes_eq, codes, drop, false, filter_map, find, flat_map, if◌then◌else◌, is_some, length, nat_le, nat_lt, not, option_and_then, option_map, position, replicate, slice_index, slice_index_or, take, take_while, true, ℕ, ◌&&◌, ◌++◌, ◌+◌, ◌-◌, ◌==◌, ◌∷◌, ◌≡◌}
 use Rattle.kc_language.specs.Expressions.{is_name_byte, same_name, symbol, tri_text}
 use Rattle.kc_language.specs.Lines.{is_line_feed}
 use Rattle.kc_language.specs.Symbols.{TreeFacts, Warning, located_warning}
 use Rattle.kc_language.specs.Text.{byte, escape, hex_of, int_of, longest_input_line, longest_prefix, longest_value, one_more, unescape}
 use Rattle.kc_language.specs.Tokens.{is_blank}
 use Rattle.kc_language.specs.Values.{ChoicePlace, GivenText, GivenTruth, GivenValue, Member, SymbolPlace, UserPlace, facts, is_yes, name, same_given, type_in}
-use Rattle.kc_language.specs.declared.diagnostics.Warning.TheVariants.{Changed, MalformedLine, NotAllowed, SetAgain, UnknownSymbol}
-use Rattle.kc_language.specs.declared.expressions.SymId.{SymId}
-use Rattle.kc_language.specs.declared.expressions.SymbolType.{SymbolType}
-use Rattle.kc_language.specs.declared.expressions.SymbolType.TheVariants as symbol_type
-use Rattle.kc_language.specs.declared.expressions.Tri.{Tri}
-use Rattle.kc_language.specs.declared.expressions.Tri.TheVariants.{M, N, Y}
+use Rattle.kc_language.specs.declared.{diagnostics.Warning.TheVariants.{Changed, MalformedLine, NotAllowed, SetAgain, UnknownSymbol}, expressions.{SymId.SymId, SymbolType.{SymbolType, TheVariants.{Bool as IsBool, Hex, Int, Str, Tristate, Undefined}}, Tri.{TheVariants.{M, N, Y}, Tri}}}
 
 -- A prefix, such as `CONFIG_`: at most 64 bytes that may stand in a name. The first is no digit.
 abbrev pub is_prefix : List ℕ → Bool
@@ -34,6 +26,7 @@ pub data LineMeaning : Type 0 where
 -- The text without this prefix, or without this suffix, if it has it.
 abbrev pub without_prefix : List ℕ → List ℕ → Option (List ℕ)
 without_prefix front text = if bytes_eq (take (length front) text) front then Some (drop (length front) text) else None
+
 abbrev pub without_suffix : List ℕ → List ℕ → Option (List ℕ)
 without_suffix end text = let n = length text - length end in if bytes_eq (drop n text) end then Some (take n text) else None
 
@@ -47,7 +40,7 @@ unset_name prefix text =
 abbrev pub name_and_value : List ℕ → List ℕ → Option (List ℕ × List ℕ)
 name_and_value prefix text =
     option_and_then (λ rest. let n = position_or_len (λ b. b == byte "=") rest in
-        if nat_lt 0 n && nat_lt n (length rest) then Some (take n rest, drop (n + 1) rest) else None)
+    if nat_lt 0 n && nat_lt n (length rest) then Some (take n rest, drop (n + 1) rest) else None)
     (without_prefix prefix text)
 
 -- What a line says. Blanks at its end do not count. An unset line is looked for first. A comment's first byte that is no blank is `#`.
@@ -66,18 +59,17 @@ until_quote (b ∷ c ∷ bs) =
     if b == byte "\"" then Some [] else if b == byte "\\" then option_map (λ more. b ∷ c ∷ more) (until_quote bs)
     else option_map (λ more. b ∷ more) (until_quote (c ∷ bs))
 
--- The value that the text right of `=` gives a symbol of this type. A bool or tristate reads the first byte alone.
--- A string reads up to its closing `"`, and no further.
+-- The value that the text right of `=` gives a symbol of this type. A bool or tristate reads the first byte alone, a string up to its closing `"`.
 abbrev pub yes_or_no : ℕ → Option Tri
 yes_or_no b = if b == byte "y" then Some Y else if b == byte "n" then Some N else None
+
 abbrev pub value_by : SymbolType → List ℕ → Option GivenValue
-value_by symbol_type.Undefined text = None
-value_by symbol_type.Bool text = option_map GivenTruth (yes_or_no (slice_index text 0))
-value_by symbol_type.Tristate text = option_map GivenTruth (let b = slice_index text 0 in if b == byte "m" then Some M else yes_or_no b)
-value_by symbol_type.Str text =
-    option_map (λ raw. GivenText (unescape raw)) (if slice_index text 0 == byte "\"" then until_quote (drop 1 text) else None)
-value_by symbol_type.Int text = if is_some (int_of text) then Some (GivenText text) else None
-value_by symbol_type.Hex text = if is_some (hex_of text) then Some (GivenText text) else None
+value_by Undefined text = None
+value_by IsBool text = option_map GivenTruth (yes_or_no (slice_index text 0))
+value_by Tristate text = option_map GivenTruth (let b = slice_index text 0 in if b == byte "m" then Some M else yes_or_no b)
+value_by Str text = option_map (λ t. GivenText (unescape t)) (if slice_index text 0 == byte "\"" then until_quote (drop 1 text) else None)
+value_by Int text = if is_some (int_of text) then Some (GivenText text) else None
+value_by Hex text = if is_some (hex_of text) then Some (GivenText text) else None
 
 -- What a line does: nothing, a warning, or a value for a symbol.
 pub data Effect : Type 0 where
@@ -88,17 +80,21 @@ pub data Effect : Type 0 where
 -- A set line gives the symbol the value. An unset line gives a bool or tristate symbol n, and does nothing to other types.
 -- K7: no symbol of this name has a type. K8: the value is too long, or the type does not allow it.
 abbrev pub set_by_type : List ℕ → SymId → List ℕ → SymbolType → Effect
-set_by_type called s text symbol_type.Undefined = Warns (UnknownSymbol called)
+set_by_type called s text Undefined = Warns (UnknownSymbol called)
 set_by_type called s text kind =
-    elim (if nat_le (length text) longest_value then value_by kind text else None)
-        [ None ↦ Warns (NotAllowed called) | Some given ↦ Assigns s given ]
+    elim (if nat_le (length text) longest_value then value_by kind text else None) [ None ↦ Warns (NotAllowed called) | Some given ↦ Assigns s given ]
+
 abbrev pub unset_by_type : List ℕ → SymId → SymbolType → Effect
-unset_by_type called s symbol_type.Undefined = Warns (UnknownSymbol called)
-unset_by_type called s symbol_type.Bool = Assigns s (GivenTruth N)
-unset_by_type called s symbol_type.Tristate = Assigns s (GivenTruth N)
-unset_by_type called s _ = Silent
+unset_by_type called s kind = elim kind [
+  | Undefined ↦ Warns (UnknownSymbol called)
+  | IsBool ↦ Assigns s (GivenTruth N)
+  | Tristate ↦ Assigns s (GivenTruth N)
+  | _ ↦ Silent
+]
+
 abbrev pub symbol_named : TreeFacts → List ℕ → Option SymId
 symbol_named tree called = option_map symbol (position (same_name called) tree.names)
+
 abbrev pub effect_of : TreeFacts → LineMeaning → Effect
 effect_of tree Nothing = Silent
 effect_of tree (Unset called) =
@@ -107,17 +103,21 @@ effect_of tree (Set called text) =
     elim (symbol_named tree called) [ None ↦ Warns (UnknownSymbol called) | Some s ↦ set_by_type called s text (type_in (facts tree s)) ]
 effect_of tree Malformed = Warns MalformedLine
 
--- A line: its bytes before the line feed, and whether a line feed ends it. `stream` is the name of the input file.
+-- A line of the input file `stream`: its bytes before the line feed, and whether a line feed ends it. `is_within`: it is not too long.
 pub record Line : Type 0 where
   pub stream : List ℕ
   pub number : ℕ
   pub bytes : List ℕ
   pub ended : Bool
 
+abbrev pub is_within : Line → Bool
+is_within l = nat_le (length l.bytes) longest_input_line
+
 -- What diagnostics say of a line.
 pub record StreamLocation : Type 0 where
   pub stream : List ℕ
   pub number : ℕ
+
 abbrev pub stream_location : Line → StreamLocation
 stream_location l = record { stream = l.stream; number = l.number }
 
@@ -127,17 +127,15 @@ lines_in_stream stream n [] = []
 lines_in_stream stream n (last ∷ []) = if length last == 0 then [] else record { stream = stream; number = n; bytes = last; ended = false } ∷ []
 lines_in_stream stream n (part ∷ next ∷ parts) =
     record { stream = stream; number = n; bytes = part; ended = true } ∷ lines_in_stream stream (one_more n) (next ∷ parts)
+
 unfoldable pub lines_from : List ℕ → ℕ → List ℕ → List Line
 lines_from stream n bytes = lines_in_stream stream n (slice_split is_line_feed bytes)
-
--- The line is not too long.
-abbrev pub is_within : Line → Bool
-is_within l = nat_le (length l.bytes) longest_input_line
 
 -- An input file: its name, and its bytes. Each file ends its own last line.
 pub record Stream : Type 0 where
   pub name : List ℕ
   pub bytes : List ℕ
+
 abbrev pub lines_of : List Stream → List Line
 lines_of streams = flat_map (λ s. lines_from s.name 1 s.bytes) streams
 
@@ -145,9 +143,11 @@ lines_of streams = flat_map (λ s. lines_from s.name 1 s.bytes) streams
 pub record Places : Type 0 where
   pub symbols : List (Option GivenValue)
   pub choices : List (Option SymId)
+
 abbrev pub place_at : Places → UserPlace → Option GivenValue
 place_at places (SymbolPlace i) = slice_index_or places.symbols i None
 place_at places (ChoicePlace c) = option_map Member (slice_index_or places.choices c None)
+
 pub record ArePlacesOf (tree : TreeFacts) (places : Places) : Type 0 where
   pub symbols : length places.symbols ≡ length tree.symbols
   pub choices : length places.choices ≡ length tree.choices
@@ -156,6 +156,7 @@ pub record ArePlacesOf (tree : TreeFacts) (places : Places) : Type 0 where
 pub record Assignment : Type 0 where
   pub symbol : SymId
   pub given : GivenValue
+
 abbrev pub chosen_in : TreeFacts → ℕ → Assignment → Option SymId
 chosen_in tree c a =
     if is_yes a.given && elim (option_and_then (λ f. f.choice) (facts tree a.symbol)) [ None ↦ false | Some d ↦ d == c ]
@@ -173,12 +174,12 @@ places_given tree places given = record {
   choices = each_from (λ c old. last_or old (filter_map (chosen_in tree c) given)) 0 places.choices;
 }
 
--- What input files gave so far: the values, the line that gave each symbol its value last, and whether every line was taken as
--- written. The list of lines is empty if it is not kept (without --warn-lost).
+-- What files gave so far: values, the line that gave each last (an empty list without --warn-lost), and whether all lines were taken as written.
 pub record UserInput : Type 0 where
   pub places : Places
   pub lines : List (Option StreamLocation)
   pub all_taken : Bool
+
 abbrev pub no_input : Bool → TreeFacts → UserInput
 no_input keeps_lines tree = record {
   places = record { symbols = replicate (length tree.symbols) None; choices = replicate (length tree.choices) None };
@@ -190,33 +191,33 @@ no_input keeps_lines tree = record {
 abbrev pub is_change : Option GivenValue → GivenValue → Bool
 is_change None given = false
 is_change (Some old) given = not (same_given old given)
+
 abbrev pub is_taken : Places → Effect → Bool
-is_taken places Silent = true
-is_taken places (Warns w) = false
-is_taken places (Assigns s given) = not (is_change (place_at places (SymbolPlace s.0)) given)
+is_taken places e = elim e [ Silent ↦ true | Warns w ↦ false | Assigns s given ↦ not (is_change (place_at places (SymbolPlace s.0)) given) ]
 
 -- A value as a .config writes it: a string in quotes, a number as it is.
 abbrev pub text_in_config : SymbolType → List ℕ → List ℕ
-text_in_config symbol_type.Str text = codes "\"" ++ escape text ++ codes "\""
-text_in_config _ text = text
+text_in_config kind = elim kind [ Str ↦ λ text. codes "\"" ++ escape text ++ codes "\"" | _ ↦ λ text. text ]
+
 abbrev pub value_text : SymbolType → GivenValue → List ℕ
-value_text kind (GivenTruth t) = tri_text t
-value_text kind (GivenText text) = text_in_config kind text
-value_text kind (Member m) = []
+value_text kind given = elim given [ GivenTruth t ↦ tri_text t | GivenText text ↦ text_in_config kind text | Member m ↦ [] ]
 
 -- The warning K7, K8 or K9 of a line; or K10, if the symbol has a value already.
 abbrev pub effect_warning : TreeFacts → Places → Effect → Option Warning
-effect_warning tree places Silent = None
-effect_warning tree places (Warns w) = Some w
-effect_warning tree places (Assigns s given) = if is_some (place_at places (SymbolPlace s.0)) then Some (SetAgain (name tree s)) else None
+effect_warning tree places e = elim e [
+  | Silent ↦ None
+  | Warns w ↦ Some w
+  | Assigns s given ↦ if is_some (place_at places (SymbolPlace s.0)) then Some (SetAgain (name tree s)) else None
+]
 
--- The line of a warning about a line of an input file.
+-- The line of a warning. K15: a line gives the symbol another value than an earlier line, if that line is known.
 abbrev pub warning_line : List ℕ → ℕ → Warning → List ℕ
 warning_line stream number w = located_warning stream number w ++ codes "\n"
--- K15: a line gives the symbol another value than an earlier line, if that line is known.
+
 abbrev pub change_line : StreamLocation → List ℕ → SymbolType → GivenValue → StreamLocation → GivenValue → List ℕ
 change_line at called kind old from given =
     warning_line at.stream at.number (Changed called (value_text kind old) from.stream from.number (value_text kind given))
+
 abbrev pub change_text : StreamLocation → List ℕ → SymbolType → Option GivenValue → Option StreamLocation → GivenValue → List ℕ
 change_text at called kind (Some old) (Some from) given = if same_given old given then [] else change_line at called kind old from given
 change_text at called kind _ _ given = []
@@ -227,7 +228,6 @@ pub record ReadResult : Type 0 where
   pub warned : List ℕ
   pub stopped : Option StreamLocation
 
--- For a tree and a prefix.
 module _ (tree : TreeFacts) (prefix : List ℕ) where
   -- What a line does. A carriage return directly before the line feed belongs to the line's end.
   unfoldable pub effect : Line → Effect
@@ -237,6 +237,7 @@ module _ (tree : TreeFacts) (prefix : List ℕ) where
   abbrev pub places_after : Places → List Line → Places
   places_after places lines = places_given tree places
       (filter_map (λ l. elim (effect l) [ Assigns s given ↦ Some (record { symbol = s; given = given }) | _ ↦ None ]) lines)
+
   unfoldable pub lines_after : List (Option StreamLocation) → List Line → List (Option StreamLocation)
   lines_after old lines = each_from (λ i last. last_or last (filter_map (λ l.
       elim (effect l) [ Assigns s given ↦ if s.0 == i then Some (stream_location l) else None | _ ↦ None ]) lines)) 0 old
@@ -244,6 +245,7 @@ module _ (tree : TreeFacts) (prefix : List ℕ) where
   -- The lines that are not taken as written. Each meets the values after the lines before it.
   unfoldable pub untaken_line : Places → Line → List Line
   untaken_line places l = if is_taken places (effect l) then [] else l ∷ []
+
   unfoldable pub untaken : Places → List Line → List Line
   untaken places lines = flat_map (λ (i, l). untaken_line (places_after places (take i lines)) l) (enumerate_from 0 lines)
 
@@ -259,8 +261,12 @@ module _ (tree : TreeFacts) (prefix : List ℕ) where
   unfoldable pub warning : UserInput → Line → List ℕ
   warning input l =
       elim (effect_warning tree input.places (effect l)) [ None ↦ [] | Some w ↦ warning_line l.stream l.number w ]
-      ++ elim (effect l) [ Assigns s given ↦ change_text (stream_location l) (name tree s)
-          (type_in (facts tree s)) (place_at input.places (SymbolPlace s.0)) (slice_index_or input.lines s.0 None) given | _ ↦ [] ]
+      ++ elim (effect l) [
+        | Assigns s given ↦ change_text (stream_location l) (name tree s)
+            (type_in (facts tree s)) (place_at input.places (SymbolPlace s.0)) (slice_index_or input.lines s.0 None) given
+        | _ ↦ []
+      ]
+
   unfoldable pub warnings : UserInput → List Line → List ℕ
   warnings input lines = flat_map (λ (i, l). warning (input_after input (take i lines)) l) (enumerate_from 0 lines)
 

@@ -1,41 +1,40 @@
 -- Trusted: 6. Expansion: the statements of a tree of Kconfig files in the order of reading, or the first error of a line.
--- Source: the kernel's kconfig-language document (`source`, blocks, entries). The limits are our own.
--- To read from the whole to the parts, begin with `Expands`.
-use Rattle.std.specs.List.{before_first, filter_map, flat_map, last_or, list_any, take_while}
-use Rattle.std.specs.Map.{lookup}
+-- Source: the kernel's kconfig-language document (`source`, blocks, entries). The limits are our own. Begin with `Expands` to go from whole to parts.
+use Rattle.std.specs.{List.{before_first, filter_map, flat_map, last_or, list_any, take_while}, Map.{lookup}}
 use Rattle.std.specs.Prelude.{Bool, Err, List, MatchOption, None, Ok, Option, Result, Some, [], codes, drop, false, filter, if◌then◌else◌, is_some, length, map, nat_le, nat_lt, slice_get, suc, take, true, zero, ℕ, ◌&&◌, ◌++◌, ◌+◌, ◌-◌, ◌||◌, ◌∷◌, ◌≡◌, ◌≢◌}
-use Rattle.kc_language.specs.Expressions.{all_mentioned, mention, number_of, same_name}
-use Rattle.kc_language.specs.Lines.{IsTooLong, TakesLine, UnreadLines, after_help, line_number, physical_lines, unread_lines}
+use Rattle.kc_language.specs.{Expressions.{all_mentioned, mention, number_of, same_name}, Lines.{IsTooLong, TakesLine, UnreadLines, after_help, line_number, physical_lines, unread_lines}}
 use Rattle.kc_language.specs.Statements.{Cause, ChoiceLine, CommentLine, ConfigLine, DefLine, DefaultLine, DependsLine, EndChoiceLine, EndIfLine, EndMenuLine, HelpLine, IfLine, IgnoredLine, ImplyLine, LineContext, Located, MenuLine, ModulesLine, Named, Numbered, PromptLine, RangeLine, ReadsLine, ReadsSource, SelectLine, SourceLine, Statement, TypeLine, VisibleLine, begins_with, names_in_statement, numbered, statements}
-use Rattle.kc_language.specs.Text.{most_blocks, most_files, most_lines, most_symbols}
-use Rattle.kc_language.specs.Tokens.{IsCut, Lexeme}
-use Rattle.kc_language.specs.declared.{statements.Block.Block, statements.EntryKind.EntryKind, tokens.TextFault.TextFault}
+use Rattle.kc_language.specs.{Text.{most_blocks, most_files, most_lines, most_symbols}, Tokens.{IsCut, Lexeme}, declared.{statements.Block.Block, statements.EntryKind.EntryKind, tokens.TextFault.TextFault}}
 use Rattle.kc_language.specs.declared.diagnostics.Cause.TheVariants as cause
 
 -- The bytes of each file by its name, where there is such a file. `bytes_in` takes them from a list.
 abbrev pub Files : Type 0
 Files = List ℕ → Option (List ℕ)
+
 abbrev pub bytes_in : List (List ℕ × List ℕ) → Files
 bytes_in files name = lookup (same_name name) files
+
 -- The numbers below n, and the last element of a list.
 abbrev pub numbers : ℕ → List ℕ
 numbers zero = []
 numbers (suc n) = numbers n ++ n ∷ []
+
 abbrev pub last_of : {A : Type 0} → List A → Option A
 last_of xs = last_or None xs
 
 -- ---- Blocks and entries in a list of statements
-
 -- What a statement does to the blocks.
 pub data Bracket : Type 0 where
   Opens : Block → Bracket
   Closes NoBracket : Bracket
+
 abbrev pub opened : Bracket → Option Block
 opened b = elim b [ Opens k ↦ Some k | _ ↦ None ]
 
 -- Where d blocks are open: how many are open after one more statement, and whether it closes a block that was open before those.
 abbrev pub depth_after : ℕ → Bracket → ℕ
 depth_after d b = elim b [ Opens k ↦ suc d | Closes ↦ d - 1 | NoBracket ↦ d ]
+
 abbrev pub closes_outer : ℕ → Bracket → Bool
 closes_outer zero Closes = true
 closes_outer d b = false
@@ -44,12 +43,19 @@ module _ {E L S : Type 0} where
   -- `if`, `menu` and `choice` open a block.
   abbrev pub bracket : Statement E L S → Bracket
   bracket s = elim s [
-    IfLine e ↦ Opens Block.If | MenuLine t ↦ Opens Block.Menu | ChoiceLine ↦ Opens Block.Choice
-    | EndIfLine ↦ Closes | EndMenuLine ↦ Closes | EndChoiceLine ↦ Closes | _ ↦ NoBracket ]
+    | IfLine e ↦ Opens Block.If
+    | MenuLine t ↦ Opens Block.Menu
+    | ChoiceLine ↦ Opens Block.Choice
+    | EndIfLine ↦ Closes
+    | EndMenuLine ↦ Closes
+    | EndChoiceLine ↦ Closes
+    | _ ↦ NoBracket
+  ]
 
   -- What statement j does to the blocks.
   abbrev pub bracket_at : List (Statement E L S) → ℕ → Bracket
   bracket_at ss j = elim (slice_get ss j) [ None ↦ NoBracket | Some s ↦ bracket s ]
+
   -- A block stays open through these statements, where d blocks are open inside it.
   abbrev pub stays_open : ℕ → List (Statement E L S) → Bool
   stays_open d [] = true
@@ -58,10 +64,13 @@ module _ {E L S : Type 0} where
   -- Statement j opens a block that is still open after the last statement. All such, the outermost first: their places, their blocks.
   abbrev pub is_open : List (Statement E L S) → ℕ → Bool
   is_open ss j = is_some (opened (bracket_at ss j)) && stays_open 0 (drop (suc j) ss)
+
   abbrev pub open_block_indices : List (Statement E L S) → List ℕ
   open_block_indices ss = filter (is_open ss) (numbers (length ss))
+
   abbrev pub open_blocks : List (Statement E L S) → List Block
   open_blocks ss = filter_map (λ j. opened (bracket_at ss j)) (open_block_indices ss)
+
   -- The places of the statements whose blocks enclose statement i. The last line of a block counts as enclosed by it.
   abbrev pub enclosing : List (Statement E L S) → ℕ → List ℕ
   enclosing ss i = open_block_indices (take i ss)
@@ -69,31 +78,48 @@ module _ {E L S : Type 0} where
   -- An attribute belongs to the entry before it. The attributes of the entry at j follow it without a gap.
   abbrev pub is_attribute : Statement E L S → Bool
   is_attribute s = elim s [
-    TypeLine k p ↦ true | PromptLine p ↦ true | DefaultLine v w ↦ true | DefLine k v w ↦ true | DependsLine e ↦ true | VisibleLine e ↦ true
-    | SelectLine n w ↦ true | ImplyLine n w ↦ true | RangeLine a b w ↦ true | HelpLine ↦ true | ModulesLine ↦ true | IgnoredLine ↦ true
-    | _ ↦ false ]
+    | TypeLine k p ↦ true
+    | PromptLine p ↦ true
+    | DefaultLine v w ↦ true
+    | DefLine k v w ↦ true
+    | DependsLine e ↦ true
+    | VisibleLine e ↦ true
+    | SelectLine n w ↦ true
+    | ImplyLine n w ↦ true
+    | RangeLine a b w ↦ true
+    | HelpLine ↦ true
+    | ModulesLine ↦ true
+    | IgnoredLine ↦ true
+    | _ ↦ false
+  ]
+
   abbrev pub is_no_attribute : Statement E L S → Bool
   is_no_attribute s = if is_attribute s then false else true
+
   abbrev pub attributes : List (Statement E L S) → ℕ → List (Statement E L S)
   attributes ss j = take_while is_attribute (drop (suc j) ss)
 
   -- The kind of entry that an attribute would belong to, after this last statement that is no attribute.
   abbrev pub entry_of : Option (Statement E L S) → EntryKind
-  entry_of (Some (ConfigLine n)) = EntryKind.Config
-  entry_of (Some ChoiceLine) = EntryKind.Choice
-  entry_of (Some (MenuLine t)) = EntryKind.Menu
-  entry_of (Some (CommentLine t)) = EntryKind.Comment
-  entry_of _ = EntryKind.Nothing
+  entry_of = elim [
+    | Some (ConfigLine n) ↦ EntryKind.Config
+    | Some ChoiceLine ↦ EntryKind.Choice
+    | Some (MenuLine t) ↦ EntryKind.Menu
+    | Some (CommentLine t) ↦ EntryKind.Comment
+    | _ ↦ EntryKind.Nothing
+  ]
 
   -- The names of the `config` lines, in order.
   abbrev pub defined_name : Statement E L S → Option S
   defined_name s = elim s [ ConfigLine n ↦ Some n | _ ↦ None ]
+
   abbrev pub definitions : List (Statement E L S) → List S
   definitions = filter_map defined_name
 
   -- The name of the modules symbol: that of the last `config` line before the first `modules` line.
   abbrev pub is_modules : Statement E L S → Bool
   is_modules s = elim s [ ModulesLine ↦ true | _ ↦ false ]
+
   abbrev pub modules_of : List (Statement E L S) → Option S
   modules_of ss = if list_any is_modules ss then last_of (definitions (before_first is_modules ss)) else None
 
@@ -104,16 +130,16 @@ module _ {E L S : Type 0} where
 -- The names of a tree, each once, in the order of their first mention, and its lines with each name as its number in that order.
 abbrev pub names_of : List Named → List (List ℕ)
 names_of ss = all_mentioned [] (flat_map names_in_statement ss)
+
 abbrev pub numbered_lines : List (Located Named) → List (Located Numbered)
-numbered_lines ls =
-    map (λ l. record { file = l.file; line = l.line; statement = numbered (number_of (names_of (statements ls))) l.statement }) ls
+numbered_lines ls = map (λ l. record { file = l.file; line = l.line; statement = numbered (number_of (names_of (statements ls))) l.statement }) ls
 
 -- ---- What a line is read with
-
 -- An error and where it stands: a file and a line.
 pub record Refused : Type 0 where
   pub cause : Cause
   pub location : Option (List ℕ × ℕ)
+
 abbrev pub refused : Cause → List ℕ → ℕ → Refused
 refused c file line = record { cause = c; location = Some (file, line) }
 
@@ -131,14 +157,15 @@ pub record Log : Type 0 where
 
 -- The next line may be a `modules` line: there was none, or the symbol defined last is the modules symbol.
 abbrev pub names_match : Option (List ℕ) → Option (List ℕ) → Bool
-names_match None now = true
-names_match (Some n) now = elim now [ None ↦ false | Some m ↦ same_name n m ]
+names_match = elim [ None ↦ λ now. true | Some n ↦ elim [ None ↦ false | Some m ↦ same_name n m ] ]
+
 abbrev pub may_be_modules : List Named → Bool
 may_be_modules ss = names_match (modules_of ss) (last_of (definitions ss))
 
 -- The context of a file's next line, where own are the file's statements so far.
 abbrev pub is_choice : Block → Bool
 is_choice b = elim b [ Block.Choice ↦ true | _ ↦ false ]
+
 abbrev pub context_of : FileContext → List (Located Named) → Log → LineContext
 context_of a own log = record {
   entry = entry_of (last_of (filter is_no_attribute (statements own)));
@@ -152,39 +179,46 @@ abbrev pub limit_cause : FileContext → List (Located Named) → Log → Named 
 limit_cause a own log (ConfigLine n) =
     if nat_lt most_symbols (length (mention (all_mentioned [] (definitions (statements log.lines))) n)) then Some cause.TooManySymbols else None
 limit_cause a own log s = elim (opened (bracket s)) [
-    None ↦ None | Some b ↦ if nat_le most_blocks (length a.blocks + length (open_blocks (statements own))) then Some cause.TooDeep else None ]
+  | None ↦ None
+  | Some b ↦ if nat_le most_blocks (length a.blocks + length (open_blocks (statements own))) then Some cause.TooDeep else None
+]
 
 -- Why a file cannot be opened, where n physical lines were read before: there is none (E1), or the lines are too many (E3).
 abbrev pub lines_of : List ℕ → ℕ
 lines_of bytes = length (physical_lines bytes)
+
 abbrev pub bytes_cause : List ℕ → ℕ → Option (List ℕ) → Option Cause
 bytes_cause name n None = Some (cause.NoFile name)
 bytes_cause name n (Some bytes) = if nat_lt most_lines (n + lines_of bytes) then Some cause.TooManyLines else None
 
 -- Why a file cannot be sourced, where these files are open: it is one of them (E2), they are too many (E12), or it cannot be opened.
 abbrev pub sourcing_cause : Files → List (List ℕ) → ℕ → List ℕ → Option Cause
-sourcing_cause files names n name =
-    if list_any (same_name name) names then Some (cause.InclusionLoop name)
-    else if nat_le most_files (length names) then Some cause.TooDeep
-    else bytes_cause name n (files name)
+sourcing_cause files names n name = if list_any (same_name name) names then Some (cause.InclusionLoop name)
+    else if nat_le most_files (length names) then Some cause.TooDeep else bytes_cause name n (files name)
+
 -- A sourced file: what surrounds it, and the log as it is opened.
 abbrev pub inside : FileContext → List (Located Named) → List ℕ → FileContext
 inside a own name = record { open_files = a.open_files ++ name ∷ []; file = name; blocks = a.blocks ++ open_blocks (statements own) }
+
 abbrev pub with_file : Log → List ℕ → List ℕ → Log
 with_file log name bytes = record { lines = log.lines; total_lines = log.total_lines + lines_of bytes; opened = mention log.opened name }
 
 -- A statement is added: to the lines of its file, and to the log.
 abbrev pub with_line : List (Located Named) → FileContext → ℕ → Named → List (Located Named)
 with_line ls a n s = ls ++ record { file = a.file; line = n; statement = s } ∷ []
+
 abbrev pub logged : Log → FileContext → ℕ → Named → Log
 logged log a n s = record { lines = with_line log.lines a n s; total_lines = log.total_lines; opened = log.opened }
 
 -- ---- The next line
-
 -- The lines of the help text are skipped.
 abbrev pub without_help : UnreadLines → UnreadLines
 without_help l = record {
-  lines = after_help l.lines; number = line_number (l.number + (length l.lines - length (after_help l.lines))); refusal = l.refusal }
+  lines = after_help l.lines;
+  number = line_number (l.number + (length l.lines - length (after_help l.lines)));
+  refusal = l.refusal;
+}
+
 abbrev pub is_help : List Lexeme → Bool
 is_help ts = begins_with (codes "help") ts || begins_with (codes "---help---") ts
 
@@ -206,8 +240,11 @@ pub record NextStatement (l m : UnreadLines) (c : LineContext) (s : Result Named
 -- The error of a line that cannot be cut into tokens.
 abbrev pub text_cause : TextFault → Cause
 text_cause f = elim f [
-  TextFault.Macro ↦ cause.Macro | TextFault.BadToken ↦ cause.BadToken
-  | TextFault.LineTooLong n ↦ cause.LineTooLong | TextFault.Memory ↦ cause.Memory ]
+  | TextFault.Macro ↦ cause.Macro
+  | TextFault.BadToken ↦ cause.BadToken
+  | TextFault.LineTooLong n ↦ cause.LineTooLong
+  | TextFault.Memory ↦ cause.Memory
+]
 
 -- A block is open at the end of a file. The innermost one was opened at this line.
 pub record IsUnclosed (own : List (Located Named)) (line : ℕ) : Type 0 where
@@ -219,7 +256,6 @@ pub record IsUnclosed (own : List (Located Named)) (line : ℕ) : Type 0 where
   pub line_is : line ≡ opener.line
 
 -- ---- A whole file
-
 -- What the rest of a file gives: in the context a, l is unread of it, own are its statements so far, and log is what was read.
 -- The result is the log at the end of the file, or the first error.
 pub data Rest (files : Files) : FileContext → UnreadLines → List (Located Named) → Log → Result Log Refused → Type 0 where
@@ -255,8 +291,10 @@ pub data Rest (files : Files) : FileContext → UnreadLines → List (Located Na
 -- Reading begins with the root file: no other file is open, and nothing was read.
 abbrev pub root_context : List ℕ → FileContext
 root_context root = record { open_files = root ∷ []; file = root; blocks = [] }
+
 abbrev pub nothing_read : Log
 nothing_read = record { lines = []; total_lines = 0; opened = [] }
+
 -- The root file expands to this log, or to the first error.
 abbrev pub Expands : Files → List ℕ → Result Log Refused → Type 0
 Expands files root r = MatchOption (bytes_cause root 0 (files root))
@@ -268,10 +306,10 @@ abbrev pub AreOpened : Files → List ℕ → List (List ℕ) → Type 0
 AreOpened files root names = (log : Log) → Expands files root (Ok log) → names ≡ log.opened
 
 -- ---- The files that one file names, read by itself
-
 -- The next line is no `source` line; it is a `source` line with this name. After it m is left.
 abbrev pub IsOther : UnreadLines → UnreadLines → Type 0
 IsOther l m = (ts : List Lexeme) × NextLine l m ts None × (begins_with (codes "source") ts ≡ false)
+
 abbrev pub IsSource : UnreadLines → UnreadLines → List ℕ → Type 0
 IsSource l m name =
     (ts : List Lexeme) × NextLine l m ts None × (begins_with (codes "source") ts ≡ true) × ReadsSource (drop 1 ts) (Ok (SourceLine name))

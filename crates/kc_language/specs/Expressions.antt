@@ -1,29 +1,20 @@
 -- Trusted: 4. Expressions: the numbers of names, what an expression is and its value, and which tokens form an expression.
 -- Sources: the kernel's kconfig-language document ("Menu dependencies") for the grammar and the operators; kconfiglib for comparisons and
 -- for a lone `m` of a condition. The numbers of names, leading zeros and the limit of levels are our own. `elim x [ p ↦ a | .. ]` is a match on x.
-use Rattle.std.specs.Char.{is_ascii_alphanumeric}
-use Rattle.std.specs.Cmp.Lexicographic.{slice_cmp}
-use Rattle.std.specs.List.{flat_map, fold, list_any, position_or_len}
-use Rattle.std.specs.Option.{option_to_list}
-use Rattle.std.specs.Ordering.{int_cmp, nat_cmp}
+use Rattle.std.specs.{Char.{is_ascii_alphanumeric}, Cmp.Lexicographic.{slice_cmp}, List.{flat_map, fold, list_any, position_or_len}, Option.{option_to_list}, Ordering.{int_cmp, nat_cmp}}
 use Rattle.std.specs.Prelude.{Bool, List, None, Option, Some, [], bytes_eq, codes, false, if◌then◌else◌, is_some, map, max, pos, suc, true, unwrap_or, ℕ, ℤ, ◌&&◌, ◌++◌, ◌==◌, ◌||◌, ◌∷◌, ◌≡◌, ◌≢◌, ◌≤◌}
-use Rattle.std.specs.declared.cmp.Ordering.{Ordering, TheVariants.Equal, TheVariants.Greater, TheVariants.Less}
-use Rattle.kc_language.specs.Text.{byte, has_hex_prefix, hex_of, int_of, most_levels, unescape}
-use Rattle.kc_language.specs.Tokens.{AQuoted, AWord, AnOp, Lexeme}
-use Rattle.kc_language.specs.declared.expressions.Connective.{Connective, TheVariants.And, TheVariants.Or}
-use Rattle.kc_language.specs.declared.expressions.SymId.{SymId}
-use Rattle.kc_language.specs.declared.expressions.SymbolType.{SymbolType, TheVariants.Hex, TheVariants.Int, TheVariants.Str}
-use Rattle.kc_language.specs.declared.expressions.Tri.{Tri, TheVariants.M, TheVariants.N, TheVariants.Y}
-use Rattle.kc_language.specs.declared.tokens.Op.{Op}
-use Rattle.kc_language.specs.declared.tokens.Op.TheVariants as op
+use Rattle.std.specs.declared.cmp.Ordering.{Ordering, TheVariants.{Equal, Greater, Less}}
+use Rattle.kc_language.specs.{Text.{byte, has_hex_prefix, hex_of, int_of, most_levels, unescape}, Tokens.{AQuoted, AWord, AnOp, Lexeme}}
+use Rattle.kc_language.specs.declared.{expressions.Connective.{Connective, TheVariants.{And, Or}}, expressions.SymId.SymId, expressions.SymbolType.{SymbolType, TheVariants.{Hex, Int, Str}}, expressions.Tri.{Tri, TheVariants.{M, N, Y}}, tokens.Op.Op}
 
 -- ---- Names and their numbers
-
 -- A symbol is the number of its name. Two names are the same if their bytes are.
 abbrev pub symbol : ℕ → SymId
 symbol n = record { 0 = n }
+
 abbrev pub same_symbol : SymId → SymId → Bool
 same_symbol s t = s.0 == t.0
+
 abbrev pub same_name : List ℕ → List ℕ → Bool
 same_name = bytes_eq
 
@@ -34,13 +25,14 @@ is_name_byte b = is_ascii_alphanumeric b || b == byte "_"
 -- The number of a name is its position in the list of names. A new name has the next number, and its mention adds it to the list.
 abbrev pub number_of : List (List ℕ) → List ℕ → ℕ
 number_of names name = position_or_len (same_name name) names
+
 abbrev pub mention : List (List ℕ) → List ℕ → List (List ℕ)
 mention names name = if list_any (same_name name) names then names else names ++ name ∷ []
+
 abbrev pub all_mentioned : List (List ℕ) → List (List ℕ) → List (List ℕ)
 all_mentioned = fold mention
 
 -- ---- Expressions
-
 -- An operand is a text or a symbol.
 pub data Leaf : Type 0 where
   Text : List ℕ → Leaf
@@ -54,6 +46,7 @@ mutual
     Negated : Form → Form
     LoneM : Form
     Every Some_of : Forms → Form
+
   pub data Forms : Type 0 where
     NoForms : Forms
     MoreForms : Form → Forms → Forms
@@ -65,6 +58,7 @@ forms (f ∷ fs) = MoreForms f (forms fs)
 -- The symbols that an expression names, from left to right. A lone `m` names the modules symbol, if there is one.
 abbrev pub leaf_symbols : Leaf → List SymId
 leaf_symbols l = elim l [ Text _ ↦ [] | Symbol s ↦ s ∷ [] ]
+
 module _ (modules : Option SymId) where
   abbrev mutual
     pub symbols : Form → List SymId
@@ -74,39 +68,40 @@ module _ (modules : Option SymId) where
     symbols LoneM = option_to_list modules
     symbols (Every fs) = all_symbols fs
     symbols (Some_of fs) = all_symbols fs
+
     pub all_symbols : Forms → List SymId
     all_symbols NoForms = []
     all_symbols (MoreForms f fs) = symbols f ++ all_symbols fs
 
 -- ---- Values
-
 -- The constants n, m and y: their texts, the text that is one of them, and their numbers.
 abbrev pub tri_text : Tri → List ℕ
 tri_text t = elim t [ N ↦ codes "n" | M ↦ codes "m" | Y ↦ codes "y" ]
+
 abbrev pub tristate_constant : List ℕ → Option Tri
 tristate_constant (b ∷ []) = if b == byte "n" then Some N else if b == byte "m" then Some M else if b == byte "y" then Some Y else None
 tristate_constant _ = None
+
 abbrev pub is_tristate_constant : List ℕ → Bool
 is_tristate_constant text = is_some (tristate_constant text)
+
 abbrev pub tri_number : Tri → ℤ
 tri_number t = elim t [ N ↦ pos 0 | M ↦ pos 1 | Y ↦ pos 2 ]
 
 -- `!` is 2 minus the value, `&&` the least and `||` the greatest value.
 abbrev pub opposite : Tri → Tri
 opposite t = elim t [ N ↦ Y | M ↦ M | Y ↦ N ]
+
 abbrev pub lesser : Tri → Tri → Tri
-lesser N _ = N
-lesser M N = N
-lesser M _ = M
-lesser Y b = b
+lesser = elim [ N ↦ λ b. N | M ↦ elim [ N ↦ N | _ ↦ M ] | Y ↦ λ b. b ]
+
 abbrev pub greater : Tri → Tri → Tri
-greater N b = b
-greater M Y = Y
-greater M _ = M
-greater Y _ = Y
+greater = elim [ N ↦ λ b. b | M ↦ elim [ Y ↦ Y | _ ↦ M ] | Y ↦ λ b. Y ]
+
 abbrev pub least : List Tri → Tri
 least [] = Y
 least (t ∷ ts) = lesser t (least ts)
+
 abbrev pub greatest : List Tri → Tri
 greatest [] = N
 greatest (t ∷ ts) = greater t (greatest ts)
@@ -119,35 +114,39 @@ pub data SymbolValue : Type 0 where
 -- A value as a truth value and as a text, and whether it is a string.
 abbrev pub truth_of_value : SymbolValue → Tri
 truth_of_value v = elim v [ Truth t ↦ t | TextValue _ _ ↦ N ]
+
 abbrev pub text_of_value : SymbolValue → List ℕ
 text_of_value v = elim v [ Truth t ↦ tri_text t | TextValue _ bytes ↦ bytes ]
+
 abbrev pub is_string_value : SymbolValue → Bool
 is_string_value v = elim v [ Truth _ ↦ false | TextValue type _ ↦ elim type [ Str ↦ true | _ ↦ false ] ]
 
 -- A value as a number. An int is decimal and a hex is hexadecimal. Any other text is hexadecimal after `0x` or `0X`, otherwise decimal.
 abbrev pub number_of_text : List ℕ → Option ℤ
 number_of_text bytes = if has_hex_prefix bytes then hex_of bytes else int_of bytes
+
 abbrev pub number_of_value : SymbolValue → Option ℤ
-number_of_value (Truth t) = Some (tri_number t)
-number_of_value (TextValue Int bytes) = int_of bytes
-number_of_value (TextValue Hex bytes) = hex_of bytes
-number_of_value (TextValue _ bytes) = number_of_text bytes
+number_of_value v = elim v [
+  | Truth t ↦ Some (tri_number t)
+  | TextValue Int bytes ↦ int_of bytes
+  | TextValue Hex bytes ↦ hex_of bytes
+  | TextValue _ bytes ↦ number_of_text bytes
+]
+
 abbrev pub constant_number : Option Tri → List ℕ → Option ℤ
-constant_number None bytes = number_of_text bytes
-constant_number (Some t) _ = Some (tri_number t)
+constant_number = elim [ None ↦ λ bytes. number_of_text bytes | Some t ↦ λ bytes. Some (tri_number t) ]
 
 -- For which results of a comparison a relation holds.
 abbrev pub holds : Op → Ordering → Bool
-holds op.Eq Equal = true
-holds op.Ne Equal = false
-holds op.Ne _ = true
-holds op.Lt Less = true
-holds op.Gt Greater = true
-holds op.Le Greater = false
-holds op.Le _ = true
-holds op.Ge Less = false
-holds op.Ge _ = true
-holds _ _ = false
+holds = elim [
+  | Op.Eq ↦ elim [ Equal ↦ true | _ ↦ false ]
+  | Op.Lt ↦ elim [ Less ↦ true | _ ↦ false ]
+  | Op.Gt ↦ elim [ Greater ↦ true | _ ↦ false ]
+  | Op.Ne ↦ elim [ Equal ↦ false | _ ↦ true ]
+  | Op.Ge ↦ elim [ Less ↦ false | _ ↦ true ]
+  | Op.Le ↦ elim [ Greater ↦ false | _ ↦ true ]
+  | _ ↦ λ result. false
+]
 
 -- Compares numbers if both sides are numbers, otherwise texts.
 abbrev pub compare_operands : Option ℤ → Option ℤ → List ℕ → List ℕ → Ordering
@@ -158,18 +157,20 @@ module _ (known : SymId → SymbolValue) where
   -- An operand as a truth value, a number and a text, and whether it is a string symbol. A text has the truth value n, except m and y.
   abbrev pub truth : Leaf → Tri
   truth l = elim l [ Text bytes ↦ unwrap_or (tristate_constant bytes) N | Symbol s ↦ truth_of_value (known s) ]
+
   abbrev pub number : Leaf → Option ℤ
   number l = elim l [ Text bytes ↦ constant_number (tristate_constant bytes) bytes | Symbol s ↦ number_of_value (known s) ]
+
   abbrev pub text : Leaf → List ℕ
   text l = elim l [ Text bytes ↦ bytes | Symbol s ↦ text_of_value (known s) ]
+
   abbrev pub is_string : Leaf → Bool
   is_string l = elim l [ Text _ ↦ false | Symbol s ↦ is_string_value (known s) ]
 
   -- Two string symbols compare as texts, even if both texts are numbers.
   abbrev pub compared : Leaf → Leaf → Ordering
   compared a b =
-      if is_string a && is_string b then slice_cmp nat_cmp (text a) (text b)
-      else compare_operands (number a) (number b) (text a) (text b)
+      if is_string a && is_string b then slice_cmp nat_cmp (text a) (text b) else compare_operands (number a) (number b) (text a) (text b)
 
 -- The value of an expression. A lone `m` of a condition is `m && MODULES`, and n if there is no modules symbol.
 module _ (known : SymId → SymbolValue) (modules : Option SymId) where
@@ -181,6 +182,7 @@ module _ (known : SymId → SymbolValue) (modules : Option SymId) where
     value LoneM = elim modules [ None ↦ N | Some s ↦ lesser M (truth_of_value (known s)) ]
     value (Every fs) = least (values fs)
     value (Some_of fs) = greatest (values fs)
+
     pub values : Forms → List Tri
     values NoForms = []
     values (MoreForms f fs) = value f ∷ values fs
@@ -194,6 +196,7 @@ module _ (known : SymId → SymbolValue) (modules : Option SymId) where
 -- A token as the grammar sees it: an operand, a relation, `!`, `&&` or `||`, a parenthesis, or the word `if`.
 pub data Atom : Type 0 where
   WordAtom QuotedAtom : List ℕ → Atom
+
 pub data Terminal : Type 0 where
   OperandToken : Atom → Terminal
   Compares : Op → Terminal
@@ -203,15 +206,12 @@ pub data Terminal : Type 0 where
 
 abbrev pub if_word : List ℕ
 if_word = codes "if"
+
 abbrev pub terminal_of : Lexeme → Terminal
 terminal_of (AWord w) = if same_name w if_word then Keyword else OperandToken (WordAtom w)
 terminal_of (AQuoted q) = OperandToken (QuotedAtom q)
-terminal_of (AnOp op.Not) = Bang
-terminal_of (AnOp op.And) = Joins And
-terminal_of (AnOp op.Or) = Joins Or
-terminal_of (AnOp op.LParen) = Open
-terminal_of (AnOp op.RParen) = Close
-terminal_of (AnOp relation) = Compares relation
+terminal_of (AnOp o) = elim o [ Op.Not ↦ Bang | Op.And ↦ Joins And | Op.Or ↦ Joins Or | Op.LParen ↦ Open | Op.RParen ↦ Close | r ↦ Compares r ]
+
 abbrev pub terminals : List Lexeme → List Terminal
 terminals = map terminal_of
 
@@ -220,14 +220,17 @@ mutual
   pub data Chain : Connective → Type 0 where
     only : {c : Connective} → Part c → Chain c
     joined : {c : Connective} → Part c → Chain c → Chain c
+
   pub data Part : Connective → Type 0 where
     negation : Negation → Part And
     conjunction : Chain And → Part Or
+
   pub data Negation : Type 0 where
     bang : Negation → Negation
     group : Chain Or → Negation
     lone : Atom → Negation
     compare : Op → Atom → Atom → Negation
+
 abbrev pub Disjunction : Type 0
 Disjunction = Chain Or
 
@@ -236,9 +239,11 @@ abbrev mutual
   pub spell : {c : Connective} → Chain c → List Terminal
   spell (only p) = spell_part p
   spell {c} (joined p ps) = spell_part p ++ Joins c ∷ spell ps
+
   pub spell_part : {c : Connective} → Part c → List Terminal
   spell_part (negation n) = spell_not n
   spell_part (conjunction ps) = spell ps
+
   pub spell_not : Negation → List Terminal
   spell_not (bang n) = Bang ∷ spell_not n
   spell_not (group d) = Open ∷ spell d ++ Close ∷ []
@@ -250,9 +255,11 @@ abbrev mutual
   pub levels : {c : Connective} → Chain c → ℕ
   levels (only p) = levels_part p
   levels (joined p ps) = max (levels_part p) (levels ps)
+
   pub levels_part : {c : Connective} → Part c → ℕ
   levels_part (negation n) = levels_not n
   levels_part (conjunction ps) = levels ps
+
   pub levels_not : Negation → ℕ
   levels_not (bang n) = suc (levels_not n)
   levels_not (group d) = suc (levels d)
@@ -261,30 +268,30 @@ abbrev mutual
 
 -- An operand, given the numbers of names. The words n, m and y are constants, and any other word is a symbol.
 abbrev pub leaf : (List ℕ → ℕ) → Atom → Leaf
-leaf number (WordAtom w) = if is_tristate_constant w then Text w else Symbol (symbol (number w))
-leaf number (QuotedAtom q) = Text (unescape q)
+leaf number a = elim a [ WordAtom w ↦ if is_tristate_constant w then Text w else Symbol (symbol (number w)) | QuotedAtom q ↦ Text (unescape q) ]
 
 -- A lone operand. In a condition, m (quoted or not) is a lone `m`, which also asks for the modules symbol.
-abbrev pub is_m_leaf : Leaf → Bool
-is_m_leaf l = elim l [ Text bytes ↦ same_name bytes (tri_text M) | Symbol _ ↦ false ]
 abbrev pub lone_form : Bool → Leaf → Form
-lone_form condition l = if condition && is_m_leaf l then LoneM else Single l
+lone_form condition l = if condition && elim l [ Text bytes ↦ same_name bytes (tri_text M) | Symbol _ ↦ false ] then LoneM else Single l
 
 -- The expression: two parts or more are one `Every` or `Some_of`, a single part is itself, and parentheses add nothing.
 abbrev pub connected : Connective → Forms → Form
-connected And fs = Every fs
-connected Or fs = Some_of fs
+connected c = elim c [ And ↦ Every | Or ↦ Some_of ]
+
 module _ (condition : Bool) (number : List ℕ → ℕ) where
   abbrev mutual
     pub meaning : {c : Connective} → Chain c → Form
     meaning (only p) = meaning_part p
     meaning {c} (joined p ps) = connected c (forms (meaning_part p ∷ parts ps))
+
     pub parts : {c : Connective} → Chain c → List Form
     parts (only p) = meaning_part p ∷ []
     parts (joined p ps) = meaning_part p ∷ parts ps
+
     pub meaning_part : {c : Connective} → Part c → Form
     meaning_part (negation n) = meaning_not n
     meaning_part (conjunction ps) = meaning ps
+
     pub meaning_not : Negation → Form
     meaning_not (bang n) = Negated (meaning_not n)
     meaning_not (group d) = meaning d
@@ -294,14 +301,15 @@ module _ (condition : Bool) (number : List ℕ → ℕ) where
 -- The names that an expression mentions, from left to right: its words other than n, m and y.
 abbrev pub names_in_atom : Atom → List (List ℕ)
 names_in_atom a = elim a [ WordAtom w ↦ if is_tristate_constant w then [] else w ∷ [] | QuotedAtom _ ↦ [] ]
+
 abbrev pub names_in : Disjunction → List (List ℕ)
 names_in d = flat_map (λ t. elim t [ OperandToken a ↦ names_in_atom a | _ ↦ [] ]) (spell d)
 
 -- ---- Where an expression ends, and when there is none
-
 -- These tokens begin some expression, or one of at most k levels.
 abbrev pub Begins : List Terminal → Type 0
 Begins front = (d : Disjunction) × (after : List Terminal) × (spell d ≡ front ++ after)
+
 abbrev pub BeginsWithin : ℕ → List Terminal → Type 0
 BeginsWithin k front = (d : Disjunction) × (after : List Terminal) × (levels d ≤ k) × (spell d ≡ front ++ after)
 
@@ -309,6 +317,7 @@ BeginsWithin k front = (d : Disjunction) × (after : List Terminal) × (levels d
 abbrev pub NoLonger : List Terminal → List Terminal → Type 0
 NoLonger front [] = Unit {0}
 NoLonger front (t ∷ _) = Begins (front ++ t ∷ []) → ⊥
+
 pub record LongestFront (ts front rest : List Terminal) : Type 0 where
   pub whole : ts ≡ front ++ rest
   pub begins : Begins front

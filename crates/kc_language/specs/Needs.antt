@@ -1,25 +1,24 @@
 -- Trusted: 9. Needs: which symbols the equation of a symbol names, which trees are accepted, and which dependency loop is reported.
 -- Source: the kernel's kconfig-language document refuses recursive dependencies; which symbols count, and which loop is named, is our own.
--- Read `needs` first, then when a tree is accepted, then the loop of a tree that is not.
 use Rattle.std.specs.List.{IsDistinct, filter, flat_map, list_any, range_with_len}
 use Rattle.std.specs.Prelude.{Bool, List, None, Option, Some, [], codes, false, find, length, map, nat_eq, slice_index, slice_index_or, suc, take, true, zero, ℕ, ◌&&◌, ◌++◌, ◌+◌, ◌<◌, ◌∷◌, ◌≡◌}
 use Rattle.kc_language.specs.Expansion.{Refused}
 use Rattle.kc_language.specs.Expressions.{leaf_symbols, symbol, symbols}
 use Rattle.kc_language.specs.Symbols.{Bounds, ChoiceFacts, Condition, Guarded, SymbolFacts, TreeFacts, listed}
 use Rattle.kc_language.specs.Values.{choice_at, facts, is_mentioned, name}
-use Rattle.kc_language.specs.declared.expressions.SymId.{SymId}
-use Rattle.kc_language.specs.declared.expressions.SymbolType.{SymbolType}
-use Rattle.kc_language.specs.declared.expressions.SymbolType.TheVariants.{Bool as IsBool, Str, Tristate, Undefined}
-use Rattle.kc_language.specs.declared.diagnostics.Cause.TheVariants as cause
+use Rattle.kc_language.specs.declared.{diagnostics.Cause.Cause, expressions.{SymId.SymId, SymbolType.{SymbolType, TheVariants.{Bool as IsBool, Str, Tristate, Undefined}}}}
 
 module _ (tree : TreeFacts) where
   -- A condition names what its conjuncts name and, inside a choice, what the conjuncts of the choice's prompt name.
   abbrev pub conjunct_names : Option Condition → List SymId
   conjunct_names c = elim c [ None ↦ [] | Some c ↦ flat_map (symbols tree.modules) c.conjuncts ]
+
   abbrev pub mode_names : Option ℕ → List SymId
   mode_names mode = elim mode [ None ↦ [] | Some k ↦ elim (choice_at tree k) [ None ↦ [] | Some c ↦ conjunct_names c.prompt ] ]
+
   abbrev pub condition_names : Condition → List SymId
   condition_names c = flat_map (symbols tree.modules) c.conjuncts ++ mode_names c.mode
+
   abbrev pub guarded_names : {X : Type 0} → (X → List SymId) → List (Guarded X) → List SymId
   guarded_names names gs = flat_map (λ g. names g.what ++ condition_names g.when) gs
 
@@ -28,28 +27,36 @@ module _ (tree : TreeFacts) where
   -- An int or hex also names the bounds and conditions of its ranges.
   abbrev pub names_of_all : SymbolFacts → List SymId
   names_of_all f = flat_map condition_names f.prompts ++ guarded_names (symbols tree.modules) f.defaults
+
   abbrev pub names_of_truth : SymbolFacts → List SymId
   names_of_truth f = names_of_all f ++ (flat_map condition_names f.dependencies ++ (guarded_names (λ s. s ∷ []) f.selectors ++
       (guarded_names (λ s. s ∷ []) f.impliers ++ elim f.symbol_type [ Tristate ↦ listed tree.modules | _ ↦ [] ])))
+
   abbrev pub names_by_type : SymbolFacts → SymbolType → List SymId
-  names_by_type f Undefined = []
-  names_by_type f IsBool = names_of_truth f
-  names_by_type f Tristate = names_of_truth f
-  names_by_type f Str = names_of_all f
-  names_by_type f _ = names_of_all f ++ guarded_names (λ (r : Bounds). leaf_symbols r.low ++ leaf_symbols r.high) f.ranges
+  names_by_type f k = elim k [
+    | Undefined ↦ []
+    | IsBool ↦ names_of_truth f
+    | Tristate ↦ names_of_truth f
+    | Str ↦ names_of_all f
+    | _ ↦ names_of_all f ++ guarded_names (λ (r : Bounds). leaf_symbols r.low ++ leaf_symbols r.high) f.ranges
+  ]
 
   -- A member of a choice, instead: the prompt conditions of all members, the choice's prompt condition, and the conditions of its defaults.
   abbrev pub names_of_choice : Option ChoiceFacts → List SymId
-  names_of_choice None = []
-  names_of_choice (Some c) = flat_map (λ m. elim (facts tree m) [ None ↦ [] | Some f ↦ flat_map condition_names f.prompts ]) c.members ++
-      (conjunct_names c.prompt ++ guarded_names (λ s. []) c.defaults)
+  names_of_choice o = elim o [
+    | None ↦ []
+    | Some c ↦
+        flat_map (λ m. elim (facts tree m) [ None ↦ [] | Some f ↦ flat_map condition_names f.prompts ]) c.members ++
+        (conjunct_names c.prompt ++ guarded_names (λ s. []) c.defaults)
+  ]
+
   abbrev pub names_of : Option SymbolFacts → List SymId
-  names_of None = []
-  names_of (Some f) = elim f.choice [ None ↦ names_by_type f f.symbol_type | Some c ↦ names_of_choice (choice_at tree c) ]
+  names_of o = elim o [ None ↦ [] | Some f ↦ elim f.choice [ None ↦ names_by_type f f.symbol_type | Some c ↦ names_of_choice (choice_at tree c) ] ]
 
   -- What the symbol of a number needs: the symbols that its equation names, by number.
   abbrev pub needs_of : ℕ → List ℕ
   needs_of i = map (λ (s : SymId). s.0) (filter (is_mentioned tree) (names_of (facts tree (symbol i))))
+
   abbrev pub needs : List (List ℕ)
   needs = map needs_of (range_with_len 0 (length tree.symbols))
 
@@ -57,11 +64,14 @@ module _ (tree : TreeFacts) where
 -- A tree is accepted if after as many steps as there are symbols none is unordered: then no chain of needs comes back to its first symbol.
 abbrev pub needs_in : List (List ℕ) → ℕ → List ℕ
 needs_in needs s = slice_index_or needs s []
+
 abbrev pub unordered_after : (ℕ → List ℕ) → ℕ → ℕ → Bool
 unordered_after graph zero s = true
 unordered_after graph (suc k) s = list_any (unordered_after graph k) (graph s)
+
 abbrev pub AreAccepted : List (List ℕ) → Type 0
 AreAccepted needs = (s : ℕ) → s < length needs → unordered_after (needs_in needs) (length needs) s ≡ false
+
 abbrev pub IsAccepted : TreeFacts → Type 0
 IsAccepted tree = AreAccepted (needs tree)
 
@@ -81,13 +91,15 @@ pub record IsNamedLoop (sequence : List ℕ) (n : ℕ) (needs : ℕ → List ℕ
 -- `A -> B -> A`: the loop's names, the first one again at the end.
 abbrev pub arrows : TreeFacts → List ℕ → List ℕ
 arrows tree ss = flat_map (λ s. codes " -> " ++ name tree (symbol s)) ss
+
 abbrev pub loop_text : TreeFacts → List ℕ → List ℕ
-loop_text tree [] = []
-loop_text tree (s ∷ ss) = name tree (symbol s) ++ arrows tree ss ++ arrows tree (s ∷ [])
+loop_text tree loop = elim loop [ [] ↦ [] | s ∷ ss ↦ name tree (symbol s) ++ arrows tree ss ++ arrows tree (s ∷ []) ]
 
 -- The text of the tree's loop: of several symbols the walk takes the one that is defined first. The refusal has no location.
 abbrev pub IsLoopText : TreeFacts → List ℕ → Type 0
 IsLoopText tree text =
-    (loop : List ℕ) × IsNamedLoop (map (λ (s : SymId). s.0) tree.defined) (length (needs tree)) (needs_in (needs tree)) loop × (text ≡ loop_text tree loop)
+    (loop : List ℕ) × IsNamedLoop (map (λ (s : SymId). s.0) tree.defined) (length (needs tree)) (needs_in (needs tree)) loop ×
+    (text ≡ loop_text tree loop)
+
 abbrev pub loop_refused : List ℕ → Refused
-loop_refused text = record { cause = cause.Loop text; location = None }
+loop_refused text = record { cause = Cause.Loop text; location = None }

@@ -1,18 +1,13 @@
 -- Trusted: 5. Statements: what one line of a Kconfig file says, and where it may stand.
--- Source: the kernel's kconfig-language document. The errors, and what is left out of the language, are our own.
--- To read from the whole to the parts, begin with `ReadsLine` at the end.
-use Rattle.std.specs.List.{list_all, list_any}
-use Rattle.std.specs.Map.{lookup}
+-- Source: the kernel's kconfig-language document. The errors and what is left out are our own. From the whole to the parts: begin with `ReadsLine`.
+use Rattle.std.specs.{List.{list_all, list_any}, Map.{lookup}}
 use Rattle.std.specs.Prelude.{Bool, Err, List, MatchResult, None, Ok, Option, Result, Some, [], codes, decimal, drop, false, if◌then◌else◌, length, map, nat_le, not, option_map, true, ℕ, ◌&&◌, ◌++◌, ◌==◌, ◌||◌, ◌∷◌, ◌≡◌, ◌≤◌, ◌⊎◌}
 use Rattle.kc_language.specs.Expressions.{Atom, Disjunction, Form, IsNoExpression, IsTooDeep, Leaf, LongestFront, QuotedAtom, WordAtom, if_word, is_name_byte, is_tristate_constant, leaf, levels, meaning, names_in, names_in_atom, same_name, spell, symbol, terminals}
-use Rattle.kc_language.specs.Text.{byte, longest_line, longest_name, most_levels, most_lines, most_symbols, unescape}
-use Rattle.kc_language.specs.Tokens.{AQuoted, AWord, Lexeme}
-use Rattle.kc_language.specs.declared.{diagnostics.Cause.Cause as CauseAbout, expressions.SymId.SymId, expressions.SymbolType.SymbolType, statements.Block.Block, statements.EntryKind.EntryKind, statements.Keyword.Keyword}
+use Rattle.kc_language.specs.{Text.{byte, longest_line, longest_name, most_levels, most_lines, most_symbols, unescape}, Tokens.{AQuoted, AWord, Lexeme}, declared.{diagnostics.Cause.Cause as CauseAbout, expressions.SymId.SymId, expressions.SymbolType.SymbolType, statements.Block.Block, statements.EntryKind.EntryKind, statements.Keyword.Keyword}}
 use Rattle.kc_language.specs.declared.diagnostics.Cause.TheVariants as cause
 use Rattle.kc_language.specs.declared.statements.Keyword.TheVariants as key
 
 -- ---- Errors
-
 -- Why there is no tree, with the name, word or loop that the error is about.
 abbrev pub Cause : Type 0
 Cause = CauseAbout (List ℕ)
@@ -40,11 +35,11 @@ cause_text cause.Memory = codes "E20: out of memory"
 -- An error is shown as the line `FILE:LINE: error TEXT`, or as `error TEXT` where it is about no line.
 abbrev pub error_at : List ℕ → ℕ → List ℕ → List ℕ
 error_at file line text = file ++ codes ":" ++ decimal line ++ codes ": error " ++ text ++ codes "\n"
+
 abbrev pub error_line : List ℕ → List ℕ
 error_line text = codes "error " ++ text ++ codes "\n"
 
 -- ---- Statements
-
 -- A prompt's text and its condition.
 pub record InputPrompt (E : Type 0) : Type 0 where
   pub text : List ℕ
@@ -70,6 +65,7 @@ pub data Statement (E L S : Type 0) : Type 0 where
 -- A statement as it is written, and as it is once each name is a number.
 abbrev pub Named : Type 0
 Named = Statement Disjunction Atom (List ℕ)
+
 abbrev pub Numbered : Type 0
 Numbered = Statement Form Leaf SymId
 
@@ -78,6 +74,7 @@ pub record Located (T : Type 0) : Type 0 where
   pub file : List ℕ
   pub line : ℕ
   pub statement : T
+
 abbrev pub statements : {T : Type 0} → List (Located T) → List T
 statements = map (λ l. l.statement)
 
@@ -85,39 +82,58 @@ module _ (number : List ℕ → ℕ) where
   -- A lone `m` in a condition also asks for the modules symbol, in a value it does not. The text of a prompt is not kept.
   abbrev pub condition_form : Disjunction → Form
   condition_form d = meaning true number d
+
   abbrev pub prompt_form : InputPrompt Disjunction → InputPrompt Form
   prompt_form a = record { text = []; when = option_map condition_form a.when }
 
   -- The statement with its names numbered.
   abbrev pub numbered : Named → Numbered
   numbered s = elim s [
-    ConfigLine n ↦ ConfigLine (symbol (number n))
-    | IfLine e ↦ IfLine (condition_form e) | DependsLine e ↦ DependsLine (condition_form e) | VisibleLine e ↦ VisibleLine (condition_form e)
-    | PromptLine p ↦ PromptLine (prompt_form p) | TypeLine k p ↦ TypeLine k (option_map prompt_form p)
+    | ConfigLine n ↦ ConfigLine (symbol (number n))
+    | PromptLine p ↦ PromptLine (prompt_form p)
+    | TypeLine k p ↦ TypeLine k (option_map prompt_form p)
+    | IfLine e ↦ IfLine (condition_form e)
+    | DependsLine e ↦ DependsLine (condition_form e)
+    | VisibleLine e ↦ VisibleLine (condition_form e)
     | DefaultLine v w ↦ DefaultLine (meaning false number v) (option_map condition_form w)
     | DefLine k v w ↦ DefLine k (meaning false number v) (option_map condition_form w)
     | SelectLine n w ↦ SelectLine (symbol (number n)) (option_map condition_form w)
     | ImplyLine n w ↦ ImplyLine (symbol (number n)) (option_map condition_form w)
     | RangeLine a b w ↦ RangeLine (leaf number a) (leaf number b) (option_map condition_form w)
-    | CommentLine t ↦ CommentLine t | SourceLine t ↦ SourceLine t | MenuLine t ↦ MenuLine t | MainMenuLine t ↦ MainMenuLine t
-    | EndIfLine ↦ EndIfLine | EndMenuLine ↦ EndMenuLine | ChoiceLine ↦ ChoiceLine | EndChoiceLine ↦ EndChoiceLine
-    | HelpLine ↦ HelpLine | ModulesLine ↦ ModulesLine | IgnoredLine ↦ IgnoredLine ]
+    | CommentLine t ↦ CommentLine t
+    | SourceLine t ↦ SourceLine t
+    | MenuLine t ↦ MenuLine t
+    | MainMenuLine t ↦ MainMenuLine t
+    | EndIfLine ↦ EndIfLine
+    | EndMenuLine ↦ EndMenuLine
+    | ChoiceLine ↦ ChoiceLine
+    | EndChoiceLine ↦ EndChoiceLine
+    | HelpLine ↦ HelpLine
+    | ModulesLine ↦ ModulesLine
+    | IgnoredLine ↦ IgnoredLine
+  ]
 
 -- The names that a statement mentions, from left to right.
 abbrev pub names_in_condition : Option Disjunction → List (List ℕ)
 names_in_condition w = elim w [ None ↦ [] | Some d ↦ names_in d ]
+
 abbrev pub names_in_statement : Named → List (List ℕ)
 names_in_statement s = elim s [
-  ConfigLine n ↦ n ∷ []
-  | IfLine e ↦ names_in e | DependsLine e ↦ names_in e | VisibleLine e ↦ names_in e
-  | PromptLine p ↦ names_in_condition p.when | TypeLine k o ↦ elim o [ None ↦ [] | Some p ↦ names_in_condition p.when ]
-  | DefaultLine v w ↦ names_in v ++ names_in_condition w | DefLine k v w ↦ names_in v ++ names_in_condition w
-  | SelectLine n w ↦ n ∷ names_in_condition w | ImplyLine n w ↦ n ∷ names_in_condition w
+  | ConfigLine n ↦ n ∷ []
+  | IfLine e ↦ names_in e
+  | DependsLine e ↦ names_in e
+  | VisibleLine e ↦ names_in e
+  | PromptLine p ↦ names_in_condition p.when
+  | TypeLine k o ↦ elim o [ None ↦ [] | Some p ↦ names_in_condition p.when ]
+  | DefaultLine v w ↦ names_in v ++ names_in_condition w
+  | DefLine k v w ↦ names_in v ++ names_in_condition w
+  | SelectLine n w ↦ n ∷ names_in_condition w
+  | ImplyLine n w ↦ n ∷ names_in_condition w
   | RangeLine a b w ↦ names_in_atom a ++ (names_in_atom b ++ names_in_condition w)
-  | _ ↦ [] ]
+  | _ ↦ []
+]
 
 -- ---- Keywords
-
 -- The words that may begin a line. The last nine belong to other tools or versions, and are refused with E7.
 abbrev pub keyword_words : List (List ℕ × Keyword)
 keyword_words =
@@ -131,20 +147,18 @@ keyword_words =
     (codes "comment", key.Comment) ∷ (codes "source", key.Source) ∷ (codes "menu", key.Menu) ∷ (codes "endmenu", key.EndMenu) ∷
     (codes "choice", key.Choice) ∷ (codes "endchoice", key.EndChoice) ∷ (codes "mainmenu", key.MainMenu) ∷
     map (λ w. (w, key.LeftOut)) (codes "rsource" ∷ codes "osource" ∷ codes "orsource" ∷ codes "boolean" ∷ codes "def_int" ∷ codes "def_hex" ∷
-        codes "def_string" ∷ codes "transitional" ∷ codes "optional" ∷ [])
+    codes "def_string" ∷ codes "transitional" ∷ codes "optional" ∷ [])
 
 -- The keyword of a word, if it is one.
 abbrev pub keyword_of : List ℕ → Option Keyword
 keyword_of w = lookup (same_name w) keyword_words
+
 -- The next token is this word.
 abbrev pub begins_with : List ℕ → List Lexeme → Bool
-begins_with w (AWord v ∷ ts) = same_name v w
-begins_with w _ = false
+begins_with w = elim [ AWord v ∷ ts ↦ same_name v w | _ ↦ false ]
 
 -- ---- Where a line may stand
-
--- The entry that the line would belong to, its file's innermost open block, whether it is in a choice, and whether the
--- symbol defined last may be the modules symbol.
+-- The entry that the line would belong to, its file's innermost open block, whether it is in a choice, and whether it may be a `modules` line.
 pub record LineContext : Type 0 where
   pub entry : EntryKind
   pub own : Option Block
@@ -154,10 +168,13 @@ pub record LineContext : Type 0 where
 -- The kinds of an entry: a symbol's, a choice's, a menu's, and any of these or a comment's.
 abbrev pub is_config : EntryKind → Bool
 is_config e = elim e [ EntryKind.Config ↦ true | _ ↦ false ]
+
 abbrev pub is_choice : EntryKind → Bool
 is_choice e = elim e [ EntryKind.Choice ↦ true | _ ↦ false ]
+
 abbrev pub is_menu : EntryKind → Bool
 is_menu e = elim e [ EntryKind.Menu ↦ true | _ ↦ false ]
+
 abbrev pub is_entry : EntryKind → Bool
 is_entry e = elim e [ EntryKind.Nothing ↦ false | _ ↦ true ]
 
@@ -167,6 +184,7 @@ closing_cause Block.If (Some Block.If) = None
 closing_cause Block.Menu (Some Block.Menu) = None
 closing_cause Block.Choice (Some Block.Choice) = None
 closing_cause b _ = Some cause.Block
+
 -- E10: the line has to be in its place.
 abbrev pub unless_placed : Bool → Option Cause
 unless_placed placed = elim placed [ true ↦ None | false ↦ Some cause.Misplaced ]
@@ -181,21 +199,29 @@ type_placement e k = Some cause.Misplaced
 -- Why a line that begins with the word w and this keyword may not stand here. Its other tokens are ts.
 abbrev pub placement_cause : LineContext → List ℕ → List Lexeme → Keyword → Option Cause
 placement_cause c w ts k = elim k [
-  key.EndIf ↦ closing_cause Block.If c.own | key.EndMenu ↦ closing_cause Block.Menu c.own | key.EndChoice ↦ closing_cause Block.Choice c.own
-  | key.Menu ↦ unless_placed (not c.in_choice) | key.MainMenu ↦ unless_placed (not c.in_choice) | key.Choice ↦ unless_placed (not c.in_choice)
+  | key.EndIf ↦ closing_cause Block.If c.own
+  | key.EndMenu ↦ closing_cause Block.Menu c.own
+  | key.EndChoice ↦ closing_cause Block.Choice c.own
+  | key.Menu ↦ unless_placed (not c.in_choice)
+  | key.MainMenu ↦ unless_placed (not c.in_choice)
+  | key.Choice ↦ unless_placed (not c.in_choice)
   | key.Prompt ↦ unless_placed (is_config c.entry || is_choice c.entry)
   | key.Default ↦ unless_placed (is_config c.entry || is_choice c.entry)
   | key.Help ↦ unless_placed (is_config c.entry || is_choice c.entry)
-  | key.Type t ↦ type_placement c.entry t | key.Def t ↦ unless_placed (is_config c.entry)
-  | key.Select ↦ unless_placed (is_config c.entry) | key.Imply ↦ unless_placed (is_config c.entry) | key.Range ↦ unless_placed (is_config c.entry)
-  | key.Depends ↦ unless_placed (is_entry c.entry) | key.Visible ↦ unless_placed (is_menu c.entry)
+  | key.Type t ↦ type_placement c.entry t
+  | key.Select ↦ unless_placed (is_config c.entry)
+  | key.Imply ↦ unless_placed (is_config c.entry)
+  | key.Range ↦ unless_placed (is_config c.entry)
+  | key.Def t ↦ unless_placed (is_config c.entry)
+  | key.Depends ↦ unless_placed (is_entry c.entry)
+  | key.Visible ↦ unless_placed (is_menu c.entry)
   | key.Modules ↦ unless_placed (is_config c.entry && c.modules)
   | key.«Option» ↦ if begins_with (codes "modules") ts then unless_placed (is_config c.entry && c.modules) else unless_placed (is_config c.entry)
   | key.LeftOut ↦ Some (cause.LeftOut w)
-  | _ ↦ None ]
+  | _ ↦ None
+]
 
 -- ---- The parts of a line
-
 -- An expression, and the tokens after it.
 pub record Front : Type 0 where
   pub tree : Disjunction
@@ -211,30 +237,33 @@ pub record StartsExpression (ts : List Lexeme) (f : Front) : Type 0 where
 -- Why no expression stands here: the longest prefix that begins one is none itself (E8), or a prefix opens too many levels (E12).
 abbrev pub ExpressionFault : List Lexeme → Cause → Type 0
 ExpressionFault ts c = (IsNoExpression (terminals ts) × (c ≡ cause.Syntax)) ⊎ (IsTooDeep (terminals ts) × (c ≡ cause.TooDeep))
--- A token is left of the line.
+
+-- A token is left of the line. The line ends here, and gives a.
 abbrev pub IsMore : List Lexeme → Type 0
 IsMore ts = (t : Lexeme) × (us : List Lexeme) × (ts ≡ t ∷ us)
--- The line ends here, and gives a.
+
 abbrev pub finish : {A : Type 0} → A → List Lexeme → Result A Cause
-finish a [] = Ok a
-finish a (t ∷ ts) = Err cause.Syntax
+finish a = elim [ [] ↦ Ok a | t ∷ ts ↦ Err cause.Syntax ]
 
 -- An expression up to the end of the line: what the line reads as, or why it is refused.
 abbrev pub IsWhole : List Lexeme → Disjunction → Type 0
 IsWhole ts d = StartsExpression ts (record { tree = d; rest = [] })
+
 abbrev pub WholeFault : List Lexeme → Cause → Type 0
 WholeFault ts c = ExpressionFault ts c ⊎ ((f : Front) × StartsExpression ts f × IsMore f.rest × (c ≡ cause.Syntax))
+
 abbrev pub ReadsWhole : (Disjunction → Named) → List Lexeme → Result Named Cause → Type 0
 ReadsWhole make ts (Ok x) = (d : Disjunction) × IsWhole ts d × (x ≡ make d)
 ReadsWhole make ts (Err c) = WholeFault ts c
 
 -- A condition: nothing, or `if` and an expression, up to the end of the line.
 abbrev pub IsCondition : List Lexeme → Option Disjunction → Type 0
-IsCondition ts None = ts ≡ []
-IsCondition ts (Some d) = (begins_with if_word ts ≡ true) × IsWhole (drop 1 ts) d
+IsCondition ts = elim [ None ↦ ts ≡ [] | Some d ↦ (begins_with if_word ts ≡ true) × IsWhole (drop 1 ts) d ]
+
 abbrev pub ConditionFault : List Lexeme → Cause → Type 0
 ConditionFault ts c =
     ((begins_with if_word ts ≡ true) × WholeFault (drop 1 ts) c) ⊎ (IsMore ts × (begins_with if_word ts ≡ false) × (c ≡ cause.Syntax))
+
 abbrev pub ReadsCondition : (Option Disjunction → Named) → List Lexeme → Result Named Cause → Type 0
 ReadsCondition make ts (Ok x) = (w : Option Disjunction) × IsCondition ts w × (x ≡ make w)
 ReadsCondition make ts (Err c) = ConditionFault ts c
@@ -247,54 +276,58 @@ ReadsValue make ts (Err c) = ExpressionFault ts c ⊎ ((f : Front) × StartsExpr
 -- Parts of one token: a word; a text, quoted or a word; an operand; and the name after `select` or `imply`, which is no constant.
 -- A bare `if` is a word, and none of the others.
 abbrev pub word_of : List Lexeme → Result (List ℕ) Cause
-word_of (AWord w ∷ ts) = Ok w
-word_of _ = Err cause.Syntax
+word_of = elim [ AWord w ∷ ts ↦ Ok w | _ ↦ Err cause.Syntax ]
+
 abbrev pub text_of : List Lexeme → Result (List ℕ) Cause
 text_of (AWord w ∷ ts) = if same_name w if_word then Err cause.Syntax else Ok w
 text_of (AQuoted t ∷ ts) = Ok (unescape t)
 text_of _ = Err cause.Syntax
+
 abbrev pub operand_of : List Lexeme → Result Atom Cause
 operand_of (AWord w ∷ ts) = if same_name w if_word then Err cause.Syntax else Ok (WordAtom w)
 operand_of (AQuoted t ∷ ts) = Ok (QuotedAtom t)
 operand_of _ = Err cause.Syntax
+
 abbrev pub named_target : List Lexeme → Result (List ℕ) Cause
-named_target (AWord w ∷ ts) = if same_name w if_word || is_tristate_constant w then Err cause.Syntax else Ok w
-named_target _ = Err cause.Syntax
+named_target = elim [ AWord w ∷ ts ↦ if same_name w if_word || is_tristate_constant w then Err cause.Syntax else Ok w | _ ↦ Err cause.Syntax ]
 
 -- The word w has to stand here. It gives the tokens after it.
 abbrev pub expected : List ℕ → List Lexeme → Result (List Lexeme) Cause
 expected w ts = if begins_with w ts then Ok (drop 1 ts) else Err cause.Syntax
+
 -- One part, and then the next: r is the cause where the part is refused.
 abbrev pub After : {A B : Type 0} → Result A Cause → (A → Result B Cause → Type 0) → Result B Cause → Type 0
 After o Next r = MatchResult o (λ a. Next a r) (λ c. r ≡ Err c)
 
 -- ---- What follows the first word
-
 -- `comment`, `menu`, `mainmenu`: a text.
 abbrev pub ReadsTextLine : (List ℕ → Named) → List Lexeme → Result Named Cause → Type 0
 ReadsTextLine make ts = After (text_of ts) (λ t r. r ≡ finish (make t) (drop 1 ts))
+
 -- `source`: a text that is no pattern.
 abbrev pub plain_text : List ℕ → Result (List ℕ) Cause
 plain_text t = if list_any (λ b. b == byte "*" || b == byte "?" || b == byte "[") t then Err (cause.LeftOut (codes "pattern")) else Ok t
+
 abbrev pub ReadsSource : List Lexeme → Result Named Cause → Type 0
 ReadsSource ts = After (text_of ts) (λ t. After (plain_text t) (λ u r. r ≡ finish (SourceLine u) (drop 1 ts)))
 
 -- `config`, `menuconfig`: a name, which is 1 to 255 bytes that may stand in a name, and none of the words `n`, `m`, `y` and `if`.
 abbrev pub is_good_name : List ℕ → Bool
-is_good_name w =
-    if same_name w if_word || is_tristate_constant w then false
+is_good_name w = if same_name w if_word || is_tristate_constant w then false
     else (nat_le 1 (length w) && nat_le (length w) longest_name && list_all is_name_byte w)
+
 abbrev pub ReadsConfig : List Lexeme → Result Named Cause → Type 0
 ReadsConfig ts =
     After (word_of ts) (λ w. After (finish w (drop 1 ts)) (λ v r. r ≡ (if is_good_name v then Ok (ConfigLine v) else Err (cause.BadName v))))
 
 -- `choice`: nothing.
 abbrev pub choice_line : List Lexeme → Result Named Cause
-choice_line [] = Ok ChoiceLine
-choice_line _ = Err (cause.LeftOut (codes "named choice"))
+choice_line = elim [ [] ↦ Ok ChoiceLine | _ ↦ Err (cause.LeftOut (codes "named choice")) ]
+
 -- `prompt`: a text and a condition. A type: nothing, or the same as `prompt`.
 abbrev pub ReadsPrompt : (InputPrompt Disjunction → Named) → List Lexeme → Result Named Cause → Type 0
 ReadsPrompt make ts = After (text_of ts) (λ t. ReadsCondition (λ w. make (record { text = t; when = w })) (drop 1 ts))
+
 abbrev pub ReadsType : SymbolType → List Lexeme → Result Named Cause → Type 0
 ReadsType k ts r = ((ts ≡ []) × (r ≡ Ok (TypeLine k None))) ⊎ (IsMore ts × ReadsPrompt (λ p. TypeLine k (Some p)) ts r)
 
@@ -308,30 +341,48 @@ option_line ts =
     if begins_with (codes "modules") ts then finish ModulesLine (drop 1 ts)
     else if begins_with (codes "allnoconfig_y") ts then finish IgnoredLine (drop 1 ts)
     else if begins_with (codes "env") ts then Err (cause.LeftOut (codes "option env"))
-    else if begins_with (codes "defconfig_list") ts then Err (cause.LeftOut (codes "option defconfig_list"))
-    else Err cause.Syntax
+    else if begins_with (codes "defconfig_list") ts then Err (cause.LeftOut (codes "option defconfig_list")) else Err cause.Syntax
 
 -- What follows the first word w, by its keyword.
 abbrev pub ReadsRest : List ℕ → Keyword → List Lexeme → Result Named Cause → Type 0
 ReadsRest w k = elim k [
-  key.EndIf ↦ λ ts r. r ≡ finish EndIfLine ts | key.EndMenu ↦ λ ts r. r ≡ finish EndMenuLine ts | key.EndChoice ↦ λ ts r. r ≡ finish EndChoiceLine ts
-  | key.Help ↦ λ ts r. r ≡ finish HelpLine ts | key.Modules ↦ λ ts r. r ≡ finish ModulesLine ts
-  | key.Choice ↦ λ ts r. r ≡ choice_line ts | key.«Option» ↦ λ ts r. r ≡ option_line ts
-  | key.Comment ↦ ReadsTextLine CommentLine | key.Menu ↦ ReadsTextLine MenuLine | key.MainMenu ↦ ReadsTextLine MainMenuLine
-  | key.Source ↦ ReadsSource | key.Config ↦ ReadsConfig | key.Type t ↦ ReadsType t | key.Prompt ↦ ReadsPrompt PromptLine
-  | key.Default ↦ ReadsValue DefaultLine | key.Def t ↦ ReadsValue (DefLine t)
-  | key.Select ↦ ReadsTarget SelectLine | key.Imply ↦ ReadsTarget ImplyLine
+  | key.EndIf ↦ λ ts r. r ≡ finish EndIfLine ts
+  | key.EndMenu ↦ λ ts r. r ≡ finish EndMenuLine ts
+  | key.EndChoice ↦ λ ts r. r ≡ finish EndChoiceLine ts
+  | key.Help ↦ λ ts r. r ≡ finish HelpLine ts
+  | key.Modules ↦ λ ts r. r ≡ finish ModulesLine ts
+  | key.Choice ↦ λ ts r. r ≡ choice_line ts
+  | key.«Option» ↦ λ ts r. r ≡ option_line ts
+  | key.Comment ↦ ReadsTextLine CommentLine
+  | key.Menu ↦ ReadsTextLine MenuLine
+  | key.MainMenu ↦ ReadsTextLine MainMenuLine
+  | key.Source ↦ ReadsSource
+  | key.Config ↦ ReadsConfig
+  | key.Type t ↦ ReadsType t
+  | key.Prompt ↦ ReadsPrompt PromptLine
+  | key.Default ↦ ReadsValue DefaultLine
+  | key.Def t ↦ ReadsValue (DefLine t)
+  | key.Select ↦ ReadsTarget SelectLine
+  | key.Imply ↦ ReadsTarget ImplyLine
   | key.If ↦ ReadsWhole IfLine
   | key.Depends ↦ λ ts. After (expected (codes "on") ts) (ReadsWhole DependsLine)
   | key.Visible ↦ λ ts. After (expected if_word ts) (ReadsWhole VisibleLine)
   | key.Range ↦ λ ts. After (operand_of ts) (λ a. After (operand_of (drop 1 ts)) (λ b. ReadsCondition (RangeLine a b) (drop 2 ts)))
-  | key.LeftOut ↦ λ ts r. r ≡ Err (cause.LeftOut w) ]
+  | key.LeftOut ↦ λ ts r. r ≡ Err (cause.LeftOut w)
+]
 
--- The tokens of a line in this context read as this statement, or are refused: first the first word is looked at, then
--- whether the line may stand here, then what follows the word.
+-- The first word is a keyword. Then the line is in a right place.
+abbrev pub keyword_or_refusal : Option Keyword → Result Keyword Cause
+keyword_or_refusal None = Err cause.Syntax
+keyword_or_refusal (Some k) = Ok k
+
+abbrev pub in_place : Keyword → Option Cause → Result Keyword Cause
+in_place k None = Ok k
+in_place k (Some why) = Err why
+
+-- The tokens of a line read as this statement, or are refused: by the first word, then by where the line stands, then by what follows the word.
 abbrev pub ReadsLine : LineContext → List Lexeme → Result Named Cause → Type 0
 ReadsLine c ts =
     After (word_of ts) (λ w.
-    After (elim (keyword_of w) [ None ↦ Err cause.Syntax | Some k ↦ Ok k ]) (λ k.
-    After (elim (placement_cause c w (drop 1 ts) k) [ None ↦ Ok k | Some why ↦ Err why ]) (λ j.
-    ReadsRest w j (drop 1 ts))))
+    After (keyword_or_refusal (keyword_of w)) (λ k.
+    After (in_place k (placement_cause c w (drop 1 ts) k)) (λ j. ReadsRest w j (drop 1 ts))))

@@ -1,36 +1,24 @@
 -- Trusted: 7. Symbols: what the lines of a tree say of its symbols, its choices and its menu, and the warnings and refusals about them.
 -- The rules are those of the kernel's kconfig-language document ("Menu attributes", "Menu dependencies") and of kconfiglib. The texts are our own.
 -- `ss` are all statements of the tree, in the order in which they are read. `i` and `j` are indices in it, and `k` is the number of a choice.
-use Rattle.std.specs.List.{filter_map, flat_map, list_any, take_while}
-use Rattle.std.specs.Option.{option_and_then, option_or}
-use Rattle.std.specs.Prelude.{Bool, Err, List, None, Ok, Option, Result, Some, [], codes, count_by, decimal, false, filter, if◌then◌else◌, is_none, is_some, length, map, not, option_map, position, reverse, slice_get, slice_index_or, suc, take, true, unwrap_or, ℕ, ◌&&◌, ◌++◌, ◌==◌, ◌||◌, ◌∷◌, ◌≡◌}
+use Rattle.std.specs.{List.list_any, Option.option_or}
+use Rattle.std.specs.Prelude.{Bool, Err, List, None, Ok, Option, Result, Some, [], codes, count_by, decimal, false, filter, filter_map, flat_map, if◌then◌else◌, is_none, is_some, length, map, not, option_and_then, option_map, position, reverse, slice_get, slice_index_or, suc, take, take_while, true, unwrap_or, ℕ, ◌&&◌, ◌++◌, ◌==◌, ◌||◌, ◌∷◌, ◌≡◌}
 pub use Rattle.std.specs.Option.{option_to_list as listed}
 use Rattle.kc_language.specs.Expansion.{Expands, Files, Log, Refused, attributes, bracket_at, defined_name, definitions, enclosing, is_attribute, is_no_attribute, last_of, modules_of, names_of, numbered_lines, numbers, opened, refused}
 use Rattle.kc_language.specs.Expressions.{Form, Leaf, Single, Symbol, same_name, same_symbol, symbol}
 use Rattle.kc_language.specs.Statements.{Cause, ChoiceLine, CommentLine, ConfigLine, DefLine, DefaultLine, DependsLine, EndMenuLine, IfLine, ImplyLine, InputPrompt, Located, MainMenuLine, MenuLine, Numbered, PromptLine, RangeLine, SelectLine, TypeLine, VisibleLine, statements}
-use Rattle.kc_language.specs.declared.expressions.SymId.{SymId}
-use Rattle.kc_language.specs.declared.expressions.SymbolType.{SymbolType}
-use Rattle.kc_language.specs.declared.statements.Block.{Block}
-use Rattle.kc_language.specs.declared.symbols.LineWarning.{LineWarning}
-use Rattle.kc_language.specs.declared.symbols.MenuEntry.{MenuEntry}
-use Rattle.kc_language.specs.declared.symbols.SelectOrImply.{SelectOrImply}
-use Rattle.kc_language.specs.declared.expressions.SymbolType.TheVariants as symbol_type
-use Rattle.kc_language.specs.declared.statements.Block.TheVariants as block
-use Rattle.kc_language.specs.declared.symbols.LineWarning.TheVariants as line_warning
-use Rattle.kc_language.specs.declared.symbols.MenuEntry.TheVariants as menu_entry
-use Rattle.kc_language.specs.declared.symbols.SelectOrImply.TheVariants as select_or_imply
-use Rattle.kc_language.specs.declared.diagnostics.Cause.TheVariants as cause
-use Rattle.kc_language.specs.declared.diagnostics.Warning as declared
-use Rattle.kc_language.specs.declared.diagnostics.Warning.TheVariants as warning
+use Rattle.kc_language.specs.declared.{diagnostics.Cause.TheVariants.{BadDefault, ChoiceMember}, diagnostics.Warning.{TheVariants.{Changed, DefaultNotMember, DefaultOutside, Lost, MalformedLine, MemberTarget, NotAllowed, PromptRedefined, Selected, SetAgain, TextTarget, TypeRedefined, UnknownSymbol, UserOutside, WithoutType}, Warning as WarningAbout}, expressions.SymId.SymId, expressions.SymbolType.SymbolType, statements.Block.Block, symbols.LineWarning.LineWarning, symbols.MenuEntry.MenuEntry, symbols.SelectOrImply.SelectOrImply}
 
 -- The least value of these expressions and, where there is one, of the mode of that choice.
 pub record Condition : Type 0 where
   pub conjuncts : List Form
   pub mode : Option ℕ
+
 -- what counts only under a condition
 pub record Guarded (X : Type 0) : Type 0 where
   pub what : X
   pub when : Condition
+
 pub record Bounds : Type 0 where
   pub low : Leaf
   pub high : Leaf
@@ -45,6 +33,7 @@ pub record SymbolFacts : Type 0 where
   pub ranges : List (Guarded Bounds)
   pub selectors : List (Guarded SymId)
   pub impliers : List (Guarded SymId)
+
 -- what a choice says: its prompt's condition, its defaults that name a member, and its members
 pub record ChoiceFacts : Type 0 where
   pub prompt : Option Condition
@@ -74,79 +63,73 @@ pub record TreeFacts : Type 0 where
 -- ---- What one line says
 -- its type; its prompt
 abbrev pub stated_type : Numbered → Option SymbolType
-stated_type (TypeLine k p) = Some k
-stated_type (DefLine k v w) = Some k
-stated_type _ = None
+stated_type s = elim s [ TypeLine k p ↦ Some k | DefLine k v w ↦ Some k | _ ↦ None ]
+
 abbrev pub prompt_of : Numbered → Option (InputPrompt Form)
-prompt_of (TypeLine k p) = p
-prompt_of (PromptLine p) = Some p
-prompt_of _ = None
+prompt_of s = elim s [ TypeLine k p ↦ p | PromptLine p ↦ Some p | _ ↦ None ]
 
 -- its default and the default's condition
 pub record StatedDefault : Type 0 where
   pub value : Form
   pub when : Option Form
+
 abbrev pub stated_default : Numbered → Option StatedDefault
-stated_default (DefaultLine v w) = Some (record { value = v; when = w })
-stated_default (DefLine k v w) = Some (record { value = v; when = w })
-stated_default _ = None
+stated_default s = elim s [
+  | DefaultLine v w ↦ Some (record { value = v; when = w })
+  | DefLine k v w ↦ Some (record { value = v; when = w })
+  | _ ↦ None
+]
 
 -- whether it selects or implies, which symbol, and under which condition
 abbrev pub target_of : Numbered → Option (SelectOrImply × SymId × Option Form)
-target_of (SelectLine n w) = Some (select_or_imply.Select, n, w)
-target_of (ImplyLine n w) = Some (select_or_imply.Imply, n, w)
-target_of _ = None
+target_of s = elim s [ SelectLine n w ↦ Some (SelectOrImply.Select, n, w) | ImplyLine n w ↦ Some (SelectOrImply.Imply, n, w) | _ ↦ None ]
 
--- the entry that it begins, with n choices before it
+-- the entry that it begins, with n choices before it; that entry's symbol; its choice
 abbrev pub begun : ℕ → Numbered → MenuEntry
-begun n (ConfigLine s) = menu_entry.Symbol s
-begun n ChoiceLine = menu_entry.Choice (record { 0 = n })
-begun n _ = menu_entry.Other
+begun n s = elim s [ ConfigLine s ↦ MenuEntry.Symbol s | ChoiceLine ↦ MenuEntry.Choice (record { 0 = n }) | _ ↦ MenuEntry.Other ]
+
 abbrev pub entry_symbol : MenuEntry → Option SymId
-entry_symbol (menu_entry.Symbol s) = Some s
-entry_symbol _ = None
+entry_symbol e = elim e [ MenuEntry.Symbol s ↦ Some s | _ ↦ None ]
+
 abbrev pub entry_choice : MenuEntry → Option ℕ
-entry_choice (menu_entry.Choice k) = Some k.0
-entry_choice _ = None
+entry_choice e = elim e [ MenuEntry.Choice k ↦ Some k.0 | _ ↦ None ]
 
 -- ---- Symbols, types and values
 abbrev pub is_symbol_of : SymId → Option SymId → Bool
-is_symbol_of s None = false
-is_symbol_of s (Some t) = same_symbol s t
--- the first list and then the second, each symbol once
+is_symbol_of s o = elim o [ None ↦ false | Some t ↦ same_symbol s t ]
+
+-- the first list and then the second, each symbol once; the defined symbols, in the order of their first definition
 abbrev pub all_added : List SymId → List SymId → List SymId
 all_added ids [] = ids
 all_added ids (s ∷ ss) = all_added (if list_any (same_symbol s) ids then ids else ids ++ s ∷ []) ss
--- the defined symbols, in the order of their first definition
+
 abbrev pub defined_symbols : List Numbered → List SymId
 defined_symbols ss = all_added [] (definitions ss)
 
+-- the symbol that an expression names, if it is one name, parentheses aside
+abbrev pub single_symbol : Form → Option SymId
+single_symbol e = elim e [ Single (Symbol s) ↦ Some s | _ ↦ None ]
+
 abbrev pub same_type : SymbolType → SymbolType → Bool
-same_type symbol_type.Undefined symbol_type.Undefined = true
-same_type symbol_type.Bool symbol_type.Bool = true
-same_type symbol_type.Tristate symbol_type.Tristate = true
-same_type symbol_type.Str symbol_type.Str = true
-same_type symbol_type.Int symbol_type.Int = true
-same_type symbol_type.Hex symbol_type.Hex = true
+same_type SymbolType.Undefined SymbolType.Undefined = true
+same_type SymbolType.Bool SymbolType.Bool = true
+same_type SymbolType.Tristate SymbolType.Tristate = true
+same_type SymbolType.Str SymbolType.Str = true
+same_type SymbolType.Int SymbolType.Int = true
+same_type SymbolType.Hex SymbolType.Hex = true
 same_type _ _ = false
+
 -- A `select` or `imply` has no effect on a symbol whose value is a text.
 abbrev pub is_selectable : SymbolType → Bool
-is_selectable symbol_type.Str = false
-is_selectable symbol_type.Int = false
-is_selectable symbol_type.Hex = false
-is_selectable _ = true
+is_selectable k = elim k [ SymbolType.Str ↦ false | SymbolType.Int ↦ false | SymbolType.Hex ↦ false | _ ↦ true ]
+
 abbrev pub has_text : SymbolType → Bool
 has_text k = if is_selectable k then false else true
 
--- the symbol that an expression names, if it is one name, parentheses aside
-abbrev pub single_symbol : Form → Option SymId
-single_symbol (Single (Symbol s)) = Some s
-single_symbol _ = None
-
 abbrev pub is_block : Block → Option Block → Bool
-is_block block.If (Some block.If) = true
-is_block block.Menu (Some block.Menu) = true
-is_block block.Choice (Some block.Choice) = true
+is_block Block.If (Some Block.If) = true
+is_block Block.Menu (Some Block.Menu) = true
+is_block Block.Choice (Some Block.Choice) = true
 is_block _ _ = false
 
 -- the value in a list if the test holds
@@ -157,57 +140,65 @@ when b x = if b then x ∷ [] else []
 module _ (ss : List Numbered) where
   abbrev pub indices : List ℕ
   indices = numbers (length ss)
+
   -- the symbol that a `config` line defines; the statement begins such a block
   abbrev pub symbol_at : ℕ → Option SymId
   symbol_at i = option_and_then defined_name (slice_get ss i)
+
   abbrev pub of_block : Block → ℕ → Bool
   of_block b i = is_block b (opened (bracket_at ss i))
+
   -- the number of the choice that begins here; that of the innermost choice around a statement
   abbrev pub choice_number : ℕ → ℕ
-  choice_number i = count_by (of_block block.Choice) (numbers i)
+  choice_number i = count_by (of_block Block.Choice) (numbers i)
+
   abbrev pub enclosing_choice : ℕ → Option ℕ
-  enclosing_choice i = option_map choice_number (last_of (filter (of_block block.Choice) (enclosing ss i)))
+  enclosing_choice i = option_map choice_number (last_of (filter (of_block Block.Choice) (enclosing ss i)))
 
   -- the `depends on` lines of an entry; its `visible if` lines
   abbrev pub own_dependencies : ℕ → List Form
   own_dependencies i = filter_map (λ s. elim s [ DependsLine e ↦ Some e | _ ↦ None ]) (attributes ss i)
+
   abbrev pub own_visible : ℕ → List Form
   own_visible i = filter_map (λ s. elim s [ VisibleLine e ↦ Some e | _ ↦ None ]) (attributes ss i)
 
   -- what a block asks of the entries in it: a menu its `depends on` lines, an `if` its condition, a choice only its mode
   abbrev pub block_conjuncts : ℕ → List Form
-  block_conjuncts i = if of_block block.Menu i then own_dependencies i else elim (slice_get ss i) [ Some (IfLine e) ↦ e ∷ [] | _ ↦ [] ]
+  block_conjuncts i = if of_block Block.Menu i then own_dependencies i else elim (slice_get ss i) [ Some (IfLine e) ↦ e ∷ [] | _ ↦ [] ]
+
   -- what an entry depends on: what the blocks around it ask, its own `depends on` lines, and the mode of the choice around it
   abbrev pub dependency : ℕ → Condition
   dependency i = record { conjuncts = flat_map block_conjuncts (enclosing ss i) ++ own_dependencies i; mode = enclosing_choice i }
+
   -- what one of its lines says, under the line's own condition too
   abbrev pub guarded : {X : Type 0} → ℕ → X → Option Form → Guarded X
   guarded i x w = record { what = x; when = record { conjuncts = (dependency i).conjuncts ++ listed w; mode = (dependency i).mode } }
 
   -- A prompt or a menu is shown under its entry's dependency, the `visible if` lines of the menus around it, and `own`.
   abbrev pub shown_under : ℕ → List Form → Condition
-  shown_under i own = record {
-    conjuncts = (dependency i).conjuncts ++ flat_map own_visible (filter (of_block block.Menu) (enclosing ss i)) ++ own;
-    mode = (dependency i).mode;
-  }
+  shown_under i own = let asked = flat_map own_visible (filter (of_block Block.Menu) (enclosing ss i)) in
+      record { conjuncts = (dependency i).conjuncts ++ asked ++ own; mode = (dependency i).mode }
+
   -- Of several prompts of one entry the last counts.
   abbrev pub prompt_at : ℕ → Option Condition
   prompt_at i = option_map (λ p. shown_under i (listed p.when)) (last_of (filter_map prompt_of (attributes ss i)))
 
-  -- where a symbol is defined
+  -- where a symbol is defined; the choice of a symbol that is a member in any of its definitions
   abbrev pub definitions_of : SymId → List ℕ
   definitions_of s = filter (λ i. is_symbol_of s (symbol_at i)) indices
-  -- the choice of a symbol that is a member in any of its definitions
+
   abbrev pub choice_of : SymId → Option ℕ
   choice_of s = slice_get (filter_map enclosing_choice (definitions_of s)) 0
+
   -- its first type; without one a member of a choice is bool
   abbrev pub type_of : SymId → SymbolType
   type_of s = unwrap_or (slice_get (filter_map stated_type (flat_map (attributes ss) (definitions_of s))) 0)
-      (if is_some (choice_of s) then symbol_type.Bool else symbol_type.Undefined)
+      (if is_some (choice_of s) then SymbolType.Bool else SymbolType.Undefined)
 
   -- A `select` or `imply` of a member of a choice has no effect.
   abbrev pub can_be_target : SymId → Bool
   can_be_target t = is_none (choice_of t) && is_selectable (type_of t)
+
   -- the symbol that statement i defines, for each line of its entry in which `condition_in` finds a condition
   abbrev pub naming_at : (Numbered → Option (Option Form)) → ℕ → List (Guarded SymId)
   naming_at condition_in i = flat_map (λ s. map (guarded i s) (filter_map condition_in (attributes ss i))) (listed (symbol_at i))
@@ -230,8 +221,10 @@ module _ (ss : List Numbered) where
   -- the members of choice k: the symbols that are defined in it
   abbrev pub members_of : ℕ → List SymId
   members_of k = filter_map symbol_at (filter (λ i. is_some (symbol_at i) && list_any (λ j. j == k) (listed (enclosing_choice i))) indices)
+
   abbrev pub is_member : ℕ → SymId → Bool
   is_member k s = list_any (same_symbol s) (members_of k)
+
   -- A default of a choice counts if it names a member.
   abbrev pub choice_facts : ℕ → ChoiceFacts
   choice_facts i = record {
@@ -240,24 +233,30 @@ module _ (ss : List Numbered) where
         (single_symbol g.value)) (filter_map stated_default (attributes ss i));
     members = members_of (choice_number i);
   }
+
   abbrev pub choices : List ChoiceFacts
-  choices = map choice_facts (filter (of_block block.Choice) indices)
+  choices = map choice_facts (filter (of_block Block.Choice) indices)
 
   -- no statement before i defines the symbol; statement i is the first `config` line of its symbol
   abbrev pub is_first_definition : ℕ → SymId → Bool
   is_first_definition i s = is_none (position (same_symbol s) (definitions (take i ss)))
+
   abbrev pub is_first_definition_at : ℕ → Bool
   is_first_definition_at i = elim (symbol_at i) [ None ↦ false | Some s ↦ is_first_definition i s ]
 
-  -- the statement makes an entry of the menu; the number of this entry
+  -- whether statement i, which is o, makes an entry of the menu; the number of this entry
   abbrev pub shows_entry : ℕ → Option Numbered → Bool
-  shows_entry i (Some (ConfigLine s)) = is_first_definition i s
-  shows_entry i (Some (MenuLine t)) = true
-  shows_entry i (Some EndMenuLine) = true
-  shows_entry i (Some (CommentLine t)) = true
-  shows_entry i _ = false
+  shows_entry i o = elim o [
+    | Some (ConfigLine s) ↦ is_first_definition i s
+    | Some (MenuLine t) ↦ true
+    | Some EndMenuLine ↦ true
+    | Some (CommentLine t) ↦ true
+    | _ ↦ false
+  ]
+
   abbrev pub shown_number : ℕ → ℕ
   shown_number i = count_by (λ j. shows_entry j (slice_get ss j)) (numbers i)
+
   -- the entry; an `endmenu` closes the innermost block
   abbrev pub shown_at : ℕ → Option Numbered → Option Shown
   shown_at i (Some (ConfigLine s)) = if is_first_definition i s then Some (SymbolShown s) else None
@@ -265,42 +264,45 @@ module _ (ss : List Numbered) where
   shown_at i (Some EndMenuLine) = option_map (λ j. EndShown (shown_number j)) (last_of (enclosing ss i))
   shown_at i (Some (CommentLine t)) = Some (CommentShown t (dependency i))
   shown_at i _ = None
+
   abbrev pub entries : List Shown
   entries = filter_map (λ i. shown_at i (slice_get ss i)) indices
 
   -- ---- Warnings and refusals
   -- the entry that a statement belongs to: the one begun by the last statement, up to this one, that is no attribute
   abbrev pub begun_at : ℕ → MenuEntry
-  begun_at j = unwrap_or (option_map (begun (choice_number j)) (slice_get ss j)) menu_entry.Other
+  begun_at j = unwrap_or (option_map (begun (choice_number j)) (slice_get ss j)) MenuEntry.Other
+
   abbrev pub menu_entry_at : ℕ → MenuEntry
   menu_entry_at i = unwrap_or (option_map begun_at
-      (last_of (filter (λ j. elim (slice_get ss j) [ None ↦ false | Some s ↦ is_no_attribute s ]) (numbers (suc i))))) menu_entry.Other
+      (last_of (filter (λ j. elim (slice_get ss j) [ None ↦ false | Some s ↦ is_no_attribute s ]) (numbers (suc i))))) MenuEntry.Other
 
   -- the warnings about statement i, which is s
   abbrev pub line_warnings : ℕ → Numbered → List LineWarning
   line_warnings i s =
       -- K1: a type that is not the type of the symbol
-      flat_map (λ t. flat_map (λ k. when (not (same_type k (type_of t))) (line_warning.TypeRedefined t)) (listed (stated_type s)))
-          (listed (entry_symbol (menu_entry_at i)))
+      flat_map (λ t. flat_map (λ k. when (not (same_type k (type_of t))) (LineWarning.TypeRedefined t)) (listed (stated_type s)))
+      (listed (entry_symbol (menu_entry_at i)))
       -- K2: a prompt, while another stands among the attributes right before it
       ++ when (is_some (prompt_of s) && list_any (λ p. is_some (prompt_of p)) (take_while is_attribute (reverse (take i ss))))
-          (line_warning.PromptRedefined (entry_symbol (menu_entry_at i)))
+      (LineWarning.PromptRedefined (entry_symbol (menu_entry_at i)))
       -- K3: the first definition of a symbol that is no member of a choice and has no type
-      ++ flat_map (λ t. when (is_first_definition_at i && not (is_some (choice_of t) || not (same_type (type_of t) symbol_type.Undefined)))
-          (line_warning.WithoutType t)) (listed (defined_name s))
+      ++ flat_map (λ t. when (is_first_definition_at i && not (is_some (choice_of t) || not (same_type (type_of t) SymbolType.Undefined)))
+      (LineWarning.WithoutType t)) (listed (defined_name s))
       -- K4: a `select` or `imply` of a symbol whose value is a text
-      ++ flat_map (λ t. when (has_text (type_of (t.1))) (line_warning.TextTarget (t.1) (t.0))) (listed (target_of s))
+      ++ flat_map (λ t. when (has_text (type_of (t.1))) (LineWarning.TextTarget (t.1) (t.0))) (listed (target_of s))
       -- K5: a default of a choice that names a symbol, but no member of the choice
-      ++ flat_map (λ k. flat_map (λ g. flat_map (λ t. when (not (is_member k t)) (line_warning.DefaultNotMember t)) (listed (single_symbol g.value)))
-          (listed (stated_default s))) (listed (entry_choice (menu_entry_at i)))
+      ++ flat_map (λ k. flat_map (λ g. flat_map (λ t. when (not (is_member k t)) (LineWarning.DefaultNotMember t)) (listed (single_symbol g.value)))
+      (listed (stated_default s))) (listed (entry_choice (menu_entry_at i)))
       -- K6: a `select` or `imply` of a member of a choice
-      ++ flat_map (λ t. when (is_some (choice_of (t.1))) (line_warning.MemberTarget (t.1) (t.0))) (listed (target_of s))
+      ++ flat_map (λ t. when (is_some (choice_of (t.1))) (LineWarning.MemberTarget (t.1) (t.0))) (listed (target_of s))
 
   -- E13: a second `config` line of a member of a choice; a `config` line in a choice, of a symbol that is not bool
   abbrev pub bad_members : List ℕ
   bad_members = filter (λ i. list_any (λ s. list_any (λ t.
-      (is_some (choice_of t) && not (is_first_definition_at i)) || (is_some (enclosing_choice i) && not (same_type (type_of t) symbol_type.Bool)))
+      (is_some (choice_of t) && not (is_first_definition_at i)) || (is_some (enclosing_choice i) && not (same_type (type_of t) SymbolType.Bool)))
       (listed (defined_name s))) (listed (slice_get ss i))) indices
+
   -- E14: a default of a string, int or hex symbol that is not one operand; a default of a choice that is not the name of a symbol
   abbrev pub bad_defaults : List ℕ
   bad_defaults = filter (λ i. list_any (λ s. list_any (λ g.
@@ -310,52 +312,54 @@ module _ (ss : List Numbered) where
 
 -- a warning with its names and values as texts; its number and text
 abbrev pub Warning : Type 0
-Warning = declared.Warning (List ℕ)
+Warning = WarningAbout (List ℕ)
+
 abbrev pub warning_text : Warning → List ℕ
-warning_text (warning.TypeRedefined name) = codes "K1: type of " ++ name ++ codes " redefined, the first is kept"
-warning_text (warning.PromptRedefined name) = codes "K2: prompt of " ++ name ++ codes " redefined, the last is kept"
-warning_text (warning.WithoutType name) = codes "K3: " ++ name ++ codes " has no type"
-warning_text (warning.TextTarget name word) = codes "K4: " ++ name ++ codes " is not bool or tristate, the " ++ word ++ codes " has no effect"
-warning_text (warning.DefaultNotMember name) = codes "K5: " ++ name ++ codes " is not a member of the choice"
-warning_text (warning.MemberTarget name word) = codes "K6: " ++ name ++ codes " is a choice member, the " ++ word ++ codes " has no effect"
-warning_text (warning.UnknownSymbol name) = codes "K7: unknown symbol " ++ name
-warning_text (warning.NotAllowed name) = codes "K8: value not allowed for " ++ name
-warning_text warning.MalformedLine = codes "K9: malformed line"
-warning_text (warning.SetAgain name) = codes "K10: " ++ name ++ codes " is set again"
-warning_text (warning.Selected name selected_to direct) =
-    codes "K11: " ++ name ++ codes " is selected to " ++ selected_to ++ codes " while its dependency is " ++ direct
-warning_text (warning.UserOutside name value low high) =
+warning_text (TypeRedefined name) = codes "K1: type of " ++ name ++ codes " redefined, the first is kept"
+warning_text (PromptRedefined name) = codes "K2: prompt of " ++ name ++ codes " redefined, the last is kept"
+warning_text (WithoutType name) = codes "K3: " ++ name ++ codes " has no type"
+warning_text (TextTarget name word) = codes "K4: " ++ name ++ codes " is not bool or tristate, the " ++ word ++ codes " has no effect"
+warning_text (DefaultNotMember name) = codes "K5: " ++ name ++ codes " is not a member of the choice"
+warning_text (MemberTarget name word) = codes "K6: " ++ name ++ codes " is a choice member, the " ++ word ++ codes " has no effect"
+warning_text (UnknownSymbol name) = codes "K7: unknown symbol " ++ name
+warning_text (NotAllowed name) = codes "K8: value not allowed for " ++ name
+warning_text MalformedLine = codes "K9: malformed line"
+warning_text (SetAgain name) = codes "K10: " ++ name ++ codes " is set again"
+warning_text (Selected name to direct) = codes "K11: " ++ name ++ codes " is selected to " ++ to ++ codes " while its dependency is " ++ direct
+warning_text (UserOutside name value low high) =
     codes "K12: user value " ++ value ++ codes " of " ++ name ++ codes " is outside " ++ low ++ codes " to " ++ high
-warning_text (warning.DefaultOutside name value low high used) =
+warning_text (DefaultOutside name value low high used) =
     codes "K13: default " ++ value ++ codes " of " ++ name ++ codes " is outside " ++ low ++ codes " to " ++ high ++ codes ", " ++ used ++ codes " is used"
-warning_text (warning.Lost name given value) = codes "K14: " ++ name ++ codes " was given " ++ given ++ codes " and is " ++ value
-warning_text (warning.Changed name old file line new) =
+warning_text (Lost name given value) = codes "K14: " ++ name ++ codes " was given " ++ given ++ codes " and is " ++ value
+warning_text (Changed name old file line new) =
     codes "K15: " ++ name ++ codes " was " ++ old ++ codes " (" ++ file ++ codes ":" ++ decimal line ++ codes ") and is now " ++ new
 
 -- `warning TEXT`; `FILE:LINE: warning TEXT`; both without the line feed
 abbrev pub warning_line : Warning → List ℕ
 warning_line w = codes "warning " ++ warning_text w
+
 abbrev pub located_warning : List ℕ → ℕ → Warning → List ℕ
 located_warning file line w = file ++ codes ":" ++ decimal line ++ codes ": warning " ++ warning_text w
 
 abbrev pub keyword_text : SelectOrImply → List ℕ
-keyword_text select_or_imply.Select = codes "select"
-keyword_text select_or_imply.Imply = codes "imply"
+keyword_text w = elim w [ SelectOrImply.Select ↦ codes "select" | SelectOrImply.Imply ↦ codes "imply" ]
 
 module _ (names : List (List ℕ)) where
-  -- the name of a symbol; that of the symbol of an entry, and `choice` for a choice
+  -- the name of a symbol; that of the symbol of an entry, and `choice` for a choice; a warning with these names
   abbrev pub name_by : SymId → List ℕ
   name_by s = slice_index_or names s.0 []
+
   abbrev pub entry_name : Option SymId → List ℕ
   entry_name o = unwrap_or (option_map name_by o) (codes "choice")
-  -- a warning with the names of its symbols
+
   abbrev pub named : LineWarning → Warning
-  named (line_warning.TypeRedefined t) = warning.TypeRedefined (name_by t)
-  named (line_warning.PromptRedefined o) = warning.PromptRedefined (entry_name o)
-  named (line_warning.WithoutType t) = warning.WithoutType (name_by t)
-  named (line_warning.TextTarget t r) = warning.TextTarget (name_by t) (keyword_text r)
-  named (line_warning.DefaultNotMember t) = warning.DefaultNotMember (name_by t)
-  named (line_warning.MemberTarget t r) = warning.MemberTarget (name_by t) (keyword_text r)
+  named (LineWarning.TypeRedefined t) = TypeRedefined (name_by t)
+  named (LineWarning.PromptRedefined o) = PromptRedefined (entry_name o)
+  named (LineWarning.WithoutType t) = WithoutType (name_by t)
+  named (LineWarning.TextTarget t r) = TextTarget (name_by t) (keyword_text r)
+  named (LineWarning.DefaultNotMember t) = DefaultNotMember (name_by t)
+  named (LineWarning.MemberTarget t r) = MemberTarget (name_by t) (keyword_text r)
+
   -- The modules symbol: that of the first `modules` line; without such a line the one named `MODULES`, if a line mentions it.
   abbrev pub modules_symbol : List Numbered → Option SymId
   modules_symbol ss = option_or (modules_of ss) (option_map symbol (position (same_name (codes "MODULES")) names))
@@ -363,41 +367,46 @@ module _ (names : List (List ℕ)) where
 -- ---- The tree
 -- the first of these refusals or, if there is none, the facts
 abbrev pub unless_refused : List Refused → TreeFacts → Result TreeFacts Refused
-unless_refused [] t = Ok t
-unless_refused (r ∷ rs) t = Err r
+unless_refused refusals = elim refusals [ [] ↦ λ tree. Ok tree | r ∷ rs ↦ λ tree. Err r ]
 
 -- `ls` are the statements with their files and lines, `names` the names of their symbols.
 module _ (names : List (List ℕ)) (ls : List (Located Numbered)) where
   -- the warnings about all statements, as lines
   abbrev pub warnings : List (List ℕ)
-  warnings = flat_map (λ i. elim (slice_get ls i) [ None ↦ [] | Some l ↦
-      map (λ w. located_warning l.file l.line (named names w)) (line_warnings (statements ls) i l.statement) ]) (indices (statements ls))
+  warnings = flat_map (λ i. elim (slice_get ls i) [
+    | None ↦ []
+    | Some l ↦
+        map (λ w. located_warning l.file l.line (named names w)) (line_warnings (statements ls) i l.statement)
+  ]) (indices (statements ls))
+
   -- a refusal at statement i, which names its entry
   abbrev pub refused_at : (List ℕ → Cause) → ℕ → List Refused
   refused_at c i = map (λ l. refused (c (entry_name names (entry_symbol (menu_entry_at (statements ls) i)))) l.file l.line) (listed (slice_get ls i))
+
   abbrev pub whole_list_refusals : List Refused
-  whole_list_refusals =
-      flat_map (refused_at cause.ChoiceMember) (bad_members (statements ls)) ++ flat_map (refused_at cause.BadDefault) (bad_defaults (statements ls))
+  whole_list_refusals = let ss = statements ls in
+      flat_map (refused_at ChoiceMember) (bad_members ss) ++ flat_map (refused_at BadDefault) (bad_defaults ss)
+
   -- the tree, if nothing is refused
   abbrev pub facts_with : TreeFacts
-  facts_with = record {
+  facts_with = let ss = statements ls in record {
     names = names;
-    symbols = map (λ i. symbol_facts (statements ls) (symbol i)) (numbers (length names));
-    defined = defined_symbols (statements ls);
-    choices = choices (statements ls);
-    entries = entries (statements ls);
+    symbols = map (λ i. symbol_facts ss (symbol i)) (numbers (length names));
+    defined = defined_symbols ss;
+    choices = choices ss;
+    entries = entries ss;
     warnings = warnings;
-    main_menu = unwrap_or (last_of (filter_map (λ s. elim s [ MainMenuLine t ↦ Some t | _ ↦ None ]) (statements ls))) (codes "Main menu");
-    modules = option_and_then (λ s. if list_any (same_symbol s) (defined_symbols (statements ls)) then Some s else None)
-        (modules_symbol names (statements ls));
+    main_menu = unwrap_or (last_of (filter_map (λ s. elim s [ MainMenuLine t ↦ Some t | _ ↦ None ]) ss)) (codes "Main menu");
+    modules = option_and_then (λ s. if list_any (same_symbol s) (defined_symbols ss) then Some s else None) (modules_symbol names ss);
   }
+
   abbrev pub tree_with : Result TreeFacts Refused
   tree_with = unless_refused whole_list_refusals facts_with
 
 -- what an expanded list says once its names have numbers, or its refusal
 abbrev pub tree_of_log : Result Log Refused → Result TreeFacts Refused
-tree_of_log (Ok log) = tree_with (names_of (statements log.lines)) (numbered_lines log.lines)
-tree_of_log (Err r) = Err r
+tree_of_log e = elim e [ Ok log ↦ tree_with (names_of (statements log.lines)) (numbered_lines log.lines) | Err r ↦ Err r ]
+
 -- the tree of a root file, or the first refusal
 abbrev pub IsTreeOf : Files → List ℕ → Result TreeFacts Refused → Type 0
 IsTreeOf files root r = (e : Result Log Refused) × Expands files root e × (r ≡ tree_of_log e)

@@ -1,9 +1,7 @@
 -- Trusted: 1. Text: bytes, limits, escapes and numbers.
 -- Our own: the public documents are silent on these. A text is a list of bytes, and `byte "A"` is the one byte of `A`, 65.
-use Rattle.std.specs.Char.{is_digit}
-use Rattle.std.specs.List.{flat_map, list_all}
+use Rattle.std.specs.{Char.{is_digit}, List.{flat_map, list_all}, Str.Parse.{digits_value, starts_with_minus}}
 use Rattle.std.specs.Prelude.{Bool, List, None, Option, Some, [], codes, drop, if◌then◌else◌, length, min, nat_lt, neg_ℤ, option_map, pos, slice_index, ℕ, ℤ, ◌&&◌, ◌++◌, ◌+◌, ◌-◌, ◌==◌, ◌^◌, ◌||◌, ◌∷◌, ◌≡◌}
-use Rattle.std.specs.Str.Parse.{digits_value, starts_with_minus}
 use Prim.Native.String.{String}
 
 abbrev pub byte : String → ℕ
@@ -11,25 +9,34 @@ byte text = slice_index (codes text) 0
 
 -- The limits: the greatest number of each thing that is accepted.
 abbrev pub longest_line : ℕ
-longest_line = 8191           -- bytes of a logical line of a Kconfig file
+longest_line = 8191  -- bytes of a logical line of a Kconfig file
+
 abbrev pub longest_name : ℕ
-longest_name = 255            -- bytes of the name of a defined symbol
+longest_name = 255  -- bytes of the name of a defined symbol
+
 abbrev pub most_levels : ℕ
-most_levels = 64              -- levels of `!` and `(` that are open at once in an expression
+most_levels = 64  -- levels of `!` and `(` that are open at once in an expression
+
 abbrev pub most_symbols : ℕ
-most_symbols = 65535          -- defined symbols
+most_symbols = 65535  -- defined symbols
+
 abbrev pub most_lines : ℕ
-most_lines = 1000000          -- physical lines of all Kconfig files together
+most_lines = 1000000  -- physical lines of all Kconfig files together
+
 abbrev pub most_files : ℕ
-most_files = 64               -- Kconfig files that are open at once
+most_files = 64  -- Kconfig files that are open at once
+
 abbrev pub most_blocks : ℕ
-most_blocks = 64              -- blocks that are open at once
+most_blocks = 64  -- blocks that are open at once
+
 abbrev pub longest_input_line : ℕ
-longest_input_line = 65535    -- bytes before the line feed of a line of an input file
+longest_input_line = 65535  -- bytes before the line feed of a line of an input file
+
 abbrev pub longest_value : ℕ
-longest_value = 65000         -- bytes right of the `=` of a line of an input file
+longest_value = 65000  -- bytes right of the `=` of a line of an input file
+
 abbrev pub longest_prefix : ℕ
-longest_prefix = 64           -- bytes of a prefix, such as `CONFIG_`
+longest_prefix = 64  -- bytes of a prefix, such as `CONFIG_`
 
 -- A count of lines goes up by one, and stays at the greatest number of 64 bits.
 abbrev pub one_more : ℕ → ℕ
@@ -38,6 +45,7 @@ one_more n = min (n + 1) (2 ^ 64 - 1)
 -- Escaping puts a `\` before each `"` and each `\`. Unescaping reads a `\` and the byte after it as that byte; a `\` at the end stays.
 abbrev pub escape : List ℕ → List ℕ
 escape = flat_map (λ b. if b == byte "\"" || b == byte "\\" then byte "\\" ∷ b ∷ [] else b ∷ [])
+
 abbrev pub unescape : List ℕ → List ℕ
 unescape [] = []
 unescape (b ∷ []) = b ∷ []
@@ -47,21 +55,26 @@ unescape (b ∷ c ∷ bs) = if b == byte "\\" then c ∷ unescape bs else b ∷ 
 unfoldable pub natural_of : ℕ → ℕ → List ℕ → Option ℕ
 natural_of radix limit text = if nat_lt 0 (length text) && list_all (λ c. is_digit c radix) text && nat_lt (digits_value radix text) limit
     then Some (digits_value radix text) else None
+
 -- An int is an optional `-` and decimal digits, from -2^63 to 2^63 - 1.
 abbrev pub int_of : List ℕ → Option ℤ
 int_of text = if starts_with_minus text then option_map (λ n. neg_ℤ (pos n)) (natural_of 10 (2 ^ 63 + 1) (drop 1 text))
     else option_map pos (natural_of 10 (2 ^ 63) text)
+
 -- A hex is an optional `0x` or `0X` and hexadecimal digits, from 0 to 2^64 - 1.
 abbrev pub has_hex_prefix : List ℕ → Bool
 has_hex_prefix text = slice_index text 0 == byte "0" && (slice_index text 1 == byte "x" || slice_index text 1 == byte "X")
+
 abbrev pub hex_of : List ℕ → Option ℤ
 hex_of text = option_map pos (natural_of 16 (2 ^ 64) (if has_hex_prefix text then drop 2 text else text))
 
 -- The text begins with `front`, and may end there; the text begins with `front` and goes on.
 abbrev pub BeginsWith : List ℕ → List ℕ → Type 0
 BeginsWith text front = (rest : List ℕ) × (text ≡ front ++ rest)
+
 abbrev pub GoesBeyond : List ℕ → List ℕ → Type 0
 GoesBeyond text front = (b : ℕ) × (rest : List ℕ) × (text ≡ front ++ b ∷ rest)
+
 -- What is left of a text, if anything, with these bytes put before it.
 abbrev pub preceded : List ℕ → Option (List ℕ) → Option (List ℕ)
 preceded bytes = option_map (λ rest. bytes ++ rest)

@@ -1,10 +1,7 @@
 -- Trusted: 11. Texts: what a run writes: the `.config`, the header, the minimal file, and the warnings K11 to K14 about values.
--- Source: our own, in the manner of the kernel's `conf` and kconfiglib (docs/formats.md).
--- The end of the chapter says what reading a written file again gives.
-use Rattle.std.specs.List.{enumerate_from, filter, flat_map, last_or}
-use Rattle.std.specs.Option.{option_map_or}
-use Rattle.std.specs.Prelude.{All, Bool, List, None, Option, Some, [], codes, false, if◌then◌else◌, is_some, length, map, not, option_map, slice_get, slice_index_or, take, true, ℕ, ◌++◌, ◌<◌, ◌==◌, ◌||◌, ◌↔◌, ◌∷◌, ◌≡◌}
-use Rattle.std.specs.Str.Lines.{strip_carriage_return}
+-- Source: our own, in the manner of the kernel's `conf` and kconfiglib (docs/formats.md). At the end: what reading a written file again gives.
+use Rattle.std.specs.{List.{enumerate_from, last_or}, Option.option_map_or, Str.Lines.strip_carriage_return}
+use Rattle.std.specs.Prelude.{All, Bool, List, None, Option, Some, [], codes, false, filter, flat_map, if◌then◌else◌, is_some, length, map, not, option_map, slice_get, slice_index_or, take, true, ℕ, ◌++◌, ◌<◌, ◌==◌, ◌||◌, ◌↔◌, ◌∷◌, ◌≡◌}
 use Rattle.kc_language.specs.ConfigFile.{ArePlacesOf, Places, ReadResult, StreamLocation, Unset, is_within, lines_from, meaning_of, no_input, place_at, reading_of, text_in_config, value_text}
 use Rattle.kc_language.specs.Expressions.{SymbolValue, TextValue, Truth, tri_text}
 use Rattle.kc_language.specs.Lines.{HoldsNoLineFeed}
@@ -12,13 +9,7 @@ use Rattle.kc_language.specs.Symbols.{CommentShown, Condition, EndShown, MenuSho
 use Rattle.kc_language.specs.Text.{byte, escape, has_hex_prefix}
 use Rattle.kc_language.specs.Tokens.{is_blank}
 use Rattle.kc_language.specs.Values.{GivenValue, IsOnlySolution, Solves, SymbolPlace, UserPlace, above, active_range, changes_on_reread, clamped, condition, differs, direct, equations, facts, first_met, given_of, if_within_range, is_n, is_within_range, known_from, name, name_count, number_text, same_given, selected_to, single_text, visibility, visible_text, written}
-use Rattle.kc_language.specs.declared.diagnostics.Warning.TheVariants.{DefaultOutside, Lost, Selected, UserOutside}
-use Rattle.kc_language.specs.declared.expressions.SymId.{SymId}
-use Rattle.kc_language.specs.declared.expressions.SymbolType.{SymbolType}
-use Rattle.kc_language.specs.declared.expressions.SymbolType.TheVariants.{Bool as IsBool, Hex, Int, Str, Tristate, Undefined}
-use Rattle.kc_language.specs.declared.expressions.Tri.{Tri}
-use Rattle.kc_language.specs.declared.expressions.Tri.TheVariants.{M, N, Y}
-use Rattle.kc_language.specs.declared.values.Interval.{Interval}
+use Rattle.kc_language.specs.declared.{diagnostics.Warning.TheVariants.{DefaultOutside, Lost, Selected, UserOutside}, expressions.{SymId.SymId, SymbolType.{SymbolType, TheVariants.{Bool as IsBool, Hex, Int, Str, Tristate, Undefined}}, Tri.{TheVariants.{M, N, Y}, Tri}}, values.Interval.Interval}
 
 -- The line of a `.config`. `called` is the prefix with the symbol's name: `CONFIG_NAME`.
 abbrev pub config_file_line : List ℕ → SymbolValue → List ℕ
@@ -50,11 +41,12 @@ pub record SolutionView : Type 0 where
 -- A menu or a comment is shown unless its condition is n: the lines of its title, and the title of a menu at its end line.
 abbrev pub is_shown : Tri → Bool
 is_shown t = not (is_n t)
+
 abbrev pub title_lines : List ℕ → List ℕ
 title_lines text = codes "\n#\n# " ++ text ++ codes "\n#\n"
+
 abbrev pub shown_title : SolutionView → Option Shown → Option (List ℕ)
-shown_title solution (Some (MenuShown text when)) = if is_shown (solution.truth when) then Some text else None
-shown_title solution _ = None
+shown_title solution e = elim e [ Some (MenuShown text when) ↦ if is_shown (solution.truth when) then Some text else None | _ ↦ None ]
 
 -- An entry has lines: a symbol that is written, a title that is shown, and the end of a menu that is shown. Whether the last
 -- of these entries that has lines is the end of a menu.
@@ -63,31 +55,30 @@ has_lines tree solution (SymbolShown s) = solution.written s
 has_lines tree solution (MenuShown text when) = is_shown (solution.truth when)
 has_lines tree solution (EndShown menu) = is_some (shown_title solution (slice_get tree.entries menu))
 has_lines tree solution (CommentShown text when) = is_shown (solution.truth when)
+
 abbrev pub end_is_last : TreeFacts → SolutionView → List Shown → Bool
-end_is_last tree solution entries =
-    option_map_or (λ e. elim e [ EndShown menu ↦ true | _ ↦ false ]) (last_or None (filter (has_lines tree solution) entries)) false
+end_is_last tree view es = option_map_or (λ e. elim e [ EndShown k ↦ true | _ ↦ false ]) (last_or None (filter (has_lines tree view) es)) false
 
 module _ (tree : TreeFacts) (prefix : List ℕ) (solution : SolutionView) where
   -- The `.config` lines of a symbol and of an entry. An empty line stands between an end line and a symbol's line directly after it.
   abbrev pub symbol_config : SymId → List ℕ
   symbol_config s = config_file_line (prefix ++ name tree s) (solution.value s)
+
   abbrev pub entry_text : Bool → Shown → List ℕ
   entry_text after_end (SymbolShown s) = if solution.written s then (if after_end then codes "\n" else []) ++ symbol_config s else []
   entry_text after_end (MenuShown text when) = if is_shown (solution.truth when) then title_lines text else []
-  entry_text after_end (EndShown menu) = elim (shown_title solution (slice_get tree.entries menu)) [
-      None ↦ [] | Some text ↦ codes "# end of " ++ text ++ codes "\n" ]
+  entry_text after_end (EndShown menu) =
+      elim (shown_title solution (slice_get tree.entries menu)) [ None ↦ [] | Some text ↦ codes "# end of " ++ text ++ codes "\n" ]
   entry_text after_end (CommentShown text when) = if is_shown (solution.truth when) then title_lines text else []
 
   -- The `.config`: a heading, and the lines of the entries in order.
   unfoldable pub config_text : List ℕ
-  config_text =
-      (codes "#\n# Automatically generated file; DO NOT EDIT.\n# " ++ tree.main_menu ++ codes "\n#\n")
+  config_text = (codes "#\n# Automatically generated file; DO NOT EDIT.\n# " ++ tree.main_menu ++ codes "\n#\n")
       ++ flat_map (λ (i, entry). entry_text (end_is_last tree solution (take i tree.entries)) entry) (enumerate_from 0 tree.entries)
 
   -- The header: a heading, and the header lines of the written symbols in order of first definition.
   unfoldable pub header_text : List ℕ
-  header_text =
-      (codes "/*\n * Automatically generated file; DO NOT EDIT.\n * " ++ tree.main_menu ++ codes "\n */\n")
+  header_text = (codes "/*\n * Automatically generated file; DO NOT EDIT.\n * " ++ tree.main_menu ++ codes "\n */\n")
       ++ flat_map (λ s. if solution.written s then header_line (prefix ++ name tree s) (solution.value s) else []) tree.defined
 
   -- The minimal file: the `.config` lines of the symbols that differ, in the same order.
@@ -95,12 +86,12 @@ module _ (tree : TreeFacts) (prefix : List ℕ) (solution : SolutionView) where
   minimal_text = flat_map (λ s. if solution.differs s then symbol_config s else []) tree.defined
 
 -- ---- Warnings about values
-
 -- K12: a visible user value is outside the active range. K13: so is a default that counts, since no user value is `used`.
 abbrev pub user_warnings : SymbolType → List ℕ → Option Interval → Option (List ℕ) → List Warning
 user_warnings kind called (Some r) (Some t) =
     if is_within_range kind (Some r) t then [] else UserOutside called t (number_text kind r.low) (number_text kind r.high) ∷ []
 user_warnings kind called _ _ = []
+
 abbrev pub default_warnings : SymbolType → List ℕ → Option Interval → Option (List ℕ) → Option (List ℕ) → List Warning
 default_warnings kind called r (Some used) d = []
 default_warnings kind called (Some r) None (Some t) =
@@ -111,36 +102,40 @@ default_warnings kind called _ None _ = []
 -- For the symbol `called` with facts `f`. K11: it is selected above its direct dependency. A member of a choice has no warning.
 module _ (tree : TreeFacts) (known : SymId → SymbolValue) where
   abbrev pub select_warnings : List ℕ → SymbolFacts → List Warning
-  select_warnings called f =
-      let to = selected_to tree known f in let limit = direct tree known f in
+  select_warnings called f = let to = selected_to tree known f in let limit = direct tree known f in
       if above to limit then Selected called (tri_text to) (tri_text limit) ∷ [] else []
+
   abbrev pub range_warnings : List ℕ → SymbolFacts → Option GivenValue → List Warning
   range_warnings called f user =
-      let range = active_range tree known f in
-      let given = visible_text user (visibility tree known f) in
+      let range = active_range tree known f in let given = visible_text user (visibility tree known f) in
       user_warnings f.symbol_type called range given
       ++ default_warnings f.symbol_type called range (if_within_range f.symbol_type range given)
-          (option_map (λ g. single_text known g.what) (first_met tree known f.defaults))
+      (option_map (λ g. single_text known g.what) (first_met tree known f.defaults))
+
   abbrev pub warnings_by_type : List ℕ → SymbolFacts → SymbolType → Option GivenValue → List Warning
-  warnings_by_type called f IsBool user = select_warnings called f
-  warnings_by_type called f Tristate user = select_warnings called f
-  warnings_by_type called f Int user = range_warnings called f user
-  warnings_by_type called f Hex user = range_warnings called f user
-  warnings_by_type called f _ user = []
+  warnings_by_type called f kind = elim kind [
+    | IsBool ↦ λ user. select_warnings called f
+    | Tristate ↦ λ user. select_warnings called f
+    | Int ↦ range_warnings called f
+    | Hex ↦ range_warnings called f
+    | _ ↦ λ user. []
+  ]
+
   abbrev pub warnings_by_choice : List ℕ → SymbolFacts → Option ℕ → Option GivenValue → List Warning
-  warnings_by_choice called f (Some c) user = []
-  warnings_by_choice called f None user = warnings_by_type called f f.symbol_type user
+  warnings_by_choice called f c = elim c [ Some c ↦ λ user. [] | None ↦ warnings_by_type called f f.symbol_type ]
+
   abbrev pub warnings_of : List ℕ → Option SymbolFacts → Option GivenValue → List Warning
-  warnings_of called None user = []
-  warnings_of called (Some f) user = warnings_by_choice called f f.choice user
+  warnings_of called o = elim o [ None ↦ λ user. [] | Some f ↦ warnings_by_choice called f f.choice ]
 
 -- A tree, the user's values, and the values of its symbols by number.
 pub record Solution : Type 0 where
   pub tree : TreeFacts
   pub places : Places
   pub values : List SymbolValue
+
 abbrev pub value_of : Solution → ℕ → SymbolValue
 value_of s i = slice_index_or s.values i (TextValue Undefined [])
+
 abbrev pub known : Solution → SymId → SymbolValue
 known s = known_from s.tree (value_of s)
 
@@ -159,37 +154,38 @@ valuation_view tree user V = record {
   differs = λ s. differs tree user V s.0;
   truth = condition tree (known_from tree V);
 }
+
 abbrev pub solution_view : Solution → SolutionView
 solution_view s = valuation_view s.tree (place_at s.places) (value_of s)
 
 -- The warnings K11 to K13 of a solution, in order of first definition; and their lines.
 abbrev pub value_warnings : Solution → List Warning
-value_warnings s =
-    flat_map (λ i. warnings_of s.tree (known s) (name s.tree i) (facts s.tree i) (place_at s.places (SymbolPlace i.0))) s.tree.defined
+value_warnings s = flat_map (λ i. warnings_of s.tree (known s) (name s.tree i) (facts s.tree i) (place_at s.places (SymbolPlace i.0))) s.tree.defined
+
 abbrev pub warnings : Solution → List (List ℕ)
 warnings s = map warning_line (value_warnings s)
 
 -- K14: the value that the line `at` gave last is not the symbol's. Only symbols with a prompt have it, members of a choice too.
 abbrev pub lost_line : StreamLocation → List ℕ → SymbolType → GivenValue → GivenValue → List ℕ
 lost_line at called kind given value = located_warning at.stream at.number (Lost called (value_text kind given) (value_text kind value))
+
 abbrev pub lost_by : List ℕ → SymbolType → Option StreamLocation → Option GivenValue → GivenValue → List (List ℕ)
 lost_by called kind at None value = []
-lost_by called kind (Some at) (Some given) value =
-    if same_given given value then [] else lost_line at called kind given value ∷ []
+lost_by called kind (Some at) (Some given) value = if same_given given value then [] else lost_line at called kind given value ∷ []
 lost_by called kind None _ value = []
+
 abbrev pub has_prompt : List Condition → Bool
-has_prompt [] = false
-has_prompt _ = true
+has_prompt cs = elim cs [ [] ↦ false | _ ↦ true ]
+
 abbrev pub lost_of : List ℕ → Option SymbolFacts → Option StreamLocation → Option GivenValue → GivenValue → List (List ℕ)
 lost_of called None at given value = []
 lost_of called (Some f) at given value = if has_prompt f.prompts then lost_by called f.symbol_type at given value else []
+
 abbrev pub lost_lines : List (Option StreamLocation) → Solution → List (List ℕ)
-lost_lines lines s = flat_map (λ i.
-    lost_of (name s.tree i) (facts s.tree i) (slice_index_or lines i.0 None) (place_at s.places (SymbolPlace i.0)) (given_of (known s i)))
-    s.tree.defined
+lost_lines lines s = flat_map (λ i. lost_of (name s.tree i) (facts s.tree i) (slice_index_or lines i.0 None)
+    (place_at s.places (SymbolPlace i.0)) (given_of (known s i))) s.tree.defined
 
 -- ---- Reading a written file again
-
 -- What reading this text alone gives, under this name.
 abbrev pub read_alone : TreeFacts → List ℕ → List ℕ → List ℕ → ReadResult
 read_alone tree prefix stream text = reading_of tree prefix (no_input false tree) (record { name = stream; bytes = text } ∷ [])
@@ -198,6 +194,7 @@ read_alone tree prefix stream text = reading_of tree prefix (no_input false tree
 pub record IsOneSolution (tree : TreeFacts) (places : Places) (V : ℕ → SymbolValue) : Type 0 where
   pub solves : Solves (name_count tree) (equations tree (place_at places)) V
   pub only : IsOnlySolution (name_count tree) (equations tree (place_at places)) V
+
 abbrev pub HasOtherSolution : TreeFacts → Places → (ℕ → SymbolValue) → Type 0
 HasOtherSolution tree places V =
     (W : ℕ → SymbolValue) → Solves (name_count tree) (equations tree (place_at places)) W → ((i : ℕ) → i < name_count tree → W i ≡ V i) → ⊥
@@ -212,6 +209,7 @@ MinimalGivesBack tree prefix places V =
 -- The minimal file needs each of its lines: with some lines left out, reading it does not give the solution.
 abbrev pub IsOneLine : List ℕ → Type 0
 IsOneLine text = (body : List ℕ) × (text ≡ body ++ codes "\n") × HoldsNoLineFeed body
+
 abbrev pub MinimalNeedsEach : TreeFacts → List ℕ → Places → (ℕ → SymbolValue) → Type 0
 MinimalNeedsEach tree prefix places V =
     (stream : List ℕ) (keep : SymId → Bool) (s : SymId) →
@@ -224,20 +222,22 @@ MinimalNeedsEach tree prefix places V =
 -- No written int or hex value ends in a blank or a carriage return.
 abbrev pub EndsPlainly : List ℕ → Type 0
 EndsPlainly text = (front : List ℕ) (b : ℕ) → text ≡ front ++ b ∷ [] → (is_blank b || b == byte "\r") ≡ false
+
 abbrev pub IsPlainNumber : SymbolValue → Type 0
-IsPlainNumber (TextValue Int text) = EndsPlainly text
-IsPlainNumber (TextValue Hex text) = EndsPlainly text
-IsPlainNumber _ = Unit {0}
+IsPlainNumber v = elim v [ TextValue Int text ↦ EndsPlainly text | TextValue Hex text ↦ EndsPlainly text | _ ↦ Unit {0} ]
+
 abbrev pub HasPlainNumbers : TreeFacts → (ℕ → SymbolValue) → Type 0
 HasPlainNumbers tree V = (s : SymId) → s.0 < name_count tree → written tree (known_from tree V) s ≡ true → IsPlainNumber (V s.0)
 
 -- No title that is written reads as `# CONFIG_NAME is not set`, neither the main menu's nor that of a menu or comment.
 abbrev pub IsNotUnsetLine : List ℕ → List ℕ → Type 0
 IsNotUnsetLine prefix bytes = (called : List ℕ) → meaning_of prefix (strip_carriage_return bytes) ≡ Unset called → ⊥
+
 abbrev pub HasPlainTitle : List ℕ → SolutionView → Shown → Type 0
 HasPlainTitle prefix solution (MenuShown text when) = is_shown (solution.truth when) ≡ true → IsNotUnsetLine prefix (codes "# " ++ text)
 HasPlainTitle prefix solution (CommentShown text when) = is_shown (solution.truth when) ≡ true → IsNotUnsetLine prefix (codes "# " ++ text)
 HasPlainTitle prefix solution _ = Unit {0}
+
 pub record HasPlainTitles (tree : TreeFacts) (prefix : List ℕ) (solution : SolutionView) : Type 0 where
   pub main_menu : IsNotUnsetLine prefix (codes "# " ++ tree.main_menu)
   pub entries : (i : ℕ) (e : Shown) → slice_get tree.entries i ≡ Some e → HasPlainTitle prefix solution e

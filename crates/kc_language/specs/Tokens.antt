@@ -2,22 +2,32 @@
 -- Our own; the operators are those of the kernel's kconfig-language document ("Menu dependencies"). `IsCut` at the end is the rule.
 use Rattle.std.specs.Char.{is_ascii_alphanumeric}
 use Rattle.std.specs.Prelude.{All, Bool, IsTrue, List, None, Option, Some, [], codes, drop, length, slice_index, take, ℕ, ◌++◌, ◌<◌, ◌==◌, ◌||◌, ◌∷◌, ◌≡◌, ◌≢◌, ◌≤◌, ◌⊎◌}
-use Rattle.kc_language.specs.Text.{byte}
-use Rattle.kc_language.specs.declared.tokens.Op.{Op}
-use Rattle.kc_language.specs.declared.tokens.Op.TheVariants as ops
-use Rattle.kc_language.specs.declared.tokens.TextFault.{TextFault}
-use Rattle.kc_language.specs.declared.tokens.TextFault.TheVariants as faults
+use Rattle.kc_language.specs.{Text.{byte}, declared.{tokens.Op.Op, tokens.TextFault.TextFault}}
 
 -- The blanks are space and tab. The bytes of words are the ASCII letters and digits and four others. There are two quotes and eleven operators.
 abbrev pub is_blank : ℕ → Bool
 is_blank b = b == byte " " || b == byte "\t"
+
 abbrev pub is_word_byte : ℕ → Bool
 is_word_byte b = is_ascii_alphanumeric b || b == byte "_" || b == byte "-" || b == byte "/" || b == byte "."
+
 abbrev pub IsQuote : ℕ → Type 0
 IsQuote q = (q ≡ byte "\"") ⊎ (q ≡ byte "'")
+
 abbrev pub op_text : Op → List ℕ
-op_text = elim [ ops.Eq ↦ codes "=" | ops.Ne ↦ codes "!=" | ops.Lt ↦ codes "<" | ops.Gt ↦ codes ">" | ops.Le ↦ codes "<=" | ops.Ge ↦ codes ">="
-    | ops.Not ↦ codes "!" | ops.And ↦ codes "&&" | ops.Or ↦ codes "||" | ops.LParen ↦ codes "(" | ops.RParen ↦ codes ")" ]
+op_text = elim [
+  | Op.Eq ↦ codes "="
+  | Op.Ne ↦ codes "!="
+  | Op.Lt ↦ codes "<"
+  | Op.Gt ↦ codes ">"
+  | Op.Le ↦ codes "<="
+  | Op.Ge ↦ codes ">="
+  | Op.Not ↦ codes "!"
+  | Op.And ↦ codes "&&"
+  | Op.Or ↦ codes "||"
+  | Op.LParen ↦ codes "("
+  | Op.RParen ↦ codes ")"
+]
 
 -- What may stand between two quotes q: a `\` with any byte after it, and any other byte that is not q.
 pub data IsQuotedBody (q : ℕ) : List ℕ → Type 0 where
@@ -29,11 +39,13 @@ pub data IsQuotedBody (q : ℕ) : List ℕ → Type 0 where
 pub data Lexeme : Type 0 where
   AWord AQuoted : List ℕ → Lexeme
   AnOp : Op → Lexeme
+
 -- The text, all of it, spells the token. No text with a `$` does.
 abbrev pub Spells : List ℕ → Lexeme → Type 0
 Spells text (AWord w) = (text ≡ w) × (0 < length w) × All (λ b. IsTrue (is_word_byte b)) w
 Spells text (AQuoted t) = (q : ℕ) × IsQuote q × IsQuotedBody q t × All (λ b. b ≢ byte "$") t × (text ≡ q ∷ t ++ q ∷ [])
 Spells text (AnOp o) = text ≡ op_text o
+
 -- The first n bytes spell the token, and no larger number of them spells one.
 pub record IsLongest (rest : List ℕ) (n : ℕ) (x : Lexeme) : Type 0 where
   pub fits : n ≤ length rest
@@ -43,17 +55,19 @@ pub record IsLongest (rest : List ℕ) (n : ℕ) (x : Lexeme) : Type 0 where
 -- Nothing is left of the line, or only a comment.
 abbrev pub IsEnd : List ℕ → Type 0
 IsEnd rest = (length rest ≡ 0) ⊎ (slice_index rest 0 ≡ byte "#")
+
 -- After a quote q there is a `$` in the quoted text, or anywhere if no quote ends that text.
 abbrev pub HoldsDollar : ℕ → List ℕ → Type 0
 HoldsDollar q body = (k : ℕ) × (k < length body) × (slice_index body k ≡ byte "$")
     × ((inside : List ℕ) → IsQuotedBody q inside × ((more : List ℕ) × (body ≡ inside ++ q ∷ more)) → k < length inside)
+
 -- A macro is a `$`, or a quoted text that holds one. It has an error of its own. Everything else that begins no token is a bad token.
 abbrev pub IsMacro : List ℕ → Type 0
 IsMacro rest = (slice_index rest 0 ≡ byte "$") ⊎ (IsQuote (slice_index rest 0) × HoldsDollar (slice_index rest 0) (drop 1 rest))
+
 abbrev pub IsReason : List ℕ → TextFault → Type 0
-IsReason rest faults.Macro = IsMacro rest
-IsReason rest faults.BadToken = IsMacro rest → ⊥
-IsReason rest _ = ⊥
+IsReason rest = elim [ TextFault.Macro ↦ IsMacro rest | TextFault.BadToken ↦ (IsMacro rest → ⊥) | _ ↦ ⊥ ]
+
 -- Neither the end nor a blank nor a token stands here, for this reason.
 pub record CannotBeCut (rest : List ℕ) (fault : TextFault) : Type 0 where
   pub not_end : IsEnd rest → ⊥
@@ -61,8 +75,7 @@ pub record CannotBeCut (rest : List ℕ) (fault : TextFault) : Type 0 where
   pub no_token : (n : ℕ) (x : Lexeme) → n ≤ length rest → Spells (take n rest) x → ⊥
   pub reason : IsReason rest fault
 
--- A line is cut into tokens from left to right, up to its end or to the first place that cannot be cut. Blanks are skipped.
--- Everywhere else the longest token is taken.
+-- A line is cut from left to right, up to its end or the first place that cannot be cut. Blanks are skipped. Elsewhere the longest token is taken.
 pub data IsCut : List ℕ → List Lexeme → Option TextFault → Type 0 where
   ended : {rest : List ℕ} → IsEnd rest → IsCut rest [] None
   stuck : {rest : List ℕ} {fault : TextFault} → CannotBeCut rest fault → IsCut rest [] (Some fault)

@@ -1,19 +1,12 @@
 -- Trusted: 8. Values: the equation that gives each symbol its value, which symbols are written, and which differ from their defaults.
 -- Sources: the kernel's kconfig-language document and kconfiglib's documentation; "our own" marks what neither of them settles.
 -- `known` is the value of each symbol. Under a tree and `known`, a symbol has limits and an `equation`. A solution satisfies all equations.
-use Rattle.std.specs.Fmt.{digits, signed_decimal}
-use Rattle.std.specs.List.{list_any}
-use Rattle.std.specs.Option.{option_or}
+use Rattle.std.specs.{Fmt.{digits, signed_decimal}, List.list_any, Option.option_or}
 use Rattle.std.specs.Prelude.{Bool, List, None, Option, Some, [], bytes_eq, codes, false, find, if◌then◌else◌, int_lt, is_some, length, map, nat_lt, not, option_and_then, option_map, pos, slice_get, true, unsigned_abs, unwrap_or, ℕ, ℤ, ◌&&◌, ◌++◌, ◌<◌, ◌||◌, ◌≡◌}
 use Rattle.kc_language.specs.Expressions.{Form, Leaf, Single, SymbolValue, TextValue, Truth, greater, greatest, least, lesser, same_symbol, symbol, text, truth_of_value, value}
 use Rattle.kc_language.specs.Symbols.{ChoiceFacts, Condition, Guarded, SymbolFacts, TreeFacts, is_symbol_of, name_by}
 use Rattle.kc_language.specs.Text.{hex_of, int_of}
-use Rattle.kc_language.specs.declared.expressions.SymId.{SymId}
-use Rattle.kc_language.specs.declared.expressions.SymbolType.{SymbolType}
-use Rattle.kc_language.specs.declared.expressions.SymbolType.TheVariants.{Bool as IsBool, Hex, Int, Str, Tristate, Undefined}
-use Rattle.kc_language.specs.declared.expressions.Tri.{Tri}
-use Rattle.kc_language.specs.declared.expressions.Tri.TheVariants.{M, N, Y}
-use Rattle.kc_language.specs.declared.values.Interval.{Interval}
+use Rattle.kc_language.specs.declared.{expressions.{SymId.SymId, SymbolType.{SymbolType, TheVariants.{Bool as IsBool, Hex, Int, Str, Tristate, Undefined}}, Tri.{TheVariants.{M, N, Y}, Tri}}, values.Interval.Interval}
 
 -- What the user gives: a truth value or a text to a symbol, or to a choice the member to select.
 pub data GivenValue : Type 0 where
@@ -23,66 +16,67 @@ pub data GivenValue : Type 0 where
 
 -- Where the user gives it: the symbol or the choice of this number.
 pub data UserPlace : Type 0 where
-  SymbolPlace : ℕ → UserPlace
-  ChoicePlace : ℕ → UserPlace
+  SymbolPlace ChoicePlace : ℕ → UserPlace
 
 -- Truth values: y, n, the same one, the first is greater, and the tristate upgrade of m to y.
 abbrev pub is_yes : GivenValue → Bool
-is_yes (GivenTruth Y) = true
-is_yes _ = false
+is_yes g = elim g [ GivenTruth Y ↦ true | _ ↦ false ]
+
 abbrev pub is_n : Tri → Bool
-is_n N = true
-is_n _ = false
+is_n t = elim t [ N ↦ true | _ ↦ false ]
+
 abbrev pub same_tri : Tri → Tri → Bool
 same_tri N N = true
 same_tri M M = true
 same_tri Y Y = true
 same_tri _ _ = false
+
 abbrev pub above : Tri → Tri → Bool
 above M N = true
 above Y N = true
 above Y M = true
 above _ _ = false
+
 abbrev pub upgrade : Tri → Tri
-upgrade M = Y
-upgrade t = t
+upgrade t = elim t [ N ↦ N | _ ↦ Y ]
 
 -- Values of one symbol are compared as truth values or as texts: `ff` and `0xff` differ. A member is not the value of a symbol.
 abbrev pub same_given : GivenValue → GivenValue → Bool
 same_given (GivenTruth t) (GivenTruth u) = same_tri t u
 same_given (GivenText a) (GivenText b) = bytes_eq a b
 same_given _ _ = false
+
 abbrev pub given_of : SymbolValue → GivenValue
-given_of (Truth t) = GivenTruth t
-given_of (TextValue k bytes) = GivenText bytes
+given_of v = elim v [ Truth t ↦ GivenTruth t | TextValue k bytes ↦ GivenText bytes ]
 
 -- The user's value counts only if the symbol is visible: a truth value up to the visibility, a text as it is (kconfiglib).
 abbrev pub user_or : Option GivenValue → Tri → Tri → Tri
 user_or (Some (GivenTruth u)) vis otherwise = if is_n vis then otherwise else lesser u vis
 user_or _ vis otherwise = otherwise
+
 abbrev pub visible_text : Option GivenValue → Tri → Option (List ℕ)
 visible_text (Some (GivenText t)) vis = if is_n vis then None else Some t
 visible_text _ vis = None
 
--- Numbers are decimal for int and hexadecimal for hex; a text that is no number counts as 0. A bound is written with `0x` and lower-case
--- digits for hex, which is never negative (all our own).
+-- Numbers are decimal for int and hexadecimal for hex; a text that is no number counts as 0. A hex bound, which is never negative, is
+-- written with `0x` and lower-case digits (all our own).
 abbrev pub number_as : SymbolType → List ℕ → Option ℤ
-number_as Int bytes = int_of bytes
-number_as Hex bytes = hex_of bytes
-number_as _ bytes = None
+number_as k = elim k [ Int ↦ int_of | Hex ↦ hex_of | _ ↦ λ bytes. None ]
+
 abbrev pub number_or_zero : SymbolType → List ℕ → ℤ
 number_or_zero k bytes = unwrap_or (number_as k bytes) (pos 0)
-abbrev pub number_text : SymbolType → ℤ → List ℕ
-number_text Hex n = codes "0x" ++ digits 16 false (unsigned_abs n)
-number_text _ n = signed_decimal n
 
--- Ranges: both bounds are inside. A number below the low bound becomes the low bound, else one above the high bound becomes the high bound;
--- any other keeps its text.
+abbrev pub number_text : SymbolType → ℤ → List ℕ
+number_text k = elim k [ Hex ↦ λ n. codes "0x" ++ digits 16 false (unsigned_abs n) | _ ↦ signed_decimal ]
+
+-- Ranges: both bounds are inside. A number below the low bound becomes that bound, else one above the high bound that one; any other keeps its text.
 abbrev pub is_within_range : SymbolType → Option Interval → List ℕ → Bool
 is_within_range k None t = true
 is_within_range k (Some r) t = not (int_lt (number_or_zero k t) r.low) && not (int_lt r.high (number_or_zero k t))
+
 abbrev pub if_within_range : SymbolType → Option Interval → Option (List ℕ) → Option (List ℕ)
 if_within_range k range t = option_and_then (λ t. if is_within_range k range t then Some t else None) t
+
 abbrev pub clamped : SymbolType → Option Interval → List ℕ → List ℕ
 clamped k None t = t
 clamped k (Some r) t =
@@ -91,23 +85,29 @@ clamped k (Some r) t =
 -- Symbols and choices of a tree by number; each name that the tree mentions is a symbol.
 abbrev pub name_count : TreeFacts → ℕ
 name_count tree = length tree.symbols
+
 abbrev pub is_mentioned : TreeFacts → SymId → Bool
 is_mentioned tree s = nat_lt s.0 (name_count tree)
+
 abbrev pub facts : TreeFacts → SymId → Option SymbolFacts
 facts tree s = slice_get tree.symbols s.0
+
 abbrev pub type_in : Option SymbolFacts → SymbolType
 type_in f = elim f [ None ↦ Undefined | Some f ↦ f.symbol_type ]
+
 abbrev pub name : TreeFacts → SymId → List ℕ
 name tree s = name_by tree.names s
+
 abbrev pub choice_at : TreeFacts → ℕ → Option ChoiceFacts
 choice_at tree c = slice_get tree.choices c
 
 -- The value of the modules symbol, n if there is none; the text of a default, which is empty if the default is not one operand.
 abbrev pub modules_value : (SymId → SymbolValue) → Option SymId → Tri
 modules_value known modules = elim modules [ None ↦ N | Some m ↦ truth_of_value (known m) ]
+
 abbrev pub single_text : (SymId → SymbolValue) → Form → List ℕ
-single_text known (Single o) = text known o
-single_text known _ = []
+single_text known e = elim e [ Single o ↦ text known o | _ ↦ [] ]
+
 abbrev pub default_text : (SymId → SymbolValue) → Option (Guarded Form) → List ℕ
 default_text known default = elim default [ None ↦ [] | Some g ↦ single_text known g.what ]
 
@@ -115,6 +115,7 @@ module _ (tree : TreeFacts) (known : SymId → SymbolValue) where
   -- The mode of a choice: y if its prompt's condition is not n (a choice of bools; kconfiglib's `tri_value` of a choice), n without a prompt.
   abbrev pub and_value : List Form → Tri
   and_value conjuncts = least (map (value known tree.modules) conjuncts)
+
   abbrev pub mode_of : Option ChoiceFacts → Tri
   mode_of c = upgrade (elim (option_and_then (λ c. c.prompt) c) [ None ↦ N | Some p ↦ and_value p.conjuncts ])
 
@@ -122,32 +123,38 @@ module _ (tree : TreeFacts) (known : SymId → SymbolValue) where
   -- first whose condition is not n (the document: "the first default whose condition is met").
   abbrev pub condition : Condition → Tri
   condition c = lesser (and_value c.conjuncts) (elim c.mode [ None ↦ Y | Some k ↦ mode_of (choice_at tree k) ])
+
   abbrev pub conditions : List Condition → Tri
   conditions cs = greatest (map condition cs)
+
   abbrev pub first_met : {X : Type 0} → List (Guarded X) → Option (Guarded X)
   first_met gs = find (λ g. not (is_n (condition g.when))) gs
 
   -- A type is tristate if it says so and the modules symbol is not n. In any other type m counts as y (kconfiglib).
   abbrev pub is_tristate : SymbolType → Bool
-  is_tristate Tristate = not (is_n (modules_value known tree.modules))
-  is_tristate _ = false
+  is_tristate k = elim k [ Tristate ↦ not (is_n (modules_value known tree.modules)) | _ ↦ false ]
+
   abbrev pub upgraded : SymbolType → Tri → Tri
-  upgraded Tristate t = if is_n (modules_value known tree.modules) then upgrade t else t
-  upgraded _ t = upgrade t
+  upgraded k = elim k [ Tristate ↦ λ t. if is_n (modules_value known tree.modules) then upgrade t else t | _ ↦ upgrade ]
 
   -- The limits of a symbol: the greatest condition of its prompts (kconfiglib's `visibility`), the greatest `depends on` of its definitions
   -- (its `direct_dep`), and the greatest min(other symbol's value, condition) of the `select` lines that name it ("reverse dependencies") and
   -- of the `imply` lines ("weak reverse dependencies").
   abbrev pub visibility : SymbolFacts → Tri
   visibility f = upgraded f.symbol_type (conditions f.prompts)
+
   abbrev pub is_visible : SymbolFacts → Bool
   is_visible f = not (is_n (visibility f))
+
   abbrev pub direct : SymbolFacts → Tri
   direct f = upgraded f.symbol_type (conditions f.dependencies)
+
   abbrev pub selector_values : List (Guarded SymId) → Tri
   selector_values gs = greatest (map (λ g. lesser (truth_of_value (known g.what)) (condition g.when)) gs)
+
   abbrev pub selected_to : SymbolFacts → Tri
   selected_to f = upgraded f.symbol_type (selector_values f.selectors)
+
   abbrev pub implied_to : SymbolFacts → Tri
   implied_to f = upgraded f.symbol_type (selector_values f.impliers)
 
@@ -155,8 +162,10 @@ module _ (tree : TreeFacts) (known : SymId → SymbolValue) where
   -- document: "select should be used with care"). An `imply` raises the default, up to the direct dependency (the order is our own).
   abbrev pub default_value : Option (Guarded Form) → Tri
   default_value default = elim default [ None ↦ N | Some g ↦ lesser (value known tree.modules g.what) (condition g.when) ]
+
   abbrev pub implied_value : SymbolFacts → Tri
   implied_value f = let d = default_value (first_met f.defaults) in if is_n (implied_to f) then d else lesser (greater d (implied_to f)) (direct f)
+
   abbrev pub truth_equation : SymbolFacts → Option GivenValue → Tri
   truth_equation f user = upgraded f.symbol_type (greater (user_or user (visibility f) (implied_value f)) (selected_to f))
 
@@ -168,6 +177,7 @@ module _ (tree : TreeFacts) (known : SymId → SymbolValue) where
   abbrev pub active_range : SymbolFacts → Option Interval
   active_range f = let number = λ (bound : Leaf). number_or_zero f.symbol_type (text known bound) in
       option_map (λ r. record { low = number r.what.low; high = number r.what.high }) (first_met f.ranges)
+
   abbrev pub number_equation : SymbolFacts → Option GivenValue → List ℕ
   number_equation f user = unwrap_or (if_within_range f.symbol_type (active_range f) (visible_text user (visibility f)))
       (clamped f.symbol_type (active_range f) (default_text known (first_met f.defaults)))
@@ -176,14 +186,17 @@ module _ (tree : TreeFacts) (known : SymId → SymbolValue) where
   -- is not n and that names a visible member, else the first visible member (the document's "choices"). With the mode n it selects none.
   abbrev pub visible : SymId → Bool
   visible s = elim (facts tree s) [ None ↦ false | Some f ↦ not (is_n (conditions f.prompts)) ]
+
   abbrev pub visible_member : ChoiceFacts → SymId → Bool
   visible_member c m = list_any (same_symbol m) c.members && visible m
+
   abbrev pub chosen_member : ChoiceFacts → Option GivenValue → Option SymId
-  chosen_member c (Some (Member m)) = if visible_member c m then Some m else None
-  chosen_member c _ = None
+  chosen_member c user = elim user [ Some (Member m) ↦ if visible_member c m then Some m else None | _ ↦ None ]
+
   abbrev pub unselected : ChoiceFacts → Option SymId
   unselected c = option_or (option_map (λ g. g.what) (find (λ g. not (is_n (condition g.when)) && visible_member c g.what) c.defaults))
       (find visible c.members)
+
   abbrev pub selected : Option ChoiceFacts → Option GivenValue → Option SymId
   selected None user = None
   selected (Some c) user = if is_n (mode_of (Some c)) then None else option_or (chosen_member c user) (unselected c)
@@ -196,9 +209,11 @@ module _ (tree : TreeFacts) (known : SymId → SymbolValue) where
   by_type s f Int user = TextValue Int (number_equation f user)
   by_type s f Hex user = TextValue Hex (number_equation f user)
   by_type s f _ user = Truth (truth_equation f user)
+
   abbrev pub by_choice : SymId → SymbolFacts → Option ℕ → Option GivenValue → SymbolValue
   by_choice s f (Some c) user = Truth (if is_symbol_of s (selected (choice_at tree c) user) then Y else N)
   by_choice s f None user = by_type s f f.symbol_type user
+
   abbrev pub equation : SymId → Option SymbolFacts → Option GivenValue → SymbolValue
   equation s None user = TextValue Undefined (name tree s)
   equation s (Some f) user = by_choice s f f.choice user
@@ -208,11 +223,15 @@ module _ (tree : TreeFacts) (known : SymId → SymbolValue) where
   abbrev pub written_truth : SymbolFacts → Bool
   written_truth f = is_visible f || (not (is_n (default_value (first_met f.defaults))) || (not (is_n (selected_to f)) ||
       (not (is_n (implied_to f)) && not (is_n (direct f)))))
+
   abbrev pub written_by_type : SymbolFacts → SymbolType → Bool
-  written_by_type f Undefined = false
-  written_by_type f IsBool = written_truth f
-  written_by_type f Tristate = written_truth f
-  written_by_type f _ = is_visible f || is_some (first_met f.defaults)
+  written_by_type f k = elim k [
+    | Undefined ↦ false
+    | IsBool ↦ written_truth f
+    | Tristate ↦ written_truth f
+    | _ ↦ is_visible f || is_some (first_met f.defaults)
+  ]
+
   abbrev pub written : SymId → Bool
   written s = elim (facts tree s) [ None ↦ false | Some f ↦ elim f.choice [ None ↦ written_by_type f f.symbol_type | Some c ↦ is_visible f ] ]
 
@@ -221,15 +240,17 @@ module _ (tree : TreeFacts) (known : SymId → SymbolValue) where
   abbrev pub changes_on_reread_by : SymbolFacts → Option ℕ → Tri → Bool
   changes_on_reread_by f (Some c) t = false
   changes_on_reread_by f None t = is_tristate f.symbol_type && (is_visible f && (above t (visibility f) && above t (selected_to f)))
+
   abbrev pub changes_on_reread_facts : Option SymbolFacts → Tri → Bool
-  changes_on_reread_facts None t = false
-  changes_on_reread_facts (Some f) t = changes_on_reread_by f f.choice t
+  changes_on_reread_facts o = elim o [ None ↦ λ t. false | Some f ↦ changes_on_reread_by f f.choice ]
 
 -- V gives each symbol its value by number; a symbol past the last has an empty name.
 abbrev pub known_from : TreeFacts → (ℕ → SymbolValue) → SymId → SymbolValue
 known_from tree V s = if is_mentioned tree s then V s.0 else TextValue Undefined (name tree s)
+
 abbrev pub changes_on_reread : TreeFacts → (ℕ → SymbolValue) → ℕ → Bool
 changes_on_reread tree V i = changes_on_reread_facts tree (known_from tree V) (facts tree (symbol i)) (truth_of_value (V i))
+
 abbrev pub default_selection : TreeFacts → (ℕ → SymbolValue) → ℕ → Option SymId
 default_selection tree V c = selected tree (known_from tree V) (choice_at tree c) None
 
@@ -237,14 +258,17 @@ default_selection tree V c = selected tree (known_from tree V) (choice_at tree c
 module _ (tree : TreeFacts) where
   abbrev pub user_place : ℕ → UserPlace
   user_place i = elim (facts tree (symbol i)) [ None ↦ SymbolPlace i | Some f ↦ elim f.choice [ None ↦ SymbolPlace i | Some c ↦ ChoicePlace c ] ]
+
   abbrev pub rhs : ℕ → Option GivenValue → (ℕ → SymbolValue) → SymbolValue
   rhs i user V = equation tree (known_from tree V) (symbol i) (facts tree (symbol i)) user
+
   abbrev pub equations : (UserPlace → Option GivenValue) → ℕ → (ℕ → SymbolValue) → SymbolValue
   equations user i V = rhs i (user (user_place i)) V
 
 -- V solves if each of the first n symbols has the value that its equation gives. It is the only solution if all that solve agree with it.
 abbrev pub Solves : {A : Type 0} → ℕ → (ℕ → (ℕ → A) → A) → (ℕ → A) → Type 0
 Solves n rhs V = (s : ℕ) → s < n → V s ≡ rhs s V
+
 abbrev pub IsOnlySolution : {A : Type 0} → ℕ → (ℕ → (ℕ → A) → A) → (ℕ → A) → Type 0
 IsOnlySolution {A} n rhs V = (W : ℕ → A) → Solves n rhs W → (s : ℕ) → s < n → W s ≡ V s
 
@@ -253,8 +277,10 @@ IsOnlySolution {A} n rhs V = (W : ℕ → A) → Solves n rhs W → (s : ℕ) �
 module _ (tree : TreeFacts) (user : UserPlace → Option GivenValue) (V : ℕ → SymbolValue) where
   abbrev pub selection : ℕ → Option SymId
   selection c = selected tree (known_from tree V) (choice_at tree c) (user (ChoicePlace c))
+
   abbrev pub differs_at : ℕ → UserPlace → Bool
   differs_at i (SymbolPlace j) = not (same_given (given_of (V i)) (given_of (rhs tree i None V)))
   differs_at i (ChoicePlace c) = is_symbol_of (symbol i) (selection c) && not (is_symbol_of (symbol i) (default_selection tree V c))
+
   abbrev pub differs : ℕ → Bool
   differs i = differs_at i (user_place tree i)

@@ -1,4 +1,4 @@
--- Trusted: Parts of the definitions of Needs, by names of their own.
+-- For proofs: Parts of the definitions of Needs, by names of their own.
 use Rattle.std.specs.List.{list_any}
 use Rattle.std.specs.Prelude.{List, Some, false, find, nat_eq, ℕ, ◌&&◌, ◌<◌, ◌≡◌}
 use Rattle.kc_language.specs.Needs.{needs, unordered_after}

@@ -1,9 +1,9 @@
 -- Trusted: Parts of the definitions of Statements, by names of their own.
 use Rattle.std.specs.List.{list_any}
 use Rattle.std.specs.Map.{lookup}
-use Rattle.std.specs.Prelude.{Bool, Err, List, None, Ok, Option, Result, Some, [], codes, drop, false, if◌then◌else◌, ℕ, ◌==◌, ◌||◌, ◌∷◌}
+use Rattle.std.specs.Prelude.{Bool, Err, List, Ok, Option, Result, [], codes, drop, false, if◌then◌else◌, ℕ, ◌==◌, ◌||◌, ◌∷◌}
 use Rattle.kc_language.specs.Expressions.{Disjunction, Form, if_word, same_name}
-use Rattle.kc_language.specs.Statements.{After, Cause, ConfigLine, DependsLine, Front, LineContext, Named, RangeLine, ReadsCondition, ReadsRest, ReadsWhole, VisibleLine, expected, is_good_name, operand_of, placement_cause}
+use Rattle.kc_language.specs.Statements.{After, Cause, ConfigLine, DependsLine, Front, LineContext, Named, RangeLine, ReadsCondition, ReadsRest, ReadsWhole, VisibleLine, expected, in_place, is_good_name, operand_of, placement_cause}
 use Rattle.kc_language.specs.Text.{byte}
 use Rattle.kc_language.specs.Tokens.{Lexeme}
 use Rattle.kc_language.specs.declared.statements.Keyword.{Keyword}
@@ -110,15 +110,6 @@ ReadsVisible ts r = After (expected if_word ts) (λ us. ReadsWhole VisibleLine u
 
 abbrev pub ReadsRange : List Lexeme → Result Named Cause → Type 0
 ReadsRange ts = After (operand_of ts) (λ a. After (operand_of (drop 1 ts)) (λ b. ReadsCondition (RangeLine a b) (drop 2 ts)))
-
--- nothing is wrong with the placement
-abbrev pub in_place : Keyword → Option Cause → Result Keyword Cause
-in_place k None = Ok k
-in_place k (Some why) = Err why
-
-abbrev pub keyword_or_refusal : Option Keyword → Result Keyword Cause
-keyword_or_refusal None = Err cause.Syntax
-keyword_or_refusal (Some k) = Ok k
 
 -- the placement, and then the rest
 abbrev pub ReadsPlaced : LineContext → List ℕ → List Lexeme → Keyword → Result Named Cause → Type 0

@@ -3,7 +3,6 @@
 ghost use Rattle.std.specs.Prelude.{◌≡◌, ◌+◌, ◌||◌, IfErr, OnOk, None, Some, length, option_map};
 ghost use Rattle.std.specs.List.{list_any};
 ghost use Rattle.kc_language.specs.Expansion as blocks;
-ghost use Rattle.kc_language.specs.Expansion as expansion;
 ghost use Rattle.kc_read.specs.PartsOfExpansion as expansion_parts;
 ghost use Rattle.kc_read.specs.Progress.{IsShallow, is_closer, open_blocks_after};
 ghost use Rattle.kc_read.specs.StatementViews.{head_view};
@@ -61,7 +60,7 @@ fn entry_of(head: &Head) -> EntryKind
 }
 
 fn is_choice(block: Block) -> bool
-    ensures { result ≡ expansion.is_choice block }
+    ensures { result ≡ blocks.is_choice block }
 {
     match block {
         Block::Choice => true,
@@ -79,7 +78,7 @@ impl Frame {
 
     /// Whether a choice is open.
     pub(crate) fn is_in_choice(&self) -> bool
-        ensures { result ≡ (self.now.in_choice || list_any (λ o. expansion.is_choice o.block) self.now.blocks.items) }
+        ensures { result ≡ (self.now.in_choice || list_any (λ o. blocks.is_choice o.block) self.now.blocks.items) }
     {
         self.in_choice || self.blocks.iter().any(|opener| is_choice(opener.block))
     }

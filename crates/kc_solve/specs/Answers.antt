@@ -10,8 +10,6 @@ use Rattle.kc_language.specs.Symbols.{Condition, SymbolFacts, TreeFacts, Shown, 
 use Rattle.kc_language.specs.ConfigFile.{place_at}
 use Rattle.kc_language.specs.Values as values
 use Rattle.kc_language.specs.Values.{facts, type_in}
-use Rattle.kc_language.specs.Values as value
-use Rattle.kc_language.specs.Values as writing
 use Rattle.kc_language.specs.Texts.{Solution, known, value_of}
 
 -- the type of a symbol, its truth value and its text, as values that expressions read
@@ -34,7 +32,7 @@ TellsKnown s = (id : SymId) → values_by (type_of s) (tri_of s) (text_of s) id 
 
 abbrev pub visibility_by : TreeFacts → (SymId → SymbolValue) → Option SymbolFacts → Tri
 visibility_by tree known None = N
-visibility_by tree known (Some f) = value.visibility tree known f
+visibility_by tree known (Some f) = values.visibility tree known f
 
 -- the greatest condition of a symbol's prompts (kconfiglib's `visibility`); a name that is not defined has none
 abbrev pub visibility : Solution → SymId → Tri
@@ -42,7 +40,7 @@ visibility s id = visibility_by s.tree (known s) (facts s.tree id)
 
 -- what a condition is worth
 abbrev pub truth : Solution → Condition → Tri
-truth s when = value.condition s.tree (known s) when
+truth s when = values.condition s.tree (known s) when
 
 -- when an entry is shown: a menu or comment under its condition
 abbrev pub shown : Solution → Option Shown → Tri
@@ -54,7 +52,7 @@ shown s (Some (CommentShown text when)) = truth s when
 
 -- whether a symbol has a line in the .config
 abbrev pub written : Solution → SymId → Bool
-written s id = writing.written s.tree (known s) id
+written s id = values.written s.tree (known s) id
 
 -- the selection of a choice, and the one without the user's member
 abbrev pub selection : Solution → ℕ → Option SymId

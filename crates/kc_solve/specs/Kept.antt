@@ -11,7 +11,6 @@ use Rattle.kc_language.specs.Values as values
 use Rattle.kc_language.specs.Needs.{IsAccepted}
 use Rattle.kc_values.specs.Table.{known_in}
 use Rattle.kc_values.specs.PartsOfTexts as warning
-use Rattle.kc_language.specs.Values as writing
 use Rattle.kc_values.specs.declared.table.Value.{Value}
 use Rattle.kc_solve.specs.Answers.{visibility_by}
 use Rattle.kc_language.specs.Texts.{Solution}
@@ -41,5 +40,5 @@ pub record IsSolved (tree : TreeFacts) (places : Places) (table : List (Option V
   pub defaults_are : defaults ≡ map (values.default_selection tree (valuation tree table)) (range_with_len 0 (length tree.choices))
   pub visibilities_are : visibilities ≡ map (λ i. visibility_by tree (known_from tree (valuation tree table)) (facts tree (symbol i))) (range_with_len 0 (name_count tree))
   pub differing_are : differing ≡ map (values.differs tree (place_at places) (valuation tree table)) (range_with_len 0 (name_count tree))
-  pub written_are : written ≡ map (λ i. writing.written tree (known_from tree (valuation tree table)) (symbol i)) (range_with_len 0 (name_count tree))
+  pub written_are : written ≡ map (λ i. values.written tree (known_from tree (valuation tree table)) (symbol i)) (range_with_len 0 (name_count tree))
   pub warnings_are : warnings ≡ warning.warnings_of_values tree (place_at places) (valuation tree table)

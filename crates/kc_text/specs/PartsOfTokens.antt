@@ -1,4 +1,4 @@
--- Trusted: Parts of the definitions of Tokens, by names of their own.
+-- For proofs: Parts of the definitions of Tokens, by names of their own.
 use Rattle.std.specs.Prelude.{IsTrue, List, length, slice_index, take, ℕ, ◌++◌, ◌∷◌, ◌≡◌, ◌≤◌}
 use Rattle.kc_language.specs.Tokens.{IsQuotedBody, Lexeme, Spells, is_blank}
 

@@ -15,7 +15,6 @@ use Rattle.kc_values.specs.PartsOfValues.{same_value}
 use Rattle.kc_order.specs.Minimal.{KeepsWhatDiffers}
 use Rattle.kc_language.specs.Values as v
 use Rattle.kc_values.specs.PartsOfValues as v_parts
-use Rattle.kc_values.specs.PartsOfValues as sol
 use Rattle.kc_values.specs.Members.{MembersAreTheirs}
 use Rattle.kc_values.specs.GivenLines.{minimal_line, TellsDiffering}
 use Rattle.kc_values.proofs.SameValue.{same_value_itself, same_again}
@@ -100,11 +99,11 @@ module _ (tree : TreeFacts) (k : SymId → SymbolValue) where
     fixed_by_type s Int user = number_fixed Int user
     fixed_by_type s Hex user = number_fixed Hex user
 
-    fixed_by_choice : (s : SymId) (i : ℕ) (c : Option ℕ) (user : Option GivenValue) → sol.user_place_by i c ≡ SymbolPlace i → Again (v.by_choice tree k s f c) (v.by_choice tree k s f c user)
+    fixed_by_choice : (s : SymId) (i : ℕ) (c : Option ℕ) (user : Option GivenValue) → v_parts.user_place_by i c ≡ SymbolPlace i → Again (v.by_choice tree k s f c) (v.by_choice tree k s f c user)
     fixed_by_choice s i None user e = fixed_by_type s f.symbol_type user
     fixed_by_choice s i (Some c) user e = cc
 
-  fixed_facts : (s : SymId) (i : ℕ) (f : Option SymbolFacts) (user : Option GivenValue) → sol.user_place_of i f ≡ SymbolPlace i → Again (v.equation tree k s f) (v.equation tree k s f user)
+  fixed_facts : (s : SymId) (i : ℕ) (f : Option SymbolFacts) (user : Option GivenValue) → v_parts.user_place_of i f ≡ SymbolPlace i → Again (v.equation tree k s f) (v.equation tree k s f user)
   fixed_facts s i None user e = inl refl
   fixed_facts s i (Some f) user e = fixed_by_choice f s i f.choice user e
 
@@ -118,12 +117,12 @@ module _ (tree : TreeFacts) (k : SymId → SymbolValue) where
       ]
 
   -- the equation of a member
-  member_choice : (s : SymId) (f : SymbolFacts) (i c : ℕ) (user : Option GivenValue) (o : Option ℕ) → sol.user_place_by i o ≡ ChoicePlace c →
+  member_choice : (s : SymId) (f : SymbolFacts) (i c : ℕ) (user : Option GivenValue) (o : Option ℕ) → v_parts.user_place_by i o ≡ ChoicePlace c →
       v.by_choice tree k s f o user ≡ Truth (cond (is_symbol_of s (v.selected tree k (choice_at tree c) user)) Y N)
   member_choice s f i c user None e = cc
   member_choice s f i c user (Some d) e = let h : d ≡ c = cc in ap (λ n. Truth (cond (is_symbol_of s (v.selected tree k (choice_at tree n) user)) Y N)) h
 
-  member_facts : (s : SymId) (f : Option SymbolFacts) (i c : ℕ) (user : Option GivenValue) → sol.user_place_of i f ≡ ChoicePlace c →
+  member_facts : (s : SymId) (f : Option SymbolFacts) (i c : ℕ) (user : Option GivenValue) → v_parts.user_place_of i f ≡ ChoicePlace c →
       v.equation tree k s f user ≡ Truth (cond (is_symbol_of s (v.selected tree k (choice_at tree c) user)) Y N)
   member_facts s None i c user e = cc
   member_facts s (Some f) i c user e = member_choice s f i c user f.choice e
@@ -139,11 +138,11 @@ module _ (tree : TreeFacts) (k : SymId → SymbolValue) where
   pub reselected : (o : Option ChoiceFacts) (u : Option GivenValue) → v.selected tree k o (option_map Member (v.selected tree k o u)) ≡ v.selected tree k o u
   reselected o u = reselected_to o u (v.selected tree k o u) refl
 
-place_cases_by : (i : ℕ) (c : Option ℕ) → (sol.user_place_by i c ≡ SymbolPlace i) ⊎ ((d : ℕ) × (sol.user_place_by i c ≡ ChoicePlace d))
+place_cases_by : (i : ℕ) (c : Option ℕ) → (v_parts.user_place_by i c ≡ SymbolPlace i) ⊎ ((d : ℕ) × (v_parts.user_place_by i c ≡ ChoicePlace d))
 place_cases_by i None = inl refl
 place_cases_by i (Some c) = inr (c, refl)
 
-place_cases_of : (i : ℕ) (f : Option SymbolFacts) → (sol.user_place_of i f ≡ SymbolPlace i) ⊎ ((d : ℕ) × (sol.user_place_of i f ≡ ChoicePlace d))
+place_cases_of : (i : ℕ) (f : Option SymbolFacts) → (v_parts.user_place_of i f ≡ SymbolPlace i) ⊎ ((d : ℕ) × (v_parts.user_place_of i f ≡ ChoicePlace d))
 place_cases_of i None = inl refl
 place_cases_of i (Some f) = place_cases_by i f.choice
 
@@ -151,7 +150,7 @@ pub place_cases : (tree : TreeFacts) (i : ℕ) → (user_place tree i ≡ Symbol
 place_cases tree i = place_cases_of i (facts tree (symbol i))
 
 pub place_of_member : (tree : TreeFacts) (m : SymId) (g : SymbolFacts) (c : ℕ) → facts tree m ≡ Some g → g.choice ≡ Some c → user_place tree m.0 ≡ ChoicePlace c
-place_of_member tree m g c e h = ap (sol.user_place_of m.0) e ∙ ap (sol.user_place_by m.0) h
+place_of_member tree m g c e h = ap (v_parts.user_place_of m.0) e ∙ ap (v_parts.user_place_by m.0) h
 
 pub names_itself : (m : SymId) → is_symbol_of m (Some m) ≡ true
 names_itself m = same_symbol_itself m

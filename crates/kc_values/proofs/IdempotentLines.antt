@@ -15,9 +15,6 @@ use Rattle.kc_language.specs.Values.{Solves, facts, choice_at, is_within_range, 
 use Rattle.kc_language.specs.Values as v
 use Rattle.kc_values.specs.PartsOfValues as v_parts
 use Rattle.kc_user.specs.Places.{is_m, allowed_truth, allowed_text, allowed_by, allowed_for, allowed, members_of, AllowedPlaces}
-use Rattle.kc_values.specs.PartsOfValues as sol
-use Rattle.kc_language.specs.Values as ls
-use Rattle.kc_values.specs.PartsOfValues as ls_parts
 use Rattle.kc_values.specs.GivenLines.{reread_places}
 use Rattle.kc_values.specs.Laws.{IdempotentWhere}
 use Rattle.kc_values.specs.Members.{MembersAreTheirs}
@@ -93,7 +90,7 @@ module _ (tree : TreeFacts) (k : SymId → SymbolValue) where
 
   truth_settles : (symbol_type : SymbolType) → is_truth_type symbol_type ≡ true → (u : Option GivenValue) (vis selected_to o : Tri) (w : Bool) → (is_n (v.upgraded tree k symbol_type vis) ≡ false → w ≡ true) →
       Keeps (Truth (OutBy symbol_type vis selected_to o u)) (Truth (OutBy symbol_type vis selected_to o (Line w (allowed_truth symbol_type (OutBy symbol_type vis selected_to o u)) (OutBy symbol_type vis selected_to o u))))
-      (ls.is_tristate tree k symbol_type &&
+      (v.is_tristate tree k symbol_type &&
       (not (is_n (v.upgraded tree k symbol_type vis)) && (above (OutBy symbol_type vis selected_to o u) (v.upgraded tree k symbol_type vis) && above (OutBy symbol_type vis selected_to o u) (v.upgraded tree k symbol_type selected_to))))
   truth_settles IsBool e u vis selected_to o w shown = upgrade_if_stays true (allowed_truth IsBool) u vis selected_to o w shown upgrade_allowed
   truth_settles Tristate e u vis selected_to o w shown = upgrade_if_stays (is_n (v.modules_value k tree.modules)) (allowed_truth Tristate) u vis selected_to o w shown (λ y. refl)
@@ -173,60 +170,60 @@ module _ (tree : TreeFacts) (k : SymId → SymbolValue) where
   shown_first b c e = ap (λ x. not x || c) e
 
   module _ (s : SymId) (f : SymbolFacts) where
-    not_tristate : (symbol_type : SymbolType) (t : Tri) → ls.is_tristate tree k symbol_type ≡ false → symbol_type ≡ f.symbol_type → ls_parts.changes_on_reread_truth tree k f t ≡ false
+    not_tristate : (symbol_type : SymbolType) (t : Tri) → v.is_tristate tree k symbol_type ≡ false → symbol_type ≡ f.symbol_type → v_parts.changes_on_reread_truth tree k f t ≡ false
     not_tristate symbol_type t n h =
-        ap (λ x. ls.is_tristate tree k x && (ls.is_visible tree k f && (above t (v.visibility tree k f) && above t (v.selected_to tree k f)))) (sym h)
-        ∙ ap (λ b. b && (ls.is_visible tree k f && (above t (v.visibility tree k f) && above t (v.selected_to tree k f)))) n
+        ap (λ x. v.is_tristate tree k x && (v.is_visible tree k f && (above t (v.visibility tree k f) && above t (v.selected_to tree k f)))) (sym h)
+        ∙ ap (λ b. b && (v.is_visible tree k f && (above t (v.visibility tree k f) && above t (v.selected_to tree k f)))) n
 
     truth_line : (u : Option GivenValue) → is_truth_type f.symbol_type ≡ true →
-        Settling (λ p. Truth (v.truth_equation tree k f p)) (ls.written_truth tree k f) (allowed_by f.symbol_type) (ls_parts.changes_on_reread_truth tree k f) (Truth (v.truth_equation tree k f u))
+        Settling (λ p. Truth (v.truth_equation tree k f p)) (v.written_truth tree k f) (allowed_by f.symbol_type) (v_parts.changes_on_reread_truth tree k f) (Truth (v.truth_equation tree k f u))
     truth_line u e =
         truth_settles f.symbol_type e u (v.conditions tree k f.prompts) (v.selector_values tree k f.selectors)
         (v_parts.implied (v.default_value tree k (v.first_met tree k f.defaults)) (v.implied_to tree k f) (v.direct tree k f))
-        (ls.written_truth tree k f) (λ h. shown_first (is_n (v.visibility tree k f)) _ h)
+        (v.written_truth tree k f) (λ h. shown_first (is_n (v.visibility tree k f)) _ h)
 
     settles_by_type : (symbol_type : SymbolType) (u : Option GivenValue) → symbol_type ≡ f.symbol_type → ((g : GivenValue) → u ≡ Some g → allowed_by f.symbol_type g ≡ true) →
-        Settling (v.by_type tree k s f symbol_type) (ls.written_by_type tree k f symbol_type) (allowed_by f.symbol_type) (ls_parts.changes_on_reread_truth tree k f) (v.by_type tree k s f symbol_type u)
+        Settling (v.by_type tree k s f symbol_type) (v.written_by_type tree k f symbol_type) (allowed_by f.symbol_type) (v_parts.changes_on_reread_truth tree k f) (v.by_type tree k s f symbol_type u)
     settles_by_type Undefined u h given = inl (refl, not_tristate Undefined N refl h)
     settles_by_type IsBool u h given = truth_line u (ap is_truth_type (sym h))
     settles_by_type Tristate u h given = truth_line u (ap is_truth_type (sym h))
     settles_by_type Str u h given =
         inl (
-          ap (TextValue Str) (text_settles (allowed_text f.symbol_type) u (v.visibility tree k f) (v.default_text k (v.first_met tree k f.defaults)) (ls_parts.written_text tree k f)
+          ap (TextValue Str) (text_settles (allowed_text f.symbol_type) u (v.visibility tree k f) (v.default_text k (v.first_met tree k f.defaults)) (v_parts.written_text tree k f)
               (λ e. shown_first (is_n (v.visibility tree k f)) _ e) (λ t e. given (GivenText t) e)),
           not_tristate Str N refl h,
         )
     settles_by_type Int u h given =
         inl (
           ap (TextValue Int) (number_settles f.symbol_type (v.active_range tree k f) (allowed_text f.symbol_type) u (v.visibility tree k f)
-              (clamped f.symbol_type (v.active_range tree k f) (v.default_text k (v.first_met tree k f.defaults))) (ls_parts.written_text tree k f)
+              (clamped f.symbol_type (v.active_range tree k f) (v.default_text k (v.first_met tree k f.defaults))) (v_parts.written_text tree k f)
               (λ e. shown_first (is_n (v.visibility tree k f)) _ e) (λ t e. given (GivenText t) e)),
           not_tristate Int N refl h,
         )
     settles_by_type Hex u h given =
         inl (
           ap (TextValue Hex) (number_settles f.symbol_type (v.active_range tree k f) (allowed_text f.symbol_type) u (v.visibility tree k f)
-              (clamped f.symbol_type (v.active_range tree k f) (v.default_text k (v.first_met tree k f.defaults))) (ls_parts.written_text tree k f)
+              (clamped f.symbol_type (v.active_range tree k f) (v.default_text k (v.first_met tree k f.defaults))) (v_parts.written_text tree k f)
               (λ e. shown_first (is_n (v.visibility tree k f)) _ e) (λ t e. given (GivenText t) e)),
           not_tristate Hex N refl h,
         )
 
-    settles_by_choice : (i : ℕ) (c : Option ℕ) (u : Option GivenValue) → sol.user_place_by i c ≡ SymbolPlace i → ((g : GivenValue) → u ≡ Some g → allowed_by f.symbol_type g ≡ true) →
-        Settling (v.by_choice tree k s f c) (ls_parts.written_by_choice tree k f c) (allowed_by f.symbol_type) (ls.changes_on_reread_by tree k f c) (v.by_choice tree k s f c u)
+    settles_by_choice : (i : ℕ) (c : Option ℕ) (u : Option GivenValue) → v_parts.user_place_by i c ≡ SymbolPlace i → ((g : GivenValue) → u ≡ Some g → allowed_by f.symbol_type g ≡ true) →
+        Settling (v.by_choice tree k s f c) (v_parts.written_by_choice tree k f c) (allowed_by f.symbol_type) (v.changes_on_reread_by tree k f c) (v.by_choice tree k s f c u)
     settles_by_choice i None u at given = settles_by_type f.symbol_type u refl given
     settles_by_choice i (Some c) u at given = cc
 
-  settles_facts : (s : SymId) (i : ℕ) (f : Option SymbolFacts) (u : Option GivenValue) → sol.user_place_of i f ≡ SymbolPlace i → ((g : GivenValue) → u ≡ Some g → allowed_for f g ≡ true) →
-      Settling (v.equation tree k s f) (ls_parts.written_facts tree k f) (allowed_for f) (ls.changes_on_reread_facts tree k f) (v.equation tree k s f u)
+  settles_facts : (s : SymId) (i : ℕ) (f : Option SymbolFacts) (u : Option GivenValue) → v_parts.user_place_of i f ≡ SymbolPlace i → ((g : GivenValue) → u ≡ Some g → allowed_for f g ≡ true) →
+      Settling (v.equation tree k s f) (v_parts.written_facts tree k f) (allowed_for f) (v.changes_on_reread_facts tree k f) (v.equation tree k s f u)
   settles_facts s i None u at given = inl (refl, refl)
   settles_facts s i (Some f) u at given = settles_by_choice s f i f.choice u at given
 
   -- a member does not change on rereading
-  kept_choice : (f : SymbolFacts) (i c : ℕ) (t : Tri) (o : Option ℕ) → sol.user_place_by i o ≡ ChoicePlace c → ls.changes_on_reread_by tree k f o t ≡ false
+  kept_choice : (f : SymbolFacts) (i c : ℕ) (t : Tri) (o : Option ℕ) → v_parts.user_place_by i o ≡ ChoicePlace c → v.changes_on_reread_by tree k f o t ≡ false
   kept_choice f i c t None e = cc
   kept_choice f i c t (Some d) e = refl
 
-  member_fixed : (i c : ℕ) (f : Option SymbolFacts) (t : Tri) → sol.user_place_of i f ≡ ChoicePlace c → ls.changes_on_reread_facts tree k f t ≡ false
+  member_fixed : (i c : ℕ) (f : Option SymbolFacts) (t : Tri) → v_parts.user_place_of i f ≡ ChoicePlace c → v.changes_on_reread_facts tree k f t ≡ false
   member_fixed i c None t e = cc
   member_fixed i c (Some f) t e = kept_choice f i c t f.choice e
 
@@ -248,10 +245,10 @@ module _ (tree : TreeFacts) (k : SymId → SymbolValue) where
   is_n-upgraded Hex t = is_n-upgrade t
 
   -- a visible member is written
-  member_written : (m : SymId) (g : SymbolFacts) (c : ℕ) → facts tree m ≡ Some g → g.choice ≡ Some c → v.visible tree k m ≡ true → ls.written tree k m ≡ true
+  member_written : (m : SymId) (g : SymbolFacts) (c : ℕ) → facts tree m ≡ Some g → g.choice ≡ Some c → v.visible tree k m ≡ true → v.written tree k m ≡ true
   member_written m g c e h vis =
-      ap (ls_parts.written_facts tree k) e
-      ∙ ap (ls_parts.written_by_choice tree k g) h
+      ap (v_parts.written_facts tree k) e
+      ∙ ap (v_parts.written_by_choice tree k g) h
       ∙ ap not (is_n-upgraded g.symbol_type (v.conditions tree k g.prompts))
       ∙ sym (ap (v_parts.visible_facts tree k) e)
       ∙ vis
@@ -275,7 +272,7 @@ module _ (tree : TreeFacts) (user : UserPlace → Option GivenValue) (V : ℕ �
   K = known_from tree V
 
   abbrev Wrote : SymId → Bool
-  Wrote m = ls.written tree K m && is_yes (given_of (V m.0))
+  Wrote m = v.written tree K m && is_yes (given_of (V m.0))
 
   abbrev Selected : ℕ → Option SymId
   Selected c = Sel tree user V solves c
@@ -291,7 +288,7 @@ module _ (tree : TreeFacts) (user : UserPlace → Option GivenValue) (V : ℕ �
   found_one c r x (Some f) at e d =
       let h = found Wrote f.members x d in
       let now = value_of_member c f x at h.1 in
-      let sel = named (Selected c) x (yes_if (is_symbol_of x (Selected c)) (sym (ap (λ k. is_yes (given_of k)) now) ∙ (and_parts (ls.written tree K x) (is_yes (given_of (V x.0))) h.0).1)) in
+      let sel = named (Selected c) x (yes_if (is_symbol_of x (Selected c)) (sym (ap (λ k. is_yes (given_of k)) now) ∙ (and_parts (v.written tree K x) (is_yes (given_of (V x.0))) h.0).1)) in
       selected_again tree K (Some f) (user (ChoicePlace c)) x (sym (ap (λ o. v.selected tree K o (user (ChoicePlace c))) at) ∙ sel) ∙ sym sel ∙ e
 
   again_to : (c : ℕ) (r w : Option SymId) → Selected c ≡ r → find Wrote (members_of (choice_at tree c)) ≡ w → v.selected tree K (choice_at tree c) (option_map Member w) ≡ r
@@ -305,7 +302,7 @@ module _ (tree : TreeFacts) (user : UserPlace → Option GivenValue) (V : ℕ �
       let w = member_written tree K m mine.1.0 c mine.1.1 mine.1.2 shown in
       let now = value_of_member c f m at.1 at.2 ∙ ap (λ r. Truth (cond (is_symbol_of m r) Y N)) e in
       let y : is_yes (given_of (V m.0)) ≡ true = ap (λ k. is_yes (given_of k)) now ∙ ap (λ b. is_yes (given_of (Truth (cond b Y N)))) (names_itself m) in
-      absurd (true≢false (sym (and_from (ls.written tree K m) (is_yes (given_of (V m.0))) w y) ∙ missing Wrote f.members m (sym (ap (λ o. find Wrote (members_of o)) at.1) ∙ d) at.2))
+      absurd (true≢false (sym (and_from (v.written tree K m) (is_yes (given_of (V m.0))) w y) ∙ missing Wrote f.members m (sym (ap (λ o. find Wrote (members_of o)) at.1) ∙ d) at.2))
   again_to c r (Some x) e d = found_one c r x (choice_at tree c) refl e d
 
   one_keeps : AllowedPlaces tree user → (i : ℕ) → i < name_count tree → Keeps (V i) (equations tree (reread_places tree V) i V) (changes_on_reread tree V i)
@@ -314,8 +311,8 @@ module _ (tree : TreeFacts) (user : UserPlace → Option GivenValue) (V : ℕ �
         | inl at ↦
             let e = solves i l ∙ ap (λ p. rhs tree i (user p) V) at in
             let z = settles_facts tree K (symbol i) i (facts tree (symbol i)) (user (SymbolPlace i)) at (given i) in
-            let P = λ (x : SymbolValue). Settling tree K (v.equation tree K (symbol i) (facts tree (symbol i))) (ls.written tree K (symbol i)) (allowed tree (symbol i))
-            (ls.changes_on_reread_facts tree K (facts tree (symbol i))) x in
+            let P = λ (x : SymbolValue). Settling tree K (v.equation tree K (symbol i) (facts tree (symbol i))) (v.written tree K (symbol i)) (allowed tree (symbol i))
+            (v.changes_on_reread_facts tree K (facts tree (symbol i))) x in
             let y : P (V i) = subst P (sym e) z in
             subst (λ p. Keeps (V i) (rhs tree i (reread_places tree V p) V) (changes_on_reread tree V i)) (sym at) y
         | inr d ↦

@@ -12,7 +12,6 @@ use Rattle.kc_tree.specs.declared.rows.SelectorId.{SelectorId}
 use Rattle.kc_tree.specs.Layouts.{selectors_from}
 use Rattle.kc_language.specs.Symbols.{TreeFacts}
 use Rattle.kc_language.specs.Values as v
-use Rattle.kc_language.specs.Values as written
 use Rattle.kc_values.proofs.ChainLemmas.{selector_values_from, selector_values-reverse}
 
 module _ (tree : TreeFacts) (known : SymId → SymbolValue) where
@@ -44,7 +43,7 @@ module _ (tree : TreeFacts) (known : SymId → SymbolValue) where
   is_kept true e = absurd cc
 
   -- m is y where the type is not tristate
-  pub m_upgraded : (symbol_type : SymbolType) → written.is_tristate tree known symbol_type ≡ false → Y ≡ v.upgraded tree known symbol_type M
+  pub m_upgraded : (symbol_type : SymbolType) → v.is_tristate tree known symbol_type ≡ false → Y ≡ v.upgraded tree known symbol_type M
   m_upgraded Undefined e = refl
   m_upgraded IsBool e = refl
   m_upgraded Tristate e = is_upgraded (v.is_n (v.modules_value known tree.modules)) e
@@ -53,7 +52,7 @@ module _ (tree : TreeFacts) (known : SymId → SymbolValue) where
   m_upgraded Hex e = refl
 
   -- and stays where it is
-  pub m_kept : (symbol_type : SymbolType) → written.is_tristate tree known symbol_type ≡ true → M ≡ v.upgraded tree known symbol_type M
+  pub m_kept : (symbol_type : SymbolType) → v.is_tristate tree known symbol_type ≡ true → M ≡ v.upgraded tree known symbol_type M
   m_kept Undefined e = absurd cc
   m_kept IsBool e = absurd cc
   m_kept Tristate e = is_kept (v.is_n (v.modules_value known tree.modules)) e

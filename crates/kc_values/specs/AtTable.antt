@@ -15,12 +15,9 @@ use Rattle.kc_language.specs.Values.{GivenValue}
 use Rattle.kc_values.specs.Computed as computed
 use Rattle.kc_language.specs.Values as lookup
 use Rattle.kc_values.specs.TableFacts.{facts_in, known_at}
-use Rattle.kc_language.specs.Values as value
 use Rattle.kc_values.specs.PartsOfValues as value_parts
 use Rattle.kc_language.specs.Texts as warning
 use Rattle.kc_values.specs.PartsOfTexts as warning_parts
-use Rattle.kc_language.specs.Values as written
-use Rattle.kc_values.specs.PartsOfValues as written_parts
 use Rattle.kc_language.specs.declared.values.Interval.{Interval}
 use Rattle.kc_values.specs.declared.table.Table.{Table}
 
@@ -40,93 +37,93 @@ module _ (t : Table) where
   when_value form = computed.when_value t.tree.now (known_at t) form
 
   abbrev pub and_value : List Form → Tri
-  and_value conjuncts = value.and_value t.tree.now (known_at t) conjuncts
+  and_value conjuncts = lookup.and_value t.tree.now (known_at t) conjuncts
 
   abbrev pub prompt_value : Choice → Tri
   prompt_value c = value_parts.prompt_value t.tree.now (known_at t) (choice_in c).prompt
 
   abbrev pub mode_of : ℕ → Tri
-  mode_of c = value.mode_of t.tree.now (known_at t) (lookup.choice_at t.tree.now c)
+  mode_of c = lookup.mode_of t.tree.now (known_at t) (lookup.choice_at t.tree.now c)
 
   abbrev pub mode_value : Option ℕ → Tri
   mode_value mode = value_parts.mode_value t.tree.now (known_at t) mode
 
   abbrev pub condition : Condition → Tri
-  condition c = value.condition t.tree.now (known_at t) c
+  condition c = lookup.condition t.tree.now (known_at t) c
 
   abbrev pub conditions : List Condition → Tri
-  conditions cs = value.conditions t.tree.now (known_at t) cs
+  conditions cs = lookup.conditions t.tree.now (known_at t) cs
 
   abbrev pub first_met : {X : Type 0} → List (Guarded X) → Option (Guarded X)
-  first_met gs = value.first_met t.tree.now (known_at t) gs
+  first_met gs = lookup.first_met t.tree.now (known_at t) gs
 
   -- types
   abbrev pub is_tristate : SymbolType → Bool
-  is_tristate symbol_type = written.is_tristate t.tree.now (known_at t) symbol_type
+  is_tristate symbol_type = lookup.is_tristate t.tree.now (known_at t) symbol_type
 
   abbrev pub upgraded : SymbolType → Tri → Tri
-  upgraded symbol_type x = value.upgraded t.tree.now (known_at t) symbol_type x
+  upgraded symbol_type x = lookup.upgraded t.tree.now (known_at t) symbol_type x
 
   -- what a symbol's own lines make
   abbrev pub visibility : Symbol → Tri
-  visibility s = value.visibility t.tree.now (known_at t) (own_lines s)
+  visibility s = lookup.visibility t.tree.now (known_at t) (own_lines s)
 
   abbrev pub direct : Symbol → Tri
-  direct s = value.direct t.tree.now (known_at t) (own_lines s)
+  direct s = lookup.direct t.tree.now (known_at t) (own_lines s)
 
   abbrev pub met_default : Symbol → Option (Guarded Form)
   met_default s = first_met (own_lines s).defaults
 
   abbrev pub default_value : Symbol → Tri
-  default_value s = value.default_value t.tree.now (known_at t) (met_default s)
+  default_value s = lookup.default_value t.tree.now (known_at t) (met_default s)
 
   abbrev pub met_text : Symbol → Option (List ℕ)
   met_text s = warning_parts.met_text (known_at t) (met_default s)
 
   abbrev pub default_text : Symbol → List ℕ
-  default_text s = value.default_text (known_at t) (met_default s)
+  default_text s = lookup.default_text (known_at t) (met_default s)
 
   abbrev pub interval : SymbolType → SymbolRange → Option Interval
   interval symbol_type r = value_parts.interval (known_at t) symbol_type (Some (range_view (condition_in t.layout.now.tables.contexts 0) r))
 
   abbrev pub active_range : Symbol → Option Interval
-  active_range s = value.active_range t.tree.now (known_at t) (own_lines s)
+  active_range s = lookup.active_range t.tree.now (known_at t) (own_lines s)
 
   -- what the lines that select and imply a symbol make, with its own
   abbrev pub selector_values : List (Guarded SymId) → Tri
-  selector_values gs = value.selector_values t.tree.now (known_at t) gs
+  selector_values gs = lookup.selector_values t.tree.now (known_at t) gs
 
   abbrev pub selected_to : SymId → Symbol → Tri
-  selected_to id s = value.selected_to t.tree.now (known_at t) (facts_in t id s)
+  selected_to id s = lookup.selected_to t.tree.now (known_at t) (facts_in t id s)
 
   abbrev pub implied_to : SymId → Symbol → Tri
-  implied_to id s = value.implied_to t.tree.now (known_at t) (facts_in t id s)
+  implied_to id s = lookup.implied_to t.tree.now (known_at t) (facts_in t id s)
 
   abbrev pub implied_value : SymId → Symbol → Tri
-  implied_value id s = value.implied_value t.tree.now (known_at t) (facts_in t id s)
+  implied_value id s = lookup.implied_value t.tree.now (known_at t) (facts_in t id s)
 
   -- the equations
   abbrev pub truth_equation : SymId → Symbol → Option GivenValue → Tri
-  truth_equation id s given = value.truth_equation t.tree.now (known_at t) (facts_in t id s) given
+  truth_equation id s given = lookup.truth_equation t.tree.now (known_at t) (facts_in t id s) given
 
   abbrev pub text_equation : Symbol → Option GivenValue → List ℕ
-  text_equation s given = value.text_equation t.tree.now (known_at t) (own_lines s) given
+  text_equation s given = lookup.text_equation t.tree.now (known_at t) (own_lines s) given
 
   abbrev pub number_equation : Symbol → Option GivenValue → List ℕ
-  number_equation s given = value.number_equation t.tree.now (known_at t) (own_lines s) given
+  number_equation s given = lookup.number_equation t.tree.now (known_at t) (own_lines s) given
 
   abbrev pub member_equation : SymId → ℕ → Option GivenValue → Tri
   member_equation id c given = value_parts.member_equation t.tree.now (known_at t) id c given
 
   abbrev pub equation : SymId → Symbol → Option GivenValue → SymbolValue
-  equation id s given = value.by_choice t.tree.now (known_at t) id (facts_in t id s) (facts_in t id s).choice given
+  equation id s given = lookup.by_choice t.tree.now (known_at t) id (facts_in t id s) (facts_in t id s).choice given
 
   -- what a choice selects: by its row, and by its number
   abbrev pub visible : SymId → Bool
-  visible id = value.visible t.tree.now (known_at t) id
+  visible id = lookup.visible t.tree.now (known_at t) id
 
   abbrev pub visible_member : Choice → SymId → Bool
-  visible_member c id = value.visible_member t.tree.now (known_at t) (choice_in c) id
+  visible_member c id = lookup.visible_member t.tree.now (known_at t) (choice_in c) id
 
   abbrev pub first_default : Choice → Option SymId
   first_default c = value_parts.first_default t.tree.now (known_at t) (choice_in c) (choice_in c).defaults
@@ -135,26 +132,26 @@ module _ (t : Table) where
   first_visible members = value_parts.first_visible t.tree.now (known_at t) members
 
   abbrev pub unselected : Choice → Option SymId
-  unselected c = value.unselected t.tree.now (known_at t) (choice_in c)
+  unselected c = lookup.unselected t.tree.now (known_at t) (choice_in c)
 
   abbrev pub selected_by : Choice → Option GivenValue → Option SymId
-  selected_by c given = value.selected t.tree.now (known_at t) (Some (choice_in c)) given
+  selected_by c given = lookup.selected t.tree.now (known_at t) (Some (choice_in c)) given
 
   abbrev pub selected : ℕ → Option GivenValue → Option SymId
-  selected c given = value.selected t.tree.now (known_at t) (lookup.choice_at t.tree.now c) given
+  selected c given = lookup.selected t.tree.now (known_at t) (lookup.choice_at t.tree.now c) given
 
   -- whether a symbol is written
   abbrev pub written_truth : SymId → Symbol → Bool
-  written_truth id s = written.written_truth t.tree.now (known_at t) (facts_in t id s)
+  written_truth id s = lookup.written_truth t.tree.now (known_at t) (facts_in t id s)
 
   abbrev pub written_text : Symbol → Bool
-  written_text s = written_parts.written_text t.tree.now (known_at t) (own_lines s)
+  written_text s = value_parts.written_text t.tree.now (known_at t) (own_lines s)
 
   abbrev pub written_by_type : SymId → Symbol → Bool
-  written_by_type id s = written.written_by_type t.tree.now (known_at t) (facts_in t id s) s.symbol_type
+  written_by_type id s = lookup.written_by_type t.tree.now (known_at t) (facts_in t id s) s.symbol_type
 
   abbrev pub is_written : SymId → Symbol → Bool
-  is_written id s = written_parts.written_facts t.tree.now (known_at t) (Some (facts_in t id s))
+  is_written id s = value_parts.written_facts t.tree.now (known_at t) (Some (facts_in t id s))
 
   -- what a symbol is warned of
   abbrev pub select_warnings : List ℕ → SymId → Symbol → List Warning
