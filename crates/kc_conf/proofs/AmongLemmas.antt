@@ -5,9 +5,8 @@ use Rattle.std.specs.List.{list_any}
 use Rattle.std.specs.Option.{option_map_or}
 use Rattle.std.proofs.lemmas.List.Elements.{All-cons, All-head, All-nil, All-tail}
 use Rattle.std.proofs.lemmas.Slice.Eq.{bytes_eq-Decides}
-use Rattle.kc_io.specs.Held.{last_of}
+use Rattle.kc_io.specs.Delivery.{last_of, NamedText, stale}
 use Rattle.kc_io.specs.Log.{Event, Journal, Log, Leads, failed, held, is_held, reported}
-use Rattle.kc_io.specs.Scripts.{NamedText, stale}
 use Rattle.kc_io.specs.declared.device.Action.TheVariants.{Report}
 use Rattle.kc_io.proofs.LogLemmas.{keeps_reported}
 use Rattle.kc_language.specs.Expansion.{Files}

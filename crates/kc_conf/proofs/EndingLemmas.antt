@@ -8,9 +8,9 @@ use Rattle.std.specs.List.{flat_map}
 use Rattle.kc_language.specs.Text.{GoesBeyond}
 use Rattle.kc_language.specs.ConfigFile.{StreamLocation}
 use Rattle.kc_language.specs.Expansion.{Refused as RefusedTree}
-use Rattle.kc_io.specs.Delivered.{Delivered, StopsBefore, cleared, failure_of}
+use Rattle.kc_io.specs.Delivered.{Delivered, cleared, failure_of}
+use Rattle.kc_io.specs.Delivery.{StopsBefore, NamedText, chosen, delivery, moved, put, share_name, stale}
 use Rattle.kc_io.specs.Log.{Event, Journal, Log, Leads, Tells, did, each_byte, held, is_held}
-use Rattle.kc_io.specs.Scripts.{NamedText, chosen, delivery, moved, put, share_name, stale}
 use Rattle.kc_io.specs.declared.delivery.Manner.{Manner}
 use Rattle.kc_io.specs.declared.delivery.Manner.TheVariants.{InPlace, Replacing}
 use Rattle.kc_io.specs.declared.device.Action.{Action}

@@ -3,9 +3,9 @@ use Rattle.std.proofs.Common.{◌≡◌, ℕ, zero, suc, ◌<◌, ◌≤◌, Boo
 use Rattle.std.specs.Prelude.{◌&&◌, is_none, is_some, unwrap_or, option_map}
 use Rattle.std.proofs.lemmas.List.Elements.{All-nil}
 use Rattle.kc_language.specs.Lines.{HoldsNoLineFeed, is_line_feed}
-use Rattle.kc_io.specs.Log.{Event, Journal, Log, Leads, did, each_byte, held}
-use Rattle.kc_io.specs.Reading.{IsAtEnd, IsFound, OpenFile, ReadsOn, contents}
-use Rattle.kc_io.specs.Reading as device
+use Rattle.kc_io.specs.Log.{Event, Journal, Log, Leads, did, each_byte, held, IsAtEnd, IsFound, OpenFile, ReadsOn}
+use Rattle.kc_io.specs.PartsOfLog.{contents}
+use Rattle.kc_io.specs.Log as device
 use Rattle.kc_io.specs.declared.device.Action.TheVariants.{Miss, Open, Read}
 use Rattle.kc_io.proofs.LogLemmas.{bytes_both, leads_as, leads_both, leads_nothing, leads_said}
 use Rattle.kc_config_file.specs.Feeding.{ReadsPiece, StreamPosition, stream_start, to_come}

@@ -3,7 +3,7 @@ use Rattle.std.proofs.Common.{◌≡◌, ◌⊎◌, inl, inr, ℕ, suc, Bool, Li
 use Rattle.kc_language.specs.Expansion.{Refused, Files, AreOpened}
 use Rattle.kc_language.specs.Symbols.{TreeFacts, IsTreeOf}
 use Rattle.kc_io.specs.Log.{Event, Log}
-use Rattle.kc_load.specs.Expanding.{ExpandsAlike}
+use Rattle.kc_load.specs.Loading.{ExpandsAlike}
 use Rattle.kc_language.specs.declared.outcome.Status.{Status}
 use Rattle.kc_conf.specs.declared.stop.Stop.{Stop}
 use Rattle.kc_conf.specs.Faults.{AreReads, Breaks, Broken, Completes, Runs, in_delivery, in_input, in_diagnostics, no_memory, of_tree, refused_name as reads_no_name, refused_tree as reads_no_tree, InputFile}

@@ -2,8 +2,7 @@
 use Rattle.std.proofs.Common.{◌≡◌, ℕ, zero, suc, Bool, true, false, not, List, [], ◌∷◌, ◌++◌, map, take, refl, sym, ap, ◌∙◌, append_assoc, append-nil, Option, None, Some, is_none, unwrap_or, string_bytes}
 use Rattle.std.specs.Prelude.{◌&&◌, ◌||◌, is_some, All, slice_get, if◌then◌else◌}
 use Rattle.std.proofs.lemmas.List.Elements.{All-weaker, All-nil, All-cons}
-use Rattle.kc_io.specs.Held.{keeps_files, only_looks}
-use Rattle.kc_io.specs.Log.{Event, Journal, Log, Leads, did, each_byte, held}
+use Rattle.kc_io.specs.Log.{keeps_files, only_looks, Event, Journal, Log, Leads, did, each_byte, held}
 use Rattle.kc_io.specs.declared.device.Action.{Action}
 use Rattle.kc_io.specs.declared.device.Action.TheVariants.{Open, Miss, Read}
 use Rattle.kc_io.proofs.LogLemmas.{keeps_both, keeps_bytes}

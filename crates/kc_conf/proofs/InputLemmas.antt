@@ -8,8 +8,7 @@ use Rattle.std.proofs.lemmas.List.{drop_more, get_or-map, get_or_append_left, le
 use Rattle.std.proofs.lemmas.List.Elements.{All-cons, All-nil, All-push}
 use Rattle.kc_language.specs.Symbols.{TreeFacts}
 use Rattle.kc_language.specs.ConfigFile.{ArePlacesOf, ReadResult, Stream, UserInput, lines_from, lines_of, reading}
-use Rattle.kc_io.specs.Held.{keeps_files}
-use Rattle.kc_io.specs.Log.{Event, Journal, Log, Leads, Tells, did, each_byte, held}
+use Rattle.kc_io.specs.Log.{keeps_files, Event, Journal, Log, Leads, Tells, did, each_byte, held}
 use Rattle.kc_io.specs.declared.device.Action.TheVariants.{Miss, Open, Read}
 use Rattle.kc_io.proofs.LogLemmas.{held_stays, keeps_both, keeps_bytes, leads_as, leads_both, leads_nothing}
 use Rattle.kc_config_file.specs.Feeding.{stream_start}

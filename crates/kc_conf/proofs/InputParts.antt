@@ -5,7 +5,7 @@ use Rattle.kc_language.specs.Expansion.{Files, AreOpened}
 use Rattle.kc_language.specs.Symbols.{TreeFacts}
 use Rattle.kc_language.specs.Texts.{warnings}
 use Rattle.kc_io.specs.Log.{Event, Log, Leads}
-use Rattle.kc_io.specs.Scripts.{NamedText}
+use Rattle.kc_io.specs.Delivery.{NamedText}
 use Rattle.kc_io.proofs.LogLemmas.{leads_nothing}
 use Rattle.kc_language.specs.ConfigFile.{ReadResult, StreamLocation, UserInput, lines_of, reading}
 use Rattle.kc_language.specs.Text.{BeginsWith}

@@ -7,7 +7,7 @@ use Rattle.kc_language.specs.Texts.{Solution}
 use Rattle.kc_language.specs.ConfigFile.{ReadResult, StreamLocation, UserInput}
 use Rattle.kc_language.specs.Text.{BeginsWith}
 use Rattle.kc_io.specs.Log.{Log}
-use Rattle.kc_io.specs.Scripts.{NamedText}
+use Rattle.kc_io.specs.Delivery.{NamedText}
 use Rattle.kc_conf.specs.Computed.{refuses, ruled_files, value_lines}
 use Rattle.kc_conf.specs.Endings.{Ends, line_if, status_if, texts_or}
 use Rattle.kc_conf.specs.Faults.{text_at, texts_of}

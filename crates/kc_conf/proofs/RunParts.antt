@@ -3,10 +3,8 @@ use Rattle.std.proofs.Common.{◌≡◌, ◌≢◌, ◌⊎◌, inl, inr, ℕ, tr
 use Rattle.std.specs.Prelude.{◌&&◌}
 use Rattle.kc_language.specs.Expansion.{Files, Refused as RefusedTree, AreOpened}
 use Rattle.kc_language.specs.Symbols.{TreeFacts}
-use Rattle.kc_io.specs.Delivered.{StopsBefore}
-use Rattle.kc_io.specs.Held.{keeps_files}
-use Rattle.kc_io.specs.Log.{Event, Log, Leads, reported as io_reported, said}
-use Rattle.kc_io.specs.Scripts.{NamedText}
+use Rattle.kc_io.specs.Delivery.{StopsBefore, NamedText}
+use Rattle.kc_io.specs.Log.{keeps_files, Event, Log, Leads, reported as io_reported, said}
 use Rattle.kc_io.specs.declared.device.Action.TheVariants.{Open, Read}
 use Rattle.kc_io.specs.declared.steps.Failure.{Failure}
 use Rattle.kc_io.proofs.LogLemmas.{leads_as, leads_both, leads_nothing, leads_said}

@@ -4,13 +4,13 @@ use Rattle.std.specs.Prelude.{◌==◌, if◌then◌else◌}
 use Rattle.std.specs.List.{flat_map, last_or}
 use Rattle.std.proofs.lemmas.List.{append_cancel_left, drop_more, take_more}
 use Rattle.kc_language.specs.Text.{byte}
-use Rattle.kc_io.specs.Log.{Log}
+use Rattle.kc_io.specs.Log.{Log, is_whole_lines}
 use Rattle.kc_io.specs.declared.device.Action.{Action}
 use Rattle.kc_io.specs.declared.device.Action.TheVariants.{Open, Read}
 use Rattle.kc_io.specs.declared.device.Fault.{Fault}
 use Rattle.kc_io.specs.declared.device.Fault.TheVariants.{Refused, Memory}
 use Rattle.kc_io.specs.declared.steps.Failure.{Failure}
-use Rattle.kc_io.specs.WholeLines.{ends_line, is_whole_lines}
+use Rattle.kc_io.specs.PartsOfLog.{ends_line}
 use Rattle.kc_config_file.specs.WholeLines.{AddsWholeLines}
 use Rattle.kc_language.specs.Outcome.{Options, cannot_read_line, first_line, AreLines, lines_text, lead}
 use Rattle.kc_conf.specs.Reads.{IsWholeEnd, LastEndsLine, SaysIf, failure_line}

@@ -6,9 +6,8 @@ use Rattle.std.specs.declared.alloc.Global.{Global}
 use Rattle.std.proofs.lemmas.Grind.{fold-append}
 use Rattle.std.proofs.lemmas.List.Folds.{list_all-append, list_any-append}
 use Rattle.std.proofs.lemmas.Slice.Eq.{bytes_eq-Decides}
-use Rattle.kc_io.specs.Held.{keeps_files, last_of, only_looks}
-use Rattle.kc_io.specs.Log.{Event, Journal, Leads, Spot, acted, after, did, each_byte, held, is_held, reported}
-use Rattle.kc_io.specs.Scripts.{NamedText, chosen, delivery, moved, put, share_name, stale}
+use Rattle.kc_io.specs.Log.{keeps_files, only_looks, Event, Journal, Leads, Spot, acted, after, did, each_byte, held, is_held, reported}
+use Rattle.kc_io.specs.Delivery.{last_of, NamedText, chosen, delivery, moved, put, share_name, stale}
 use Rattle.kc_io.specs.declared.delivery.Manner.{Manner}
 use Rattle.kc_io.specs.declared.delivery.Manner.TheVariants.{InPlace, Replacing}
 use Rattle.kc_io.specs.declared.device.Action.{Action}

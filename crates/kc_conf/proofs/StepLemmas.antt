@@ -3,8 +3,7 @@ use Rattle.std.proofs.Common.{◌≡◌, ℕ, Bool, true, false, List, [], ◌�
 use Rattle.std.specs.Prelude.{◌==◌}
 use Rattle.std.specs.List.{after_last}
 use Rattle.kc_language.specs.Lines.{HoldsNoLineFeed, is_line_feed}
-use Rattle.kc_io.specs.Log.{Event, Log, Leads}
-use Rattle.kc_io.specs.WholeLines.{is_whole_lines}
+use Rattle.kc_io.specs.Log.{Event, Log, Leads, is_whole_lines}
 use Rattle.kc_io.specs.declared.device.Action.{Action}
 use Rattle.kc_io.specs.declared.device.Action.TheVariants.{Report}
 use Rattle.kc_io.proofs.LogLemmas.{leads_both, leads_nothing, leads_said}

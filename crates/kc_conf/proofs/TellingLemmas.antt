@@ -1,7 +1,6 @@
 -- What a device told at first, and still tells.
 use Rattle.std.proofs.Common.{◌≡◌, ℕ, List, refl, sym, ap, ◌∙◌, None, Some, true}
-use Rattle.kc_io.specs.Held.{keeps_files}
-use Rattle.kc_io.specs.Log.{Event, Journal, Log, Leads, Tells, held, with_events}
+use Rattle.kc_io.specs.Log.{keeps_files, Event, Journal, Log, Leads, Tells, held, with_events}
 use Rattle.kc_io.proofs.LogLemmas.{held_stays}
 use Rattle.kc_conf.specs.Faults.{still_told}
 

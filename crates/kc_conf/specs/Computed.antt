@@ -3,7 +3,7 @@ use Rattle.std.specs.Prelude.{◌≡◌, ℕ, Bool, ◌||◌, ◌&&◌, if◌the
 use Rattle.kc_language.specs.Symbols.{TreeFacts}
 use Rattle.kc_language.specs.Texts.{Solution, warnings}
 use Rattle.kc_language.specs.ConfigFile.{UserInput}
-use Rattle.kc_io.specs.Scripts.{NamedText}
+use Rattle.kc_io.specs.Delivery.{NamedText}
 use Rattle.kc_language.specs.Outcome.{Options, rule_text, lead, target, IsSolutionFor, Outcome, has_text, lines_text, lost_warnings, refuses_input}
 use Rattle.kc_conf.specs.PartsOfOutcome.{files_of}
 use Rattle.kc_conf.specs.Faults.{texts_of}

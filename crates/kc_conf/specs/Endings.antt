@@ -1,9 +1,9 @@
 -- For proofs: How a run ends behind its reading.
 use Rattle.std.specs.Prelude.{◌≡◌, ◌≢◌, ◌⊎◌, ℕ, Bool, List, [], ◌++◌, Option, None, Some, Result, Ok, Err}
 use Rattle.kc_language.specs.Text.{GoesBeyond}
-use Rattle.kc_io.specs.Delivered.{Delivered, StopsBefore}
+use Rattle.kc_io.specs.Delivered.{Delivered}
+use Rattle.kc_io.specs.Delivery.{StopsBefore, NamedText, stale}
 use Rattle.kc_io.specs.Log.{Event, Log, Leads, Tells}
-use Rattle.kc_io.specs.Scripts.{NamedText, stale}
 use Rattle.kc_io.specs.declared.delivery.Manner.{Manner}
 use Rattle.kc_io.specs.declared.device.Action.TheVariants.{Report}
 use Rattle.kc_io.specs.declared.steps.Failure.{Failure}

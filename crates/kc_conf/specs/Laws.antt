@@ -16,9 +16,11 @@ SolutionExists =
 abbrev pub IsOnlyAccepted : Files → List ℕ → TreeFacts → Type 0
 IsOnlyAccepted files root tree = IsAcceptedTree files root tree
     × ((other : TreeFacts) → IsAcceptedTree files root other → tree ≡ other) × ((r : Refused) → IsRefusedTree files root r → ⊥)
+
 abbrev pub IsOnlyRefused : Files → List ℕ → Refused → Type 0
 IsOnlyRefused files root r = IsRefusedTree files root r
     × ((other : Refused) → IsRefusedTree files root other → r ≡ other) × ((tree : TreeFacts) → IsAcceptedTree files root tree → ⊥)
+
 abbrev pub ExactlyOneAnswer : Type 0
 ExactlyOneAnswer =
     (files : Files) (root : List ℕ) → ((tree : TreeFacts) × IsOnlyAccepted files root tree) ⊎ ((r : Refused) × IsOnlyRefused files root r)
@@ -27,6 +29,7 @@ ExactlyOneAnswer =
 abbrev pub ExactlyOneOutcome : Type 0
 ExactlyOneOutcome = (files : Files) (options : Options) (all : List (List ℕ)) →
     (outcome : Outcome) × IsOutcome files options all outcome × ((other : Outcome) → IsOutcome files options all other → outcome ≡ other)
+
 abbrev pub DiagnosticsAreLines : Type 0
 DiagnosticsAreLines = (files : Files) (options : Options) (all : List (List ℕ)) (outcome : Outcome) →
     IsOutcome files options all outcome → AreLines (diagnostics_of outcome)
@@ -37,6 +40,7 @@ pub record RefusesNothing (files : Files) (options : Options) (all : List (List 
   pub accepted : IsAcceptedTree files (root_file options) tree
   pub read_whole : (read_of options tree all).stopped ≡ None
   pub solution_is : IsSolutionFor tree (read_of options tree all).input.places solution
+
 -- An outcome with a .config is that of a run that refuses nothing, and all its texts are those of the values.
 abbrev pub WrittenAreWhole : Type 0
 WrittenAreWhole = (files : Files) (options : Options) (all : List (List ℕ)) (outcome : Outcome) (text : List ℕ) →
@@ -51,16 +55,19 @@ abbrev pub MinimalIsReadAgain : Type 0
 MinimalIsReadAgain = (files : Files) (options : Options) (all : List (List ℕ)) (tree : TreeFacts) (solution : Solution) →
     is_prefix options.prefix ≡ true → RefusesNothing files options all tree solution →
     MinimalGivesBack tree options.prefix solution.places (value_of solution) × MinimalNeedsEach tree options.prefix solution.places (value_of solution)
+
 -- The .config, read alone and starting from no user values, gives the values back exactly where `ConfigGivesBack` says.
 abbrev pub ConfigIsReadAgain : Type 0
 ConfigIsReadAgain = (files : Files) (options : Options) (all : List (List ℕ)) (tree : TreeFacts) (solution : Solution) →
     is_prefix options.prefix ≡ true → RefusesNothing files options all tree solution →
     ConfigGivesBack tree options.prefix solution.places (value_of solution)
+
 -- No line of the .config or of the minimal file is too long to be read again.
 abbrev pub TextsHaveShortLines : Type 0
 TextsHaveShortLines = (files : Files) (options : Options) (all : List (List ℕ)) (tree : TreeFacts) (solution : Solution) →
     is_prefix options.prefix ≡ true → RefusesNothing files options all tree solution →
     HasShortLines (config_text tree options.prefix (solution_view solution)) × HasShortLines (minimal_text tree options.prefix (solution_view solution))
+
 -- The texts of an outcome are those of one solution, and all this holds of them.
 abbrev pub OutcomesAreReadAgain : Type 0
 OutcomesAreReadAgain = (files : Files) (options : Options) (all : List (List ℕ)) (outcome : Outcome) (config : List ℕ) →
@@ -78,6 +85,7 @@ pub record AreAlone (options alone : Options) : Type 0 where
   pub prefix : alone.prefix ≡ options.prefix
   pub out : is_some alone.out ≡ is_some options.out
   pub no_fragments : alone.fragments.items ≡ []
+
 -- A run on the minimal file alone, which lets warnings pass and whose names make can read, writes the .config that was written with it. (One that
 -- refuses them may write nothing: what that file assigns may be warned of where the input files were not.)
 abbrev pub MinimalIsRunAgain : Type 0
@@ -89,15 +97,18 @@ MinimalIsRunAgain = (files : Files) (options alone : Options) (all : List (List 
 -- The line stands in the text, after whole lines.
 abbrev pub HoldsLine : List ℕ → List ℕ → Type 0
 HoldsLine text line = (before after : List ℕ) × (text ≡ before ++ line ++ after) × AreLines before
+
 -- The line gives that symbol no value.
 abbrev pub LeavesAlone : TreeFacts → List ℕ → SymId → Line → Type 0
 LeavesAlone tree prefix s l = (given : GivenValue) → effect tree prefix l ≡ Assigns s given → ⊥
+
 -- The next line that gives the symbol a value is reported to set it again and, if the value is another one, to change it from this line's value.
 abbrev pub IsSetAgain : TreeFacts → List ℕ → List ℕ → Line → SymId → SymbolType → GivenValue → List Line → Type 0
 IsSetAgain tree prefix warned l s symbol_type given later = (front back : List Line) × (next : Line) × (other : GivenValue)
     × (later ≡ front ++ next ∷ back) × All (LeavesAlone tree prefix s) front × (effect tree prefix next ≡ Assigns s other)
     × HoldsLine warned (warning_line next.stream next.number (SetAgain (name tree s))) × (same_given given other ≡ false →
     HoldsLine warned (change_line (stream_location next) (name tree s) symbol_type given (stream_location l) other))
+
 -- What this line gave is the symbol's value, or it is reported that it is not.
 abbrev pub IsKeptOrWarned : TreeFacts → Solution → List ℕ → Line → SymId → SymbolFacts → GivenValue → Type 0
 IsKeptOrWarned tree solution warned l s f given = (given ≡ given_of (known solution s))
@@ -110,6 +121,7 @@ module _ (tree : TreeFacts) (prefix : List ℕ) (solution : Solution) (warned : 
   IsAccountedFor l later (Warns line_warning) = HoldsLine warned (warning_line l.stream l.number line_warning)
   IsAccountedFor l later (Assigns s given) = (f : SymbolFacts) → facts tree s ≡ Some f → has_prompt f.prompts ≡ true →
       IsSetAgain tree prefix warned l s f.symbol_type given later ⊎ IsKeptOrWarned tree solution warned l s f given
+
 -- If files are written, the .config is the text of the solution, and the warnings account for each line of the input files by its values.
 abbrev pub NothingIsLost : Type 0
 NothingIsLost = (files : Files) (options : Options) (all : List (List ℕ)) (outcome : Outcome) (text : List ℕ) →
@@ -128,6 +140,7 @@ IsTakenAsWritten tree prefix warn_lost solution later (Warns line_warning) = ⊥
 IsTakenAsWritten tree prefix warn_lost solution later (Assigns s given) = (f : SymbolFacts) → facts tree s ≡ Some f →
     ((m : Line) (other : GivenValue) → Contains later m → effect tree prefix m ≡ Assigns s other → other ≡ given)
     × (warn_lost ≡ true → has_prompt f.prompts ≡ true → given ≡ given_of (known solution s))
+
 -- If files are written, each line of the input files was taken as written, and no user value is warned of.
 abbrev pub StrictTakesAll : Type 0
 StrictTakesAll = (files : Files) (options : Options) (all : List (List ℕ)) (outcome : Outcome) (text : List ℕ) →

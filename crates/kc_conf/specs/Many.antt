@@ -3,7 +3,7 @@
 use Rattle.std.specs.{List.list_any, Prelude.{◌≡◌, ◌≢◌, ◌⊎◌, ℕ, suc, ◌<◌, Bool, true, false, not, ◌||◌, List, [], ◌∷◌, ◌++◌, Option, None, Some, String, string_bytes, bytes_eq, is_ok}, declared.alloc.Global.Global}
 use Rattle.kc_language.specs.{Expansion.{AreOpened, Files, Refused}, Symbols.TreeFacts, declared.outcome.{Delivery.Delivery, Status.Status}}
 use Rattle.kc_language.specs.Outcome.{IsAcceptedTree, IsOutcome, IsRefusedName, IsRefusedTree, Options, Outcome, input_files, lines_text, out_of_memory_line, refusal_line, reported, root_file, unreadable_name}
-use Rattle.kc_io.specs.{Held.last_of, Log.{Journal, Leads, Log, failed, held}, declared.device.{Action.Action, Fault.Fault}}
+use Rattle.kc_io.specs.{Delivery.last_of, Log.{Journal, Leads, Log, failed, held}, declared.device.{Action.Action, Fault.Fault}}
 use Rattle.kc_conf.specs.{Faults.{AreInputs, Broken, Completes, InputFile, TriesToSay, bytes_of, nothing_said, stale_texts, status_with, still_told, texts_of}, declared.stop.Stop.Stop}
 
 -- ---- What one configuration leaves
@@ -11,6 +11,7 @@ use Rattle.kc_conf.specs.{Faults.{AreInputs, Broken, Completes, InputFile, Tries
 -- behind them: with them before it, it is what that run leaves alone. A name is refused for one configuration.
 abbrev pub warned_before : TreeFacts → Option (List ℕ) → List ℕ
 warned_before tree refused = elim refused [ None ↦ lines_text tree.warnings | _ ↦ [] ]
+
 abbrev pub IsPart : Files → TreeFacts → Options → List (List ℕ) → Outcome → Type 0
 IsPart files tree options all part = (opened : List (List ℕ)) × AreOpened files (root_file options) opened
     × IsOutcome files options all (reported (warned_before tree (unreadable_name options opened)) part)
@@ -19,10 +20,12 @@ IsPart files tree options all part = (opened : List (List ℕ)) × AreOpened fil
 abbrev pub ExactlyOnePart : Type 0
 ExactlyOnePart = (files : Files) (tree : TreeFacts) (options : Options) (all : List (List ℕ)) → IsAcceptedTree files (root_file options) tree →
     (part : Outcome) × IsPart files tree options all part × ((other : Outcome) → IsPart files tree options all other → part ≡ other)
+
 -- What its own run leaves is the tree's warnings and then its part, or where a name is refused, its part.
 abbrev pub IsWholeOf : Files → TreeFacts → Options → Outcome → Outcome → Type 0
 IsWholeOf files tree options part outcome = (outcome ≡ reported (lines_text tree.warnings) part)
     ⊎ ((name : List ℕ) × IsRefusedName files options name × (outcome ≡ part))
+
 abbrev pub PartsAreOfRuns : Type 0
 PartsAreOfRuns = (files : Files) (tree : TreeFacts) (options : Options) (all : List (List ℕ)) (outcome : Outcome) →
     IsAcceptedTree files (root_file options) tree → IsOutcome files options all outcome →
@@ -33,11 +36,13 @@ PartsAreOfRuns = (files : Files) (tree : TreeFacts) (options : Options) (all : L
 abbrev pub ends_all : Stop → Bool
 ends_all Stop.OutOfMemory = true
 ends_all (Stop.Failed f) = elim f.action [ Action.Report ↦ true | _ ↦ elim f.fault [ Fault.Memory ↦ true | Fault.Refused ↦ false ] ]
+
 pub data EndsTurn (files : Files) (options : Options) (inputs : List InputFile) (part : Outcome) (old new : Log) (status : Status) (is_over : Bool) :
     Type 0 where
   whole : Completes files options inputs part old new status → is_over ≡ false → EndsTurn files options inputs part old new status is_over
   broken : (b : Broken files options nothing_said inputs part old new status) → is_over ≡ (ends_all b.stop || not (is_ok b.report)) →
       EndsTurn files options inputs part old new status is_over
+
 -- It leaves its part of what its own input files hold when its turn comes.
 pub record RunsTurn (files : Files) (tree : TreeFacts) (options : Options) (old new : Log) (status : Status) (is_over : Bool) : Type 0 where
   pub inputs : List InputFile
@@ -45,6 +50,7 @@ pub record RunsTurn (files : Files) (tree : TreeFacts) (options : Options) (old 
   pub part : Outcome
   pub is_part : IsPart files tree options (bytes_of inputs) part
   pub ends : EndsTurn files options inputs part old new status is_over
+
 -- A configuration with such options is run; or there was no memory for its options, which ends all.
 pub data TakesTurn (files : Files) (tree : TreeFacts) (are_options : Options → Type 0) (old new : Log) (status : Status) (is_over : Bool) : Type 0 where
   runs : (options : Options) → are_options options → RunsTurn files tree options old new status is_over →
@@ -56,8 +62,12 @@ pub data TakesTurn (files : Files) (tree : TreeFacts) (are_options : Options →
 -- The configurations from number i on, so many as are left, take their turns, up to one that ends all. The status is the greatest of theirs.
 abbrev pub greater : Status → Status → Status
 greater a = elim a [
-  Status.Done ↦ λ b. b | Status.Refused ↦ λ b. elim b [ Status.Done ↦ Status.Refused | b ↦ b ]
-  | Status.Usage ↦ λ b. elim b [ Status.Faulted ↦ Status.Faulted | _ ↦ Status.Usage ] | Status.Faulted ↦ λ b. Status.Faulted ]
+  | Status.Done ↦ λ b. b
+  | Status.Refused ↦ λ b. elim b [ Status.Done ↦ Status.Refused | b ↦ b ]
+  | Status.Usage ↦ λ b. elim b [ Status.Faulted ↦ Status.Faulted | _ ↦ Status.Usage ]
+  | Status.Faulted ↦ λ b. Status.Faulted
+]
+
 pub data TakeTurns (files : Files) (tree : TreeFacts) (options : ℕ → Options → Type 0) : ℕ → ℕ → Log → Log → Status → Type 0 where
   none : (i : ℕ) (log : Log) → TakeTurns files tree options i 0 log log Status.Done
   next : (i left : ℕ) (old mid new : Log) (status others : Status) → TakesTurn files tree (options i) old mid status false →
@@ -68,8 +78,10 @@ pub data TakeTurns (files : Files) (tree : TreeFacts) (options : ℕ → Options
 -- all options name this root file; the diagnostics failed
 abbrev pub AreRootedAt : List ℕ → (ℕ → Options → Type 0) → Type 0
 AreRootedAt root options = (i : ℕ) (o : Options) → options i o → root_file o ≡ root
+
 abbrev pub CannotSay : Log → Log → Type 0
 CannotSay old new = (fault : Fault) × Leads (failed Action.Report [] fault) [] old new
+
 -- No configuration takes its turn: the tree is refused and this is reported, or the diagnostics (for it or for its warnings) or memory failed.
 pub data StopsAtTree (files : Files) (root : List ℕ) (old new : Log) (status : Status) : Type 0 where
   refused_tree : (r : Refused) → IsRefusedTree files root r → Leads [] (refusal_line r) old new → status ≡ Status.Refused →
@@ -78,6 +90,7 @@ pub data StopsAtTree (files : Files) (root : List ℕ) (old new : Log) (status :
   unsaid_warnings : (tree : TreeFacts) → IsAcceptedTree files root tree → lines_text tree.warnings ≢ [] → CannotSay old new →
       status ≡ Status.Faulted → StopsAtTree files root old new status
   no_memory : TriesToSay out_of_memory_line old new → status ≡ Status.Faulted → StopsAtTree files root old new status
+
 -- A run for so many configurations. It ends at the tree; or the tree is accepted, its warnings are reported once, and then they take their turns.
 pub data RunsEach (files : Files) (root : List ℕ) (options : ℕ → Options → Type 0) (count : ℕ) (old new : Log) (status : Status) : Type 0 where
   stops : StopsAtTree files root old new status → RunsEach files root options count old new status
@@ -88,12 +101,16 @@ pub data RunsEach (files : Files) (root : List ℕ) (options : ℕ → Options �
 -- the files that a run with these options writes, or compares with --check; those that it writes; and whether a name is one of these
 abbrev pub name_if : Option (String Global) → List (List ℕ)
 name_if file = elim file [ None ↦ [] | Some name ↦ string_bytes name ∷ [] ]
+
 abbrev pub output_files : Options → List (List ℕ)
 output_files options = name_if options.out ++ (name_if options.header ++ (name_if options.minimal ++ name_if options.depfile))
+
 abbrev pub written_by : Delivery → List (List ℕ) → List (List ℕ)
 written_by how = elim how [ Delivery.Check ↦ λ names. [] | _ ↦ λ names. names ]
+
 abbrev pub written_files : Options → List (List ℕ)
 written_files options = written_by options.delivery (output_files options)
+
 abbrev pub is_among : List ℕ → List (List ℕ) → Bool
 is_among name = list_any (bytes_eq name)
 
@@ -102,9 +119,11 @@ abbrev pub AreSeparate : (ℕ → Options → Type 0) → ℕ → Type 0
 AreSeparate options count = (i j : ℕ) (one other : Options) (name : List ℕ) →
     i < count → j < count → i ≢ j → options i one → options j other →
     is_among name (written_files one) ≡ true → (is_among name (input_files other) ≡ false) × (is_among name (output_files other) ≡ false)
+
 -- No configuration writes the file.
 abbrev pub IsWrittenByNone : (ℕ → Options → Type 0) → ℕ → List ℕ → Type 0
 IsWrittenByNone options count name = (i : ℕ) (one : Options) → i < count → options i one → is_among name (written_files one) ≡ false
+
 -- The files that the options name hold the same at both times.
 abbrev pub HoldAlike : Options → Journal → Journal → Type 0
 HoldAlike options earlier later = (name : List ℕ) →
@@ -122,6 +141,7 @@ pub data EndsAmong (files : Files) (options : Options) (inputs : List InputFile)
   broken : (old new : Journal) → HoldAlike options before old → HoldAlike options new after →
       (b : Broken files options nothing_said inputs part (Some old) (Some new) status) →
       is_over ≡ (ends_all b.stop || not (is_ok b.report)) → EndsAmong files options inputs part before after status is_over
+
 -- It leaves its part of what its own input files held before all turns.
 pub record RunsAmong (files : Files) (tree : TreeFacts) (options : Options) (before after : Journal) (status : Status) (is_over : Bool) : Type 0 where
   pub inputs : List InputFile
@@ -129,12 +149,14 @@ pub record RunsAmong (files : Files) (tree : TreeFacts) (options : Options) (bef
   pub part : Outcome
   pub is_part : IsPart files tree options (bytes_of inputs) part
   pub ends : EndsAmong files options inputs part before after status is_over
+
 -- A configuration with such options is run; or there was no memory for its options.
 pub data TakesTurnAmong (files : Files) (tree : TreeFacts) (are_options : Options → Type 0) (before after : Journal) (status : Status)
     (is_over : Bool) : Type 0 where
   runs : (options : Options) → are_options options → RunsAmong files tree options before after status is_over →
       TakesTurnAmong files tree are_options before after status is_over
   no_options : status ≡ Status.Faulted → is_over ≡ true → TakesTurnAmong files tree are_options before after status is_over
+
 -- The configurations from one number on, so many as are left, take their turns, up to one that ends all. Each leaves what it leaves of the files as
 -- they were before all turns, whatever the others do.
 pub data TurnsAmong (files : Files) (tree : TreeFacts) (options : ℕ → Options → Type 0) (before after : Journal) : ℕ → ℕ → Status → Type 0 where
@@ -143,6 +165,7 @@ pub data TurnsAmong (files : Files) (tree : TreeFacts) (options : ℕ → Option
       TurnsAmong files tree options before after (suc i) left others → TurnsAmong files tree options before after i (suc left) (greater status others)
   last : (i left : ℕ) (status : Status) → TakesTurnAmong files tree (options i) before after status true →
       TurnsAmong files tree options before after i (suc left) status
+
 -- A run for so many configurations, where the files held these before and those after. It ends at the tree, and changes no file; or the
 -- configurations take their turns, none of which touches what another one reads or leaves, and a file that none of them writes holds what it held.
 pub data LeavesEach (files : Files) (root : List ℕ) (options : ℕ → Options → Type 0) (count : ℕ) (before after : Journal) (status : Status) :
@@ -152,6 +175,7 @@ pub data LeavesEach (files : Files) (root : List ℕ) (options : ℕ → Options
   turns : (tree : TreeFacts) → IsAcceptedTree files root tree → TurnsAmong files tree options before after 0 count status →
       ((name : List ℕ) → IsWrittenByNone options count name → held after name ≡ held before name) →
       LeavesEach files root options count before after status
+
 -- If none of them writes a file of another one, a run for all leaves, over a device that tells, what each leaves of the files before the run.
 abbrev pub EachLeavesItsPart : (ℕ → Options → Type 0) → ℕ → Type 0
 EachLeavesItsPart options count = (files : Files) (root : List ℕ) (before after : Journal) (status : Status) → AreSeparate options count →

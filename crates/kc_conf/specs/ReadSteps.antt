@@ -3,8 +3,7 @@ use Rattle.std.specs.Prelude.{◌≡◌, ◌⊎◌, ℕ, Bool, true, false, not,
 use Rattle.kc_language.specs.Lines.{HoldsNoLineFeed}
 use Rattle.kc_language.specs.Symbols.{TreeFacts}
 use Rattle.kc_language.specs.ConfigFile.{ArePlacesOf, Line, UserInput, lines_from, lines_of, reading}
-use Rattle.kc_io.specs.Log.{Event, Log, Leads, did, each_byte}
-use Rattle.kc_io.specs.Reading.{IsFound, IsOpened, OpenFile}
+use Rattle.kc_io.specs.Log.{Event, Log, Leads, did, each_byte, IsFound, IsOpened, OpenFile}
 use Rattle.kc_io.specs.declared.device.Action.{Action}
 use Rattle.kc_io.specs.declared.device.Action.TheVariants.{Open, Miss, Read, Report}
 use Rattle.kc_io.specs.declared.steps.Failure.{Failure}

@@ -6,7 +6,7 @@ ghost use Rattle.kc_language.specs.Symbols.{warning_line};
 ghost use Rattle.kc_language.specs.ConfigFile.{ArePlacesOf};
 ghost use Rattle.kc_language.specs.Texts.{warnings, solution_view};
 ghost use Rattle.kc_language.specs.Texts as whole;
-ghost use Rattle.kc_io.specs.TextViews.{text_view};
+ghost use Rattle.kc_io.specs.Delivered.{text_view};
 ghost use Rattle.kc_language.specs.Outcome as rules;
 ghost use Rattle.kc_conf.specs.Accepted.{IsReady};
 ghost use Rattle.kc_language.specs.Outcome.{lead, target, has_text, lines_text, names_listed, text_if, is_outside, lost_warnings, refuses_input};

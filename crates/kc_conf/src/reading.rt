@@ -1,9 +1,7 @@
 //! Reads the input files, in whatever pieces they come.
 
 ghost use Rattle.std.specs.Prelude.{◌≡◌, ◌≤◌, ◌++◌, [], false, true, length, map, None, IfErr, IfOk, OnOk, option_map};
-ghost use Rattle.kc_io.specs.Log.{Leads};
-ghost use Rattle.kc_io.specs.Reading.{ReadsOn, reading};
-ghost use Rattle.kc_io.specs.WholeLines.{is_whole_lines};
+ghost use Rattle.kc_io.specs.Log.{Leads, ReadsOn, reading, is_whole_lines};
 ghost use Rattle.kc_language.specs.ConfigFile.{ArePlacesOf};
 ghost use Rattle.kc_config_file.specs.Feeding.{stream_start};
 ghost use Rattle.kc_language.specs.Outcome.{holds_warnings, lead, names_of, fresh_input};

@@ -3,7 +3,7 @@ ghost use Rattle.std.specs.Prelude.{◌≡◌, ◌≢◌, ◌++◌, ℕ, List, [
 ghost use Rattle.kc_language.specs.Expansion.{Files, bytes_in};
 ghost use Rattle.kc_read.specs.RefusalView.{refusal_view};
 ghost use Rattle.kc_language.specs.declared.diagnostics.Cause.TheVariants.{Memory};
-ghost use Rattle.kc_io.specs.TextViews.{text_view};
+ghost use Rattle.kc_io.specs.Delivered.{text_view};
 ghost use Rattle.kc_conf.specs.Accepted.{IsAcceptedOf, IsReadOf, IsReady};
 ghost use Rattle.kc_language.specs.Outcome.{lead, refusal_line, too_long_line, unreadable_line, AreLines, root_file, has_text, lines_text, names_listed, unreadable_name};
 ghost use Rattle.kc_conf.specs.PartsOfOutcome.{strict_line};

@@ -12,7 +12,8 @@ use Rattle.kc_config_file.specs.declared.fault.InputFault.{InputFault}
 use Rattle.kc_config_file.specs.Feeding.{StreamPosition, ReadsPiece, EndsStream, Feeds, Refuses, FinishesStream, fed}
 use Rattle.kc_config_file.specs.Reading.{with_warnings}
 use Rattle.kc_config_file.specs.WholeLines.{AddsWholeLines}
-use Rattle.kc_io.specs.WholeLines.{ends_line, is_whole_lines}
+use Rattle.kc_io.specs.PartsOfLog.{ends_line}
+use Rattle.kc_io.specs.Log.{is_whole_lines}
 use Rattle.kc_config_file.proofs.LineLemmas.{HasNoLf}
 use Rattle.kc_config_file.proofs.ReadingLemmas.{reading-nothing, warnings-cons, warnings-nothing}
 use Rattle.kc_config_file.proofs.StreamLemmas.{reading-long_end, waiting_no_lf}

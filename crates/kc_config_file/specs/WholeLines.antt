@@ -1,6 +1,7 @@
 -- Trusted: What a reader tells is whole lines.
 use Rattle.std.specs.Prelude.{◌≡◌, ℕ, List, ◌++◌, true}
-pub use Rattle.kc_io.specs.WholeLines.{ends_line, is_whole_lines}
+pub use Rattle.kc_io.specs.PartsOfLog.{ends_line}
+pub use Rattle.kc_io.specs.Log.{is_whole_lines}
 
 -- behind what there was stand whole lines, or nothing
 abbrev pub AddsWholeLines : List ℕ → List ℕ → Type 0

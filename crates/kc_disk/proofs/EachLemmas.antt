@@ -1,16 +1,17 @@
 -- What a folder told stays so where it still tells, and how the steps of a run for many configurations make one.
 use Rattle.std.proofs.Common.{◌≡◌, ℕ, List, [], ◌++◌, refl, ap, sym, subst, ◌∙◌, append-nil, Option, Some, None, Ok, Err, String, Vec, Global, map, string_bytes}
 use Rattle.kc_io.specs.Log.{Log}
-use Rattle.kc_load.specs.Folders.{AnswersAs, FolderState, Leads, files_told}
+use Rattle.kc_load.specs.Folder.{AnswersAs, FolderState, Leads, files_told}
 use Rattle.kc_load.specs.declared.fault.LoadFault.{LoadFault}
 use Rattle.kc_load.specs.declared.fault.LoadFault.TheVariants.{CannotRead, Memory}
-use Rattle.kc_words.specs.Apart.{AreApart, IsClash}
+use Rattle.kc_words.specs.CommandLine.{AreApart, IsClash}
 use Rattle.kc_words.specs.declared.each.Each.{Each}
 use Rattle.kc_words.specs.declared.usage.UsageError.{UsageError}
 use Rattle.kc_conf.specs.Faults.{load_line, TriesToSay}
 use Rattle.kc_language.specs.declared.outcome.Status.{Status}
 use Rattle.kc_language.specs.declared.outcome.Status.TheVariants as answered
-use Rattle.kc_disk.specs.EachRuns.{AreListed, AreNames, FolderRunsEach, SaysClash, clashing, loaded, no_memory, unlisted, unloaded, unreadable}
+use Rattle.kc_disk.specs.Program.{AreListed, AreNames, FolderRunsEach, clashing, loaded, no_memory, unlisted, unloaded, unreadable}
+use Rattle.kc_disk.specs.PartsOfProgram.{SaysClash}
 use Rattle.kc_disk.specs.EachSteps.{FindsNames, RunsNamed, not_loaded, ran}
 
 -- behind reads of which none failed

@@ -2,11 +2,10 @@
 use Rattle.std.proofs.Common.{◌≡◌, ℕ, Bool, true, false, List, [], ◌∷◌, ◌++◌, length, map, refl, sym, ap, ◌∙◌, Option, None, Some, Result, Ok, Err, String, string_bytes, option_map}
 use Rattle.std.specs.Prelude.{slice_index_or}
 use Rattle.std.specs.declared.alloc.Global.{Global}
-use Rattle.kc_io.specs.Laws.{LookingKeeps}
+use Rattle.kc_io.specs.Delivery.{LookingKeeps}
 use Rattle.kc_io.specs.Log.{Journal, Leads, Log, held, reported, with_events}
 use Rattle.kc_io.specs.declared.device.Fault.{Fault}
-use Rattle.kc_words.specs.Apart.{AreApart, filled_if, reads, writes}
-use Rattle.kc_words.specs.Patterns.{AreOptionsFor, filled}
+use Rattle.kc_words.specs.CommandLine.{AreApart, filled_if, reads, writes, AreOptionsFor, filled}
 use Rattle.kc_words.specs.declared.each.Each.{Each}
 use Rattle.kc_words.specs.declared.usage.UsageError.{UsageError}
 use Rattle.kc_words.specs.declared.usage.UsageError.TheVariants as usage
@@ -14,9 +13,7 @@ use Rattle.kc_language.specs.Outcome.{Options, input_files}
 use Rattle.kc_conf.specs.Many.{AreSeparate, is_among, name_if, output_files}
 use Rattle.kc_conf.specs.Faults.{TriesToSay}
 use Rattle.kc_conf.proofs.AmongLemmas.{each_leaves_its_part_law, written_output}
-use Rattle.kc_disk.specs.EachLeaves.{NamedStandApart, ends_before, leaves}
-use Rattle.kc_disk.specs.EachRuns.{GivesOptions, clashing, loaded, unlisted, unloaded}
-use Rattle.kc_disk.specs.Usage.{SaysUsage}
+use Rattle.kc_disk.specs.Program.{NamedStandApart, ends_before, leaves, GivesOptions, clashing, loaded, unlisted, unloaded, SaysUsage}
 
 -- ---- the names of the files
 

@@ -3,18 +3,17 @@ use Rattle.std.specs.Prelude.{◌≡◌, ℕ, List, [], Option, Some, Result, Ok
 use Rattle.std.specs.Str.{IsUtf8}
 use Rattle.std.specs.declared.alloc.Global.{Global}
 use Rattle.kc_io.specs.Log.{Log}
-use Rattle.kc_load.specs.Expanding.{AreFilesOf}
-use Rattle.kc_load.specs.Folders.{AnswersAs, FolderState, Leads as FolderLeads, files_told}
+use Rattle.kc_load.specs.Folder.{AreFilesOf, AnswersAs, FolderState, Leads as FolderLeads, files_told}
 use Rattle.kc_load.specs.declared.fault.LoadFault.{LoadFault}
 use Rattle.kc_load.specs.declared.fault.LoadFault.TheVariants.{CannotRead, Memory}
 use Rattle.kc_language.specs.Expansion.{Files}
-use Rattle.kc_words.specs.Lists.{listed}
+use Rattle.kc_words.specs.CommandLine.{listed}
 use Rattle.kc_words.specs.declared.each.Each.{Each}
 use Rattle.kc_conf.specs.Faults.{load_line, TriesToSay}
 use Rattle.kc_conf.specs.Many.{RunsEach}
 use Rattle.kc_language.specs.declared.outcome.Status.{Status}
 use Rattle.kc_language.specs.declared.outcome.Status.TheVariants as answered
-use Rattle.kc_disk.specs.EachRuns.{AreListed, AreNames, GivesOptions, HasNoList, IsUnloaded}
+use Rattle.kc_disk.specs.Program.{AreListed, AreNames, GivesOptions, HasNoList, IsUnloaded}
 
 -- the folder told of this list, or it cannot be read
 abbrev pub ReadsList : List ℕ → Result (Vec (String Global) Global) LoadFault → Option FolderState → Option FolderState → Type 0

@@ -1,6 +1,4 @@
-pub mod Status
-pub mod Usage
-pub mod EachRuns
+pub mod Limits
+pub mod PartsOfProgram
+pub mod Program
 pub mod EachSteps
-pub mod EachLeaves
-pub mod Answering

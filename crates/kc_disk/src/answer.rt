@@ -1,7 +1,6 @@
 //! What arguments ask for, done.
 ghost use Rattle.std.specs.Prelude.{◌≡◌};
-ghost use Rattle.kc_disk.specs.Answering.{AnswersArguments, KconfEnds};
-ghost use Rattle.kc_disk.specs.Usage.{EndsUsage, SaysUsage};
+ghost use Rattle.kc_disk.specs.Program.{AnswersArguments, KconfEnds, EndsUsage, SaysUsage};
 
 use crate::arguments::Arguments;
 use crate::each::run_each_in_folder;

@@ -1,7 +1,8 @@
 //! The arguments that the process was started with.
 ghost use Rattle.std.specs.Prelude.{◌≡◌, drop, IfOk};
 ghost use Rattle.std.specs.Vec.Iter.{into_iter_items};
-ghost use Rattle.kc_disk.specs.Answering.{AreArgumentsOf, AreUnread};
+ghost use Rattle.kc_disk.specs.Program.{AreArgumentsOf};
+ghost use Rattle.kc_disk.specs.PartsOfProgram.{AreUnread};
 
 use kc_words::UsageError;
 use std::alloc::{AllocError, Global};

@@ -1,6 +1,6 @@
 //! The calls of the system that read files, make them and write diagnostics.
 ghost use Rattle.std.specs.Prelude.{◌≤◌, ◌-◌, None, length, IfOk};
-ghost use Rattle.kc_disk.specs.Status.{most_reads};
+ghost use Rattle.kc_disk.specs.Limits.{most_reads};
 
 use crate::destination::{Destination, destination_of};
 use crate::diagnostics::Diagnostics;

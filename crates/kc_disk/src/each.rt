@@ -1,6 +1,6 @@
 //! A run for many configurations over a folder.
 ghost use Rattle.std.specs.Prelude.{◌≡◌, length, map, string_bytes, IfOk};
-ghost use Rattle.kc_disk.specs.EachRuns.{FolderRunsEach, GivesOptions};
+ghost use Rattle.kc_disk.specs.Program.{FolderRunsEach, GivesOptions};
 ghost use Rattle.kc_disk.specs.EachSteps.{FindsNames, IsUnreadable, ReadsList, ReadsListIf, RunsNamed};
 
 use crate::usage::say_usage;

@@ -1,6 +1,6 @@
 //! Runs of the program over any folder and device. Nothing else makes an `Ended`.
 ghost use Rattle.std.specs.Prelude.{◌≡◌};
-ghost use Rattle.kc_disk.specs.Answering.{KconfEnds};
+ghost use Rattle.kc_disk.specs.Program.{KconfEnds};
 
 use crate::answer::answer;
 use crate::arguments::Arguments;

@@ -1,5 +1,5 @@
 //! What follows from how runs for many configurations end, stated as the contract of a function that does nothing.
-ghost use Rattle.kc_disk.specs.EachLeaves.{NamedStandApart};
+ghost use Rattle.kc_disk.specs.Program.{NamedStandApart};
 
 use kc_io::laws::looking_keeps;
 

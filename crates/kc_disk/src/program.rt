@@ -1,7 +1,6 @@
 //! The program over the files of a disk.
 ghost use Rattle.std.specs.Prelude.{◌≡◌};
-ghost use Rattle.kc_disk.specs.Answering.{KconfEndsOnDisk};
-ghost use Rattle.kc_disk.specs.Status.{exit_status};
+ghost use Rattle.kc_disk.specs.Program.{KconfEndsOnDisk, exit_status};
 
 use crate::arguments::Arguments;
 use crate::device::SystemDevice;

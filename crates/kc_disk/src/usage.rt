@@ -1,7 +1,8 @@
 //! What is said of a bad command line.
 ghost use Rattle.std.specs.Prelude.{◌≡◌};
-ghost use Rattle.kc_io.specs.WholeLines.{is_whole_lines};
-ghost use Rattle.kc_disk.specs.Usage.{EndsUsage, SaysText, SaysUsage, line_end};
+ghost use Rattle.kc_io.specs.Log.{is_whole_lines};
+ghost use Rattle.kc_disk.specs.Program.{EndsUsage, SaysText, SaysUsage};
+ghost use Rattle.kc_disk.specs.PartsOfProgram.{line_end};
 
 use kc_conf::Status;
 use kc_io::Device;

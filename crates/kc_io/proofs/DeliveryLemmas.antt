@@ -3,9 +3,8 @@ use Rattle.std.proofs.Common.{◌≡◌, Bool, true, false, not, ◌||◌, cond,
 use Rattle.std.proofs.lemmas.List.Folds.{flat_map-map}
 use Rattle.std.specs.List.{flat_map, list_any}
 use Rattle.kc_io.specs.Log.{Journal, Log, Leads, Tells, is_held}
-use Rattle.kc_io.specs.Scripts.{NamedText, put, moved, chosen, delivery, share_name}
-use Rattle.kc_io.specs.TextViews.{text_view}
-use Rattle.kc_io.specs.Delivered.{Delivered, Went, cleared}
+use Rattle.kc_io.specs.Delivery.{NamedText, put, moved, chosen, delivery, share_name}
+use Rattle.kc_io.specs.Delivered.{text_view, Delivered, Went, cleared}
 use Rattle.kc_io.specs.declared.delivery.Manner.{Manner}
 use Rattle.kc_io.specs.declared.delivery.Manner.TheVariants.{InPlace, Replacing}
 use Rattle.kc_io.specs.declared.delivery.Text.{Text}

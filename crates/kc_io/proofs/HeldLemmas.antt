@@ -4,10 +4,9 @@ use Rattle.std.proofs.lemmas.List.{append-nil}
 use Rattle.std.proofs.lemmas.Grind.{fold-append}
 use Rattle.std.specs.List.{flat_map}
 use Rattle.kc_io.specs.Log.{Event, Spot, acted, after, each_byte, did}
-use Rattle.kc_io.specs.Scripts.{NamedText, put, moved, delivery}
+use Rattle.kc_io.specs.Delivery.{NamedText, put, moved, delivery, last_of}
 use Rattle.kc_io.specs.declared.delivery.Manner.{Manner}
 use Rattle.kc_io.specs.declared.delivery.Manner.TheVariants.{InPlace, Replacing}
-use Rattle.kc_io.specs.Held.{last_of}
 use Rattle.kc_io.specs.declared.device.Action.TheVariants.{Create, Write, Close}
 use Rattle.kc_io.specs.declared.device.Site.{Site}
 use Rattle.kc_io.specs.declared.device.Site.TheVariants.{Place, Beside}

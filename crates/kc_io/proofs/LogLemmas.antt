@@ -3,9 +3,8 @@ use Rattle.std.proofs.Common.{◌≡◌, ℕ, zero, suc, Bool, true, false, not,
 use Rattle.std.proofs.lemmas.List.{append-nil, map-append}
 use Rattle.std.proofs.lemmas.List.Folds.{list_all-append}
 use Rattle.std.proofs.lemmas.Grind.{fold-append}
-use Rattle.kc_io.specs.Log.{Event, Journal, Log, Leads, Spot, Tells, acted, after, each_byte, failed, held, reported, with_events}
-use Rattle.kc_io.specs.Held.{keeps_files, only_looks}
-use Rattle.kc_io.specs.Reading.{contents, opening, reading}
+use Rattle.kc_io.specs.Log.{Event, Journal, Log, Leads, Spot, Tells, acted, after, each_byte, failed, held, reported, with_events, keeps_files, only_looks, opening, reading}
+use Rattle.kc_io.specs.PartsOfLog.{contents}
 use Rattle.kc_io.specs.declared.device.Action.{Action}
 use Rattle.kc_io.specs.declared.device.Fault.{Fault}
 use Rattle.kc_io.specs.declared.device.Action.TheVariants.{Open, Miss, Read, Create, Write, Close, Move, Clear, Report}

@@ -5,11 +5,11 @@ use Rattle.std.proofs.lemmas.Grind.{flat_map-append}
 use Rattle.std.proofs.Math.Seq.{drop-cons, take-add}
 use Rattle.std.specs.List.{flat_map}
 use Rattle.kc_io.specs.Log.{Event, Log, Leads, did, each_byte, failed}
-use Rattle.kc_io.specs.Scripts.{NamedText, put}
+use Rattle.kc_io.specs.Delivery.{NamedText, put, StopsBefore}
 use Rattle.kc_io.specs.declared.device.Action.TheVariants.{Create, Write, Close}
 use Rattle.kc_io.specs.declared.device.Fault.{Fault}
 use Rattle.kc_io.specs.declared.device.Site.{Site}
-use Rattle.kc_io.specs.Delivered.{StopsBefore, Went, failure_of}
+use Rattle.kc_io.specs.Delivered.{Went, failure_of}
 use Rattle.kc_io.specs.declared.steps.Failure.{Failure}
 use Rattle.kc_io.proofs.LogLemmas.{leads_as, leads_both}
 

@@ -1,8 +1,4 @@
-pub mod Log
-pub mod WholeLines
-pub mod Reading
-pub mod Scripts
 pub mod Delivered
-pub mod Held
-pub mod TextViews
-pub mod Laws
+pub mod Delivery
+pub mod Log
+pub mod PartsOfLog

@@ -1,32 +1,30 @@
--- Trusted: What a device tells of itself: what its files held, what was done with them, and what was said.
-use Rattle.std.specs.Prelude.{◌≡◌, ℕ, Bool, false, not, ◌||◌, if◌then◌else◌, List, [], ◌∷◌, ◌++◌, map, fold, take, is_some, Option, None, Some, Result, Ok, Err, bytes_eq, option_map}
-use Rattle.std.specs.Option.{option_map_or}
-use Rattle.kc_io.specs.declared.device.Action.{Action}
-use Rattle.kc_io.specs.declared.device.Action.TheVariants.{Create, Write, Move, Report}
-use Rattle.kc_io.specs.declared.device.Site.{Site}
-use Rattle.kc_io.specs.declared.device.Site.TheVariants.{Place, Beside}
-use Rattle.kc_io.specs.declared.device.Fault.{Fault}
+-- Trusted: What a device records: what was asked of it and how it answered; what the files hold; and reading (our own).
+-- A device keeps files by name and takes diagnostics. A device in memory records all, until it runs out of memory; a disk records nothing.
+use Rattle.std.specs.{Prelude.{◌≡◌, ℕ, zero, suc, ◌<◌, Bool, true, false, not, ◌||◌, if◌then◌else◌, List, [], ◌∷◌, ◌++◌, map, fold, take, length, is_some, unwrap_or, Option, None, Some, Result, Ok, Err, bytes_eq, option_map}, List.{last_or, list_all}, Option.option_map_or}
+use Rattle.kc_language.specs.Lines.{is_line_feed}
+use Rattle.kc_io.specs.declared.device.{Action.{Action, TheVariants.{Open, Miss, Read, Create, Write, Move, Report}}, Site.{Site, TheVariants.{Place, Beside}}, Fault.Fault}
 
--- ---- events
+-- ---- Events
 
--- What was done with the file of a name, and with which byte of it; or for what cause it was not.
+-- An action, the file's name, the byte that was read or written (if any), and why the action failed (if it did).
 pub record Event : Type 0 where
   pub action : Action
   pub name : List ℕ
   pub bytes : List ℕ
   pub fault : Option Fault
 
+-- An action that succeeded; one that failed; and a read or write of bytes: each byte is an event, so it does not matter in which chunks they go.
 abbrev pub did : Action → List ℕ → List Event
 did action name = record { action = action; name = name; bytes = []; fault = None } ∷ []
 
 abbrev pub failed : Action → List ℕ → Fault → List Event
 failed action name fault = record { action = action; name = name; bytes = []; fault = Some fault } ∷ []
 
--- Each byte that is read or written is an event of its own, so it does not matter in which pieces they go.
 abbrev pub each_byte : Action → List ℕ → List ℕ → List Event
 each_byte action name bytes = map (λ byte. record { action = action; name = name; bytes = byte ∷ []; fault = None }) bytes
 
--- the event of an answer
+-- The events of an answer: to an action; to a write, which takes some of the bytes; to opening a file, which may be missing; and to a read,
+-- which gives bytes, or none at the end of the file.
 abbrev pub tried : Result (Unit {0}) Fault → Action → List ℕ → List Event
 tried (Ok _) action name = did action name
 tried (Err fault) action name = failed action name fault
@@ -35,7 +33,17 @@ abbrev pub wrote : Result ℕ Fault → Site → List ℕ → List ℕ → List 
 wrote (Ok count) site name bytes = each_byte (Write site) name (take count bytes)
 wrote (Err fault) site name bytes = failed (Write site) name fault
 
--- diagnostics are no event, unless they fail
+abbrev pub opening : Result Bool Fault → List ℕ → List Event
+opening (Ok true) name = did Open name
+opening (Ok false) name = did Miss name
+opening (Err fault) name = failed Open name fault
+
+abbrev pub reading : Result ℕ Fault → List ℕ → List ℕ → List Event
+reading (Ok zero) name buffer = did Read name
+reading (Ok (suc count)) name buffer = each_byte Read name (take (suc count) buffer)
+reading (Err fault) name buffer = failed Read name fault
+
+-- Diagnostics are recorded as text. They are an event only if they fail.
 abbrev pub reported : Result (Unit {0}) Fault → List Event
 reported (Ok _) = []
 reported (Err fault) = failed Report [] fault
@@ -44,37 +52,36 @@ abbrev pub said : Result (Unit {0}) Fault → List ℕ → List ℕ
 said (Ok _) text = text
 said (Err fault) text = []
 
--- ---- the log
+-- ---- The log
 
--- What the files held at first, what was done since, in order, and what was written to the diagnostics.
+-- What each file held at first, the events since then, in order, and the text of the diagnostics.
 pub record Journal : Type 0 where
   pub files : List ℕ → Option (List ℕ)
   pub events : List Event
   pub said : List ℕ
 
--- or nothing is told
+-- What a device records: a journal, or nothing. A journal with more events and text. And: P holds of the journal, if there is one.
 abbrev pub Log : Type 0
 Log = Option Journal
 
 abbrev pub with_events : List Event → List ℕ → Journal → Journal
 with_events events text journal = record { files = journal.files; events = journal.events ++ events; said = journal.said ++ text }
 
--- What is told afterwards is what was told before, with these events and this text. A device may stop telling.
-pub record Leads (events : List Event) (text : List ℕ) (old new : Log) : Type 0 where
-  pub told : (after : Journal) → new ≡ Some after → (before : Journal) × (old ≡ Some before) × (with_events events text before ≡ after)
-
--- this holds of what is told
 abbrev pub Tells : Log → (Journal → Type 0) → Type 0
 Tells log P = (journal : Journal) → log ≡ Some journal → P journal
 
--- ---- what the files hold
+-- The new log is the old one with these events and this text. A device may stop recording.
+pub record Leads (events : List Event) (text : List ℕ) (old new : Log) : Type 0 where
+  pub told : (after : Journal) → new ≡ Some after → (before : Journal) × (old ≡ Some before) × (with_events events text before ≡ after)
 
--- what the file of a name holds, if there is one, and what stands beside it
+-- ---- What the files hold
+
+-- What the file of a name holds, if there is one, and the bytes of the file beside it, which is to replace it.
 pub record Spot : Type 0 where
   pub held : Option (List ℕ)
   pub beside : List ℕ
 
--- what an action with these bytes makes of it
+-- How an action with these bytes changes it; and how an event does, at this name.
 abbrev pub acted : Action → List ℕ → Spot → Spot
 acted (Create Place) bytes spot = record spot { held = Some [] }
 acted (Create Beside) bytes spot = record spot { beside = [] }
@@ -86,10 +93,49 @@ acted _ bytes spot = spot
 abbrev pub after : List ℕ → Spot → Event → Spot
 after name spot event = if is_some event.fault || not (bytes_eq name event.name) then spot else acted event.action event.bytes spot
 
--- what the file of this name holds now
+-- What the file of a name holds now; and whether it exists and holds these bytes.
 abbrev pub held : Journal → List ℕ → Option (List ℕ)
 held journal name = (fold (after name) (record { held = journal.files name; beside = [] }) journal.events).held
 
--- whether it is there and holds these bytes
 abbrev pub is_held : Journal → List ℕ → List ℕ → Bool
 is_held journal name bytes = option_map_or (λ found. bytes_eq found bytes) (held journal name) false
+
+-- Events that change no file: each failed, or is not a `Create`, `Write` or `Move`.
+abbrev pub only_looks : Action → Bool
+only_looks (Create _) = false
+only_looks (Write _) = false
+only_looks Move = false
+only_looks _ = true
+
+abbrev pub keeps_files : List Event → Bool
+keeps_files events = list_all (λ event. is_some event.fault || only_looks event.action) events
+
+-- ---- Reading and diagnostics
+
+-- The file that was opened last: the bytes that are still to be read, if they are recorded, and how many reads may still give some.
+pub record OpenFile : Type 0 where
+  pub to_come : Option (List ℕ)
+  pub reads_left : ℕ
+
+-- The answer to opening a file, `there`, agrees with the log. A file is answered to be missing only if it may be.
+pub record IsFound (log : Log) (name : List ℕ) (may_be_missing there : Bool) : Type 0 where
+  pub missing : there ≡ false → may_be_missing ≡ true
+  pub told : Tells log (λ journal. is_some (held journal name) ≡ there)
+
+-- Nothing of the file was read yet; and nothing is left to be read.
+abbrev pub IsOpened : Log → List ℕ → OpenFile → Type 0
+IsOpened log name file = file.to_come ≡ option_map (λ journal. unwrap_or (held journal name) []) log
+
+abbrev pub IsAtEnd : Option (List ℕ) → Type 0
+IsAtEnd None = Unit {0}
+IsAtEnd (Some rest) = rest ≡ []
+
+-- A read puts the next `count` bytes of the file in the buffer. If there are none, the file is at its end. If there are some, fewer reads are left.
+pub record ReadsOn (count : ℕ) (buffer : List ℕ) (old new : OpenFile) : Type 0 where
+  pub bytes : old.to_come ≡ option_map (λ rest. take count buffer ++ rest) new.to_come
+  pub end : count ≡ 0 → 0 < length buffer → IsAtEnd new.to_come
+  pub fewer : 0 < count → new.reads_left < old.reads_left
+
+-- Whole lines: no bytes, or the last one is a line feed.
+abbrev pub is_whole_lines : List ℕ → Bool
+is_whole_lines bytes = elim (last_or None bytes) [ None ↦ true | Some b ↦ is_line_feed b ]

@@ -2,9 +2,8 @@
 ghost use Rattle.std.specs.Prelude.{◌≡◌, map, bytes_eq};
 ghost use Rattle.std.specs.List.{list_any};
 ghost use Rattle.kc_io.specs.Log.{Tells};
-ghost use Rattle.kc_io.specs.Scripts.{chosen, delivery, share_name};
-ghost use Rattle.kc_io.specs.TextViews.{text_view};
-ghost use Rattle.kc_io.specs.Delivered.{Delivered, Went};
+ghost use Rattle.kc_io.specs.Delivery.{chosen, delivery, share_name};
+ghost use Rattle.kc_io.specs.Delivered.{text_view, Delivered, Went};
 
 use crate::device::{Device, Site};
 use crate::steps::{Failure, move_all, put_all};

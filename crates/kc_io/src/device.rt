@@ -1,9 +1,7 @@
 //! What a program asks of a device.
 ghost use Rattle.std.specs.Prelude.{◌≡◌, ◌<◌, ◌≤◌, [], true, length, take, IfOk, OnErr, IsTrue, if◌then◌else◌};
 ghost use Rattle.std.specs.List.{flat_map};
-ghost use Rattle.kc_io.specs.Log.{Leads, Log, Tells, did, is_held, reported, said, tried, wrote};
-ghost use Rattle.kc_io.specs.Reading.{IsFound, IsOpened, OpenFile, ReadsOn, opening, reading};
-ghost use Rattle.kc_io.specs.WholeLines.{is_whole_lines};
+ghost use Rattle.kc_io.specs.Log.{Leads, Log, Tells, did, is_held, reported, said, tried, wrote, IsFound, IsOpened, OpenFile, ReadsOn, opening, reading, is_whole_lines};
 
 /// Why a device did not do what it was asked.
 #[derive(Clone, Copy, Debug, PartialEq, Eq)]

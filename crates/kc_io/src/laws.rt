@@ -1,5 +1,5 @@
 //! What follows from the contracts, stated as the contracts of functions that do nothing.
-ghost use Rattle.kc_io.specs.Laws.{DeliveryHolds, LookingKeeps, TurnsFollow};
+ghost use Rattle.kc_io.specs.Delivery.{DeliveryHolds, LookingKeeps, TurnsFollow};
 
 /// The law of deliveries: behind a whole one, in either manner, the file of a name holds the last of these texts that has the name, and
 /// each other file what it held. (Our own.)

@@ -2,9 +2,8 @@
 ghost use Rattle.std.specs.Prelude.{[]};
 ghost use Rattle.std.specs.List.{flat_map};
 ghost use Rattle.kc_io.specs.Log.{did, each_byte};
-ghost use Rattle.kc_io.specs.Scripts.{moved, put};
-ghost use Rattle.kc_io.specs.TextViews.{text_view};
-ghost use Rattle.kc_io.specs.Delivered.{Went};
+ghost use Rattle.kc_io.specs.Delivery.{moved, put};
+ghost use Rattle.kc_io.specs.Delivered.{text_view, Went};
 
 use crate::delivery::Text;
 use crate::device::{Action, Device, Fault, Site};

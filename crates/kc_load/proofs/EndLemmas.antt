@@ -6,13 +6,12 @@ use Rattle.std.proofs.lemmas.List.Elements.{All-nil, Contains-append_left}
 use Rattle.std.proofs.Math.ListN.{length-map}
 use Rattle.std.specs.declared.vec.Vec.{Vec}
 use Rattle.std.specs.declared.alloc.Global.{Global}
-use Rattle.kc_load.specs.Faults.{IsLoadFault, IsNext}
-use Rattle.kc_load.specs.Folders.{FolderFiles, AnswersAs}
+use Rattle.kc_load.specs.Folder.{IsLoadFault, IsNext, FolderFiles, AnswersAs, Answer, AreAsked, files_found}
 use Rattle.kc_language.specs.Outcome.{path_of, AreSourcesOf, AskedAlong, ended, asked}
 use Rattle.kc_language.specs.Text.{most_lines}
 use Rattle.kc_text.specs.PartsOfText.{last_count}
 use Rattle.kc_language.specs.Expansion.{lines_of}
-use Rattle.kc_load.specs.Loaded.{Answer, AreAsked, Loads, files_found}
+use Rattle.kc_load.specs.Loading.{Loads}
 use Rattle.kc_load.specs.Steps.{FailsAt, IsDue, State, Visits, no_text, not_new, no_file, file, initial_state, was_requested}
 use Rattle.kc_load.specs.declared.fault.LoadFault.{LoadFault}
 use Rattle.kc_load.specs.declared.fault.LoadFault.TheVariants.{CannotRead, Memory}

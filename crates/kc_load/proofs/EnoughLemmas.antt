@@ -13,10 +13,10 @@ use Rattle.kc_language.specs.Statements.{Cause, Located, Named}
 use Rattle.kc_read.specs.OpenedFiles.{sourced_files}
 use Rattle.kc_read.proofs.ExpansionThere.{has_one_expansion}
 use Rattle.kc_read.proofs.OneExpansion.{one_expansion_law}
-use Rattle.kc_load.specs.Expanding.{ExpandsAlike, Suffices, named}
-use Rattle.kc_load.specs.Folders.{FolderFiles}
+use Rattle.kc_load.specs.Loading.{ExpandsAlike, Suffices}
+use Rattle.kc_load.specs.PartsOfFolder.{named}
+use Rattle.kc_load.specs.Folder.{FolderFiles, files_found}
 use Rattle.kc_language.specs.Outcome.{path_of}
-use Rattle.kc_load.specs.Loaded.{files_found}
 use Rattle.kc_load.specs.Steps.{State, was_requested}
 use Rattle.kc_load.proofs.FoundLemmas.{at_name, found_absent, names_of}
 use Rattle.kc_load.proofs.FollowLemmas.{IsClosed, enter, few_lines, follow}

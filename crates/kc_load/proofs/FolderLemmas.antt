@@ -1,6 +1,6 @@
 -- What a folder tells, from one state of it to a later one.
 use Rattle.std.proofs.Common.{◌≡◌, ℕ, List, [], ◌++◌, append-nil, Option, Some, None, refl, sym, ap, ◌∙◌, subst}
-use Rattle.kc_load.specs.Folders.{FolderFiles, FolderState, AnswersAs, Leads, files_told}
+use Rattle.kc_load.specs.Folder.{FolderFiles, FolderState, AnswersAs, Leads, files_told}
 use Rattle.kc_language.specs.Outcome.{path_of}
 use Rattle.kc_load.specs.Steps.{State, Visits, no_text, not_new, no_file, file}
 

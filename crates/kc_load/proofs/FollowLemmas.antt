@@ -19,7 +19,7 @@ use Rattle.kc_read.proofs.FileLemmas.{same_name_eq}
 use Rattle.kc_read.proofs.OneExpansion.{none_or_some, one_some, source_line}
 use Rattle.kc_read.proofs.SourceLines as lines
 use Rattle.kc_read.proofs.SourceWord.{source_begins, begins_source}
-use Rattle.kc_load.specs.Expanding.{named}
+use Rattle.kc_load.specs.PartsOfFolder.{named}
 use Rattle.kc_language.specs.Outcome.{path_of, AreSources}
 use Rattle.kc_language.specs.Text.{most_lines}
 use Rattle.kc_text.specs.PartsOfText.{last_count}

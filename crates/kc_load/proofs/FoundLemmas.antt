@@ -6,7 +6,7 @@ use Rattle.std.proofs.lemmas.List.Elements.{All-head, All-tail}
 use Rattle.kc_language.specs.Expressions.{same_name}
 use Rattle.kc_expr.proofs.NamesLemmas.{same_name-refl}
 use Rattle.kc_read.proofs.FileLemmas.{same_name_eq}
-use Rattle.kc_load.specs.Loaded.{Answer, files_found, line_total}
+use Rattle.kc_load.specs.Folder.{Answer, files_found, line_total}
 use Rattle.kc_load.specs.Steps.{was_requested}
 
 abbrev pub names_of : List Answer → List (List ℕ)

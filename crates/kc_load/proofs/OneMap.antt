@@ -6,7 +6,8 @@ use Rattle.std.proofs.lemmas.List.Elements.{All-head, All-tail, Contains-append_
 use Rattle.std.proofs.Math.ListN.{length-map}
 use Rattle.kc_language.specs.Text.{most_lines}
 use Rattle.kc_language.specs.Outcome.{path_of}
-use Rattle.kc_load.specs.Loaded.{Answer, AreAsked, OneMap, WereWithin, files_found, line_total}
+use Rattle.kc_load.specs.Folder.{Answer, AreAsked, files_found, line_total}
+use Rattle.kc_load.specs.Loading.{OneMap, WereWithin}
 use Rattle.kc_load.proofs.FoundLemmas.{at_name, names_of}
 use Rattle.kc_load.proofs.OneOrder.{same_front}
 use Rattle.kc_load.proofs.RequestedLemmas.{requested_in}

@@ -6,7 +6,7 @@ use Rattle.kc_language.specs.Lines.{unread_lines}
 use Rattle.kc_read.proofs.SourceLines.{one_list}
 use Rattle.kc_language.specs.Expansion.{Files}
 use Rattle.kc_language.specs.Outcome.{AreSourcesOf, AskedAlong, IsNew, ended, passed, asked}
-use Rattle.kc_load.specs.Order.{OneOrder}
+use Rattle.kc_load.specs.Loading.{OneOrder}
 
 -- ---- Fronts of lists
 

@@ -1,10 +1,8 @@
 -- What holds while files are loaded from a folder that may stop telling.
 use Rattle.std.proofs.Common.{◌≡◌, ℕ, ◌<◌, ◌≤◌, true, false, List, [], ◌∷◌, ◌++◌, Option}
 use Rattle.kc_language.specs.Text.{most_lines}
-use Rattle.kc_load.specs.Expanding.{Suffices}
-use Rattle.kc_load.specs.Faults.{IsLoadFault}
-use Rattle.kc_load.specs.Folders.{FolderFiles, FolderState, Leads, files_told}
-use Rattle.kc_load.specs.Loaded.{Loads}
+use Rattle.kc_load.specs.Loading.{Suffices, Loads}
+use Rattle.kc_load.specs.Folder.{IsLoadFault, FolderFiles, FolderState, Leads, files_told}
 use Rattle.kc_load.specs.Steps.{FailsAt, State, Visits, initial_state}
 use Rattle.kc_load.specs.declared.fault.LoadFault.{LoadFault}
 use Rattle.kc_load.proofs.EndLemmas as ends

@@ -7,9 +7,10 @@ use Rattle.kc_text.specs.PartsOfText.{last_count}
 use Rattle.kc_language.specs.Text.{most_lines}
 use Rattle.kc_read.proofs.FileLemmas.{same_name_eq}
 use Rattle.kc_language.specs.Expansion.{Files}
-use Rattle.kc_load.specs.Folders.{FolderFiles, AnswersAs}
+use Rattle.kc_load.specs.Folder.{FolderFiles, AnswersAs, Answer, files_found, line_total}
 use Rattle.kc_language.specs.Outcome.{path_of, AreSourcesOf, AskedAlong, AskedInOrder, IsNew, passed, asked}
-use Rattle.kc_load.specs.Loaded.{Answer, WereWithin, files_found, line_total, lines_found}
+use Rattle.kc_load.specs.Loading.{WereWithin}
+use Rattle.kc_load.specs.PartsOfFolder.{lines_found}
 use Rattle.kc_load.specs.Steps.{AddsName, IsDue, State, AddsFile, Visits, no_text, not_new, no_file, file, was_requested}
 use Rattle.kc_load.proofs.FoundLemmas.{found_absent, found_itself, found_push, found_still, names_of, names_push, total_append, total_take}
 use Rattle.kc_load.proofs.Ongoing.{Agree, IsInOrder, Ongoing}

@@ -4,7 +4,7 @@ use Rattle.std.proofs.lemmas.Bool.{true≢false}
 use Rattle.std.proofs.lemmas.List.{reverse-append, reverse-reverse}
 use Rattle.std.proofs.lemmas.List.Elements.{Contains-append_right, Contains-append_cases}
 use Rattle.kc_language.specs.Expressions.{mention}
-use Rattle.kc_load.specs.Folders.{FolderFiles, AnswersAs}
+use Rattle.kc_load.specs.Folder.{FolderFiles, AnswersAs}
 use Rattle.kc_language.specs.Outcome.{path_of, AreSources}
 use Rattle.kc_language.specs.Text.{most_lines}
 use Rattle.kc_text.specs.PartsOfText.{last_count}

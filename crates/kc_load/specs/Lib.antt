@@ -1,8 +1,5 @@
-pub mod Expanding
-pub mod Faults
-pub mod Folders
-pub mod Loaded
-pub mod Order
+pub mod Folder
+pub mod Loading
+pub mod PartsOfFolder
 pub mod PartsOfOutcome
-pub mod Reached
 pub mod Steps

@@ -1,7 +1,7 @@
 //! A folder: files by their paths.
 
 ghost use Rattle.std.specs.Prelude.{◌≡◌, Option};
-ghost use Rattle.kc_load.specs.Folders.{FolderState, ReadsAt};
+ghost use Rattle.kc_load.specs.Folder.{FolderState, ReadsAt};
 ghost use Rattle.kc_load.specs.declared.folder.FolderFault.TheVariants.{Memory};
 
 use std::alloc::AllocError;

@@ -1,8 +1,6 @@
 //! What holds of the order in which names are asked for, and of what is loaded.
 
-ghost use Rattle.kc_load.specs.Loaded.{MapExists, OneMap};
-ghost use Rattle.kc_load.specs.Order.{OneOrder};
-ghost use Rattle.kc_load.specs.Reached.{HasOrder, OrderIsReached};
+ghost use Rattle.kc_load.specs.Loading.{MapExists, OneMap, OneOrder, HasOrder, OrderIsReached};
 
 /// The law of the order: over any files there is at most one in which names are asked for from a first one on, and over
 /// files that were found there is one; it holds what the first name reaches, each name once. It does nothing.

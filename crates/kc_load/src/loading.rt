@@ -1,11 +1,9 @@
 //! Loading: all the files that a first one reaches, name by name.
 
 ghost use Rattle.std.specs.Prelude.{◌≡◌, ◌+◌, IfOk, IfErr, OnOk, min, nat_lt};
-ghost use Rattle.kc_load.specs.Expanding.{Suffices};
-ghost use Rattle.kc_load.specs.Folders.{Leads, ReadsAt, files_told};
+ghost use Rattle.kc_load.specs.Loading.{Suffices, Loads};
+ghost use Rattle.kc_load.specs.Folder.{Leads, ReadsAt, files_told, IsLoadFault, failed_load};
 ghost use Rattle.kc_language.specs.Outcome.{path_of};
-ghost use Rattle.kc_load.specs.Faults.{IsLoadFault, failed_load};
-ghost use Rattle.kc_load.specs.Loaded.{Loads};
 ghost use Rattle.kc_language.specs.Expansion.{bytes_in, lines_of};
 ghost use Rattle.kc_language.specs.Text.{most_lines};
 ghost use Rattle.kc_text.specs.PartsOfText.{last_count};

@@ -1,7 +1,7 @@
 -- What a read gives of a file in memory.
 use Rattle.std.proofs.Common.{◌≡◌, ℕ, ◌+◌, ◌-◌, ◌≤◌, min, Bool, true, false, List, ◌++◌, length, length-drop, length-append, take, drop, drop-drop, arith, refl, sym, ◌∙◌, ap, Option, None, Some, option_map, if◌then◌else◌}
 use Rattle.std.proofs.lemmas.List.{take-append-drop, take-append-le, take_all, length-take-le, nil_from_length}
-use Rattle.kc_io.specs.Reading.{IsAtEnd, ReadsOn}
+use Rattle.kc_io.specs.Log.{IsAtEnd, ReadsOn}
 
 abbrev pub to_come : Bool → List ℕ → ℕ → Option (List ℕ)
 to_come told bytes at = if told then Some (drop at bytes) else None

@@ -1,7 +1,7 @@
 -- What a device tells of its files.
 use Rattle.std.proofs.Common.{◌≡◌, ℕ, Bool, List, [], Vec, Global, refl, ◌∙◌, ap, Option, None, Some, Bor, Result, IfOk, Ok, Err, option_map, is_some, unwrap_or, if◌then◌else◌}
 use Rattle.kc_io.specs.Log.{Journal, Log, Tells, held, is_held}
-use Rattle.kc_io.specs.Reading.{contents}
+use Rattle.kc_io.specs.PartsOfLog.{contents}
 use Rattle.kc_memory_device.specs.Recorded.{events_of, first_held, held_after, is_held_after, told}
 use Rattle.kc_memory_device.specs.declared.record.Record.{Record}
 

@@ -1,6 +1,6 @@
 -- Trusted: A file in memory that was opened.
 use Rattle.std.specs.Prelude.{Some, None, drop, length, ◌-◌, if◌then◌else◌}
-use Rattle.kc_io.specs.Reading.{OpenFile}
+use Rattle.kc_io.specs.Log.{OpenFile}
 use Rattle.kc_memory_device.specs.declared.opened.Opened.{Opened}
 
 abbrev pub open_file : Opened → OpenFile

@@ -34,8 +34,7 @@ fn say(said: &mut Vec<u8>, parts: &[&[u8]]) -> Result<(), AllocError>
 }
 
 impl<'a> MemoryDevice<'a> {
-    ghost use Rattle.kc_io.specs.Log.{Leads, Tells, held};
-    ghost use Rattle.kc_io.specs.Reading.{IsFound, IsOpened};
+    ghost use Rattle.kc_io.specs.Log.{Leads, Tells, held, IsFound, IsOpened};
     ghost use Rattle.kc_memory_device.specs.Opened.{open_file};
     ghost use Rattle.kc_memory_device.specs.Recorded.{asked, events_of, first_held, outcome};
     ghost use Rattle.kc_memory_device.specs.Told.{log_of};

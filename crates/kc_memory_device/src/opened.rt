@@ -14,7 +14,7 @@ pub(crate) struct Opened {
 }
 
 impl Opened {
-    ghost use Rattle.kc_io.specs.Reading.{ReadsOn};
+    ghost use Rattle.kc_io.specs.Log.{ReadsOn};
     ghost use Rattle.kc_memory_device.specs.Opened.{open_file};
 
     /// Nothing was opened.

@@ -10,7 +10,7 @@ use Rattle.std.proofs.lemmas.List.Folds.{list_any-append, list_any_at, list_any_
 use Rattle.std.proofs.lemmas.Slice.Eq.{bytes_eq-Decides}
 use Rattle.clap.specs.Words.{Text}
 use Rattle.kc_language.specs.Expressions.{all_mentioned, mention}
-use Rattle.kc_words.specs.Apart.{AreApart, IsClash, IsWrittenAndRead, Writes, is_among, writes, written_and_read_text, written_twice_text}
+use Rattle.kc_words.specs.CommandLine.{AreApart, IsClash, IsWrittenAndRead, Writes, is_among, writes, written_and_read_text, written_twice_text}
 use Rattle.kc_words.specs.Clashes.{AreNamesWritten, Holds, IsOverwrite, IsTwice, is_overwritten}
 use Rattle.kc_words.specs.Refusals.{IsBadFor}
 use Rattle.kc_words.specs.declared.each.Each.{Each}

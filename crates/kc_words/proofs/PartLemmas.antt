@@ -3,7 +3,7 @@ use Rattle.std.proofs.Common.{◌≡◌, ◌<◌, arith, List, [], ◌∷◌, �
 use Rattle.std.specs.List.{flat_map, last_or}
 use Rattle.std.proofs.lemmas.List.Concat.{flat_map-append}
 use Rattle.clap.specs.Words.{Text}
-use Rattle.kc_words.specs.Patterns.{filled_part, filled_parts}
+use Rattle.kc_words.specs.CommandLine.{filled_part, filled_parts}
 
 pub last-push : {A : Type 0} (o : Option A) (xs : List A) (x : A) → last_or o (xs ++ x ∷ []) ≡ Some x
 last-push o [] x = refl

@@ -8,11 +8,10 @@ use Rattle.clap.specs.declared.error.Error.{Error}
 use Rattle.clap.specs.declared.error.kind.ErrorKind.{ErrorKind}
 use Rattle.clap.specs.declared.error.kind.ErrorKind.TheVariants as kind
 use Rattle.kc_language.specs.Text.{longest_prefix}
-use Rattle.kc_words.specs.Kconf.{kconf_app}
+use Rattle.kc_words.specs.CommandLine.{kconf_app, exclusion_of, prefix_option, IsRefused, no_prefix_text, refusal_of}
 use Rattle.kc_language.specs.ConfigFile.{is_prefix}
-use Rattle.kc_words.specs.Exclusions.{are_exclusive, exclusion_of, exclusion_text, is_one_of_many, lacks_target, one_of_many_text, target_text}
-use Rattle.kc_words.specs.Fields.{prefix_option}
-use Rattle.kc_words.specs.Refusals.{IsBadFor, IsKindOf, IsNoPrefix, IsNoRequest, IsRefused, IsTold, first_report, no_prefix_text, prefix_refusal, refusal_of}
+use Rattle.kc_words.specs.PartsOfCommandLine.{are_exclusive, exclusion_text, is_one_of_many, lacks_target, one_of_many_text, target_text, first_report, prefix_refusal}
+use Rattle.kc_words.specs.Refusals.{IsBadFor, IsKindOf, IsNoPrefix, IsNoRequest, IsTold}
 use Rattle.kc_words.specs.declared.usage.UsageError.{UsageError}
 use Rattle.kc_words.specs.declared.usage.UsageError.TheVariants as usage
 use Rattle.kc_words.proofs.RowLemmas.{kconf_app-free}

@@ -5,8 +5,7 @@ use Rattle.clap.specs.Faults.{is_simple_and_free}
 use Rattle.clap.specs.declared.parser.matches.ArgMatches.{ArgMatches}
 use Rattle.clap.proofs.WalkLemmas.{first_value-rows, raw_values-rows}
 use Rattle.clap.proofs.OnLiterals.{clap_on_literals}
-use Rattle.kc_words.specs.Exclusions.{is_given}
-use Rattle.kc_words.specs.Kconf.{kconf_app, with_options}
+use Rattle.kc_words.specs.CommandLine.{is_given, kconf_app, with_options}
 
 pub ruleset found_rows = (first_value-rows, raw_values-rows)
 

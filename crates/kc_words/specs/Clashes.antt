@@ -2,7 +2,7 @@
 use Rattle.std.specs.Prelude.{◌≡◌, ◌<◌, ◌&&◌, ℕ, List, [], Bool, true, false, not, length, take, slice_index_or, string_bytes}
 use Rattle.std.specs.List.{flat_map, list_any}
 use Rattle.clap.specs.Words.{Text}
-use Rattle.kc_words.specs.Apart.{IsWrittenTwice, is_among, writes, written_and_read_text, written_twice_text}
+use Rattle.kc_words.specs.CommandLine.{IsWrittenTwice, is_among, writes, written_and_read_text, written_twice_text}
 use Rattle.kc_words.specs.declared.each.Each.{Each}
 use Rattle.kc_words.specs.declared.usage.UsageError.{UsageError}
 use Rattle.kc_words.specs.declared.usage.UsageError.TheVariants as usage

@@ -1,9 +1,5 @@
-pub mod Kconf
-pub mod Exclusions
-pub mod Fields
-pub mod Inputs
+pub mod CommandLine
+pub mod PartsOfCommandLine
 pub mod Refusals
-pub mod Patterns
-pub mod Apart
+pub mod Inputs
 pub mod Clashes
-pub mod Lists

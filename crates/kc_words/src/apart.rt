@@ -3,7 +3,7 @@
 ghost use Rattle.std.specs.Prelude.{◌≡◌, false, true, IfOk, IfErr, OnOk, MatchOption, map, string_bytes};
 ghost use Rattle.std.specs.List.{list_any};
 ghost use Rattle.kc_language.specs.Expressions.{all_mentioned};
-ghost use Rattle.kc_words.specs.Apart.{AreApart, IsClash, is_among, writes, written_and_read_text, written_twice_text};
+ghost use Rattle.kc_words.specs.CommandLine.{AreApart, IsClash, is_among, writes, written_and_read_text, written_twice_text};
 ghost use Rattle.kc_words.specs.Clashes.{AreNamesWritten, is_overwritten, NoneIsAmong, IsOverwrite, IsTwice};
 ghost use Rattle.kc_words.specs.Refusals.{IsBadFor};
 

@@ -2,7 +2,7 @@
 
 ghost use Rattle.std.specs.Prelude.{◌≡◌, IfOk};
 ghost use Rattle.clap.specs.Words.{app_of, with_rule};
-ghost use Rattle.kc_words.specs.Kconf.{empty_app, flag_rule, fragment_rule, kconf_app, kconfig_rule, option_rule, repeated_rule, with_options};
+ghost use Rattle.kc_words.specs.CommandLine.{empty_app, flag_rule, fragment_rule, kconf_app, kconfig_rule, option_rule, repeated_rule, with_options};
 
 use clap::{Arg, ArgAction, Command};
 use std::alloc::{AllocError, Global};
@@ -182,7 +182,7 @@ fn empty_command<'a>(alloc: Global) -> Command<'a>
 }
 
 // Adds the options.
-#[tactic(auto, unfolding(crate::specs::Kconf::with_options))]
+#[tactic(auto, unfolding(crate::specs::CommandLine::with_options))]
 fn with_options<'a>(alloc: Global, command: Command<'a>) -> Result<Command<'a>, AllocError>
     ensures { IfOk result (λ longer. app_of longer ≡ with_options (app_of command.entry)) }
 {
@@ -205,7 +205,7 @@ fn with_options<'a>(alloc: Global, command: Command<'a>) -> Result<Command<'a>, 
 }
 
 // The command line of the program.
-#[tactic(auto, unfolding(crate::specs::Kconf::kconf_app))]
+#[tactic(auto, unfolding(crate::specs::CommandLine::kconf_app))]
 pub(crate) fn command<'a>(alloc: Global) -> Result<Command<'a>, AllocError>
     ensures { IfOk result (λ command. app_of command ≡ kconf_app) }
 {

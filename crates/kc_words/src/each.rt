@@ -1,8 +1,7 @@
 //! Many configurations of one tree.
 
 ghost use Rattle.std.specs.Prelude.{◌≡◌, IfOk, IfErr, OnOk, map, string_bytes};
-ghost use Rattle.kc_words.specs.Apart.{AreApart, IsClash, writes};
-ghost use Rattle.kc_words.specs.Patterns.{AreOptionsFor};
+ghost use Rattle.kc_words.specs.CommandLine.{AreApart, IsClash, writes, AreOptionsFor};
 
 use crate::apart;
 use crate::patterns::{filled_if, push_filled};

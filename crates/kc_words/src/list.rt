@@ -1,7 +1,8 @@
 //! Lists of configurations.
 
 ghost use Rattle.std.specs.Prelude.{◌≡◌, IfOk, map, string_bytes};
-ghost use Rattle.kc_words.specs.Lists.{IsListOf, listed};
+ghost use Rattle.kc_words.specs.Refusals.{IsListOf};
+ghost use Rattle.kc_words.specs.CommandLine.{listed};
 
 use std::alloc::{AllocError, Global};
 use std::str::from_utf8;

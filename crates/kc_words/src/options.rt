@@ -3,11 +3,9 @@
 ghost use Rattle.std.specs.Prelude.{◌≡◌, ◌++◌, ◌<◌, [], IfOk, IfErr, None, false, length, map, option_map, string_bytes, unwrap_or, true};
 ghost use Rattle.kc_language.specs.ConfigFile.{is_prefix};
 ghost use Rattle.clap.specs.Words.{takes, rows_of, found_of, kind_of, first_of, fault_of};
-ghost use Rattle.kc_words.specs.Exclusions.{exclusion_of, has_value, is_each, is_given, values_of};
-ghost use Rattle.kc_words.specs.Fields.{AreOptionsOf, AreSharedOptions, AsksFor, IsEachOf, IsRequestOf, delivery_of, prefix_option};
+ghost use Rattle.kc_words.specs.CommandLine.{exclusion_of, has_value, is_each, is_given, values_of, AreOptionsOf, AreSharedOptions, AsksFor, IsEachOf, IsRequestOf, delivery_of, prefix_option, kconf_app, arguments_of, rows_for, IsRefused, refusal_of};
 ghost use Rattle.kc_words.specs.Inputs.{HasInputs};
-ghost use Rattle.kc_words.specs.Kconf.{kconf_app, arguments_of, rows_for};
-ghost use Rattle.kc_words.specs.Refusals.{IsKindOf, IsNoPrefix, IsNoRequest, IsRefused, IsBadWords, IsTold, refusal_of};
+ghost use Rattle.kc_words.specs.Refusals.{IsKindOf, IsNoPrefix, IsNoRequest, IsBadWords, IsTold};
 
 use crate::command::command;
 use crate::each::Each;

@@ -1,8 +1,7 @@
 //! Patterns of names, and what they give for one configuration.
 
 ghost use Rattle.std.specs.Prelude.{◌≡◌, ◌++◌, IfOk, OnOk, string_bytes, option_map, map};
-ghost use Rattle.kc_words.specs.Apart.{filled_if};
-ghost use Rattle.kc_words.specs.Patterns.{file_name, filled, filled_part};
+ghost use Rattle.kc_words.specs.CommandLine.{filled_if, file_name, filled, filled_part};
 
 use std::alloc::{AllocError, Global};
 

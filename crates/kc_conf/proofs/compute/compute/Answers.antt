@@ -3,7 +3,7 @@ use Rattle.std.proofs.Common.{◌∙◌, ℕ, Bool, List, ap, sym, map, Option, 
 use Rattle.std.specs.Prelude.{◌||◌, ◌&&◌, ◌++◌, if◌then◌else◌}
 use Rattle.kc_language.specs.Symbols.{TreeFacts}
 use Rattle.kc_language.specs.Texts.{Solution, warnings}
-use Rattle.kc_io.specs.Scripts.{NamedText}
+use Rattle.kc_io.specs.Delivery.{NamedText}
 use Rattle.kc_language.specs.Outcome.{Options, lead, has_text, lines_text, refuses_input}
 use Rattle.kc_conf.specs.Computed.{ruled_files}
 use Rattle.kc_conf.specs.Faults.{texts_of}

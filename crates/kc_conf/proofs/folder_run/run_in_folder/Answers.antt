@@ -1,8 +1,7 @@
 -- A run over what was loaded is one over the folder's files, since these expand as that does.
 use Rattle.std.proofs.Common.{List, ℕ, string_bytes, refl, subst, subst₂, Err}
-use Rattle.kc_load.specs.Expanding.{Suffices}
-use Rattle.kc_load.specs.Faults.{IsLoadFault, failed_load}
-use Rattle.kc_load.specs.Folders.{Leads, files_told}
+use Rattle.kc_load.specs.Loading.{Suffices}
+use Rattle.kc_load.specs.Folder.{IsLoadFault, failed_load, Leads, files_told}
 use Rattle.kc_language.specs.Expansion.{bytes_in}
 use Rattle.kc_language.specs.Outcome.{root_file}
 use Rattle.kc_conf.specs.Faults.{loaded, unloaded}

@@ -2,7 +2,7 @@
 use Rattle.std.proofs.Common.{◌≡◌, ℕ, ◌+◌, ◌<◌, List, [], ◌∷◌, ◌++◌, map, take, drop, length, get_or, sym, ap, ◌∙◌}
 use Rattle.std.proofs.lemmas.List.{drop_more, map-append, take-append-drop, take_more}
 use Rattle.kc_io.specs.Log.{is_held}
-use Rattle.kc_io.specs.TextViews.{text_view}
+use Rattle.kc_io.specs.Delivered.{text_view}
 use Rattle.kc_io.specs.declared.delivery.Text.{Text}
 use Rattle.kc_conf.proofs.EndingLemmas.{BreaksEnd-old, IsChecked-fresh, IsChecked-old}
 use Rattle.kc_conf.proofs.runs.check.Goals as goal

@@ -1,6 +1,6 @@
 -- The texts so far were compared.
 use Rattle.std.proofs.Common.{map, take}
-use Rattle.kc_io.specs.TextViews.{text_view}
+use Rattle.kc_io.specs.Delivered.{text_view}
 use Rattle.kc_conf.specs.Endings.{IsChecked}
 use Rattle.kc_conf.proofs.runs.check.Given as goal
 

@@ -1,6 +1,6 @@
 -- What waits is said first, or not.
 use Rattle.std.proofs.Common.{map, option_map}
-use Rattle.kc_io.specs.TextViews.{text_view}
+use Rattle.kc_io.specs.Delivered.{text_view}
 use Rattle.kc_conf.specs.Endings.{line_if, status_if, texts_or}
 use Rattle.kc_conf.proofs.EndingLemmas.{Ends-behind, Ends-unsaid}
 use Rattle.kc_conf.proofs.runs.finish.Goals as goal

@@ -1,6 +1,6 @@
 -- Texts are written, or take their places at the end.
 use Rattle.std.proofs.Common.{map}
-use Rattle.kc_io.specs.TextViews.{text_view}
+use Rattle.kc_io.specs.Delivered.{text_view}
 use Rattle.kc_conf.proofs.EndingLemmas.{Ends-replaced, Ends-written}
 use Rattle.kc_conf.proofs.runs.hand_out_by.Goals as goal
 

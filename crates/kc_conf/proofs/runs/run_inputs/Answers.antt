@@ -1,7 +1,7 @@
 -- What follows from the input files is a part of the run.
 use Rattle.std.proofs.Common.{◌∙◌, map, sym, subst, option_map}
 use Rattle.std.proofs.lemmas.Result.{err_from_is_err_and}
-use Rattle.kc_io.specs.TextViews.{text_view}
+use Rattle.kc_io.specs.Delivered.{text_view}
 use Rattle.kc_language.specs.Outcome.{AreLines}
 use Rattle.kc_conf.specs.Reads.{stop_of}
 use Rattle.kc_conf.proofs.InputParts.{AreLines-values, AreLines-waiting, LeavesPart-broken, LeavesPart-long, LeavesPart-nothing, LeavesPart-uncomputed, LeavesPart-whole}

@@ -1,6 +1,6 @@
 -- The arguments were read, or could not be.
 use Rattle.std.proofs.Common.{List, String, Global, refl, subst}
-use Rattle.kc_disk.specs.Answering.{AnswersArguments}
+use Rattle.kc_disk.specs.Program.{AnswersArguments}
 use Rattle.kc_disk.proofs.answer.answer.Goals as goal
 
 pub returns-in-Given : goal.returns-in-Given

@@ -1,9 +1,8 @@
 -- The arguments ask for a run, which ends so, or for none.
 use Rattle.std.proofs.Common.{refl, subst}
-use Rattle.kc_words.specs.Fields.{IsRequestOf}
-use Rattle.kc_words.specs.Kconf.{rows_for}
+use Rattle.kc_words.specs.CommandLine.{IsRequestOf, rows_for}
 use Rattle.kc_words.specs.declared.options.Request.{Request}
-use Rattle.kc_disk.specs.Answering.{runs, none}
+use Rattle.kc_disk.specs.Program.{runs, none}
 use Rattle.kc_words.specs.declared.options.Request.TheVariants as request
 use Rattle.kc_disk.proofs.answer.answer_given.Goals as goal
 

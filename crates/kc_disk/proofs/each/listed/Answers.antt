@@ -1,6 +1,6 @@
 -- The list is the one that is asked for.
 use Rattle.std.proofs.Common.{Option, Some, Result, Ok, Err, String, Vec, Global, string_bytes, ◌≡◌}
-use Rattle.kc_load.specs.Folders.{FolderState}
+use Rattle.kc_load.specs.Folder.{FolderState}
 use Rattle.kc_load.specs.declared.fault.LoadFault.{LoadFault}
 use Rattle.kc_load.specs.declared.fault.LoadFault.TheVariants.{CannotRead, Memory}
 use Rattle.kc_words.specs.declared.each.Each.{Each}

@@ -2,11 +2,11 @@
 use Rattle.std.proofs.Common.{List, ℕ, [], ◌∷◌, Option, None, Some, Err, Vec, Global, subst}
 use Rattle.std.specs.Prelude.{option_map}
 use Rattle.std.specs.Str.{IsUtf8}
-use Rattle.kc_load.specs.Folders.{AnswersAs, FolderState, Leads, files_told}
+use Rattle.kc_load.specs.Folder.{AnswersAs, FolderState, Leads, files_told}
 use Rattle.kc_load.specs.declared.fault.LoadFault.{LoadFault}
 use Rattle.kc_load.specs.declared.fault.LoadFault.TheVariants.{CannotRead, Memory}
-use Rattle.kc_words.specs.Lists.{IsListOf}
-use Rattle.kc_disk.specs.EachRuns.{HasNoList, absent, failing, no_text}
+use Rattle.kc_words.specs.Refusals.{IsListOf}
+use Rattle.kc_disk.specs.Program.{HasNoList, absent, failing, no_text}
 use Rattle.kc_disk.specs.EachSteps.{IsUnreadable, ReadsList}
 use Rattle.kc_disk.proofs.each.read_list.Goals as goal
 

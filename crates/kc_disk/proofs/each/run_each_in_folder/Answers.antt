@@ -1,6 +1,6 @@
 -- The steps make the run.
 use Rattle.std.proofs.Common.{List, String, Global, map, string_bytes, subst}
-use Rattle.kc_words.specs.Apart.{AreApart, IsClash}
+use Rattle.kc_words.specs.CommandLine.{AreApart, IsClash}
 use Rattle.kc_disk.specs.EachSteps.{RunsNamed}
 use Rattle.kc_disk.proofs.EachLemmas.{named-runs, not-apart, not-listed}
 use Rattle.kc_disk.proofs.each.run_each_in_folder.Goals as goal

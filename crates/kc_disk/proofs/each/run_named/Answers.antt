@@ -2,12 +2,11 @@
 use Rattle.std.proofs.Common.{List, ℕ, refl, sym, subst, subst₂, Err, map, string_bytes, length}
 use Rattle.std.proofs.lemmas.List.{length-map}
 use Rattle.kc_language.specs.Expansion.{bytes_in}
-use Rattle.kc_load.specs.Expanding.{Suffices}
-use Rattle.kc_load.specs.Faults.{IsLoadFault, failed_load}
-use Rattle.kc_load.specs.Folders.{Leads, files_told}
+use Rattle.kc_load.specs.Loading.{Suffices}
+use Rattle.kc_load.specs.Folder.{IsLoadFault, failed_load, Leads, files_told}
 use Rattle.kc_conf.specs.Many.{RunsEach}
 use Rattle.kc_conf.proofs.FolderLemmas.{flipped, runs_each_over}
-use Rattle.kc_disk.specs.EachRuns.{GivesOptions}
+use Rattle.kc_disk.specs.Program.{GivesOptions}
 use Rattle.kc_disk.specs.EachSteps.{not_loaded, ran}
 use Rattle.kc_disk.proofs.each.run_named.Goals as goal
 

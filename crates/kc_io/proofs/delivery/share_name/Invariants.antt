@@ -1,6 +1,6 @@
 use Rattle.std.proofs.Common.{◌≡◌, map, length}
-use Rattle.kc_io.specs.Scripts.{share_name}
-use Rattle.kc_io.specs.TextViews.{text_view}
+use Rattle.kc_io.specs.Delivery.{share_name}
+use Rattle.kc_io.specs.Delivered.{text_view}
 use Rattle.kc_io.proofs.delivery.share_name.Given as goal
 
 -- what is left is to be answered

@@ -1,4 +1,4 @@
-use Rattle.kc_io.specs.TextViews.{text_view}
+use Rattle.kc_io.specs.Delivered.{text_view}
 use Rattle.kc_io.proofs.WentLemmas.{not_made, not_whole, written}
 use Rattle.kc_io.proofs.steps.put.Goals as goal
 

@@ -1,6 +1,6 @@
 use Rattle.std.proofs.Common.{◌≤◌, []}
 use Rattle.kc_language.specs.Text.{most_lines}
-use Rattle.kc_load.specs.Folders.{Leads}
+use Rattle.kc_load.specs.Folder.{Leads}
 use Rattle.kc_load.specs.Steps.{state_of}
 use Rattle.kc_load.proofs.EndLemmas.{still_left}
 use Rattle.kc_load.proofs.SoFar.{SoFar}

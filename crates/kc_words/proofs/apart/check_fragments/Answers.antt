@@ -1,7 +1,7 @@
 -- A fragment is in the table, or none is.
 use Rattle.std.proofs.Common.{◌≡◌, subst, true, arith, length, map, string_bytes, List, String, Global}
 use Rattle.std.proofs.lemmas.List.{length-map}
-use Rattle.kc_words.specs.Apart.{is_among}
+use Rattle.kc_words.specs.CommandLine.{is_among}
 use Rattle.kc_words.specs.Clashes.{NoneIsAmong}
 use Rattle.kc_words.proofs.ApartLemmas.{apart-many, fragment-clash}
 use Rattle.kc_words.proofs.apart.check_fragments.Goals as goal

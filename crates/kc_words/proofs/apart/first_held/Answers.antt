@@ -1,6 +1,6 @@
 -- The name is one of the list, and in the table; and those before it are not.
 use Rattle.std.proofs.Common.{◌∙◌, ap, sym, arith, bytes_eq}
-use Rattle.kc_words.specs.Apart.{is_among}
+use Rattle.kc_words.specs.CommandLine.{is_among}
 use Rattle.kc_words.proofs.ApartLemmas.{any-at, self-among}
 use Rattle.kc_words.proofs.apart.first_held.Goals as goal
 

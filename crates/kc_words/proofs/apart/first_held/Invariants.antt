@@ -1,6 +1,6 @@
 use Rattle.std.proofs.Common.{◌≡◌, false, map, take, string_bytes}
 use Rattle.std.specs.List.{list_any}
-use Rattle.kc_words.specs.Apart.{is_among}
+use Rattle.kc_words.specs.CommandLine.{is_among}
 use Rattle.kc_words.proofs.apart.first_held.Given as goal
 
 -- none of the names so far is in the table

@@ -3,7 +3,7 @@ use Rattle.std.proofs.Common.{◌∙◌, ap, position}
 use Rattle.std.specs.Option.{is_some}
 use Rattle.kc_language.specs.Expressions.{same_name, symbol}
 use Rattle.kc_words.proofs.PlaceLemmas.{position-any}
-use Rattle.kc_words.specs.Apart.{is_among}
+use Rattle.kc_words.specs.CommandLine.{is_among}
 use Rattle.kc_words.proofs.ApartLemmas.{some-map}
 use Rattle.kc_words.proofs.apart.holds.Goals as goal
 

@@ -1,5 +1,5 @@
 use Rattle.std.proofs.Common.{◌≡◌, false, map, take, string_bytes}
-use Rattle.kc_words.specs.Apart.{is_among}
+use Rattle.kc_words.specs.CommandLine.{is_among}
 use Rattle.kc_words.proofs.apart.is_one_of.Given as goal
 
 -- it is none of those so far

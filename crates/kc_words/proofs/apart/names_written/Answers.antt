@@ -3,7 +3,7 @@ use Rattle.std.proofs.Common.{◌≡◌, ◌+◌, ◌∙◌, ap, sym, subst, tru
 use Rattle.std.proofs.lemmas.List.{length-map}
 use Rattle.clap.specs.Words.{Text}
 use Rattle.kc_language.specs.Expressions.{all_mentioned}
-use Rattle.kc_words.specs.Apart.{is_among, writes}
+use Rattle.kc_words.specs.CommandLine.{is_among, writes}
 use Rattle.kc_words.specs.Clashes.{Holds, NoneIsAmong}
 use Rattle.kc_words.proofs.ApartLemmas.{holds-more, name-at, twice-found}
 use Rattle.kc_words.proofs.apart.names_written.Goals as goal

@@ -1,5 +1,5 @@
 use Rattle.std.proofs.Common.{map, string_bytes}
-use Rattle.kc_words.specs.Apart.{writes}
+use Rattle.kc_words.specs.CommandLine.{writes}
 use Rattle.kc_words.specs.Clashes.{Holds}
 use Rattle.kc_words.proofs.apart.names_written.Given as goal
 

@@ -3,7 +3,7 @@ use Rattle.std.specs.declared.alloc.AllocError.{AllocError}
 use Rattle.std.proofs.lemmas.Result.{IfOk-weaker}
 use Rattle.clap.specs.Words.{App, Rule, app_of, with_rule}
 use Rattle.clap.specs.declared.builder.command.Command.{Command}
-use Rattle.kc_words.specs.Kconf.{flag_rule, option_rule, repeated_rule, with_options}
+use Rattle.kc_words.specs.CommandLine.{flag_rule, option_rule, repeated_rule, with_options}
 use Rattle.kc_words.proofs.command.with_options.Goals as goal
 
 last_rule : (r : Result Command AllocError) (a b : App) (rule : Rule) → a ≡ b → IfOk r (λ longer. app_of longer ≡ with_rule a rule) → IfOk r (λ longer. app_of longer ≡ with_rule b rule)

@@ -1,8 +1,7 @@
 use Rattle.std.proofs.Common.{subst, List}
 use Rattle.std.proofs.lemmas.Result.{IfOk-weaker, IfErr-weaker}
 use Rattle.clap.specs.Words.{Row, found_of, rows_of}
-use Rattle.kc_words.specs.Fields.{IsRequestOf}
-use Rattle.kc_words.specs.Kconf.{rows_for}
+use Rattle.kc_words.specs.CommandLine.{IsRequestOf, rows_for}
 use Rattle.kc_words.proofs.RowLemmas.{rows-matches}
 use Rattle.kc_words.proofs.RefusalLemmas.{no_fault, has_kind, refused_request, only_memory, refused_words, told-request}
 use Rattle.kc_words.proofs.options.request_of.Goals as goal

@@ -2,7 +2,7 @@
 use Rattle.std.proofs.Common.{◌∙◌, ap, arith}
 use Rattle.std.proofs.lemmas.Iterator.Splits.{YieldsList-from_str_split}
 use Rattle.std.proofs.lemmas.Iterator.Consumers.{YieldsList-end}
-use Rattle.kc_words.specs.Patterns.{filled_parts}
+use Rattle.kc_words.specs.CommandLine.{filled_parts}
 use Rattle.kc_words.proofs.patterns.filled.Goals as goal
 
 pub returns : goal.returns

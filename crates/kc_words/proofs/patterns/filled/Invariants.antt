@@ -1,5 +1,5 @@
 use Rattle.std.proofs.Common.{◌≡◌, ◌==◌, map, length, string_bytes}
-use Rattle.kc_words.specs.Patterns.{filled_parts}
+use Rattle.kc_words.specs.CommandLine.{filled_parts}
 use Rattle.kc_words.proofs.patterns.filled.Given as goal
 
 -- the parts so far are filled

@@ -1,0 +1,138 @@
+-- Trusted: What the program does with its arguments: a run, runs for many configurations, or a usage error; and the exit status (our own).
+-- `folder` and `folder_after` are what the folder of the Kconfig files records before and after a run; `old` and `new` are the logs of the device.
+use Rattle.std.specs.{Prelude.{◌≡◌, ◌≢◌, ◌⊎◌, ℕ, List, [], ◌∷◌, ◌++◌, true, if◌then◌else◌, Option, None, Some, Result, Ok, Err, String, codes, drop, length, map, slice_index_or, string_bytes}, Str.IsUtf8, IoError.error_kind, Vec.Iter.into_iter_items, declared.{alloc.Global.Global, io.{Error.Error, ErrorKind.TheVariants.OutOfMemory}, vec.IntoIter.IntoIter}}
+use Rattle.clap.specs.Words.{fault_of, takes}
+use Rattle.kc_language.specs.{Expansion.Files, Outcome.{Options, cannot_read_line, out_of_memory_line}, declared.outcome.Status.{Status, TheVariants.{Done, Refused, Usage, Faulted}}}
+use Rattle.kc_io.specs.Log.{Journal, Log, held, is_whole_lines}
+use Rattle.kc_load.specs.{Folder.{AnswersAs, AreFilesOf, FolderState, IsLoadFault, Leads as FolderLeads, failed_load, files_told}, declared.fault.LoadFault.LoadFault}
+use Rattle.kc_words.specs.{CommandLine.{AreApart, AreOptionsFor, IsClash, IsRefused, IsRequestOf, arguments_of, kconf_app, listed, refusal_of, rows_for, with_hint}, declared.{each.Each.Each, options.Request.{Request, TheVariants.{One, Each as Many}}, usage.UsageError.{UsageError, TheVariants.{Bad, Memory}}}}
+use Rattle.kc_conf.specs.{Faults.{FolderRuns, TriesToSay, load_line}, Many.{LeavesEach, RunsEach}}
+use Rattle.kc_disk.specs.declared.arguments.Arguments.{Arguments, TheVariants.{Given, Unread}}
+
+-- The exit status.
+abbrev pub exit_status : Status → ℕ
+exit_status Done = 0
+exit_status Refused = 1
+exit_status Usage = 2
+exit_status Faulted = 3
+
+-- ---- Usage errors
+
+-- The status if the arguments ask for no run. Help and the version go to standard output; the status is a fault if it does not take them.
+abbrev pub EndsUsage : UsageError → Status → Type 0
+EndsUsage (Bad text) status = status ≡ Usage
+EndsUsage Memory status = status ≡ Faulted
+EndsUsage _ status = (status ≡ Done) ⊎ (status ≡ Faulted)
+
+-- A text is written to the diagnostics as whole lines, unless they fail. So an error is reported; help and the version are not diagnostics.
+abbrev pub SaysText : List ℕ → Log → Log → Type 0
+SaysText text old new = TriesToSay (text ++ (if is_whole_lines text then [] else codes "\n")) old new
+
+abbrev pub SaysUsage : UsageError → Log → Log → Type 0
+SaysUsage (Bad text) old new = SaysText (string_bytes text) old new
+SaysUsage Memory old new = SaysText out_of_memory_line old new
+SaysUsage _ old new = new ≡ old
+
+-- ---- Many configurations
+
+-- The configurations that the list names, if there is one. All configurations: those that the arguments name, and then those of the list.
+abbrev pub AreListed : Option FolderState → Option (String Global) → List (List ℕ) → Type 0
+AreListed folder None names = names ≡ []
+AreListed folder (Some file) names =
+    (bytes : List ℕ) × AnswersAs (files_told folder) (string_bytes file) (Some bytes) × IsUtf8 bytes × (names ≡ listed bytes)
+
+pub record AreNames (each : Each) (folder : Option FolderState) (names : List (List ℕ)) : Type 0 where
+  pub more : List (List ℕ)
+  pub listed_are : AreListed folder each.list more
+  pub all : names ≡ map string_bytes each.configurations.items ++ more
+
+-- The options of the i-th configuration.
+abbrev pub GivesOptions : Each → List (List ℕ) → ℕ → Options → Type 0
+GivesOptions each names i options = AreOptionsFor each (slice_index_or names i []) options
+
+-- The list cannot be read: the folder failed at its path, or there is no such file, or it is not UTF-8.
+pub data HasNoList (list : List ℕ) (folder folder_after : Option FolderState) : Type 0 where
+  failing : FolderLeads (list ∷ []) folder folder_after → HasNoList list folder folder_after
+  absent : FolderLeads [] folder folder_after → AnswersAs (files_told folder_after) list None → HasNoList list folder folder_after
+  no_text : (bytes : List ℕ) → FolderLeads [] folder folder_after → AnswersAs (files_told folder_after) list (Some bytes) → (IsUtf8 bytes → ⊥) →
+      HasNoList list folder folder_after
+
+-- The error line for that, or for being out of memory.
+pub data IsUnlisted (each : Each) (folder folder_after : Option FolderState) : List ℕ → Type 0 where
+  unreadable : (file : String Global) → each.list ≡ Some file → HasNoList (string_bytes file) folder folder_after →
+      IsUnlisted each folder folder_after (cannot_read_line (string_bytes file))
+  no_memory : (failed : List (List ℕ)) → FolderLeads failed folder folder_after → IsUnlisted each folder folder_after out_of_memory_line
+
+-- The tree cannot be loaded. The folder failed at the path of the file that could not be read, and nowhere else.
+pub record IsUnloaded (each : Each) (fault : LoadFault) (folder folder_after : Option FolderState) : Type 0 where
+  pub cause : IsLoadFault (files_told folder_after) (string_bytes each.options.root) (string_bytes each.options.kconfig) fault
+  pub leads : FolderLeads (failed_load {A = Unit {0}} (string_bytes each.options.root) (Err fault)) folder folder_after
+
+-- A run for many configurations. If the list cannot be read, the configurations share files, or the tree cannot be loaded, that is reported
+-- and nothing else is done.
+module _ (each : Each) (folder folder_after : Option FolderState) (old new : Log) (status : Status) where
+  pub data FolderRunsEach : Type 0 where
+    unlisted : (line : List ℕ) → IsUnlisted each folder folder_after line → TriesToSay line old new → status ≡ Faulted → FolderRunsEach
+    clashing : (names : List (List ℕ)) (usage : UsageError) → AreNames each folder_after names → FolderLeads [] folder folder_after →
+        IsClash each names usage → EndsUsage usage status × SaysUsage usage old new → FolderRunsEach
+    unloaded : (names : List (List ℕ)) (fault : LoadFault) → AreNames each folder_after names → AreApart each names →
+        IsUnloaded each fault folder folder_after → TriesToSay (load_line fault) old new → status ≡ Faulted → FolderRunsEach
+    loaded : (names : List (List ℕ)) (files : Files) → AreNames each folder_after names → AreApart each names →
+        AreFilesOf (files_told folder_after) (string_bytes each.options.root) files → FolderLeads [] folder folder_after →
+        RunsEach files (string_bytes each.options.kconfig) (GivesOptions each names) (length names) old new status → FolderRunsEach
+
+-- What such a run leaves in the files. It ends before the first configuration and changes no file; or it leaves what each configuration
+-- leaves of the files as they were before the run.
+pub data FolderLeavesEach (each : Each) (folder_after : Option FolderState) (before after : Journal) (status : Status) : Type 0 where
+  ends_before : ((name : List ℕ) → held after name ≡ held before name) → FolderLeavesEach each folder_after before after status
+  leaves : (names : List (List ℕ)) (files : Files) → AreNames each folder_after names →
+      AreFilesOf (files_told folder_after) (string_bytes each.options.root) files →
+      LeavesEach files (string_bytes each.options.kconfig) (GivesOptions each names) (length names) before after status →
+      FolderLeavesEach each folder_after before after status
+
+-- The law that each run for many configurations does so, over a device that records.
+abbrev pub NamedStandApart : Type 0
+NamedStandApart = (each : Each) (folder folder_after : Option FolderState) (before after : Journal) (status : Status) →
+    FolderRunsEach each folder folder_after (Some before) (Some after) status → FolderLeavesEach each folder_after before after status
+
+-- ---- The program
+
+-- The arguments ask for this: clap finds no fault, they do not exclude each other, and the options are what they give.
+pub record GiveRequest (arguments : List (String Global)) (request : Request) : Type 0 where
+  pub faultless : fault_of kconf_app (arguments_of arguments) ≡ []
+  pub fields : IsRequestOf (rows_for arguments) request
+
+-- The arguments ask for no run, for this cause. If clap takes them and there is no error for them, the only cause is to
+-- be out of memory.
+abbrev pub GiveNone : List (String Global) → UsageError → Type 0
+GiveNone arguments usage = IsRefused (fault_of kconf_app (arguments_of arguments)) (rows_for arguments) usage
+    × (takes kconf_app (arguments_of arguments) ≡ true → refusal_of (rows_for arguments) ≡ None → usage ≡ Memory)
+
+-- A run for one configuration, or for many.
+abbrev pub EndsAsked : Request → Option FolderState → Option FolderState → Log → Log → Status → Type 0
+EndsAsked (One options) folder folder_after old new status = FolderRuns options folder folder_after old new status
+EndsAsked (Many each) folder folder_after old new status = FolderRunsEach each folder folder_after old new status
+
+-- What is done with arguments that were read: the run that they ask for; or the cause is reported, and nothing else is done.
+module _ (arguments : List (String Global)) (folder folder_after : Option FolderState) (old new : Log) (status : Status) where
+  pub data AnswersArguments : Type 0 where
+    runs : (r : Request) → GiveRequest arguments r → EndsAsked r folder folder_after old new status → AnswersArguments
+    none : (usage : UsageError) → GiveNone arguments usage → EndsUsage usage status → SaysUsage usage old new → folder_after ≡ folder →
+        AnswersArguments
+
+-- The arguments of a process, of which the first is the program's name and is left out. They are unread if one is not UTF-8, or memory ran out.
+abbrev pub AreArgumentsOf : Result (IntoIter (String Global) Global) Error → Arguments → Type 0
+AreArgumentsOf (Ok words) (Given arguments) = arguments.items ≡ drop 1 (into_iter_items words)
+AreArgumentsOf (Ok words) (Unread usage) = usage ≡ Memory
+AreArgumentsOf (Err error) (Unread Memory) = Unit {0}
+AreArgumentsOf (Err error) (Unread (Bad text)) =
+    (error_kind error ≢ OutOfMemory) × (string_bytes text ≡ with_hint (codes "error: invalid UTF-8 was detected in one or more arguments"))
+AreArgumentsOf (Err error) _ = ⊥
+
+-- A run of the program; and the same on a disk, which records nothing.
+abbrev pub KconfEnds : Arguments → Option FolderState → Option FolderState → Log → Log → Status → Type 0
+KconfEnds (Given arguments) folder folder_after old new status = AnswersArguments arguments.items folder folder_after old new status
+KconfEnds (Unread usage) folder folder_after old new status = EndsUsage usage status × SaysUsage usage old new × (folder_after ≡ folder)
+
+abbrev pub KconfEndsOnDisk : Arguments → Status → Type 0
+KconfEndsOnDisk arguments status = KconfEnds arguments None None None None status

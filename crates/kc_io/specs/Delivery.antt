@@ -1,0 +1,61 @@
+-- Trusted: How texts are written to their files, event by event, and the laws of delivery (our own).
+use Rattle.std.specs.{Prelude.{◌≡◌, ℕ, Bool, true, false, not, ◌||◌, if◌then◌else◌, List, [], ◌∷◌, ◌++◌, filter, flat_map, Option, Some, Result, Ok, Err, bytes_eq}, List.list_any}
+use Rattle.kc_io.specs.{Log.{Event, Journal, Leads, Log, did, each_byte, held, is_held, keeps_files, with_events}, declared.{device.{Action.TheVariants.{Create, Write, Close, Move}, Site.{Site, TheVariants.{Place, Beside}}}, delivery.Manner.{Manner, TheVariants.{InPlace, Replacing}}, steps.Failure.Failure}}
+
+-- A text, and the name of the file that is to hold it.
+pub record NamedText : Type 0 where
+  pub name : List ℕ
+  pub bytes : List ℕ
+
+-- A file is created, written and closed, in place or beside it. One that is beside its place is moved there.
+abbrev pub put : Site → NamedText → List Event
+put site text = did (Create site) text.name ++ each_byte (Write site) text.name text.bytes ++ did (Close site) text.name
+
+abbrev pub moved : NamedText → List Event
+moved text = did Move text.name
+
+-- Whether two of the texts have the same name; and the texts that differ from what their files hold.
+abbrev pub share_name : List NamedText → Bool
+share_name [] = false
+share_name (text ∷ texts) = list_any (λ other. bytes_eq text.name other.name) texts || share_name texts
+
+abbrev pub stale : List NamedText → Journal → List NamedText
+stale texts journal = filter (λ text. not (is_held journal text.name text.bytes)) texts
+
+-- The texts to be written: all. With --replace, only those that differ from their files, unless two have the same name.
+abbrev pub chosen : Manner → List NamedText → Journal → List NamedText
+chosen InPlace texts journal = texts
+chosen Replacing texts journal = if share_name texts then texts else stale texts journal
+
+-- The events of a delivery: each file is written in place. With --replace, all are written beside their places first, and then moved there.
+abbrev pub delivery : Manner → List NamedText → List Event
+delivery InPlace texts = flat_map (put Place) texts
+delivery Replacing texts = flat_map (put Beside) texts ++ flat_map moved texts
+
+-- What is left of these events when a delivery ends: nothing, or those from the one that failed on.
+abbrev pub StopsBefore : List Event → Result (Unit {0}) Failure → Type 0
+StopsBefore [] (Ok _) = Unit {0}
+StopsBefore (event ∷ _) (Err failure) = (event.action ≡ failure.action) × (event.name ≡ failure.name.now)
+StopsBefore _ _ = ⊥
+
+-- ---- Laws
+
+-- The last text of this name, or what was there.
+abbrev pub last_of : List ℕ → List NamedText → Option (List ℕ) → Option (List ℕ)
+last_of name [] there = there
+last_of name (text ∷ texts) there = last_of name texts (if bytes_eq name text.name then Some text.bytes else there)
+
+-- After a whole delivery, each file holds the last of the texts with its name, or what it held before.
+abbrev pub DeliveryHolds : Type 0
+DeliveryHolds = (name : List ℕ) (manner : Manner) (texts : List NamedText) (journal : Journal) →
+    held (with_events (delivery manner texts) [] journal) name ≡ last_of name texts (held journal name)
+
+-- Events that failed, or that do not create, write or move a file, do not change what files hold.
+abbrev pub LookingKeeps : Type 0
+LookingKeeps = (name : List ℕ) (events : List Event) (text : List ℕ) (journal : Journal) → keeps_files events ≡ true →
+    held (with_events events text journal) name ≡ held journal name
+
+-- The events and the text of one turn and of the next one are together those of both.
+abbrev pub TurnsFollow : Type 0
+TurnsFollow = (first second : List Event) (before behind : List ℕ) (old mid new : Log) → Leads first before old mid → Leads second behind mid new →
+    Leads (first ++ second) (before ++ behind) old new

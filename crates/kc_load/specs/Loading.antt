@@ -1,0 +1,60 @@
+-- Trusted: What loading gives: the files that were found, asked for in order, and that they are enough.
+use Rattle.std.specs.{Prelude.{◌≡◌, ℕ, ◌≤◌, List, [], ◌∷◌, ◌++◌, Contains, Option, Some, Result}, Str.IsUtf8}
+use Rattle.kc_expr.specs.Names.{AreDistinct}
+use Rattle.kc_language.specs.{Text.most_lines, Expansion.{Expands, Files, Log, Refused}, Outcome.{AreSources, AskedInOrder}}
+use Rattle.kc_load.specs.Folder.{Answer, AreAsked, AreFilesOf, FolderFiles, files_found, line_total}
+
+-- as each was asked for, there were no more lines than the limit
+abbrev pub WereWithin : List Answer → Type 0
+WereWithin asked = (before after : List Answer) (a : Answer) → asked ≡ before ++ a ∷ after → line_total before ≤ most_lines
+
+-- The files of a map are those that were found, and no name comes next, unless the lines are over the limit.
+pub record Loads (folder_files : FolderFiles) (dir first : List ℕ) (files : Files) : Type 0 where
+  pub asked : List Answer
+  pub next : List (List ℕ)
+  pub are_asked : AreAsked folder_files dir first asked next
+  pub within : WereWithin asked
+  pub are_all : line_total asked ≤ most_lines → next ≡ []
+  pub held : (name : List ℕ) → files name ≡ files_found asked name
+
+-- over a folder that tells its files there is at most one such map
+abbrev pub OneMap : Type 0
+OneMap =
+    (folder_files : List ℕ → Option (List ℕ)) (dir first : List ℕ) (files others : Files) → Loads (Some folder_files) dir first files →
+    Loads (Some folder_files) dir first others → (name : List ℕ) → files name ≡ others name
+
+-- over a folder that tells its files there is such a map
+abbrev pub MapExists : Type 0
+MapExists = (folder_files : List ℕ → Option (List ℕ)) (dir first : List ℕ) → (files : Files) × Loads (Some folder_files) dir first files
+
+-- ---- the order
+
+-- over any files there is at most one such order
+abbrev pub OneOrder : Type 0
+OneOrder = (files : Files) (first : List ℕ) (names others : List (List ℕ)) → AskedInOrder files first names → AskedInOrder files first others → names ≡ others
+
+-- The names that a first one reaches: itself, and each UTF-8 name that a file of such a name sources.
+pub data Reached (files : Files) (first : List ℕ) : List ℕ → Type 0 where
+  itself : Reached files first first
+  sourced : (file bytes name : List ℕ) (names : List (List ℕ)) → Reached files first file → files file ≡ Some bytes → AreSources bytes names →
+      Contains names name → IsUtf8 name → Reached files first name
+
+-- over files that were found there is an order in which names are asked for
+abbrev pub HasOrder : Type 0
+HasOrder = (asked : List Answer) (first : List ℕ) → (names : List (List ℕ)) × AskedInOrder (files_found asked) first names
+
+-- What is asked for is what the first name reaches, each name once.
+abbrev pub OrderIsReached : Type 0
+OrderIsReached =
+    (files : Files) (first : List ℕ) (names : List (List ℕ)) → IsUtf8 first → AskedInOrder files first names →
+    AreDistinct names × ((name : List ℕ) → Contains names name → Reached files first name) × ((name : List ℕ) → Reached files first name → Contains names name)
+
+-- ---- it is enough
+
+-- the root file gives the same list, with the files that it opens, or the same refusal over both
+abbrev pub ExpandsAlike : List ℕ → Files → Files → Type 0
+ExpandsAlike root files others = (r : Result Log Refused) → (Expands files root r → Expands others root r) × (Expands others root r → Expands files root r)
+
+-- What was loaded is enough: over it the first file gives what it gives over all the files of the folder, with the files that it opens.
+abbrev pub Suffices : FolderFiles → List ℕ → List ℕ → Files → Type 0
+Suffices folder_files dir first loaded = (files : Files) × AreFilesOf folder_files dir files × ExpandsAlike first files loaded

@@ -1,0 +1,12 @@
+-- For proofs: Parts of the definitions of Folder, by names of their own.
+use Rattle.kc_language.specs.Expansion.{Files, lines_of}
+use Rattle.kc_language.specs.Outcome.{path_of}
+use Rattle.std.specs.Prelude.{ℕ, List, Option, None, if◌then◌else◌, Some}
+use Rattle.std.specs.Str.{is_utf8}
+
+abbrev pub named : (List ℕ → Option (List ℕ)) → List ℕ → Files
+named files dir name = if is_utf8 name then files (path_of dir name) else None
+
+abbrev pub lines_found : Option (List ℕ) → ℕ
+lines_found None = 0
+lines_found (Some bytes) = lines_of bytes

@@ -1,0 +1,235 @@
+-- Trusted: What the command line asks for, why it is refused, and which files configurations share (our own; see `kconf --help`).
+-- The crate clap reads the arguments. It has a rule for each argument, and gives rows: the name of a rule with its values. A flag that is given
+-- has the value `true`.
+use Rattle.std.specs.{Prelude.{◌≡◌, ◌≢◌, ◌==◌, ◌<◌, ◌&&◌, ◌||◌, ◌⊎◌, ◌++◌, ℕ, List, [], ◌∷◌, Bool, true, false, not, Option, Some, None, is_some, unwrap_or, option_map, String, string_bytes, codes, decimal, bytes_eq, nat_eq, if◌then◌else◌, map, fold, filter, flat_map, length, drop, slice_index_or}, List.{last_or, list_any, slice_split, starts_with}, Option.option_or, Str.Lines.lines, declared.alloc.Global.Global}
+use Rattle.clap.specs.{Words.{App, IsAmong, Kinds, Row, Rule, Text, all_of, first_of, matches_of, new_app, new_rule, with_rule}, Simple.on_top, declared.{builder.action.ArgAction.TheVariants.{Append, SetTrue}, error.kind.ErrorKind.{ErrorKind, TheVariants.{DisplayHelp, DisplayVersion}}}}
+use Rattle.kc_language.specs.{Text.{byte, longest_prefix}, ConfigFile.is_prefix, Outcome.Options, declared.outcome.Delivery.{Delivery, TheVariants.{Check, Replace, Write}}}
+use Rattle.kc_words.specs.declared.{each.Each.Each, options.Request.{Request, TheVariants.{One, Each as Many}}, usage.UsageError.{UsageError, TheVariants.{Help, Version, Bad, Memory}}}
+
+-- ---- The command
+
+-- The rules: --NAME VALUE; --NAME; --NAME VALUE, which may be repeated; KCONFIG, which is required; and the arguments after it.
+abbrev pub option_rule : Text → Rule
+option_rule name = record (new_rule name) { long = Some name; value_names = 1 }
+
+abbrev pub flag_rule : Text → Rule
+flag_rule name = record (new_rule name) { long = Some name; action = Some SetTrue }
+
+abbrev pub repeated_rule : Text → Rule
+repeated_rule name = record (new_rule name) { long = Some name; action = Some Append; value_names = 1 }
+
+abbrev pub kconfig_rule : Rule
+kconfig_rule = record (new_rule (codes "KCONFIG")) { required = true }
+
+abbrev pub fragment_rule : Rule
+fragment_rule = record (new_rule (codes "FRAGMENT")) { action = Some Append }
+
+-- A command with --help and --version alone. The program's name is not among the arguments.
+abbrev pub empty_app : App
+empty_app = on_top (λ s. record s { no_binary_name = true; has_version = true }) (new_app (codes "kconf"))
+
+-- The options; and the command: kconf [OPTIONS] KCONFIG [FRAGMENT ..]
+unfoldable pub with_options : App → App
+with_options app = fold with_rule app
+    (option_rule (codes "root") ∷ option_rule (codes "config") ∷ option_rule (codes "out") ∷ option_rule (codes "header")
+    ∷ option_rule (codes "savedefconfig") ∷ option_rule (codes "depfile") ∷ option_rule (codes "prefix")
+    ∷ flag_rule (codes "must-exist") ∷ flag_rule (codes "strict") ∷ flag_rule (codes "strict-tree") ∷ flag_rule (codes "warn-lost")
+    ∷ flag_rule (codes "replace") ∷ flag_rule (codes "check") ∷ flag_rule (codes "each")
+    ∷ option_rule (codes "each-from") ∷ repeated_rule (codes "fragment") ∷ [])
+
+unfoldable pub kconf_app : App
+kconf_app = with_rule (with_rule (with_options empty_app) kconfig_rule) fragment_rule
+
+-- The arguments as text; and the rows that the command finds in them.
+abbrev pub arguments_of : List (String Global) → List Text
+arguments_of = map string_bytes
+
+abbrev pub rows_for : List (String Global) → List Row
+rows_for words = matches_of kconf_app (arguments_of words)
+
+-- ---- What is asked for
+
+-- Whether a flag is given; whether an argument has a value; and all its values.
+abbrev pub is_given : Text → List Row → Bool
+is_given id rows = bytes_eq (unwrap_or (first_of id rows) []) (codes "true")
+
+abbrev pub has_value : Text → List Row → Bool
+has_value id rows = is_some (first_of id rows)
+
+abbrev pub values_of : Text → List Row → List Text
+values_of id rows = unwrap_or (all_of id rows) []
+
+-- Whether many configurations are asked for; the prefix of symbol names; and how the texts are delivered.
+abbrev pub is_each : List Row → Bool
+is_each rows = is_given (codes "each") rows || has_value (codes "each-from") rows
+
+abbrev pub prefix_option : List Row → Text
+prefix_option rows = unwrap_or (first_of (codes "prefix") rows) (codes "CONFIG_")
+
+abbrev pub delivery_of : List Row → Delivery
+delivery_of rows = if is_given (codes "check") rows then Check else if is_given (codes "replace") rows then Replace else Write
+
+-- The options that are the same for one configuration and for many: the values of the arguments, or the defaults.
+pub record AreSharedOptions (rows : List Row) (options : Options) : Type 0 where
+  pub root : string_bytes options.root ≡ unwrap_or (first_of (codes "root") rows) (codes ".")
+  pub kconfig : string_bytes options.kconfig ≡ unwrap_or (first_of (codes "KCONFIG") rows) []
+  pub header : option_map string_bytes options.header ≡ first_of (codes "header") rows
+  pub minimal : option_map string_bytes options.minimal ≡ first_of (codes "savedefconfig") rows
+  pub depfile : option_map string_bytes options.depfile ≡ first_of (codes "depfile") rows
+  pub prefix : options.prefix ≡ prefix_option rows
+  pub prefix_is_one : is_prefix (prefix_option rows) ≡ true
+  pub strict : options.strict ≡ is_given (codes "strict") rows
+  pub strict_tree : options.strict_tree ≡ is_given (codes "strict-tree") rows
+  pub warn_lost : options.warn_lost ≡ is_given (codes "warn-lost") rows
+  pub delivery : options.delivery ≡ delivery_of rows
+
+-- The options of one configuration.
+pub record AreOptionsOf (rows : List Row) (options : Options) : Type 0 where
+  pub shared : AreSharedOptions rows options
+  pub config : string_bytes options.config ≡ unwrap_or (first_of (codes "config") rows) (codes ".config")
+  pub out : option_map string_bytes options.out ≡ Some (unwrap_or (first_of (codes "out") rows) (string_bytes options.config))
+  pub fragments : map string_bytes options.fragments.items ≡ values_of (codes "FRAGMENT") rows ++ values_of (codes "fragment") rows
+  pub must_exist : options.must_exist ≡ is_given (codes "must-exist") rows
+  pub names_config : options.names_config ≡ false
+
+-- Many configurations: the arguments after KCONFIG, and those that the file `list` names. `out`, `header`, `minimal` and `depfile` are patterns.
+pub record IsEachOf (rows : List Row) (each : Each) : Type 0 where
+  pub shared : AreSharedOptions rows each.options
+  pub config : string_bytes each.options.config ≡ []
+  pub out : option_map string_bytes each.options.out ≡ first_of (codes "out") rows
+  pub fragments : map string_bytes each.options.fragments.items ≡ values_of (codes "fragment") rows
+  pub must_exist : each.options.must_exist ≡ true
+  pub names_config : each.options.names_config ≡ true
+  pub configurations : map string_bytes each.configurations.items ≡ values_of (codes "FRAGMENT") rows
+  pub list : option_map string_bytes each.list ≡ first_of (codes "each-from") rows
+
+-- One configuration, or many.
+abbrev pub AsksFor : List Row → Request → Type 0
+AsksFor rows (One options) = (is_each rows ≡ false) × AreOptionsOf rows options
+AsksFor rows (Many each) = (is_each rows ≡ true) × IsEachOf rows each
+
+-- ---- Refusals
+
+-- How an error about the arguments ends.
+abbrev pub with_hint : Text → Text
+with_hint text = text ++ codes "\n\nFor more information, try '--help'.\n"
+
+-- The error if arguments exclude each other: the first that fits. And the error if a prefix is not valid.
+abbrev pub exclusion_of : List Row → Option Text
+exclusion_of rows =
+    if is_given (codes "check") rows && is_given (codes "replace") rows
+    then Some (with_hint (codes "error: the argument '--check' cannot be used with '--replace'"))
+    else if is_each rows && has_value (codes "config") rows
+    then Some (with_hint (codes "error: the argument '--config <FILE>' cannot be used with '--each'"))
+    else if is_each rows && (has_value (codes "depfile") rows && not (has_value (codes "out") rows))
+    then Some (with_hint (codes "error: the argument '--depfile <FILE>' needs '--out <FILE>' with '--each'"))
+    else None
+
+abbrev pub no_prefix_text : Text → Text
+no_prefix_text text = codes "error: invalid value '" ++ text ++ with_hint (codes "' for '--prefix <TEXT>': at most " ++ decimal longest_prefix
+    ++ codes " letters, digits and _, of which the first is no digit")
+
+-- The error for arguments in which clap finds no fault, if there is one.
+abbrev pub refusal_of : List Row → Option Text
+refusal_of rows = option_or (exclusion_of rows) (if is_prefix (prefix_option rows) then None else Some (no_prefix_text (prefix_option rows)))
+
+-- What the arguments ask for, if they do not exclude each other.
+pub record IsRequestOf (rows : List Row) (request : Request) : Type 0 where
+  pub asks : AsksFor rows request
+  pub together : exclusion_of rows ≡ None
+
+-- Why the arguments ask for no run: they ask for help, or for the version; clap finds another fault, which its own text reports; there is an error
+-- for them; or memory ran out.
+abbrev pub IsRefused : Kinds → List Row → UsageError → Type 0
+IsRefused kinds rows (Help _) = IsAmong DisplayHelp kinds
+IsRefused kinds rows Version = IsAmong DisplayVersion kinds
+IsRefused kinds rows (Bad told) = ((k : ErrorKind) × (k ≢ DisplayHelp) × (k ≢ DisplayVersion) × IsAmong k kinds)
+    ⊎ ((kinds ≡ []) × (refusal_of rows ≡ Some (string_bytes told)))
+IsRefused kinds rows Memory = Unit {0}
+
+-- ---- Many configurations
+
+-- The configurations that a file names: its lines, without the empty ones.
+abbrev pub listed : Text → List Text
+listed bytes = filter (λ line. not (length line == 0)) (lines bytes)
+
+-- What follows the last `/` of a path. And a pattern with the configuration in place of each `{}` and its file name in place of each `{/}`: it is
+-- split at each `{`, and any other `{` stays.
+abbrev pub file_name : Text → Text
+file_name path = unwrap_or (last_or None (slice_split (λ b. b == byte "/") path)) []
+
+abbrev pub filled_part : Text → Text → Text
+filled_part config part =
+    if starts_with nat_eq part (codes "}") then config ++ drop 1 part
+    else if starts_with nat_eq part (codes "/}") then file_name config ++ drop 2 part
+    else codes "{" ++ part
+
+abbrev pub filled_parts : Text → List Text → Text
+filled_parts config [] = []
+filled_parts config (first ∷ others) = first ++ flat_map (filled_part config) others
+
+abbrev pub filled : Text → Text → Text
+filled config pattern = filled_parts config (slice_split (λ b. b == byte "{") pattern)
+
+-- The options of one of many configurations: those of all, with this name, and with the patterns filled.
+pub record AreOptionsFor (each : Each) (name : Text) (options : Options) : Type 0 where
+  pub root : string_bytes options.root ≡ string_bytes each.options.root
+  pub config : string_bytes options.config ≡ name
+  pub out : option_map string_bytes options.out ≡ option_map (λ p. filled name (string_bytes p)) each.options.out
+  pub kconfig : string_bytes options.kconfig ≡ string_bytes each.options.kconfig
+  pub header : option_map string_bytes options.header ≡ option_map (λ p. filled name (string_bytes p)) each.options.header
+  pub minimal : option_map string_bytes options.minimal ≡ option_map (λ p. filled name (string_bytes p)) each.options.minimal
+  pub depfile : option_map string_bytes options.depfile ≡ option_map (λ p. filled name (string_bytes p)) each.options.depfile
+  pub fragments : map string_bytes options.fragments.items ≡ map string_bytes each.options.fragments.items
+  pub prefix : options.prefix ≡ each.options.prefix
+  pub must_exist : options.must_exist ≡ each.options.must_exist
+  pub strict : options.strict ≡ each.options.strict
+  pub strict_tree : options.strict_tree ≡ each.options.strict_tree
+  pub warn_lost : options.warn_lost ≡ each.options.warn_lost
+  pub delivery : options.delivery ≡ each.options.delivery
+  pub names_config : options.names_config ≡ each.options.names_config
+
+-- The files that a configuration writes; and those that it reads for user values.
+abbrev pub filled_if : Text → Option (String Global) → List Text
+filled_if config None = []
+filled_if config (Some pattern) = filled config (string_bytes pattern) ∷ []
+
+abbrev pub writes : Each → Text → List Text
+writes each config = filled_if config each.options.out ++ (filled_if config each.options.header
+    ++ (filled_if config each.options.minimal ++ filled_if config each.options.depfile))
+
+abbrev pub reads : Each → Text → List Text
+reads each config = config ∷ map string_bytes each.options.fragments.items
+
+-- The i-th configuration writes the file of this name; or it reads it.
+abbrev pub is_among : Text → List Text → Bool
+is_among name = list_any (bytes_eq name)
+
+abbrev pub Writes : Each → List Text → ℕ → Text → Type 0
+Writes each configs i name = (i < length configs) × (is_among name (writes each (slice_index_or configs i [])) ≡ true)
+
+abbrev pub Reads : Each → List Text → ℕ → Text → Type 0
+Reads each configs i name = (i < length configs) × (is_among name (reads each (slice_index_or configs i [])) ≡ true)
+
+-- No configuration writes a file that another one writes or reads. Otherwise one such file is reported, unless memory ran out.
+abbrev pub AreApart : Each → List Text → Type 0
+AreApart each configs =
+    (i j : ℕ) (name : Text) → i ≢ j → Writes each configs i name → (Writes each configs j name → ⊥) × (Reads each configs j name → ⊥)
+
+abbrev pub IsWrittenTwice : Each → List Text → Text → Type 0
+IsWrittenTwice each configs name = (i : ℕ) × (j : ℕ) × (i ≢ j) × Writes each configs i name × Writes each configs j name
+
+abbrev pub IsWrittenAndRead : Each → List Text → Text → Type 0
+IsWrittenAndRead each configs name = (i : ℕ) × (j : ℕ) × (i ≢ j) × Writes each configs i name × Reads each configs j name
+
+abbrev pub written_twice_text : Text → Text
+written_twice_text name = codes "error: two configurations write the file '" ++ name ++ with_hint (codes "'")
+
+abbrev pub written_and_read_text : Text → Text
+written_and_read_text name = codes "error: a configuration writes the file '" ++ name ++ with_hint (codes "', which another one reads")
+
+abbrev pub IsClash : Each → List Text → UsageError → Type 0
+IsClash each configs (Bad told) = (name : Text) × ((IsWrittenTwice each configs name × (string_bytes told ≡ written_twice_text name))
+    ⊎ (IsWrittenAndRead each configs name × (string_bytes told ≡ written_and_read_text name)))
+IsClash each configs Memory = Unit {0}
+IsClash each configs _ = ⊥
