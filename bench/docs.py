@@ -12,7 +12,7 @@
   data, the cause in docs/differences.md.
 - A line of a document has at most 120 columns, except in tables.
 - docs/bench.svg must be the chart of the first table of times in docs/performance.md.
-- README.md must have the number of trusted definitions and of their lines that bench/trusted.py counts.
+- README.md must have the three numbers of trusted definitions and of their lines that bench/trusted.py --run ends with.
 """
 
 import glob
@@ -265,11 +265,14 @@ def chart():
 
 
 def trusted():
-    """Complaints about the number of trusted definitions."""
+    """Complaints about the numbers of trusted definitions: of the language, of the I/O layer with the command line, and of all."""
     listed = subprocess.run([os.path.join(TOP, "bench/trusted.py"), "--run"], capture_output=True, text=True).stdout
-    lines, definitions = (f"{int(it):,}" for it in re.search(r"(\d+) lines of them are the (\d+) definitions", listed).groups())
-    wanted = f"{definitions} definitions ({lines} lines)"
-    return [] if wanted in " ".join(read("README.md").split()) else [f"README.md: the program rests on {wanted}"]
+    found = re.findall(r"^ *(\d+) lines in +(\d+) definitions: ", listed, re.M)
+    if len(found) != 3:
+        return ["bench/trusted.py --run does not end with three sums"]
+    page, sums = " ".join(read("README.md").split()), [(f"{int(lines):,}", f"{int(definitions):,}") for lines, definitions in found]
+    wanted = [f"{definitions} definitions ({lines} lines)" for lines, definitions in sums]
+    return [f"README.md does not have {it} of bench/trusted.py --run" for it in wanted if it not in page]
 
 
 def main():

@@ -199,7 +199,7 @@ Nested ss i = (ys : List ℕ) (k : ℕ) (zs : List ℕ) → enclosing ss i ≡ y
 nested_next : (ss : List Numbered) (i : ℕ) (s : Numbered) (b : Bracket) → slice_get ss i ≡ Some s → bracket s ≡ b → Nested ss i → Nested ss (suc i)
 nested_next ss i s (Opens b) h e ih = λ ys k zs p.
     elim (split_snoc (enclosing ss i) i ys k zs (sym (enclosing-opens ss i s b h e) ∙ p)) as (λ _. IsNested ss (suc i) ys k) [
-      | inl q ↦ record { before = (let w = q.1 in omega arith); outside = (rw (q.1) (q.0)); opener = (rw (q.1, h, e) refl) }
+      | inl q ↦ record { before = (let w = q.1 in omega arith); outside = (rw (q.1) (q.0)); opener = (rw (bracket_at, q.1, h, e) refl) }
       | inr w ↦ IsNested-later ss i ys k (ih ys k w.0 w.1)
     ]
 nested_next ss i s Closes h e ih = λ ys k zs p.

@@ -11,7 +11,7 @@ use Rattle.kc_language.specs.declared.expressions.SymId.{SymId}
 use Rattle.kc_language.specs.Expressions.{Form}
 use Rattle.kc_language.specs.declared.statements.Block.TheVariants as block
 use Rattle.kc_language.specs.Statements.{InputPrompt, Numbered, ChoiceLine}
-use Rattle.kc_language.specs.Expansion.{attributes, enclosing, is_open, last_of, numbers}
+use Rattle.kc_language.specs.Expansion.{bracket_at, attributes, enclosing, is_open, last_of, numbers}
 use Rattle.kc_tree.specs.declared.rows.Choice.{Choice}
 use Rattle.kc_tree.specs.declared.rows.ChoiceDefault.{ChoiceDefault}
 use Rattle.kc_tree.specs.declared.rows.ContextId.{ContextId}
@@ -262,7 +262,7 @@ module _ (own : List Numbered) (old new : EntryWalk) (rest : IsRest old new) (mi
       let g : Extends o new.tables.contexts =
       record { keeps = λ n l. k.keeps n (let m = f.longer in omega arith) ∙ f.keeps n l; longer = (let m = f.longer in let n = k.longer in omega arith) } in
       let innermost_is = w.blocks.innermost in
-      let opens : of_block ss block.Choice i ≡ true = rw (h.at) refl in
+      let opens : of_block ss block.Choice i ≡ true = rw (bracket_at, h.at) refl in
       let counted : id ≡ choice_number ss i = id_is ∙ choice_count ss count i old w in
       let depends : condition_in new.tables.contexts c.within.0 ≡ dependency ss i = k.keeps c.within.0 stands.there ∙ stands.is
       ∙ dependency_is ss i own o block_outside innermost_is h.attributes_are in
@@ -295,8 +295,8 @@ module _ (own : List Numbered) (old new : EntryWalk) (rest : IsRest old new) (mi
       ∙ sym (choice_passed ss i ChoiceLine own h refl opens) in
       let made : condition_in new.tables.contexts b.within.0 ≡ in_choice x id = ap (λ (n : ℕ). condition_in new.tables.contexts n) within
       ∙ ap (λ (l : List Condition). condition_in l (length middle)) added ∙ get_or_push middle (in_choice x id) top (length middle) refl in
-      let nothing : block_conjuncts ss i ≡ [] = rw (h.at) refl in
-      let unseen : block_visible ss i ≡ [] = rw (h.at) refl in
+      let nothing : block_conjuncts ss i ≡ [] = rw (bracket_at, h.at) refl in
+      let unseen : block_visible ss i ≡ [] = rw (bracket_at, h.at) refl in
       let conjuncts : (condition_in new.tables.contexts b.within.0).conjuncts ≡ (block_facts_at ss i).conjuncts ++ block_conjuncts ss i = ap (λ (y : Condition). y.conjuncts) made
       ∙ ap (λ (y : Condition). y.conjuncts) (f.keeps block_outside.within.0 there) ∙ ap (λ y. y.conjuncts) innermost_is
       ∙ sym (ap (λ (l : List Form). (block_facts_at ss i).conjuncts ++ l) nothing ∙ append-nil (block_facts_at ss i).conjuncts) in

@@ -7,7 +7,7 @@ use Rattle.std.proofs.lemmas.List.Elements.{All-cons, All-nil}
 use Rattle.std.proofs.lemmas.Option.{slice_get_within}
 use Rattle.kc_language.specs.declared.statements.Block.TheVariants as block
 use Rattle.kc_language.specs.Statements.{Numbered, EndMenuLine}
-use Rattle.kc_language.specs.Expansion.{Closes, bracket, numbers}
+use Rattle.kc_language.specs.Expansion.{bracket_at, Closes, bracket, numbers}
 use Rattle.kc_tree.specs.declared.rows.ShownEntry.TheVariants as entry
 use Rattle.kc_tree.specs.Layouts.{shown_of}
 use Rattle.kc_language.specs.Symbols.{Condition, EndShown, shown_at, shown_number, shows_entry, of_block}
@@ -49,7 +49,7 @@ pub closer_enters : (head : Numbered) (old new : EntryWalk) → bracket head ≡
     IsClosed old.blocks new.blocks → (first : Bool) (own : List Numbered) → Enters first head own old new
 closer_enters head old new b none untitled no_entry same contexts menu closed first own ss count i a h w =
     quiet_passes ss count i head own h old new w same
-    (record { symbol = none; choice = rw (h.at, b) refl; entry = no_entry ss i })
+    (record { symbol = none; choice = rw (bracket_at, h.at, b) refl; entry = no_entry ss i })
     (extends_equal old.tables.contexts new.tables.contexts contexts)
     (let n : length new.tables.contexts ≡ length old.tables.contexts = ap length contexts in omega arith)
     (open_closes ss i head h.at new.tables.contexts old.blocks new.blocks b (subst (λ (l : List Condition). AreOpen ss i l old.blocks) (sym contexts) w.blocks) closed)
@@ -80,7 +80,7 @@ end_enters old new r contexts titles entries closed first own ss count i a h w =
     let opener : old.blocks.innermost.entry ≡ option_map (shown_number ss) (enclosing_block ss i) = ap (λ x. x.entry) w.blocks.innermost in
     let ends : new.tables.entries.items ≡ old.tables.entries.items ++ ends_of (option_map (shown_number ss) (enclosing_block ss i)) = entries
     ∙ ap (λ (o : Option ℕ). old.tables.entries.items ++ ends_of o) opener in
-    let other : of_block ss block.Choice i ≡ false = rw (h.at) refl in
+    let other : of_block ss block.Choice i ≡ false = rw (bracket_at, h.at) refl in
     let g = extends_equal old.tables.contexts new.tables.contexts contexts in
     let many : length new.tables.entries.items ≡ shown_number ss i + length (ends_of (option_map (shown_number ss) (enclosing_block ss i))) = ap length ends
     ∙ length-append old.tables.entries.items (ends_of (option_map (shown_number ss) (enclosing_block ss i)))

@@ -9,7 +9,7 @@ use Rattle.kc_language.specs.Expressions.{Form}
 use Rattle.kc_language.specs.declared.statements.Block.{Block}
 use Rattle.kc_language.specs.declared.statements.Block.TheVariants as block
 use Rattle.kc_language.specs.Statements.{Numbered, ConfigLine, IfLine, EndIfLine, CommentLine, MenuLine, EndMenuLine, ChoiceLine, EndChoiceLine, MainMenuLine}
-use Rattle.kc_language.specs.Expansion.{NoBracket, bracket, enclosing, is_attribute, numbers}
+use Rattle.kc_language.specs.Expansion.{bracket_at, NoBracket, bracket, enclosing, is_attribute, numbers}
 use Rattle.kc_build.specs.Before.{definition_line, definitions_before, entries_before, members_before}
 use Rattle.kc_language.specs.Symbols.{shown_at, naming_at, of_block, symbol_at}
 use Rattle.kc_build.specs.PartsOfSymbols.{is_member_index, symbol_of, title_of}
@@ -123,9 +123,9 @@ module _ (ss : List Numbered) (i : ℕ) (head : Numbered) (own : List Numbered) 
       ∙ members_next k i
 
   no_block : (b : Block) (j : ℕ) (s : Numbered) → slice_get ss j ≡ Some s → is_attribute s ≡ true → of_block ss b j ≡ false
-  no_block block.If j s at e = rw (at, attribute_bracket s e) refl
-  no_block block.Menu j s at e = rw (at, attribute_bracket s e) refl
-  no_block block.Choice j s at e = rw (at, attribute_bracket s e) refl
+  no_block block.If j s at e = rw (bracket_at, at, attribute_bracket s e) refl
+  no_block block.Menu j s at e = rw (bracket_at, at, attribute_bracket s e) refl
+  no_block block.Choice j s at e = rw (bracket_at, at, attribute_bracket s e) refl
 
   pub blocks_passed : (b : Block) → filter (of_block ss b) (numbers after) ≡ filter (of_block ss b) (numbers i) ++ (if of_block ss b i then i ∷ [] else [])
   blocks_passed b =

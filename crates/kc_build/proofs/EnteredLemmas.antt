@@ -7,7 +7,7 @@ use Rattle.kc_read.specs.declared.statement.Head.{Head}
 use Rattle.kc_read.specs.declared.statement.Head.TheVariants as made
 use Rattle.kc_read.specs.StatementViews.{head_view}
 use Rattle.kc_language.specs.Statements.{Numbered, MainMenuLine}
-use Rattle.kc_language.specs.Expansion.{Closes, bracket, last_of}
+use Rattle.kc_language.specs.Expansion.{Closes, bracket_at, bracket, last_of}
 use Rattle.kc_language.specs.Symbols.{shown_at}
 use Rattle.kc_build.specs.PartsOfSymbols.{symbol_of, title_of}
 use Rattle.kc_build.specs.Walks.{Enters}
@@ -42,7 +42,7 @@ pub main_menu_enters : (text : List ℕ) (old new : EntryWalk) → AreSame old n
     (first : Bool) (own : List Numbered) → Enters first (MainMenuLine text) own old new
 main_menu_enters text old new same contexts blocks says first own ss count i a h k =
     quiet_passes ss count i (MainMenuLine text) own h old new k same
-    (record { symbol = refl; choice = rw (h.at) refl; entry = refl })
+    (record { symbol = refl; choice = rw (bracket_at, h.at) refl; entry = refl })
     (extends_equal old.tables.contexts new.tables.contexts contexts)
     (let n : length new.tables.contexts ≡ length old.tables.contexts = ap length contexts in omega arith)
     (rw (contexts, blocks) (open_passes ss i (MainMenuLine text) h.at old.tables.contexts old.blocks refl k.blocks))

@@ -1,4 +1,5 @@
 -- What an entry does to the walk that opens or closes a block, or neither: an `if`, a closer, another line.
+use Rattle.kc_language.specs.Expansion.{bracket_at}
 use Rattle.std.proofs.Common.{◌≡◌, ℕ, suc, ◌+◌, ◌*◌, ◌≤◌, Bool, false, if◌then◌else◌, List, [], ◌∷◌, ◌++◌, length, Some, None, refl, ap, sym, ◌∙◌, arith}
 use Rattle.std.specs.List.{cons_option}
 use Rattle.std.proofs.lemmas.List.{append-nil, get_or_push, length_push}
@@ -92,9 +93,9 @@ module _ (e : Form) (entry : ℕ) (b : BlockScope) (old new : EntryWalk) (same :
       let made : condition_in new.tables.contexts b.within.0 ≡ and_also outer e = ap (λ (n : ℕ). condition_in new.tables.contexts n) within
       ∙ ap (λ (l : List Condition). condition_in l (length conditions)) added ∙ get_or_push conditions (and_also outer e) top (length conditions) refl in
       let innermost_is = w.blocks.innermost in
-      let opens : block_conjuncts ss i ≡ e ∷ [] = rw (h.at) refl in
-      let nothing : block_visible ss i ≡ [] = rw (h.at) refl in
-      let other : of_block ss block.Choice i ≡ false = rw (h.at) refl in
+      let opens : block_conjuncts ss i ≡ e ∷ [] = rw (bracket_at, h.at) refl in
+      let nothing : block_visible ss i ≡ [] = rw (bracket_at, h.at) refl in
+      let other : of_block ss block.Choice i ≡ false = rw (bracket_at, h.at) refl in
       let conjuncts : (condition_in new.tables.contexts b.within.0).conjuncts ≡ (block_facts_at ss i).conjuncts ++ block_conjuncts ss i = ap (λ (c : Condition). c.conjuncts) made
       ∙ ap (λ (l : List Form). l ++ e ∷ []) (ap (λ x. x.conjuncts) innermost_is) ∙ ap (λ (l : List Form). (block_facts_at ss i).conjuncts ++ l) (sym opens) in
       let seen : (condition_in new.tables.contexts b.visible.0).conjuncts ≡ (block_facts_at ss i).visible ++ block_visible ss i = ap (λ x. (condition_in new.tables.contexts x.0).conjuncts) visible

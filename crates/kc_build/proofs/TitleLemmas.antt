@@ -5,7 +5,7 @@ use Rattle.std.proofs.lemmas.List.{append-nil, length_push, nil_from_length}
 use Rattle.std.proofs.lemmas.List.Elements.{All-cons, All-nil}
 use Rattle.kc_language.specs.Expressions.{Form}
 use Rattle.kc_language.specs.declared.statements.Block.TheVariants as block
-use Rattle.kc_language.specs.Expansion.{attributes}
+use Rattle.kc_language.specs.Expansion.{bracket_at, attributes}
 use Rattle.kc_language.specs.Statements.{Numbered, CommentLine, MenuLine}
 use Rattle.kc_tree.specs.declared.rows.ContextId.{ContextId}
 use Rattle.kc_tree.specs.declared.rows.ShownEntry.{ShownEntry}
@@ -122,7 +122,7 @@ module _ (text : List ℕ) (own : List Numbered) (old new : EntryWalk) (rest : A
       let condition : title_condition new.tables t ≡ dependency ss i = (λ j. record { conjuncts = (depends j).conjuncts ++ nothing j; mode = (depends j).mode })
       ∙ (λ j. record { conjuncts = append-nil (dependency ss i).conjuncts j; mode = (dependency ss i).mode }) in
       titled_passes ss count i (CommentLine text) own h old new w t (entry.Comment id) (CommentShown text (dependency ss i)) rest
-      (record { symbol = refl; choice = rw (h.at) refl; title = refl })
+      (record { symbol = refl; choice = rw (bracket_at, h.at) refl; title = refl })
       (extends old.tables.contexts new.tables.contexts g)
       (let l = grown.few in omega arith)
       (subst (AreOpen ss (suc i) new.tables.contexts) (sym blocks)
@@ -171,9 +171,9 @@ module _ (text : List ℕ) (own : List Numbered) (old new : EntryWalk) (rest : A
       let grouped = sym (append_assoc (dependency ss i).conjuncts (enclosing_visible ss i) (own_visible ss i)) in
       let condition : title_condition new.tables t ≡ shown_when ss i = (λ j. record { conjuncts = (depends_t j).conjuncts ++ shows_t j; mode = (depends_t j).mode })
       ∙ (λ j. record { conjuncts = grouped j; mode = (dependency ss i).mode }) in
-      let opens : own_dependencies ss i ≡ block_conjuncts ss i = rw (h.at) refl in
-      let opens_visible : own_visible ss i ≡ block_visible ss i = rw (h.at) refl in
-      let other : of_block ss block.Choice i ≡ false = rw (h.at) refl in
+      let opens : own_dependencies ss i ≡ block_conjuncts ss i = rw (bracket_at, h.at) refl in
+      let opens_visible : own_visible ss i ≡ block_visible ss i = rw (bracket_at, h.at) refl in
+      let other : of_block ss block.Choice i ≡ false = rw (bracket_at, h.at) refl in
       let conjuncts : (condition_in new.tables.contexts within.0).conjuncts ≡ (block_facts_at ss i).conjuncts ++ block_conjuncts ss i = ap (λ (c : Condition). c.conjuncts) depends
       ∙ ap (λ (l : List Form). (block_facts_at ss i).conjuncts ++ l) opens in
       let visible_conjuncts : (condition_in new.tables.contexts visible.0).conjuncts ≡ (block_facts_at ss i).visible ++ block_visible ss i = shows

@@ -7,7 +7,6 @@ ghost use Rattle.kc_solve.specs.Flags as flag;
 ghost use Rattle.kc_solve.specs.Flags.{row_differs, visibilities_in, IsSolvedRow};
 ghost use Rattle.kc_language.specs.ConfigFile.{ArePlacesOf, place_at};
 ghost use Rattle.kc_user.specs.PartsOfConfigFile.{member_place};
-ghost use Rattle.kc_values.specs.Differs as spec;
 ghost use Rattle.kc_values.specs.AtTable as at;
 ghost use Rattle.kc_values.specs.TableFacts.{AreSelected, IsRowOf};
 ghost use Rattle.kc_values.specs.User.{given_in};
