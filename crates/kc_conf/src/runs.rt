@@ -5,7 +5,7 @@ ghost use Rattle.kc_read.specs.RefusalView.{refusal_view};
 ghost use Rattle.kc_language.specs.declared.diagnostics.Cause.TheVariants.{Memory};
 ghost use Rattle.kc_io.specs.Delivered.{text_view};
 ghost use Rattle.kc_conf.specs.Accepted.{IsAcceptedOf, IsReadOf, IsReady};
-ghost use Rattle.kc_language.specs.Outcome.{lead, refusal_line, too_long_line, unreadable_line, AreLines, root_file, has_text, lines_text, names_listed, unreadable_name};
+ghost use Rattle.kc_language.specs.Outcome.{Options, lead, refusal_line, too_long_line, unreadable_line, AreLines, root_file, has_text, lines_text, names_listed, unreadable_name};
 ghost use Rattle.kc_conf.specs.PartsOfOutcome.{strict_line};
 ghost use Rattle.kc_conf.specs.Faults.{Runs};
 ghost use Rattle.kc_conf.specs.Endings.{Answers, Ends, HandsBy, SaysAll, line_if, status_if, texts_or};

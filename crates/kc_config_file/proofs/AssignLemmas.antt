@@ -17,7 +17,7 @@ use Rattle.kc_tree.specs.TreeFacts.{IsWellFormed}
 use Rattle.kc_language.specs.Values.{GivenValue, GivenTruth, GivenText, Member, name as name_of}
 use Rattle.kc_user.specs.Places.{allowed, allowed_by, allowed_for, allowed_truth, allowed_text}
 use Rattle.kc_language.specs.ConfigFile.{Assigns, set_by_type, is_prefix, Line, is_within, effect}
-use Rattle.kc_config_file.specs.PartsOfConfigFile.{assigned_or, line}
+use Rattle.kc_config_file.specs.PartsOfConfigFile.{assigned_or, line, line_value}
 use Rattle.kc_config_file.specs.HasNames.{HasNames}
 use Rattle.kc_config_file.specs.WrittenLaws.{AllowedAreAssigned}
 use Rattle.kc_language.specs.Texts.{EndsPlainly}
@@ -69,11 +69,11 @@ module _ (name : List ℕ) (s : SymId) where
   text_sets symbol_type.Int text ok =
       let (short, number) = and_parts (nat_le (length text) 65000) (is_some (int_of text)) ok in
       let bytes = int_bytes text number in
-      (text, record { none = number_no_lf text bytes; plain = number_plain text bytes; short = leb-true (length text) 65000 short; means = rw (short, number) refl })
+      (text, record { none = number_no_lf text bytes; plain = number_plain text bytes; short = leb-true (length text) 65000 short; means = ap (assigned_or name s) (let v : line_value symbol_type.Int text ≡ Some (GivenText text) = rw (short, number) refl in v) })
   text_sets symbol_type.Hex text ok =
       let (short, number) = and_parts (nat_le (length text) 65000) (is_some (hex_of text)) ok in
       let bytes = hex_bytes text number in
-      (text, record { none = number_no_lf text bytes; plain = number_plain text bytes; short = leb-true (length text) 65000 short; means = rw (short, number) refl })
+      (text, record { none = number_no_lf text bytes; plain = number_plain text bytes; short = leb-true (length text) 65000 short; means = ap (assigned_or name s) (let v : line_value symbol_type.Hex text ≡ Some (GivenText text) = rw (short, number) refl in v) })
 
   sets : (k : SymbolType) (g : GivenValue) → allowed_by k g ≡ true → (value : List ℕ) × Sets k g value
   sets k (GivenTruth t) ok = truth_sets k t ok

@@ -21,10 +21,10 @@ use Rattle.kc_language.specs.declared.expressions.SymbolType.TheVariants as symb
 use Rattle.kc_language.specs.Expressions.{same_name, SymbolValue, Truth, TextValue, is_name_byte}
 use Rattle.kc_language.specs.Symbols.{TreeFacts, SymbolFacts}
 use Rattle.kc_tree.specs.TreeFacts.{IsWellFormed}
-use Rattle.kc_language.specs.Values.{GivenValue, GivenTruth, GivenText, given_of, name as name_of}
+use Rattle.kc_language.specs.Values.{GivenValue, GivenTruth, GivenText, given_of, name as name_of, type_in}
 use Rattle.kc_user.specs.Places.{allowed, allowed_by, allowed_for, fits_quoted}
 use Rattle.kc_language.specs.ConfigFile.{Set, Unset, meaning_of, effect_of, set_by_type, unset_by_type, symbol_named, is_prefix, Assignment}
-use Rattle.kc_config_file.specs.PartsOfConfigFile.{assigned_or, line_value, number_value, assignment_of}
+use Rattle.kc_config_file.specs.PartsOfConfigFile.{assigned_or, set_effect, unset_effect, line_value, number_value, assignment_of}
 use Rattle.kc_config_file.specs.PartsOfTexts.{is_end_byte}
 use Rattle.kc_language.specs.Texts.{EndsPlainly, IsOneLine, config_file_line}
 use Rattle.kc_config_file.specs.HasNames.{HasNames}
@@ -116,13 +116,17 @@ module _ (tree : TreeFacts) (prefix stream : List ℕ) (is_pre : is_prefix prefi
   set_says value plain =
       let n = named s defined in
       let said : meaning_of prefix (strip_carriage_return (full ++ 61 ∷ value)) ≡ Set (name_of tree s) value = set_read_again prefix (name_of tree s) value is_pre n.0 plain in
-      rw (said, named_itself tree s formed below, at) refl
+      ap (effect_of tree) said
+      ∙ (ap (set_effect tree (name_of tree s) value) (named_itself tree s formed below)
+      ∙ ap (λ (o : Option SymbolFacts). set_by_type (name_of tree s) s value (type_in o)) at)
 
   unset_says : effect_of tree (meaning_of prefix (strip_carriage_return ((codes "# " ++ full) ++ codes " is not set"))) ≡ unset_by_type (name_of tree s) s f.symbol_type
   unset_says =
       let n = named s defined in
       let said : meaning_of prefix (strip_carriage_return ((codes "# " ++ full) ++ codes " is not set")) ≡ Unset (name_of tree s) = unset_read_again prefix (name_of tree s) n.0 in
-      rw (said, named_itself tree s formed below, at) refl
+      ap (effect_of tree) said
+      ∙ (ap (unset_effect tree (name_of tree s)) (named_itself tree s formed below)
+      ∙ ap (λ (o : Option SymbolFacts). unset_by_type (name_of tree s) s (type_in o)) at)
 
   -- the value's own assignment, where it is allowed
   abbrev pub assignment : SymbolValue → Assignment
@@ -228,20 +232,28 @@ module _ (tree : TreeFacts) (prefix stream : List ℕ) (is_pre : is_prefix prefi
       let no_lf : HasNoLf (34 ∷ escape text ++ 34 ∷ []) =
       All-append (λ b. is_line_feed b ≡ false) (34 ∷ escape text) (34 ∷ [])
       (All-cons (λ b. is_line_feed b ≡ false) 34 (escape text) refl (escape_no_lf text none)) (no_lf_check (34 ∷ []) refl) in
+      let set : set_by_type (name_of tree s) s (34 ∷ escape text ++ 34 ∷ []) symbol_type.Str ≡ assigned_or (name_of tree s) s (cond (fits_quoted text) (Some (GivenText text)) None) =
+      ap (assigned_or (name_of tree s) s) (quoted_value text none) in
       gives_set (TextValue symbol_type.Str text) (34 ∷ escape text ++ 34 ∷ []) no_lf (plain_quote text) short line_is
-      (rw (allowed_is, k, quoted_value text none) (assigned_if (fits_quoted text) (TextValue symbol_type.Str text)))
+      (rw (allowed_is, k, set) (assigned_if (fits_quoted text) (TextValue symbol_type.Str text)))
 
   int_gives : (text : List ℕ) → f.symbol_type ≡ symbol_type.Int → FitsLine (TextValue symbol_type.Int text) →
       Gives tree prefix stream (config_file_line full (TextValue symbol_type.Int text)) (cons_option (own (TextValue symbol_type.Int text)) [])
   int_gives text k (none, short, plain) =
+      let set : set_by_type (name_of tree s) s text symbol_type.Int
+      ≡ assigned_or (name_of tree s) s (cond (nat_le (length text) 65000 && is_some (int_of text)) (Some (GivenText text)) None) =
+      ap (assigned_or (name_of tree s) s) (number_value_if (nat_le (length text) 65000) (is_some (int_of text)) text) in
       gives_set (TextValue symbol_type.Int text) text none plain short (simp append_assoc)
-      (rw (allowed_is, k, number_value_if (nat_le (length text) 65000) (is_some (int_of text)) text) (assigned_if (nat_le (length text) 65000 && is_some (int_of text)) (TextValue symbol_type.Int text)))
+      (rw (allowed_is, k, set) (assigned_if (nat_le (length text) 65000 && is_some (int_of text)) (TextValue symbol_type.Int text)))
 
   hex_gives : (text : List ℕ) → f.symbol_type ≡ symbol_type.Hex → FitsLine (TextValue symbol_type.Hex text) →
       Gives tree prefix stream (config_file_line full (TextValue symbol_type.Hex text)) (cons_option (own (TextValue symbol_type.Hex text)) [])
   hex_gives text k (none, short, plain) =
+      let set : set_by_type (name_of tree s) s text symbol_type.Hex
+      ≡ assigned_or (name_of tree s) s (cond (nat_le (length text) 65000 && is_some (hex_of text)) (Some (GivenText text)) None) =
+      ap (assigned_or (name_of tree s) s) (number_value_if (nat_le (length text) 65000) (is_some (hex_of text)) text) in
       gives_set (TextValue symbol_type.Hex text) text none plain short (simp append_assoc)
-      (rw (allowed_is, k, number_value_if (nat_le (length text) 65000) (is_some (hex_of text)) text) (assigned_if (nat_le (length text) 65000 && is_some (hex_of text)) (TextValue symbol_type.Hex text)))
+      (rw (allowed_is, k, set) (assigned_if (nat_le (length text) 65000 && is_some (hex_of text)) (TextValue symbol_type.Hex text)))
 
   written_gives : (kd l : SymbolType) (text : List ℕ) → kd ≡ f.symbol_type → IsOf kd (TextValue l text) → FitsLine (TextValue l text) →
       Gives tree prefix stream (config_file_line full (TextValue l text)) (cons_option (own (TextValue l text)) [])
