@@ -12,7 +12,8 @@ use Rattle.kc_io.proofs.LogLemmas.{keeps_reported}
 use Rattle.kc_language.specs.Expansion.{Files}
 use Rattle.kc_language.specs.Symbols.{TreeFacts}
 use Rattle.kc_language.specs.Outcome.{Options, input_files, Outcome, lines_text}
-use Rattle.kc_conf.specs.Faults.{stale_by, stale_texts, status_with, texts_of, AreInputs, InputFile, IsAsTold}
+use Rattle.kc_conf.specs.Faults.{stale_texts, status_with, texts_of, AreInputs, InputFile, IsAsTold}
+use Rattle.kc_conf.specs.PartsOfFaults.{stale_by}
 use Rattle.kc_conf.specs.Many.{EndsTurn, StopsAtTree, TakeTurns, TakesTurn, AreSeparate, EachLeavesItsPart, EndsAmong, HoldAlike, TakesTurnAmong, TurnsAmong, is_among, output_files, written_by, written_files}
 use Rattle.kc_conf.specs.Many as many
 use Rattle.kc_language.specs.declared.outcome.Delivery.{Delivery}

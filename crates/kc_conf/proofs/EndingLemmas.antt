@@ -21,7 +21,8 @@ use Rattle.kc_io.proofs.LogLemmas.{leads_as, leads_both, leads_nothing, leads_sa
 use Rattle.kc_language.specs.Outcome.{Options, lead, error_if_at, first_line, refusal_line, stale_line, too_long_line, unreadable_line, AreLines, lines_text}
 use Rattle.kc_conf.specs.PartsOfOutcome.{strict_line}
 use Rattle.kc_conf.specs.Endings.{BreaksEnd, EndStops, Ends, HandsBy, IsChecked, IsEnded, in_delivery, in_diagnostics}
-use Rattle.kc_conf.specs.Faults.{delivered_by, delivers, stale_by, stale_lines, stale_texts, status_with, still_told, cleared_by, clearing, event_of}
+use Rattle.kc_conf.specs.Faults.{delivers, stale_lines, stale_texts, status_with, still_told, cleared_by, clearing, event_of}
+use Rattle.kc_conf.specs.PartsOfFaults.{delivered_by, stale_by}
 use Rattle.kc_language.specs.Statements.{cause_text, error_at}
 use Rattle.kc_conf.specs.Reads.{IsReportStop}
 use Rattle.kc_language.specs.declared.outcome.Delivery.{Delivery}

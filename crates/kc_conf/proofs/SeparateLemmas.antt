@@ -18,7 +18,8 @@ use Rattle.kc_io.proofs.HeldLemmas.{delivery_held}
 use Rattle.kc_io.proofs.LogLemmas.{keeps_both, keeps_bytes, keeps_reported, looks_acts, spot_more, spot_of}
 use Rattle.kc_language.specs.Expansion.{Files}
 use Rattle.kc_language.specs.Symbols.{TreeFacts}
-use Rattle.kc_conf.specs.Faults.{Breaks, Broken, Completes, delivered_by, delivers, in_delivery, in_input, in_diagnostics, no_memory, text_at, texts_of, InputFile, begun, reads, cleared_by, clearing, event_of}
+use Rattle.kc_conf.specs.Faults.{Breaks, Broken, Completes, delivers, in_delivery, in_input, in_diagnostics, no_memory, text_at, texts_of, InputFile, begun, reads, cleared_by, clearing, event_of}
+use Rattle.kc_conf.specs.PartsOfFaults.{delivered_by}
 use Rattle.kc_language.specs.Outcome.{Options, Outcome}
 use Rattle.kc_language.specs.declared.outcome.Delivery.{Delivery}
 use Rattle.kc_language.specs.declared.outcome.Delivery.TheVariants as delivered

@@ -8,6 +8,7 @@ pub mod Laws
 pub mod LostView
 pub mod Many
 pub mod PartRuns
+pub mod PartsOfFaults
 pub mod PartsOfOutcome
 pub mod PartsOfTexts
 pub mod ReadSteps

@@ -1,0 +1,17 @@
+-- For proofs: Parts of the definitions of Faults, by names of their own.
+use Rattle.std.specs.Prelude.{List, []}
+use Rattle.kc_language.specs.declared.outcome.Delivery.{Delivery}
+use Rattle.kc_io.specs.Delivery.{NamedText, chosen, delivery, stale}
+use Rattle.kc_io.specs.Log.{Event, Journal}
+use Rattle.kc_io.specs.declared.delivery.Manner.TheVariants.{InPlace, Replacing}
+
+-- what is done with these texts, by how they are delivered
+abbrev pub delivered_by : Delivery → List NamedText → Journal → List Event
+delivered_by Delivery.Write texts journal = delivery InPlace texts
+delivered_by Delivery.Replace texts journal = delivery Replacing (chosen Replacing texts journal)
+delivered_by Delivery.Check texts journal = []
+
+-- which of them are compared, and are not what their files hold
+abbrev pub stale_by : Delivery → List NamedText → Journal → List NamedText
+stale_by Delivery.Check texts journal = stale texts journal
+stale_by _ texts journal = []
