@@ -1,5 +1,5 @@
 -- Trusted: 10. ConfigFile: what reading a `.config` and its fragments gives: the user's values, and the warnings K7 to K10 and K15.
--- Source: our own, in the manner of the kernel's `conf` and kconfiglib (docs/formats.md, "The .config format").
+-- Source: our own, in the manner of the kernel's `conf` and kconfiglib (docs/language.md, "The `.config` file").
 -- A text is a list of bytes. `elim x [ p ↦ a | q ↦ b ]` is a if x is p, and b if x is q. The last definition, `reading_of`, is the result.
 use Rattle.std.specs.{Char.is_ascii_digit, Option.option_map_or, Str.Lines.strip_carriage_return}
 use Rattle.std.specs.List.{enumerate_from, last_or, list_all, list_any, position_or_len, slice_split, suffix_len}
@@ -242,7 +242,7 @@ module _ (tree : TreeFacts) (prefix : List ℕ) where
   lines_after old lines = each_from (λ i last. last_or last (filter_map (λ l.
       elim (effect l) [ Assigns s given ↦ if s.0 == i then Some (stream_location l) else None | _ ↦ None ]) lines)) 0 old
 
-  -- The lines that are not taken as written. Each meets the values after the lines before it.
+  -- The lines that are not taken as written. Each is judged with the values that the lines before it give.
   unfoldable pub untaken_line : Places → Line → List Line
   untaken_line places l = if is_taken places (effect l) then [] else l ∷ []
 
@@ -257,7 +257,7 @@ module _ (tree : TreeFacts) (prefix : List ℕ) where
     all_taken = input.all_taken && (length (untaken input.places lines) == 0);
   }
 
-  -- The diagnostics of one line and of all lines. Each meets the input after the lines before it.
+  -- The diagnostics of one line and of all lines. Each is judged with the input that the lines before it give.
   unfoldable pub warning : UserInput → Line → List ℕ
   warning input l =
       elim (effect_warning tree input.places (effect l)) [ None ↦ [] | Some w ↦ warning_line l.stream l.number w ]

@@ -75,7 +75,7 @@ column at (b ∷ bs) = if b == byte " " then column (at + 1) bs else if b == byt
 abbrev pub is_help_line : Option ℕ → Physical → Bool
 is_help_line indent l = list_all is_blank l.text || option_map_or (λ n. nat_le n (column 0 l.text)) indent false
 
--- the lines from the first on that does not pass
+-- The lines from the first one on that fails the test.
 abbrev pub from_other : (Physical → Bool) → List Physical → List Physical
 from_other p [] = []
 from_other p (l ∷ ls) = if p l then from_other p ls else l ∷ ls

@@ -179,7 +179,7 @@ pub record IsAcceptedTree (files : Files) (root : List ℕ) (tree : TreeFacts) :
   pub built : IsTreeOf files root (Ok tree)
   pub accepted : IsAccepted tree
 
--- Make can read each name of the rule. If it cannot, the tree is accepted, and this name is refused.
+-- Make can read each name of the rule. Or the tree is accepted, and this is the first name that make cannot read.
 abbrev pub NamesAreRead : Files → Options → Type 0
 NamesAreRead files options = (opened : List (List ℕ)) → AreOpened files (root_file options) opened → unreadable_name options opened ≡ None
 

@@ -119,7 +119,7 @@ same_type SymbolType.Int SymbolType.Int = true
 same_type SymbolType.Hex SymbolType.Hex = true
 same_type _ _ = false
 
--- A `select` or `imply` has no effect on a symbol whose value is a text.
+-- A `select` or `imply` has no effect on a string, int or hex symbol.
 abbrev pub is_selectable : SymbolType → Bool
 is_selectable k = elim k [ SymbolType.Str ↦ false | SymbolType.Int ↦ false | SymbolType.Hex ↦ false | _ ↦ true ]
 
@@ -162,7 +162,7 @@ module _ (ss : List Numbered) where
   abbrev pub own_visible : ℕ → List Form
   own_visible i = filter_map (λ s. elim s [ VisibleLine e ↦ Some e | _ ↦ None ]) (attributes ss i)
 
-  -- what a block asks of the entries in it: a menu its `depends on` lines, an `if` its condition, a choice only its mode
+  -- what a block asks of the entries in it: a menu its `depends on` lines, an `if` its condition, a choice nothing (`dependency` adds its mode)
   abbrev pub block_conjuncts : ℕ → List Form
   block_conjuncts i = if of_block Block.Menu i then own_dependencies i else elim (slice_get ss i) [ Some (IfLine e) ↦ e ∷ [] | _ ↦ [] ]
 
@@ -289,7 +289,7 @@ module _ (ss : List Numbered) where
       -- K3: the first definition of a symbol that is no member of a choice and has no type
       ++ flat_map (λ t. when (is_first_definition_at i && not (is_some (choice_of t) || not (same_type (type_of t) SymbolType.Undefined)))
       (LineWarning.WithoutType t)) (listed (defined_name s))
-      -- K4: a `select` or `imply` of a symbol whose value is a text
+      -- K4: a `select` or `imply` of a string, int or hex symbol
       ++ flat_map (λ t. when (has_text (type_of (t.1))) (LineWarning.TextTarget (t.1) (t.0))) (listed (target_of s))
       -- K5: a default of a choice that names a symbol, but no member of the choice
       ++ flat_map (λ k. flat_map (λ g. flat_map (λ t. when (not (is_member k t)) (LineWarning.DefaultNotMember t)) (listed (single_symbol g.value)))

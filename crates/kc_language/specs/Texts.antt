@@ -1,5 +1,5 @@
 -- Trusted: 11. Texts: what a run writes: the `.config`, the header, the minimal file, and the warnings K11 to K14 about values.
--- Source: our own, in the manner of the kernel's `conf` and kconfiglib (docs/formats.md). At the end: what reading a written file again gives.
+-- Source: our own, in the manner of the kernel's `conf` and kconfiglib (docs/language.md, "Texts"). At the end: what reading a written file again gives.
 use Rattle.std.specs.{List.{enumerate_from, last_or}, Option.option_map_or, Str.Lines.strip_carriage_return}
 use Rattle.std.specs.Prelude.{All, Bool, List, None, Option, Some, [], codes, false, filter, flat_map, if◌then◌else◌, is_some, length, map, not, option_map, slice_get, slice_index_or, take, true, ℕ, ◌++◌, ◌<◌, ◌==◌, ◌||◌, ◌↔◌, ◌∷◌, ◌≡◌}
 use Rattle.kc_language.specs.ConfigFile.{ArePlacesOf, Places, ReadResult, StreamLocation, Unset, is_within, lines_from, meaning_of, no_input, place_at, reading_of, text_in_config, value_text}
@@ -190,7 +190,7 @@ lost_lines lines s = flat_map (λ i. lost_of (name s.tree i) (facts s.tree i) (s
 abbrev pub read_alone : TreeFacts → List ℕ → List ℕ → List ℕ → ReadResult
 read_alone tree prefix stream text = reading_of tree prefix (no_input false tree) (record { name = stream; bytes = text } ∷ [])
 
--- V is the only solution for these user's values; a solution for them is not V.
+-- V is the only solution for these user values. No solution for them is V.
 pub record IsOneSolution (tree : TreeFacts) (places : Places) (V : ℕ → SymbolValue) : Type 0 where
   pub solves : Solves (name_count tree) (equations tree (place_at places)) V
   pub only : IsOnlySolution (name_count tree) (equations tree (place_at places)) V

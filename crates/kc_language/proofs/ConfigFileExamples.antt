@@ -1,0 +1,73 @@
+-- Examples for the chapter ConfigFile: lines of a `.config`, the values that they give, and the warnings about them.
+use Rattle.std.proofs.Common.{◌≡◌, refl}
+use Rattle.std.specs.Prelude.{List, None, Some, [], codes, true, ℕ, ◌∷◌}
+use Rattle.std.specs.Fmt.{digits}
+use Rattle.kc_language.specs.ConfigFile.{Malformed, Nothing, ReadResult, Set, Unset, effect, lines_after, lines_from, meaning_of, no_input, places_given, reading, reading_of, untaken, untaken_line, value_by, warning, warnings}
+use Rattle.kc_language.specs.Symbols.{SymbolFacts, TreeFacts}
+use Rattle.kc_language.specs.Values.{GivenText, GivenTruth}
+use Rattle.kc_language.specs.declared.expressions.SymbolType.TheVariants.{Bool, Str}
+use Rattle.kc_language.specs.declared.expressions.Tri.TheVariants.{N, Y}
+
+-- ---- Lines, under the prefix CONFIG_
+
+-- `CONFIG_A="x=y"` sets A: only the first `=` ends the name. Blanks at the end of a line do not count.
+set_line : meaning_of (codes "CONFIG_") (codes "CONFIG_A=\"x=y\" \t") ≡ Set (codes "A") (codes "\"x=y\"")
+set_line = refl
+
+-- `# CONFIG_A is not set` says that A is not set. Any other comment says nothing.
+unset_line : meaning_of (codes "CONFIG_") (codes "# CONFIG_A is not set") ≡ Unset (codes "A")
+unset_line = refl
+
+comment_line : meaning_of (codes "CONFIG_") (codes "  # CONFIG_A is set") ≡ Nothing
+comment_line = refl
+
+-- A line with a blank at its start is malformed.
+blank_at_the_start : meaning_of (codes "CONFIG_") (codes " CONFIG_A=y") ≡ Malformed
+blank_at_the_start = refl
+
+-- ---- Values
+
+-- `"a\"b" # x` gives a string symbol the text `a"b`: what follows the closing `"` does not count.
+string_value : value_by Str (codes "\"a\\\"b\" # x") ≡ Some (GivenText (codes "a\"b"))
+string_value = refl
+
+-- A bool is y or n by its first byte.
+first_byte : value_by Bool (codes "yes") ≡ Some (GivenTruth Y)
+first_byte = refl
+
+-- ---- Whole files
+
+-- A tree with the two bools A and B. What is not named here may be anything.
+module _ (any_tree : TreeFacts) (any_facts : SymbolFacts) where
+  two_bools : TreeFacts
+  two_bools = record any_tree {
+    names = codes "A" ∷ codes "B" ∷ [];
+    symbols = record any_facts { symbol_type = Bool; choice = None } ∷ record any_facts { symbol_type = Bool; choice = None } ∷ [];
+    choices = [];
+  }
+
+  -- What the input file `.config` with this text gives, where nothing was given before.
+  read_text : List ℕ → ReadResult
+  unfolding two_bools reading warnings warning untaken untaken_line lines_after places_given effect lines_from digits
+  read_text text = reading_of two_bools (codes "CONFIG_") (no_input true two_bools) (record { name = codes ".config"; bytes = text } ∷ [])
+
+  -- A gets y. The last line needs no line feed. A symbol that no line names has no value.
+  one_value : (read_text (codes "# A comment\r\nCONFIG_A=y")).input.places.symbols ≡ Some (GivenTruth Y) ∷ None ∷ []
+  unfolding read_text
+  one_value = refl
+
+  -- The last value counts. The second line is reported twice: A is set again (K10), and to another value (K15).
+  set_twice : (read_text (codes "CONFIG_A=y\n# CONFIG_A is not set\n")).input.places.symbols ≡ Some (GivenTruth N) ∷ None ∷ []
+  unfolding read_text
+  set_twice = refl
+
+  set_twice_warned : (read_text (codes "CONFIG_A=y\n# CONFIG_A is not set\n")).warned
+      ≡ codes ".config:2: warning K10: A is set again\n.config:2: warning K15: A was y (.config:1) and is now n\n"
+  unfolding read_text
+  set_twice_warned = refl
+
+  -- An unknown name, a value that the type does not allow, and a malformed line (K7, K8, K9).
+  warned_lines : (read_text (codes "CONFIG_C=y\nCONFIG_B=m\nCONFIG_B\n")).warned
+      ≡ codes ".config:1: warning K7: unknown symbol C\n.config:2: warning K8: value not allowed for B\n.config:3: warning K9: malformed line\n"
+  unfolding read_text
+  warned_lines = refl
