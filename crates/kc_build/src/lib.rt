@@ -1,10 +1,10 @@
+#![tactic(auto)]
 //! From the statements of a Kconfig tree to its symbols, choices, entries and warnings.
 //!
 //! - [`read_listing`] reads a root file: a [`RootReading`] holds its [`Listing`] and the files that it opened.
 //! - [`tree_of`] makes the tree of a listing, or answers the first error that only the whole list shows.
 //! - [`build_tree`] does both.
 //! - [`laws`]: a root file has one tree or one error, and each tree is well formed.
-#![tactic(auto)]
 
 mod attributes;
 mod blocks;

@@ -1,3 +1,4 @@
+#![tactic(auto)]
 //! The run: from a map of files and a device to the texts delivered.
 //!
 //! - [`run`]: one run. [`run_each`]: many [`Configurations`] of one tree. [`run_in_folder`]: one run that loads its files.
@@ -6,7 +7,6 @@
 //! - [`laws`]: what holds of the outcomes of runs.
 //!
 //! From the crates below: [`Options`], [`Delivery`], [`Status`], [`FileMap`], [`Refusal`], [`Cause`].
-#![tactic(auto)]
 
 mod accepted;
 mod compute;

@@ -1,3 +1,4 @@
+#![tactic(auto)]
 //! The `.config` file: the reader of input files, and the writers of the three output files.
 //!
 //! Reading:
@@ -17,7 +18,6 @@
 //! - [`batch`] and [`sink`]: [`put`] hands a text to a [`Sink`], which may fail with a [`Fault`].
 //!
 //! [`laws`]: what is written is read again as it was, and what holds of reading.
-#![tactic(auto)]
 
 pub mod batch;
 pub mod config;

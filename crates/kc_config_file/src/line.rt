@@ -5,7 +5,7 @@ ghost use Rattle.std.specs.List.{list_any};
 ghost use Rattle.kc_language.specs.Tokens.{is_blank};
 ghost use Rattle.kc_language.specs.ConfigFile as spec;
 ghost use Rattle.kc_config_file.specs.PartsOfConfigFile as spec_parts;
-ghost use Rattle.kc_config_file.specs.ConfigFileLine as spec_of_configfileline;
+ghost use Rattle.kc_config_file.specs.ConfigFileLine.{meaning_view};
 
 use bstr::ByteSlice;
 use kc_text::is_blank;
@@ -28,7 +28,7 @@ pub enum ConfigFileLine<'a> {
 /// is no blank is `#` says nothing; `CONFIG_NAME=value` sets NAME, one byte or more up to the first `=`; any other
 /// line is malformed. The prefix stands in place of `CONFIG_`. (Our own rules in detail.)
 pub fn parse_config_file_line<'a>(prefix: &[u8], bytes: &'a [u8]) -> ConfigFileLine<'a>
-    ensures { spec_of_configfileline.meaning_view result ≡ spec.meaning_of prefix.now bytes.now }
+    ensures { meaning_view result ≡ spec.meaning_of prefix.now bytes.now }
 {
     let text = trimmed(bytes);
     if text.is_empty() {

@@ -2,7 +2,7 @@
 ghost use Rattle.std.specs.Prelude.{◌≡◌, ◌<◌, length, true, IfOk, OnErr};
 ghost use Rattle.kc_language.specs.ConfigFile as spec;
 ghost use Rattle.kc_config_file.specs.PartsOfConfigFile as spec_parts;
-ghost use Rattle.kc_config_file.specs.Prefixes as spec_of_prefixes;
+ghost use Rattle.kc_config_file.specs.Prefixes.{prefix_of};
 
 use kc_expr::names::are_name_bytes;
 use std::alloc::{AllocError, Global};
@@ -32,7 +32,7 @@ impl Model for Prefix {
 impl Prefix {
     /// The text as a prefix, or None where it is none. Its only error is to be out of memory, for a prefix of a byte or more.
     pub fn new(alloc: Global, text: &[u8]) -> Result<Option<Prefix>, AllocError>
-        ensures prefix { IfOk result (λ found. found ≡ spec_of_prefixes.prefix_of text.now) }
+        ensures prefix { IfOk result (λ found. found ≡ prefix_of text.now) }
         ensures some { OnErr result ((0 < length text.now) × (spec.is_prefix text.now ≡ true)) }
     {
         if !is_prefix(text) {

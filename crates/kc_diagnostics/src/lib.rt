@@ -1,3 +1,4 @@
+#![tactic(auto)]
 //! What is reported: errors of a tree, errors of a run and warnings, each with its number and its text.
 //!
 //! - [`Cause`]: the errors of a tree, E1 to E16 and E20. [`cause_parts`] is their text, [`owned`] a copy.
@@ -5,7 +6,6 @@
 //!   line of E20.
 //! - [`Warning`]: the warnings, K1 to K15. [`add_located`] adds the line of one about a line of a file, [`add_warning`] that
 //!   of one about a value.
-#![tactic(auto)]
 
 pub mod cause;
 mod parts;

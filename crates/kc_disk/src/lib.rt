@@ -1,3 +1,4 @@
+#![tactic(auto)]
 //! `kconf` over the files of a disk: the system calls, and the program.
 //!
 //! - [`kconf`]: the program; [`exit_status`] is the status that it ends with.
@@ -5,7 +6,6 @@
 //! - [`Arguments`]: the arguments of the process.
 //! - [`SystemDevice`] and [`SystemFolder`]: the system calls for files, diagnostics and the files of a tree.
 //! - [`laws`]: how runs of many configurations end.
-#![tactic(auto)]
 
 mod answer;
 mod arguments;

@@ -1,3 +1,4 @@
+#![tactic(auto)]
 //! The files of a tree: loading all that the root file reaches, and the dependency file that lists them.
 //!
 //! - [`load`] reads the root file and all that it sources from a [`Folder`], which may fail with a [`FolderFault`]. A
@@ -6,7 +7,6 @@
 //! - [`prerequisites_of`] lists the files that a run read, [`rule_text`] is the text of the dependency file, and
 //!   [`unreadable_name`] finds a name that make cannot read.
 //! - [`laws`]: the order in which files are asked for, and what is loaded.
-#![tactic(auto)]
 
 mod fault;
 mod folder;

@@ -1,3 +1,4 @@
+#![tactic(auto)]
 //! Which symbols need which: an order for them, the loop that is reported if there is none, and what holds of equations over
 //! them.
 //!
@@ -6,7 +7,6 @@
 //!
 //! The laws are about needs and equations whatever a value is: an accepted graph has one solution, the reported loop is
 //! unique and closed, and a minimal set of user values restores the solution.
-#![tactic(auto)]
 
 mod graph;
 mod laws;

@@ -1,3 +1,4 @@
+#![tactic(auto)]
 //! Reading Kconfig files: the statements of a file and of the files that it sources.
 //!
 //! - [`expand`] reads a root file: an [`Expansion`] holds the entries of all its files, or a [`Refusal`] says why not.
@@ -7,7 +8,6 @@
 //! - [`refusal`]: an error of a tree: its [`Cause`], with file and line.
 //! - [`MOST_LINES`]: the most lines that a tree may have.
 //! - [`laws`]: a root file has one expansion.
-#![tactic(auto)]
 
 mod constants;
 pub mod entries;

@@ -1,9 +1,9 @@
+#![tactic(auto)]
 //! The solver: an order of the symbols of a tree, and the one solution of its equations under the user values.
 //!
 //! - [`EvaluationOrder`]: an order in which each value comes after those that it needs, or the dependency loop.
 //! - [`solve`]: the values, computed once along that order.
 //! - [`Solved`]: the solution, and what follows from it: which symbols are written, which differ, and the warnings.
-#![tactic(auto)]
 
 mod compute;
 pub mod evaluation_order;

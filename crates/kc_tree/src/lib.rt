@@ -1,3 +1,4 @@
+#![tactic(auto)]
 //! What a Kconfig tree says: its symbols, choices, entries and warnings, and the tables that they are laid out in.
 //!
 //! - [`tree`]: the tree, and the facts about each symbol, choice and entry.
@@ -7,7 +8,6 @@
 //! - [`contexts`]: what an entry depends on, shared by all entries of a block.
 //! - [`selector_rows`]: who selects and who implies each symbol.
 //! - [`maybe_choice`]: a choice or none, in four bytes.
-#![tactic(auto)]
 
 pub mod contexts;
 pub mod definitions;

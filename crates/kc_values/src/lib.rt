@@ -1,3 +1,4 @@
+#![tactic(auto)]
 //! What the symbols of a tree are worth: the equations of the language, one for each symbol, and what holds of them.
 //!
 //! - [`equation`]: the equation of any symbol; by type those of [`truths`] (bool and tristate), [`texts`] (string) and
@@ -8,7 +9,6 @@
 //! - [`written`] and [`differs`]: which symbols a file shows, and which a minimal file needs.
 //! - [`warnings`]: the warnings about values.
 //! - [`laws`]: what holds of the equations of every tree.
-#![tactic(auto)]
 
 pub mod choices;
 pub mod conditions;

@@ -9,7 +9,7 @@ ghost use Rattle.kc_values.specs.Small.{HasSmallBounds};
 ghost use Rattle.kc_values.specs.User.{given_in};
 ghost use Rattle.kc_language.specs.Texts as spec;
 ghost use Rattle.kc_values.specs.PartsOfTexts as spec_parts;
-ghost use Rattle.kc_values.specs.Warnings as spec_of_warnings;
+ghost use Rattle.kc_values.specs.Warnings.{held};
 
 use crate::numbers::{
     Interval, active_range, clamped, if_within_range, is_within_range, number_text,
@@ -120,7 +120,7 @@ fn user_warning(
     out: &mut Vec<Warning<Vec<u8>>>,
 ) -> Result<(), AllocError>
     requires { IfSome range HasSmallBounds }
-    ensures { OnOk result (spec_of_warnings.held out.new.items ≡ spec_of_warnings.held out.old.items ++ spec.user_warnings symbol_type name.now range (option_copied given.entry)) }
+    ensures { OnOk result (held out.new.items ≡ held out.old.items ++ spec.user_warnings symbol_type name.now range (option_copied given.entry)) }
 {
     let Some(bounds) = range else {
         return Ok(());
@@ -147,7 +147,7 @@ fn default_warning(
     out: &mut Vec<Warning<Vec<u8>>>,
 ) -> Result<(), AllocError>
     requires { IfSome range HasSmallBounds }
-    ensures { OnOk result (spec_of_warnings.held out.new.items ≡ spec_of_warnings.held out.old.items ++ spec.default_warnings symbol_type name.now range (option_copied used.entry) (option_copied default.entry)) }
+    ensures { OnOk result (held out.new.items ≡ held out.old.items ++ spec.default_warnings symbol_type name.now range (option_copied used.entry) (option_copied default.entry)) }
 {
     if used.is_some() {
         return Ok(());
@@ -177,7 +177,7 @@ fn range_warnings(
     out: &mut Vec<Warning<Vec<u8>>>,
 ) -> Result<(), AllocError>
     requires { visibility ≡ at.visibility table.now symbol.now }
-    ensures { OnOk result (spec_of_warnings.held out.new.items ≡ spec_of_warnings.held out.old.items ++ at.range_warnings table.now name.now symbol.now (given_in user.entry)) }
+    ensures { OnOk result (held out.new.items ≡ held out.old.items ++ at.range_warnings table.now name.now symbol.now (given_in user.entry)) }
 {
     let range = active_range(table, symbol);
     let given = visible_text(user, visibility);
@@ -197,7 +197,7 @@ fn select_warnings(
     symbol: &Symbol,
     out: &mut Vec<Warning<Vec<u8>>>,
 ) -> Result<(), AllocError>
-    ensures { OnOk result (spec_of_warnings.held out.new.items ≡ spec_of_warnings.held out.old.items ++ at.select_warnings table.now name.now id symbol.now) }
+    ensures { OnOk result (held out.new.items ≡ held out.old.items ++ at.select_warnings table.now name.now id symbol.now) }
 {
     let selected_to = selected_to(table, id, symbol);
     // What nothing selects is above no direct dependency.
@@ -227,7 +227,7 @@ pub fn warnings_into(
     out: &mut Vec<Warning<Vec<u8>>>,
 ) -> Result<(), AllocError>
     requires { visibility ≡ at.visibility table.now symbol.now }
-    ensures { OnOk result (spec_of_warnings.held out.new.items ≡ spec_of_warnings.held out.old.items ++ at.warnings_of table.now id symbol.now (given_in user.entry)) }
+    ensures { OnOk result (held out.new.items ≡ held out.old.items ++ at.warnings_of table.now id symbol.now (given_in user.entry)) }
 {
     if symbol.choice.is_some() {
         return Ok(());
