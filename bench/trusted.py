@@ -9,9 +9,10 @@ file without such a first line ends it with status 1.
          the names that are cited in it. If there is one, the status is 1.
 --run    Lists only the files that the program rests on: those that the contracts of `run`, of the laws over runs and deliveries, of the
          program and of the traits of its devices cite. You have to trust these if you use kconf and call none of its crates. The other
-         trusted files say what the crates promise each other. Then it prints the lines of these contracts, of the views of the types
-         that they cite, and of the enums and structs that the definitions name, which all stand in the code (src/). It ends with three
-         sums over the cited definitions alone, without comments: the language, the I/O layer with the command line, and all.
+         trusted files say what the crates promise each other. Then it prints the lines of these files by part: the language, and the I/O
+         layer with the command line. After them come the lines of these contracts, of the views of the types that they cite, and of the
+         enums and structs that the definitions name, which all stand in the code (src/). It ends with three sums over the cited
+         definitions alone, without comments: the same two parts, and all.
 --table  Prints the table of docs/architecture.md, and the lines and files that serve proofs.
 """
 import os
@@ -307,6 +308,19 @@ def size(texts):
     return sum(text.count("\n") + 1 for text in texts)
 
 
+def part_of(crate):
+    """The title of the part of PARTS that a crate belongs to."""
+    return next((title for title, group in PARTS if crate in group), "other crates")
+
+
+def whole_files(files):
+    """The sums over the files, with all their lines. Each file is its crate with its number of lines."""
+    print("Whole files, with imports, comments and blank lines:")
+    for title in dict.fromkeys(part_of(crate) for crate, _ in files):
+        counts = [count for crate, count in files if part_of(crate) == title]
+        print(f"{sum(counts):5} lines in {len(counts):3} files: {title}")
+
+
 def summary(defined, clauses, shown, named):
     """What stands in the code, and the sums over the cited definitions alone."""
     code = [f"{size(clauses)} lines of contracts"]
@@ -332,7 +346,7 @@ def main():
         sys.exit("\n".join(missing))
     compare, of_run = "--cited" in sys.argv[1:], "--run" in sys.argv[1:]
     found, defined, clauses, shown, named = cited(RUN if of_run else None) if compare or of_run else (set(), set(), [], {}, {})
-    wrong, files, lines = 0, 0, 0
+    wrong, files = 0, []
     for crate in crates():
         for name in spec_files(crate):
             path = os.path.join("crates", crate, "specs", name)
@@ -343,7 +357,7 @@ def main():
                 print(f"{path}: no head line")
                 wrong += 1
             elif trusted and (not of_run or any(item[:2] == (crate, name[:-5]) for item in found)):
-                files, lines = files + 1, lines + count
+                files.append((crate, count))
                 if not compare:
                     print(f"{count:5} {path}")
             if compare:
@@ -352,8 +366,9 @@ def main():
                     print(f"{path}: {'cited' if names else 'not cited'} {' '.join(names)}")
                     wrong += trusted is not None
     if not compare:
-        print(f"{lines:5} lines in {files} trusted files")
+        print(f"{sum(count for _, count in files):5} lines in {len(files)} trusted files")
     if of_run:
+        whole_files(files)
         summary(defined, clauses, shown, named)
     sys.exit(1 if wrong else 0)
 
