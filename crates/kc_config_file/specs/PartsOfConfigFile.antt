@@ -16,6 +16,10 @@ use Rattle.kc_language.specs.declared.expressions.SymbolType.{SymbolType}
 use Rattle.kc_language.specs.declared.expressions.Tri.{Tri}
 use Rattle.kc_language.specs.declared.expressions.Tri.TheVariants.{M}
 
+-- what is left of a text, if anything, with these bytes put before it
+abbrev pub preceded : List ℕ → Option (List ℕ) → Option (List ℕ)
+preceded bytes = option_map (λ rest. bytes ++ rest)
+
 abbrev pub begins_with_digit : List ℕ → Bool
 begins_with_digit text = is_ascii_digit (slice_index text 0)
 

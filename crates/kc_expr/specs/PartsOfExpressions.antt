@@ -1,15 +1,33 @@
 -- Trusted: Parts of the definitions of Expressions, by names of their own.
 use Rattle.std.specs.List.{flat_map}
-use Rattle.std.specs.Prelude.{Bool, List, None, Option, Some, [], false, ℕ}
-use Rattle.kc_language.specs.Expressions.{Bang, Close, Compares, Disjunction, Form, Joins, Keyword, Leaf, Open, OperandToken, Symbol, SymbolValue, Terminal, Text, lesser, levels, meaning, names_in_atom, number, same_name, spell, tri_text, truth_of_value}
+use Rattle.std.specs.Prelude.{Bool, List, None, Option, Some, [], false, if◌then◌else◌, is_some, unwrap_or, ℕ, ◌&&◌, ◌++◌, ◌∷◌}
+use Rattle.kc_language.specs.Expressions.{Bang, Begins, Close, Compares, Disjunction, Every, Form, Forms, Joins, Keyword, Leaf, LoneM, Open, OperandToken, Single, Some_of, Symbol, SymbolValue, Terminal, Text, TextValue, Truth, lesser, levels, meaning, names_in_atom, same_name, spell, tri_text, tristate_constant, truth_of_value}
+use Rattle.kc_language.specs.declared.expressions.Connective.{Connective}
 use Rattle.kc_language.specs.declared.expressions.Connective.TheVariants.{And, Or}
 use Rattle.kc_language.specs.declared.expressions.SymId.{SymId}
+use Rattle.kc_language.specs.declared.expressions.SymbolType.TheVariants.{Str}
 use Rattle.kc_language.specs.declared.expressions.Tri.{Tri}
 use Rattle.kc_language.specs.declared.expressions.Tri.TheVariants.{M, N}
 use Rattle.kc_language.specs.declared.tokens.Op.{Op}
 use Rattle.kc_language.specs.declared.tokens.Op.TheVariants as op
 
+-- the text is n, m or y
+abbrev pub is_tristate_constant : List ℕ → Bool
+is_tristate_constant text = is_some (tristate_constant text)
+
+-- a value as a text
+abbrev pub text_of_value : SymbolValue → List ℕ
+text_of_value v = elim v [ Truth t ↦ tri_text t | TextValue _ bytes ↦ bytes ]
+
+-- the value is that of a string symbol
+abbrev pub is_string_value : SymbolValue → Bool
+is_string_value v = elim v [ Truth _ ↦ false | TextValue type _ ↦ elim type [ Str ↦ true | _ ↦ false ] ]
+
 module _ (known : SymId → SymbolValue) where
+  -- An operand as a truth value. A text has the truth value n, except m and y.
+  abbrev pub truth : Leaf → Tri
+  truth l = elim l [ Text bytes ↦ unwrap_or (tristate_constant bytes) N | Symbol s ↦ truth_of_value (known s) ]
+
   -- a lone m of a condition: n where no modules symbol is defined
   abbrev pub lone_m : Option SymId → Tri
   lone_m None = N
@@ -41,6 +59,14 @@ abbrev pub is_m_leaf : Leaf → Bool
 is_m_leaf (Symbol s) = false
 is_m_leaf (Text t) = same_name t m_word
 
+-- A lone operand. In a condition, m (quoted or not) is a lone `m`, which also asks for the modules symbol.
+abbrev pub lone_form : Bool → Leaf → Form
+lone_form condition l = if condition && elim l [ Text bytes ↦ same_name bytes (tri_text M) | Symbol _ ↦ false ] then LoneM else Single l
+
+-- two parts or more are one `Every` or `Some_of`
+abbrev pub connected : Connective → Forms → Form
+connected c = elim c [ And ↦ Every | Or ↦ Some_of ]
+
 module _ (condition : Bool) (number : List ℕ → ℕ) where
   abbrev pub meaning_or : Disjunction → Form
   meaning_or d = meaning condition number d
@@ -57,3 +83,8 @@ names_in_terminal Keyword = []
 -- the names that tokens mention, from left to right
 abbrev pub names_in_terminals : List Terminal → List (List ℕ)
 names_in_terminals = flat_map names_in_terminal
+
+-- no token of the rest can be added to the front
+abbrev pub NoLonger : List Terminal → List Terminal → Type 0
+NoLonger front [] = Unit {0}
+NoLonger front (t ∷ _) = Begins (front ++ t ∷ []) → ⊥

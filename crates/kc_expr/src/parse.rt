@@ -7,7 +7,7 @@ ghost use Rattle.kc_language.specs.declared.expressions.Connective.TheVariants.{
 ghost use Rattle.kc_expr.specs.Form.{form_of, leaf_of, parts_of};
 ghost use Rattle.kc_language.specs.Expressions.{forms, Negated, lone_form, Terminal};
 ghost use Rattle.kc_expr.specs.PartsOfExpressions.{is_m_leaf};
-ghost use Rattle.kc_language.specs.Expressions as spec;
+ghost use Rattle.kc_expr.specs.PartsOfExpressions as named;
 ghost use Rattle.kc_expr.specs.Grammar.{terminals_from, IsUnambiguous, HasOneLongestFront};
 ghost use Rattle.kc_expr.specs.Parsing.{IsParsed, IsDetermined, IsRefused, OneAnswer};
 ghost use Rattle.kc_expr.specs.Reading.{ParsedNot, ParsedPart, ParsedChain, FailsNot, FailsPart, FailsChain, IsLone, IsNext, ReadsOperand, ReadsRelation, IsMemoryAt, IsOp, IsJoined, StartsNoOp, StartsNoOperand};
@@ -384,7 +384,7 @@ fn is_joined(tokens: &[Token], at: usize, connective: Connective) -> bool
 // Two parts or more, joined.
 #[tactic(auto, using(crate::proofs::FormLemmas::chain_forms))]
 fn connected(connective: Connective, parts: Box<Parts>) -> Expr
-    ensures { form_of result ≡ spec.connected connective (forms (map form_of (parts_of parts.value))) }
+    ensures { form_of result ≡ named.connected connective (forms (map form_of (parts_of parts.value))) }
 {
     match connective {
         Connective::And => Expr::All(parts),

@@ -1,11 +1,11 @@
 -- Tools for the examples: when the first bytes of a line spell a token and nothing longer, and when a physical line is a logical line.
 use Rattle.std.proofs.Common.{◌≡◌, refl, sym, ◌∙◌, ap, subst, true≢false, arith, ℕ, zero, suc, ◌≤◌, ◌≢◌, inl, inr, Bool, true, false, IsTrue, List, [], ◌∷◌, ◌++◌, take, length, slice_index, All, drop, codes}
-use Rattle.std.specs.Prelude.{◌&&◌, ◌==◌, not}
+use Rattle.std.specs.Prelude.{◌&&◌, ◌==◌, ◌⊎◌, not}
 use Rattle.std.proofs.lemmas.Bool.{eq-eqb}
 use Rattle.std.specs.List.{list_all}
 use Rattle.kc_language.specs.Lines.{AreJoined, IsFirstLine, Physical, continues}
 use Rattle.kc_language.specs.Text.{byte}
-use Rattle.kc_language.specs.Tokens.{is_word_byte, IsQuote, IsQuotedBody, nothing, plain, escaped, op_text, AWord, AQuoted, AnOp, Lexeme, Spells, IsLongest}
+use Rattle.kc_language.specs.Tokens.{is_word_byte, IsQuotedBody, nothing, plain, escaped, op_text, AWord, AQuoted, AnOp, Lexeme, Spells, IsLongest}
 use Rattle.kc_language.specs.declared.tokens.Op.{Op}
 use Rattle.kc_language.specs.declared.tokens.Op.TheVariants as ops
 
@@ -18,7 +18,7 @@ op_begins = elim [ ops.Eq ↦ refl | _ ↦ refl ]
 op_ends : (o : Op) → slice_index (op_text o) 2 ≡ 0
 op_ends = elim [ ops.Eq ↦ refl | _ ↦ refl ]
 
-quote_begins : (q : ℕ) → IsQuote q → is_word_byte q ≡ false
+quote_begins : (q : ℕ) → (q ≡ byte "\"") ⊎ (q ≡ byte "'") → is_word_byte q ≡ false
 quote_begins q (inl e) = subst (λ b. is_word_byte b ≡ false) (sym e) refl
 quote_begins q (inr e) = subst (λ b. is_word_byte b ≡ false) (sym e) refl
 

@@ -2,13 +2,13 @@
 use Rattle.std.proofs.Common.{◌≡◌, refl, sym, ◌∙◌, ap, subst, arith, inl, inr, ◌≤◌, ◌+◌, suc, zero}
 use Rattle.std.proofs.lemmas.List.{append-nil}
 use Rattle.std.specs.List.{list_all}
-use Rattle.std.specs.Prelude.{List, None, Ok, Option, Some, [], codes, false, if◌then◌else◌, String, length, map, string_bytes, take, true, ℕ, ◌++◌, ◌-◌, ◌∷◌}
+use Rattle.std.specs.Prelude.{List, None, Ok, Option, Some, [], codes, false, if◌then◌else◌, String, length, map, min, string_bytes, take, true, ℕ, ◌++◌, ◌-◌, ◌^◌, ◌∷◌}
 use Rattle.std.specs.Fmt.{digits}
 use Rattle.std.specs.declared.alloc.Global.{Global}
 use Rattle.kc_language.specs.ConfigFile.{ReadResult, effect, lines_after, lines_from, no_input, place_at, places_given, reading, reading_of, untaken, untaken_line, warning, warnings}
 use Rattle.kc_language.specs.Expansion.{AreOpened, Expands, Files, Log, NextStatement, Rest, at_end, bytes_in, is_help, nothing_read, root_context, statement, with_file, without_help}
 use Rattle.kc_language.specs.Expressions.{Atom, Disjunction, OperandToken, QuotedAtom, Single, Symbol, Text, TextValue, Truth, WordAtom, conjunction, lone, negation, only, symbol, terminal_of}
-use Rattle.kc_language.specs.Lines.{Physical, UnreadLines, continues, joined_text, line_number, physical_lines, unread_lines}
+use Rattle.kc_language.specs.Lines.{Physical, UnreadLines, continues, joined_text, physical_lines, unread_lines}
 use Rattle.kc_language.specs.Needs.{IsAccepted}
 use Rattle.kc_language.specs.Outcome.{IsAcceptedTree, IsOutcome, IsOutcomeOfReading, Options, Outcome, accepted_tree, is_read_by_make, read_of, root_file, rule_text, streams, unreadable_line, whole}
 use Rattle.kc_language.specs.Statements.{ConfigLine, DefaultLine, LineContext, Located, Named, ReadsLine, ReadsType, ReadsValue, TypeLine}
@@ -73,7 +73,7 @@ unread n rows = record { lines = rows; number = n; refusal = None }
 -- A line that does not continue on the next one, and is no help line, reads as its tokens do.
 next_line : (text : List ℕ) (more : List Physical) (n : ℕ) (t : Lexeme) (ts : List Lexeme) (c : LineContext) (s : Named) →
     continues (row text) ≡ false → length text ≤ longest_line → IsCut text (t ∷ ts) None → is_help (t ∷ ts) ≡ false → ReadsLine c (t ∷ ts) (Ok s) →
-    NextStatement (unread n (row text ∷ more)) (unread (line_number (n + 1)) more) c (Ok s)
+    NextStatement (unread n (row text ∷ more)) (unread (min (n + 1) (2 ^ 32 - 1)) more) c (Ok s)
 next_line text more n t ts c s ends short cut no_help reads = record {
   tokens = t ∷ ts;
   some = λ e. omega (arith, ap length e);
@@ -88,7 +88,7 @@ next_line text more n t ts c s ends short cut no_help reads = record {
 }
   where
     middle : UnreadLines
-    middle = unread (line_number (n + 1)) more
+    middle = unread (min (n + 1) (2 ^ 32 - 1)) more
 
     joined : text ≡ joined_text (row text ∷ [])
     joined = sym (ap (λ b. (if b then take (length text - 1) text else text) ++ []) ends ∙ append-nil text)

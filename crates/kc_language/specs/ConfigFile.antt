@@ -3,11 +3,11 @@
 -- A text is a list of bytes. `elim x [ p ↦ a | q ↦ b ]` is a if x is p, and b if x is q. The last definition, `reading_of`, is the result.
 use Rattle.std.specs.{Char.is_ascii_digit, Option.option_map_or, Str.Lines.strip_carriage_return}
 use Rattle.std.specs.List.{enumerate_from, last_or, list_all, list_any, position_or_len, slice_split, suffix_len}
-use Rattle.std.specs.Prelude.{Bool, List, None, Option, Some, [], bytes_eq, codes, drop, false, filter_map, find, flat_map, if◌then◌else◌, is_some, length, nat_le, nat_lt, not, option_and_then, option_map, position, replicate, slice_index, slice_index_or, take, take_while, true, ℕ, ◌&&◌, ◌++◌, ◌+◌, ◌-◌, ◌==◌, ◌∷◌, ◌≡◌}
+use Rattle.std.specs.Prelude.{Bool, List, None, Option, Some, [], bytes_eq, codes, drop, false, filter_map, find, flat_map, if◌then◌else◌, is_some, length, min, nat_le, nat_lt, not, option_and_then, option_map, position, replicate, slice_index, slice_index_or, take, take_while, true, ℕ, ◌&&◌, ◌++◌, ◌+◌, ◌-◌, ◌==◌, ◌^◌, ◌∷◌, ◌≡◌}
 use Rattle.kc_language.specs.Expressions.{is_name_byte, same_name, symbol, tri_text}
 use Rattle.kc_language.specs.Lines.{is_line_feed}
 use Rattle.kc_language.specs.Symbols.{TreeFacts, Warning, located_warning}
-use Rattle.kc_language.specs.Text.{byte, escape, hex_of, int_of, longest_input_line, longest_prefix, longest_value, one_more, unescape}
+use Rattle.kc_language.specs.Text.{byte, escape, hex_of, int_of, longest_input_line, longest_prefix, longest_value, unescape}
 use Rattle.kc_language.specs.Tokens.{is_blank}
 use Rattle.kc_language.specs.Values.{ChoicePlace, GivenText, GivenTruth, GivenValue, Member, SymbolPlace, UserPlace, facts, is_yes, name, same_given, type_in}
 use Rattle.kc_language.specs.declared.{diagnostics.Warning.TheVariants.{Changed, MalformedLine, NotAllowed, SetAgain, UnknownSymbol}, expressions.{SymId.SymId, SymbolType.{SymbolType, TheVariants.{Bool as IsBool, Hex, Int, Str, Tristate, Undefined}}, Tri.{TheVariants.{M, N, Y}, Tri}}}
@@ -121,12 +121,12 @@ pub record StreamLocation : Type 0 where
 abbrev pub stream_location : Line → StreamLocation
 stream_location l = record { stream = l.stream; number = l.number }
 
--- The lines of these bytes, numbered from n on: the parts between line feeds. The last part is a line only if it is not empty.
+-- The lines of these bytes, numbered from n on up to 2^64 - 1: the parts between line feeds. The last part is a line only if it is not empty.
 abbrev pub lines_in_stream : List ℕ → ℕ → List (List ℕ) → List Line
 lines_in_stream stream n [] = []
 lines_in_stream stream n (last ∷ []) = if length last == 0 then [] else record { stream = stream; number = n; bytes = last; ended = false } ∷ []
 lines_in_stream stream n (part ∷ next ∷ parts) =
-    record { stream = stream; number = n; bytes = part; ended = true } ∷ lines_in_stream stream (one_more n) (next ∷ parts)
+    record { stream = stream; number = n; bytes = part; ended = true } ∷ lines_in_stream stream (min (n + 1) (2 ^ 64 - 1)) (next ∷ parts)
 
 unfoldable pub lines_from : List ℕ → ℕ → List ℕ → List Line
 lines_from stream n bytes = lines_in_stream stream n (slice_split is_line_feed bytes)

@@ -1,10 +1,10 @@
 -- Trusted: 6. Expansion: the statements of a tree of Kconfig files in the order of reading, or the first error of a line.
 -- Source: the kernel's kconfig-language document (`source`, blocks, entries). The limits are our own. Begin with `Expands` to go from whole to parts.
 use Rattle.std.specs.{List.{before_first, filter_map, flat_map, last_or, list_any, take_while}, Map.{lookup}}
-use Rattle.std.specs.Prelude.{Bool, Err, List, MatchOption, None, Ok, Option, Result, Some, [], codes, drop, false, filter, if◌then◌else◌, is_some, length, map, nat_le, nat_lt, slice_get, suc, take, true, zero, ℕ, ◌&&◌, ◌++◌, ◌+◌, ◌-◌, ◌||◌, ◌∷◌, ◌≡◌, ◌≢◌}
-use Rattle.kc_language.specs.{Expressions.{all_mentioned, mention, number_of, same_name}, Lines.{IsTooLong, TakesLine, UnreadLines, after_help, line_number, physical_lines, unread_lines}}
+use Rattle.std.specs.Prelude.{Bool, Err, List, MatchOption, None, Ok, Option, Result, Some, [], codes, drop, false, filter, if◌then◌else◌, is_some, length, map, min, nat_le, nat_lt, slice_get, suc, take, true, zero, ℕ, ◌&&◌, ◌++◌, ◌+◌, ◌-◌, ◌^◌, ◌||◌, ◌∷◌, ◌≡◌, ◌≢◌}
+use Rattle.kc_language.specs.{Expressions.{all_mentioned, mention, number_of, same_name}, Lines.{IsTooLong, TakesLine, UnreadLines, after_help, physical_lines, unread_lines}}
 use Rattle.kc_language.specs.Statements.{Cause, ChoiceLine, CommentLine, ConfigLine, DefLine, DefaultLine, DependsLine, EndChoiceLine, EndIfLine, EndMenuLine, HelpLine, IfLine, IgnoredLine, ImplyLine, LineContext, Located, MenuLine, ModulesLine, Named, Numbered, PromptLine, RangeLine, ReadsLine, ReadsSource, SelectLine, SourceLine, Statement, TypeLine, VisibleLine, begins_with, names_in_statement, numbered, statements}
-use Rattle.kc_language.specs.{Text.{most_blocks, most_files, most_lines, most_symbols}, Tokens.{IsCut, Lexeme}, declared.{statements.Block.Block, statements.EntryKind.EntryKind, tokens.TextFault.TextFault}}
+use Rattle.kc_language.specs.{Text.{most_lines, most_open, most_symbols}, Tokens.{IsCut, Lexeme}, declared.{statements.Block.Block, statements.EntryKind.EntryKind, tokens.TextFault.TextFault}}
 use Rattle.kc_language.specs.declared.diagnostics.Cause.TheVariants as cause
 
 -- The bytes of each file by its name, where there is such a file. `bytes_in` takes them from a list.
@@ -180,7 +180,7 @@ limit_cause a own log (ConfigLine n) =
     if nat_lt most_symbols (length (mention (all_mentioned [] (definitions (statements log.lines))) n)) then Some cause.TooManySymbols else None
 limit_cause a own log s = elim (opened (bracket s)) [
   | None ↦ None
-  | Some b ↦ if nat_le most_blocks (length a.blocks + length (open_blocks (statements own))) then Some cause.TooDeep else None
+  | Some b ↦ if nat_le most_open (length a.blocks + length (open_blocks (statements own))) then Some cause.TooDeep else None
 ]
 
 -- Why a file cannot be opened, where n physical lines were read before: there is none (E1), or the lines are too many (E3).
@@ -194,7 +194,7 @@ bytes_cause name n (Some bytes) = if nat_lt most_lines (n + lines_of bytes) then
 -- Why a file cannot be sourced, where these files are open: it is one of them (E2), they are too many (E12), or it cannot be opened.
 abbrev pub sourcing_cause : Files → List (List ℕ) → ℕ → List ℕ → Option Cause
 sourcing_cause files names n name = if list_any (same_name name) names then Some (cause.InclusionLoop name)
-    else if nat_le most_files (length names) then Some cause.TooDeep else bytes_cause name n (files name)
+    else if nat_le most_open (length names) then Some cause.TooDeep else bytes_cause name n (files name)
 
 -- A sourced file: what surrounds it, and the log as it is opened.
 abbrev pub inside : FileContext → List (Located Named) → List ℕ → FileContext
@@ -215,7 +215,7 @@ logged log a n s = record { lines = with_line log.lines a n s; total_lines = log
 abbrev pub without_help : UnreadLines → UnreadLines
 without_help l = record {
   lines = after_help l.lines;
-  number = line_number (l.number + (length l.lines - length (after_help l.lines)));
+  number = min (l.number + (length l.lines - length (after_help l.lines))) (2 ^ 32 - 1);
   refusal = l.refusal;
 }
 

@@ -1,14 +1,10 @@
 -- Trusted: 4. Expressions: the numbers of names, what an expression is and its value, and which tokens form an expression.
--- Sources: the kernel's kconfig-language document ("Menu dependencies") for the grammar and the operators; kconfiglib for comparisons and
--- for a lone `m` of a condition. The numbers of names, leading zeros and the limit of levels are our own. `elim x [ p ↦ a | .. ]` is a match on x.
-use Rattle.std.specs.{Char.{is_ascii_alphanumeric}, Cmp.Lexicographic.{slice_cmp}, List.{flat_map, fold, list_any, position_or_len}, Option.{option_to_list}, Ordering.{int_cmp, nat_cmp}}
-use Rattle.std.specs.Prelude.{Bool, List, None, Option, Some, [], bytes_eq, codes, false, if◌then◌else◌, is_some, map, max, pos, suc, true, unwrap_or, ℕ, ℤ, ◌&&◌, ◌++◌, ◌==◌, ◌||◌, ◌∷◌, ◌≡◌, ◌≢◌, ◌≤◌}
-use Rattle.std.specs.declared.cmp.Ordering.{Ordering, TheVariants.{Equal, Greater, Less}}
-use Rattle.kc_language.specs.{Text.{byte, has_hex_prefix, hex_of, int_of, most_levels, unescape}, Tokens.{AQuoted, AWord, AnOp, Lexeme}}
-use Rattle.kc_language.specs.declared.{expressions.Connective.{Connective, TheVariants.{And, Or}}, expressions.SymId.SymId, expressions.SymbolType.{SymbolType, TheVariants.{Hex, Int, Str}}, expressions.Tri.{Tri, TheVariants.{M, N, Y}}, tokens.Op.Op}
+-- Sources: the kernel's kconfig-language document ("Menu dependencies") for the grammar and the operators; kconfiglib for comparisons and for
+-- a lone `m` of a condition. The numbers of names, leading zeros and the limit of levels are our own.
+use Rattle.std.specs.{Char.{is_ascii_alphanumeric}, Cmp.Lexicographic.{slice_cmp}, List.{flat_map, fold, list_any, position_or_len}, Option.{option_to_list}, Ordering.{int_cmp, nat_cmp}, Prelude.{Bool, List, None, Option, Some, [], bytes_eq, codes, false, if◌then◌else◌, is_some, map, max, pos, suc, true, unwrap_or, ℕ, ℤ, ◌&&◌, ◌++◌, ◌==◌, ◌||◌, ◌∷◌, ◌≡◌, ◌≢◌, ◌≤◌}, declared.cmp.Ordering.{Ordering, TheVariants.{Equal, Greater, Less}}}
+use Rattle.kc_language.specs.{Text.{byte, has_hex_prefix, hex_of, int_of, most_open, unescape}, Tokens.{AQuoted, AWord, AnOp, Lexeme}, declared.{expressions.Connective.{Connective, TheVariants.{And, Or}}, expressions.SymId.SymId, expressions.SymbolType.{SymbolType, TheVariants.{Hex, Int, Str}}, expressions.Tri.{Tri, TheVariants.{M, N, Y}}, tokens.Op.Op}}
 
--- ---- Names and their numbers
--- A symbol is the number of its name. Two names are the same if their bytes are.
+-- ---- Names and their numbers. A symbol is the number of its name. Two names are the same if their bytes are.
 abbrev pub symbol : ℕ → SymId
 symbol n = record { 0 = n }
 
@@ -32,8 +28,7 @@ mention names name = if list_any (same_name name) names then names else names ++
 abbrev pub all_mentioned : List (List ℕ) → List (List ℕ) → List (List ℕ)
 all_mentioned = fold mention
 
--- ---- Expressions
--- An operand is a text or a symbol.
+-- ---- Expressions. An operand is a text or a symbol.
 pub data Leaf : Type 0 where
   Text : List ℕ → Leaf
   Symbol : SymId → Leaf
@@ -73,17 +68,13 @@ module _ (modules : Option SymId) where
     all_symbols NoForms = []
     all_symbols (MoreForms f fs) = symbols f ++ all_symbols fs
 
--- ---- Values
--- The constants n, m and y: their texts, the text that is one of them, and their numbers.
+-- ---- Values. The constants n, m and y: their texts, the text that is one of them, and their numbers.
 abbrev pub tri_text : Tri → List ℕ
 tri_text t = elim t [ N ↦ codes "n" | M ↦ codes "m" | Y ↦ codes "y" ]
 
 abbrev pub tristate_constant : List ℕ → Option Tri
 tristate_constant (b ∷ []) = if b == byte "n" then Some N else if b == byte "m" then Some M else if b == byte "y" then Some Y else None
 tristate_constant _ = None
-
-abbrev pub is_tristate_constant : List ℕ → Bool
-is_tristate_constant text = is_some (tristate_constant text)
 
 abbrev pub tri_number : Tri → ℤ
 tri_number t = elim t [ N ↦ pos 0 | M ↦ pos 1 | Y ↦ pos 2 ]
@@ -111,41 +102,23 @@ pub data SymbolValue : Type 0 where
   Truth : Tri → SymbolValue
   TextValue : SymbolType → List ℕ → SymbolValue
 
--- A value as a truth value and as a text, and whether it is a string.
+-- A value as a truth value. That of a text is n.
 abbrev pub truth_of_value : SymbolValue → Tri
 truth_of_value v = elim v [ Truth t ↦ t | TextValue _ _ ↦ N ]
-
-abbrev pub text_of_value : SymbolValue → List ℕ
-text_of_value v = elim v [ Truth t ↦ tri_text t | TextValue _ bytes ↦ bytes ]
-
-abbrev pub is_string_value : SymbolValue → Bool
-is_string_value v = elim v [ Truth _ ↦ false | TextValue type _ ↦ elim type [ Str ↦ true | _ ↦ false ] ]
 
 -- A value as a number. An int is decimal and a hex is hexadecimal. Any other text is hexadecimal after `0x` or `0X`, otherwise decimal.
 abbrev pub number_of_text : List ℕ → Option ℤ
 number_of_text bytes = if has_hex_prefix bytes then hex_of bytes else int_of bytes
 
 abbrev pub number_of_value : SymbolValue → Option ℤ
-number_of_value v = elim v [
-  | Truth t ↦ Some (tri_number t)
-  | TextValue Int bytes ↦ int_of bytes
-  | TextValue Hex bytes ↦ hex_of bytes
-  | TextValue _ bytes ↦ number_of_text bytes
-]
+number_of_value v = elim v [ Truth t ↦ Some (tri_number t) | TextValue Int b ↦ int_of b | TextValue Hex b ↦ hex_of b | TextValue _ b ↦ number_of_text b ]
 
-abbrev pub constant_number : Option Tri → List ℕ → Option ℤ
-constant_number = elim [ None ↦ λ bytes. number_of_text bytes | Some t ↦ λ bytes. Some (tri_number t) ]
-
--- For which results of a comparison a relation holds.
+-- The relations that hold for each result of a comparison.
 abbrev pub holds : Op → Ordering → Bool
-holds = elim [
-  | Op.Eq ↦ elim [ Equal ↦ true | _ ↦ false ]
-  | Op.Lt ↦ elim [ Less ↦ true | _ ↦ false ]
-  | Op.Gt ↦ elim [ Greater ↦ true | _ ↦ false ]
-  | Op.Ne ↦ elim [ Equal ↦ false | _ ↦ true ]
-  | Op.Ge ↦ elim [ Less ↦ false | _ ↦ true ]
-  | Op.Le ↦ elim [ Greater ↦ false | _ ↦ true ]
-  | _ ↦ λ result. false
+holds op = elim [
+  | Less ↦ elim op [ Op.Lt ↦ true | Op.Le ↦ true | Op.Ne ↦ true | _ ↦ false ]
+  | Equal ↦ elim op [ Op.Eq ↦ true | Op.Le ↦ true | Op.Ge ↦ true | _ ↦ false ]
+  | Greater ↦ elim op [ Op.Gt ↦ true | Op.Ge ↦ true | Op.Ne ↦ true | _ ↦ false ]
 ]
 
 -- Compares numbers if both sides are numbers, otherwise texts.
@@ -154,29 +127,26 @@ compare_operands (Some x) (Some y) _ _ = int_cmp x y
 compare_operands _ _ a b = slice_cmp nat_cmp a b
 
 module _ (known : SymId → SymbolValue) where
-  -- An operand as a truth value, a number and a text, and whether it is a string symbol. A text has the truth value n, except m and y.
-  abbrev pub truth : Leaf → Tri
-  truth l = elim l [ Text bytes ↦ unwrap_or (tristate_constant bytes) N | Symbol s ↦ truth_of_value (known s) ]
-
+  -- An operand as a number and as a text, and whether it is a string symbol.
   abbrev pub number : Leaf → Option ℤ
-  number l = elim l [ Text bytes ↦ constant_number (tristate_constant bytes) bytes | Symbol s ↦ number_of_value (known s) ]
+  number l = elim l [ Text b ↦ elim (tristate_constant b) [ None ↦ number_of_text b | Some t ↦ Some (tri_number t) ] | Symbol s ↦ number_of_value (known s) ]
 
   abbrev pub text : Leaf → List ℕ
-  text l = elim l [ Text bytes ↦ bytes | Symbol s ↦ text_of_value (known s) ]
+  text l = elim l [ Text bytes ↦ bytes | Symbol s ↦ elim (known s) [ Truth t ↦ tri_text t | TextValue _ bytes ↦ bytes ] ]
 
   abbrev pub is_string : Leaf → Bool
-  is_string l = elim l [ Text _ ↦ false | Symbol s ↦ is_string_value (known s) ]
+  is_string l = elim l [ Text _ ↦ false | Symbol s ↦ elim (known s) [ Truth _ ↦ false | TextValue type _ ↦ elim type [ Str ↦ true | _ ↦ false ] ] ]
 
   -- Two string symbols compare as texts, even if both texts are numbers.
   abbrev pub compared : Leaf → Leaf → Ordering
   compared a b =
       if is_string a && is_string b then slice_cmp nat_cmp (text a) (text b) else compare_operands (number a) (number b) (text a) (text b)
 
--- The value of an expression. A lone `m` of a condition is `m && MODULES`, and n if there is no modules symbol.
+-- The value of an expression. A text alone is n, except m and y. A lone `m` of a condition is `m && MODULES`, and n if there is no modules symbol.
 module _ (known : SymId → SymbolValue) (modules : Option SymId) where
   abbrev mutual
     pub value : Form → Tri
-    value (Single a) = truth known a
+    value (Single a) = elim a [ Text bytes ↦ unwrap_or (tristate_constant bytes) N | Symbol s ↦ truth_of_value (known s) ]
     value (Related op a b) = if holds op (compared known a b) then Y else N
     value (Negated f) = opposite (value f)
     value LoneM = elim modules [ None ↦ N | Some s ↦ lesser M (truth_of_value (known s)) ]
@@ -268,21 +238,15 @@ abbrev mutual
 
 -- An operand, given the numbers of names. The words n, m and y are constants, and any other word is a symbol.
 abbrev pub leaf : (List ℕ → ℕ) → Atom → Leaf
-leaf number a = elim a [ WordAtom w ↦ if is_tristate_constant w then Text w else Symbol (symbol (number w)) | QuotedAtom q ↦ Text (unescape q) ]
-
--- A lone operand. In a condition, m (quoted or not) is a lone `m`, which also asks for the modules symbol.
-abbrev pub lone_form : Bool → Leaf → Form
-lone_form condition l = if condition && elim l [ Text bytes ↦ same_name bytes (tri_text M) | Symbol _ ↦ false ] then LoneM else Single l
+leaf number a = elim a [ WordAtom w ↦ if is_some (tristate_constant w) then Text w else Symbol (symbol (number w)) | QuotedAtom q ↦ Text (unescape q) ]
 
 -- The expression: two parts or more are one `Every` or `Some_of`, a single part is itself, and parentheses add nothing.
-abbrev pub connected : Connective → Forms → Form
-connected c = elim c [ And ↦ Every | Or ↦ Some_of ]
-
+-- In a condition, an operand m (quoted or not) that stands alone is a lone `m`, which also asks for the modules symbol.
 module _ (condition : Bool) (number : List ℕ → ℕ) where
   abbrev mutual
     pub meaning : {c : Connective} → Chain c → Form
     meaning (only p) = meaning_part p
-    meaning {c} (joined p ps) = connected c (forms (meaning_part p ∷ parts ps))
+    meaning {c} (joined p ps) = elim c as (λ _. Forms → Form) [ And ↦ Every | Or ↦ Some_of ] (forms (meaning_part p ∷ parts ps))
 
     pub parts : {c : Connective} → Chain c → List Form
     parts (only p) = meaning_part p ∷ []
@@ -295,18 +259,18 @@ module _ (condition : Bool) (number : List ℕ → ℕ) where
     pub meaning_not : Negation → Form
     meaning_not (bang n) = Negated (meaning_not n)
     meaning_not (group d) = meaning d
-    meaning_not (lone a) = lone_form condition (leaf number a)
+    meaning_not (lone a) =
+        if condition && elim (leaf number a) [ Text bytes ↦ same_name bytes (tri_text M) | Symbol _ ↦ false ] then LoneM else Single (leaf number a)
     meaning_not (compare o a b) = Related o (leaf number a) (leaf number b)
 
 -- The names that an expression mentions, from left to right: its words other than n, m and y.
 abbrev pub names_in_atom : Atom → List (List ℕ)
-names_in_atom a = elim a [ WordAtom w ↦ if is_tristate_constant w then [] else w ∷ [] | QuotedAtom _ ↦ [] ]
+names_in_atom a = elim a [ WordAtom w ↦ if is_some (tristate_constant w) then [] else w ∷ [] | QuotedAtom _ ↦ [] ]
 
 abbrev pub names_in : Disjunction → List (List ℕ)
 names_in d = flat_map (λ t. elim t [ OperandToken a ↦ names_in_atom a | _ ↦ [] ]) (spell d)
 
--- ---- Where an expression ends, and when there is none
--- These tokens begin some expression, or one of at most k levels.
+-- ---- Where an expression ends, and when there is none. These tokens begin some expression, or one of at most k levels.
 abbrev pub Begins : List Terminal → Type 0
 Begins front = (d : Disjunction) × (after : List Terminal) × (spell d ≡ front ++ after)
 
@@ -314,27 +278,23 @@ abbrev pub BeginsWithin : ℕ → List Terminal → Type 0
 BeginsWithin k front = (d : Disjunction) × (after : List Terminal) × (levels d ≤ k) × (spell d ≡ front ++ after)
 
 -- The longest prefix that begins some expression, and the rest, whose first token cannot be added to the prefix.
-abbrev pub NoLonger : List Terminal → List Terminal → Type 0
-NoLonger front [] = Unit {0}
-NoLonger front (t ∷ _) = Begins (front ++ t ∷ []) → ⊥
-
 pub record LongestFront (ts front rest : List Terminal) : Type 0 where
   pub whole : ts ≡ front ++ rest
   pub begins : Begins front
-  pub longest : NoLonger front rest
+  pub longest : elim rest as (λ _. Type 0) [ [] ↦ Unit {0} | t ∷ _ ↦ (Begins (front ++ t ∷ []) → ⊥) ]
 
--- A syntax error: the longest prefix that begins some expression is no expression itself. It begins one of at most `most_levels` levels.
+-- A syntax error: the longest prefix that begins some expression is no expression itself. It begins one of at most `most_open` levels.
 pub record IsNoExpression (ts : List Terminal) : Type 0 where
   pub front : List Terminal
   pub rest : List Terminal
   pub longest : LongestFront ts front rest
-  pub within : BeginsWithin most_levels front
+  pub within : BeginsWithin most_open front
   pub none : (d : Disjunction) → spell d ≢ front
 
--- Too deep: a prefix begins some expression, but none of at most `most_levels` levels.
+-- Too deep: a prefix begins some expression, but none of at most `most_open` levels.
 pub record IsTooDeep (ts : List Terminal) : Type 0 where
   pub front : List Terminal
   pub rest : List Terminal
   pub whole : ts ≡ front ++ rest
   pub begins : Begins front
-  pub deep : BeginsWithin most_levels front → ⊥
+  pub deep : BeginsWithin most_open front → ⊥

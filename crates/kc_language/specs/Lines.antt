@@ -1,15 +1,11 @@
 -- Trusted: 2. Lines: the physical lines of a Kconfig file, the logical lines that `\` joins them to, and where a help text ends.
 -- Help texts are those of the kernel's kconfig-language document ("Menu attributes"); the details are our own.
-use Rattle.std.specs.{List.{flat_map, list_all, slice_split}, Option.{option_map_or}, Str.Lines.{strip_carriage_return}}
-use Rattle.std.specs.Prelude.{All, Bool, IsTrue, List, None, Option, Some, [], false, if◌then◌else◌, length, min, nat_le, slice_index, take, true, ℕ, ◌%◌, ◌&&◌, ◌++◌, ◌+◌, ◌-◌, ◌==◌, ◌^◌, ◌||◌, ◌∷◌, ◌<◌, ◌≡◌, ◌≤◌}
+use Rattle.std.specs.{List.{flat_map, list_all, slice_split}, Option.{option_map_or}, Prelude.{Bool, IsTrue, List, None, Option, Some, [], false, if◌then◌else◌, length, min, nat_le, slice_index, take, true, ℕ, ◌%◌, ◌&&◌, ◌++◌, ◌+◌, ◌-◌, ◌==◌, ◌^◌, ◌||◌, ◌∷◌, ◌<◌, ◌≡◌, ◌≤◌}, Str.Lines.{strip_carriage_return}}
 use Rattle.kc_language.specs.{Text.{byte, longest_line}, Tokens.{is_blank}, declared.{tokens.TextFault.TextFault}}
 
 -- A physical line ends at a line feed.
 abbrev pub is_line_feed : ℕ → Bool
 is_line_feed b = b == byte "\n"
-
-abbrev pub HoldsNoLineFeed : List ℕ → Type 0
-HoldsNoLineFeed bytes = All (λ b. is_line_feed b ≡ false) bytes
 
 -- A physical line without its line feed, and whether it had one.
 pub record Physical : Type 0 where
@@ -45,10 +41,6 @@ pub record IsFirstLine (lines front after : List Physical) : Type 0 where
 abbrev pub joined_text : List Physical → List ℕ
 joined_text = flat_map (λ l. if continues l then take (length l.text - 1) l.text else l.text)
 
--- Line numbers stay at the greatest number of 32 bits.
-abbrev pub line_number : ℕ → ℕ
-line_number n = min n (2 ^ 32 - 1)
-
 -- What is unread of a file: its lines, the number of the first of them, and the error that was reported, if any.
 pub record UnreadLines : Type 0 where
   pub lines : List Physical
@@ -58,10 +50,10 @@ pub record UnreadLines : Type 0 where
 abbrev pub unread_lines : List ℕ → ℕ → UnreadLines
 unread_lines rest number = record { lines = physical_lines rest; number = number; refusal = None }
 
--- The next logical line has this text, and `new` is unread after it; the next logical line is too long.
+-- The next logical line has this text, and `new` is unread after it (its number is at most 2^32 - 1); the next logical line is too long.
 abbrev pub TakesLine : UnreadLines → UnreadLines → List ℕ → Type 0
 TakesLine old new text = (front : List Physical) × IsFirstLine old.lines front new.lines × (text ≡ joined_text front) × (length text ≤ longest_line)
-    × (new.number ≡ line_number (old.number + length front)) × (new.refusal ≡ None)
+    × (new.number ≡ min (old.number + length front) (2 ^ 32 - 1)) × (new.refusal ≡ None)
 
 abbrev pub IsTooLong : UnreadLines → Type 0
 IsTooLong old = (front after : List Physical) × IsFirstLine old.lines front after × (longest_line < length (joined_text front))

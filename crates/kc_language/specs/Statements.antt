@@ -1,9 +1,9 @@
 -- Trusted: 5. Statements: what one line of a Kconfig file says, and where it may stand.
 -- Source: the kernel's kconfig-language document. The errors and what is left out are our own. From the whole to the parts: begin with `ReadsLine`.
 use Rattle.std.specs.{List.{list_all, list_any}, Map.{lookup}}
-use Rattle.std.specs.Prelude.{Bool, Err, List, MatchResult, None, Ok, Option, Result, Some, [], codes, decimal, drop, false, if◌then◌else◌, length, map, nat_le, not, option_map, true, ℕ, ◌&&◌, ◌++◌, ◌==◌, ◌||◌, ◌∷◌, ◌≡◌, ◌≤◌, ◌⊎◌}
-use Rattle.kc_language.specs.Expressions.{Atom, Disjunction, Form, IsNoExpression, IsTooDeep, Leaf, LongestFront, QuotedAtom, WordAtom, if_word, is_name_byte, is_tristate_constant, leaf, levels, meaning, names_in, names_in_atom, same_name, spell, symbol, terminals}
-use Rattle.kc_language.specs.{Text.{byte, longest_line, longest_name, most_levels, most_lines, most_symbols, unescape}, Tokens.{AQuoted, AWord, Lexeme}, declared.{diagnostics.Cause.Cause as CauseAbout, expressions.SymId.SymId, expressions.SymbolType.SymbolType, statements.Block.Block, statements.EntryKind.EntryKind, statements.Keyword.Keyword}}
+use Rattle.std.specs.Prelude.{Bool, Err, List, MatchResult, None, Ok, Option, Result, Some, [], codes, decimal, drop, false, if◌then◌else◌, is_some, length, map, nat_le, not, option_map, true, ℕ, ◌&&◌, ◌++◌, ◌==◌, ◌||◌, ◌∷◌, ◌≡◌, ◌≤◌, ◌⊎◌}
+use Rattle.kc_language.specs.Expressions.{Atom, Disjunction, Form, IsNoExpression, IsTooDeep, Leaf, LongestFront, QuotedAtom, WordAtom, if_word, is_name_byte, leaf, levels, meaning, names_in, names_in_atom, same_name, spell, symbol, terminals, tristate_constant}
+use Rattle.kc_language.specs.{Text.{byte, longest_line, longest_name, most_lines, most_open, most_symbols, unescape}, Tokens.{AQuoted, AWord, Lexeme}, declared.{diagnostics.Cause.Cause as CauseAbout, expressions.SymId.SymId, expressions.SymbolType.SymbolType, statements.Block.Block, statements.EntryKind.EntryKind, statements.Keyword.Keyword}}
 use Rattle.kc_language.specs.declared.diagnostics.Cause.TheVariants as cause
 use Rattle.kc_language.specs.declared.statements.Keyword.TheVariants as key
 
@@ -232,7 +232,7 @@ pub record StartsExpression (ts : List Lexeme) (f : Front) : Type 0 where
   pub used : ℕ
   pub rest_is : f.rest ≡ drop used ts
   pub longest : LongestFront (terminals ts) (spell f.tree) (terminals f.rest)
-  pub within : levels f.tree ≤ most_levels
+  pub within : levels f.tree ≤ most_open
 
 -- Why no expression stands here: the longest prefix that begins one is none itself (E8), or a prefix opens too many levels (E12).
 abbrev pub ExpressionFault : List Lexeme → Cause → Type 0
@@ -289,7 +289,7 @@ operand_of (AQuoted t ∷ ts) = Ok (QuotedAtom t)
 operand_of _ = Err cause.Syntax
 
 abbrev pub named_target : List Lexeme → Result (List ℕ) Cause
-named_target = elim [ AWord w ∷ ts ↦ if same_name w if_word || is_tristate_constant w then Err cause.Syntax else Ok w | _ ↦ Err cause.Syntax ]
+named_target = elim [ AWord w ∷ ts ↦ if same_name w if_word || is_some (tristate_constant w) then Err cause.Syntax else Ok w | _ ↦ Err cause.Syntax ]
 
 -- The word w has to stand here. It gives the tokens after it.
 abbrev pub expected : List ℕ → List Lexeme → Result (List Lexeme) Cause
@@ -313,7 +313,7 @@ ReadsSource ts = After (text_of ts) (λ t. After (plain_text t) (λ u r. r ≡ f
 
 -- `config`, `menuconfig`: a name, which is 1 to 255 bytes that may stand in a name, and none of the words `n`, `m`, `y` and `if`.
 abbrev pub is_good_name : List ℕ → Bool
-is_good_name w = if same_name w if_word || is_tristate_constant w then false
+is_good_name w = if same_name w if_word || is_some (tristate_constant w) then false
     else (nat_le 1 (length w) && nat_le (length w) longest_name && list_all is_name_byte w)
 
 abbrev pub ReadsConfig : List Lexeme → Result Named Cause → Type 0

@@ -1,7 +1,6 @@
 -- Trusted: 1. Text: bytes, limits, escapes and numbers.
 -- Our own: the public documents are silent on these. A text is a list of bytes, and `byte "A"` is the one byte of `A`, 65.
-use Rattle.std.specs.{Char.{is_digit}, List.{flat_map, list_all}, Str.Parse.{digits_value, starts_with_minus}}
-use Rattle.std.specs.Prelude.{Bool, List, None, Option, Some, [], codes, drop, if◌then◌else◌, length, min, nat_lt, neg_ℤ, option_map, pos, slice_index, ℕ, ℤ, ◌&&◌, ◌++◌, ◌+◌, ◌-◌, ◌==◌, ◌^◌, ◌||◌, ◌∷◌, ◌≡◌}
+use Rattle.std.specs.{Char.{is_digit}, List.{flat_map, list_all}, Prelude.{Bool, List, None, Option, Some, [], codes, drop, if◌then◌else◌, length, nat_lt, neg_ℤ, option_map, pos, slice_index, ℕ, ℤ, ◌&&◌, ◌++◌, ◌+◌, ◌==◌, ◌^◌, ◌||◌, ◌∷◌, ◌≡◌}, Str.Parse.{digits_value, starts_with_minus}}
 use Prim.Native.String.{String}
 
 abbrev pub byte : String → ℕ
@@ -14,20 +13,14 @@ longest_line = 8191  -- bytes of a logical line of a Kconfig file
 abbrev pub longest_name : ℕ
 longest_name = 255  -- bytes of the name of a defined symbol
 
-abbrev pub most_levels : ℕ
-most_levels = 64  -- levels of `!` and `(` that are open at once in an expression
+abbrev pub most_open : ℕ
+most_open = 64  -- levels of `!` and `(` in an expression, blocks, and Kconfig files, that are open at once
 
 abbrev pub most_symbols : ℕ
 most_symbols = 65535  -- defined symbols
 
 abbrev pub most_lines : ℕ
 most_lines = 1000000  -- physical lines of all Kconfig files together
-
-abbrev pub most_files : ℕ
-most_files = 64  -- Kconfig files that are open at once
-
-abbrev pub most_blocks : ℕ
-most_blocks = 64  -- blocks that are open at once
 
 abbrev pub longest_input_line : ℕ
 longest_input_line = 65535  -- bytes before the line feed of a line of an input file
@@ -38,18 +31,13 @@ longest_value = 65000  -- bytes right of the `=` of a line of an input file
 abbrev pub longest_prefix : ℕ
 longest_prefix = 64  -- bytes of a prefix, such as `CONFIG_`
 
--- A count of lines goes up by one, and stays at the greatest number of 64 bits.
-abbrev pub one_more : ℕ → ℕ
-one_more n = min (n + 1) (2 ^ 64 - 1)
-
 -- Escaping puts a `\` before each `"` and each `\`. Unescaping reads a `\` and the byte after it as that byte; a `\` at the end stays.
 abbrev pub escape : List ℕ → List ℕ
 escape = flat_map (λ b. if b == byte "\"" || b == byte "\\" then byte "\\" ∷ b ∷ [] else b ∷ [])
 
 abbrev pub unescape : List ℕ → List ℕ
-unescape [] = []
-unescape (b ∷ []) = b ∷ []
 unescape (b ∷ c ∷ bs) = if b == byte "\\" then c ∷ unescape bs else b ∷ unescape (c ∷ bs)
+unescape bs = bs
 
 -- The number that a text writes: one or more digits of the radix and nothing else, and the number is below the limit.
 unfoldable pub natural_of : ℕ → ℕ → List ℕ → Option ℕ
@@ -74,7 +62,3 @@ BeginsWith text front = (rest : List ℕ) × (text ≡ front ++ rest)
 
 abbrev pub GoesBeyond : List ℕ → List ℕ → Type 0
 GoesBeyond text front = (b : ℕ) × (rest : List ℕ) × (text ≡ front ++ b ∷ rest)
-
--- What is left of a text, if anything, with these bytes put before it.
-abbrev pub preceded : List ℕ → Option (List ℕ) → Option (List ℕ)
-preceded bytes = option_map (λ rest. bytes ++ rest)

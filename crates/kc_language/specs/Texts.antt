@@ -4,7 +4,7 @@ use Rattle.std.specs.{List.{enumerate_from, last_or}, Option.option_map_or, Str.
 use Rattle.std.specs.Prelude.{All, Bool, List, None, Option, Some, [], codes, false, filter, flat_map, if◌then◌else◌, is_some, length, map, not, option_map, slice_get, slice_index_or, take, true, ℕ, ◌++◌, ◌<◌, ◌==◌, ◌||◌, ◌↔◌, ◌∷◌, ◌≡◌}
 use Rattle.kc_language.specs.ConfigFile.{ArePlacesOf, Places, ReadResult, StreamLocation, Unset, is_within, lines_from, meaning_of, no_input, place_at, reading_of, text_in_config, value_text}
 use Rattle.kc_language.specs.Expressions.{SymbolValue, TextValue, Truth, tri_text}
-use Rattle.kc_language.specs.Lines.{HoldsNoLineFeed}
+use Rattle.kc_language.specs.Lines.{is_line_feed}
 use Rattle.kc_language.specs.Symbols.{CommentShown, Condition, EndShown, MenuShown, Shown, SymbolFacts, SymbolShown, TreeFacts, Warning, located_warning, warning_line}
 use Rattle.kc_language.specs.Text.{byte, escape, has_hex_prefix}
 use Rattle.kc_language.specs.Tokens.{is_blank}
@@ -208,7 +208,7 @@ MinimalGivesBack tree prefix places V =
 
 -- The minimal file needs each of its lines: with some lines left out, reading it does not give the solution.
 abbrev pub IsOneLine : List ℕ → Type 0
-IsOneLine text = (body : List ℕ) × (text ≡ body ++ codes "\n") × HoldsNoLineFeed body
+IsOneLine text = (body : List ℕ) × (text ≡ body ++ codes "\n") × All (λ b. is_line_feed b ≡ false) body
 
 abbrev pub MinimalNeedsEach : TreeFacts → List ℕ → Places → (ℕ → SymbolValue) → Type 0
 MinimalNeedsEach tree prefix places V =

@@ -1,33 +1,17 @@
 -- Trusted: 3. Tokens: how a logical line is cut into words, quoted texts and operators, and where it cannot be cut.
 -- Our own; the operators are those of the kernel's kconfig-language document ("Menu dependencies"). `IsCut` at the end is the rule.
-use Rattle.std.specs.Char.{is_ascii_alphanumeric}
-use Rattle.std.specs.Prelude.{All, Bool, IsTrue, List, None, Option, Some, [], codes, drop, length, slice_index, take, ℕ, ◌++◌, ◌<◌, ◌==◌, ◌||◌, ◌∷◌, ◌≡◌, ◌≢◌, ◌≤◌, ◌⊎◌}
-use Rattle.kc_language.specs.{Text.{byte}, declared.{tokens.Op.Op, tokens.TextFault.TextFault}}
+use Rattle.std.specs.{Char.{is_ascii_alphanumeric}, Prelude.{All, Bool, IsTrue, List, None, Option, Some, [], codes, drop, length, slice_index, take, ℕ, ◌++◌, ◌<◌, ◌==◌, ◌||◌, ◌∷◌, ◌≡◌, ◌≢◌, ◌≤◌, ◌⊎◌}}
+use Rattle.kc_language.specs.{Text.{byte}, declared.{tokens.Op.{Op, TheVariants.{And, Eq, Ge, Gt, LParen, Le, Lt, Ne, Not, Or, RParen}}, tokens.TextFault.TextFault}}
 
--- The blanks are space and tab. The bytes of words are the ASCII letters and digits and four others. There are two quotes and eleven operators.
+-- The blanks are space and tab. The bytes of words are the ASCII letters and digits and four others. There are eleven operators.
 abbrev pub is_blank : ℕ → Bool
 is_blank b = b == byte " " || b == byte "\t"
 
 abbrev pub is_word_byte : ℕ → Bool
 is_word_byte b = is_ascii_alphanumeric b || b == byte "_" || b == byte "-" || b == byte "/" || b == byte "."
 
-abbrev pub IsQuote : ℕ → Type 0
-IsQuote q = (q ≡ byte "\"") ⊎ (q ≡ byte "'")
-
 abbrev pub op_text : Op → List ℕ
-op_text = elim [
-  | Op.Eq ↦ codes "="
-  | Op.Ne ↦ codes "!="
-  | Op.Lt ↦ codes "<"
-  | Op.Gt ↦ codes ">"
-  | Op.Le ↦ codes "<="
-  | Op.Ge ↦ codes ">="
-  | Op.Not ↦ codes "!"
-  | Op.And ↦ codes "&&"
-  | Op.Or ↦ codes "||"
-  | Op.LParen ↦ codes "("
-  | Op.RParen ↦ codes ")"
-]
+op_text o = codes (elim o [ Eq ↦ "=" | Ne ↦ "!=" | Lt ↦ "<" | Gt ↦ ">" | Le ↦ "<=" | Ge ↦ ">=" | Not ↦ "!" | And ↦ "&&" | Or ↦ "||" | LParen ↦ "(" | RParen ↦ ")" ])
 
 -- What may stand between two quotes q: a `\` with any byte after it, and any other byte that is not q.
 pub data IsQuotedBody (q : ℕ) : List ℕ → Type 0 where
@@ -43,7 +27,7 @@ pub data Lexeme : Type 0 where
 -- The text, all of it, spells the token. No text with a `$` does.
 abbrev pub Spells : List ℕ → Lexeme → Type 0
 Spells text (AWord w) = (text ≡ w) × (0 < length w) × All (λ b. IsTrue (is_word_byte b)) w
-Spells text (AQuoted t) = (q : ℕ) × IsQuote q × IsQuotedBody q t × All (λ b. b ≢ byte "$") t × (text ≡ q ∷ t ++ q ∷ [])
+Spells text (AQuoted t) = (q : ℕ) × ((q ≡ byte "\"") ⊎ (q ≡ byte "'")) × IsQuotedBody q t × All (λ b. b ≢ byte "$") t × (text ≡ q ∷ t ++ q ∷ [])
 Spells text (AnOp o) = text ≡ op_text o
 
 -- The first n bytes spell the token, and no larger number of them spells one.
@@ -52,10 +36,6 @@ pub record IsLongest (rest : List ℕ) (n : ℕ) (x : Lexeme) : Type 0 where
   pub spelled : Spells (take n rest) x
   pub longest : (m : ℕ) (y : Lexeme) → m ≤ length rest → Spells (take m rest) y → m ≤ n
 
--- Nothing is left of the line, or only a comment.
-abbrev pub IsEnd : List ℕ → Type 0
-IsEnd rest = (length rest ≡ 0) ⊎ (slice_index rest 0 ≡ byte "#")
-
 -- After a quote q there is a `$` in the quoted text, or anywhere if no quote ends that text.
 abbrev pub HoldsDollar : ℕ → List ℕ → Type 0
 HoldsDollar q body = (k : ℕ) × (k < length body) × (slice_index body k ≡ byte "$")
@@ -63,23 +43,18 @@ HoldsDollar q body = (k : ℕ) × (k < length body) × (slice_index body k ≡ b
 
 -- A macro is a `$`, or a quoted text that holds one. It has an error of its own. Everything else that begins no token is a bad token.
 abbrev pub IsMacro : List ℕ → Type 0
-IsMacro rest = (slice_index rest 0 ≡ byte "$") ⊎ (IsQuote (slice_index rest 0) × HoldsDollar (slice_index rest 0) (drop 1 rest))
+IsMacro rest = let q : ℕ = slice_index rest 0 in (q ≡ byte "$") ⊎ (((q ≡ byte "\"") ⊎ (q ≡ byte "'")) × HoldsDollar q (drop 1 rest))
 
-abbrev pub IsReason : List ℕ → TextFault → Type 0
-IsReason rest = elim [ TextFault.Macro ↦ IsMacro rest | TextFault.BadToken ↦ (IsMacro rest → ⊥) | _ ↦ ⊥ ]
-
--- Neither the end nor a blank nor a token stands here, for this reason.
+-- Neither the end (where nothing is left, or only a comment) nor a blank nor a token stands here, for this reason.
 pub record CannotBeCut (rest : List ℕ) (fault : TextFault) : Type 0 where
-  pub not_end : IsEnd rest → ⊥
+  pub not_end : (length rest ≡ 0) ⊎ (slice_index rest 0 ≡ byte "#") → ⊥
   pub not_blank : IsTrue (is_blank (slice_index rest 0)) → ⊥
   pub no_token : (n : ℕ) (x : Lexeme) → n ≤ length rest → Spells (take n rest) x → ⊥
-  pub reason : IsReason rest fault
+  pub reason : elim fault as (λ _. Type 0) [ TextFault.Macro ↦ IsMacro rest | TextFault.BadToken ↦ (IsMacro rest → ⊥) | _ ↦ ⊥ ]
 
 -- A line is cut from left to right, up to its end or the first place that cannot be cut. Blanks are skipped. Elsewhere the longest token is taken.
 pub data IsCut : List ℕ → List Lexeme → Option TextFault → Type 0 where
-  ended : {rest : List ℕ} → IsEnd rest → IsCut rest [] None
+  ended : {rest : List ℕ} → (length rest ≡ 0) ⊎ (slice_index rest 0 ≡ byte "#") → IsCut rest [] None
   stuck : {rest : List ℕ} {fault : TextFault} → CannotBeCut rest fault → IsCut rest [] (Some fault)
-  skipped : {rest : List ℕ} {ts : List Lexeme} {out : Option TextFault} →
-      IsTrue (is_blank (slice_index rest 0)) → IsCut (drop 1 rest) ts out → IsCut rest ts out
-  taken : {rest : List ℕ} {n : ℕ} {x : Lexeme} {ts : List Lexeme} {out : Option TextFault} →
-      IsLongest rest n x → IsCut (drop n rest) ts out → IsCut rest (x ∷ ts) out
+  skipped : {rest : List ℕ} {ts : List Lexeme} {out : Option TextFault} → IsTrue (is_blank (slice_index rest 0)) → IsCut (drop 1 rest) ts out → IsCut rest ts out
+  taken : {rest : List ℕ} {n : ℕ} {x : Lexeme} {ts : List Lexeme} {out : Option TextFault} → IsLongest rest n x → IsCut (drop n rest) ts out → IsCut rest (x ∷ ts) out

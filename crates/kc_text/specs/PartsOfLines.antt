@@ -1,8 +1,15 @@
 -- Trusted: Parts of the definitions of Lines, by names of their own.
 use Rattle.std.specs.List.{list_all}
-use Rattle.std.specs.Prelude.{Bool, List, if◌then◌else◌, length, take, ℕ, ◌-◌}
-use Rattle.kc_language.specs.Lines.{Physical, continues}
+use Rattle.std.specs.Prelude.{All, Bool, List, false, if◌then◌else◌, length, min, take, ℕ, ◌-◌, ◌^◌, ◌≡◌}
+use Rattle.kc_language.specs.Lines.{Physical, continues, is_line_feed}
 use Rattle.kc_language.specs.Tokens.{is_blank}
+
+abbrev pub HoldsNoLineFeed : List ℕ → Type 0
+HoldsNoLineFeed bytes = All (λ b. is_line_feed b ≡ false) bytes
+
+-- Line numbers stay at the greatest number of 32 bits.
+abbrev pub line_number : ℕ → ℕ
+line_number n = min n (2 ^ 32 - 1)
 
 -- what the line gives to its logical line: its text without the `\` that joins it
 abbrev pub without_continuation : Physical → List ℕ

@@ -1,8 +1,24 @@
 -- Trusted: Parts of the definitions of Text, by names of their own.
 use Rattle.std.specs.Char.{is_digit}
 use Rattle.std.specs.List.{list_all}
-use Rattle.std.specs.Prelude.{Bool, List, [], drop, if◌then◌else◌, length, nat_lt, neg_ℤ, pos, ℕ, ℤ, ◌&&◌, ◌-◌, ◌==◌, ◌^◌, ◌||◌, ◌∷◌}
-use Rattle.kc_language.specs.Text.{byte, has_hex_prefix}
+use Rattle.std.specs.Prelude.{Bool, List, [], drop, if◌then◌else◌, length, min, nat_lt, neg_ℤ, pos, ℕ, ℤ, ◌&&◌, ◌+◌, ◌-◌, ◌==◌, ◌^◌, ◌||◌, ◌∷◌}
+use Rattle.kc_language.specs.Text.{byte, has_hex_prefix, most_open}
+
+-- levels of `!` and `(` that are open at once in an expression
+abbrev pub most_levels : ℕ
+most_levels = most_open
+
+-- Kconfig files that are open at once
+abbrev pub most_files : ℕ
+most_files = most_open
+
+-- blocks that are open at once
+abbrev pub most_blocks : ℕ
+most_blocks = most_open
+
+-- A count of lines goes up by one, and stays at the greatest number of 64 bits.
+abbrev pub one_more : ℕ → ℕ
+one_more n = min (n + 1) (2 ^ 64 - 1)
 
 -- the greatest number of 64 bits
 abbrev pub last_count : ℕ

@@ -1,14 +1,27 @@
 -- For proofs: Parts of the definitions of Tokens, by names of their own.
-use Rattle.std.specs.Prelude.{IsTrue, List, length, slice_index, take, ℕ, ◌++◌, ◌∷◌, ◌≡◌, ◌≤◌}
-use Rattle.kc_language.specs.Tokens.{IsQuotedBody, Lexeme, Spells, is_blank}
+use Rattle.std.specs.Prelude.{IsTrue, List, length, slice_index, take, ℕ, ◌++◌, ◌∷◌, ◌≡◌, ◌≤◌, ◌⊎◌}
+use Rattle.kc_language.specs.Text.{byte}
+use Rattle.kc_language.specs.Tokens.{IsMacro, IsQuotedBody, Lexeme, Spells, is_blank}
+use Rattle.kc_language.specs.declared.tokens.TextFault.{TextFault}
 
 -- the quoted text that body begins with ends after inside
 abbrev pub EndsQuoted : ℕ → List ℕ → List ℕ → Type 0
 EndsQuoted q body inside = IsQuotedBody q inside × ((more : List ℕ) × (body ≡ inside ++ q ∷ more))
 
+abbrev pub IsQuote : ℕ → Type 0
+IsQuote q = (q ≡ byte "\"") ⊎ (q ≡ byte "'")
+
+-- Nothing is left of the line, or only a comment.
+abbrev pub IsEnd : List ℕ → Type 0
+IsEnd rest = (length rest ≡ 0) ⊎ (slice_index rest 0 ≡ byte "#")
+
 -- a blank is in front
 abbrev pub IsAtBlank : List ℕ → Type 0
 IsAtBlank rest = IsTrue (is_blank (slice_index rest 0))
+
+-- why no token stands here
+abbrev pub IsReason : List ℕ → TextFault → Type 0
+IsReason rest = elim [ TextFault.Macro ↦ IsMacro rest | TextFault.BadToken ↦ (IsMacro rest → ⊥) | _ ↦ ⊥ ]
 
 -- no front spells a token
 abbrev pub HasNoToken : List ℕ → Type 0
