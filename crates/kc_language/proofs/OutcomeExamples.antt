@@ -10,13 +10,14 @@ use Rattle.kc_language.specs.Expansion.{AreOpened, Expands, Files, Log, NextStat
 use Rattle.kc_language.specs.Expressions.{Atom, Disjunction, OperandToken, QuotedAtom, Single, Symbol, Text, TextValue, Truth, WordAtom, conjunction, lone, negation, only, symbol, terminal_of}
 use Rattle.kc_language.specs.Lines.{Physical, UnreadLines, continues, joined_text, physical_lines, unread_lines}
 use Rattle.kc_language.specs.Needs.{IsAccepted}
-use Rattle.kc_language.specs.Outcome.{IsAcceptedTree, IsOutcome, IsOutcomeOfReading, Options, Outcome, accepted_tree, is_read_by_make, read_of, root_file, rule_text, streams, unreadable_line, whole}
-use Rattle.kc_language.specs.Statements.{ConfigLine, DefaultLine, LineContext, Located, Named, ReadsLine, ReadsType, ReadsValue, TypeLine}
+use Rattle.kc_language.specs.Outcome.{IsAcceptedTree, IsOutcome, IsOutcomeOfReading, Options, Outcome, accepted_tree, first_line, is_read_by_make, read_of, root_file, rule_text, run_error_text, streams, whole}
+use Rattle.kc_language.specs.Statements.{ConfigLine, DefaultLine, LineContext, Located, Named, ReadsLine, ReadsType, ReadsValue, TypeLine, error_line}
 use Rattle.kc_language.specs.Symbols.{IsTreeOf, SymbolShown, TreeFacts}
 use Rattle.kc_language.specs.Text.{longest_line, natural_of, unescape}
 use Rattle.kc_language.specs.Texts.{IsSolution, Solution, config_text, header_text, minimal_text, value_of}
 use Rattle.kc_language.specs.Tokens.{AQuoted, AWord, IsCut, Lexeme, ended, is_word_byte, skipped, taken}
 use Rattle.kc_language.specs.Values.{GivenTruth, IsOnlySolution, Solves, equations, rhs}
+use Rattle.kc_language.specs.declared.diagnostics.RunError.{RunError}
 use Rattle.kc_language.specs.declared.expressions.SymbolType.{SymbolType}
 use Rattle.kc_language.specs.declared.expressions.SymbolType.TheVariants.{Bool as IsBool, Int}
 use Rattle.kc_language.specs.declared.expressions.Tri.TheVariants.{Y}
@@ -36,7 +37,7 @@ rule_of_two = refl
 star_is_unreadable : is_read_by_make (codes "boards/*") ≡ false
 star_is_unreadable = refl
 
-star_error : unreadable_line (codes "boards/*") ≡ codes "error E23: make cannot read the name boards/*\n"
+star_error : error_line (run_error_text (RunError.UnreadableName (first_line (codes "boards/*")))) ≡ codes "error E23: make cannot read the name boards/*\n"
 star_error = refl
 
 -- ---- A whole run: its two input files

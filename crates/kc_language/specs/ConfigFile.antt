@@ -1,16 +1,7 @@
 -- Trusted: 10. ConfigFile: what reading a `.config` and its fragments gives: the user's values, and the warnings K7 to K10 and K15.
--- Source: our own, in the manner of the kernel's `conf` and kconfiglib (docs/language.md, "The `.config` file").
--- A text is a list of bytes. `elim x [ p ↦ a | q ↦ b ]` is a if x is p, and b if x is q. The last definition, `reading_of`, is the result.
-use Rattle.std.specs.{Char.is_ascii_digit, Option.option_map_or, Str.Lines.strip_carriage_return}
-use Rattle.std.specs.List.{enumerate_from, last_or, list_all, list_any, position_or_len, slice_split, suffix_len}
-use Rattle.std.specs.Prelude.{Bool, List, None, Option, Some, [], bytes_eq, codes, drop, false, filter_map, find, flat_map, if◌then◌else◌, is_some, length, min, nat_le, nat_lt, not, option_and_then, option_map, position, replicate, slice_index, slice_index_or, take, take_while, true, ℕ, ◌&&◌, ◌++◌, ◌+◌, ◌-◌, ◌==◌, ◌^◌, ◌∷◌, ◌≡◌}
-use Rattle.kc_language.specs.Expressions.{is_name_byte, same_name, symbol, tri_text}
-use Rattle.kc_language.specs.Lines.{is_line_feed}
-use Rattle.kc_language.specs.Symbols.{TreeFacts, Warning, located_warning}
-use Rattle.kc_language.specs.Text.{byte, escape, hex_of, int_of, longest_input_line, longest_prefix, longest_value, unescape}
-use Rattle.kc_language.specs.Tokens.{is_blank}
-use Rattle.kc_language.specs.Values.{ChoicePlace, GivenText, GivenTruth, GivenValue, Member, SymbolPlace, UserPlace, facts, is_yes, name, same_given, type_in}
-use Rattle.kc_language.specs.declared.{diagnostics.Warning.TheVariants.{Changed, MalformedLine, NotAllowed, SetAgain, UnknownSymbol}, expressions.{SymId.SymId, SymbolType.{SymbolType, TheVariants.{Bool as IsBool, Hex, Int, Str, Tristate, Undefined}}, Tri.{TheVariants.{M, N, Y}, Tri}}}
+-- Source: our own, in the manner of the kernel's `conf` and kconfiglib (docs/language.md, "The `.config` file"). The result is `reading_of`, at the end.
+use Rattle.std.specs.{Char.is_ascii_digit, List.{enumerate_from, last_or, list_all, list_any, position_or_len, slice_split, suffix_len}, Option.option_map_or, Str.Lines.strip_carriage_return, Prelude.{Bool, List, None, Option, Some, [], bytes_eq, codes, drop, false, filter_map, find, flat_map, if◌then◌else◌, is_some, length, min, nat_le, nat_lt, not, option_and_then, option_map, position, replicate, slice_index, slice_index_or, take, take_while, true, ℕ, ◌&&◌, ◌++◌, ◌+◌, ◌-◌, ◌==◌, ◌^◌, ◌∷◌, ◌≡◌}}
+use Rattle.kc_language.specs.{Expressions.{is_name_byte, same_name, symbol, tri_text}, Lines.is_line_feed, Symbols.{TreeFacts, Warning, located_warning}, Text.{byte, escape, hex_of, int_of, longest_input_line, longest_prefix, longest_value, unescape}, Tokens.is_blank, Values.{ChoicePlace, GivenText, GivenTruth, GivenValue, Member, SymbolPlace, UserPlace, facts, is_yes, name, same_given, type_in}, declared.{diagnostics.Warning.TheVariants.{Changed, MalformedLine, NotAllowed, SetAgain, UnknownSymbol}, expressions.{SymId.SymId, SymbolType.{SymbolType, TheVariants.{Bool as IsBool, Hex, Int, Str, Tristate, Undefined}}, Tri.{TheVariants.{M, N, Y}, Tri}}}}
 
 -- A prefix, such as `CONFIG_`: at most 64 bytes that may stand in a name. The first is no digit.
 abbrev pub is_prefix : List ℕ → Bool
@@ -40,8 +31,7 @@ unset_name prefix text =
 abbrev pub name_and_value : List ℕ → List ℕ → Option (List ℕ × List ℕ)
 name_and_value prefix text =
     option_and_then (λ rest. let n = position_or_len (λ b. b == byte "=") rest in
-    if nat_lt 0 n && nat_lt n (length rest) then Some (take n rest, drop (n + 1) rest) else None)
-    (without_prefix prefix text)
+    if nat_lt 0 n && nat_lt n (length rest) then Some (take n rest, drop (n + 1) rest) else None) (without_prefix prefix text)
 
 -- What a line says. Blanks at its end do not count. An unset line is looked for first. A comment's first byte that is no blank is `#`.
 abbrev pub meaning_of : List ℕ → List ℕ → LineMeaning
@@ -77,20 +67,15 @@ pub data Effect : Type 0 where
   Warns : Warning → Effect
   Assigns : SymId → GivenValue → Effect
 
--- A set line gives the symbol the value. An unset line gives a bool or tristate symbol n, and does nothing to other types.
--- K7: no symbol of this name has a type. K8: the value is too long, or the type does not allow it.
+-- A set line gives its value, an unset line gives a bool or tristate n. K7: no symbol of this name has a type. K8: the value is not allowed.
 abbrev pub set_by_type : List ℕ → SymId → List ℕ → SymbolType → Effect
 set_by_type called s text Undefined = Warns (UnknownSymbol called)
 set_by_type called s text kind =
     elim (if nat_le (length text) longest_value then value_by kind text else None) [ None ↦ Warns (NotAllowed called) | Some given ↦ Assigns s given ]
 
 abbrev pub unset_by_type : List ℕ → SymId → SymbolType → Effect
-unset_by_type called s kind = elim kind [
-  | Undefined ↦ Warns (UnknownSymbol called)
-  | IsBool ↦ Assigns s (GivenTruth N)
-  | Tristate ↦ Assigns s (GivenTruth N)
-  | _ ↦ Silent
-]
+unset_by_type called s Undefined = Warns (UnknownSymbol called)
+unset_by_type called s kind = elim kind [ IsBool ↦ Assigns s (GivenTruth N) | Tristate ↦ Assigns s (GivenTruth N) | _ ↦ Silent ]
 
 abbrev pub symbol_named : TreeFacts → List ℕ → Option SymId
 symbol_named tree called = option_map symbol (position (same_name called) tree.names)
@@ -152,15 +137,10 @@ pub record ArePlacesOf (tree : TreeFacts) (places : Places) : Type 0 where
   pub symbols : length places.symbols ≡ length tree.symbols
   pub choices : length places.choices ≡ length tree.choices
 
--- A symbol gets a value. A member of choice c that gets y is chosen in c.
+-- A symbol gets a value.
 pub record Assignment : Type 0 where
   pub symbol : SymId
   pub given : GivenValue
-
-abbrev pub chosen_in : TreeFacts → ℕ → Assignment → Option SymId
-chosen_in tree c a =
-    if is_yes a.given && elim (option_and_then (λ f. f.choice) (facts tree a.symbol)) [ None ↦ false | Some d ↦ d == c ]
-    then Some a.symbol else None
 
 -- f of each element and its index, where the first has index n.
 abbrev pub each_from : {A B : Type 0} → (ℕ → A → B) → ℕ → List A → List B
@@ -171,7 +151,9 @@ each_from f n (x ∷ xs) = f n x ∷ each_from f (n + 1) xs
 unfoldable pub places_given : TreeFacts → Places → List Assignment → Places
 places_given tree places given = record {
   symbols = each_from (λ i old. last_or old (filter_map (λ a. if a.symbol.0 == i then Some a.given else None) given)) 0 places.symbols;
-  choices = each_from (λ c old. last_or old (filter_map (chosen_in tree c) given)) 0 places.choices;
+  choices = each_from (λ c old. last_or old (filter_map (λ a.
+      if is_yes a.given && elim (option_and_then (λ f. f.choice) (facts tree a.symbol)) [ None ↦ false | Some d ↦ d == c ]
+      then Some a.symbol else None) given)) 0 places.choices;
 }
 
 -- What files gave so far: values, the line that gave each last (an empty list without --warn-lost), and whether all lines were taken as written.
@@ -204,22 +186,17 @@ value_text kind given = elim given [ GivenTruth t ↦ tri_text t | GivenText tex
 
 -- The warning K7, K8 or K9 of a line; or K10, if the symbol has a value already.
 abbrev pub effect_warning : TreeFacts → Places → Effect → Option Warning
-effect_warning tree places e = elim e [
-  | Silent ↦ None
-  | Warns w ↦ Some w
-  | Assigns s given ↦ if is_some (place_at places (SymbolPlace s.0)) then Some (SetAgain (name tree s)) else None
-]
+effect_warning tree places e =
+    elim e [ Silent ↦ None | Warns w ↦ Some w | Assigns s given ↦ if is_some (place_at places (SymbolPlace s.0)) then Some (SetAgain (name tree s)) else None ]
 
 -- The line of a warning. K15: a line gives the symbol another value than an earlier line, if that line is known.
 abbrev pub warning_line : List ℕ → ℕ → Warning → List ℕ
 warning_line stream number w = located_warning stream number w ++ codes "\n"
 
-abbrev pub change_line : StreamLocation → List ℕ → SymbolType → GivenValue → StreamLocation → GivenValue → List ℕ
-change_line at called kind old from given =
-    warning_line at.stream at.number (Changed called (value_text kind old) from.stream from.number (value_text kind given))
-
 abbrev pub change_text : StreamLocation → List ℕ → SymbolType → Option GivenValue → Option StreamLocation → GivenValue → List ℕ
-change_text at called kind (Some old) (Some from) given = if same_given old given then [] else change_line at called kind old from given
+change_text at called kind (Some old) (Some from) given =
+    if same_given old given then []
+    else warning_line at.stream at.number (Changed called (value_text kind old) from.stream from.number (value_text kind given))
 change_text at called kind _ _ given = []
 
 -- What a reading gives: the user's input, the lines of diagnostics, and the line that stopped it because it is too long.

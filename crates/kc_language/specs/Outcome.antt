@@ -1,10 +1,7 @@
 -- Trusted: 12. Outcome: the texts, the diagnostics and the status that a run is to leave.
 -- Our own, except for the syntax of a dependency file, which is GNU make's. Everything here is a part of `IsOutcome`, at the end.
-use Rattle.std.specs.{List.list_any, Option.option_map_or, Prelude.{Bool, Contains, Err, IsUtf8, List, None, Ok, Option, Some, [], codes, decimal, false, flat_map, if◌then◌else◌, length, map, nat_le, not, option_map, slice_get, string_bytes, true, ℕ, ◌&&◌, ◌++◌, ◌-◌, ◌==◌, ◌||◌, ◌∷◌, ◌≡◌}}
-use Rattle.kc_language.specs.{ConfigFile.{Places, ReadResult, Stream, StreamLocation, UserInput, no_input, reading_of}, Expansion.{AreOpened, Files, Refused, SourceNames}}
-use Rattle.kc_language.specs.{Expressions.{all_mentioned, same_name}, Lines.unread_lines, Needs.{IsAccepted, IsLoopText, loop_refused}, Statements.{cause_text, error_at, error_line}}
-use Rattle.kc_language.specs.{Symbols.{IsTreeOf, TreeFacts, Warning}, Text.{byte, longest_input_line}, Texts.{IsSolution, Solution, config_text, header_text, lost_lines, minimal_text, solution_view, value_warnings, warnings}}
-use Rattle.kc_language.specs.declared.{diagnostics.{RunError.RunError, Warning.TheVariants.UserOutside}, outcome.{Options.Options as AnyOptions, Position.Position, Status.Status}}
+use Rattle.std.specs.{List.list_any, Option.option_map_or, Prelude.{Bool, Err, List, None, Ok, Option, Some, [], codes, decimal, false, find, flat_map, if◌then◌else◌, length, map, nat_le, not, option_map, slice_get, string_bytes, true, ℕ, ◌&&◌, ◌++◌, ◌-◌, ◌==◌, ◌||◌, ◌∷◌, ◌≡◌}}
+use Rattle.kc_language.specs.{ConfigFile.{Places, ReadResult, Stream, StreamLocation, UserInput, no_input, reading_of}, Expansion.{AreOpened, Files, Refused}, Expressions.{all_mentioned, same_name}, Needs.{IsAccepted, IsLoopText, loop_refused}, Statements.{cause_text, error_at, error_line}, Symbols.{IsTreeOf, TreeFacts, Warning}, Text.{byte, longest_input_line}, Texts.{IsSolution, Solution, config_text, header_text, lost_lines, minimal_text, solution_view, value_warnings, warnings}, declared.{diagnostics.{RunError.RunError, Warning.TheVariants.UserOutside}, outcome.{Options.Options as AnyOptions, Position.Position, Status.Status}}}
 
 -- The options of a run, the root file, the file of --out (the target in a dependency file), and how a diagnostic of no line of the `.config` begins.
 abbrev pub Options : Type 0
@@ -19,17 +16,14 @@ target options = option_map_or string_bytes options.out []
 abbrev pub lead : Options → List ℕ
 lead options = if options.names_config then string_bytes options.config ++ codes ": " else []
 
--- The names of the input files (the `.config`, then the fragments), and those in diagnostics. Are their warnings reported once all are read?
+-- The names of the input files (the `.config`, then the fragments), and their names in diagnostics.
 abbrev pub input_files : Options → List (List ℕ)
 input_files options = string_bytes options.config ∷ map string_bytes options.fragments.items
 
 abbrev pub names_of : Options → List (List ℕ)
 names_of options = string_bytes options.config ∷ map (λ name. lead options ++ string_bytes name) options.fragments.items
 
-abbrev pub holds_warnings : Options → Bool
-holds_warnings options = options.strict || options.strict_tree
-
--- the text of each error of a run, and the error lines of some; an unreadable name is reported up to its first line feed
+-- The text of each error of a run. A name that make cannot read is reported up to its first line feed.
 abbrev pub run_error_text : RunError (List ℕ) → List ℕ
 run_error_text RunError.LineTooLong = codes "E17: line longer than " ++ decimal longest_input_line ++ codes " bytes"
 run_error_text (RunError.CannotRead name) = codes "E18: cannot read " ++ name
@@ -39,36 +33,16 @@ run_error_text RunError.WarningsRefused = codes "E21: warnings are refused"
 run_error_text (RunError.NotUpToDate name) = codes "E22: " ++ name ++ codes " is not up to date"
 run_error_text (RunError.UnreadableName name) = codes "E23: make cannot read the name " ++ name
 
-abbrev pub out_of_memory_line : List ℕ
-out_of_memory_line = error_line (run_error_text RunError.Memory)
-
-abbrev pub cannot_read_line : List ℕ → List ℕ
-cannot_read_line name = error_line (run_error_text (RunError.CannotRead name))
-
-abbrev pub cannot_write_line : List ℕ → List ℕ
-cannot_write_line name = error_line (run_error_text (RunError.CannotWrite name))
-
-abbrev pub stale_line : List ℕ → List ℕ
-stale_line name = error_line (run_error_text (RunError.NotUpToDate name))
-
-abbrev pub too_long_line : StreamLocation → List ℕ
-too_long_line stop = error_at stop.stream stop.number (run_error_text RunError.LineTooLong)
-
 abbrev pub first_line : List ℕ → List ℕ
 first_line [] = []
 first_line (b ∷ rest) = if b == byte "\n" then [] else b ∷ first_line rest
 
-abbrev pub unreadable_line : List ℕ → List ℕ
-unreadable_line name = error_line (run_error_text (RunError.UnreadableName (first_line name)))
-
 -- the one error line of a refused tree, at its location if it has one
-abbrev pub error_if_at : Option (List ℕ × ℕ) → List ℕ → List ℕ
-error_if_at location = elim location [ None ↦ error_line | Some place ↦ error_at place.0 place.1 ]
-
 abbrev pub refusal_line : Refused → List ℕ
-refusal_line r = error_if_at r.location (cause_text r.cause)
+refusal_line r =
+    let text = cause_text r.cause in elim r.location [ None ↦ error_line text | Some place ↦ error_at place.0 place.1 text ]
 
--- ---- The order in which a folder is asked for a tree's files
+-- ---- The dependency file
 -- the path of a file: DIR/NAME, or the name itself if it begins with `/`
 abbrev pub begins_with_slash : List ℕ → Bool
 begins_with_slash name = elim name [ [] ↦ false | b ∷ rest ↦ b == byte "/" ]
@@ -76,49 +50,20 @@ begins_with_slash name = elim name [ [] ↦ false | b ∷ rest ↦ b == byte "/"
 abbrev pub path_of : List ℕ → List ℕ → List ℕ
 path_of dir name = if begins_with_slash name then name else dir ++ byte "/" ∷ name
 
--- the names of a file's `source` lines, in order; if there is no file, there are none
-abbrev pub AreSources : List ℕ → List (List ℕ) → Type 0
-AreSources bytes names = SourceNames (unread_lines bytes 1) names
-
-abbrev pub AreSourcesOf : Option (List ℕ) → List (List ℕ) → Type 0
-AreSourcesOf file = elim file [ None ↦ λ names. names ≡ [] | Some bytes ↦ AreSources bytes ]
-
--- What is asked for along these names, where others were asked for before: each new name, then what is asked for along the `source` lines of its
--- file, and then what is asked for along the names after it. A new name is UTF-8 and was not asked for before.
-abbrev pub IsNew : List (List ℕ) → List ℕ → Type 0
-IsNew before name = IsUtf8 name × (Contains before name → ⊥)
-
-pub data AskedAlong (files : Files) : List (List ℕ) → List (List ℕ) → List (List ℕ) → Type 0 where
-  ended : (before : List (List ℕ)) → AskedAlong files before [] []
-  passed : (before names asked : List (List ℕ)) (name : List ℕ) → (IsNew before name → ⊥) → AskedAlong files before names asked →
-      AskedAlong files before (name ∷ names) asked
-  asked : (before names sources inside behind : List (List ℕ)) (name : List ℕ) → IsNew before name → AreSourcesOf (files name) sources →
-      AskedAlong files (before ++ name ∷ []) sources inside → AskedAlong files (before ++ name ∷ inside) names behind →
-      AskedAlong files before (name ∷ names) (name ∷ inside ++ behind)
-
--- what is asked for from a first name on: depth first, each name once
-abbrev pub AskedInOrder : Files → List ℕ → List (List ℕ) → Type 0
-AskedInOrder files first names = AskedAlong files [] (first ∷ []) names
-
--- ---- The dependency file
 -- Make gives these bytes a meaning at this position, unless a `\` stands before them.
-abbrev pub is_special_at : Position → ℕ → Bool
-is_special_at at = elim at [ Position.Target ↦ λ b. b == byte "%" | Position.Prerequisite ↦ λ b. b == byte "|" ]
-
 abbrev pub is_special : Position → ℕ → Bool
-is_special at b = b == byte " " || b == byte "\t" || b == byte "#" || b == byte ":" || is_special_at at b
+is_special at b = b == byte " " || b == byte "\t" || b == byte "#" || b == byte ":"
+    || elim at [ Position.Target ↦ b == byte "%" | Position.Prerequisite ↦ b == byte "|" ]
 
 -- A `\` is written before such a byte, and before each `\` that only `\`s separate from such a byte or from the end of the name. `$` is doubled.
 abbrev pub needs_backslash : Position → List ℕ → Bool
 needs_backslash at [] = true
 needs_backslash at (b ∷ rest) = if b == byte "\\" then needs_backslash at rest else is_special at b
 
-abbrev pub escaped_byte : Bool → ℕ → List ℕ
-escaped_byte with_backslash b = (if with_backslash then codes "\\" else []) ++ (if b == byte "$" then codes "$" else []) ++ b ∷ []
-
 abbrev pub escaped : Position → List ℕ → List ℕ
 escaped at [] = []
-escaped at (b ∷ rest) = escaped_byte (needs_backslash at (b ∷ rest)) b ++ escaped at rest
+escaped at (b ∷ rest) =
+    ((if needs_backslash at (b ∷ rest) then codes "\\" else []) ++ (if b == byte "$" then codes "$" else []) ++ b ∷ []) ++ escaped at rest
 
 -- the rule of `out` with each prerequisite on a line of its own, and an empty rule for each; ` |` closes a rule that would end in `\`
 abbrev pub ends_in : List ℕ → List ℕ → Bool
@@ -133,9 +78,9 @@ rule_text out names =
 -- Make reads the name correctly in every position of a rule: it holds no NUL, no white space but ` ` and none of `=;*?[`, and ends in none of ` &)`.
 -- Without each `./` at its start, which make ignores, it is no home folder (`~`), no library (`-lNAME`) and no special target.
 abbrev pub special_targets : List (List ℕ)
-special_targets = codes ".DEFAULT" ∷ codes ".DELETE_ON_ERROR" ∷ codes ".EXPORT_ALL_VARIABLES" ∷ codes ".IGNORE" ∷ codes ".INTERMEDIATE"
-    ∷ codes ".LOW_RESOLUTION_TIME" ∷ codes ".NOTINTERMEDIATE" ∷ codes ".NOTPARALLEL" ∷ codes ".ONESHELL" ∷ codes ".PHONY" ∷ codes ".POSIX"
-    ∷ codes ".PRECIOUS" ∷ codes ".SECONDARY" ∷ codes ".SECONDEXPANSION" ∷ codes ".SILENT" ∷ codes ".SUFFIXES" ∷ codes ".WAIT" ∷ []
+special_targets = map codes (".DEFAULT" ∷ ".DELETE_ON_ERROR" ∷ ".EXPORT_ALL_VARIABLES" ∷ ".IGNORE" ∷ ".INTERMEDIATE" ∷ ".LOW_RESOLUTION_TIME"
+    ∷ ".NOTINTERMEDIATE" ∷ ".NOTPARALLEL" ∷ ".ONESHELL" ∷ ".PHONY" ∷ ".POSIX" ∷ ".PRECIOUS" ∷ ".SECONDARY" ∷ ".SECONDEXPANSION" ∷ ".SILENT"
+    ∷ ".SUFFIXES" ∷ ".WAIT" ∷ [])
 
 abbrev pub without_dots : Bool → List ℕ → List ℕ
 without_dots behind_dot [] = []
@@ -153,53 +98,35 @@ abbrev pub is_read_by_make : List ℕ → Bool
 is_read_by_make name = not (list_any (λ b. b == 0 || nat_le 9 b && nat_le b 13 || list_any (λ c. c == b) (codes "=;*?[")) name)
     && not (ends_in (codes " &)") name) && is_plain (without_dots false name)
 
-abbrev pub first_unreadable : List (List ℕ) → Option (List ℕ)
-first_unreadable [] = None
-first_unreadable (name ∷ names) = if is_read_by_make name then first_unreadable names else Some name
-
--- The prerequisites, if a dependency file is wanted, each once: the files that the tree opens, by their paths, then the `.config`, unless it is the
--- file of --out, and the fragments; and the first name of the rule that make cannot read.
+-- If a dependency file is wanted: each prerequisite once (the files that the tree opens, then the input files, but a `.config` only if it is not the
+-- file of --out); and the first name of the rule that make cannot read.
 abbrev pub names_listed : Options → List (List ℕ) → Option (List (List ℕ))
 names_listed options opened =
     let inputs = if same_name (string_bytes options.config) (target options) then map string_bytes options.fragments.items else input_files options in
     option_map (λ name. all_mentioned [] (map (path_of (string_bytes options.root)) opened ++ inputs)) options.depfile
 
 abbrev pub unreadable_name : Options → List (List ℕ) → Option (List ℕ)
-unreadable_name options opened = option_map_or (λ names. first_unreadable (target options ∷ names)) (names_listed options opened) None
+unreadable_name options opened =
+    option_map_or (λ names. find (λ name. not (is_read_by_make name)) (target options ∷ names)) (names_listed options opened) None
 
 -- ---- The tree, the input files and the solution
 -- Why no tree is accepted: it is refused, or its symbols need one another in a loop.
 pub data IsRefusedTree (files : Files) (root : List ℕ) (r : Refused) : Type 0 where
   no_tree : IsTreeOf files root (Err r) → IsRefusedTree files root r
-  looped : (tree : TreeFacts) (text : List ℕ) → IsTreeOf files root (Ok tree) → IsLoopText tree text → r ≡ loop_refused text →
-      IsRefusedTree files root r
+  looped : (tree : TreeFacts) (text : List ℕ) → IsTreeOf files root (Ok tree) → IsLoopText tree text → r ≡ loop_refused text → IsRefusedTree files root r
 
 -- The tree is accepted: it is not refused, and no symbol of it is in a dependency loop.
 pub record IsAcceptedTree (files : Files) (root : List ℕ) (tree : TreeFacts) : Type 0 where
   pub built : IsTreeOf files root (Ok tree)
   pub accepted : IsAccepted tree
 
--- Make can read each name of the rule. Or the tree is accepted, and this is the first name that make cannot read.
-abbrev pub NamesAreRead : Files → Options → Type 0
-NamesAreRead files options = (opened : List (List ℕ)) → AreOpened files (root_file options) opened → unreadable_name options opened ≡ None
-
-pub record IsRefusedName (files : Files) (options : Options) (name : List ℕ) : Type 0 where
-  pub tree : TreeFacts
-  pub accepted : IsAcceptedTree files (root_file options) tree
-  pub opened : List (List ℕ)
-  pub are_opened : AreOpened files (root_file options) opened
-  pub unreadable : unreadable_name options opened ≡ Some name
-
 -- what reading the input files of these bytes gives, one after another; the lines of values are kept for the warnings of lost ones
 abbrev pub streams : List (List ℕ) → List (List ℕ) → List Stream
 streams (name ∷ names) (bytes ∷ all) = record { name = name; bytes = bytes } ∷ streams names all
 streams _ _ = []
 
-abbrev pub fresh_input : Options → TreeFacts → UserInput
-fresh_input options tree = no_input options.warn_lost tree
-
 abbrev pub read_of : Options → TreeFacts → List (List ℕ) → ReadResult
-read_of options tree all = reading_of tree options.prefix (fresh_input options tree) (streams (names_of options) all)
+read_of options tree all = reading_of tree options.prefix (no_input options.warn_lost tree) (streams (names_of options) all)
 
 -- the one solution of the tree's equations for these user values
 pub record IsSolutionFor (tree : TreeFacts) (places : Places) (solution : Solution) : Type 0 where
@@ -214,14 +141,10 @@ lost_warnings options input solution = if options.warn_lost then lost_lines inpu
 abbrev pub is_outside : Warning → Bool
 is_outside warning = elim warning [ UserOutside name value low high ↦ true | _ ↦ false ]
 
--- The user's lines were all taken as written: none was warned of (K7 to K9) or changed what another gave, no user value that counts lies outside
--- its range, and none is reported as lost. --strict refuses anything else.
-abbrev pub is_taken : Options → UserInput → Solution → Bool
-is_taken options input solution =
-    input.all_taken && (not (list_any is_outside (value_warnings solution)) && (length (lost_warnings options input solution) == 0))
-
+-- --strict refuses a line that was not taken as written (K7 to K9, or it changed what another gave), a value outside its range, and a lost one.
 abbrev pub refuses_input : Options → UserInput → Solution → Bool
-refuses_input options input solution = options.strict && not (is_taken options input solution)
+refuses_input options input solution = options.strict
+    && not (input.all_taken && (not (list_any is_outside (value_warnings solution)) && (length (lost_warnings options input solution) == 0)))
 
 -- ---- The outcome
 -- The texts that a run is to leave (none for an output that it does not write), its warnings, the error line of a refusal, and the status.
@@ -234,9 +157,6 @@ pub record Outcome : Type 0 where
   pub refusal : List ℕ
   pub status : Status
 
-abbrev pub diagnostics_of : Outcome → List ℕ
-diagnostics_of outcome = outcome.warned ++ outcome.refusal
-
 -- an outcome with these warnings before its own; a refusal, which writes no file; and the refusal of an outcome for its warnings, which it keeps
 abbrev pub reported : List ℕ → Outcome → Outcome
 reported text outcome = record outcome { warned = text ++ outcome.warned }
@@ -248,25 +168,19 @@ abbrev pub refused_if : Options → Bool → Outcome → Outcome
 refused_if options refuses outcome =
     if refuses then record (refused (lead options ++ error_line (run_error_text RunError.WarningsRefused))) { warned = outcome.warned } else outcome
 
--- each line with its line feed; the text is such lines; the text is not empty
+-- each line with its line feed; the text is not empty
 abbrev pub lines_text : List (List ℕ) → List ℕ
 lines_text lines = flat_map (λ line. line ++ codes "\n") lines
-
-abbrev pub AreLines : List ℕ → Type 0
-AreLines text = (lines : List (List ℕ)) × (text ≡ lines_text lines)
 
 abbrev pub has_text : List ℕ → Bool
 has_text text = elim text [ [] ↦ false | _ ↦ true ]
 
 -- The files of a solution for the user's input, where they are wanted. The values' warnings are reported before, and then the values that are lost.
-abbrev pub text_if : {T : Type 0} → Option T → List ℕ → Option (List ℕ)
-text_if name = elim name [ None ↦ λ text. None | Some _ ↦ λ text. Some text ]
-
 abbrev pub warned_files : Options → TreeFacts → UserInput → Solution → Outcome
 warned_files options tree input solution = record {
-  config = text_if options.out (config_text tree options.prefix (solution_view solution));
-  header = text_if options.header (header_text tree options.prefix (solution_view solution));
-  minimal = text_if options.minimal (minimal_text tree options.prefix (solution_view solution));
+  config = option_map (λ file. config_text tree options.prefix (solution_view solution)) options.out;
+  header = option_map (λ file. header_text tree options.prefix (solution_view solution)) options.header;
+  minimal = option_map (λ file. minimal_text tree options.prefix (solution_view solution)) options.minimal;
   depfile = None;
   warned = lines_text (map (λ line. lead options ++ line) (warnings solution)) ++ lines_text (lost_warnings options input solution);
   refusal = [];
@@ -275,7 +189,8 @@ warned_files options tree input solution = record {
 
 -- What follows the tree's warnings: a line that is too long is refused; else it is the files of the one solution, unless --strict refuses them.
 pub data IsOutcomeOfReading (options : Options) (tree : TreeFacts) (read : ReadResult) (outcome : Outcome) : Type 0 where
-  long_line : (stop : StreamLocation) → read.stopped ≡ Some stop → outcome ≡ reported read.warned (refused (too_long_line stop)) →
+  long_line : (stop : StreamLocation) → read.stopped ≡ Some stop →
+      outcome ≡ reported read.warned (refused (error_at stop.stream stop.number (run_error_text RunError.LineTooLong))) →
       IsOutcomeOfReading options tree read outcome
   whole : (solution : Solution) → read.stopped ≡ None → IsSolutionFor tree read.input.places solution →
       outcome ≡ reported read.warned (refused_if options (refuses_input options read.input solution) (warned_files options tree read.input solution))
@@ -283,10 +198,10 @@ pub data IsOutcomeOfReading (options : Options) (tree : TreeFacts) (read : ReadR
 
 -- What a run leaves without --strict-tree and without a dependency file, if the tree opens these files and the input files hold these bytes.
 pub data IsLenientOutcome (files : Files) (options : Options) (opened all : List (List ℕ)) (outcome : Outcome) : Type 0 where
-  refused_tree : (r : Refused) → IsRefusedTree files (root_file options) r → outcome ≡ refused (refusal_line r) →
-      IsLenientOutcome files options opened all outcome
+  refused_tree : (r : Refused) → IsRefusedTree files (root_file options) r → outcome ≡ refused (refusal_line r) → IsLenientOutcome files options opened all outcome
   refused_name : (tree : TreeFacts) (name : List ℕ) → IsAcceptedTree files (root_file options) tree → unreadable_name options opened ≡ Some name →
-      outcome ≡ refused (lead options ++ unreadable_line name) → IsLenientOutcome files options opened all outcome
+      outcome ≡ refused (lead options ++ error_line (run_error_text (RunError.UnreadableName (first_line name)))) →
+      IsLenientOutcome files options opened all outcome
   accepted_tree : (tree : TreeFacts) → IsAcceptedTree files (root_file options) tree → unreadable_name options opened ≡ None →
       (rest : Outcome) × IsOutcomeOfReading options tree (read_of options tree all) rest × (outcome ≡ reported (lines_text tree.warnings) rest) →
       IsLenientOutcome files options opened all outcome

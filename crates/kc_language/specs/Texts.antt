@@ -1,15 +1,7 @@
 -- Trusted: 11. Texts: what a run writes: the `.config`, the header, the minimal file, and the warnings K11 to K14 about values.
 -- Source: our own, in the manner of the kernel's `conf` and kconfiglib (docs/language.md, "Texts"). At the end: what reading a written file again gives.
-use Rattle.std.specs.{List.{enumerate_from, last_or}, Option.option_map_or, Str.Lines.strip_carriage_return}
-use Rattle.std.specs.Prelude.{All, Bool, List, None, Option, Some, [], codes, false, filter, flat_map, if◌then◌else◌, is_some, length, map, not, option_map, slice_get, slice_index_or, take, true, ℕ, ◌++◌, ◌<◌, ◌==◌, ◌||◌, ◌↔◌, ◌∷◌, ◌≡◌}
-use Rattle.kc_language.specs.ConfigFile.{ArePlacesOf, Places, ReadResult, StreamLocation, Unset, is_within, lines_from, meaning_of, no_input, place_at, reading_of, text_in_config, value_text}
-use Rattle.kc_language.specs.Expressions.{SymbolValue, TextValue, Truth, tri_text}
-use Rattle.kc_language.specs.Lines.{is_line_feed}
-use Rattle.kc_language.specs.Symbols.{CommentShown, Condition, EndShown, MenuShown, Shown, SymbolFacts, SymbolShown, TreeFacts, Warning, located_warning, warning_line}
-use Rattle.kc_language.specs.Text.{byte, escape, has_hex_prefix}
-use Rattle.kc_language.specs.Tokens.{is_blank}
-use Rattle.kc_language.specs.Values.{GivenValue, IsOnlySolution, Solves, SymbolPlace, UserPlace, above, active_range, changes_on_reread, clamped, condition, differs, direct, equations, facts, first_met, given_of, if_within_range, is_n, is_within_range, known_from, name, name_count, number_text, same_given, selected_to, single_text, visibility, visible_text, written}
-use Rattle.kc_language.specs.declared.{diagnostics.Warning.TheVariants.{DefaultOutside, Lost, Selected, UserOutside}, expressions.{SymId.SymId, SymbolType.{SymbolType, TheVariants.{Bool as IsBool, Hex, Int, Str, Tristate, Undefined}}, Tri.{TheVariants.{M, N, Y}, Tri}}, values.Interval.Interval}
+use Rattle.std.specs.{List.{enumerate_from, last_or}, Option.option_map_or, Str.Lines.strip_carriage_return, Prelude.{All, Bool, List, None, Option, Some, [], codes, false, filter, flat_map, if◌then◌else◌, is_some, length, map, not, option_map, slice_get, slice_index_or, take, true, ℕ, ◌++◌, ◌<◌, ◌==◌, ◌||◌, ◌↔◌, ◌∷◌, ◌≡◌}}
+use Rattle.kc_language.specs.{ConfigFile.{ArePlacesOf, Places, ReadResult, StreamLocation, Unset, is_within, lines_from, meaning_of, no_input, place_at, reading_of, text_in_config, value_text}, Expressions.{SymbolValue, TextValue, Truth, tri_text}, Lines.is_line_feed, Symbols.{CommentShown, Condition, EndShown, MenuShown, Shown, SymbolFacts, SymbolShown, TreeFacts, Warning, located_warning, warning_line}, Text.{byte, escape, has_hex_prefix}, Tokens.is_blank, Values.{GivenValue, IsOnlySolution, Solves, SymbolPlace, UserPlace, above, active_range, changes_on_reread, clamped, condition, differs, direct, equations, facts, first_met, given_of, if_within_range, is_n, is_within_range, known_from, name, name_count, number_text, same_given, selected_to, single_text, visibility, visible_text, written}, declared.{diagnostics.Warning.TheVariants.{DefaultOutside, Lost, Selected, UserOutside}, expressions.{SymId.SymId, SymbolType.{SymbolType, TheVariants.{Bool as IsBool, Hex, Int, Str, Tristate, Undefined}}, Tri.{TheVariants.{M, N, Y}, Tri}}, values.Interval.Interval}}
 
 -- The line of a `.config`. `called` is the prefix with the symbol's name: `CONFIG_NAME`.
 abbrev pub config_file_line : List ℕ → SymbolValue → List ℕ
@@ -27,8 +19,7 @@ header_line called (Truth M) = codes "#define " ++ called ++ codes "_MODULE 1\n"
 header_line called (Truth Y) = codes "#define " ++ called ++ codes " 1\n"
 header_line called (TextValue Str text) = codes "#define " ++ called ++ codes " \"" ++ escape text ++ codes "\"\n"
 header_line called (TextValue Int text) = codes "#define " ++ called ++ codes " " ++ text ++ codes "\n"
-header_line called (TextValue Hex text) =
-    codes "#define " ++ called ++ codes " " ++ (if has_hex_prefix text then text else codes "0x" ++ text) ++ codes "\n"
+header_line called (TextValue Hex text) = codes "#define " ++ called ++ codes " " ++ (if has_hex_prefix text then text else codes "0x" ++ text) ++ codes "\n"
 header_line called _ = []
 
 -- What the files need of a solution: the value of a symbol, whether it is written, whether it differs, and the value of a condition.
@@ -48,8 +39,7 @@ title_lines text = codes "\n#\n# " ++ text ++ codes "\n#\n"
 abbrev pub shown_title : SolutionView → Option Shown → Option (List ℕ)
 shown_title solution e = elim e [ Some (MenuShown text when) ↦ if is_shown (solution.truth when) then Some text else None | _ ↦ None ]
 
--- An entry has lines: a symbol that is written, a title that is shown, and the end of a menu that is shown. Whether the last
--- of these entries that has lines is the end of a menu.
+-- An entry has lines if it is a symbol that is written, a title that is shown or the end of such a menu. Is the last entry that has lines an end?
 abbrev pub has_lines : TreeFacts → SolutionView → Shown → Bool
 has_lines tree solution (SymbolShown s) = solution.written s
 has_lines tree solution (MenuShown text when) = is_shown (solution.truth when)
@@ -113,19 +103,14 @@ module _ (tree : TreeFacts) (known : SymId → SymbolValue) where
       (option_map (λ g. single_text known g.what) (first_met tree known f.defaults))
 
   abbrev pub warnings_by_type : List ℕ → SymbolFacts → SymbolType → Option GivenValue → List Warning
-  warnings_by_type called f kind = elim kind [
-    | IsBool ↦ λ user. select_warnings called f
-    | Tristate ↦ λ user. select_warnings called f
-    | Int ↦ range_warnings called f
-    | Hex ↦ range_warnings called f
-    | _ ↦ λ user. []
-  ]
-
-  abbrev pub warnings_by_choice : List ℕ → SymbolFacts → Option ℕ → Option GivenValue → List Warning
-  warnings_by_choice called f c = elim c [ Some c ↦ λ user. [] | None ↦ warnings_by_type called f f.symbol_type ]
+  warnings_by_type called f IsBool user = select_warnings called f
+  warnings_by_type called f Tristate user = select_warnings called f
+  warnings_by_type called f Int user = range_warnings called f user
+  warnings_by_type called f Hex user = range_warnings called f user
+  warnings_by_type called f _ user = []
 
   abbrev pub warnings_of : List ℕ → Option SymbolFacts → Option GivenValue → List Warning
-  warnings_of called o = elim o [ None ↦ λ user. [] | Some f ↦ warnings_by_choice called f f.choice ]
+  warnings_of called o = elim o [ None ↦ λ user. [] | Some f ↦ elim f.choice [ None ↦ warnings_by_type called f f.symbol_type | _ ↦ λ user. [] ] ]
 
 -- A tree, the user's values, and the values of its symbols by number.
 pub record Solution : Type 0 where
@@ -166,13 +151,12 @@ abbrev pub warnings : Solution → List (List ℕ)
 warnings s = map warning_line (value_warnings s)
 
 -- K14: the value that the line `at` gave last is not the symbol's. Only symbols with a prompt have it, members of a choice too.
-abbrev pub lost_line : StreamLocation → List ℕ → SymbolType → GivenValue → GivenValue → List ℕ
-lost_line at called kind given value = located_warning at.stream at.number (Lost called (value_text kind given) (value_text kind value))
-
 abbrev pub lost_by : List ℕ → SymbolType → Option StreamLocation → Option GivenValue → GivenValue → List (List ℕ)
 lost_by called kind at None value = []
-lost_by called kind (Some at) (Some given) value = if same_given given value then [] else lost_line at called kind given value ∷ []
-lost_by called kind None _ value = []
+lost_by called kind (Some at) (Some given) value =
+    if same_given given value then []
+    else located_warning at.stream at.number (Lost called (value_text kind given) (value_text kind value)) ∷ []
+lost_by called kind _ _ value = []
 
 abbrev pub has_prompt : List Condition → Bool
 has_prompt cs = elim cs [ [] ↦ false | _ ↦ true ]
@@ -190,26 +174,18 @@ lost_lines lines s = flat_map (λ i. lost_of (name s.tree i) (facts s.tree i) (s
 abbrev pub read_alone : TreeFacts → List ℕ → List ℕ → List ℕ → ReadResult
 read_alone tree prefix stream text = reading_of tree prefix (no_input false tree) (record { name = stream; bytes = text } ∷ [])
 
--- V is the only solution for these user values. No solution for them is V.
+-- V is the only solution for these user values.
 pub record IsOneSolution (tree : TreeFacts) (places : Places) (V : ℕ → SymbolValue) : Type 0 where
   pub solves : Solves (name_count tree) (equations tree (place_at places)) V
   pub only : IsOnlySolution (name_count tree) (equations tree (place_at places)) V
 
-abbrev pub HasOtherSolution : TreeFacts → Places → (ℕ → SymbolValue) → Type 0
-HasOtherSolution tree places V =
-    (W : ℕ → SymbolValue) → Solves (name_count tree) (equations tree (place_at places)) W → ((i : ℕ) → i < name_count tree → W i ≡ V i) → ⊥
-
 -- Reading the minimal file of a solution gives the same solution.
 abbrev pub MinimalGivesBack : TreeFacts → List ℕ → Places → (ℕ → SymbolValue) → Type 0
 MinimalGivesBack tree prefix places V =
-    (stream : List ℕ) →
-    let read = read_alone tree prefix stream (minimal_text tree prefix (valuation_view tree (place_at places) V)) in
+    (stream : List ℕ) → let read = read_alone tree prefix stream (minimal_text tree prefix (valuation_view tree (place_at places) V)) in
     (read.stopped ≡ None) × IsOneSolution tree read.input.places V
 
--- The minimal file needs each of its lines: with some lines left out, reading it does not give the solution.
-abbrev pub IsOneLine : List ℕ → Type 0
-IsOneLine text = (body : List ℕ) × (text ≡ body ++ codes "\n") × All (λ b. is_line_feed b ≡ false) body
-
+-- The minimal file needs each of its lines: with some lines left out, reading it gives values for which no solution is this one.
 abbrev pub MinimalNeedsEach : TreeFacts → List ℕ → Places → (ℕ → SymbolValue) → Type 0
 MinimalNeedsEach tree prefix places V =
     (stream : List ℕ) (keep : SymId → Bool) (s : SymId) →
@@ -217,17 +193,17 @@ MinimalNeedsEach tree prefix places V =
     let view = valuation_view tree (place_at places) V in
     let kept = flat_map (λ t. if keep t then (if view.differs t then symbol_config tree prefix view t else []) else []) tree.defined in
     let read = read_alone tree prefix stream kept in
-    IsOneLine (symbol_config tree prefix view s) × (read.stopped ≡ None) × HasOtherSolution tree read.input.places V
+    ((body : List ℕ) × (symbol_config tree prefix view s ≡ body ++ codes "\n") × All (λ b. is_line_feed b ≡ false) body)
+    × (read.stopped ≡ None)
+    × ((W : ℕ → SymbolValue) → Solves (name_count tree) (equations tree (place_at read.input.places)) W → ((i : ℕ) → i < name_count tree → W i ≡ V i) → ⊥)
 
 -- No written int or hex value ends in a blank or a carriage return.
 abbrev pub EndsPlainly : List ℕ → Type 0
 EndsPlainly text = (front : List ℕ) (b : ℕ) → text ≡ front ++ b ∷ [] → (is_blank b || b == byte "\r") ≡ false
 
-abbrev pub IsPlainNumber : SymbolValue → Type 0
-IsPlainNumber v = elim v [ TextValue Int text ↦ EndsPlainly text | TextValue Hex text ↦ EndsPlainly text | _ ↦ Unit {0} ]
-
 abbrev pub HasPlainNumbers : TreeFacts → (ℕ → SymbolValue) → Type 0
-HasPlainNumbers tree V = (s : SymId) → s.0 < name_count tree → written tree (known_from tree V) s ≡ true → IsPlainNumber (V s.0)
+HasPlainNumbers tree V = (s : SymId) → s.0 < name_count tree → written tree (known_from tree V) s ≡ true →
+    elim (V s.0) [ TextValue Int text ↦ EndsPlainly text | TextValue Hex text ↦ EndsPlainly text | _ ↦ Unit {0} ]
 
 -- No title that is written reads as `# CONFIG_NAME is not set`, neither the main menu's nor that of a menu or comment.
 abbrev pub IsNotUnsetLine : List ℕ → List ℕ → Type 0
@@ -242,8 +218,8 @@ pub record HasPlainTitles (tree : TreeFacts) (prefix : List ℕ) (solution : Sol
   pub main_menu : IsNotUnsetLine prefix (codes "# " ++ tree.main_menu)
   pub entries : (i : ℕ) (e : Shown) → slice_get tree.entries i ≡ Some e → HasPlainTitle prefix solution e
 
--- With such numbers and titles, reading the `.config` of a solution gives the same solution if and only if no symbol changes
--- on rereading: a visible tristate outside a choice, greater than both its visibility and what it is selected to.
+-- With these, reading the `.config` gives the solution back if and only if no visible tristate outside a choice is above both its visibility and what
+-- it is selected to.
 abbrev pub ConfigGivesBack : TreeFacts → List ℕ → Places → (ℕ → SymbolValue) → Type 0
 ConfigGivesBack tree prefix places V =
     HasPlainNumbers tree V → HasPlainTitles tree prefix (valuation_view tree (place_at places) V) → (stream : List ℕ) →
