@@ -1,16 +1,65 @@
--- For proofs: Parts of the definitions of Outcome, by names of their own.
-use Rattle.std.specs.Prelude.{List, None, Option, [], option_map, ℕ, ◌≡◌}
-use Rattle.kc_language.specs.ConfigFile.{UserInput}
-use Rattle.kc_language.specs.Outcome.{IsOutcomeOfReading, Options, Outcome, lines_text, names_listed, read_of, refused_if, refuses_input, reported, rule_text, run_error_text, target, text_if, warned_files}
-use Rattle.kc_language.specs.Statements.{error_line}
+-- Trusted: Parts of the definitions of Outcome, by names of their own.
+use Rattle.std.specs.List.{list_any}
+use Rattle.std.specs.Prelude.{Bool, List, None, Option, Some, [], option_map, ℕ, ◌&&◌, ◌++◌, ◌==◌, ◌≡◌, length, not}
+use Rattle.kc_language.specs.ConfigFile.{StreamLocation, UserInput, no_input}
+use Rattle.kc_language.specs.Expansion.{AreOpened, Files}
+use Rattle.kc_language.specs.Outcome.{IsAcceptedTree, IsOutcomeOfReading, Options, Outcome, first_line, is_outside, lines_text, lost_warnings, names_listed, read_of, refused_if, refuses_input, reported, root_file, rule_text, run_error_text, target, unreadable_name, warned_files}
+use Rattle.kc_language.specs.Statements.{error_at, error_line}
 use Rattle.kc_language.specs.Symbols.{TreeFacts}
-use Rattle.kc_language.specs.Texts.{Solution, config_text, header_text, minimal_text, solution_view}
+use Rattle.kc_language.specs.Texts.{Solution, config_text, header_text, minimal_text, solution_view, value_warnings}
 use Rattle.kc_language.specs.declared.outcome.Status.TheVariants.{Done}
 use Rattle.kc_language.specs.declared.diagnostics.RunError.TheVariants as run
+
+-- ---- The error lines of a run
+abbrev pub cannot_read_line : List ℕ → List ℕ
+cannot_read_line name = error_line (run_error_text (run.CannotRead name))
+
+abbrev pub cannot_write_line : List ℕ → List ℕ
+cannot_write_line name = error_line (run_error_text (run.CannotWrite name))
+
+abbrev pub stale_line : List ℕ → List ℕ
+stale_line name = error_line (run_error_text (run.NotUpToDate name))
+
+abbrev pub too_long_line : StreamLocation → List ℕ
+too_long_line stop = error_at stop.stream stop.number (run_error_text run.LineTooLong)
+
+abbrev pub unreadable_line : List ℕ → List ℕ
+unreadable_line name = error_line (run_error_text (run.UnreadableName (first_line name)))
 
 -- the error line behind the warnings that are refused
 abbrev pub strict_line : List ℕ
 strict_line = error_line (run_error_text run.WarningsRefused)
+
+-- an error line, at its location if it has one
+abbrev pub error_if_at : Option (List ℕ × ℕ) → List ℕ → List ℕ
+error_if_at location text = elim location [ None ↦ error_line text | Some place ↦ error_at place.0 place.1 text ]
+
+-- ---- The names of the dependency file
+-- Make can read each name of the rule. Or the tree is accepted, and this is the first name that make cannot read.
+abbrev pub NamesAreRead : Files → Options → Type 0
+NamesAreRead files options = (opened : List (List ℕ)) → AreOpened files (root_file options) opened → unreadable_name options opened ≡ None
+
+pub record IsRefusedName (files : Files) (options : Options) (name : List ℕ) : Type 0 where
+  pub tree : TreeFacts
+  pub accepted : IsAcceptedTree files (root_file options) tree
+  pub opened : List (List ℕ)
+  pub are_opened : AreOpened files (root_file options) opened
+  pub unreadable : unreadable_name options opened ≡ Some name
+
+-- ---- What reading and solving give
+-- the user's input before any file is read
+abbrev pub fresh_input : Options → TreeFacts → UserInput
+fresh_input options tree = no_input options.warn_lost tree
+
+-- The user's lines were all taken as written: none was warned of (K7 to K9) or changed what another gave, no user value that counts lies outside
+-- its range, and none is reported as lost.
+abbrev pub is_taken : Options → UserInput → Solution → Bool
+is_taken options input solution =
+    input.all_taken && (not (list_any is_outside (value_warnings solution)) && (length (lost_warnings options input solution) == 0))
+
+-- the text, if there is such a file
+abbrev pub text_if : {T : Type 0} → Option T → List ℕ → Option (List ℕ)
+text_if name text = option_map (λ file. text) name
 
 -- the files of a solution
 abbrev pub files_of : Options → TreeFacts → Solution → Outcome
@@ -36,3 +85,11 @@ depfile_text options opened = option_map (rule_text (target options)) (names_lis
 abbrev pub IsOutcomeOfTree : Options → TreeFacts → List (List ℕ) → Outcome → Type 0
 IsOutcomeOfTree options tree all outcome =
     (rest : Outcome) × IsOutcomeOfReading options tree (read_of options tree all) rest × (outcome ≡ reported (lines_text tree.warnings) rest)
+
+-- ---- Diagnostics
+abbrev pub diagnostics_of : Outcome → List ℕ
+diagnostics_of outcome = outcome.warned ++ outcome.refusal
+
+-- the text is lines, each with its line feed
+abbrev pub AreLines : List ℕ → Type 0
+AreLines text = (lines : List (List ℕ)) × (text ≡ lines_text lines)

@@ -4,13 +4,13 @@ use Rattle.std.specs.List.{after_first, before_first, filter_map, list_any, posi
 use Rattle.std.specs.Option.{option_and_then, option_map_or}
 use Rattle.std.specs.Prelude.{Bool, List, None, Option, Some, [], drop, false, find, if◌then◌else◌, length, nat_le, nat_lt, not, option_map, slice_index, slice_index_or, take, take_while, ℕ, ◌&&◌, ◌++◌, ◌-◌, ◌==◌, ◌∷◌}
 use Rattle.std.specs.Str.Lines.{strip_carriage_return}
-use Rattle.kc_language.specs.ConfigFile.{Assignment, Assigns, Effect, Line, LineMeaning, Malformed, Nothing, Set, Silent, StreamLocation, Unset, UserInput, Warns, change_text, effect, effect_warning, is_within, meaning_of, name_and_value, place_at, set_by_type, unset_by_type, unset_name, until_quote, value_by, warning_line, yes_or_no}
+use Rattle.kc_language.specs.ConfigFile.{Assignment, Assigns, Effect, Line, LineMeaning, Malformed, Nothing, Set, Silent, StreamLocation, Unset, UserInput, Warns, change_text, effect, effect_warning, is_within, meaning_of, name_and_value, place_at, set_by_type, unset_by_type, unset_name, until_quote, value_by, value_text, warning_line, yes_or_no}
 use Rattle.kc_language.specs.Expressions.{symbol}
 use Rattle.kc_language.specs.Symbols.{TreeFacts, Warning}
 use Rattle.kc_language.specs.Text.{byte, longest_value, unescape}
 use Rattle.kc_language.specs.Tokens.{is_blank}
-use Rattle.kc_language.specs.Values.{GivenText, GivenValue, SymbolPlace, facts, name as name_of, type_in}
-use Rattle.kc_language.specs.declared.diagnostics.Warning.TheVariants.{NotAllowed, UnknownSymbol}
+use Rattle.kc_language.specs.Values.{GivenText, GivenValue, SymbolPlace, facts, is_yes, name as name_of, type_in}
+use Rattle.kc_language.specs.declared.diagnostics.Warning.TheVariants.{Changed, NotAllowed, UnknownSymbol}
 use Rattle.kc_language.specs.declared.expressions.SymId.{SymId}
 use Rattle.kc_language.specs.declared.expressions.SymbolType.{SymbolType}
 use Rattle.kc_language.specs.declared.expressions.Tri.{Tri}
@@ -127,6 +127,12 @@ is_this_choice c (Some d) = d == c
 abbrev pub choice_of : TreeFacts → SymId → Option ℕ
 choice_of tree s = option_and_then (λ f. f.choice) (facts tree s)
 
+-- a member of choice c that gets y is chosen in c
+abbrev pub chosen_in : TreeFacts → ℕ → Assignment → Option SymId
+chosen_in tree c a =
+    if is_yes a.given && elim (option_and_then (λ f. f.choice) (facts tree a.symbol)) [ None ↦ false | Some d ↦ d == c ]
+    then Some a.symbol else None
+
 -- the value that an assignment gives to symbol i
 abbrev pub given_to : ℕ → Assignment → Option GivenValue
 given_to i a = if a.symbol.0 == i then Some a.given else None
@@ -134,6 +140,11 @@ given_to i a = if a.symbol.0 == i then Some a.given else None
 abbrev pub warning_line_if : List ℕ → ℕ → Option Warning → List ℕ
 warning_line_if stream number None = []
 warning_line_if stream number (Some line_warning) = warning_line stream number line_warning
+
+-- a line gives the symbol another value than an earlier line (K15)
+abbrev pub change_line : StreamLocation → List ℕ → SymbolType → GivenValue → StreamLocation → GivenValue → List ℕ
+change_line at called kind old from given =
+    warning_line at.stream at.number (Changed called (value_text kind old) from.stream from.number (value_text kind given))
 
 -- what a line changes, where the lines of the user's values are kept
 abbrev pub effect_change : TreeFacts → UserInput → StreamLocation → Effect → List ℕ

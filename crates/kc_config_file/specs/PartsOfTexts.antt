@@ -1,12 +1,16 @@
 -- For proofs: Parts of the definitions of Texts, by names of their own.
 use Rattle.std.specs.List.{enumerate_from, flat_map}
-use Rattle.std.specs.Prelude.{Bool, List, None, Option, Some, [], codes, false, if◌then◌else◌, take, true, ℕ, ◌++◌, ◌==◌, ◌||◌}
+use Rattle.std.specs.Prelude.{Bool, List, None, Option, Some, [], codes, false, if◌then◌else◌, take, true, ℕ, ◌++◌, ◌<◌, ◌==◌, ◌||◌, ◌≡◌}
+use Rattle.kc_language.specs.ConfigFile.{Places, place_at}
+use Rattle.kc_language.specs.Expressions.{SymbolValue, TextValue}
+use Rattle.kc_language.specs.Lines.{HoldsNoLineFeed}
 use Rattle.kc_language.specs.Symbols.{CommentShown, EndShown, MenuShown, Shown, SymbolShown, TreeFacts}
 use Rattle.kc_language.specs.Text.{byte, has_hex_prefix}
-use Rattle.kc_language.specs.Texts.{SolutionView, end_is_last, entry_text, header_line, symbol_config, title_lines}
+use Rattle.kc_language.specs.Texts.{EndsPlainly, SolutionView, end_is_last, entry_text, header_line, symbol_config, title_lines}
 use Rattle.kc_language.specs.Tokens.{is_blank}
-use Rattle.kc_language.specs.Values.{name as name_of}
+use Rattle.kc_language.specs.Values.{Solves, equations, name as name_of, name_count}
 use Rattle.kc_language.specs.declared.expressions.SymId.{SymId}
+use Rattle.kc_language.specs.declared.expressions.SymbolType.TheVariants.{Hex, Int}
 
 -- a hex begins with `0x` in a header
 abbrev pub hex_text : List ℕ → List ℕ
@@ -55,6 +59,18 @@ module _ (tree : TreeFacts) (prefix : List ℕ) (solution : SolutionView) where
 -- a blank or a carriage return
 abbrev pub is_end_byte : ℕ → Bool
 is_end_byte b = is_blank b || b == byte "\r"
+
+abbrev pub IsPlainNumber : SymbolValue → Type 0
+IsPlainNumber v = elim v [ TextValue Int text ↦ EndsPlainly text | TextValue Hex text ↦ EndsPlainly text | _ ↦ Unit {0} ]
+
+-- one line, with its line feed
+abbrev pub IsOneLine : List ℕ → Type 0
+IsOneLine text = (body : List ℕ) × (text ≡ body ++ codes "\n") × HoldsNoLineFeed body
+
+-- no solution for these user values is V
+abbrev pub HasOtherSolution : TreeFacts → Places → (ℕ → SymbolValue) → Type 0
+HasOtherSolution tree places V =
+    (W : ℕ → SymbolValue) → Solves (name_count tree) (equations tree (place_at places)) W → ((i : ℕ) → i < name_count tree → W i ≡ V i) → ⊥
 
 -- the line of a title, between the `#` lines around it
 abbrev pub title_line : List ℕ → List ℕ

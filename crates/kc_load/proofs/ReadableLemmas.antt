@@ -1,12 +1,12 @@
 -- The first name that make cannot read, one name on.
 use Rattle.std.proofs.Common.{◌≡◌, ◌+◌, ◌∙◌, ℕ, Bool, true, false, List, ◌∷◌, drop, Some, slice_get, ap, sym}
-use Rattle.std.specs.Prelude.{if◌then◌else◌}
+use Rattle.std.specs.Prelude.{if◌then◌else◌, not}
 use Rattle.std.proofs.lemmas.List.{at_drop_more}
 use Rattle.std.proofs.lemmas.Option.{get_or_from_slice_get, slice_get_within}
 use Rattle.kc_language.specs.Outcome.{first_unreadable, is_read_by_make}
 
 at_name : (names : List (List ℕ)) (i : ℕ) (name : List ℕ) → slice_get names i ≡ Some name →
-    first_unreadable (drop i names) ≡ (if is_read_by_make name then first_unreadable (drop (i + 1) names) else Some name)
+    first_unreadable (drop i names) ≡ (if not (is_read_by_make name) then Some name else first_unreadable (drop (i + 1) names))
 at_name names i name there =
     at_drop_more first_unreadable names i name (slice_get_within names i name there)
     ∙ ap (λ n. first_unreadable (n ∷ drop (i + 1) names)) (get_or_from_slice_get names i name name there)
@@ -14,10 +14,10 @@ at_name names i name there =
 -- the name is read, or it is the first one
 pub read_on : (names : List (List ℕ)) (i : ℕ) (name : List ℕ) (b : Bool) → slice_get names i ≡ Some name → b ≡ is_read_by_make name → b ≡ true →
     first_unreadable (drop i names) ≡ first_unreadable (drop (i + 1) names)
-read_on names i name true there is e = at_name names i name there ∙ ap (λ b. if b then first_unreadable (drop (i + 1) names) else Some name) (sym is)
+read_on names i name true there is e = at_name names i name there ∙ ap (λ b. if not b then Some name else first_unreadable (drop (i + 1) names)) (sym is)
 read_on names i name false there is e = absurd (let clash : false ≡ true = e in cc)
 
 pub read_to : (names : List (List ℕ)) (i : ℕ) (name : List ℕ) (b : Bool) → slice_get names i ≡ Some name → b ≡ is_read_by_make name → b ≡ false →
     first_unreadable (drop i names) ≡ Some name
 read_to names i name true there is e = absurd (let clash : true ≡ false = e in cc)
-read_to names i name false there is e = at_name names i name there ∙ ap (λ b. if b then first_unreadable (drop (i + 1) names) else Some name) (sym is)
+read_to names i name false there is e = at_name names i name there ∙ ap (λ b. if not b then Some name else first_unreadable (drop (i + 1) names)) (sym is)

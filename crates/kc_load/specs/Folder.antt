@@ -1,7 +1,8 @@
 -- Trusted: What a folder records of its files, in which order the files of a tree are loaded, and why loading ends early (our own).
 -- A folder in memory records all, until it runs out of memory; a folder on a disk records nothing.
 use Rattle.std.specs.{Prelude.{◌≡◌, ℕ, ◌+◌, ◌≤◌, List, [], ◌∷◌, ◌++◌, map, All, Option, Some, None, Result, Err, IfOk, Vec, option_map, if◌then◌else◌}, Str.is_utf8, declared.alloc.Global.Global}
-use Rattle.kc_language.specs.{Text.most_lines, Expressions.same_name, Expansion.{Files, lines_of}, Outcome.{AskedInOrder, path_of}}
+use Rattle.kc_language.specs.{Text.most_lines, Expressions.same_name, Expansion.{Files, lines_of}, Outcome.path_of}
+use Rattle.kc_load.specs.Asking.{AskedInOrder}
 use Rattle.kc_load.specs.declared.{folder.FolderFault.{FolderFault, TheVariants.Device}, fault.LoadFault.{LoadFault, TheVariants.CannotRead}}
 
 -- ---- Reading a file

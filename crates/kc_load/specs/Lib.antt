@@ -1,3 +1,4 @@
+pub mod Asking
 pub mod Folder
 pub mod Loading
 pub mod PartsOfFolder

@@ -1,7 +1,8 @@
 -- Trusted: What loading gives: the files that were found, asked for in order, and that they are enough.
 use Rattle.std.specs.{Prelude.{◌≡◌, ℕ, ◌≤◌, List, [], ◌∷◌, ◌++◌, Contains, Option, Some, Result}, Str.IsUtf8}
 use Rattle.kc_expr.specs.Names.{AreDistinct}
-use Rattle.kc_language.specs.{Text.most_lines, Expansion.{Expands, Files, Log, Refused}, Outcome.{AreSources, AskedInOrder}}
+use Rattle.kc_language.specs.{Text.most_lines, Expansion.{Expands, Files, Log, Refused}}
+use Rattle.kc_load.specs.Asking.{AreSources, AskedInOrder}
 use Rattle.kc_load.specs.Folder.{Answer, AreAsked, AreFilesOf, FolderFiles, files_found, line_total}
 
 -- as each was asked for, there were no more lines than the limit

@@ -1,9 +1,18 @@
 -- Trusted: Parts of the definitions of Outcome, by names of their own.
 use Rattle.std.specs.List.{list_any}
-use Rattle.std.specs.Prelude.{Bool, List, Option, [], codes, if◌then◌else◌, map, nat_le, ℕ, ◌&&◌, ◌++◌, ◌==◌, ◌||◌, ◌∷◌}
+use Rattle.std.specs.Prelude.{Bool, List, Option, [], codes, find, if◌then◌else◌, map, nat_le, not, ℕ, ◌&&◌, ◌++◌, ◌==◌, ◌||◌, ◌∷◌}
 use Rattle.kc_language.specs.Expressions.{all_mentioned, same_name}
-use Rattle.kc_language.specs.Outcome.{ends_in, escaped, first_unreadable, path_of}
+use Rattle.kc_language.specs.Outcome.{ends_in, escaped, is_read_by_make, path_of}
+use Rattle.kc_language.specs.Text.{byte}
 use Rattle.kc_language.specs.declared.outcome.Position.TheVariants.{Prerequisite, Target}
+
+-- a byte with the `\` before it, if one is written there; `$` is doubled
+abbrev pub escaped_byte : Bool → ℕ → List ℕ
+escaped_byte with_backslash b = (if with_backslash then codes "\\" else []) ++ (if b == byte "$" then codes "$" else []) ++ b ∷ []
+
+-- the first of these names that make cannot read
+abbrev pub first_unreadable : List (List ℕ) → Option (List ℕ)
+first_unreadable names = find (λ name. not (is_read_by_make name)) names
 
 -- ` \` ends the line before, and the prerequisite stands on its own
 abbrev pub prerequisite : List ℕ → List ℕ

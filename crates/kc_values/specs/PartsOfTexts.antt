@@ -1,9 +1,9 @@
 -- Trusted: Parts of the definitions of Texts, by names of their own.
 use Rattle.std.specs.List.{flat_map}
-use Rattle.std.specs.Prelude.{List, None, Option, Some, ℕ}
+use Rattle.std.specs.Prelude.{List, None, Option, Some, [], ℕ}
 use Rattle.kc_language.specs.Expressions.{Form, SymbolValue, symbol, tri_text}
-use Rattle.kc_language.specs.Symbols.{Guarded, TreeFacts, Warning}
-use Rattle.kc_language.specs.Texts.{known, warnings_of}
+use Rattle.kc_language.specs.Symbols.{Guarded, SymbolFacts, TreeFacts, Warning}
+use Rattle.kc_language.specs.Texts.{warnings_by_type, warnings_of}
 use Rattle.kc_language.specs.Values.{GivenValue, SymbolPlace, UserPlace, clamped, direct, facts, known_from, name, number_text, selected_to, single_text}
 use Rattle.kc_language.specs.declared.expressions.SymId.{SymId}
 use Rattle.kc_language.specs.declared.expressions.SymbolType.{SymbolType}
@@ -28,6 +28,11 @@ default_warning symbol_type r name t =
 abbrev pub met_text : (SymId → SymbolValue) → Option (Guarded Form) → Option (List ℕ)
 met_text known None = None
 met_text known (Some g) = Some (single_text known g.what)
+
+-- a member of a choice has no warning
+module _ (tree : TreeFacts) (known : SymId → SymbolValue) where
+  abbrev pub warnings_by_choice : List ℕ → SymbolFacts → Option ℕ → Option GivenValue → List Warning
+  warnings_by_choice called f c = elim c [ Some c ↦ λ user. [] | None ↦ warnings_by_type tree known called f f.symbol_type ]
 
 module _ (tree : TreeFacts) (user : UserPlace → Option GivenValue) (V : ℕ → SymbolValue) where
   abbrev pub warnings_at : ℕ → List Warning
