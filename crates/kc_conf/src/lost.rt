@@ -78,7 +78,7 @@ fn lost_line(
     given: ShownValue<'_>,
     value: ShownValue<'_>,
 ) -> Result<Vec<u8>, AllocError>
-    ensures { IfOk result (λ line. line.items ≡ spec.lost_line (location_of at.entry) name.now symbol_type (given_by given.entry) (given_by value.entry)) }
+    ensures { IfOk result (λ line. line.items ≡ spec_parts.lost_line (location_of at.entry) name.now symbol_type (given_by given.entry) (given_by value.entry)) }
 {
     let mut given_text = Vec::new(alloc);
     add_value(symbol_type, given, &mut given_text)?;
