@@ -1,11 +1,11 @@
 -- For proofs: Parts of the definitions of Symbols, by names of their own.
 use Rattle.std.specs.List.{filter_map, flat_map, list_any, take_while}
-use Rattle.std.specs.Option.{option_and_then}
-use Rattle.std.specs.Prelude.{Bool, List, None, Option, Result, Some, [], false, filter, if◌then◌else◌, is_none, is_some, map, not, option_map, reverse, slice_get, take, true, unwrap_or, ℕ, ◌&&◌, ◌++◌, ◌==◌, ◌||◌}
-use Rattle.kc_language.specs.Expansion.{Refused, attributes, bracket_at, enclosing, is_attribute, is_no_attribute, last_of, names_of, numbered_lines, numbers, opened}
-use Rattle.kc_language.specs.Expressions.{Form, Single, same_symbol}
+use Rattle.std.specs.Option.{option_and_then, option_or}
+use Rattle.std.specs.Prelude.{Bool, Err, List, None, Ok, Option, Result, Some, [], codes, count_by, false, filter, if◌then◌else◌, is_none, is_some, map, not, option_map, position, reverse, slice_get, take, true, unwrap_or, ℕ, ◌&&◌, ◌++◌, ◌==◌, ◌||◌, ◌∷◌}
+use Rattle.kc_language.specs.Expansion.{Log, Refused, attributes, bracket_at, enclosing, is_attribute, is_no_attribute, last_of, modules_of, names_of, numbered_lines, numbers, opened}
+use Rattle.kc_language.specs.Expressions.{Form, Single, same_name, same_symbol, symbol}
 use Rattle.kc_language.specs.Statements.{ConfigLine, DependsLine, ImplyLine, InputPrompt, Located, MainMenuLine, Named, Numbered, RangeLine, SelectLine, VisibleLine, statements}
-use Rattle.kc_language.specs.Symbols.{Bounds, Condition, Guarded, StatedDefault, TreeFacts, begun_at, can_be_target, choice_number, choices, dependency, enclosing_choice, entry_choice, entry_symbol, has_text, indices, is_first_definition, is_member, line_warnings, listed, located_warning, named, naming_at, of_block, own_visible, prompt_of, same_type, single_symbol, stated_default, stated_type, symbol_at, target_of, tree_with, when}
+use Rattle.kc_language.specs.Symbols.{Bounds, ChoiceFacts, Condition, Guarded, Shown, StatedDefault, TreeFacts, bad_defaults, bad_members, begun, can_be_target, choice_facts, choice_number, dependency, enclosing_choice, entry_choice, entry_symbol, has_text, indices, is_first_definition, line_warnings, listed, located_warning, members_of, named, naming_at, of_block, own_visible, prompt_of, refused_at, same_type, shown_at, shows_entry, single_symbol, stated_default, stated_type, symbol_at, target_of, tree_with, when}
 use Rattle.kc_language.specs.declared.expressions.SymId.{SymId}
 use Rattle.kc_language.specs.declared.expressions.SymbolType.{SymbolType}
 use Rattle.kc_language.specs.declared.statements.Block.{Block}
@@ -15,6 +15,7 @@ use Rattle.kc_language.specs.declared.expressions.SymbolType.TheVariants as symb
 use Rattle.kc_language.specs.declared.statements.Block.TheVariants as block
 use Rattle.kc_language.specs.declared.symbols.MenuEntry.TheVariants as menu_entry
 use Rattle.kc_language.specs.declared.symbols.LineWarning.TheVariants as line_warning
+use Rattle.kc_language.specs.declared.diagnostics.Cause.TheVariants as cause
 
 abbrev pub first_of : {A : Type 0} → List A → Option A
 first_of xs = slice_get xs 0
@@ -56,6 +57,19 @@ module _ (ss : List Numbered) where
   -- where the innermost enclosing block of a place begins; of a closer, the block that it closes
   abbrev pub enclosing_block : ℕ → Option ℕ
   enclosing_block i = last_of (enclosing ss i)
+
+  abbrev pub is_member : ℕ → SymId → Bool
+  is_member k s = list_any (same_symbol s) (members_of ss k)
+
+  abbrev pub choices : List ChoiceFacts
+  choices = map (choice_facts ss) (filter (of_block ss block.Choice) (indices ss))
+
+  -- the number of entries of the menu before a place; the entries
+  abbrev pub shown_number : ℕ → ℕ
+  shown_number i = count_by (λ j. shows_entry ss j (slice_get ss j)) (numbers i)
+
+  abbrev pub entries : List Shown
+  entries = filter_map (λ i. shown_at ss i (slice_get ss i)) (indices ss)
 
   -- the choices, in order; the number of the choice that begins at a place
   abbrev pub choice_lines : List ℕ
@@ -99,7 +113,7 @@ module _ (ss : List Numbered) where
 
   -- a default of the choice at a place, where it names a member
   abbrev pub member_default : ℕ → StatedDefault → Option (Guarded SymId)
-  member_default i g = option_and_then (λ s. if is_member ss (choice_number ss i) s then Some (guarded_symbol i s g.when) else None) (single_symbol g.value)
+  member_default i g = option_and_then (λ s. if is_member (choice_number ss i) s then Some (guarded_symbol i s g.when) else None) (single_symbol g.value)
 
 abbrev pub first_of_symbol : List Numbered → ℕ → Option SymId → Bool
 first_of_symbol ss i None = false
@@ -110,12 +124,16 @@ is_some_other None = false
 is_some_other (Some s) = is_no_attribute s
 
 module _ (ss : List Numbered) where
+  -- the entry that the statement at a place begins
+  abbrev pub begun_at : ℕ → MenuEntry
+  begun_at j = unwrap_or (option_map (begun (choice_number ss j)) (slice_get ss j)) menu_entry.Other
+
   -- the last line before a place that is no attribute
   abbrev pub entry_before : ℕ → Option ℕ
   entry_before i = last_of (filter (λ j. is_some_other (slice_get ss j)) (numbers i))
 
   abbrev pub menu_entry_before : ℕ → MenuEntry
-  menu_entry_before i = unwrap_or (option_map (begun_at ss) (entry_before i)) menu_entry.Other
+  menu_entry_before i = unwrap_or (option_map begun_at (entry_before i)) menu_entry.Other
 
   -- a prompt stands among the attributes right before a place
   abbrev pub prompt_before : ℕ → Bool
@@ -167,6 +185,10 @@ is_bad_default types o s =
     (is_some (entry_choice o) && is_none (single_symbol g.value))) (listed (stated_default s))
 
 module _ (names : List (List ℕ)) where
+  -- the symbol of the first `modules` line; without such a line the one named `MODULES`, if a line mentions it
+  abbrev pub modules_symbol : List Numbered → Option SymId
+  modules_symbol ss = option_or (modules_of ss) (option_map symbol (position (same_name (codes "MODULES")) names))
+
   -- the whole line of a warning about a line
   abbrev pub line_of : List ℕ → ℕ → LineWarning → List ℕ
   line_of file line w = located_warning file line (named names w)
@@ -176,6 +198,26 @@ module _ (names : List (List ℕ)) (ls : List (Located Numbered)) where
   abbrev pub warned_at : ℕ → Option (Located Numbered) → List (List ℕ)
   warned_at i None = []
   warned_at i (Some l) = map (line_of names l.file l.line) (line_warnings (statements ls) i l.statement)
+
+  -- the warnings about all statements, as lines
+  abbrev pub warnings : List (List ℕ)
+  warnings = flat_map (λ i. elim (slice_get ls i) [
+    | None ↦ []
+    | Some l ↦
+        map (λ w. located_warning l.file l.line (named names w)) (line_warnings (statements ls) i l.statement)
+  ]) (indices (statements ls))
+
+  abbrev pub whole_list_refusals : List Refused
+  whole_list_refusals = flat_map (refused_at names ls cause.ChoiceMember) (bad_members (statements ls)) ++
+      flat_map (refused_at names ls cause.BadDefault) (bad_defaults (statements ls))
+
+-- the first of these refusals or, if there is none, the facts
+abbrev pub unless_refused : List Refused → TreeFacts → Result TreeFacts Refused
+unless_refused refusals tree = elim refusals [ [] ↦ Ok tree | r ∷ rs ↦ Err r ]
+
+-- what an expanded list says once its names have numbers, or its refusal
+abbrev pub tree_of_log : Result Log Refused → Result TreeFacts Refused
+tree_of_log e = elim e [ Ok log ↦ tree_with (names_of (statements log.lines)) (numbered_lines log.lines) | Err r ↦ Err r ]
 
 -- a symbol, where there is one and it passes a test
 abbrev pub symbol_if : (SymId → Bool) → Option SymId → Option SymId

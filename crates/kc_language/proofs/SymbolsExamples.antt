@@ -4,7 +4,7 @@ use Rattle.std.specs.Prelude.{List, None, Some, [], codes, map, ℕ, ◌∷◌}
 use Rattle.std.specs.Fmt.{digits}
 use Rattle.kc_language.specs.Expressions.{Form, Single, Symbol, symbol}
 use Rattle.kc_language.specs.Statements.{ConfigLine, DependsLine, EndMenuLine, Located, MenuLine, Numbered, TypeLine, VisibleLine}
-use Rattle.kc_language.specs.Symbols.{symbol_facts, warnings}
+use Rattle.kc_language.specs.Symbols.{symbol_facts, facts_with}
 use Rattle.kc_language.specs.declared.expressions.SymbolType.TheVariants.{Bool, Str}
 
 -- The expression that is the symbol with this number.
@@ -54,7 +54,7 @@ two_types =
     []
 
 -- The second type gives warning K1, with its file and line.
-warning_of_second_type : warnings (codes "A" ∷ []) two_types ≡ codes "Kconfig:3: warning K1: type of A redefined, the first is kept" ∷ []
+warning_of_second_type : (facts_with (codes "A" ∷ []) two_types).warnings ≡ codes "Kconfig:3: warning K1: type of A redefined, the first is kept" ∷ []
 unfolding digits
 warning_of_second_type = refl
 

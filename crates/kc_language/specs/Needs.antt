@@ -1,23 +1,16 @@
 -- Trusted: 9. Needs: which symbols the equation of a symbol names, which trees are accepted, and which dependency loop is reported.
 -- Source: the kernel's kconfig-language document refuses recursive dependencies; which symbols count, and which loop is named, is our own.
-use Rattle.std.specs.List.{IsDistinct, filter, flat_map, list_any, range_with_len}
-use Rattle.std.specs.Prelude.{Bool, List, None, Option, Some, [], codes, false, find, length, map, nat_eq, slice_index, slice_index_or, suc, take, true, zero, ℕ, ◌&&◌, ◌++◌, ◌+◌, ◌<◌, ◌∷◌, ◌≡◌}
-use Rattle.kc_language.specs.Expansion.{Refused}
-use Rattle.kc_language.specs.Expressions.{leaf_symbols, symbol, symbols}
-use Rattle.kc_language.specs.Symbols.{Bounds, ChoiceFacts, Condition, Guarded, SymbolFacts, TreeFacts, listed}
-use Rattle.kc_language.specs.Values.{choice_at, facts, is_mentioned, name}
-use Rattle.kc_language.specs.declared.{diagnostics.Cause.Cause, expressions.{SymId.SymId, SymbolType.{SymbolType, TheVariants.{Bool as IsBool, Str, Tristate, Undefined}}}}
+use Rattle.std.specs.{List.{IsDistinct, filter, flat_map, list_any, range_with_len}, Prelude.{Bool, List, None, Option, Some, [], codes, false, find, length, map, nat_eq, nat_lt, slice_index, slice_index_or, suc, take, true, zero, ℕ, ◌&&◌, ◌++◌, ◌+◌, ◌<◌, ◌∷◌, ◌≡◌}}
+use Rattle.kc_language.specs.{Expansion.{Refused}, Expressions.{leaf_symbols, symbol, symbols}, Symbols.{Bounds, ChoiceFacts, Condition, Guarded, SymbolFacts, TreeFacts, listed}, Values.{choice_at, facts, name, name_count}, declared.{diagnostics.Cause.Cause, expressions.{SymId.SymId, SymbolType.{SymbolType, TheVariants.{Bool as IsBool, Str, Tristate, Undefined}}}}}
 
 module _ (tree : TreeFacts) where
   -- A condition names what its conjuncts name and, inside a choice, what the conjuncts of the choice's prompt name.
   abbrev pub conjunct_names : Option Condition → List SymId
   conjunct_names c = elim c [ None ↦ [] | Some c ↦ flat_map (symbols tree.modules) c.conjuncts ]
 
-  abbrev pub mode_names : Option ℕ → List SymId
-  mode_names mode = elim mode [ None ↦ [] | Some k ↦ elim (choice_at tree k) [ None ↦ [] | Some c ↦ conjunct_names c.prompt ] ]
-
   abbrev pub condition_names : Condition → List SymId
-  condition_names c = flat_map (symbols tree.modules) c.conjuncts ++ mode_names c.mode
+  condition_names c = flat_map (symbols tree.modules) c.conjuncts ++
+      elim c.mode [ None ↦ [] | Some k ↦ elim (choice_at tree k) [ None ↦ [] | Some c ↦ conjunct_names c.prompt ] ]
 
   abbrev pub guarded_names : {X : Type 0} → (X → List SymId) → List (Guarded X) → List SymId
   guarded_names names gs = flat_map (λ g. names g.what ++ condition_names g.when) gs
@@ -32,30 +25,24 @@ module _ (tree : TreeFacts) where
   names_of_truth f = names_of_all f ++ (flat_map condition_names f.dependencies ++ (guarded_names (λ s. s ∷ []) f.selectors ++
       (guarded_names (λ s. s ∷ []) f.impliers ++ elim f.symbol_type [ Tristate ↦ listed tree.modules | _ ↦ [] ])))
 
+  abbrev pub names_of_number : SymbolFacts → List SymId
+  names_of_number f = names_of_all f ++ guarded_names (λ (r : Bounds). leaf_symbols r.low ++ leaf_symbols r.high) f.ranges
+
   abbrev pub names_by_type : SymbolFacts → SymbolType → List SymId
-  names_by_type f k = elim k [
-    | Undefined ↦ []
-    | IsBool ↦ names_of_truth f
-    | Tristate ↦ names_of_truth f
-    | Str ↦ names_of_all f
-    | _ ↦ names_of_all f ++ guarded_names (λ (r : Bounds). leaf_symbols r.low ++ leaf_symbols r.high) f.ranges
-  ]
+  names_by_type f k = elim k [ Undefined ↦ [] | IsBool ↦ names_of_truth f | Tristate ↦ names_of_truth f | Str ↦ names_of_all f | _ ↦ names_of_number f ]
 
   -- A member of a choice, instead: the prompt conditions of all members, the choice's prompt condition, and the conditions of its defaults.
   abbrev pub names_of_choice : Option ChoiceFacts → List SymId
-  names_of_choice o = elim o [
-    | None ↦ []
-    | Some c ↦
-        flat_map (λ m. elim (facts tree m) [ None ↦ [] | Some f ↦ flat_map condition_names f.prompts ]) c.members ++
-        (conjunct_names c.prompt ++ guarded_names (λ s. []) c.defaults)
-  ]
+  names_of_choice None = []
+  names_of_choice (Some c) = flat_map (λ m. elim (facts tree m) [ None ↦ [] | Some f ↦ flat_map condition_names f.prompts ]) c.members ++
+      (conjunct_names c.prompt ++ guarded_names (λ s. []) c.defaults)
 
   abbrev pub names_of : Option SymbolFacts → List SymId
   names_of o = elim o [ None ↦ [] | Some f ↦ elim f.choice [ None ↦ names_by_type f f.symbol_type | Some c ↦ names_of_choice (choice_at tree c) ] ]
 
   -- What the symbol of a number needs: the symbols that its equation names, by number.
   abbrev pub needs_of : ℕ → List ℕ
-  needs_of i = map (λ (s : SymId). s.0) (filter (is_mentioned tree) (names_of (facts tree (symbol i))))
+  needs_of i = map (λ (s : SymId). s.0) (filter (λ s. nat_lt s.0 (name_count tree)) (names_of (facts tree (symbol i))))
 
   abbrev pub needs : List (List ℕ)
   needs = map needs_of (range_with_len 0 (length tree.symbols))
@@ -69,11 +56,8 @@ abbrev pub unordered_after : (ℕ → List ℕ) → ℕ → ℕ → Bool
 unordered_after graph zero s = true
 unordered_after graph (suc k) s = list_any (unordered_after graph k) (graph s)
 
-abbrev pub AreAccepted : List (List ℕ) → Type 0
-AreAccepted needs = (s : ℕ) → s < length needs → unordered_after (needs_in needs) (length needs) s ≡ false
-
 abbrev pub IsAccepted : TreeFacts → Type 0
-IsAccepted tree = AreAccepted (needs tree)
+IsAccepted tree = (s : ℕ) → s < length (needs tree) → unordered_after (needs_in (needs tree)) (length (needs tree)) s ≡ false
 
 -- A walk begins at the first unordered symbol of the sequence. Each next symbol is the first unordered one that the symbol before it needs.
 pub record IsUnorderedWalk (sequence : List ℕ) (n : ℕ) (needs : ℕ → List ℕ) (walk : List ℕ) : Type 0 where

@@ -1,13 +1,8 @@
 -- Trusted: 7. Symbols: what the lines of a tree say of its symbols, its choices and its menu, and the warnings and refusals about them.
 -- The rules are those of the kernel's kconfig-language document ("Menu attributes", "Menu dependencies") and of kconfiglib. The texts are our own.
--- `ss` are all statements of the tree, in the order in which they are read. `i` and `j` are indices in it, and `k` is the number of a choice.
-use Rattle.std.specs.{List.list_any, Option.option_or}
-use Rattle.std.specs.Prelude.{Bool, Err, List, None, Ok, Option, Result, Some, [], codes, count_by, decimal, false, filter, filter_map, flat_map, if◌then◌else◌, is_none, is_some, length, map, not, option_and_then, option_map, position, reverse, slice_get, slice_index_or, suc, take, take_while, true, unwrap_or, ℕ, ◌&&◌, ◌++◌, ◌==◌, ◌||◌, ◌∷◌, ◌≡◌}
+use Rattle.std.specs.{List.list_any, Option.option_or, Prelude.{Bool, Err, List, None, Ok, Option, Result, Some, [], codes, count_by, decimal, false, filter, filter_map, flat_map, if◌then◌else◌, is_none, is_some, length, map, not, option_and_then, option_map, position, reverse, slice_get, slice_index_or, suc, take, take_while, true, unwrap_or, ℕ, ◌&&◌, ◌++◌, ◌==◌, ◌||◌, ◌∷◌, ◌≡◌}}
 pub use Rattle.std.specs.Option.{option_to_list as listed}
-use Rattle.kc_language.specs.Expansion.{Expands, Files, Log, Refused, attributes, bracket_at, defined_name, definitions, enclosing, is_attribute, is_no_attribute, last_of, modules_of, names_of, numbered_lines, numbers, opened, refused}
-use Rattle.kc_language.specs.Expressions.{Form, Leaf, Single, Symbol, same_name, same_symbol, symbol}
-use Rattle.kc_language.specs.Statements.{Cause, ChoiceLine, CommentLine, ConfigLine, DefLine, DefaultLine, DependsLine, EndMenuLine, IfLine, ImplyLine, InputPrompt, Located, MainMenuLine, MenuLine, Numbered, PromptLine, RangeLine, SelectLine, TypeLine, VisibleLine, statements}
-use Rattle.kc_language.specs.declared.{diagnostics.Cause.TheVariants.{BadDefault, ChoiceMember}, diagnostics.Warning.{TheVariants.{Changed, DefaultNotMember, DefaultOutside, Lost, MalformedLine, MemberTarget, NotAllowed, PromptRedefined, Selected, SetAgain, TextTarget, TypeRedefined, UnknownSymbol, UserOutside, WithoutType}, Warning as WarningAbout}, expressions.SymId.SymId, expressions.SymbolType.SymbolType, statements.Block.Block, symbols.LineWarning.LineWarning, symbols.MenuEntry.MenuEntry, symbols.SelectOrImply.SelectOrImply}
+use Rattle.kc_language.specs.{Expansion.{Expands, Files, Log, Refused, attributes, bracket_at, defined_name, definitions, enclosing, is_attribute, is_no_attribute, last_of, modules_of, names_of, numbered_lines, numbers, opened, refused}, Expressions.{Form, Leaf, Single, Symbol, same_name, same_symbol, symbol}, Statements.{Cause, ChoiceLine, CommentLine, ConfigLine, DefLine, DefaultLine, DependsLine, EndMenuLine, IfLine, ImplyLine, InputPrompt, Located, MainMenuLine, MenuLine, Numbered, PromptLine, RangeLine, SelectLine, TypeLine, VisibleLine, statements}, declared.{diagnostics.Cause.TheVariants.{BadDefault, ChoiceMember}, diagnostics.Warning.{TheVariants.{Changed, DefaultNotMember, DefaultOutside, Lost, MalformedLine, MemberTarget, NotAllowed, PromptRedefined, Selected, SetAgain, TextTarget, TypeRedefined, UnknownSymbol, UserOutside, WithoutType}, Warning as WarningAbout}, expressions.SymId.SymId, expressions.SymbolType.SymbolType, statements.Block.Block, symbols.LineWarning.LineWarning, symbols.MenuEntry.MenuEntry, symbols.SelectOrImply.SelectOrImply}}
 
 -- The least value of these expressions and, where there is one, of the mode of that choice.
 pub record Condition : Type 0 where
@@ -48,8 +43,8 @@ pub data Shown : Type 0 where
   EndShown : ℕ → Shown
   CommentShown : List ℕ → Condition → Shown
 
--- Symbol i has name i and facts i. A name that is mentioned and not defined is a symbol without a type.
--- `defined` has the defined ones, in the order of their first definition. `modules` is the modules symbol if it is defined.
+-- Symbol i has name i and facts i. A name that is mentioned and not defined is a symbol without a type. `defined` has the defined ones, in the order
+-- of their first definition. `modules` is the symbol of the first `modules` line, or without such a line the one named `MODULES`, if it is defined.
 pub record TreeFacts : Type 0 where
   pub names : List (List ℕ)
   pub symbols : List SymbolFacts
@@ -60,8 +55,7 @@ pub record TreeFacts : Type 0 where
   pub main_menu : List ℕ
   pub modules : Option SymId
 
--- ---- What one line says
--- its type; its prompt
+-- ---- What one line says: its type; its prompt
 abbrev pub stated_type : Numbered → Option SymbolType
 stated_type s = elim s [ TypeLine k p ↦ Some k | DefLine k v w ↦ Some k | _ ↦ None ]
 
@@ -74,11 +68,7 @@ pub record StatedDefault : Type 0 where
   pub when : Option Form
 
 abbrev pub stated_default : Numbered → Option StatedDefault
-stated_default s = elim s [
-  | DefaultLine v w ↦ Some (record { value = v; when = w })
-  | DefLine k v w ↦ Some (record { value = v; when = w })
-  | _ ↦ None
-]
+stated_default s = elim s [ DefaultLine v w ↦ Some (record { value = v; when = w }) | DefLine k v w ↦ Some (record { value = v; when = w }) | _ ↦ None ]
 
 -- whether it selects or implies, which symbol, and under which condition
 abbrev pub target_of : Numbered → Option (SelectOrImply × SymId × Option Form)
@@ -136,7 +126,7 @@ is_block _ _ = false
 abbrev pub when : {A : Type 0} → Bool → A → List A
 when b x = if b then x ∷ [] else []
 
--- ---- What all lines say
+-- ---- What all lines say. `ss` are all statements, in the order in which they are read. `i` and `j` are indices in it, `k` is the number of a choice.
 module _ (ss : List Numbered) where
   abbrev pub indices : List ℕ
   indices = numbers (length ss)
@@ -212,30 +202,22 @@ module _ (ss : List Numbered) where
     defaults = flat_map (λ i. map (λ g. guarded i g.value g.when) (filter_map stated_default (attributes ss i))) (definitions_of s);
     ranges = flat_map (λ i. filter_map (λ l. elim l [ RangeLine a b w ↦ Some (guarded i (record { low = a; high = b }) w) | _ ↦ None ])
         (attributes ss i)) (definitions_of s);
-    selectors = if can_be_target s then flat_map (naming_at
-        (λ l. elim l [ SelectLine t w ↦ if same_symbol t s then Some w else None | _ ↦ None ])) indices else [];
-    impliers = if can_be_target s then flat_map (naming_at
-        (λ l. elim l [ ImplyLine t w ↦ if same_symbol t s then Some w else None | _ ↦ None ])) indices else [];
+    selectors = if can_be_target s then flat_map (naming_at (λ l. elim l [ SelectLine t w ↦ if same_symbol t s then Some w else None | _ ↦ None ])) indices else [];
+    impliers = if can_be_target s then flat_map (naming_at (λ l. elim l [ ImplyLine t w ↦ if same_symbol t s then Some w else None | _ ↦ None ])) indices else [];
   }
 
   -- the members of choice k: the symbols that are defined in it
   abbrev pub members_of : ℕ → List SymId
   members_of k = filter_map symbol_at (filter (λ i. is_some (symbol_at i) && list_any (λ j. j == k) (listed (enclosing_choice i))) indices)
 
-  abbrev pub is_member : ℕ → SymId → Bool
-  is_member k s = list_any (same_symbol s) (members_of k)
-
   -- A default of a choice counts if it names a member.
   abbrev pub choice_facts : ℕ → ChoiceFacts
   choice_facts i = record {
     prompt = prompt_at i;
-    defaults = filter_map (λ g. option_and_then (λ s. if is_member (choice_number i) s then Some (guarded i s g.when) else None)
-        (single_symbol g.value)) (filter_map stated_default (attributes ss i));
+    defaults = filter_map (λ g. option_and_then (λ s. if list_any (same_symbol s) (members_of (choice_number i))
+        then Some (guarded i s g.when) else None) (single_symbol g.value)) (filter_map stated_default (attributes ss i));
     members = members_of (choice_number i);
   }
-
-  abbrev pub choices : List ChoiceFacts
-  choices = map choice_facts (filter (of_block Block.Choice) indices)
 
   -- no statement before i defines the symbol; statement i is the first `config` line of its symbol
   abbrev pub is_first_definition : ℕ → SymId → Bool
@@ -244,57 +226,38 @@ module _ (ss : List Numbered) where
   abbrev pub is_first_definition_at : ℕ → Bool
   is_first_definition_at i = elim (symbol_at i) [ None ↦ false | Some s ↦ is_first_definition i s ]
 
-  -- whether statement i, which is o, makes an entry of the menu; the number of this entry
+  -- whether statement i, which is o, makes an entry of the menu
   abbrev pub shows_entry : ℕ → Option Numbered → Bool
-  shows_entry i o = elim o [
-    | Some (ConfigLine s) ↦ is_first_definition i s
-    | Some (MenuLine t) ↦ true
-    | Some EndMenuLine ↦ true
-    | Some (CommentLine t) ↦ true
-    | _ ↦ false
-  ]
+  shows_entry i (Some (ConfigLine s)) = is_first_definition i s
+  shows_entry i o = elim o [ Some (MenuLine t) ↦ true | Some EndMenuLine ↦ true | Some (CommentLine t) ↦ true | _ ↦ false ]
 
-  abbrev pub shown_number : ℕ → ℕ
-  shown_number i = count_by (λ j. shows_entry j (slice_get ss j)) (numbers i)
-
-  -- the entry; an `endmenu` closes the innermost block
+  -- the entry; an `endmenu` closes the innermost block, whose place is the number of entries before it
   abbrev pub shown_at : ℕ → Option Numbered → Option Shown
   shown_at i (Some (ConfigLine s)) = if is_first_definition i s then Some (SymbolShown s) else None
   shown_at i (Some (MenuLine t)) = Some (MenuShown t (shown_under i (own_visible i)))
-  shown_at i (Some EndMenuLine) = option_map (λ j. EndShown (shown_number j)) (last_of (enclosing ss i))
+  shown_at i (Some EndMenuLine) = option_map (λ j. EndShown (count_by (λ k. shows_entry k (slice_get ss k)) (numbers j))) (last_of (enclosing ss i))
   shown_at i (Some (CommentLine t)) = Some (CommentShown t (dependency i))
   shown_at i _ = None
 
-  abbrev pub entries : List Shown
-  entries = filter_map (λ i. shown_at i (slice_get ss i)) indices
-
-  -- ---- Warnings and refusals
-  -- the entry that a statement belongs to: the one begun by the last statement, up to this one, that is no attribute
-  abbrev pub begun_at : ℕ → MenuEntry
-  begun_at j = unwrap_or (option_map (begun (choice_number j)) (slice_get ss j)) MenuEntry.Other
-
+  -- ---- Warnings and refusals. The entry that a statement belongs to: the one begun by the last statement, up to this one, that is no attribute
   abbrev pub menu_entry_at : ℕ → MenuEntry
-  menu_entry_at i = unwrap_or (option_map begun_at
+  menu_entry_at i = unwrap_or (option_map (λ j. unwrap_or (option_map (begun (choice_number j)) (slice_get ss j)) MenuEntry.Other)
       (last_of (filter (λ j. elim (slice_get ss j) [ None ↦ false | Some s ↦ is_no_attribute s ]) (numbers (suc i))))) MenuEntry.Other
 
-  -- the warnings about statement i, which is s
+  -- The warnings about statement i, which is s. K1: a type that is not the type of the symbol. K2: a prompt, while another stands among the
+  -- attributes right before it. K3: the first definition of a symbol that is no member of a choice and has no type. K4: a `select` or `imply` of a
+  -- string, int or hex symbol. K5: a default of a choice that names a symbol, but no member. K6: a `select` or `imply` of a member of a choice.
   abbrev pub line_warnings : ℕ → Numbered → List LineWarning
   line_warnings i s =
-      -- K1: a type that is not the type of the symbol
       flat_map (λ t. flat_map (λ k. when (not (same_type k (type_of t))) (LineWarning.TypeRedefined t)) (listed (stated_type s)))
       (listed (entry_symbol (menu_entry_at i)))
-      -- K2: a prompt, while another stands among the attributes right before it
       ++ when (is_some (prompt_of s) && list_any (λ p. is_some (prompt_of p)) (take_while is_attribute (reverse (take i ss))))
       (LineWarning.PromptRedefined (entry_symbol (menu_entry_at i)))
-      -- K3: the first definition of a symbol that is no member of a choice and has no type
       ++ flat_map (λ t. when (is_first_definition_at i && not (is_some (choice_of t) || not (same_type (type_of t) SymbolType.Undefined)))
       (LineWarning.WithoutType t)) (listed (defined_name s))
-      -- K4: a `select` or `imply` of a string, int or hex symbol
       ++ flat_map (λ t. when (has_text (type_of (t.1))) (LineWarning.TextTarget (t.1) (t.0))) (listed (target_of s))
-      -- K5: a default of a choice that names a symbol, but no member of the choice
-      ++ flat_map (λ k. flat_map (λ g. flat_map (λ t. when (not (is_member k t)) (LineWarning.DefaultNotMember t)) (listed (single_symbol g.value)))
-      (listed (stated_default s))) (listed (entry_choice (menu_entry_at i)))
-      -- K6: a `select` or `imply` of a member of a choice
+      ++ flat_map (λ k. flat_map (λ g. flat_map (λ t. when (not (list_any (same_symbol t) (members_of k))) (LineWarning.DefaultNotMember t))
+      (listed (single_symbol g.value))) (listed (stated_default s))) (listed (entry_choice (menu_entry_at i)))
       ++ flat_map (λ t. when (is_some (choice_of (t.1))) (LineWarning.MemberTarget (t.1) (t.0))) (listed (target_of s))
 
   -- E13: a second `config` line of a member of a choice; a `config` line in a choice, of a symbol that is not bool
@@ -326,8 +289,7 @@ warning_text (NotAllowed name) = codes "K8: value not allowed for " ++ name
 warning_text MalformedLine = codes "K9: malformed line"
 warning_text (SetAgain name) = codes "K10: " ++ name ++ codes " is set again"
 warning_text (Selected name to direct) = codes "K11: " ++ name ++ codes " is selected to " ++ to ++ codes " while its dependency is " ++ direct
-warning_text (UserOutside name value low high) =
-    codes "K12: user value " ++ value ++ codes " of " ++ name ++ codes " is outside " ++ low ++ codes " to " ++ high
+warning_text (UserOutside name value low high) = codes "K12: user value " ++ value ++ codes " of " ++ name ++ codes " is outside " ++ low ++ codes " to " ++ high
 warning_text (DefaultOutside name value low high used) =
     codes "K13: default " ++ value ++ codes " of " ++ name ++ codes " is outside " ++ low ++ codes " to " ++ high ++ codes ", " ++ used ++ codes " is used"
 warning_text (Lost name given value) = codes "K14: " ++ name ++ codes " was given " ++ given ++ codes " and is " ++ value
@@ -360,53 +322,34 @@ module _ (names : List (List ℕ)) where
   named (LineWarning.DefaultNotMember t) = DefaultNotMember (name_by t)
   named (LineWarning.MemberTarget t r) = MemberTarget (name_by t) (keyword_text r)
 
-  -- The modules symbol: that of the first `modules` line; without such a line the one named `MODULES`, if a line mentions it.
-  abbrev pub modules_symbol : List Numbered → Option SymId
-  modules_symbol ss = option_or (modules_of ss) (option_map symbol (position (same_name (codes "MODULES")) names))
-
--- ---- The tree
--- the first of these refusals or, if there is none, the facts
-abbrev pub unless_refused : List Refused → TreeFacts → Result TreeFacts Refused
-unless_refused refusals = elim refusals [ [] ↦ λ tree. Ok tree | r ∷ rs ↦ λ tree. Err r ]
-
--- `ls` are the statements with their files and lines, `names` the names of their symbols.
+-- ---- The tree. `ls` are the statements with their files and lines, `names` the names of their symbols.
 module _ (names : List (List ℕ)) (ls : List (Located Numbered)) where
-  -- the warnings about all statements, as lines
-  abbrev pub warnings : List (List ℕ)
-  warnings = flat_map (λ i. elim (slice_get ls i) [
-    | None ↦ []
-    | Some l ↦
-        map (λ w. located_warning l.file l.line (named names w)) (line_warnings (statements ls) i l.statement)
-  ]) (indices (statements ls))
-
   -- a refusal at statement i, which names its entry
   abbrev pub refused_at : (List ℕ → Cause) → ℕ → List Refused
   refused_at c i = map (λ l. refused (c (entry_name names (entry_symbol (menu_entry_at (statements ls) i)))) l.file l.line) (listed (slice_get ls i))
 
-  abbrev pub whole_list_refusals : List Refused
-  whole_list_refusals = let ss = statements ls in
-      flat_map (refused_at ChoiceMember) (bad_members ss) ++ flat_map (refused_at BadDefault) (bad_defaults ss)
-
-  -- the tree, if nothing is refused
+  -- what all statements say, if none is refused; the first refusal or, without one, this tree
   abbrev pub facts_with : TreeFacts
   facts_with = let ss = statements ls in record {
     names = names;
     symbols = map (λ i. symbol_facts ss (symbol i)) (numbers (length names));
     defined = defined_symbols ss;
-    choices = choices ss;
-    entries = entries ss;
-    warnings = warnings;
+    choices = map (choice_facts ss) (filter (of_block ss Block.Choice) (indices ss));
+    entries = filter_map (λ i. shown_at ss i (slice_get ss i)) (indices ss);
+    warnings = flat_map (λ i. elim (slice_get ls i) [
+      | None ↦ []
+      | Some l ↦ map (λ w. located_warning l.file l.line (named names w)) (line_warnings ss i l.statement)
+    ]) (indices ss);
     main_menu = unwrap_or (last_of (filter_map (λ s. elim s [ MainMenuLine t ↦ Some t | _ ↦ None ]) ss)) (codes "Main menu");
-    modules = option_and_then (λ s. if list_any (same_symbol s) (defined_symbols ss) then Some s else None) (modules_symbol names ss);
+    modules = option_and_then (λ s. if list_any (same_symbol s) (defined_symbols ss) then Some s else None)
+        (option_or (modules_of ss) (option_map symbol (position (same_name (codes "MODULES")) names)));
   }
 
   abbrev pub tree_with : Result TreeFacts Refused
-  tree_with = unless_refused whole_list_refusals facts_with
+  tree_with = elim (flat_map (refused_at ChoiceMember) (bad_members (statements ls)) ++
+      flat_map (refused_at BadDefault) (bad_defaults (statements ls))) [ [] ↦ Ok facts_with | r ∷ rs ↦ Err r ]
 
--- what an expanded list says once its names have numbers, or its refusal
-abbrev pub tree_of_log : Result Log Refused → Result TreeFacts Refused
-tree_of_log e = elim e [ Ok log ↦ tree_with (names_of (statements log.lines)) (numbered_lines log.lines) | Err r ↦ Err r ]
-
--- the tree of a root file, or the first refusal
+-- the tree of a root file, whose names have numbers once it is expanded, or the first refusal
 abbrev pub IsTreeOf : Files → List ℕ → Result TreeFacts Refused → Type 0
-IsTreeOf files root r = (e : Result Log Refused) × Expands files root e × (r ≡ tree_of_log e)
+IsTreeOf files root r = (e : Result Log Refused) × Expands files root e ×
+    (r ≡ elim e [ Ok log ↦ tree_with (names_of (statements log.lines)) (numbered_lines log.lines) | Err refusal ↦ Err refusal ])

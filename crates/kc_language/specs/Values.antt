@@ -1,12 +1,8 @@
 -- Trusted: 8. Values: the equation that gives each symbol its value, which symbols are written, and which differ from their defaults.
 -- Sources: the kernel's kconfig-language document and kconfiglib's documentation; "our own" marks what neither of them settles.
 -- `known` is the value of each symbol. Under a tree and `known`, a symbol has limits and an `equation`. A solution satisfies all equations.
-use Rattle.std.specs.{Fmt.{digits, signed_decimal}, List.list_any, Option.option_or}
-use Rattle.std.specs.Prelude.{Bool, List, None, Option, Some, [], bytes_eq, codes, false, find, if◌then◌else◌, int_lt, is_some, length, map, nat_lt, not, option_and_then, option_map, pos, slice_get, true, unsigned_abs, unwrap_or, ℕ, ℤ, ◌&&◌, ◌++◌, ◌<◌, ◌||◌, ◌≡◌}
-use Rattle.kc_language.specs.Expressions.{Form, Leaf, Single, SymbolValue, TextValue, Truth, greater, greatest, least, lesser, same_symbol, symbol, text, truth_of_value, value}
-use Rattle.kc_language.specs.Symbols.{ChoiceFacts, Condition, Guarded, SymbolFacts, TreeFacts, is_symbol_of, name_by}
-use Rattle.kc_language.specs.Text.{hex_of, int_of}
-use Rattle.kc_language.specs.declared.{expressions.{SymId.SymId, SymbolType.{SymbolType, TheVariants.{Bool as IsBool, Hex, Int, Str, Tristate, Undefined}}, Tri.{TheVariants.{M, N, Y}, Tri}}, values.Interval.Interval}
+use Rattle.std.specs.{Fmt.{digits, signed_decimal}, List.list_any, Option.option_or, Prelude.{Bool, List, None, Option, Some, [], bytes_eq, codes, false, find, if◌then◌else◌, int_lt, is_some, length, map, nat_lt, not, option_and_then, option_map, pos, slice_get, true, unsigned_abs, unwrap_or, ℕ, ℤ, ◌&&◌, ◌++◌, ◌<◌, ◌||◌, ◌≡◌}}
+use Rattle.kc_language.specs.{Expressions.{Form, Leaf, Single, SymbolValue, TextValue, Truth, greater, greatest, least, lesser, same_symbol, symbol, text, truth_of_value, value}, Symbols.{ChoiceFacts, Condition, Guarded, SymbolFacts, TreeFacts, is_symbol_of, name_by}, Text.{hex_of, int_of}, declared.{expressions.{SymId.SymId, SymbolType.{SymbolType, TheVariants.{Bool as IsBool, Hex, Int, Str, Tristate, Undefined}}, Tri.{TheVariants.{M, N, Y}, Tri}}, values.Interval.Interval}}
 
 -- What the user gives: a truth value or a text to a symbol, or to a choice the member to select.
 pub data GivenValue : Type 0 where
@@ -26,16 +22,10 @@ abbrev pub is_n : Tri → Bool
 is_n t = elim t [ N ↦ true | _ ↦ false ]
 
 abbrev pub same_tri : Tri → Tri → Bool
-same_tri N N = true
-same_tri M M = true
-same_tri Y Y = true
-same_tri _ _ = false
+same_tri t = elim t [ N ↦ is_n | M ↦ λ u. elim u [ M ↦ true | _ ↦ false ] | Y ↦ λ u. elim u [ Y ↦ true | _ ↦ false ] ]
 
 abbrev pub above : Tri → Tri → Bool
-above M N = true
-above Y N = true
-above Y M = true
-above _ _ = false
+above t = elim t [ N ↦ λ u. false | M ↦ is_n | Y ↦ λ u. elim u [ Y ↦ false | _ ↦ true ] ]
 
 abbrev pub upgrade : Tri → Tri
 upgrade t = elim t [ N ↦ N | _ ↦ Y ]
@@ -51,15 +41,12 @@ given_of v = elim v [ Truth t ↦ GivenTruth t | TextValue k bytes ↦ GivenText
 
 -- The user's value counts only if the symbol is visible: a truth value up to the visibility, a text as it is (kconfiglib).
 abbrev pub user_or : Option GivenValue → Tri → Tri → Tri
-user_or (Some (GivenTruth u)) vis otherwise = if is_n vis then otherwise else lesser u vis
-user_or _ vis otherwise = otherwise
+user_or user = elim user [ Some (GivenTruth u) ↦ λ vis otherwise. if is_n vis then otherwise else lesser u vis | _ ↦ λ vis otherwise. otherwise ]
 
 abbrev pub visible_text : Option GivenValue → Tri → Option (List ℕ)
-visible_text (Some (GivenText t)) vis = if is_n vis then None else Some t
-visible_text _ vis = None
+visible_text user = elim user [ Some (GivenText t) ↦ λ vis. if is_n vis then None else Some t | _ ↦ λ vis. None ]
 
--- Numbers are decimal for int and hexadecimal for hex; a text that is no number counts as 0. A hex bound, which is never negative, is
--- written with `0x` and lower-case digits (all our own).
+-- Int is decimal. Hex is hexadecimal, and a hex bound, never negative, is written as `0xff`. A text that is no number counts as 0 (all our own).
 abbrev pub number_as : SymbolType → List ℕ → Option ℤ
 number_as k = elim k [ Int ↦ int_of | Hex ↦ hex_of | _ ↦ λ bytes. None ]
 
@@ -69,7 +56,7 @@ number_or_zero k bytes = unwrap_or (number_as k bytes) (pos 0)
 abbrev pub number_text : SymbolType → ℤ → List ℕ
 number_text k = elim k [ Hex ↦ λ n. codes "0x" ++ digits 16 false (unsigned_abs n) | _ ↦ signed_decimal ]
 
--- Ranges: both bounds are inside. A number below the low bound becomes that bound, else one above the high bound that one; any other keeps its text.
+-- Ranges: both bounds are inside. A number below the low bound becomes that bound, else one above the high bound that one.
 abbrev pub is_within_range : SymbolType → Option Interval → List ℕ → Bool
 is_within_range k None t = true
 is_within_range k (Some r) t = not (int_lt (number_or_zero k t) r.low) && not (int_lt r.high (number_or_zero k t))
@@ -79,15 +66,11 @@ if_within_range k range t = option_and_then (λ t. if is_within_range k range t 
 
 abbrev pub clamped : SymbolType → Option Interval → List ℕ → List ℕ
 clamped k None t = t
-clamped k (Some r) t =
-    if int_lt (number_or_zero k t) r.low then number_text k r.low else (if int_lt r.high (number_or_zero k t) then number_text k r.high else t)
+clamped k (Some r) t = if int_lt (number_or_zero k t) r.low then number_text k r.low else (if int_lt r.high (number_or_zero k t) then number_text k r.high else t)
 
 -- Symbols and choices of a tree by number; each name that the tree mentions is a symbol.
 abbrev pub name_count : TreeFacts → ℕ
 name_count tree = length tree.symbols
-
-abbrev pub is_mentioned : TreeFacts → SymId → Bool
-is_mentioned tree s = nat_lt s.0 (name_count tree)
 
 abbrev pub facts : TreeFacts → SymId → Option SymbolFacts
 facts tree s = slice_get tree.symbols s.0
@@ -119,8 +102,7 @@ module _ (tree : TreeFacts) (known : SymId → SymbolValue) where
   abbrev pub mode_of : Option ChoiceFacts → Tri
   mode_of c = upgrade (elim (option_and_then (λ c. c.prompt) c) [ None ↦ N | Some p ↦ and_value p.conjuncts ])
 
-  -- A condition: the `&&` of its conjuncts and of the mode of the choice around it (the document's "Menu dependencies"). `first_met` is the
-  -- first whose condition is not n (the document: "the first default whose condition is met").
+  -- A condition: the `&&` of its conjuncts and of the mode of the choice around it ("Menu dependencies"). It is met if it is not n.
   abbrev pub condition : Condition → Tri
   condition c = lesser (and_value c.conjuncts) (elim c.mode [ None ↦ Y | Some k ↦ mode_of (choice_at tree k) ])
 
@@ -137,9 +119,8 @@ module _ (tree : TreeFacts) (known : SymId → SymbolValue) where
   abbrev pub upgraded : SymbolType → Tri → Tri
   upgraded k = elim k [ Tristate ↦ λ t. if is_n (modules_value known tree.modules) then upgrade t else t | _ ↦ upgrade ]
 
-  -- The limits of a symbol: the greatest condition of its prompts (kconfiglib's `visibility`), the greatest `depends on` of its definitions
-  -- (its `direct_dep`), and the greatest min(other symbol's value, condition) of the `select` lines that name it ("reverse dependencies") and
-  -- of the `imply` lines ("weak reverse dependencies").
+  -- The limits of a symbol: the greatest condition of its prompts (kconfiglib's `visibility`), the greatest dependency of its definitions
+  -- (its `direct_dep`), and the greatest min(other symbol's value, condition) of the `select` lines that name it ("reverse dependencies") and of the `imply` lines.
   abbrev pub visibility : SymbolFacts → Tri
   visibility f = upgraded f.symbol_type (conditions f.prompts)
 
@@ -169,10 +150,6 @@ module _ (tree : TreeFacts) (known : SymId → SymbolValue) where
   abbrev pub truth_equation : SymbolFacts → Option GivenValue → Tri
   truth_equation f user = upgraded f.symbol_type (greater (user_or user (visibility f) (implied_value f)) (selected_to f))
 
-  -- String: the user's text, else the default's, else nothing (kconfiglib's `str_value`).
-  abbrev pub text_equation : SymbolFacts → Option GivenValue → List ℕ
-  text_equation f user = unwrap_or (visible_text user (visibility f)) (default_text known (first_met f.defaults))
-
   -- Int and hex: the user's text if it is inside the first range whose condition is not n, else the default's, clamped to that range.
   abbrev pub active_range : SymbolFacts → Option Interval
   active_range f = let number = λ (bound : Leaf). number_or_zero f.symbol_type (text known bound) in
@@ -190,33 +167,24 @@ module _ (tree : TreeFacts) (known : SymId → SymbolValue) where
   abbrev pub visible_member : ChoiceFacts → SymId → Bool
   visible_member c m = list_any (same_symbol m) c.members && visible m
 
-  abbrev pub chosen_member : ChoiceFacts → Option GivenValue → Option SymId
-  chosen_member c user = elim user [ Some (Member m) ↦ if visible_member c m then Some m else None | _ ↦ None ]
-
-  abbrev pub unselected : ChoiceFacts → Option SymId
-  unselected c = option_or (option_map (λ g. g.what) (find (λ g. not (is_n (condition g.when)) && visible_member c g.what) c.defaults))
-      (find visible c.members)
-
   abbrev pub selected : Option ChoiceFacts → Option GivenValue → Option SymId
   selected None user = None
-  selected (Some c) user = if is_n (mode_of (Some c)) then None else option_or (chosen_member c user) (unselected c)
+  selected (Some c) user = if is_n (mode_of (Some c)) then None else option_or
+      (elim user [ Some (Member m) ↦ if visible_member c m then Some m else None | _ ↦ None ]) (option_or
+      (option_map (λ g. g.what) (find (λ g. not (is_n (condition g.when)) && visible_member c g.what) c.defaults)) (find visible c.members))
 
-  -- The value of a symbol by its type; without a type it is its own name. A member of a choice is y if it is selected, else n: its own
-  -- defaults have no effect, and `user` is what the choice was given.
+  -- The value by type: without a type the symbol's own name; of a string the user's text, else the default's, else nothing (`str_value`).
   abbrev pub by_type : SymId → SymbolFacts → SymbolType → Option GivenValue → SymbolValue
   by_type s f Undefined user = TextValue Undefined (name tree s)
-  by_type s f Str user = TextValue Str (text_equation f user)
+  by_type s f Str user = TextValue Str (unwrap_or (visible_text user (visibility f)) (default_text known (first_met f.defaults)))
   by_type s f Int user = TextValue Int (number_equation f user)
   by_type s f Hex user = TextValue Hex (number_equation f user)
   by_type s f _ user = Truth (truth_equation f user)
 
-  abbrev pub by_choice : SymId → SymbolFacts → Option ℕ → Option GivenValue → SymbolValue
-  by_choice s f (Some c) user = Truth (if is_symbol_of s (selected (choice_at tree c) user) then Y else N)
-  by_choice s f None user = by_type s f f.symbol_type user
-
+  -- A member of a choice is y if it is selected, else n: its own defaults have no effect, and `user` is what the choice was given.
   abbrev pub equation : SymId → Option SymbolFacts → Option GivenValue → SymbolValue
-  equation s None user = TextValue Undefined (name tree s)
-  equation s (Some f) user = by_choice s f f.choice user
+  equation s None = λ user. TextValue Undefined (name tree s)
+  equation s (Some f) = elim f.choice [ None ↦ by_type s f f.symbol_type | Some c ↦ λ u. Truth (if is_symbol_of s (selected (choice_at tree c) u) then Y else N) ]
 
   -- Which symbols have a line in the .config. A member: if it is visible. A bool or tristate: if it is visible, or its default, what it is
   -- selected to, or what it is implied to within its direct dependency is not n. A string, int or hex: if it is visible, or a default is met.
@@ -225,28 +193,21 @@ module _ (tree : TreeFacts) (known : SymId → SymbolValue) where
       (not (is_n (implied_to f)) && not (is_n (direct f)))))
 
   abbrev pub written_by_type : SymbolFacts → SymbolType → Bool
-  written_by_type f k = elim k [
-    | Undefined ↦ false
-    | IsBool ↦ written_truth f
-    | Tristate ↦ written_truth f
-    | _ ↦ is_visible f || is_some (first_met f.defaults)
-  ]
+  written_by_type f k = elim k [ Undefined ↦ false | IsBool ↦ written_truth f | Tristate ↦ written_truth f | _ ↦ is_visible f || is_some (first_met f.defaults) ]
 
   abbrev pub written : SymId → Bool
   written s = elim (facts tree s) [ None ↦ false | Some f ↦ elim f.choice [ None ↦ written_by_type f f.symbol_type | Some c ↦ is_visible f ] ]
 
-  -- A value that would change if the .config were read again: a tristate outside a choice that is visible, and greater than both its
-  -- visibility and what it is selected to.
-  abbrev pub changes_on_reread_by : SymbolFacts → Option ℕ → Tri → Bool
-  changes_on_reread_by f (Some c) t = false
-  changes_on_reread_by f None t = is_tristate f.symbol_type && (is_visible f && (above t (visibility f) && above t (selected_to f)))
+  -- When the .config is read again, a visible tristate outside a choice changes if it is above both its visibility and what it is selected to.
+  abbrev pub changes_on_reread_truth : SymbolFacts → Tri → Bool
+  changes_on_reread_truth f t = is_tristate f.symbol_type && (is_visible f && (above t (visibility f) && above t (selected_to f)))
 
   abbrev pub changes_on_reread_facts : Option SymbolFacts → Tri → Bool
-  changes_on_reread_facts o = elim o [ None ↦ λ t. false | Some f ↦ changes_on_reread_by f f.choice ]
+  changes_on_reread_facts o = elim o [ None ↦ λ t. false | Some f ↦ elim f.choice [ Some c ↦ λ t. false | None ↦ changes_on_reread_truth f ] ]
 
 -- V gives each symbol its value by number; a symbol past the last has an empty name.
 abbrev pub known_from : TreeFacts → (ℕ → SymbolValue) → SymId → SymbolValue
-known_from tree V s = if is_mentioned tree s then V s.0 else TextValue Undefined (name tree s)
+known_from tree V s = if nat_lt s.0 (name_count tree) then V s.0 else TextValue Undefined (name tree s)
 
 abbrev pub changes_on_reread : TreeFacts → (ℕ → SymbolValue) → ℕ → Bool
 changes_on_reread tree V i = changes_on_reread_facts tree (known_from tree V) (facts tree (symbol i)) (truth_of_value (V i))
@@ -272,8 +233,7 @@ Solves n rhs V = (s : ℕ) → s < n → V s ≡ rhs s V
 abbrev pub IsOnlySolution : {A : Type 0} → ℕ → (ℕ → (ℕ → A) → A) → (ℕ → A) → Type 0
 IsOnlySolution {A} n rhs V = (W : ℕ → A) → Solves n rhs W → (s : ℕ) → s < n → W s ≡ V s
 
--- A symbol differs if its value is not what its equation gives without the user's value. A member differs if it is selected and is not the
--- default selection (our own).
+-- A symbol differs if its equation gives another value without the user's; a member, if it is selected and not by default (our own).
 module _ (tree : TreeFacts) (user : UserPlace → Option GivenValue) (V : ℕ → SymbolValue) where
   abbrev pub selection : ℕ → Option SymId
   selection c = selected tree (known_from tree V) (choice_at tree c) (user (ChoicePlace c))

@@ -1,7 +1,11 @@
--- For proofs: Parts of the definitions of Needs, by names of their own.
+-- Trusted: Parts of the definitions of Needs, by names of their own.
 use Rattle.std.specs.List.{list_any}
-use Rattle.std.specs.Prelude.{List, Some, false, find, nat_eq, ℕ, ◌&&◌, ◌<◌, ◌≡◌}
-use Rattle.kc_language.specs.Needs.{needs, unordered_after}
+use Rattle.std.specs.Prelude.{List, Some, false, find, length, nat_eq, ℕ, ◌&&◌, ◌<◌, ◌≡◌}
+use Rattle.kc_language.specs.Needs.{needs, needs_in, unordered_after}
+
+-- no symbol is unordered after as many steps as there are symbols
+abbrev pub AreAccepted : List (List ℕ) → Type 0
+AreAccepted needs = (s : ℕ) → s < length needs → unordered_after (needs_in needs) (length needs) s ≡ false
 
 -- none of the first n symbols is unordered after n iterations
 abbrev pub NothingUnordered : ℕ → (ℕ → List ℕ) → Type 0

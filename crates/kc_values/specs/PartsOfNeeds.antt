@@ -2,9 +2,10 @@
 use Rattle.std.specs.List.{filter, flat_map}
 use Rattle.std.specs.Prelude.{List, None, Option, Some, [], map, ℕ, ◌++◌, ◌∷◌}
 use Rattle.kc_language.specs.Expressions.{leaf_symbols}
-use Rattle.kc_language.specs.Needs.{condition_names, conjunct_names, guarded_names, names_by_type, names_of_all, names_of_choice}
+use Rattle.kc_language.specs.Needs.{condition_names, conjunct_names, names_by_type, names_of_choice}
 use Rattle.kc_language.specs.Symbols.{Bounds, ChoiceFacts, SymbolFacts, TreeFacts, listed}
-use Rattle.kc_language.specs.Values.{choice_at, is_mentioned}
+use Rattle.kc_language.specs.Values.{choice_at}
+use Rattle.kc_values.specs.PartsOfValues.{is_mentioned}
 use Rattle.kc_language.specs.declared.expressions.SymId.{SymId}
 use Rattle.kc_language.specs.declared.expressions.SymbolType.{SymbolType}
 use Rattle.kc_language.specs.declared.expressions.SymbolType.TheVariants.{Bool as IsBool, Hex, Int, Str, Tristate, Undefined}
@@ -24,6 +25,9 @@ module _ (tree : TreeFacts) where
   prompt_names None = []
   prompt_names (Some c) = conjunct_names tree c.prompt
 
+  abbrev pub mode_names : Option ℕ → List SymId
+  mode_names mode = elim mode [ None ↦ [] | Some k ↦ elim (choice_at tree k) [ None ↦ [] | Some c ↦ conjunct_names tree c.prompt ] ]
+
   abbrev pub prompts_names : Option SymbolFacts → List SymId
   prompts_names None = []
   prompts_names (Some f) = flat_map (condition_names tree) f.prompts
@@ -36,10 +40,6 @@ module _ (tree : TreeFacts) where
   type_names Str = []
   type_names Int = []
   type_names Hex = []
-
-  -- int and hex: also the bounds and conditions of its ranges
-  abbrev pub names_of_number : SymbolFacts → List SymId
-  names_of_number f = names_of_all tree f ++ guarded_names tree bounds_names f.ranges
 
   abbrev pub names_by_choice : SymbolFacts → Option ℕ → List SymId
   names_by_choice f (Some c) = names_of_choice tree (choice_at tree c)

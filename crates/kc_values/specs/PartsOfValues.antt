@@ -1,15 +1,18 @@
 -- Trusted: Parts of the definitions of Values, by names of their own.
 use Rattle.std.specs.List.{find}
-use Rattle.std.specs.Option.{is_some}
-use Rattle.std.specs.Prelude.{Bool, List, None, Option, Some, false, if◌then◌else◌, not, ℕ, ◌&&◌, ◌||◌}
-use Rattle.kc_language.specs.Expressions.{SymbolValue, greater, lesser, text}
+use Rattle.std.specs.Option.{is_some, option_or}
+use Rattle.std.specs.Prelude.{Bool, List, None, Option, Some, false, if◌then◌else◌, nat_lt, not, option_map, unwrap_or, ℕ, ◌&&◌, ◌||◌}
+use Rattle.kc_language.specs.Expressions.{SymbolValue, Truth, greater, lesser, text}
 use Rattle.kc_language.specs.Symbols.{Bounds, ChoiceFacts, Condition, Guarded, SymbolFacts, TreeFacts, is_symbol_of}
-use Rattle.kc_language.specs.Values.{ChoicePlace, GivenValue, SymbolPlace, UserPlace, above, and_value, choice_at, condition, conditions, direct, first_met, given_of, implied_to, is_n, is_tristate, is_visible, mode_of, number_or_zero, same_given, selected, selected_to, visibility, visible, visible_member, written_by_type}
+use Rattle.kc_language.specs.Values.{ChoicePlace, GivenValue, Member, SymbolPlace, UserPlace, and_value, by_type, changes_on_reread_truth, choice_at, condition, conditions, default_text, direct, first_met, given_of, implied_to, is_n, is_visible, mode_of, name_count, number_or_zero, same_given, selected, visibility, visible, visible_member, visible_text, written_by_type}
 use Rattle.kc_language.specs.declared.expressions.SymId.{SymId}
 use Rattle.kc_language.specs.declared.expressions.SymbolType.{SymbolType}
 use Rattle.kc_language.specs.declared.expressions.Tri.{Tri}
 use Rattle.kc_language.specs.declared.expressions.Tri.TheVariants.{N, Y}
 use Rattle.kc_language.specs.declared.values.Interval.{Interval}
+
+abbrev pub is_mentioned : TreeFacts → SymId → Bool
+is_mentioned tree s = nat_lt s.0 (name_count tree)
 
 abbrev pub what_of : Option (Guarded SymId) → Option SymId
 what_of None = None
@@ -47,6 +50,23 @@ module _ (tree : TreeFacts) (known : SymId → SymbolValue) where
   abbrev pub first_visible : List SymId → Option SymId
   first_visible ms = find (visible tree known) ms
 
+  -- the user's member, if it is visible; without it the first default that names a visible member, else the first visible member
+  abbrev pub chosen_member : ChoiceFacts → Option GivenValue → Option SymId
+  chosen_member c user = elim user [ Some (Member m) ↦ if visible_member tree known c m then Some m else None | _ ↦ None ]
+
+  abbrev pub unselected : ChoiceFacts → Option SymId
+  unselected c = option_or
+      (option_map (λ g. g.what) (find (λ g. not (is_n (condition tree known g.when)) && visible_member tree known c g.what) c.defaults))
+      (find (visible tree known) c.members)
+
+  -- String: the user's text, else the default's, else nothing (kconfiglib's `str_value`).
+  abbrev pub text_equation : SymbolFacts → Option GivenValue → List ℕ
+  text_equation f user = unwrap_or (visible_text user (visibility tree known f)) (default_text known (first_met tree known f.defaults))
+
+  abbrev pub by_choice : SymId → SymbolFacts → Option ℕ → Option GivenValue → SymbolValue
+  by_choice s f (Some c) user = Truth (if is_symbol_of s (selected tree known (choice_at tree c) user) then Y else N)
+  by_choice s f None user = by_type tree known s f f.symbol_type user
+
   -- A member is y where it is selected, which is visible, else n; its own defaults have no effect.
   abbrev pub member_equation : SymId → ℕ → Option GivenValue → Tri
   member_equation s c user = if is_symbol_of s (selected tree known (choice_at tree c) user) then Y else N
@@ -66,10 +86,9 @@ module _ (tree : TreeFacts) (known : SymId → SymbolValue) where
   written_facts None = false
   written_facts (Some f) = written_by_choice f f.choice
 
-  -- of type tristate, visible, and greater than both its visibility and what it is selected to
-  abbrev pub changes_on_reread_truth : SymbolFacts → Tri → Bool
-  changes_on_reread_truth f t =
-      (is_tristate tree known) f.symbol_type && (is_visible tree known f && (above t (visibility tree known f) && above t (selected_to tree known f)))
+  abbrev pub changes_on_reread_by : SymbolFacts → Option ℕ → Tri → Bool
+  changes_on_reread_by f (Some c) t = false
+  changes_on_reread_by f None t = changes_on_reread_truth tree known f t
 
 abbrev pub user_place_by : ℕ → Option ℕ → UserPlace
 user_place_by i None = SymbolPlace i
