@@ -1,9 +1,9 @@
 -- For proofs: Parts of the definitions of Symbols, by names of their own.
 use Rattle.std.specs.List.{filter_map, flat_map, list_any, take_while}
-use Rattle.std.specs.Option.{option_and_then, option_or}
-use Rattle.std.specs.Prelude.{Bool, Err, List, None, Ok, Option, Result, Some, [], codes, count_by, false, filter, if◌then◌else◌, is_none, is_some, map, not, option_map, position, reverse, slice_get, take, true, unwrap_or, ℕ, ◌&&◌, ◌++◌, ◌==◌, ◌||◌, ◌∷◌}
-use Rattle.kc_language.specs.Expansion.{Log, Refused, attributes, bracket_at, enclosing, is_attribute, is_no_attribute, last_of, modules_of, names_of, numbered_lines, numbers, opened}
-use Rattle.kc_language.specs.Expressions.{Form, Single, same_name, same_symbol, symbol}
+use Rattle.std.specs.Option.{option_and_then}
+use Rattle.std.specs.Prelude.{Bool, Err, List, None, Ok, Option, Result, Some, [], count_by, false, filter, if◌then◌else◌, is_none, is_some, map, not, option_map, reverse, slice_get, take, true, unwrap_or, ℕ, ◌&&◌, ◌++◌, ◌==◌, ◌||◌, ◌∷◌}
+use Rattle.kc_language.specs.Expansion.{Log, Refused, attributes, bracket_at, enclosing, is_attribute, is_no_attribute, last_of, names_of, numbered_lines, numbers, opened}
+use Rattle.kc_language.specs.Expressions.{Form, Single, same_symbol}
 use Rattle.kc_language.specs.Statements.{ConfigLine, DependsLine, ImplyLine, InputPrompt, Located, MainMenuLine, Named, Numbered, RangeLine, SelectLine, VisibleLine, statements}
 use Rattle.kc_language.specs.Symbols.{Bounds, ChoiceFacts, Condition, Guarded, Shown, StatedDefault, TreeFacts, bad_defaults, bad_members, begun, can_be_target, choice_facts, choice_number, dependency, enclosing_choice, entry_choice, entry_symbol, has_text, indices, is_first_definition, line_warnings, listed, located_warning, members_of, named, naming_at, of_block, own_visible, prompt_of, refused_at, same_type, shown_at, shows_entry, single_symbol, stated_default, stated_type, symbol_at, target_of, tree_with, when}
 use Rattle.kc_language.specs.declared.expressions.SymId.{SymId}
@@ -185,10 +185,6 @@ is_bad_default types o s =
     (is_some (entry_choice o) && is_none (single_symbol g.value))) (listed (stated_default s))
 
 module _ (names : List (List ℕ)) where
-  -- the symbol of the first `modules` line; without such a line the one named `MODULES`, if a line mentions it
-  abbrev pub modules_symbol : List Numbered → Option SymId
-  modules_symbol ss = option_or (modules_of ss) (option_map symbol (position (same_name (codes "MODULES")) names))
-
   -- the whole line of a warning about a line
   abbrev pub line_of : List ℕ → ℕ → LineWarning → List ℕ
   line_of file line w = located_warning file line (named names w)

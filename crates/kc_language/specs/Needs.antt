@@ -81,9 +81,8 @@ loop_text tree loop = elim loop [ [] ↦ [] | s ∷ ss ↦ name tree (symbol s) 
 
 -- The text of the tree's loop: of several symbols the walk takes the one that is defined first. The refusal has no location.
 abbrev pub IsLoopText : TreeFacts → List ℕ → Type 0
-IsLoopText tree text =
-    (loop : List ℕ) × IsNamedLoop (map (λ (s : SymId). s.0) tree.defined) (length (needs tree)) (needs_in (needs tree)) loop ×
-    (text ≡ loop_text tree loop)
+IsLoopText tree text = (loop : List ℕ) ×
+    IsNamedLoop (map (λ (s : SymId). s.0) tree.defined) (length (needs tree)) (needs_in (needs tree)) loop × (text ≡ loop_text tree loop)
 
 abbrev pub loop_refused : List ℕ → Refused
 loop_refused text = record { cause = Cause.Loop text; location = None }

@@ -43,8 +43,8 @@ pub data Shown : Type 0 where
   EndShown : ℕ → Shown
   CommentShown : List ℕ → Condition → Shown
 
--- Symbol i has name i and facts i. A name that is mentioned and not defined is a symbol without a type. `defined` has the defined ones, in the order
--- of their first definition. `modules` is the symbol of the first `modules` line, or without such a line the one named `MODULES`, if it is defined.
+-- Symbol i has name i and facts i. A name that is mentioned and not defined is a symbol without a type.
+-- `defined` has the defined ones, in the order of their first definition. `modules` is the modules symbol if it is defined.
 pub record TreeFacts : Type 0 where
   pub names : List (List ℕ)
   pub symbols : List SymbolFacts
@@ -248,8 +248,7 @@ module _ (ss : List Numbered) where
   -- attributes right before it. K3: the first definition of a symbol that is no member of a choice and has no type. K4: a `select` or `imply` of a
   -- string, int or hex symbol. K5: a default of a choice that names a symbol, but no member. K6: a `select` or `imply` of a member of a choice.
   abbrev pub line_warnings : ℕ → Numbered → List LineWarning
-  line_warnings i s =
-      flat_map (λ t. flat_map (λ k. when (not (same_type k (type_of t))) (LineWarning.TypeRedefined t)) (listed (stated_type s)))
+  line_warnings i s = flat_map (λ t. flat_map (λ k. when (not (same_type k (type_of t))) (LineWarning.TypeRedefined t)) (listed (stated_type s)))
       (listed (entry_symbol (menu_entry_at i)))
       ++ when (is_some (prompt_of s) && list_any (λ p. is_some (prompt_of p)) (take_while is_attribute (reverse (take i ss))))
       (LineWarning.PromptRedefined (entry_symbol (menu_entry_at i)))
@@ -322,6 +321,10 @@ module _ (names : List (List ℕ)) where
   named (LineWarning.DefaultNotMember t) = DefaultNotMember (name_by t)
   named (LineWarning.MemberTarget t r) = MemberTarget (name_by t) (keyword_text r)
 
+  -- The modules symbol: that of the first `modules` line; without such a line the one named `MODULES`, if a line mentions it.
+  abbrev pub modules_symbol : List Numbered → Option SymId
+  modules_symbol ss = option_or (modules_of ss) (option_map symbol (position (same_name (codes "MODULES")) names))
+
 -- ---- The tree. `ls` are the statements with their files and lines, `names` the names of their symbols.
 module _ (names : List (List ℕ)) (ls : List (Located Numbered)) where
   -- a refusal at statement i, which names its entry
@@ -341,8 +344,7 @@ module _ (names : List (List ℕ)) (ls : List (Located Numbered)) where
       | Some l ↦ map (λ w. located_warning l.file l.line (named names w)) (line_warnings ss i l.statement)
     ]) (indices ss);
     main_menu = unwrap_or (last_of (filter_map (λ s. elim s [ MainMenuLine t ↦ Some t | _ ↦ None ]) ss)) (codes "Main menu");
-    modules = option_and_then (λ s. if list_any (same_symbol s) (defined_symbols ss) then Some s else None)
-        (option_or (modules_of ss) (option_map symbol (position (same_name (codes "MODULES")) names)));
+    modules = option_and_then (λ s. if list_any (same_symbol s) (defined_symbols ss) then Some s else None) (modules_symbol names ss);
   }
 
   abbrev pub tree_with : Result TreeFacts Refused

@@ -1,6 +1,5 @@
 -- Trusted: 8. Values: the equation that gives each symbol its value, which symbols are written, and which differ from their defaults.
--- Sources: the kernel's kconfig-language document and kconfiglib's documentation; "our own" marks what neither of them settles.
--- `known` is the value of each symbol. Under a tree and `known`, a symbol has limits and an `equation`. A solution satisfies all equations.
+-- Sources: the kernel's kconfig-language document and kconfiglib's documentation; "our own" marks the rest. `known` is the value of each symbol.
 use Rattle.std.specs.{Fmt.{digits, signed_decimal}, List.list_any, Option.option_or, Prelude.{Bool, List, None, Option, Some, [], bytes_eq, codes, false, find, if◌then◌else◌, int_lt, is_some, length, map, nat_lt, not, option_and_then, option_map, pos, slice_get, true, unsigned_abs, unwrap_or, ℕ, ℤ, ◌&&◌, ◌++◌, ◌<◌, ◌||◌, ◌≡◌}}
 use Rattle.kc_language.specs.{Expressions.{Form, Leaf, Single, SymbolValue, TextValue, Truth, greater, greatest, least, lesser, same_symbol, symbol, text, truth_of_value, value}, Symbols.{ChoiceFacts, Condition, Guarded, SymbolFacts, TreeFacts, is_symbol_of, name_by}, Text.{hex_of, int_of}, declared.{expressions.{SymId.SymId, SymbolType.{SymbolType, TheVariants.{Bool as IsBool, Hex, Int, Str, Tristate, Undefined}}, Tri.{TheVariants.{M, N, Y}, Tri}}, values.Interval.Interval}}
 
@@ -58,8 +57,7 @@ number_text k = elim k [ Hex ↦ λ n. codes "0x" ++ digits 16 false (unsigned_a
 
 -- Ranges: both bounds are inside. A number below the low bound becomes that bound, else one above the high bound that one.
 abbrev pub is_within_range : SymbolType → Option Interval → List ℕ → Bool
-is_within_range k None t = true
-is_within_range k (Some r) t = not (int_lt (number_or_zero k t) r.low) && not (int_lt r.high (number_or_zero k t))
+is_within_range k range = elim range [ None ↦ λ t. true | Some r ↦ λ t. not (int_lt (number_or_zero k t) r.low) && not (int_lt r.high (number_or_zero k t)) ]
 
 abbrev pub if_within_range : SymbolType → Option Interval → Option (List ℕ) → Option (List ℕ)
 if_within_range k range t = option_and_then (λ t. if is_within_range k range t then Some t else None) t
@@ -119,8 +117,8 @@ module _ (tree : TreeFacts) (known : SymId → SymbolValue) where
   abbrev pub upgraded : SymbolType → Tri → Tri
   upgraded k = elim k [ Tristate ↦ λ t. if is_n (modules_value known tree.modules) then upgrade t else t | _ ↦ upgrade ]
 
-  -- The limits of a symbol: the greatest condition of its prompts (kconfiglib's `visibility`), the greatest dependency of its definitions
-  -- (its `direct_dep`), and the greatest min(other symbol's value, condition) of the `select` lines that name it ("reverse dependencies") and of the `imply` lines.
+  -- The limits of a symbol: the greatest condition of its prompts (kconfiglib's `visibility`), the greatest dependency of its definitions, and the
+  -- greatest min(other symbol's value, condition) of the `select` lines that name it ("reverse dependencies") and of the `imply` lines.
   abbrev pub visibility : SymbolFacts → Tri
   visibility f = upgraded f.symbol_type (conditions f.prompts)
 
@@ -169,9 +167,8 @@ module _ (tree : TreeFacts) (known : SymId → SymbolValue) where
 
   abbrev pub selected : Option ChoiceFacts → Option GivenValue → Option SymId
   selected None user = None
-  selected (Some c) user = if is_n (mode_of (Some c)) then None else option_or
-      (elim user [ Some (Member m) ↦ if visible_member c m then Some m else None | _ ↦ None ]) (option_or
-      (option_map (λ g. g.what) (find (λ g. not (is_n (condition g.when)) && visible_member c g.what) c.defaults)) (find visible c.members))
+  selected (Some c) user = if is_n (mode_of (Some c)) then None else option_or (elim user [ Some (Member m) ↦ if visible_member c m then Some m else None | _ ↦ None ])
+      (option_or (option_map (λ g. g.what) (find (λ g. not (is_n (condition g.when)) && visible_member c g.what) c.defaults)) (find visible c.members))
 
   -- The value by type: without a type the symbol's own name; of a string the user's text, else the default's, else nothing (`str_value`).
   abbrev pub by_type : SymId → SymbolFacts → SymbolType → Option GivenValue → SymbolValue
