@@ -9,8 +9,7 @@ module _ (tree : TreeFacts) where
   conjunct_names c = elim c [ None ↦ [] | Some c ↦ flat_map (symbols tree.modules) c.conjuncts ]
 
   abbrev pub condition_names : Condition → List SymId
-  condition_names c = flat_map (symbols tree.modules) c.conjuncts ++
-      elim c.mode [ None ↦ [] | Some k ↦ elim (choice_at tree k) [ None ↦ [] | Some c ↦ conjunct_names c.prompt ] ]
+  condition_names c = conjunct_names (Some c) ++ elim c.mode [ None ↦ [] | Some k ↦ elim (choice_at tree k) [ None ↦ [] | Some c ↦ conjunct_names c.prompt ] ]
 
   abbrev pub guarded_names : {X : Type 0} → (X → List SymId) → List (Guarded X) → List SymId
   guarded_names names gs = flat_map (λ g. names g.what ++ condition_names g.when) gs
