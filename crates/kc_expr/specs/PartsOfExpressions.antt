@@ -1,7 +1,8 @@
 -- Trusted: Parts of the definitions of Expressions, by names of their own.
 use Rattle.std.specs.List.{flat_map}
-use Rattle.std.specs.Prelude.{Bool, List, None, Option, Some, [], false, if◌then◌else◌, is_some, unwrap_or, ℕ, ◌&&◌, ◌++◌, ◌∷◌}
-use Rattle.kc_language.specs.Expressions.{Bang, Begins, Close, Compares, Disjunction, Every, Form, Forms, Joins, Keyword, Leaf, LoneM, Open, OperandToken, Single, Some_of, Symbol, SymbolValue, Terminal, Text, TextValue, Truth, lesser, levels, meaning, names_in_atom, same_name, spell, tri_text, tristate_constant, truth_of_value}
+use Rattle.std.specs.Prelude.{Bool, List, None, Option, Some, [], false, if◌then◌else◌, is_some, map, unwrap_or, ℕ, ◌&&◌, ◌++◌, ◌∷◌}
+use Rattle.kc_language.specs.Expressions.{Bang, Begins, Close, Compares, Disjunction, Every, Form, Forms, Joins, Keyword, Leaf, LoneM, Open, OperandToken, Single, Some_of, Symbol, SymbolValue, Terminal, Text, TextValue, Truth, lesser, levels, meaning, names_in_atom, same_name, spell, terminal_of, tri_text, tristate_constant, truth_of_value}
+use Rattle.kc_language.specs.Tokens.{Lexeme}
 use Rattle.kc_language.specs.declared.expressions.Connective.{Connective}
 use Rattle.kc_language.specs.declared.expressions.Connective.TheVariants.{And, Or}
 use Rattle.kc_language.specs.declared.expressions.SymId.{SymId}
@@ -45,6 +46,9 @@ op_terminal op.And = Joins And
 op_terminal op.Or = Joins Or
 op_terminal op.LParen = Open
 op_terminal op.RParen = Close
+
+abbrev pub terminals : List Lexeme → List Terminal
+terminals = map terminal_of
 
 abbrev pub spell_or : Disjunction → List Terminal
 spell_or d = spell d

@@ -1,8 +1,8 @@
 -- Examples for the chapter Expressions: an expression from its tokens to its value, a lone `m`, and relations.
 use Rattle.std.proofs.Common.{◌≡◌, refl}
-use Rattle.std.specs.Prelude.{List, None, Some, [], codes, false, if◌then◌else◌, true, ℕ, ◌==◌, ◌∷◌}
+use Rattle.std.specs.Prelude.{List, None, Some, [], codes, false, if◌then◌else◌, map, true, ℕ, ◌==◌, ◌∷◌}
 use Rattle.std.specs.declared.cmp.Ordering.{TheVariants.Less, TheVariants.Greater, TheVariants.Equal}
-use Rattle.kc_language.specs.Expressions.{Disjunction, Every, Form, LoneM, Negated, Related, Single, Symbol, SymbolValue, Text, TextValue, Truth, WordAtom, bang, compare, compared, conjunction, forms, joined, lone, meaning, names_in, negation, number_of, only, spell, symbol, terminals, value}
+use Rattle.kc_language.specs.Expressions.{Disjunction, Every, Form, LoneM, Negated, Related, Single, Symbol, SymbolValue, Text, TextValue, Truth, WordAtom, bang, compare, compared, conjunction, forms, joined, lone, meaning, names_in, negation, number_of, only, spell, symbol, terminal_of, value}
 use Rattle.kc_language.specs.Text.{natural_of}
 use Rattle.kc_language.specs.Tokens.{AWord, AnOp, Lexeme}
 use Rattle.kc_language.specs.declared.expressions.SymId.{SymId}
@@ -20,7 +20,7 @@ abbrev derivation : Disjunction
 derivation = only (conjunction (joined (negation (lone (WordAtom (codes "A"))))
     (only (negation (bang (compare op.Eq (WordAtom (codes "B")) (WordAtom (codes "y"))))))))
 
-derives_the_tokens : spell derivation ≡ terminals tokens
+derives_the_tokens : spell derivation ≡ map terminal_of tokens
 derives_the_tokens = refl
 
 -- It mentions the names A and B, in this order. The word y is a constant.

@@ -1,7 +1,7 @@
 -- Trusted: 4. Expressions: the numbers of names, what an expression is and its value, and which tokens form an expression.
 -- Sources: the kernel's kconfig-language document ("Menu dependencies") for the grammar and the operators; kconfiglib for comparisons and for
 -- a lone `m` of a condition. The numbers of names, leading zeros and the limit of levels are our own.
-use Rattle.std.specs.{Char.{is_ascii_alphanumeric}, Cmp.Lexicographic.{slice_cmp}, List.{flat_map, fold, list_any, position_or_len}, Option.{option_to_list}, Ordering.{int_cmp, nat_cmp}, Prelude.{Bool, List, None, Option, Some, [], bytes_eq, codes, false, if◌then◌else◌, is_some, map, max, pos, suc, true, unwrap_or, ℕ, ℤ, ◌&&◌, ◌++◌, ◌==◌, ◌||◌, ◌∷◌, ◌≡◌, ◌≢◌, ◌≤◌}, declared.cmp.Ordering.{Ordering, TheVariants.{Equal, Greater, Less}}}
+use Rattle.std.specs.{Char.{is_ascii_alphanumeric}, Cmp.Lexicographic.{slice_cmp}, List.{flat_map, fold, list_any, position_or_len}, Option.{option_to_list}, Ordering.{int_cmp, nat_cmp}, Prelude.{Bool, List, None, Option, Some, [], bytes_eq, codes, false, if◌then◌else◌, is_some, max, pos, suc, true, unwrap_or, ℕ, ℤ, ◌&&◌, ◌++◌, ◌==◌, ◌||◌, ◌∷◌, ◌≡◌, ◌≢◌, ◌≤◌}, declared.cmp.Ordering.{Ordering, TheVariants.{Equal, Greater, Less}}}
 use Rattle.kc_language.specs.{Text.{byte, has_hex_prefix, hex_of, int_of, most_open, unescape}, Tokens.{AQuoted, AWord, AnOp, Lexeme}, declared.{expressions.Connective.{Connective, TheVariants.{And, Or}}, expressions.SymId.SymId, expressions.SymbolType.{SymbolType, TheVariants.{Hex, Int, Str}}, expressions.Tri.{Tri, TheVariants.{M, N, Y}}, tokens.Op.Op}}
 
 -- ---- Names and their numbers. A symbol is the number of its name. Two names are the same if their bytes are.
@@ -162,7 +162,6 @@ module _ (known : SymId → SymbolValue) (modules : Option SymId) where
 --     and     = not { "&&" not }
 --     not     = "!" not | "(" or ")" | operand [ ( "=" | "!=" | "<" | ">" | "<=" | ">=" ) operand ]
 --     operand = a word other than if | a quoted text
-
 -- A token as the grammar sees it: an operand, a relation, `!`, `&&` or `||`, a parenthesis, or the word `if`.
 pub data Atom : Type 0 where
   WordAtom QuotedAtom : List ℕ → Atom
@@ -181,9 +180,6 @@ abbrev pub terminal_of : Lexeme → Terminal
 terminal_of (AWord w) = if same_name w if_word then Keyword else OperandToken (WordAtom w)
 terminal_of (AQuoted q) = OperandToken (QuotedAtom q)
 terminal_of (AnOp o) = elim o [ Op.Not ↦ Bang | Op.And ↦ Joins And | Op.Or ↦ Joins Or | Op.LParen ↦ Open | Op.RParen ↦ Close | r ↦ Compares r ]
-
-abbrev pub terminals : List Lexeme → List Terminal
-terminals = map terminal_of
 
 -- A way to derive an expression: `Chain Or` is the rule `or`, `Chain And` the rule `and`, and `Negation` the rule `not`.
 mutual

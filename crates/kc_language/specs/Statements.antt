@@ -2,7 +2,7 @@
 -- Source: the kernel's kconfig-language document. The errors and what is left out are our own. From the whole to the parts: begin with `ReadsLine`.
 use Rattle.std.specs.{List.{list_all, list_any}, Map.{lookup}}
 use Rattle.std.specs.Prelude.{Bool, Err, List, MatchResult, None, Ok, Option, Result, Some, [], codes, decimal, drop, false, if◌then◌else◌, is_some, length, map, nat_le, not, option_map, true, ℕ, ◌&&◌, ◌++◌, ◌==◌, ◌||◌, ◌∷◌, ◌≡◌, ◌≤◌, ◌⊎◌}
-use Rattle.kc_language.specs.Expressions.{Atom, Disjunction, Form, IsNoExpression, IsTooDeep, Leaf, LongestFront, QuotedAtom, WordAtom, if_word, is_name_byte, leaf, levels, meaning, names_in, names_in_atom, same_name, spell, symbol, terminals, tristate_constant}
+use Rattle.kc_language.specs.Expressions.{Atom, Disjunction, Form, IsNoExpression, IsTooDeep, Leaf, LongestFront, QuotedAtom, WordAtom, if_word, is_name_byte, leaf, levels, meaning, names_in, names_in_atom, same_name, spell, symbol, terminal_of, tristate_constant}
 use Rattle.kc_language.specs.{Text.{byte, longest_line, longest_name, most_lines, most_open, most_symbols, unescape}, Tokens.{AQuoted, AWord, Lexeme}, declared.{diagnostics.Cause.Cause as CauseAbout, expressions.SymId.SymId, expressions.SymbolType.SymbolType, statements.Block.Block, statements.EntryKind.EntryKind, statements.Keyword.Keyword}}
 use Rattle.kc_language.specs.declared.diagnostics.Cause.TheVariants as cause
 use Rattle.kc_language.specs.declared.statements.Keyword.TheVariants as key
@@ -231,12 +231,12 @@ pub record Front : Type 0 where
 pub record StartsExpression (ts : List Lexeme) (f : Front) : Type 0 where
   pub used : ℕ
   pub rest_is : f.rest ≡ drop used ts
-  pub longest : LongestFront (terminals ts) (spell f.tree) (terminals f.rest)
+  pub longest : LongestFront (map terminal_of ts) (spell f.tree) (map terminal_of f.rest)
   pub within : levels f.tree ≤ most_open
 
 -- Why no expression stands here: the longest prefix that begins one is none itself (E8), or a prefix opens too many levels (E12).
 abbrev pub ExpressionFault : List Lexeme → Cause → Type 0
-ExpressionFault ts c = (IsNoExpression (terminals ts) × (c ≡ cause.Syntax)) ⊎ (IsTooDeep (terminals ts) × (c ≡ cause.TooDeep))
+ExpressionFault ts c = (IsNoExpression (map terminal_of ts) × (c ≡ cause.Syntax)) ⊎ (IsTooDeep (map terminal_of ts) × (c ≡ cause.TooDeep))
 
 -- A token is left of the line. The line ends here, and gives a.
 abbrev pub IsMore : List Lexeme → Type 0

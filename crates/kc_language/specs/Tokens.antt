@@ -3,15 +3,18 @@
 use Rattle.std.specs.{Char.{is_ascii_alphanumeric}, Prelude.{All, Bool, IsTrue, List, None, Option, Some, [], codes, drop, length, slice_index, take, ℕ, ◌++◌, ◌<◌, ◌==◌, ◌||◌, ◌∷◌, ◌≡◌, ◌≢◌, ◌≤◌, ◌⊎◌}}
 use Rattle.kc_language.specs.{Text.{byte}, declared.{tokens.Op.{Op, TheVariants.{And, Eq, Ge, Gt, LParen, Le, Lt, Ne, Not, Or, RParen}}, tokens.TextFault.TextFault}}
 
--- The blanks are space and tab. The bytes of words are the ASCII letters and digits and four others. There are eleven operators.
+-- The blanks are space and tab. The bytes of words are the ASCII letters and digits and four others. The operators are six relations and five others.
 abbrev pub is_blank : ℕ → Bool
 is_blank b = b == byte " " || b == byte "\t"
 
 abbrev pub is_word_byte : ℕ → Bool
 is_word_byte b = is_ascii_alphanumeric b || b == byte "_" || b == byte "-" || b == byte "/" || b == byte "."
 
+abbrev pub relation_text : Op → List ℕ
+relation_text = elim [ Eq ↦ codes "=" | Ne ↦ codes "!=" | Lt ↦ codes "<" | Gt ↦ codes ">" | Le ↦ codes "<=" | Ge ↦ codes ">=" | _ ↦ [] ]
+
 abbrev pub op_text : Op → List ℕ
-op_text o = codes (elim o [ Eq ↦ "=" | Ne ↦ "!=" | Lt ↦ "<" | Gt ↦ ">" | Le ↦ "<=" | Ge ↦ ">=" | Not ↦ "!" | And ↦ "&&" | Or ↦ "||" | LParen ↦ "(" | RParen ↦ ")" ])
+op_text = elim [ Not ↦ codes "!" | And ↦ codes "&&" | Or ↦ codes "||" | LParen ↦ codes "(" | RParen ↦ codes ")" | relation ↦ relation_text relation ]
 
 -- What may stand between two quotes q: a `\` with any byte after it, and any other byte that is not q.
 pub data IsQuotedBody (q : ℕ) : List ℕ → Type 0 where
