@@ -1,6 +1,6 @@
 -- Trusted: Parts of the definitions of Expressions, by names of their own.
 use Rattle.std.specs.List.{flat_map}
-use Rattle.std.specs.Prelude.{Bool, List, None, Option, Some, [], false, if◌then◌else◌, is_some, map, unwrap_or, ℕ, ◌&&◌, ◌++◌, ◌∷◌}
+use Rattle.std.specs.Prelude.{Bool, List, None, Option, Some, [], false, if◌then◌else◌, is_some, map, true, unwrap_or, ℕ, ◌&&◌, ◌++◌, ◌∷◌}
 use Rattle.kc_language.specs.Expressions.{Bang, Begins, Close, Compares, Disjunction, Every, Form, Forms, Joins, Keyword, Leaf, LoneM, Open, OperandToken, Single, Some_of, Symbol, SymbolValue, Terminal, Text, TextValue, Truth, lesser, levels, meaning, names_in_atom, same_name, spell, terminal_of, tri_text, tristate_constant, truth_of_value}
 use Rattle.kc_language.specs.Tokens.{Lexeme}
 use Rattle.kc_language.specs.declared.expressions.Connective.{Connective}
