@@ -5,7 +5,8 @@ use Rattle.std.proofs.lemmas.Bool.Decides.{nat_tests}
 use Rattle.std.proofs.lemmas.List.Elements.{filter_map-append}
 use Rattle.kc_language.specs.declared.statements.Block.{Block}
 use Rattle.kc_read.specs.declared.statement.OpenBlock.{OpenBlock}
-use Rattle.kc_language.specs.Expansion.{Bracket, Opens, Closes, NoBracket, bracket, bracket_at, opened, closes_outer, depth_after, stays_open, is_open, open_block_indices, open_blocks, last_of, numbers, IsUnclosed}
+use Rattle.kc_language.specs.Expansion.{Bracket, Opens, Closes, NoBracket, bracket, bracket_at, opened, stays_open, is_open, open_block_indices, open_blocks, last_of, numbers, IsUnclosed}
+use Rattle.kc_read.specs.PartsOfExpansion.{stays_after}
 use Rattle.kc_read.specs.Progress.{open_block_of, located_blocks, open_blocks_after}
 use Rattle.kc_language.specs.Statements.{Named, Located, statements}
 use Rattle.kc_read.proofs.ListLemmas.{last_of-append, last_of-map, but_last, but_last-take, but_last-append, filter-map, filter_map-map, map-filter_map, numbers_front}
@@ -21,11 +22,11 @@ unmatched [] = 0
 unmatched (s ∷ ss) = unmatched_with (bracket s) (unmatched ss)
 
 stays_with : (b : Bracket) (d : ℕ) (ss : List Named) → ((e : ℕ) → stays_open e ss ≡ nat_le (unmatched ss) e) →
-    cond (closes_outer d b) false (stays_open (depth_after d b) ss) ≡ nat_le (unmatched_with b (unmatched ss)) d
+    stays_after b d ss ≡ nat_le (unmatched_with b (unmatched ss)) d
 stays_with (Opens b) zero ss h = let e = h 1 in rw e (grind (arith, nat_tests))
 stays_with (Opens b) (suc d) ss h = let e = h (suc (suc d)) in rw e (grind (arith, nat_tests))
 stays_with Closes zero ss h = grind (arith, nat_tests)
-stays_with Closes (suc d) ss h = let e = h (suc d - 1) in rw e (grind (arith, nat_tests))
+stays_with Closes (suc d) ss h = let e = h d in rw e (grind (arith, nat_tests))
 stays_with NoBracket zero ss h = h zero
 stays_with NoBracket (suc d) ss h = h (suc d)
 
