@@ -60,19 +60,8 @@ module _ {E L S : Type 0} where
 
   -- An attribute belongs to the entry before it. The attributes of the entry at j follow it without a gap.
   abbrev pub is_attribute : Statement E L S → Bool
-  is_attribute s = elim s [
-    | ConfigLine n ↦ false
-    | IfLine e ↦ false
-    | EndIfLine ↦ false
-    | CommentLine t ↦ false
-    | SourceLine t ↦ false
-    | MenuLine t ↦ false
-    | EndMenuLine ↦ false
-    | ChoiceLine ↦ false
-    | EndChoiceLine ↦ false
-    | MainMenuLine t ↦ false
-    | _ ↦ true
-  ]
+  is_attribute s =
+      elim (bracket s) [ NoBracket ↦ elim s [ ConfigLine n ↦ false | CommentLine t ↦ false | SourceLine t ↦ false | MainMenuLine t ↦ false | _ ↦ true ] | _ ↦ false ]
 
   abbrev pub is_no_attribute : Statement E L S → Bool
   is_no_attribute s = if is_attribute s then false else true
