@@ -1,6 +1,6 @@
 -- Trusted: 6. Expansion: the statements of a tree of Kconfig files in the order of reading, or the first error of a line.
 -- Source: the kernel's kconfig-language document (`source`, blocks, entries). The limits are our own. Begin with `Expands` to go from whole to parts.
-use Rattle.std.specs.{List.{before_first, filter_map, flat_map, last_or, list_any, take_while}, Prelude.{Bool, Err, List, MatchOption, None, Ok, Option, Result, Some, [], codes, drop, false, filter, if◌then◌else◌, is_some, length, map, nat_le, nat_lt, option_and_then, slice_get, suc, take, true, zero, ℕ, ◌&&◌, ◌++◌, ◌+◌, ◌-◌, ◌||◌, ◌∷◌, ◌≡◌, ◌≢◌}}
+use Rattle.std.specs.{List.{before_first, filter_map, flat_map, last_or, list_any, take_while}, Prelude.{Bool, Err, List, MatchOption, None, Ok, Option, Result, Some, [], codes, drop, false, filter, if◌then◌else◌, is_some, length, map, nat_le, nat_lt, option_and_then, option_map, slice_get, suc, take, true, zero, ℕ, ◌&&◌, ◌++◌, ◌+◌, ◌-◌, ◌||◌, ◌∷◌, ◌≡◌, ◌≢◌}}
 use Rattle.kc_language.specs.{Expressions.{all_mentioned, mention, number_of, same_name}, Lines.{IsTooLong, TakesLine, UnreadLines, after_help, line_number, physical_lines, unread_lines}, Statements.{Cause, ChoiceLine, CommentLine, ConfigLine, EndChoiceLine, EndIfLine, EndMenuLine, IfLine, LineContext, Located, MainMenuLine, MenuLine, ModulesLine, Named, Numbered, ReadsLine, ReadsSource, SourceLine, Statement, begins_with, names_in_statement, numbered, statements}, Text.{most_blocks, most_files, most_lines, most_symbols}, Tokens.{IsCut, Lexeme}, declared.{statements.{Block.Block, EntryKind.{EntryKind, TheVariants.{Choice, Comment, Config, Menu, Nothing}}}, tokens.TextFault.{TextFault, TheVariants.{BadToken, LineTooLong, Macro, Memory}}}}
 use Rattle.kc_language.specs.declared.diagnostics.Cause.TheVariants as cause
 
@@ -184,13 +184,8 @@ abbrev pub text_cause : TextFault → Cause
 text_cause = elim [ Macro ↦ cause.Macro | BadToken ↦ cause.BadToken | LineTooLong n ↦ cause.LineTooLong | Memory ↦ cause.Memory ]
 
 -- A block is open at the end of a file. The innermost one was opened at this line.
-pub record IsUnclosed (own : List (Located Named)) (line : ℕ) : Type 0 where
-  pub before : List (Located Named)
-  pub opener : Located Named
-  pub after : List (Located Named)
-  pub split : own ≡ before ++ opener ∷ after
-  pub innermost_is : last_of (open_block_indices (statements own)) ≡ Some (length before)
-  pub line_is : line ≡ opener.line
+abbrev pub IsUnclosed : List (Located Named) → ℕ → Type 0
+IsUnclosed own line = (j : ℕ) × (last_of (open_block_indices (statements own)) ≡ Some j) × (option_map (λ l. l.line) (slice_get own j) ≡ Some line)
 
 -- ---- A whole file
 -- What the rest of a file gives: in the context a, l is unread of it, own are its statements so far, and log is what was read.

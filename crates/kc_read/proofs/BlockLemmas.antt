@@ -196,15 +196,8 @@ no_places (l ∷ ls) e =
 unclosed_here : (b : Bracket) (u : ℕ) (l : Located Named) (ls : List (Located Named)) (o : OpenBlock) → bracket l.statement ≡ b →
     unmatched (statements ls) ≡ u → opens ls ≡ [] → last_of (here b (opener l.line) u ++ opens ls) ≡ Some o → IsUnclosed (l ∷ ls) o.line
 unclosed_here (Opens b) zero l ls o e f none last =
-    let h : last_of (opener l.line b ∷ []) ≡ Some o = rw none at last in
-    record {
-      before = [];
-      opener = l;
-      after = ls;
-      split = refl;
-      innermost_is = ap last_of (places_front l.statement (statements ls)) ∙ rw (e, f, no_places ls none) refl;
-      line_is = let g : Some (opener l.line b) ≡ Some o = h in cc;
-    }
+    let h : Some (opener l.line b) ≡ Some o = rw none at last in
+    (zero, ap last_of (places_front l.statement (statements ls)) ∙ rw (e, f, no_places ls none) refl, ap (option_map (λ (x : OpenBlock). x.line)) h)
 unclosed_here (Opens b) (suc u) l ls o e f none last = absurd (let h : None ≡ Some o = rw none at last in cc)
 unclosed_here Closes u l ls o e f none last = absurd (let h : None ≡ Some o = rw none at last in cc)
 unclosed_here NoBracket u l ls o e f none last = absurd (let h : None ≡ Some o = rw none at last in cc)
@@ -215,17 +208,13 @@ last_tail (x ∷ []) y ys = refl
 last_tail (x ∷ z ∷ zs) y ys = last_tail (z ∷ zs) y ys
 
 unclosed_later : (l : Located Named) (ls : List (Located Named)) (line : ℕ) → IsUnclosed ls line → IsUnclosed (l ∷ ls) line
-unclosed_later l ls line r = record {
-  before = l ∷ r.before;
-  opener = r.opener;
-  after = r.after;
-  split = ap (λ xs. l ∷ xs) r.split;
-  innermost_is =
-      ap last_of (places_front l.statement (statements ls))
-      ∙ last_of-append (here (bracket l.statement) (λ b. zero) (unmatched (statements ls))) (map suc (open_block_indices (statements ls))) (suc (length r.before))
-      (last_of-map suc (open_block_indices (statements ls)) ∙ ap (option_map suc) r.innermost_is);
-  line_is = r.line_is;
-}
+unclosed_later l ls line r = (
+  suc r.0,
+  ap last_of (places_front l.statement (statements ls))
+      ∙ last_of-append (here (bracket l.statement) (λ b. zero) (unmatched (statements ls))) (map suc (open_block_indices (statements ls))) (suc r.0)
+      (last_of-map suc (open_block_indices (statements ls)) ∙ ap (option_map suc) r.1),
+  r.2,
+)
 
 unclosed_at : (ls : List (Located Named)) (o : OpenBlock) → last_of (opens ls) ≡ Some o → IsUnclosed ls o.line
 unclosed_at [] o e = absurd cc
