@@ -155,7 +155,7 @@ pub record LineContext : Type 0 where
   pub in_choice : Bool
   pub modules : Bool
 
--- The entry of a symbol, and that of a choice.
+-- The entry is a symbol's. It is a choice's.
 abbrev pub is_config : EntryKind → Bool
 is_config e = elim e [ EntryKind.Config ↦ true | _ ↦ false ]
 
@@ -297,7 +297,7 @@ option_line ts =
     else if begins_with (codes "env") ts then Err (cause.LeftOut (codes "option env"))
     else if begins_with (codes "defconfig_list") ts then Err (cause.LeftOut (codes "option defconfig_list")) else Err cause.Syntax
 
--- What follows the first word w, by its keyword.
+-- What follows the first word w, by its keyword. A type stands alone or has a prompt. A `choice` has no name.
 abbrev pub ReadsRest : List ℕ → Keyword → List Lexeme → Result Named Cause → Type 0
 ReadsRest w k = elim k [
   | key.EndIf ↦ λ ts r. r ≡ finish EndIfLine ts
