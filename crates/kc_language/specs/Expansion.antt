@@ -45,7 +45,8 @@ module _ {E L S : Type 0} where
   -- A block stays open through these statements, where d blocks are open inside it.
   abbrev pub stays_open : ℕ → List (Statement E L S) → Bool
   stays_open d [] = true
-  stays_open d (s ∷ ss) = elim (bracket s) [ Opens k ↦ stays_open (suc d) ss | Closes ↦ elim d [ zero ↦ false | suc n ↦ stays_open n ss ] | NoBracket ↦ stays_open d ss ]
+  stays_open d (s ∷ ss) =
+      elim (bracket s) [ Opens k ↦ stays_open (suc d) ss | Closes ↦ elim d [ zero ↦ false | suc n ↦ stays_open n ss ] | NoBracket ↦ stays_open d ss ]
 
   -- The places of the statements that open a block that is still open after the last statement, the outermost first. Their blocks.
   abbrev pub open_block_indices : List (Statement E L S) → List ℕ
