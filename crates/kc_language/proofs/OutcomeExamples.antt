@@ -2,13 +2,12 @@
 use Rattle.std.proofs.Common.{◌≡◌, refl, sym, ◌∙◌, ap, subst, arith, inl, inr, ◌≤◌, ◌+◌, suc, zero}
 use Rattle.std.proofs.lemmas.List.{append-nil}
 use Rattle.std.specs.List.{list_all}
-use Rattle.std.specs.Map.{lookup}
 use Rattle.std.specs.Prelude.{List, None, Ok, Option, Some, [], codes, false, if◌then◌else◌, String, length, map, string_bytes, take, true, ℕ, ◌++◌, ◌-◌, ◌||◌, ◌∷◌}
 use Rattle.std.specs.Fmt.{digits}
 use Rattle.std.specs.declared.alloc.Global.{Global}
 use Rattle.kc_language.specs.ConfigFile.{ReadResult, effect, lines_after, lines_from, no_input, place_at, places_given, reading, reading_of, untaken, untaken_line, warning, warnings}
-use Rattle.kc_language.specs.Expansion.{AreOpened, Expands, FileContext, Files, Log, NextStatement, Rest, at_end, statement, with_file, without_help}
-use Rattle.kc_language.specs.Expressions.{Atom, Disjunction, OperandToken, QuotedAtom, Single, Symbol, Text, TextValue, Truth, WordAtom, conjunction, lone, negation, only, same_name, symbol, terminal_of}
+use Rattle.kc_language.specs.Expansion.{AreOpened, Expands, FileContext, Files, Log, NextStatement, Rest, at_end, bytes_in, statement, with_file, without_help}
+use Rattle.kc_language.specs.Expressions.{Atom, Disjunction, OperandToken, QuotedAtom, Single, Symbol, Text, TextValue, Truth, WordAtom, conjunction, lone, negation, only, symbol, terminal_of}
 use Rattle.kc_language.specs.Lines.{Physical, UnreadLines, continues, joined_text, line_number, physical_lines, unread_lines}
 use Rattle.kc_language.specs.Needs.{IsAccepted}
 use Rattle.kc_language.specs.Outcome.{IsAcceptedTree, IsOutcome, IsOutcomeOfReading, Options, Outcome, accepted_tree, is_read_by_make, read_of, root_file, rule_text, streams, unreadable_line, whole}
@@ -57,7 +56,7 @@ abbrev root_text : List ℕ
 root_text = codes "config A\n\tbool \"a\"\nconfig B\n\tbool\n\tdefault A\nconfig C\n\tint \"c\"\n\tdefault \"7\"\n"
 
 abbrev files : Files
-files name = lookup (same_name name) ((codes "Kconfig", root_text) ∷ [])
+files = bytes_in ((codes "Kconfig", root_text) ∷ [])
 
 -- The `.config` that is read. Its second line names no symbol of the tree.
 abbrev old_config : List ℕ

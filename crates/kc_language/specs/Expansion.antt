@@ -1,12 +1,15 @@
 -- Trusted: 6. Expansion: the statements of a tree of Kconfig files in the order of reading, or the first error of a line.
 -- Source: the kernel's kconfig-language document (`source`, blocks, entries). The limits are our own. Begin with `Expands` to go from whole to parts.
-use Rattle.std.specs.{List.{before_first, filter_map, flat_map, last_or, list_any, take_while}, Prelude.{Bool, Err, List, MatchOption, None, Ok, Option, Result, Some, [], codes, drop, false, filter, if◌then◌else◌, is_some, length, map, nat_le, nat_lt, option_and_then, option_map, slice_get, suc, take, true, zero, ℕ, ◌&&◌, ◌++◌, ◌+◌, ◌-◌, ◌||◌, ◌∷◌, ◌≡◌, ◌≢◌}}
+use Rattle.std.specs.{List.{before_first, filter_map, flat_map, last_or, list_any, take_while}, Map.{lookup}, Prelude.{Bool, Err, List, MatchOption, None, Ok, Option, Result, Some, [], codes, drop, false, filter, if◌then◌else◌, is_some, length, map, nat_le, nat_lt, option_and_then, option_map, slice_get, suc, take, true, zero, ℕ, ◌&&◌, ◌++◌, ◌+◌, ◌-◌, ◌||◌, ◌∷◌, ◌≡◌, ◌≢◌}}
 use Rattle.kc_language.specs.{Expressions.{all_mentioned, mention, number_of, same_name}, Lines.{IsTooLong, TakesLine, UnreadLines, after_help, line_number, physical_lines, unread_lines}, Statements.{Cause, ChoiceLine, CommentLine, ConfigLine, EndChoiceLine, EndIfLine, EndMenuLine, IfLine, LineContext, Located, MainMenuLine, MenuLine, ModulesLine, Named, Numbered, ReadsLine, ReadsSource, SourceLine, Statement, begins_with, names_in_statement, numbered, statements}, Text.{most_blocks, most_files, most_lines, most_symbols}, Tokens.{IsCut, Lexeme}, declared.{statements.{Block.Block, EntryKind.{EntryKind, TheVariants.{Choice, Comment, Config, Menu, Nothing}}}, tokens.TextFault.{TextFault, TheVariants.{BadToken, LineTooLong, Macro, Memory}}}}
 use Rattle.kc_language.specs.declared.diagnostics.Cause.TheVariants as cause
 
--- The bytes of each file by its name, where there is such a file.
+-- The bytes of each file by its name, where there is such a file. `bytes_in` takes them from a list.
 abbrev pub Files : Type 0
 Files = List ℕ → Option (List ℕ)
+
+abbrev pub bytes_in : List (List ℕ × List ℕ) → Files
+bytes_in files name = lookup (same_name name) files
 
 -- The numbers below n, and the last element of a list.
 abbrev pub numbers : ℕ → List ℕ
