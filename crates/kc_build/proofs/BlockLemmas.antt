@@ -4,7 +4,8 @@ use Rattle.std.specs.List.{slice_get}
 use Rattle.std.specs.Option.{is_some}
 use Rattle.std.specs.Prelude.{◌⊎◌}
 use Rattle.kc_language.specs.Statements.{Numbered}
-use Rattle.kc_language.specs.Expansion.{Bracket, Opens, Closes, NoBracket, numbers, last_of, depth_after, closes_outer, opened, bracket, stays_open, bracket_at, is_open, open_block_indices, enclosing}
+use Rattle.kc_language.specs.Expansion.{Bracket, Opens, Closes, NoBracket, numbers, last_of, opened, bracket, stays_open, bracket_at, is_open, open_block_indices, enclosing}
+use Rattle.kc_read.specs.PartsOfExpansion.{stays_after}
 
 -- Closers that close what was opened before a list.
 abbrev below : ℕ → ℕ → Bool
@@ -30,11 +31,11 @@ below-pred zero d = refl
 below-pred (suc u) d = refl
 
 stays_bracket : (d : ℕ) (b : Bracket) (ss : List Numbered) → ((e : ℕ) → stays_open e ss ≡ below (unmatched ss) e) →
-    (if closes_outer d b then false else stays_open (depth_after d b) ss) ≡ below (after_bracket b (unmatched ss)) d
+    stays_after b d ss ≡ below (after_bracket b (unmatched ss)) d
 stays_bracket zero (Opens b) ss ih = ih 1 ∙ below-pred (unmatched ss) 0
 stays_bracket (suc d) (Opens b) ss ih = ih (suc (suc d)) ∙ below-pred (unmatched ss) (suc d)
 stays_bracket zero Closes ss ih = refl
-stays_bracket (suc d) Closes ss ih = let e : suc d - 1 ≡ d = omega arith in rw e (ih d)
+stays_bracket (suc d) Closes ss ih = ih d
 stays_bracket zero NoBracket ss ih = ih 0
 stays_bracket (suc d) NoBracket ss ih = ih (suc d)
 

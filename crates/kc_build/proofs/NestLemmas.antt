@@ -7,8 +7,8 @@ use Rattle.std.proofs.lemmas.Option.{slice_get-map}
 use Rattle.kc_language.specs.declared.statements.Block.{Block}
 use Rattle.kc_language.specs.declared.statements.Block.TheVariants as block
 use Rattle.kc_language.specs.Statements.{Named, Numbered, Located, numbered, ConfigLine, IfLine, MenuLine, EndMenuLine, ChoiceLine, statements}
-use Rattle.kc_language.specs.Expansion.{bracket, bracket_at, opened, depth_after, stays_open, is_open, open_block_indices, open_blocks, enclosing, numbers, last_of, Log, Expands, is_choice, Files}
-use Rattle.kc_read.specs.PartsOfExpansion.{bracket_of, located_numbered}
+use Rattle.kc_language.specs.Expansion.{Bracket, Closes, NoBracket, Opens, bracket, bracket_at, opened, stays_open, is_open, open_block_indices, open_blocks, enclosing, numbers, last_of, Log, Expands, is_choice, Files}
+use Rattle.kc_read.specs.PartsOfExpansion.{bracket_of, located_numbered, stays_after}
 use Rattle.kc_language.specs.Symbols.{is_block, of_block, enclosing_choice, choice_number}
 use Rattle.kc_build.specs.PartsOfSymbols.{block_at, enclosing_block}
 use Rattle.kc_read.proofs.TurnLemmas.{Leaves, turn}
@@ -40,9 +40,17 @@ module _ (f : Named → Numbered) (alike : (x : Named) → bracket (f x) ≡ bra
   bracket_at-map (s ∷ ss) zero = alike s
   bracket_at-map (s ∷ ss) (suc j) = bracket_at-map ss j
 
+  stays_after-map : (b : Bracket) (d : ℕ) (ss : List Named) → ((e : ℕ) → stays_open e (map f ss) ≡ stays_open e ss) →
+      stays_after b d (map f ss) ≡ stays_after b d ss
+  stays_after-map (Opens b) d ss same = same (suc d)
+  stays_after-map Closes zero ss same = refl
+  stays_after-map Closes (suc d) ss same = same d
+  stays_after-map NoBracket d ss same = same d
+
   stays_open-map : (d : ℕ) (ss : List Named) → stays_open d (map f ss) ≡ stays_open d ss
   stays_open-map d [] = refl
-  stays_open-map d (s ∷ ss) = rw (alike s, stays_open-map (depth_after d (bracket s)) ss) refl
+  stays_open-map d (s ∷ ss) =
+      ap (λ b. stays_after b d (map f ss)) (alike s) ∙ stays_after-map (bracket s) d ss (λ e. stays_open-map e ss)
 
   is_open-map : (ss : List Named) (j : ℕ) → is_open (map f ss) j ≡ is_open ss j
   is_open-map ss j = rw (bracket_at-map ss j, drop-map f (suc j) ss, stays_open-map 0 (drop (suc j) ss)) refl

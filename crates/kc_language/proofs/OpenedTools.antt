@@ -5,10 +5,10 @@ use Rattle.std.proofs.lemmas.Slice.Eq.{bytes_eq-Decides}
 use Rattle.std.specs.List.{list_all, list_any}
 use Rattle.std.specs.Map.{lookup}
 use Rattle.std.specs.Prelude.{Bool, Err, List, None, Ok, Option, Result, Some, [], bytes_eq, codes, drop, false, if◌then◌else◌, is_some, length, not, suc, slice_index, take, true, zero, ℕ, ◌&&◌, ◌++◌, ◌-◌, ◌==◌, ◌||◌, ◌∷◌}
-use Rattle.kc_language.specs.Expansion.{FileContext, Files, Log, NextLine, NextStatement, Refused, Rest, at_end, blank, is_help, is_source, source, statement, without_help}
+use Rattle.kc_language.specs.Expansion.{FileContext, Files, Log, NextLine, NextStatement, Refused, Rest, at_end, blank, source, statement, without_help}
 use Rattle.kc_language.specs.Expressions.{Disjunction, if_word}
 use Rattle.kc_language.specs.Lines.{AreJoined, Physical, UnreadLines, after_help, after_text, column, continues, from_other, is_help_line, joined_text}
-use Rattle.kc_language.specs.Statements.{After, Cause, CommentLine, ConfigLine, DefLine, DefaultLine, DependsLine, IfLine, IgnoredLine, ImplyLine, InputPrompt, LineContext, Located, MainMenuLine, MenuLine, ModulesLine, Named, PromptLine, RangeLine, ReadsLine, ReadsCondition, ReadsConfig, ReadsPrompt, ReadsRest, ReadsWhole, ReadsTarget, ReadsTextLine, SelectLine, SourceLine, TypeLine, VisibleLine, begins_with, choice_line, expected, finish, is_good_name, keyword_of, keyword_words, named_target, operand_of, option_line, placement_cause, text_of, word_of}
+use Rattle.kc_language.specs.Statements.{After, Cause, ChoiceLine, CommentLine, ConfigLine, DefLine, DefaultLine, DependsLine, IfLine, IgnoredLine, ImplyLine, InputPrompt, LineContext, Located, MainMenuLine, MenuLine, ModulesLine, Named, PromptLine, RangeLine, ReadsLine, ReadsCondition, ReadsPrompt, ReadsRest, ReadsWhole, ReadsTextLine, SelectLine, SourceLine, TypeLine, VisibleLine, begins_with, finish, is_good_name, keyword_of, keyword_words, named_target, operand_of, option_line, placement_cause, text_of, word_of}
 use Rattle.kc_language.specs.Tokens.{AQuoted, AWord, AnOp, IsCut, Lexeme, ended, is_blank, skipped, stuck, taken}
 use Rattle.kc_language.specs.declared.diagnostics.Cause.TheVariants as cause
 use Rattle.kc_language.specs.declared.statements.Keyword.{Keyword}
@@ -47,7 +47,10 @@ lead_is (taken {x = AnOp o} l c) h = absurd (omega (arith, h))
 
 -- ---- Only a line with the keyword `source` reads as a `source` line
 
--- The result is a `source` line; the keyword is `source`.
+-- The statement is a `source` line; the result is one; the keyword is `source`.
+abbrev pub is_source : Named → Bool
+is_source s = elim s [ SourceLine t ↦ true | _ ↦ false ]
+
 is_ok_source : Result Named Cause → Bool
 is_ok_source (Ok s) = is_source s
 is_ok_source (Err c) = false
@@ -112,7 +115,7 @@ module _ (name : List ℕ) where
   finish_no s [] e = e
   finish_no s (t ∷ ts) e = refl
 
-  not_choice : (ts : List Lexeme) → is_ok_source (choice_line ts) ≡ false
+  not_choice : (ts : List Lexeme) → is_ok_source (elim ts [ [] ↦ Ok ChoiceLine | _ ↦ Err (cause.LeftOut (codes "named choice")) ]) ≡ false
   unfolding is_ok_source
   not_choice [] = refl
   not_choice (t ∷ ts) = refl
@@ -134,7 +137,7 @@ module _ (name : List ℕ) where
 
   not_target : (make : List ℕ → Option Disjunction → Named) (ts : List Lexeme) →
       ((t : List ℕ) (w : Option Disjunction) → is_source (make t w) ≡ false) →
-      ReadsTarget make ts source_line → ⊥
+      After (named_target ts) (λ t. ReadsCondition (make t) (drop 1 ts)) source_line → ⊥
   not_target make ts other = not_after (named_target ts) (λ t. ReadsCondition (make t) (drop 1 ts)) (λ t h. not_equal (make t h.0) (other t h.0) h.2)
 
   not_good : (b : Bool) (v : List ℕ) → source_line ≡ (if b then Ok (ConfigLine v) else Err (cause.BadName v)) → ⊥
@@ -145,7 +148,7 @@ module _ (name : List ℕ) where
   abbrev checked : List ℕ → Result Named Cause → Type 0
   checked v r = ◌≡◌ {A = Result Named Cause} r (if is_good_name v then Ok (ConfigLine v) else Err (cause.BadName v))
 
-  not_config : (ts : List Lexeme) → ReadsConfig ts source_line → ⊥
+  not_config : (ts : List Lexeme) → After (word_of ts) (λ w. After (finish w (drop 1 ts)) checked) source_line → ⊥
   not_config ts = not_after (word_of ts) (λ w. After (finish w (drop 1 ts)) checked)
       (λ w. not_after (finish w (drop 1 ts)) checked (λ v. not_good (is_good_name v) v))
 
@@ -178,8 +181,8 @@ module _ (name : List ℕ) where
   only_source w key.Imply ts h = absurd (not_target ImplyLine ts (λ t o. refl) h)
   only_source w key.If ts h = absurd (not_equal (IfLine _) refl h.2)
   only_source w key.Depends ts h =
-      absurd (not_after (expected (codes "on") ts) (ReadsWhole DependsLine) (λ us i. not_equal (DependsLine i.0) refl i.2) h)
-  only_source w key.Visible ts h = absurd (not_after (expected if_word ts) (ReadsWhole VisibleLine) (λ us i. not_equal (VisibleLine i.0) refl i.2) h)
+      absurd (not_after (if begins_with (codes "on") ts then Ok (drop 1 ts) else Err cause.Syntax) (ReadsWhole DependsLine) (λ us i. not_equal (DependsLine i.0) refl i.2) h)
+  only_source w key.Visible ts h = absurd (not_after (if begins_with if_word ts then Ok (drop 1 ts) else Err cause.Syntax) (ReadsWhole VisibleLine) (λ us i. not_equal (VisibleLine i.0) refl i.2) h)
   only_source w key.Range ts h = absurd (not_range ts h)
   only_source w key.LeftOut ts h = absurd (no_error _ h)
 
@@ -251,7 +254,7 @@ help_keeps false l m e is = ap (λ x. list_all opens_none x.lines) is ∙ e
 line_keeps : {l m : UnreadLines} {ts : List Lexeme} {o : Option TextFault} → NextLine l m ts o → list_all opens_none l.lines ≡ true →
     list_all opens_none m.lines ≡ true
 line_keeps {m = m} {ts = ts} next e = let front = next.taken.0 in let first = next.taken.1 in
-    help_keeps (is_help ts) next.middle m
+    help_keeps (begins_with (codes "help") ts || begins_with (codes "---help---") ts) next.middle m
     (all_after opens_none front next.middle.lines (ap (list_all opens_none) (sym first.split) ∙ e)) next.left_after
 
 no_source : {l m : UnreadLines} {c : LineContext} {name : List ℕ} → NextStatement l m c (Ok (SourceLine name)) →

@@ -2,16 +2,16 @@
 use Rattle.std.proofs.Common.{◌≡◌, refl, sym, ◌∙◌, ap, subst, arith, inl, inr, ◌≤◌, ◌+◌, suc, zero}
 use Rattle.std.proofs.lemmas.List.{append-nil}
 use Rattle.std.specs.List.{list_all}
-use Rattle.std.specs.Prelude.{List, None, Ok, Option, Some, [], codes, false, if◌then◌else◌, String, length, map, min, string_bytes, take, true, ℕ, ◌++◌, ◌-◌, ◌^◌, ◌∷◌}
+use Rattle.std.specs.Prelude.{List, None, Ok, Option, Some, [], codes, false, if◌then◌else◌, String, length, map, min, string_bytes, take, true, ℕ, ◌++◌, ◌-◌, ◌^◌, ◌||◌, ◌∷◌}
 use Rattle.std.specs.Fmt.{digits}
 use Rattle.std.specs.declared.alloc.Global.{Global}
 use Rattle.kc_language.specs.ConfigFile.{ReadResult, effect, lines_after, lines_from, no_input, place_at, places_given, reading, reading_of, untaken, untaken_line, warning, warnings}
-use Rattle.kc_language.specs.Expansion.{AreOpened, Expands, Files, Log, NextStatement, Rest, at_end, bytes_in, is_help, nothing_read, root_context, statement, with_file, without_help}
+use Rattle.kc_language.specs.Expansion.{AreOpened, Expands, FileContext, Files, Log, NextStatement, Rest, at_end, bytes_in, statement, with_file, without_help}
 use Rattle.kc_language.specs.Expressions.{Atom, Disjunction, OperandToken, QuotedAtom, Single, Symbol, Text, TextValue, Truth, WordAtom, conjunction, lone, negation, only, symbol, terminal_of}
 use Rattle.kc_language.specs.Lines.{Physical, UnreadLines, continues, joined_text, physical_lines, unread_lines}
 use Rattle.kc_language.specs.Needs.{IsAccepted}
 use Rattle.kc_language.specs.Outcome.{IsAcceptedTree, IsOutcome, IsOutcomeOfReading, Options, Outcome, accepted_tree, first_line, is_read_by_make, read_of, root_file, rule_text, run_error_text, streams, whole}
-use Rattle.kc_language.specs.Statements.{ConfigLine, DefaultLine, LineContext, Located, Named, ReadsLine, ReadsType, ReadsValue, TypeLine, error_line}
+use Rattle.kc_language.specs.Statements.{ConfigLine, DefaultLine, LineContext, Located, Named, ReadsLine, ReadsRest, ReadsValue, TypeLine, begins_with, error_line}
 use Rattle.kc_language.specs.Symbols.{IsTreeOf, SymbolShown, TreeFacts}
 use Rattle.kc_language.specs.Text.{longest_line, natural_of, unescape}
 use Rattle.kc_language.specs.Texts.{IsSolution, Solution, config_text, header_text, minimal_text, value_of}
@@ -19,6 +19,7 @@ use Rattle.kc_language.specs.Tokens.{AQuoted, AWord, IsCut, Lexeme, ended, is_wo
 use Rattle.kc_language.specs.Values.{GivenTruth, IsOnlySolution, Solves, equations, rhs}
 use Rattle.kc_language.specs.declared.diagnostics.RunError.{RunError}
 use Rattle.kc_language.specs.declared.expressions.SymbolType.{SymbolType}
+use Rattle.kc_language.specs.declared.statements.Keyword.TheVariants as key
 use Rattle.kc_language.specs.declared.expressions.SymbolType.TheVariants.{Bool as IsBool, Int}
 use Rattle.kc_language.specs.declared.expressions.Tri.TheVariants.{Y}
 use Rattle.kc_language.specs.declared.outcome.Status.TheVariants.{Done}
@@ -73,7 +74,8 @@ unread n rows = record { lines = rows; number = n; refusal = None }
 
 -- A line that does not continue on the next one, and is no help line, reads as its tokens do.
 next_line : (text : List ℕ) (more : List Physical) (n : ℕ) (t : Lexeme) (ts : List Lexeme) (c : LineContext) (s : Named) →
-    continues (row text) ≡ false → length text ≤ longest_line → IsCut text (t ∷ ts) None → is_help (t ∷ ts) ≡ false → ReadsLine c (t ∷ ts) (Ok s) →
+    continues (row text) ≡ false → length text ≤ longest_line → IsCut text (t ∷ ts) None →
+    (begins_with (codes "help") (t ∷ ts) || begins_with (codes "---help---") (t ∷ ts)) ≡ false → ReadsLine c (t ∷ ts) (Ok s) →
     NextStatement (unread n (row text ∷ more)) (unread (min (n + 1) (2 ^ 32 - 1)) more) c (Ok s)
 next_line text more n t ts c s ends short cut no_help reads = record {
   tokens = t ∷ ts;
@@ -129,7 +131,7 @@ reads_operand t a e = (
 
 -- A text and no condition is the prompt of a type.
 reads_prompt : (k : SymbolType) (text : List ℕ) →
-    ReadsType k (AQuoted text ∷ []) (Ok (TypeLine k (Some (record { text = unescape text; when = None }))))
+    ReadsRest [] (key.Type k) (AQuoted text ∷ []) (Ok (TypeLine k (Some (record { text = unescape text; when = None }))))
 reads_prompt k text = inr ((_, _, refl), (None, refl, refl))
 
 -- How the lines are cut.
@@ -156,7 +158,11 @@ abbrev rows : List Physical
 rows = row (codes "config A") ∷ row (codes "\tbool \"a\"") ∷ row (codes "config B") ∷ row (codes "\tbool") ∷ row (codes "\tdefault A") ∷
     row (codes "config C") ∷ row (codes "\tint \"c\"") ∷ row (codes "\tdefault \"7\"") ∷ []
 
-rest_is_read : Rest files (root_context (codes "Kconfig")) (unread 1 rows) [] (log_of []) (Ok (log_of read_statements))
+-- No other file is open, and no block.
+abbrev at_root : FileContext
+at_root = record { open_files = codes "Kconfig" ∷ []; file = codes "Kconfig"; blocks = [] }
+
+rest_is_read : Rest files at_root (unread 1 rows) [] (log_of []) (Ok (log_of read_statements))
 rest_is_read =
     statement _ _ _ _ _ _ _ (next_line (codes "config A") _ _ _ _ _ _ refl (omega arith) (cut_config 65 refl) refl refl) refl refl (
     statement _ _ _ _ _ _ _ (next_line (codes "\tbool \"a\"") _ _ _ _ _ _ refl (omega arith) cut_bool_prompt refl (reads_prompt _ _)) refl refl (
@@ -181,7 +187,7 @@ unfolding physical_lines
 only_root_opened log expands = opens_no_other (subst (λ text. rest_of text) (same_text expands.1) expands.2) refl
   where
     rest_of : List ℕ → Type 0
-    rest_of text = Rest files (root_context (codes "Kconfig")) (unread_lines text 1) [] (with_file nothing_read (codes "Kconfig") text) (Ok log)
+    rest_of text = Rest files at_root (unread_lines text 1) [] (with_file (record { lines = []; total_lines = 0; opened = [] }) (codes "Kconfig") text) (Ok log)
 
     text_of : Option (List ℕ) → List ℕ
     text_of None = []

@@ -1,10 +1,7 @@
 -- Trusted: 6. Expansion: the statements of a tree of Kconfig files in the order of reading, or the first error of a line.
 -- Source: the kernel's kconfig-language document (`source`, blocks, entries). The limits are our own. Begin with `Expands` to go from whole to parts.
-use Rattle.std.specs.{List.{before_first, filter_map, flat_map, last_or, list_any, take_while}, Map.{lookup}}
-use Rattle.std.specs.Prelude.{Bool, Err, List, MatchOption, None, Ok, Option, Result, Some, [], codes, drop, false, filter, if◌then◌else◌, is_some, length, map, min, nat_le, nat_lt, slice_get, suc, take, true, zero, ℕ, ◌&&◌, ◌++◌, ◌+◌, ◌-◌, ◌^◌, ◌||◌, ◌∷◌, ◌≡◌, ◌≢◌}
-use Rattle.kc_language.specs.{Expressions.{all_mentioned, mention, number_of, same_name}, Lines.{IsTooLong, TakesLine, UnreadLines, after_help, physical_lines, unread_lines}}
-use Rattle.kc_language.specs.Statements.{Cause, ChoiceLine, CommentLine, ConfigLine, DefLine, DefaultLine, DependsLine, EndChoiceLine, EndIfLine, EndMenuLine, HelpLine, IfLine, IgnoredLine, ImplyLine, LineContext, Located, MenuLine, ModulesLine, Named, Numbered, PromptLine, RangeLine, ReadsLine, ReadsSource, SelectLine, SourceLine, Statement, TypeLine, VisibleLine, begins_with, names_in_statement, numbered, statements}
-use Rattle.kc_language.specs.{Text.{most_lines, most_open, most_symbols}, Tokens.{IsCut, Lexeme}, declared.{statements.Block.Block, statements.EntryKind.EntryKind, tokens.TextFault.TextFault}}
+use Rattle.std.specs.{List.{before_first, filter_map, flat_map, last_or, list_any, take_while}, Map.{lookup}, Prelude.{Bool, Err, List, MatchOption, None, Ok, Option, Result, Some, [], codes, drop, false, filter, if◌then◌else◌, is_some, length, map, min, nat_le, nat_lt, option_and_then, option_map, slice_get, suc, take, true, zero, ℕ, ◌&&◌, ◌++◌, ◌+◌, ◌-◌, ◌^◌, ◌||◌, ◌∷◌, ◌≡◌, ◌≢◌}}
+use Rattle.kc_language.specs.{Expressions.{all_mentioned, mention, number_of, same_name}, Lines.{IsTooLong, TakesLine, UnreadLines, after_help, physical_lines, unread_lines}, Statements.{Cause, ChoiceLine, CommentLine, ConfigLine, EndChoiceLine, EndIfLine, EndMenuLine, IfLine, LineContext, Located, MainMenuLine, MenuLine, ModulesLine, Named, Numbered, ReadsLine, ReadsSource, SourceLine, Statement, begins_with, names_in_statement, numbered, statements}, Text.{most_lines, most_open, most_symbols}, Tokens.{IsCut, Lexeme}, declared.{statements.{Block.Block, EntryKind.{EntryKind, TheVariants.{Choice, Comment, Config, Menu, Nothing}}}, tokens.TextFault.{TextFault, TheVariants.{BadToken, LineTooLong, Macro, Memory}}}}
 use Rattle.kc_language.specs.declared.diagnostics.Cause.TheVariants as cause
 
 -- The bytes of each file by its name, where there is such a file. `bytes_in` takes them from a list.
@@ -31,14 +28,6 @@ pub data Bracket : Type 0 where
 abbrev pub opened : Bracket → Option Block
 opened b = elim b [ Opens k ↦ Some k | _ ↦ None ]
 
--- Where d blocks are open: how many are open after one more statement, and whether it closes a block that was open before those.
-abbrev pub depth_after : ℕ → Bracket → ℕ
-depth_after d b = elim b [ Opens k ↦ suc d | Closes ↦ d - 1 | NoBracket ↦ d ]
-
-abbrev pub closes_outer : ℕ → Bracket → Bool
-closes_outer zero Closes = true
-closes_outer d b = false
-
 module _ {E L S : Type 0} where
   -- `if`, `menu` and `choice` open a block.
   abbrev pub bracket : Statement E L S → Bracket
@@ -59,14 +48,12 @@ module _ {E L S : Type 0} where
   -- A block stays open through these statements, where d blocks are open inside it.
   abbrev pub stays_open : ℕ → List (Statement E L S) → Bool
   stays_open d [] = true
-  stays_open d (s ∷ ss) = if closes_outer d (bracket s) then false else stays_open (depth_after d (bracket s)) ss
+  stays_open d (s ∷ ss) =
+      elim (bracket s) [ Opens k ↦ stays_open (suc d) ss | Closes ↦ elim d [ zero ↦ false | suc n ↦ stays_open n ss ] | NoBracket ↦ stays_open d ss ]
 
-  -- Statement j opens a block that is still open after the last statement. All such, the outermost first: their places, their blocks.
-  abbrev pub is_open : List (Statement E L S) → ℕ → Bool
-  is_open ss j = is_some (opened (bracket_at ss j)) && stays_open 0 (drop (suc j) ss)
-
+  -- The places of the statements that open a block that is still open after the last statement, the outermost first. Their blocks.
   abbrev pub open_block_indices : List (Statement E L S) → List ℕ
-  open_block_indices ss = filter (is_open ss) (numbers (length ss))
+  open_block_indices ss = filter (λ j. is_some (opened (bracket_at ss j)) && stays_open 0 (drop (suc j) ss)) (numbers (length ss))
 
   abbrev pub open_blocks : List (Statement E L S) → List Block
   open_blocks ss = filter_map (λ j. opened (bracket_at ss j)) (open_block_indices ss)
@@ -77,21 +64,8 @@ module _ {E L S : Type 0} where
 
   -- An attribute belongs to the entry before it. The attributes of the entry at j follow it without a gap.
   abbrev pub is_attribute : Statement E L S → Bool
-  is_attribute s = elim s [
-    | TypeLine k p ↦ true
-    | PromptLine p ↦ true
-    | DefaultLine v w ↦ true
-    | DefLine k v w ↦ true
-    | DependsLine e ↦ true
-    | VisibleLine e ↦ true
-    | SelectLine n w ↦ true
-    | ImplyLine n w ↦ true
-    | RangeLine a b w ↦ true
-    | HelpLine ↦ true
-    | ModulesLine ↦ true
-    | IgnoredLine ↦ true
-    | _ ↦ false
-  ]
+  is_attribute s =
+      elim (bracket s) [ NoBracket ↦ elim s [ ConfigLine n ↦ false | CommentLine t ↦ false | SourceLine t ↦ false | MainMenuLine t ↦ false | _ ↦ true ] | _ ↦ false ]
 
   abbrev pub is_no_attribute : Statement E L S → Bool
   is_no_attribute s = if is_attribute s then false else true
@@ -101,13 +75,7 @@ module _ {E L S : Type 0} where
 
   -- The kind of entry that an attribute would belong to, after this last statement that is no attribute.
   abbrev pub entry_of : Option (Statement E L S) → EntryKind
-  entry_of = elim [
-    | Some (ConfigLine n) ↦ EntryKind.Config
-    | Some ChoiceLine ↦ EntryKind.Choice
-    | Some (MenuLine t) ↦ EntryKind.Menu
-    | Some (CommentLine t) ↦ EntryKind.Comment
-    | _ ↦ EntryKind.Nothing
-  ]
+  entry_of = elim [ Some (ConfigLine n) ↦ Config | Some ChoiceLine ↦ Choice | Some (MenuLine t) ↦ Menu | Some (CommentLine t) ↦ Comment | _ ↦ Nothing ]
 
   -- The names of the `config` lines, in order.
   abbrev pub defined_name : Statement E L S → Option S
@@ -122,10 +90,6 @@ module _ {E L S : Type 0} where
 
   abbrev pub modules_of : List (Statement E L S) → Option S
   modules_of ss = if list_any is_modules ss then last_of (definitions (before_first is_modules ss)) else None
-
-  -- A `source` line.
-  abbrev pub is_source : Statement E L S → Bool
-  is_source s = elim s [ SourceLine t ↦ true | _ ↦ false ]
 
 -- The names of a tree, each once, in the order of their first mention, and its lines with each name as its number in that order.
 abbrev pub names_of : List Named → List (List ℕ)
@@ -156,11 +120,8 @@ pub record Log : Type 0 where
   pub opened : List (List ℕ)
 
 -- The next line may be a `modules` line: there was none, or the symbol defined last is the modules symbol.
-abbrev pub names_match : Option (List ℕ) → Option (List ℕ) → Bool
-names_match = elim [ None ↦ λ now. true | Some n ↦ elim [ None ↦ false | Some m ↦ same_name n m ] ]
-
 abbrev pub may_be_modules : List Named → Bool
-may_be_modules ss = names_match (modules_of ss) (last_of (definitions ss))
+may_be_modules ss = elim (modules_of ss) [ None ↦ true | Some n ↦ elim (last_of (definitions ss)) [ None ↦ false | Some m ↦ same_name n m ] ]
 
 -- The context of a file's next line, where own are the file's statements so far.
 abbrev pub is_choice : Block → Bool
@@ -178,18 +139,13 @@ context_of a own log = record {
 abbrev pub limit_cause : FileContext → List (Located Named) → Log → Named → Option Cause
 limit_cause a own log (ConfigLine n) =
     if nat_lt most_symbols (length (mention (all_mentioned [] (definitions (statements log.lines))) n)) then Some cause.TooManySymbols else None
-limit_cause a own log s = elim (opened (bracket s)) [
-  | None ↦ None
-  | Some b ↦ if nat_le most_open (length a.blocks + length (open_blocks (statements own))) then Some cause.TooDeep else None
-]
+limit_cause a own log s =
+    option_and_then (λ b. if nat_le most_open (length a.blocks + length (open_blocks (statements own))) then Some cause.TooDeep else None) (opened (bracket s))
 
 -- Why a file cannot be opened, where n physical lines were read before: there is none (E1), or the lines are too many (E3).
-abbrev pub lines_of : List ℕ → ℕ
-lines_of bytes = length (physical_lines bytes)
-
 abbrev pub bytes_cause : List ℕ → ℕ → Option (List ℕ) → Option Cause
 bytes_cause name n None = Some (cause.NoFile name)
-bytes_cause name n (Some bytes) = if nat_lt most_lines (n + lines_of bytes) then Some cause.TooManyLines else None
+bytes_cause name n (Some bytes) = if nat_lt most_lines (n + length (physical_lines bytes)) then Some cause.TooManyLines else None
 
 -- Why a file cannot be sourced, where these files are open: it is one of them (E2), they are too many (E12), or it cannot be opened.
 abbrev pub sourcing_cause : Files → List (List ℕ) → ℕ → List ℕ → Option Cause
@@ -201,26 +157,16 @@ abbrev pub inside : FileContext → List (Located Named) → List ℕ → FileCo
 inside a own name = record { open_files = a.open_files ++ name ∷ []; file = name; blocks = a.blocks ++ open_blocks (statements own) }
 
 abbrev pub with_file : Log → List ℕ → List ℕ → Log
-with_file log name bytes = record { lines = log.lines; total_lines = log.total_lines + lines_of bytes; opened = mention log.opened name }
+with_file log name bytes = record log { total_lines = log.total_lines + length (physical_lines bytes); opened = mention log.opened name }
 
--- A statement is added: to the lines of its file, and to the log.
+-- A statement of the file is added to lines.
 abbrev pub with_line : List (Located Named) → FileContext → ℕ → Named → List (Located Named)
 with_line ls a n s = ls ++ record { file = a.file; line = n; statement = s } ∷ []
-
-abbrev pub logged : Log → FileContext → ℕ → Named → Log
-logged log a n s = record { lines = with_line log.lines a n s; total_lines = log.total_lines; opened = log.opened }
 
 -- ---- The next line
 -- The lines of the help text are skipped.
 abbrev pub without_help : UnreadLines → UnreadLines
-without_help l = record {
-  lines = after_help l.lines;
-  number = min (l.number + (length l.lines - length (after_help l.lines))) (2 ^ 32 - 1);
-  refusal = l.refusal;
-}
-
-abbrev pub is_help : List Lexeme → Bool
-is_help ts = begins_with (codes "help") ts || begins_with (codes "---help---") ts
+without_help l = record l { lines = after_help l.lines; number = min (l.number + (length l.lines - length (after_help l.lines))) (2 ^ 32 - 1) }
 
 -- The next logical line of l is cut into these tokens. After it, and after its help text where it is a `help` line, m is left.
 pub record NextLine (l m : UnreadLines) (ts : List Lexeme) (out : Option TextFault) : Type 0 where
@@ -228,7 +174,7 @@ pub record NextLine (l m : UnreadLines) (ts : List Lexeme) (out : Option TextFau
   pub text : List ℕ
   pub taken : TakesLine l middle text
   pub cut : IsCut text ts out
-  pub left_after : m ≡ (if is_help ts then without_help middle else middle)
+  pub left_after : m ≡ (if begins_with (codes "help") ts || begins_with (codes "---help---") ts then without_help middle else middle)
 
 -- The next line has tokens, and reads as s.
 pub record NextStatement (l m : UnreadLines) (c : LineContext) (s : Result Named Cause) : Type 0 where
@@ -239,21 +185,11 @@ pub record NextStatement (l m : UnreadLines) (c : LineContext) (s : Result Named
 
 -- The error of a line that cannot be cut into tokens.
 abbrev pub text_cause : TextFault → Cause
-text_cause f = elim f [
-  | TextFault.Macro ↦ cause.Macro
-  | TextFault.BadToken ↦ cause.BadToken
-  | TextFault.LineTooLong n ↦ cause.LineTooLong
-  | TextFault.Memory ↦ cause.Memory
-]
+text_cause = elim [ Macro ↦ cause.Macro | BadToken ↦ cause.BadToken | LineTooLong n ↦ cause.LineTooLong | Memory ↦ cause.Memory ]
 
 -- A block is open at the end of a file. The innermost one was opened at this line.
-pub record IsUnclosed (own : List (Located Named)) (line : ℕ) : Type 0 where
-  pub before : List (Located Named)
-  pub opener : Located Named
-  pub after : List (Located Named)
-  pub split : own ≡ before ++ opener ∷ after
-  pub innermost_is : last_of (open_block_indices (statements own)) ≡ Some (length before)
-  pub line_is : line ≡ opener.line
+abbrev pub IsUnclosed : List (Located Named) → ℕ → Type 0
+IsUnclosed own line = (j : ℕ) × (last_of (open_block_indices (statements own)) ≡ Some j) × (option_map (λ l. l.line) (slice_get own j) ≡ Some line)
 
 -- ---- A whole file
 -- What the rest of a file gives: in the context a, l is unread of it, own are its statements so far, and log is what was read.
@@ -274,31 +210,24 @@ pub data Rest (files : Files) : FileContext → UnreadLines → List (Located Na
   over_limit : (a : FileContext) (l m : UnreadLines) (own : List (Located Named)) (log : Log) (s : Named) (c : Cause) →
       NextStatement l m (context_of a own log) (Ok s) → limit_cause a own log s ≡ Some c → Rest files a l own log (Err (refused c a.file l.number))
   statement : (a : FileContext) (l m : UnreadLines) (own : List (Located Named)) (log : Log) (s : Named) (r : Result Log Refused) →
-      NextStatement l m (context_of a own log) (Ok s) → is_source s ≡ false → limit_cause a own log s ≡ None →
-      Rest files a m (with_line own a l.number s) (logged log a l.number s) r → Rest files a l own log r
+      NextStatement l m (context_of a own log) (Ok s) → elim s [ SourceLine t ↦ true | _ ↦ false ] ≡ false → limit_cause a own log s ≡ None →
+      Rest files a m (with_line own a l.number s) (record log { lines = with_line log.lines a l.number s }) r → Rest files a l own log r
   bad_source : (a : FileContext) (l m : UnreadLines) (own : List (Located Named)) (log : Log) (name : List ℕ) (c : Cause) →
       NextStatement l m (context_of a own log) (Ok (SourceLine name)) → sourcing_cause files a.open_files log.total_lines name ≡ Some c →
       Rest files a l own log (Err (refused c a.file l.number))
   refused_inside : (a : FileContext) (l m : UnreadLines) (own : List (Located Named)) (log : Log) (name bytes : List ℕ) (e : Refused) →
       NextStatement l m (context_of a own log) (Ok (SourceLine name)) → sourcing_cause files a.open_files log.total_lines name ≡ None →
-      files name ≡ Some bytes → Rest files (inside a own name) (unread_lines bytes 1) [] (with_file log name bytes) (Err e) →
-      Rest files a l own log (Err e)
+      files name ≡ Some bytes → Rest files (inside a own name) (unread_lines bytes 1) [] (with_file log name bytes) (Err e) → Rest files a l own log (Err e)
   source : (a : FileContext) (l m : UnreadLines) (own : List (Located Named)) (log more : Log) (name bytes : List ℕ) (r : Result Log Refused) →
       NextStatement l m (context_of a own log) (Ok (SourceLine name)) → sourcing_cause files a.open_files log.total_lines name ≡ None →
       files name ≡ Some bytes → Rest files (inside a own name) (unread_lines bytes 1) [] (with_file log name bytes) (Ok more) →
       Rest files a m (with_line own a l.number (SourceLine name)) more r → Rest files a l own log r
 
--- Reading begins with the root file: no other file is open, and nothing was read.
-abbrev pub root_context : List ℕ → FileContext
-root_context root = record { open_files = root ∷ []; file = root; blocks = [] }
-
-abbrev pub nothing_read : Log
-nothing_read = record { lines = []; total_lines = 0; opened = [] }
-
--- The root file expands to this log, or to the first error.
+-- The root file expands to this log, or to the first error. No other file is open, and nothing was read.
 abbrev pub Expands : Files → List ℕ → Result Log Refused → Type 0
 Expands files root r = MatchOption (bytes_cause root 0 (files root))
-    ((bytes : List ℕ) × (files root ≡ Some bytes) × Rest files (root_context root) (unread_lines bytes 1) [] (with_file nothing_read root bytes) r)
+    ((bytes : List ℕ) × (files root ≡ Some bytes) × Rest files (record { open_files = root ∷ []; file = root; blocks = [] })
+    (unread_lines bytes 1) [] (with_file (record { lines = []; total_lines = 0; opened = [] }) root bytes) r)
     (λ c. r ≡ Err (refused c root 0))
 
 -- Where the root file is accepted, these are the files that are opened, each once, as first opened.
@@ -306,21 +235,16 @@ abbrev pub AreOpened : Files → List ℕ → List (List ℕ) → Type 0
 AreOpened files root names = (log : Log) → Expands files root (Ok log) → names ≡ log.opened
 
 -- ---- The files that one file names, read by itself
--- The next line is no `source` line; it is a `source` line with this name. After it m is left.
-abbrev pub IsOther : UnreadLines → UnreadLines → Type 0
-IsOther l m = (ts : List Lexeme) × NextLine l m ts None × (begins_with (codes "source") ts ≡ false)
-
+-- The next line is a `source` line with this name. After it m is left.
 abbrev pub IsSource : UnreadLines → UnreadLines → List ℕ → Type 0
-IsSource l m name =
-    (ts : List Lexeme) × NextLine l m ts None × (begins_with (codes "source") ts ≡ true) × ReadsSource (drop 1 ts) (Ok (SourceLine name))
+IsSource l m name = (ts : List Lexeme) × NextLine l m ts None × (begins_with (codes "source") ts ≡ true) × ReadsSource (drop 1 ts) (Ok (SourceLine name))
 
 -- From l to m there are only lines that are no `source` lines.
 pub data Passes : UnreadLines → UnreadLines → Type 0 where
   here : (l : UnreadLines) → Passes l l
-  past : (l m n : UnreadLines) → IsOther l m → Passes m n → Passes l n
+  past : (l m n : UnreadLines) → (ts : List Lexeme) × NextLine l m ts None × (begins_with (codes "source") ts ≡ false) → Passes m n → Passes l n
 
 -- The names of the `source` lines, in order, up to a line that is too long or cannot be cut, or a `source` line that is refused.
 pub data SourceNames : UnreadLines → List (List ℕ) → Type 0 where
   none : (l : UnreadLines) → ((m n : UnreadLines) (name : List ℕ) → Passes l m → IsSource m n name → ⊥) → SourceNames l []
-  next : (l m n : UnreadLines) (name : List ℕ) (names : List (List ℕ)) →
-      Passes l m → IsSource m n name → SourceNames n names → SourceNames l (name ∷ names)
+  next : (l m n : UnreadLines) (name : List ℕ) (names : List (List ℕ)) → Passes l m → IsSource m n name → SourceNames n names → SourceNames l (name ∷ names)

@@ -1,9 +1,7 @@
 -- Trusted: 5. Statements: what one line of a Kconfig file says, and where it may stand.
 -- Source: the kernel's kconfig-language document. The errors and what is left out are our own. From the whole to the parts: begin with `ReadsLine`.
-use Rattle.std.specs.{List.{list_all, list_any}, Map.{lookup}}
-use Rattle.std.specs.Prelude.{Bool, Err, List, MatchResult, None, Ok, Option, Result, Some, [], codes, decimal, drop, false, if◌then◌else◌, is_some, length, map, nat_le, not, option_map, true, ℕ, ◌&&◌, ◌++◌, ◌==◌, ◌||◌, ◌∷◌, ◌≡◌, ◌≤◌, ◌⊎◌}
-use Rattle.kc_language.specs.Expressions.{Atom, Disjunction, Form, IsNoExpression, IsTooDeep, Leaf, LongestFront, QuotedAtom, WordAtom, if_word, is_name_byte, leaf, levels, meaning, names_in, names_in_atom, same_name, spell, symbol, terminal_of, tristate_constant}
-use Rattle.kc_language.specs.{Text.{byte, longest_line, longest_name, most_lines, most_open, most_symbols, unescape}, Tokens.{AQuoted, AWord, Lexeme}, declared.{diagnostics.Cause.Cause as CauseAbout, expressions.SymId.SymId, expressions.SymbolType.SymbolType, statements.Block.Block, statements.EntryKind.EntryKind, statements.Keyword.Keyword}}
+use Rattle.std.specs.{List.{list_all, list_any}, Map.{lookup}, Prelude.{Bool, Err, List, MatchResult, None, Ok, Option, Result, Some, [], codes, decimal, drop, false, if◌then◌else◌, is_some, length, map, nat_le, not, option_map, true, ℕ, ◌&&◌, ◌++◌, ◌==◌, ◌||◌, ◌∷◌, ◌≡◌, ◌≤◌, ◌⊎◌}}
+use Rattle.kc_language.specs.{Expressions.{Atom, Disjunction, Form, IsNoExpression, IsTooDeep, Leaf, LongestFront, QuotedAtom, WordAtom, if_word, is_name_byte, leaf, levels, meaning, names_in, names_in_atom, same_name, spell, symbol, terminal_of, tristate_constant}, Text.{byte, longest_line, longest_name, most_lines, most_open, most_symbols, unescape}, Tokens.{AQuoted, AWord, Lexeme}, declared.{diagnostics.Cause.Cause as CauseAbout, expressions.{SymId.SymId, SymbolType.SymbolType}, statements.{Block.Block, EntryKind.EntryKind, Keyword.Keyword}}}
 use Rattle.kc_language.specs.declared.diagnostics.Cause.TheVariants as cause
 use Rattle.kc_language.specs.declared.statements.Keyword.TheVariants as key
 
@@ -78,40 +76,32 @@ pub record Located (T : Type 0) : Type 0 where
 abbrev pub statements : {T : Type 0} → List (Located T) → List T
 statements = map (λ l. l.statement)
 
-module _ (number : List ℕ → ℕ) where
-  -- A lone `m` in a condition also asks for the modules symbol, in a value it does not. The text of a prompt is not kept.
-  abbrev pub condition_form : Disjunction → Form
-  condition_form d = meaning true number d
-
-  abbrev pub prompt_form : InputPrompt Disjunction → InputPrompt Form
-  prompt_form a = record { text = []; when = option_map condition_form a.when }
-
-  -- The statement with its names numbered.
-  abbrev pub numbered : Named → Numbered
-  numbered s = elim s [
-    | ConfigLine n ↦ ConfigLine (symbol (number n))
-    | PromptLine p ↦ PromptLine (prompt_form p)
-    | TypeLine k p ↦ TypeLine k (option_map prompt_form p)
-    | IfLine e ↦ IfLine (condition_form e)
-    | DependsLine e ↦ DependsLine (condition_form e)
-    | VisibleLine e ↦ VisibleLine (condition_form e)
-    | DefaultLine v w ↦ DefaultLine (meaning false number v) (option_map condition_form w)
-    | DefLine k v w ↦ DefLine k (meaning false number v) (option_map condition_form w)
-    | SelectLine n w ↦ SelectLine (symbol (number n)) (option_map condition_form w)
-    | ImplyLine n w ↦ ImplyLine (symbol (number n)) (option_map condition_form w)
-    | RangeLine a b w ↦ RangeLine (leaf number a) (leaf number b) (option_map condition_form w)
-    | CommentLine t ↦ CommentLine t
-    | SourceLine t ↦ SourceLine t
-    | MenuLine t ↦ MenuLine t
-    | MainMenuLine t ↦ MainMenuLine t
-    | EndIfLine ↦ EndIfLine
-    | EndMenuLine ↦ EndMenuLine
-    | ChoiceLine ↦ ChoiceLine
-    | EndChoiceLine ↦ EndChoiceLine
-    | HelpLine ↦ HelpLine
-    | ModulesLine ↦ ModulesLine
-    | IgnoredLine ↦ IgnoredLine
-  ]
+-- The statement with its names numbered. In conditions (`meaning true`) a lone `m` also asks for the modules symbol. A prompt's text is not kept.
+abbrev pub numbered : (List ℕ → ℕ) → Named → Numbered
+numbered number s = elim s [
+  | ConfigLine n ↦ ConfigLine (symbol (number n))
+  | PromptLine p ↦ PromptLine (record { text = []; when = option_map (meaning true number) p.when })
+  | TypeLine k p ↦ TypeLine k (option_map (λ a. record { text = []; when = option_map (meaning true number) a.when }) p)
+  | IfLine e ↦ IfLine (meaning true number e)
+  | DependsLine e ↦ DependsLine (meaning true number e)
+  | VisibleLine e ↦ VisibleLine (meaning true number e)
+  | DefaultLine v w ↦ DefaultLine (meaning false number v) (option_map (meaning true number) w)
+  | DefLine k v w ↦ DefLine k (meaning false number v) (option_map (meaning true number) w)
+  | SelectLine n w ↦ SelectLine (symbol (number n)) (option_map (meaning true number) w)
+  | ImplyLine n w ↦ ImplyLine (symbol (number n)) (option_map (meaning true number) w)
+  | RangeLine a b w ↦ RangeLine (leaf number a) (leaf number b) (option_map (meaning true number) w)
+  | CommentLine t ↦ CommentLine t
+  | SourceLine t ↦ SourceLine t
+  | MenuLine t ↦ MenuLine t
+  | MainMenuLine t ↦ MainMenuLine t
+  | EndIfLine ↦ EndIfLine
+  | EndMenuLine ↦ EndMenuLine
+  | ChoiceLine ↦ ChoiceLine
+  | EndChoiceLine ↦ EndChoiceLine
+  | HelpLine ↦ HelpLine
+  | ModulesLine ↦ ModulesLine
+  | IgnoredLine ↦ IgnoredLine
+]
 
 -- The names that a statement mentions, from left to right.
 abbrev pub names_in_condition : Option Disjunction → List (List ℕ)
@@ -165,18 +155,12 @@ pub record LineContext : Type 0 where
   pub in_choice : Bool
   pub modules : Bool
 
--- The kinds of an entry: a symbol's, a choice's, a menu's, and any of these or a comment's.
+-- The entry is a symbol's. It is a choice's.
 abbrev pub is_config : EntryKind → Bool
 is_config e = elim e [ EntryKind.Config ↦ true | _ ↦ false ]
 
 abbrev pub is_choice : EntryKind → Bool
 is_choice e = elim e [ EntryKind.Choice ↦ true | _ ↦ false ]
-
-abbrev pub is_menu : EntryKind → Bool
-is_menu e = elim e [ EntryKind.Menu ↦ true | _ ↦ false ]
-
-abbrev pub is_entry : EntryKind → Bool
-is_entry e = elim e [ EntryKind.Nothing ↦ false | _ ↦ true ]
 
 -- E9: a block's last line closes the innermost open block of the same file.
 abbrev pub closing_cause : Block → Option Block → Option Cause
@@ -213,8 +197,8 @@ placement_cause c w ts k = elim k [
   | key.Imply ↦ unless_placed (is_config c.entry)
   | key.Range ↦ unless_placed (is_config c.entry)
   | key.Def t ↦ unless_placed (is_config c.entry)
-  | key.Depends ↦ unless_placed (is_entry c.entry)
-  | key.Visible ↦ unless_placed (is_menu c.entry)
+  | key.Depends ↦ unless_placed (elim c.entry [ EntryKind.Nothing ↦ false | _ ↦ true ])
+  | key.Visible ↦ unless_placed (elim c.entry [ EntryKind.Menu ↦ true | _ ↦ false ])
   | key.Modules ↦ unless_placed (is_config c.entry && c.modules)
   | key.«Option» ↦ if begins_with (codes "modules") ts then unless_placed (is_config c.entry && c.modules) else unless_placed (is_config c.entry)
   | key.LeftOut ↦ Some (cause.LeftOut w)
@@ -246,27 +230,21 @@ abbrev pub finish : {A : Type 0} → A → List Lexeme → Result A Cause
 finish a = elim [ [] ↦ Ok a | t ∷ ts ↦ Err cause.Syntax ]
 
 -- An expression up to the end of the line: what the line reads as, or why it is refused.
-abbrev pub IsWhole : List Lexeme → Disjunction → Type 0
-IsWhole ts d = StartsExpression ts (record { tree = d; rest = [] })
-
 abbrev pub WholeFault : List Lexeme → Cause → Type 0
 WholeFault ts c = ExpressionFault ts c ⊎ ((f : Front) × StartsExpression ts f × IsMore f.rest × (c ≡ cause.Syntax))
 
 abbrev pub ReadsWhole : (Disjunction → Named) → List Lexeme → Result Named Cause → Type 0
-ReadsWhole make ts (Ok x) = (d : Disjunction) × IsWhole ts d × (x ≡ make d)
-ReadsWhole make ts (Err c) = WholeFault ts c
+ReadsWhole make ts = elim [ Ok x ↦ (d : Disjunction) × StartsExpression ts (record { tree = d; rest = [] }) × (x ≡ make d) | Err c ↦ WholeFault ts c ]
 
 -- A condition: nothing, or `if` and an expression, up to the end of the line.
 abbrev pub IsCondition : List Lexeme → Option Disjunction → Type 0
-IsCondition ts = elim [ None ↦ ts ≡ [] | Some d ↦ (begins_with if_word ts ≡ true) × IsWhole (drop 1 ts) d ]
+IsCondition ts = elim [ None ↦ ts ≡ [] | Some d ↦ (begins_with if_word ts ≡ true) × StartsExpression (drop 1 ts) (record { tree = d; rest = [] }) ]
 
 abbrev pub ConditionFault : List Lexeme → Cause → Type 0
-ConditionFault ts c =
-    ((begins_with if_word ts ≡ true) × WholeFault (drop 1 ts) c) ⊎ (IsMore ts × (begins_with if_word ts ≡ false) × (c ≡ cause.Syntax))
+ConditionFault ts c = ((begins_with if_word ts ≡ true) × WholeFault (drop 1 ts) c) ⊎ (IsMore ts × (begins_with if_word ts ≡ false) × (c ≡ cause.Syntax))
 
 abbrev pub ReadsCondition : (Option Disjunction → Named) → List Lexeme → Result Named Cause → Type 0
-ReadsCondition make ts (Ok x) = (w : Option Disjunction) × IsCondition ts w × (x ≡ make w)
-ReadsCondition make ts (Err c) = ConditionFault ts c
+ReadsCondition make ts = elim [ Ok x ↦ (w : Option Disjunction) × IsCondition ts w × (x ≡ make w) | Err c ↦ ConditionFault ts c ]
 
 -- A value: an expression, and then a condition.
 abbrev pub ReadsValue : (Disjunction → Option Disjunction → Named) → List Lexeme → Result Named Cause → Type 0
@@ -279,21 +257,13 @@ abbrev pub word_of : List Lexeme → Result (List ℕ) Cause
 word_of = elim [ AWord w ∷ ts ↦ Ok w | _ ↦ Err cause.Syntax ]
 
 abbrev pub text_of : List Lexeme → Result (List ℕ) Cause
-text_of (AWord w ∷ ts) = if same_name w if_word then Err cause.Syntax else Ok w
-text_of (AQuoted t ∷ ts) = Ok (unescape t)
-text_of _ = Err cause.Syntax
+text_of = elim [ AWord w ∷ ts ↦ if same_name w if_word then Err cause.Syntax else Ok w | AQuoted t ∷ ts ↦ Ok (unescape t) | _ ↦ Err cause.Syntax ]
 
 abbrev pub operand_of : List Lexeme → Result Atom Cause
-operand_of (AWord w ∷ ts) = if same_name w if_word then Err cause.Syntax else Ok (WordAtom w)
-operand_of (AQuoted t ∷ ts) = Ok (QuotedAtom t)
-operand_of _ = Err cause.Syntax
+operand_of = elim [ AWord w ∷ ts ↦ if same_name w if_word then Err cause.Syntax else Ok (WordAtom w) | AQuoted t ∷ ts ↦ Ok (QuotedAtom t) | _ ↦ Err cause.Syntax ]
 
 abbrev pub named_target : List Lexeme → Result (List ℕ) Cause
 named_target = elim [ AWord w ∷ ts ↦ if same_name w if_word || is_some (tristate_constant w) then Err cause.Syntax else Ok w | _ ↦ Err cause.Syntax ]
-
--- The word w has to stand here. It gives the tokens after it.
-abbrev pub expected : List ℕ → List Lexeme → Result (List Lexeme) Cause
-expected w ts = if begins_with w ts then Ok (drop 1 ts) else Err cause.Syntax
 
 -- One part, and then the next: r is the cause where the part is refused.
 abbrev pub After : {A B : Type 0} → Result A Cause → (A → Result B Cause → Type 0) → Result B Cause → Type 0
@@ -316,24 +286,9 @@ abbrev pub is_good_name : List ℕ → Bool
 is_good_name w = if same_name w if_word || is_some (tristate_constant w) then false
     else (nat_le 1 (length w) && nat_le (length w) longest_name && list_all is_name_byte w)
 
-abbrev pub ReadsConfig : List Lexeme → Result Named Cause → Type 0
-ReadsConfig ts =
-    After (word_of ts) (λ w. After (finish w (drop 1 ts)) (λ v r. r ≡ (if is_good_name v then Ok (ConfigLine v) else Err (cause.BadName v))))
-
--- `choice`: nothing.
-abbrev pub choice_line : List Lexeme → Result Named Cause
-choice_line = elim [ [] ↦ Ok ChoiceLine | _ ↦ Err (cause.LeftOut (codes "named choice")) ]
-
--- `prompt`: a text and a condition. A type: nothing, or the same as `prompt`.
+-- `prompt`, a type that is not alone: a text and a condition.
 abbrev pub ReadsPrompt : (InputPrompt Disjunction → Named) → List Lexeme → Result Named Cause → Type 0
 ReadsPrompt make ts = After (text_of ts) (λ t. ReadsCondition (λ w. make (record { text = t; when = w })) (drop 1 ts))
-
-abbrev pub ReadsType : SymbolType → List Lexeme → Result Named Cause → Type 0
-ReadsType k ts r = ((ts ≡ []) × (r ≡ Ok (TypeLine k None))) ⊎ (IsMore ts × ReadsPrompt (λ p. TypeLine k (Some p)) ts r)
-
--- `select`, `imply`: a name and a condition.
-abbrev pub ReadsTarget : (List ℕ → Option Disjunction → Named) → List Lexeme → Result Named Cause → Type 0
-ReadsTarget make ts = After (named_target ts) (λ t. ReadsCondition (make t) (drop 1 ts))
 
 -- `option`: `modules`, or `allnoconfig_y`, which has no effect.
 abbrev pub option_line : List Lexeme → Result Named Cause
@@ -343,7 +298,7 @@ option_line ts =
     else if begins_with (codes "env") ts then Err (cause.LeftOut (codes "option env"))
     else if begins_with (codes "defconfig_list") ts then Err (cause.LeftOut (codes "option defconfig_list")) else Err cause.Syntax
 
--- What follows the first word w, by its keyword.
+-- What follows the first word w, by its keyword. A type stands alone or has a prompt. A `choice` has no name.
 abbrev pub ReadsRest : List ℕ → Keyword → List Lexeme → Result Named Cause → Type 0
 ReadsRest w k = elim k [
   | key.EndIf ↦ λ ts r. r ≡ finish EndIfLine ts
@@ -351,38 +306,29 @@ ReadsRest w k = elim k [
   | key.EndChoice ↦ λ ts r. r ≡ finish EndChoiceLine ts
   | key.Help ↦ λ ts r. r ≡ finish HelpLine ts
   | key.Modules ↦ λ ts r. r ≡ finish ModulesLine ts
-  | key.Choice ↦ λ ts r. r ≡ choice_line ts
+  | key.Choice ↦ λ ts r. r ≡ elim ts [ [] ↦ Ok ChoiceLine | _ ↦ Err (cause.LeftOut (codes "named choice")) ]
   | key.«Option» ↦ λ ts r. r ≡ option_line ts
   | key.Comment ↦ ReadsTextLine CommentLine
   | key.Menu ↦ ReadsTextLine MenuLine
   | key.MainMenu ↦ ReadsTextLine MainMenuLine
   | key.Source ↦ ReadsSource
-  | key.Config ↦ ReadsConfig
-  | key.Type t ↦ ReadsType t
+  | key.Config ↦ λ ts. After (word_of ts) (λ w. After (finish w (drop 1 ts)) (λ v r. r ≡ (if is_good_name v then Ok (ConfigLine v) else Err (cause.BadName v))))
+  | key.Type t ↦ λ ts r. ((ts ≡ []) × (r ≡ Ok (TypeLine t None))) ⊎ (IsMore ts × ReadsPrompt (λ p. TypeLine t (Some p)) ts r)
   | key.Prompt ↦ ReadsPrompt PromptLine
   | key.Default ↦ ReadsValue DefaultLine
   | key.Def t ↦ ReadsValue (DefLine t)
-  | key.Select ↦ ReadsTarget SelectLine
-  | key.Imply ↦ ReadsTarget ImplyLine
+  | key.Select ↦ λ ts. After (named_target ts) (λ t. ReadsCondition (SelectLine t) (drop 1 ts))
+  | key.Imply ↦ λ ts. After (named_target ts) (λ t. ReadsCondition (ImplyLine t) (drop 1 ts))
   | key.If ↦ ReadsWhole IfLine
-  | key.Depends ↦ λ ts. After (expected (codes "on") ts) (ReadsWhole DependsLine)
-  | key.Visible ↦ λ ts. After (expected if_word ts) (ReadsWhole VisibleLine)
+  | key.Depends ↦ λ ts. After (if begins_with (codes "on") ts then Ok (drop 1 ts) else Err cause.Syntax) (ReadsWhole DependsLine)
+  | key.Visible ↦ λ ts. After (if begins_with if_word ts then Ok (drop 1 ts) else Err cause.Syntax) (ReadsWhole VisibleLine)
   | key.Range ↦ λ ts. After (operand_of ts) (λ a. After (operand_of (drop 1 ts)) (λ b. ReadsCondition (RangeLine a b) (drop 2 ts)))
   | key.LeftOut ↦ λ ts r. r ≡ Err (cause.LeftOut w)
 ]
-
--- The first word is a keyword. Then the line is in a right place.
-abbrev pub keyword_or_refusal : Option Keyword → Result Keyword Cause
-keyword_or_refusal None = Err cause.Syntax
-keyword_or_refusal (Some k) = Ok k
-
-abbrev pub in_place : Keyword → Option Cause → Result Keyword Cause
-in_place k None = Ok k
-in_place k (Some why) = Err why
 
 -- The tokens of a line read as this statement, or are refused: by the first word, then by where the line stands, then by what follows the word.
 abbrev pub ReadsLine : LineContext → List Lexeme → Result Named Cause → Type 0
 ReadsLine c ts =
     After (word_of ts) (λ w.
-    After (keyword_or_refusal (keyword_of w)) (λ k.
-    After (in_place k (placement_cause c w (drop 1 ts) k)) (λ j. ReadsRest w j (drop 1 ts))))
+    After (elim (keyword_of w) [ None ↦ Err cause.Syntax | Some k ↦ Ok k ]) (λ k.
+    After (elim (placement_cause c w (drop 1 ts) k) [ None ↦ Ok k | Some why ↦ Err why ]) (λ j. ReadsRest w j (drop 1 ts))))

@@ -1,7 +1,7 @@
 -- Trusted: What a folder records of its files, in which order the files of a tree are loaded, and why loading ends early (our own).
 -- A folder in memory records all, until it runs out of memory; a folder on a disk records nothing.
-use Rattle.std.specs.{Prelude.{◌≡◌, ℕ, ◌+◌, ◌≤◌, List, [], ◌∷◌, ◌++◌, map, All, Option, Some, None, Result, Err, IfOk, Vec, option_map, if◌then◌else◌}, Str.is_utf8, declared.alloc.Global.Global}
-use Rattle.kc_language.specs.{Text.most_lines, Expressions.same_name, Expansion.{Files, lines_of}, Outcome.path_of}
+use Rattle.std.specs.{Prelude.{◌≡◌, ℕ, ◌+◌, ◌≤◌, List, [], ◌∷◌, ◌++◌, length, map, All, Option, Some, None, Result, Err, IfOk, Vec, option_map, if◌then◌else◌}, Str.is_utf8, declared.alloc.Global.Global}
+use Rattle.kc_language.specs.{Text.most_lines, Expressions.same_name, Expansion.Files, Lines.physical_lines, Outcome.path_of}
 use Rattle.kc_load.specs.Asking.{AskedInOrder}
 use Rattle.kc_load.specs.declared.{folder.FolderFault.{FolderFault, TheVariants.Device}, fault.LoadFault.{LoadFault, TheVariants.CannotRead}}
 
@@ -57,7 +57,7 @@ files_found (a ∷ more) name = if same_name name a.name then a.bytes else files
 
 abbrev pub line_total : List Answer → ℕ
 line_total [] = 0
-line_total (a ∷ more) = (elim a.bytes [ None ↦ 0 | Some bytes ↦ lines_of bytes ]) + line_total more
+line_total (a ∷ more) = (elim a.bytes [ None ↦ 0 | Some bytes ↦ length (physical_lines bytes) ]) + line_total more
 
 -- Files are asked for in the order in which the tree sources them: these were, with these answers, and those come next.
 pub record AreAsked (folder_files : FolderFiles) (dir first : List ℕ) (asked : List Answer) (next : List (List ℕ)) : Type 0 where

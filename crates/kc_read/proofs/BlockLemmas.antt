@@ -5,7 +5,8 @@ use Rattle.std.proofs.lemmas.Bool.Decides.{nat_tests}
 use Rattle.std.proofs.lemmas.List.Elements.{filter_map-append}
 use Rattle.kc_language.specs.declared.statements.Block.{Block}
 use Rattle.kc_read.specs.declared.statement.OpenBlock.{OpenBlock}
-use Rattle.kc_language.specs.Expansion.{Bracket, Opens, Closes, NoBracket, bracket, bracket_at, opened, closes_outer, depth_after, stays_open, is_open, open_block_indices, open_blocks, last_of, numbers, IsUnclosed}
+use Rattle.kc_language.specs.Expansion.{Bracket, Opens, Closes, NoBracket, bracket, bracket_at, opened, stays_open, is_open, open_block_indices, open_blocks, last_of, numbers, IsUnclosed}
+use Rattle.kc_read.specs.PartsOfExpansion.{stays_after}
 use Rattle.kc_read.specs.Progress.{open_block_of, located_blocks, open_blocks_after}
 use Rattle.kc_language.specs.Statements.{Named, Located, statements}
 use Rattle.kc_read.proofs.ListLemmas.{last_of-append, last_of-map, but_last, but_last-take, but_last-append, filter-map, filter_map-map, map-filter_map, numbers_front}
@@ -21,11 +22,11 @@ unmatched [] = 0
 unmatched (s ∷ ss) = unmatched_with (bracket s) (unmatched ss)
 
 stays_with : (b : Bracket) (d : ℕ) (ss : List Named) → ((e : ℕ) → stays_open e ss ≡ nat_le (unmatched ss) e) →
-    cond (closes_outer d b) false (stays_open (depth_after d b) ss) ≡ nat_le (unmatched_with b (unmatched ss)) d
+    stays_after b d ss ≡ nat_le (unmatched_with b (unmatched ss)) d
 stays_with (Opens b) zero ss h = let e = h 1 in rw e (grind (arith, nat_tests))
 stays_with (Opens b) (suc d) ss h = let e = h (suc (suc d)) in rw e (grind (arith, nat_tests))
 stays_with Closes zero ss h = grind (arith, nat_tests)
-stays_with Closes (suc d) ss h = let e = h (suc d - 1) in rw e (grind (arith, nat_tests))
+stays_with Closes (suc d) ss h = let e = h d in rw e (grind (arith, nat_tests))
 stays_with NoBracket zero ss h = h zero
 stays_with NoBracket (suc d) ss h = h (suc d)
 
@@ -195,15 +196,8 @@ no_places (l ∷ ls) e =
 unclosed_here : (b : Bracket) (u : ℕ) (l : Located Named) (ls : List (Located Named)) (o : OpenBlock) → bracket l.statement ≡ b →
     unmatched (statements ls) ≡ u → opens ls ≡ [] → last_of (here b (opener l.line) u ++ opens ls) ≡ Some o → IsUnclosed (l ∷ ls) o.line
 unclosed_here (Opens b) zero l ls o e f none last =
-    let h : last_of (opener l.line b ∷ []) ≡ Some o = rw none at last in
-    record {
-      before = [];
-      opener = l;
-      after = ls;
-      split = refl;
-      innermost_is = ap last_of (places_front l.statement (statements ls)) ∙ rw (e, f, no_places ls none) refl;
-      line_is = let g : Some (opener l.line b) ≡ Some o = h in cc;
-    }
+    let h : Some (opener l.line b) ≡ Some o = rw none at last in
+    (zero, ap last_of (places_front l.statement (statements ls)) ∙ rw (e, f, no_places ls none) refl, ap (option_map (λ (x : OpenBlock). x.line)) h)
 unclosed_here (Opens b) (suc u) l ls o e f none last = absurd (let h : None ≡ Some o = rw none at last in cc)
 unclosed_here Closes u l ls o e f none last = absurd (let h : None ≡ Some o = rw none at last in cc)
 unclosed_here NoBracket u l ls o e f none last = absurd (let h : None ≡ Some o = rw none at last in cc)
@@ -214,17 +208,13 @@ last_tail (x ∷ []) y ys = refl
 last_tail (x ∷ z ∷ zs) y ys = last_tail (z ∷ zs) y ys
 
 unclosed_later : (l : Located Named) (ls : List (Located Named)) (line : ℕ) → IsUnclosed ls line → IsUnclosed (l ∷ ls) line
-unclosed_later l ls line r = record {
-  before = l ∷ r.before;
-  opener = r.opener;
-  after = r.after;
-  split = ap (λ xs. l ∷ xs) r.split;
-  innermost_is =
-      ap last_of (places_front l.statement (statements ls))
-      ∙ last_of-append (here (bracket l.statement) (λ b. zero) (unmatched (statements ls))) (map suc (open_block_indices (statements ls))) (suc (length r.before))
-      (last_of-map suc (open_block_indices (statements ls)) ∙ ap (option_map suc) r.innermost_is);
-  line_is = r.line_is;
-}
+unclosed_later l ls line r = (
+  suc r.0,
+  ap last_of (places_front l.statement (statements ls))
+      ∙ last_of-append (here (bracket l.statement) (λ b. zero) (unmatched (statements ls))) (map suc (open_block_indices (statements ls))) (suc r.0)
+      (last_of-map suc (open_block_indices (statements ls)) ∙ ap (option_map suc) r.1),
+  r.2,
+)
 
 unclosed_at : (ls : List (Located Named)) (o : OpenBlock) → last_of (opens ls) ≡ Some o → IsUnclosed ls o.line
 unclosed_at [] o e = absurd cc

@@ -1,5 +1,5 @@
 -- A root file has one expansion.
-use Rattle.std.proofs.Common.{◌≡◌, ◌≢◌, ◌⊎◌, inl, inr, ℕ, true, false, cond, List, [], ◌∷◌, ◌++◌, length, map, slice_get, Option, Some, None, MatchOption, Result, Ok, Err, refl, sym, ap, ◌∙◌, subst, arith}
+use Rattle.std.proofs.Common.{◌≡◌, ◌≢◌, ◌⊎◌, inl, inr, ℕ, true, false, cond, List, [], ◌∷◌, length, map, option_map, slice_get, Option, Some, None, MatchOption, Result, Ok, Err, refl, sym, ap, ◌∙◌, subst, arith}
 use Rattle.kc_language.specs.declared.tokens.TextFault.{TextFault}
 use Rattle.kc_language.specs.Lines.{UnreadLines, IsTooLong, unread_lines}
 use Rattle.kc_language.specs.Tokens.{Lexeme, IsCut}
@@ -58,25 +58,19 @@ closed_or_not : (own : List (Located Named)) (line : ℕ) → open_blocks (state
 closed_or_not own line e u =
     let none : opens own ≡ [] = sym (located_blocks-opens own) ∙ nothing (λ o. o.block) (located_blocks own) (blocks_of_located own ∙ e) in
     let last : innermost own ≡ None = ap last_of (no_places own none) in
-    let h : Some (length u.before) ≡ None = sym u.innermost_is ∙ last in
+    let h : Some u.0 ≡ None = sym u.1 ∙ last in
     absurd cc
   where
     nothing : {A B : Type 0} (f : A → B) (xs : List A) → map f xs ≡ [] → xs ≡ []
     nothing f [] e = refl
     nothing f (x ∷ xs) e = absurd cc
 
-at_length : {A : Type 0} (xs : List A) (x : A) (ys : List A) → slice_get (xs ++ x ∷ ys) (length xs) ≡ Some x
-at_length [] x ys = refl
-at_length (z ∷ xs) x ys = at_length xs x ys
-
 one_unclosed : (own : List (Located Named)) (line other : ℕ) → IsUnclosed own line → IsUnclosed own other → line ≡ other
 one_unclosed own line other u v =
-    let place : Some (length u.before) ≡ Some (length v.before) = sym u.innermost_is ∙ v.innermost_is in
-    let many : length u.before ≡ length v.before = cc in
-    let opener : Some u.opener ≡ Some v.opener = sym (at_length u.before u.opener u.after) ∙ ap (λ xs. slice_get xs (length u.before)) (sym u.split ∙ v.split)
-    ∙ ap (slice_get (v.before ++ v.opener ∷ v.after)) many ∙ at_length v.before v.opener v.after in
-    let same : u.opener ≡ v.opener = cc in
-    u.line_is ∙ ap (λ o. o.line) same ∙ sym v.line_is
+    let place : Some u.0 ≡ Some v.0 = sym u.1 ∙ v.1 in
+    let same : u.0 ≡ v.0 = cc in
+    let found : Some line ≡ Some other = sym u.2 ∙ ap (λ j. option_map (λ (l : Located Named). l.line) (slice_get own j)) same ∙ v.2 in
+    cc
 
 -- ---- What the rest of a file gives, by its next line
 

@@ -1,15 +1,30 @@
 -- Trusted: Parts of the definitions of Expansion, by names of their own.
-use Rattle.std.specs.Prelude.{List, None, Option, Some, [], filter, if◌then◌else◌, length, nat_le, nat_lt, ℕ}
-use Rattle.kc_language.specs.Expansion.{Bracket, Closes, FileContext, Files, NoBracket, Opens, bracket, definitions, is_no_attribute, last_of, names_of, open_block_indices, sourcing_cause, statement}
-use Rattle.kc_language.specs.Expressions.{all_mentioned, mention, number_of}
-use Rattle.kc_language.specs.Statements.{Cause, Located, Named, Numbered, Statement, numbered, statements}
+use Rattle.std.specs.Prelude.{Bool, List, None, Option, Some, [], codes, drop, false, filter, if◌then◌else◌, is_some, length, nat_le, nat_lt, suc, true, zero, ℕ, ◌&&◌, ◌||◌, ◌∷◌, ◌≡◌}
+use Rattle.kc_language.specs.Expansion.{Bracket, Closes, FileContext, Files, Log, NextLine, NoBracket, Opens, bracket, bracket_at, definitions, is_no_attribute, last_of, names_of, open_block_indices, opened, sourcing_cause, stays_open, with_line}
+use Rattle.kc_language.specs.Expressions.{all_mentioned, mention, number_of, same_name}
+use Rattle.kc_language.specs.Lines.{UnreadLines, physical_lines}
+use Rattle.kc_language.specs.Statements.{Cause, Located, Named, Numbered, SourceLine, Statement, begins_with, numbered, statements}
 use Rattle.kc_language.specs.Text.{most_blocks, most_symbols}
+use Rattle.kc_language.specs.Tokens.{Lexeme}
 use Rattle.kc_language.specs.declared.diagnostics.Cause.TheVariants as cause
 
 module _ {E L S : Type 0} where
   abbrev pub bracket_of : Option (Statement E L S) → Bracket
   bracket_of None = NoBracket
   bracket_of (Some s) = bracket s
+
+  -- a block stays open through one more statement and these, where d blocks are open inside it
+  abbrev pub stays_after : Bracket → ℕ → List (Statement E L S) → Bool
+  stays_after b d ss =
+      elim b [ Opens k ↦ stays_open (suc d) ss | Closes ↦ elim d [ zero ↦ false | suc n ↦ stays_open n ss ] | NoBracket ↦ stays_open d ss ]
+
+  -- statement j opens a block that is still open after the last statement
+  abbrev pub is_open : List (Statement E L S) → ℕ → Bool
+  is_open ss j = is_some (opened (bracket_at ss j)) && stays_open 0 (drop (suc j) ss)
+
+  -- a `source` line
+  abbrev pub is_source : Statement E L S → Bool
+  is_source s = elim s [ SourceLine t ↦ true | _ ↦ false ]
 
   -- the last statement that is no attribute
   abbrev pub last_no_attribute : List (Statement E L S) → Option (Statement E L S)
@@ -31,6 +46,10 @@ nesting_cause depth (Opens b) = if nat_le most_blocks depth then Some cause.TooD
 nesting_cause depth Closes = None
 nesting_cause depth NoBracket = None
 
+-- there was no `modules` line, or the symbol defined last is the modules symbol
+abbrev pub names_match : Option (List ℕ) → Option (List ℕ) → Bool
+names_match m n = elim m [ None ↦ true | Some a ↦ elim n [ None ↦ false | Some b ↦ same_name a b ] ]
+
 -- a name is defined, where these names are: there may not be too many
 abbrev pub symbol_cause : List (List ℕ) → List ℕ → Option Cause
 symbol_cause names n = if nat_lt most_symbols (length (mention names n)) then Some cause.TooManySymbols else None
@@ -41,3 +60,26 @@ source_cause files a n name = sourcing_cause files a.open_files n name
 -- the place of the innermost open block's opener
 abbrev pub innermost : List (Located Named) → Option ℕ
 innermost own = last_of (open_block_indices (statements own))
+
+-- the number of a file's physical lines
+abbrev pub lines_of : List ℕ → ℕ
+lines_of bytes = length (physical_lines bytes)
+
+-- a statement is added to the log
+abbrev pub logged : Log → FileContext → ℕ → Named → Log
+logged log a n s = record { lines = with_line log.lines a n s; total_lines = log.total_lines; opened = log.opened }
+
+-- reading begins with the root file: no other file is open, and nothing was read
+abbrev pub root_context : List ℕ → FileContext
+root_context root = record { open_files = root ∷ []; file = root; blocks = [] }
+
+abbrev pub nothing_read : Log
+nothing_read = record { lines = []; total_lines = 0; opened = [] }
+
+-- the line is a `help` line
+abbrev pub is_help : List Lexeme → Bool
+is_help ts = begins_with (codes "help") ts || begins_with (codes "---help---") ts
+
+-- the next line is no `source` line; after it m is left
+abbrev pub IsOther : UnreadLines → UnreadLines → Type 0
+IsOther l m = (ts : List Lexeme) × NextLine l m ts None × (begins_with (codes "source") ts ≡ false)

@@ -1,11 +1,13 @@
 -- Trusted: Parts of the definitions of Statements, by names of their own.
 use Rattle.std.specs.List.{list_any}
 use Rattle.std.specs.Map.{lookup}
-use Rattle.std.specs.Prelude.{Bool, Err, List, Ok, Option, Result, [], codes, drop, false, if◌then◌else◌, ℕ, ◌==◌, ◌||◌, ◌∷◌}
+use Rattle.std.specs.Prelude.{Bool, Err, List, None, Ok, Option, Result, Some, [], codes, drop, false, if◌then◌else◌, true, ℕ, ◌==◌, ◌||◌, ◌∷◌, ◌≡◌, ◌⊎◌}
 use Rattle.kc_language.specs.Expressions.{Disjunction, Form, if_word, same_name}
-use Rattle.kc_language.specs.Statements.{After, Cause, ConfigLine, DependsLine, Front, LineContext, Named, RangeLine, ReadsCondition, ReadsRest, ReadsWhole, VisibleLine, expected, in_place, is_good_name, operand_of, placement_cause}
+use Rattle.kc_language.specs.Statements.{After, Cause, ChoiceLine, ConfigLine, DependsLine, Front, IsMore, LineContext, Named, RangeLine, ReadsCondition, ReadsPrompt, ReadsRest, ReadsWhole, StartsExpression, TypeLine, VisibleLine, begins_with, finish, is_good_name, named_target, operand_of, placement_cause, word_of}
 use Rattle.kc_language.specs.Text.{byte}
 use Rattle.kc_language.specs.Tokens.{Lexeme}
+use Rattle.kc_language.specs.declared.expressions.SymbolType.{SymbolType}
+use Rattle.kc_language.specs.declared.statements.EntryKind.{EntryKind}
 use Rattle.kc_language.specs.declared.statements.Keyword.{Keyword}
 use Rattle.kc_expr.specs.PartsOfExpressions.{meaning_or}
 use Rattle.kc_language.specs.declared.diagnostics.Cause.TheVariants as cause
@@ -92,6 +94,21 @@ left_out_words =
     (codes "optional", key.LeftOut) ∷
     []
 
+-- the kinds of an entry: a menu's, and any of a symbol's, a choice's, a menu's or a comment's
+abbrev pub is_menu : EntryKind → Bool
+is_menu e = elim e [ EntryKind.Menu ↦ true | _ ↦ false ]
+
+abbrev pub is_entry : EntryKind → Bool
+is_entry e = elim e [ EntryKind.Nothing ↦ false | _ ↦ true ]
+
+-- an expression up to the end of the line
+abbrev pub IsWhole : List Lexeme → Disjunction → Type 0
+IsWhole ts d = StartsExpression ts (record { tree = d; rest = [] })
+
+-- the word w has to stand here; it gives the tokens after it
+abbrev pub expected : List ℕ → List Lexeme → Result (List Lexeme) Cause
+expected w ts = if begins_with w ts then Ok (drop 1 ts) else Err cause.Syntax
+
 abbrev pub front : Disjunction → List Lexeme → Front
 front d rest = record { tree = d; rest = rest }
 
@@ -102,6 +119,21 @@ is_pattern t = list_any (λ b. b == byte "*" || b == byte "?" || b == byte "[") 
 abbrev pub good_name : List ℕ → Result Named Cause
 good_name w = if is_good_name w then Ok (ConfigLine w) else Err (cause.BadName w)
 
+abbrev pub ReadsConfig : List Lexeme → Result Named Cause → Type 0
+ReadsConfig ts =
+    After (word_of ts) (λ w. After (finish w (drop 1 ts)) (λ v r. r ≡ (if is_good_name v then Ok (ConfigLine v) else Err (cause.BadName v))))
+
+abbrev pub choice_line : List Lexeme → Result Named Cause
+choice_line = elim [ [] ↦ Ok ChoiceLine | _ ↦ Err (cause.LeftOut (codes "named choice")) ]
+
+-- a type: nothing, or the same as `prompt`
+abbrev pub ReadsType : SymbolType → List Lexeme → Result Named Cause → Type 0
+ReadsType k ts r = ((ts ≡ []) × (r ≡ Ok (TypeLine k None))) ⊎ (IsMore ts × ReadsPrompt (λ p. TypeLine k (Some p)) ts r)
+
+-- `select`, `imply`: a name and a condition
+abbrev pub ReadsTarget : (List ℕ → Option Disjunction → Named) → List Lexeme → Result Named Cause → Type 0
+ReadsTarget make ts = After (named_target ts) (λ t. ReadsCondition (make t) (drop 1 ts))
+
 abbrev pub ReadsDepends : List Lexeme → Result Named Cause → Type 0
 ReadsDepends ts r = After (expected (codes "on") ts) (λ us. ReadsWhole DependsLine us) r
 
@@ -110,6 +142,15 @@ ReadsVisible ts r = After (expected if_word ts) (λ us. ReadsWhole VisibleLine u
 
 abbrev pub ReadsRange : List Lexeme → Result Named Cause → Type 0
 ReadsRange ts = After (operand_of ts) (λ a. After (operand_of (drop 1 ts)) (λ b. ReadsCondition (RangeLine a b) (drop 2 ts)))
+
+-- the first word is a keyword; then the line is in a right place
+abbrev pub keyword_or_refusal : Option Keyword → Result Keyword Cause
+keyword_or_refusal None = Err cause.Syntax
+keyword_or_refusal (Some k) = Ok k
+
+abbrev pub in_place : Keyword → Option Cause → Result Keyword Cause
+in_place k None = Ok k
+in_place k (Some why) = Err why
 
 -- the placement, and then the rest
 abbrev pub ReadsPlaced : LineContext → List ℕ → List Lexeme → Keyword → Result Named Cause → Type 0
