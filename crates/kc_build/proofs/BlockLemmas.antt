@@ -4,7 +4,8 @@ use Rattle.std.specs.List.{slice_get}
 use Rattle.std.specs.Option.{is_some}
 use Rattle.std.specs.Prelude.{◌⊎◌}
 use Rattle.kc_language.specs.Statements.{Numbered}
-use Rattle.kc_language.specs.Expansion.{Bracket, Opens, Closes, NoBracket, numbers, last_of, opened, bracket, stays_open, bracket_at, is_open, open_block_indices, enclosing}
+use Rattle.kc_language.specs.Expansion.{Bracket, Opens, Closes, NoBracket, numbers, last_of, opened, bracket, stays_open, bracket_at, open_block_indices, enclosing}
+use Rattle.kc_read.specs.PartsOfExpansion.{is_open}
 use Rattle.kc_read.specs.PartsOfExpansion.{stays_after}
 
 -- Closers that close what was opened before a list.

@@ -17,7 +17,8 @@ use Rattle.kc_read.specs.Entries.{lines_in}
 use Rattle.kc_read.specs.RefusalView.{IsMemory, refusal_view}
 use Rattle.kc_build.specs.declared.listing.Listing.{Listing}
 use Rattle.kc_build.specs.PartsView.{parts_view}
-use Rattle.kc_language.specs.Symbols.{listed, defined_symbols, TreeFacts, facts_with, modules_symbol, tree_of_log, tree_with, unless_refused, bad_defaults, bad_members, entry_name, whole_list_refusals, menu_entry_at, entry_symbol, refused_at}
+use Rattle.kc_language.specs.Symbols.{listed, defined_symbols, TreeFacts, facts_with, modules_symbol, tree_with, bad_defaults, bad_members, entry_name, menu_entry_at, entry_symbol, refused_at}
+use Rattle.kc_build.specs.PartsOfSymbols.{tree_of_log, unless_refused, whole_list_refusals}
 use Rattle.kc_build.specs.PartsOfSymbols.{tree_of_lines}
 use Rattle.kc_build.specs.SymbolRows.{AreBelow, AreChoicesApart, AreMenusOpened, AreTypesDefined}
 use Rattle.kc_build.specs.Listings.{IsListing}

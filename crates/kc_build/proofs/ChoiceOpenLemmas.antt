@@ -11,7 +11,8 @@ use Rattle.kc_language.specs.declared.expressions.SymId.{SymId}
 use Rattle.kc_language.specs.Expressions.{Form}
 use Rattle.kc_language.specs.declared.statements.Block.TheVariants as block
 use Rattle.kc_language.specs.Statements.{InputPrompt, Numbered, ChoiceLine}
-use Rattle.kc_language.specs.Expansion.{bracket_at, attributes, enclosing, is_open, last_of, numbers}
+use Rattle.kc_language.specs.Expansion.{bracket_at, attributes, enclosing, last_of, numbers}
+use Rattle.kc_read.specs.PartsOfExpansion.{is_open}
 use Rattle.kc_tree.specs.declared.rows.Choice.{Choice}
 use Rattle.kc_tree.specs.declared.rows.ChoiceDefault.{ChoiceDefault}
 use Rattle.kc_tree.specs.declared.rows.ContextId.{ContextId}
@@ -20,7 +21,8 @@ use Rattle.kc_tree.specs.declared.rows.EntryPrompt.{EntryPrompt}
 use Rattle.kc_tree.specs.declared.rows.Title.{Title}
 use Rattle.kc_tree.specs.Contexts.{HasNoMode, condition_in, in_choice, top}
 use Rattle.kc_tree.specs.Layouts.{choice_default_view, choice_facts as choice_in, prompt_view, with_when, with_conjuncts}
-use Rattle.kc_language.specs.Symbols.{Condition, ChoiceFacts, Guarded, listed, StatedDefault, prompt_of, block_conjuncts, choice_number, enclosing_choice, dependency, shown_number, stated_default, of_block, prompt_at, single_symbol, symbol_at}
+use Rattle.kc_language.specs.Symbols.{Condition, ChoiceFacts, Guarded, listed, StatedDefault, prompt_of, block_conjuncts, choice_number, enclosing_choice, dependency, stated_default, of_block, prompt_at, single_symbol, symbol_at}
+use Rattle.kc_build.specs.PartsOfSymbols.{shown_number}
 use Rattle.kc_build.specs.PartsOfSymbols.{prompt_condition, depends_form, is_member_index, enclosing_visible}
 use Rattle.kc_build.specs.Before.{choice_before, choices_before, members_before, named_default}
 use Rattle.kc_build.specs.EntryLines.{choice_default_line, named_line, named_symbol, prompt_line}

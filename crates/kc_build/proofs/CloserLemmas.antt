@@ -10,7 +10,8 @@ use Rattle.kc_language.specs.Statements.{Numbered, EndMenuLine}
 use Rattle.kc_language.specs.Expansion.{bracket_at, Closes, bracket, numbers}
 use Rattle.kc_tree.specs.declared.rows.ShownEntry.TheVariants as entry
 use Rattle.kc_tree.specs.Layouts.{shown_of}
-use Rattle.kc_language.specs.Symbols.{Condition, EndShown, shown_at, shown_number, shows_entry, of_block}
+use Rattle.kc_language.specs.Symbols.{Condition, EndShown, shown_at, shows_entry, of_block}
+use Rattle.kc_build.specs.PartsOfSymbols.{shown_number}
 use Rattle.kc_build.specs.PartsOfSymbols.{enclosing_block, symbol_of, title_of}
 use Rattle.kc_build.specs.WalkResult.{IsEntryThere, IsTitleThere}
 use Rattle.kc_build.specs.Stacks.{AreOpen, IsClosed}

@@ -18,7 +18,8 @@ use Rattle.kc_read.specs.RefusalView.{refusal_view}
 use Rattle.kc_read.specs.declared.refusal.Refusal.{Refusal}
 use Rattle.kc_language.specs.declared.symbols.ChoiceId.{ChoiceId}
 use Rattle.kc_tree.specs.declared.rows.Symbol.{Symbol}
-use Rattle.kc_language.specs.Symbols.{TreeFacts, listed, prompt_of, choice_of, enclosing_choice, is_member, type_of, is_first_definition_at, unless_refused, bad_defaults, bad_members, whole_list_refusals, menu_entry_at, refused_at, line_warnings, warnings}
+use Rattle.kc_language.specs.Symbols.{TreeFacts, listed, prompt_of, choice_of, enclosing_choice, type_of, is_first_definition_at, bad_defaults, bad_members, menu_entry_at, refused_at, line_warnings}
+use Rattle.kc_build.specs.PartsOfSymbols.{is_member, unless_refused, whole_list_refusals, warnings}
 use Rattle.kc_build.specs.PartsOfSymbols.{first_of, is_bad_default, is_bad_member, line_of, menu_entry_before, prompt_before, line_warnings_by, warned_at}
 use Rattle.kc_build.specs.declared.diagnostics.Diagnostics.{Diagnostics}
 use Rattle.kc_build.specs.declared.diagnostics.EntrySummary.{EntrySummary}

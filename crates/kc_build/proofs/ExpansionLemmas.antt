@@ -8,7 +8,8 @@ use Rattle.kc_language.specs.Lines.{UnreadLines, unread_lines}
 use Rattle.kc_language.specs.declared.statements.Block.{Block}
 use Rattle.kc_language.specs.declared.statements.Block.TheVariants as block
 use Rattle.kc_read.specs.declared.statement.OpenBlock.{OpenBlock}
-use Rattle.kc_language.specs.Expansion.{Files, Bracket, Opens, Closes, NoBracket, bracket, last_of, open_blocks, FileContext, Log, Refused, Rest, Expands, bytes_cause, inside, root_context, nothing_read, with_file, refused, is_choice, context_of, with_line, logged, at_end, unclosed, too_long, no_tokens, blank, bad_line, over_limit, statement, bad_source, refused_inside, source}
+use Rattle.kc_language.specs.Expansion.{Files, Bracket, Opens, Closes, NoBracket, bracket, last_of, open_blocks, FileContext, Log, Refused, Rest, Expands, bytes_cause, inside, with_file, refused, is_choice, context_of, with_line, at_end, unclosed, too_long, no_tokens, blank, bad_line, over_limit, statement, bad_source, refused_inside, source}
+use Rattle.kc_read.specs.PartsOfExpansion.{root_context, nothing_read, logged}
 use Rattle.kc_language.specs.Statements.{Statement, Named, Located, IfLine, EndIfLine, SourceLine, MenuLine, EndMenuLine, ChoiceLine, EndChoiceLine, statements, Cause, LineContext}
 use Rattle.kc_read.specs.Progress.{located_blocks, open_blocks_after}
 use Rattle.kc_read.proofs.BlockLemmas.{blocks_of_located, located_blocks_push}

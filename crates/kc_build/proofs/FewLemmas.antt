@@ -6,9 +6,11 @@ use Rattle.std.proofs.lemmas.List.{length-map}
 use Rattle.kc_language.specs.Expressions.{mention, same_name}
 use Rattle.kc_language.specs.Lines.{UnreadLines, unread_lines}
 use Rattle.kc_language.specs.declared.diagnostics.Cause.TheVariants as cause
-use Rattle.kc_language.specs.Expansion.{FileContext, Expands, Log, Refused, Rest, bytes_cause, lines_of, nothing_read, with_file, refused, root_context, sourcing_cause, at_end, unclosed, too_long, no_tokens, blank, bad_line, over_limit, statement, bad_source, refused_inside, source, Files}
+use Rattle.kc_language.specs.Expansion.{FileContext, Expands, Log, Refused, Rest, bytes_cause, with_file, refused, sourcing_cause, at_end, unclosed, too_long, no_tokens, blank, bad_line, over_limit, statement, bad_source, refused_inside, source, Files}
+use Rattle.kc_read.specs.PartsOfExpansion.{lines_of, nothing_read, root_context}
 use Rattle.kc_read.specs.PartsOfExpansion.{number_line}
-use Rattle.kc_language.specs.Text.{most_files, most_lines}
+use Rattle.kc_language.specs.Text.{most_lines}
+use Rattle.kc_text.specs.PartsOfText.{most_files}
 use Rattle.kc_language.specs.Statements.{Cause, Located, Named, statements}
 use Rattle.kc_read.specs.Entries.{lines_in}
 use Rattle.kc_read.proofs.RestLemmas.{next_less}

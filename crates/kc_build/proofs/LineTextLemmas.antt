@@ -12,7 +12,8 @@ use Rattle.kc_language.specs.Text.{unescape}
 use Rattle.kc_language.specs.Lines.{after_help, after_text, column, from_other, is_help_line, Physical, UnreadLines, TakesLine, continues, joined_text, lines_of_parts, physical_lines}
 use Rattle.kc_text.specs.PartsOfLines.{without_continuation}
 use Rattle.kc_language.specs.Tokens.{Lexeme, AWord, AQuoted, AnOp, Spells, IsCut, ended, stuck, skipped, taken}
-use Rattle.kc_language.specs.Expressions.{Atom, WordAtom, QuotedAtom, Terminal, OperandToken, Compares, Bang, Joins, Open, Close, Keyword, Chain, Part, Negation, only, joined, negation, conjunction, bang, group, lone, compare, names_in_atom, if_word, is_tristate_constant, leaf, meaning, meaning_not, meaning_part, lone_form, spell, spell_not, spell_part, terminal_of, terminals, same_name}
+use Rattle.kc_language.specs.Expressions.{Atom, WordAtom, QuotedAtom, Terminal, OperandToken, Compares, Bang, Joins, Open, Close, Keyword, Chain, Part, Negation, only, joined, negation, conjunction, bang, group, lone, compare, names_in_atom, if_word, leaf, meaning, meaning_not, meaning_part, spell, spell_not, spell_part, terminal_of, same_name}
+use Rattle.kc_expr.specs.PartsOfExpressions.{is_tristate_constant, lone_form, terminals}
 use Rattle.kc_expr.specs.PartsOfExpressions.{op_terminal, names_in_terminal, names_in_terminals}
 use Rattle.kc_tree.specs.TreeFacts.{IsLineText, IsLineForm}
 

@@ -13,7 +13,8 @@ use Rattle.kc_language.specs.Expressions.{Form, symbol, same_symbol}
 use Rattle.kc_language.specs.declared.statements.Block.TheVariants as block
 use Rattle.kc_language.specs.Expansion.{numbers, attributes}
 use Rattle.kc_language.specs.Statements.{Numbered, Located}
-use Rattle.kc_language.specs.Symbols.{Guarded, SymbolFacts, ChoiceFacts, TreeFacts, listed, StatedDefault, choice_facts, choice_number, choice_of, enclosing_choice, choices, definitions_of, stated_default, is_member, type_of, members_of, of_block, indices, same_type, single_symbol, symbol_at, symbol_facts, is_first_definition_at, bad_members}
+use Rattle.kc_language.specs.Symbols.{Guarded, SymbolFacts, ChoiceFacts, TreeFacts, listed, StatedDefault, choice_facts, choice_number, choice_of, enclosing_choice, definitions_of, stated_default, type_of, members_of, of_block, indices, same_type, single_symbol, symbol_at, symbol_facts, is_first_definition_at, bad_members}
+use Rattle.kc_build.specs.PartsOfSymbols.{choices, is_member}
 use Rattle.kc_build.specs.PartsOfSymbols.{choice_lines, first_of, is_member_index, member_default, guarded_symbol, symbol_of, is_bad_member}
 use Rattle.kc_tree.specs.TreeFacts.{IsMemberOf, IsChoiceSound, IsListed}
 use Rattle.kc_build.specs.SymbolRows.{AreBelow}

@@ -6,7 +6,8 @@ use Rattle.std.proofs.lemmas.List.Elements.{filter_map-append}
 use Rattle.kc_language.specs.declared.expressions.SymId.{SymId}
 use Rattle.kc_language.specs.Statements.{Numbered, ConfigLine, MenuLine, EndMenuLine}
 use Rattle.kc_language.specs.Expansion.{numbers}
-use Rattle.kc_language.specs.Symbols.{Condition, Shown, SymbolShown, MenuShown, EndShown, is_first_definition, shows_entry, shown_number, shown_at, entries}
+use Rattle.kc_language.specs.Symbols.{Condition, Shown, SymbolShown, MenuShown, EndShown, is_first_definition, shows_entry, shown_at}
+use Rattle.kc_build.specs.PartsOfSymbols.{shown_number, entries}
 use Rattle.kc_build.specs.PartsOfSymbols.{enclosing_block, shown_when}
 use Rattle.kc_build.proofs.BlockLemmas.{there, last_is_nested}
 use Rattle.kc_build.proofs.ChoiceLemmas.{fewer_before}

@@ -7,7 +7,8 @@ use Rattle.std.proofs.lemmas.List.{append-nil, reverse-append}
 use Rattle.kc_language.specs.Statements.{Numbered}
 use Rattle.kc_language.specs.Expansion.{numbers, last_of, is_attribute}
 use Rattle.kc_language.specs.declared.symbols.MenuEntry.TheVariants as menu_entry
-use Rattle.kc_language.specs.Symbols.{choice_number, prompt_of, begun, begun_at, menu_entry_at}
+use Rattle.kc_language.specs.Symbols.{choice_number, prompt_of, begun, menu_entry_at}
+use Rattle.kc_build.specs.PartsOfSymbols.{begun_at}
 use Rattle.kc_build.specs.PartsOfSymbols.{is_some_other, entry_before, menu_entry_before, prompt_before}
 use Rattle.kc_build.proofs.BlockLemmas.{take-next, last-snoc}
 use Rattle.kc_build.proofs.PlaceLemmas.{filter-next}

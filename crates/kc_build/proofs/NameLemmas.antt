@@ -3,7 +3,8 @@ use Rattle.std.proofs.Common.{◌≡◌, ℕ, List, Result, Ok, Err}
 use Rattle.kc_language.specs.Expansion.{Expands, Log, Refused, Files}
 use Rattle.kc_language.specs.Statements.{statements}
 use Rattle.kc_tree.specs.TreeFacts.{IsWellFormed}
-use Rattle.kc_language.specs.Symbols.{TreeFacts, tree_of_log}
+use Rattle.kc_language.specs.Symbols.{TreeFacts}
+use Rattle.kc_build.specs.PartsOfSymbols.{tree_of_log}
 use Rattle.kc_build.specs.Trees.{TreesAreWellFormed}
 use Rattle.kc_build.proofs.BuildLemmas.{whole-formed}
 use Rattle.kc_build.proofs.DefinedLemmas.{expanded_known}

@@ -8,7 +8,8 @@ use Rattle.kc_language.specs.declared.statements.Block as opener
 use Rattle.kc_language.specs.declared.statements.Block.TheVariants as block
 use Rattle.kc_language.specs.Statements.{Numbered}
 use Rattle.kc_language.specs.Expansion.{Opens, Closes, NoBracket, bracket, enclosing, last_of}
-use Rattle.kc_language.specs.Symbols.{Condition, block_conjuncts, choice_number, shown_number, of_block, own_visible}
+use Rattle.kc_language.specs.Symbols.{Condition, block_conjuncts, choice_number, of_block, own_visible}
+use Rattle.kc_build.specs.PartsOfSymbols.{shown_number}
 use Rattle.kc_build.specs.Scopes.{block_visible}
 use Rattle.kc_build.specs.Stacks.{AreOpen, BlockFacts, IsClosed, block_facts_at, block_view, open_scopes}
 use Rattle.kc_build.specs.declared.blocks.BlockScope.{BlockScope}

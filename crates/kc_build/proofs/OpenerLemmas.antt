@@ -8,7 +8,8 @@ use Rattle.kc_language.specs.Expressions.{Form}
 use Rattle.kc_language.specs.declared.statements.Block.TheVariants as block
 use Rattle.kc_language.specs.Statements.{Numbered, IfLine}
 use Rattle.kc_tree.specs.Contexts.{and_also, condition_in, top}
-use Rattle.kc_language.specs.Symbols.{Condition, block_conjuncts, choice_number, shown_at, shown_number, of_block}
+use Rattle.kc_language.specs.Symbols.{Condition, block_conjuncts, choice_number, shown_at, of_block}
+use Rattle.kc_build.specs.PartsOfSymbols.{shown_number}
 use Rattle.kc_build.specs.PartsOfSymbols.{symbol_of}
 use Rattle.kc_build.specs.Before.{main_menu_before}
 use Rattle.kc_build.specs.Scopes.{block_visible}

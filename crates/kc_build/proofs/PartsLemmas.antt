@@ -6,7 +6,8 @@ use Rattle.std.proofs.Math.Seq.{take-length}
 use Rattle.kc_language.specs.declared.expressions.SymId.{SymId}
 use Rattle.kc_language.specs.Expressions.{symbol}
 use Rattle.kc_expr.specs.PartsOfSymbols.{stands_in}
-use Rattle.kc_language.specs.Symbols.{ChoiceFacts, listed, StatedDefault, choice_number, defined_symbols, choices, stated_default, is_member, members_of, prompt_at, single_symbol, symbol_facts, facts_with, modules_symbol, tree_with, unless_refused, bad_members}
+use Rattle.kc_language.specs.Symbols.{ChoiceFacts, listed, StatedDefault, choice_number, defined_symbols, stated_default, members_of, prompt_at, single_symbol, symbol_facts, facts_with, modules_symbol, tree_with, bad_members}
+use Rattle.kc_build.specs.PartsOfSymbols.{choices, is_member, unless_refused}
 use Rattle.kc_build.specs.PartsOfSymbols.{choice_lines, guarded_symbol, title_of, symbol_if}
 use Rattle.kc_read.specs.declared.entries.Entries.{Entries}
 use Rattle.kc_language.specs.Expansion.{attributes, last_of, numbers, Refused}

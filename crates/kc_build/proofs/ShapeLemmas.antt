@@ -5,7 +5,8 @@ use Rattle.kc_language.specs.Expressions.{number_of}
 use Rattle.kc_language.specs.declared.statements.Block.TheVariants as block
 use Rattle.kc_language.specs.Expansion.{Files, Log, Expands, names_of, numbered_lines}
 use Rattle.kc_language.specs.Statements.{Numbered, statements}
-use Rattle.kc_language.specs.Symbols.{Condition, MenuShown, EndShown, entries, enclosing_choice, of_block}
+use Rattle.kc_language.specs.Symbols.{Condition, MenuShown, EndShown, enclosing_choice, of_block}
+use Rattle.kc_build.specs.PartsOfSymbols.{entries}
 use Rattle.kc_build.proofs.ExpansionLemmas.{AreNested}
 use Rattle.kc_build.proofs.MenuEndLemmas.{end_names_menu}
 use Rattle.kc_build.proofs.NestLemmas.{expanded_nested, opener_alone}

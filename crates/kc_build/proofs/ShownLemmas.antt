@@ -8,7 +8,8 @@ use Rattle.kc_language.specs.declared.expressions.SymId.{SymId}
 use Rattle.kc_language.specs.Expansion.{numbers}
 use Rattle.kc_language.specs.Statements.{Numbered, Located, ConfigLine, statements}
 use Rattle.kc_tree.specs.TreeFacts.{ShowsEach}
-use Rattle.kc_language.specs.Symbols.{SymbolShown, is_symbol_of, entries, shown_at, is_first_definition, indices, symbol_at, facts_with}
+use Rattle.kc_language.specs.Symbols.{SymbolShown, is_symbol_of, shown_at, is_first_definition, indices, symbol_at, facts_with}
+use Rattle.kc_build.specs.PartsOfSymbols.{entries}
 use Rattle.kc_build.specs.PartsOfSymbols.{symbol_of}
 use Rattle.kc_build.proofs.ElementLemmas.{kept_at, same_is}
 use Rattle.kc_build.specs.SymbolWalk.{defined_before}

@@ -5,8 +5,10 @@ use Rattle.std.proofs.lemmas.List.{append-nil}
 use Rattle.std.proofs.lemmas.List.Elements.{filter-append}
 use Rattle.kc_language.specs.declared.statements.Block.TheVariants as block
 use Rattle.kc_language.specs.Statements.{Numbered}
-use Rattle.kc_language.specs.Expansion.{numbers, last_of, is_open, enclosing}
-use Rattle.kc_language.specs.Symbols.{of_block, choice_number, enclosing_choice, choices}
+use Rattle.kc_language.specs.Expansion.{numbers, last_of, enclosing}
+use Rattle.kc_read.specs.PartsOfExpansion.{is_open}
+use Rattle.kc_language.specs.Symbols.{of_block, choice_number, enclosing_choice}
+use Rattle.kc_build.specs.PartsOfSymbols.{choices}
 use Rattle.kc_build.proofs.BlockLemmas.{last-snoc}
 use Rattle.kc_build.proofs.ChoiceLemmas.{fewer_before, so_many}
 

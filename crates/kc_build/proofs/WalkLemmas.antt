@@ -17,7 +17,8 @@ use Rattle.kc_tree.specs.declared.rows.ShownEntry.{ShownEntry}
 use Rattle.kc_tree.specs.declared.rows.Title.{Title}
 use Rattle.kc_tree.specs.declared.selector_rows.SelectorRows.{SelectorRows}
 use Rattle.kc_tree.specs.Layouts.{choice_facts as choice_in, definition_facts, shown_of}
-use Rattle.kc_language.specs.Symbols.{Shown, SymbolShown, EndShown, choice_number, shown_at, shown_number, shows_entry, is_first_definition, naming_at, of_block, symbol_at}
+use Rattle.kc_language.specs.Symbols.{Shown, SymbolShown, EndShown, choice_number, shown_at, shows_entry, is_first_definition, naming_at, of_block, symbol_at}
+use Rattle.kc_build.specs.PartsOfSymbols.{shown_number}
 use Rattle.kc_build.specs.PartsOfSymbols.{imply_of, enclosing_block, select_of, symbol_of, title_of}
 use Rattle.kc_build.specs.Before.{choice_before, choices_before, definitions_before, entries_before, impliers_before, main_menu_before, members_before, selectors_before}
 use Rattle.kc_build.specs.SymbolRows.{AreMenusOpened}

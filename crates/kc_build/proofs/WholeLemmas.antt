@@ -7,9 +7,11 @@ use Rattle.std.proofs.lemmas.List.Elements.{All-nil, All-cons, All-head, All-fro
 use Rattle.std.proofs.lemmas.Option.{slice_get-map, slice_get_within}
 use Rattle.kc_language.specs.declared.expressions.SymId.{SymId}
 use Rattle.kc_expr.specs.Names.{AreDistinct}
-use Rattle.kc_language.specs.Expressions.{number_of, same_name, symbol, if_word, is_tristate_constant, is_name_byte}
+use Rattle.kc_language.specs.Expressions.{number_of, same_name, symbol, if_word, is_name_byte}
+use Rattle.kc_expr.specs.PartsOfExpressions.{is_tristate_constant}
 use Rattle.kc_expr.specs.PartsOfSymbols.{stands_in}
-use Rattle.kc_language.specs.Symbols.{Condition, EndShown, MenuShown, SymbolFacts, TreeFacts, listed, entries, enclosing_choice, choice_of, type_of, of_block, symbol_facts, indices, facts_with, modules_symbol, is_first_definition_at, bad_members, bad_defaults, entry_name, whole_list_refusals, menu_entry_at, entry_symbol, refused_at}
+use Rattle.kc_language.specs.Symbols.{Condition, EndShown, MenuShown, SymbolFacts, TreeFacts, listed, enclosing_choice, choice_of, type_of, of_block, symbol_facts, indices, facts_with, modules_symbol, is_first_definition_at, bad_members, bad_defaults, entry_name, menu_entry_at, entry_symbol, refused_at}
+use Rattle.kc_build.specs.PartsOfSymbols.{entries, whole_list_refusals}
 use Rattle.kc_build.specs.PartsOfSymbols.{symbol_if, is_bad_member}
 use Rattle.kc_expr.proofs.NamesLemmas.{same_name-refl}
 use Rattle.kc_language.specs.declared.expressions.SymbolType.TheVariants as symbol_type

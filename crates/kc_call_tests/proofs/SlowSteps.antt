@@ -5,7 +5,8 @@ use Rattle.kc_language.specs.Expressions.{symbol}
 use Rattle.kc_language.specs.declared.expressions.SymId.{SymId}
 use Rattle.kc_language.specs.declared.expressions.Tri.{Tri}
 use Rattle.kc_expr.proofs.AgreeLemmas.{depends_on_symbols}
-use Rattle.kc_language.specs.Needs.{needs_in, unordered_after, AreAccepted, needs}
+use Rattle.kc_language.specs.Needs.{needs_in, unordered_after, needs}
+use Rattle.kc_order.specs.PartsOfNeeds.{AreAccepted}
 use Rattle.kc_order.specs.Solution.{IsUpdate}
 use Rattle.kc_language.specs.Values.{Solves, name_count, equations}
 use Rattle.kc_order.proofs.OneIteration.{HoldsUpTo, SolvesOrdered, one_more, all_hold}

@@ -17,14 +17,17 @@ use Rattle.kc_language.specs.Symbols.{Condition, SymbolFacts, TreeFacts, Warning
 use Rattle.kc_tree.specs.TreeFacts.{IsWellFormed}
 use Rattle.kc_build.specs.Trees.{TreesAreWellFormed}
 use Rattle.kc_language.specs.Values.{GivenValue, GivenTruth, GivenText, Member, SymbolPlace, same_given, same_tri, given_of, facts, name, type_in}
-use Rattle.kc_language.specs.ConfigFile.{ArePlacesOf, Places, place_at, StreamLocation, change_line, change_text, Effect, Silent, Warns, Assigns, warning_line, Line, UserInput, effect, input_after, is_within, lines_of, reading, stream_location, warning, warnings}
+use Rattle.kc_language.specs.ConfigFile.{ArePlacesOf, Places, place_at, StreamLocation, change_text, Effect, Silent, Warns, Assigns, warning_line, Line, UserInput, effect, input_after, is_within, lines_of, reading, stream_location, warning, warnings}
+use Rattle.kc_config_file.specs.PartsOfConfigFile.{change_line}
 use Rattle.kc_config_file.specs.PartsOfConfigFile.{type_of, before_too_long, effect_text, warning_line_if}
-use Rattle.kc_language.specs.Texts.{Solution, known, warnings as value_warnings, solution_view, config_text, has_prompt, lost_by, lost_line, lost_lines, lost_of}
+use Rattle.kc_language.specs.Texts.{Solution, known, warnings as value_warnings, solution_view, config_text, has_prompt, lost_by, lost_lines, lost_of}
+use Rattle.kc_conf.specs.PartsOfTexts.{lost_line}
 use Rattle.kc_conf.specs.PartsOfTexts.{lost_at}
 use Rattle.kc_language.specs.declared.diagnostics.Warning.TheVariants.{SetAgain}
 use Rattle.kc_config_file.specs.ReadingLaws.{LinesGiveInTurn, LinesInTurn}
 use Rattle.kc_conf.specs.Laws.{HoldsLine, IsAccountedFor, IsKeptOrWarned, IsSetAgain, LeavesAlone, NothingIsLost, RefusesNothing, WrittenAreWhole}
-use Rattle.kc_language.specs.Outcome.{Options, lead, AreLines, Outcome, fresh_input, lines_text, lost_warnings, names_of, reported, read_of, root_file, streams, warned_files, with_rule}
+use Rattle.kc_language.specs.Outcome.{Options, lead, Outcome, lines_text, lost_warnings, names_of, reported, read_of, root_file, streams, warned_files, with_rule}
+use Rattle.kc_conf.specs.PartsOfOutcome.{AreLines, fresh_input}
 use Rattle.kc_conf.proofs.OutcomeLemmas.{text_if_is}
 use Rattle.kc_conf.proofs.PartLemmas.{AreLines-append, AreLines-nothing, AreLines-reading, AreLines-warning_if, AreLines-warnings}
 

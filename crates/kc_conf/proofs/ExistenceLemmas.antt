@@ -8,7 +8,8 @@ use Rattle.kc_language.specs.declared.expressions.SymbolType.TheVariants.{Undefi
 use Rattle.kc_language.specs.Expansion.{AreOpened, Refused, Files}
 use Rattle.kc_read.specs.OpenedFiles.{OpenedAreOneList}
 use Rattle.kc_read.specs.Existing.{HasOneExpansion}
-use Rattle.kc_language.specs.Symbols.{TreeFacts, IsTreeOf, tree_of_log}
+use Rattle.kc_language.specs.Symbols.{TreeFacts, IsTreeOf}
+use Rattle.kc_build.specs.PartsOfSymbols.{tree_of_log}
 use Rattle.kc_build.specs.Trees.{TreesAreWellFormed}
 use Rattle.kc_user.specs.Places.{ArePlaces}
 use Rattle.kc_language.specs.ConfigFile.{Places, place_at, StreamLocation}
@@ -18,7 +19,8 @@ use Rattle.kc_values.specs.Laws.{AcceptedHaveOneSolution, EquationsReadNeeds, Ne
 use Rattle.kc_language.specs.Needs.{needs, needs_of, loop_text, loop_refused}
 use Rattle.kc_language.specs.Texts.{Solution, value_of}
 use Rattle.kc_config_file.specs.Streams.{StreamsLeavePlaces}
-use Rattle.kc_language.specs.Outcome.{Options, lead, refusal_line, too_long_line, unreadable_line, IsAcceptedTree, IsLenientOutcome, IsOutcome, IsOutcomeOfReading, IsRefusedTree, Outcome, accepted_tree, lines_text, long_line, looped, names_of, no_tree, reported, read_of, refused, refused_name, refused_tree, root_file, streams, strictly, unreadable_name, whole, with_rule}
+use Rattle.kc_language.specs.Outcome.{Options, lead, refusal_line, IsAcceptedTree, IsLenientOutcome, IsOutcome, IsOutcomeOfReading, IsRefusedTree, Outcome, accepted_tree, lines_text, long_line, looped, names_of, no_tree, reported, read_of, refused, refused_name, refused_tree, root_file, streams, strictly, unreadable_name, whole, with_rule}
+use Rattle.kc_conf.specs.PartsOfOutcome.{too_long_line, unreadable_line}
 use Rattle.kc_conf.specs.PartsOfOutcome.{outcome_of}
 use Rattle.kc_conf.specs.Laws.{SolutionExists}
 use Rattle.kc_conf.specs.LawSteps.{AcceptedHaveAnOutcome, AnswerExists, OutcomeExists}

@@ -2,7 +2,8 @@
 use Rattle.std.proofs.Common.{◌≡◌, ℕ, zero, suc, ◌<◌, ◌≤◌, Bool, true, false, List, [], ◌++◌, length, take, refl, sym, ap, subst, ◌∙◌, append_assoc, append-nil, arith, Option, Some, None, Ok, inl, inr}
 use Rattle.std.specs.Prelude.{◌&&◌, is_none, is_some, unwrap_or, option_map}
 use Rattle.std.proofs.lemmas.List.Elements.{All-nil}
-use Rattle.kc_language.specs.Lines.{HoldsNoLineFeed, is_line_feed}
+use Rattle.kc_language.specs.Lines.{is_line_feed}
+use Rattle.kc_text.specs.PartsOfLines.{HoldsNoLineFeed}
 use Rattle.kc_io.specs.Log.{Event, Journal, Log, Leads, did, each_byte, held, IsAtEnd, IsFound, OpenFile, ReadsOn}
 use Rattle.kc_io.specs.PartsOfLog.{contents}
 use Rattle.kc_io.specs.Log as device

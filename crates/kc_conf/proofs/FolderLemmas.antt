@@ -9,7 +9,8 @@ use Rattle.kc_conf.specs.declared.stop.Stop.{Stop}
 use Rattle.kc_conf.specs.Faults.{AreReads, Breaks, Broken, Completes, Runs, in_delivery, in_input, in_diagnostics, no_memory, of_tree, refused_name as reads_no_name, refused_tree as reads_no_tree, InputFile}
 use Rattle.kc_conf.specs.Many.{AreRootedAt, EndsTurn, IsPart, RunsEach, RunsTurn, StopsAtTree, TakeTurns, TakesTurn}
 use Rattle.kc_conf.specs.Many as many
-use Rattle.kc_language.specs.Outcome.{Options, IsAcceptedTree, IsLenientOutcome, IsOutcome, IsRefusedName, IsRefusedTree, NamesAreRead, Outcome, accepted_tree, looped, no_tree, refused_name, refused_tree, root_file}
+use Rattle.kc_language.specs.Outcome.{Options, IsAcceptedTree, IsLenientOutcome, IsOutcome, IsRefusedTree, Outcome, accepted_tree, looped, no_tree, refused_name, refused_tree, root_file}
+use Rattle.kc_conf.specs.PartsOfOutcome.{IsRefusedName, NamesAreRead}
 
 -- from these files to others
 module _ (root : List ℕ) (files others : Files) (alike : ExpandsAlike root files others) where

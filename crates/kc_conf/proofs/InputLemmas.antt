@@ -15,7 +15,9 @@ use Rattle.kc_config_file.specs.Feeding.{stream_start}
 use Rattle.kc_language.specs.Texts.{HasShortLines}
 use Rattle.kc_config_file.specs.ReaderState.{ReaderState}
 use Rattle.kc_config_file.specs.Reading.{with_warnings}
-use Rattle.kc_language.specs.Outcome.{Options, holds_warnings, input_files, lead, names_of, AreLines, fresh_input, streams}
+use Rattle.kc_language.specs.Outcome.{Options, input_files, lead, names_of, streams}
+use Rattle.kc_options.specs.PartsOfOutcome.{holds_warnings}
+use Rattle.kc_conf.specs.PartsOfOutcome.{AreLines, fresh_input}
 use Rattle.kc_options.specs.Asked.{may_at}
 use Rattle.kc_conf.specs.Faults.{AreInputs, AreThere, HasTurn, InputFile, IsAsTold, IsThere, ReadsTo, all, begun, bytes_of, ended_lines, line, reads, reads_one, still_told, warned_by, event_of}
 use Rattle.kc_conf.specs.Reads.{BreaksInputs, ReadsInputs, StopsInputs, ended_with, in_input, in_diagnostics, no_memory}

@@ -9,7 +9,9 @@ use Rattle.kc_io.specs.Delivery.{NamedText}
 use Rattle.kc_io.proofs.LogLemmas.{leads_nothing}
 use Rattle.kc_language.specs.ConfigFile.{ReadResult, StreamLocation, UserInput, lines_of, reading}
 use Rattle.kc_language.specs.Text.{BeginsWith}
-use Rattle.kc_language.specs.Outcome.{Options, holds_warnings, lead, names_of, too_long_line, AreLines, IsAcceptedTree, IsOutcomeOfReading, Outcome, fresh_input, has_text, lines_text, lost_warnings, names_listed, reported, read_of, refused, root_file, streams, unreadable_name}
+use Rattle.kc_language.specs.Outcome.{Options, lead, names_of, IsAcceptedTree, IsOutcomeOfReading, Outcome, has_text, lines_text, lost_warnings, names_listed, reported, read_of, refused, root_file, streams, unreadable_name}
+use Rattle.kc_options.specs.PartsOfOutcome.{holds_warnings}
+use Rattle.kc_conf.specs.PartsOfOutcome.{too_long_line, AreLines, fresh_input}
 use Rattle.kc_conf.specs.PartsOfOutcome.{outcome_of}
 use Rattle.kc_conf.specs.LawSteps.{OneAnswer}
 use Rattle.kc_conf.specs.Computed.{Computes, refuses, ruled_files, value_lines}

@@ -10,7 +10,8 @@ use Rattle.kc_io.specs.declared.device.Action.{Action}
 use Rattle.kc_io.specs.declared.device.Action.TheVariants.{Report}
 use Rattle.kc_io.proofs.LogLemmas.{leads_both, leads_nothing}
 use Rattle.kc_conf.specs.Accepted.{IsAcceptedOf}
-use Rattle.kc_language.specs.Outcome.{Options, lead, unreadable_line, IsAcceptedTree, IsLenientOutcome, IsOutcome, Outcome, accepted_tree, has_text, lines_text, reported, refused, refused_name, refused_tree, root_file, strictly, unreadable_name, with_rule}
+use Rattle.kc_language.specs.Outcome.{Options, lead, IsAcceptedTree, IsLenientOutcome, IsOutcome, Outcome, accepted_tree, has_text, lines_text, reported, refused, refused_name, refused_tree, root_file, strictly, unreadable_name, with_rule}
+use Rattle.kc_conf.specs.PartsOfOutcome.{unreadable_line}
 use Rattle.kc_conf.specs.LawSteps.{OneAnswer, OneOutcome}
 use Rattle.kc_conf.specs.Endings.{Ends}
 use Rattle.kc_conf.specs.Faults.{nothing_said, texts_of, bytes_of, reads, still_told, Reports, TriesToSay, clearing, event_of, stop_line}

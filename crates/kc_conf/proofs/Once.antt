@@ -2,7 +2,8 @@
 use Rattle.std.proofs.Common.{◌≡◌, ℕ, ◌<◌, List, [], ◌++◌, length, map, Option, Some, None, Result, Ok, Err, true, false, sym, ap, subst, ◌∙◌}
 use Rattle.kc_language.specs.declared.expressions.SymId.{SymId}
 use Rattle.kc_language.specs.Expansion.{AreOpened, Expands, Log, Refused, Files}
-use Rattle.kc_language.specs.Symbols.{TreeFacts, IsTreeOf, tree_of_log}
+use Rattle.kc_language.specs.Symbols.{TreeFacts, IsTreeOf}
+use Rattle.kc_build.specs.PartsOfSymbols.{tree_of_log}
 use Rattle.kc_build.specs.Trees.{OneTree}
 use Rattle.kc_language.specs.ConfigFile.{Places, place_at, ReadResult}
 use Rattle.kc_language.specs.Expressions.{TextValue}
@@ -11,7 +12,8 @@ use Rattle.kc_order.specs.Laws.{NamedAreUnordered, OneNamedLoop}
 use Rattle.kc_language.specs.Values.{Solves, equations, name_count}
 use Rattle.kc_language.specs.Needs.{IsAccepted, needs, loop_text, IsLoopText, loop_refused}
 use Rattle.kc_language.specs.Texts.{Solution, value_of}
-use Rattle.kc_language.specs.Outcome.{Options, lead, refusal_line, too_long_line, unreadable_line, Outcome, IsLenientOutcome, strictly, reported, lines_text, refused, read_of, root_file, IsRefusedTree, no_tree, looped, IsAcceptedTree, IsSolutionFor, refused_tree, refused_name, accepted_tree, IsOutcomeOfReading, long_line, whole, with_rule}
+use Rattle.kc_language.specs.Outcome.{Options, lead, refusal_line, Outcome, IsLenientOutcome, strictly, reported, lines_text, refused, read_of, root_file, IsRefusedTree, no_tree, looped, IsAcceptedTree, IsSolutionFor, refused_tree, refused_name, accepted_tree, IsOutcomeOfReading, long_line, whole, with_rule}
+use Rattle.kc_conf.specs.PartsOfOutcome.{too_long_line, unreadable_line}
 use Rattle.kc_conf.specs.PartsOfOutcome.{outcome_of, IsOutcomeOfTree}
 use Rattle.kc_conf.specs.LawSteps.{OneAnswer, OneOutcome}
 use Rattle.std.proofs.lemmas.List.{ext_get_or}

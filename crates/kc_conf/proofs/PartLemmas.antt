@@ -7,18 +7,21 @@ use Rattle.std.proofs.lemmas.Grind.{flat_map-append}
 use Rattle.std.proofs.lemmas.List.Elements.{All-nil, All-cons, All-append}
 use Rattle.std.proofs.lemmas.List.Splits.{slice_split_at, slice_split_none, slice_split-cons_no, slice_split-cons_yes}
 use Rattle.std.proofs.lemmas.List.Sums.{take_while-cons}
-use Rattle.kc_language.specs.Text.{one_more}
-use Rattle.kc_language.specs.Lines.{HoldsNoLineFeed, is_line_feed}
+use Rattle.kc_text.specs.PartsOfText.{one_more}
+use Rattle.kc_language.specs.Lines.{is_line_feed}
+use Rattle.kc_text.specs.PartsOfLines.{HoldsNoLineFeed}
 use Rattle.kc_language.specs.Symbols.{TreeFacts, Warning, located_warning}
 use Rattle.kc_language.specs.declared.expressions.SymbolType.{SymbolType}
 use Rattle.kc_language.specs.Values.{GivenValue, SymbolPlace, same_given, name as name_of}
-use Rattle.kc_language.specs.ConfigFile.{place_at, StreamLocation, change_line, change_text, value_text, Effect, Silent, Warns, Assigns, warning_line, UserInput, Line, ReadResult, effect, effect_warning, is_within, lines_from, lines_in_stream, input_after, reading, stream_location, warning, warnings}
+use Rattle.kc_language.specs.ConfigFile.{place_at, StreamLocation, change_text, value_text, Effect, Silent, Warns, Assigns, warning_line, UserInput, Line, ReadResult, effect, effect_warning, is_within, lines_from, lines_in_stream, input_after, reading, stream_location, warning, warnings}
+use Rattle.kc_config_file.specs.PartsOfConfigFile.{change_line}
 use Rattle.kc_config_file.specs.PartsOfConfigFile.{type_of, before_too_long, effect_change, effect_text, last_line, line, warning_line_if}
 use Rattle.kc_language.specs.declared.diagnostics.Warning.TheVariants.{Changed}
 use Rattle.kc_config_file.specs.Feeding.{StreamPosition, stream_start, ReadsPiece}
 use Rattle.kc_language.specs.Texts.{HasShortLines}
 use Rattle.kc_config_file.specs.Reading.{with_warnings}
-use Rattle.kc_language.specs.Outcome.{AreLines, lines_text}
+use Rattle.kc_language.specs.Outcome.{lines_text}
+use Rattle.kc_conf.specs.PartsOfOutcome.{AreLines}
 use Rattle.kc_conf.specs.Faults.{ended_lines}
 
 -- ---- whole lines

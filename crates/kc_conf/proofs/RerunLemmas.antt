@@ -13,7 +13,8 @@ use Rattle.kc_language.specs.Values.{Solves, equations, name_count}
 use Rattle.kc_language.specs.Texts.{Solution, value_of, HasShortLines, IsOneSolution, read_alone, valuation_view, solution_view, config_text, minimal_text}
 use Rattle.kc_config_file.specs.WrittenLaws.{ConfigIsIdempotent, ConfigIsOfValues, IsSolutionOf, MinimalHasNothingToSpare, MinimalRestores, WrittenTextsAreShort}
 use Rattle.kc_config_file.specs.Streams.{StreamsLeavePlaces}
-use Rattle.kc_language.specs.Outcome.{Options, lead, IsAcceptedTree, IsLenientOutcome, IsOutcomeOfReading, IsRefusedTree, IsSolutionFor, Outcome, accepted_tree, lines_text, long_line, names_of, reported, read_of, refused_name, refused_tree, root_file, streams, strictly, text_if, unreadable_name, whole, with_rule, fresh_input, refused_if, warned_files, is_taken, refuses_input}
+use Rattle.kc_language.specs.Outcome.{Options, lead, IsAcceptedTree, IsLenientOutcome, IsOutcomeOfReading, IsRefusedTree, IsSolutionFor, Outcome, accepted_tree, lines_text, long_line, names_of, reported, read_of, refused_name, refused_tree, root_file, streams, strictly, unreadable_name, whole, with_rule, refused_if, warned_files, refuses_input}
+use Rattle.kc_conf.specs.PartsOfOutcome.{text_if, fresh_input, is_taken}
 use Rattle.kc_conf.specs.LawSteps.{OneAnswer}
 use Rattle.kc_conf.proofs.OutcomeLemmas.{strictly-config, strictly-minimal, strictly-off, config_kept, minimal_kept, rule-config, rule-minimal, text_if-same, text_if_is}
 use Rattle.kc_conf.specs.Laws.{AreAlone, ConfigIsReadAgain, OutcomesAreReadAgain, RefusesNothing, MinimalIsReadAgain, MinimalIsRunAgain, TextsHaveShortLines, WrittenAreWhole}

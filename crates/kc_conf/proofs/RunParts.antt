@@ -9,7 +9,8 @@ use Rattle.kc_io.specs.declared.device.Action.TheVariants.{Open, Read}
 use Rattle.kc_io.specs.declared.steps.Failure.{Failure}
 use Rattle.kc_io.proofs.LogLemmas.{leads_as, leads_both, leads_nothing, leads_said}
 use Rattle.kc_language.specs.Text.{BeginsWith, GoesBeyond}
-use Rattle.kc_language.specs.Outcome.{Options, lead, refusal_line, unreadable_line, AreLines, IsAcceptedTree, IsLenientOutcome, IsOutcome, IsRefusedTree, NamesAreRead, refused, unreadable_name, Outcome, accepted_tree, has_text, is_done, lines_text, reported, diagnostics_of, refused_name, refused_tree, root_file, strictly}
+use Rattle.kc_language.specs.Outcome.{Options, lead, refusal_line, IsAcceptedTree, IsLenientOutcome, IsOutcome, IsRefusedTree, refused, unreadable_name, Outcome, accepted_tree, has_text, is_done, lines_text, reported, refused_name, refused_tree, root_file, strictly}
+use Rattle.kc_conf.specs.PartsOfOutcome.{unreadable_line, AreLines, NamesAreRead, diagnostics_of}
 use Rattle.kc_conf.specs.LawSteps.{OneAnswer}
 use Rattle.kc_conf.specs.Endings.{Answers, BreaksEnd, EndStops, Ends, IsEnded}
 use Rattle.kc_conf.specs.Endings as tail

@@ -2,7 +2,8 @@
 use Rattle.std.proofs.Common.{◌≡◌, ℕ, Bool, true, false, List, [], ◌∷◌, ◌++◌, refl, sym, ap, subst, ◌∙◌, append_assoc, append-nil, Some, None, Result, Ok, Err, OnOk, IfErr, Vec, Global, length, arith}
 use Rattle.std.specs.Prelude.{◌==◌}
 use Rattle.std.specs.List.{after_last}
-use Rattle.kc_language.specs.Lines.{HoldsNoLineFeed, is_line_feed}
+use Rattle.kc_language.specs.Lines.{is_line_feed}
+use Rattle.kc_text.specs.PartsOfLines.{HoldsNoLineFeed}
 use Rattle.kc_io.specs.Log.{Event, Log, Leads, is_whole_lines}
 use Rattle.kc_io.specs.declared.device.Action.{Action}
 use Rattle.kc_io.specs.declared.device.Action.TheVariants.{Report}
@@ -16,7 +17,7 @@ use Rattle.kc_language.specs.Text.{BeginsWith, GoesBeyond}
 use Rattle.kc_config_file.specs.WholeLines.{AddsWholeLines}
 use Rattle.kc_config_file.specs.declared.fault.InputFault.{InputFault}
 use Rattle.kc_config_file.specs.declared.fault.InputFault.TheVariants.{InputLineTooLong, Memory}
-use Rattle.kc_language.specs.Outcome.{AreLines}
+use Rattle.kc_conf.specs.PartsOfOutcome.{AreLines}
 use Rattle.kc_conf.specs.Reads.{ended_with}
 use Rattle.kc_conf.specs.ReadSteps.{BreaksEnd, BreaksPiece, EndsFile, FailsAt, OnlyHeldWaits, SaysWaiting, Stand, StopsWarnings, TakesPiece, Warns, held_back, said_now}
 use Rattle.kc_conf.specs.Faults.{event_of}

@@ -7,7 +7,8 @@ use Rattle.kc_io.specs.Log.{Event, Log, Leads, Tells}
 use Rattle.kc_io.specs.declared.delivery.Manner.{Manner}
 use Rattle.kc_io.specs.declared.device.Action.TheVariants.{Report}
 use Rattle.kc_io.specs.declared.steps.Failure.{Failure}
-use Rattle.kc_language.specs.Outcome.{Options, lead, AreLines}
+use Rattle.kc_language.specs.Outcome.{Options, lead}
+use Rattle.kc_conf.specs.PartsOfOutcome.{AreLines}
 use Rattle.kc_conf.specs.PartsOfOutcome.{strict_line}
 use Rattle.kc_conf.specs.Faults.{delivers, stale_lines, stale_texts, status_with, still_told, Reports, clearing, event_of}
 use Rattle.kc_conf.specs.Reads.{IsReportStop}

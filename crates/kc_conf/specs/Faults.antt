@@ -2,7 +2,10 @@
 -- Our own. It ends in `Runs` and, for the tree of a folder, `FolderRuns`. Claims about files are for devices whose log tells what they hold (kc_io).
 use Rattle.std.specs.{Prelude.{◌≡◌, ◌⊎◌, ℕ, ◌<◌, Bool, true, false, not, ◌&&◌, if◌then◌else◌, List, [], ◌∷◌, ◌++◌, All, map, take, filter, flat_map, is_none, is_ok, is_some, unwrap_or, slice_get, slice_index_or, string_bytes, Option, None, Some, Result, Ok, Err, String, ⊤}, declared.alloc.Global.Global}
 use Rattle.kc_language.specs.{ConfigFile.{Line, StreamLocation, lines_from, lines_of, reading}, Expansion.{Files, Refused}, Symbols.TreeFacts, Text.{BeginsWith, GoesBeyond}, Texts.HasShortLines, declared.outcome.{Delivery.Delivery, Status.Status}}
-use Rattle.kc_language.specs.Outcome.{AreLines, IsAcceptedTree, IsOutcome, IsRefusedName, IsRefusedTree, NamesAreRead, Options, Outcome, cannot_read_line, cannot_write_line, diagnostics_of, fresh_input, holds_warnings, input_files, lead, lines_text, names_of, out_of_memory_line, read_of, root_file, stale_line, streams}
+use Rattle.kc_language.specs.Outcome.{IsAcceptedTree, IsOutcome, IsRefusedTree, Options, Outcome, input_files, lead, lines_text, names_of, read_of, root_file, streams}
+use Rattle.kc_conf.specs.PartsOfOutcome.{AreLines, IsRefusedName, NamesAreRead, cannot_read_line, cannot_write_line, diagnostics_of, fresh_input, stale_line}
+use Rattle.kc_options.specs.PartsOfOutcome.{holds_warnings}
+use Rattle.kc_diagnostics.specs.PartsOfOutcome.{out_of_memory_line}
 use Rattle.kc_io.specs.{Delivery.{StopsBefore, NamedText, chosen, delivery, stale}, Log.{Event, Journal, Leads, Log, Tells, did, each_byte, failed, held, reported, said}}
 use Rattle.kc_io.specs.declared.{delivery.Manner.TheVariants.{InPlace, Replacing}, device.{Action.{Action, TheVariants.{Clear, Close, Create, Miss, Move, Open, Read, Report, Write}}, Fault.Fault}, steps.Failure.Failure}
 use Rattle.kc_load.specs.{Folder.{AreFilesOf, IsLoadFault, failed_load, FolderState, Leads as FolderLeads, files_told}, declared.fault.LoadFault.LoadFault}

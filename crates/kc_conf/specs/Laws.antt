@@ -2,9 +2,12 @@
 -- Our own. Each law is the contract of a function that does nothing (src/laws.rt).
 use Rattle.std.specs.{List.list_any, Prelude.{◌≡◌, ◌⊎◌, ℕ, Bool, true, false, All, Contains, List, [], ◌∷◌, ◌++◌, Some, None, codes, is_some}}
 use Rattle.kc_language.specs.{Expansion.{AreOpened, Files, Refused}, Needs.IsAccepted, Symbols.{SymbolFacts, TreeFacts}, Values.{GivenValue, facts, given_of, name, same_given}, declared.{diagnostics.Warning.TheVariants.SetAgain, expressions.{SymId.SymId, SymbolType.SymbolType}}}
-use Rattle.kc_language.specs.ConfigFile.{ArePlacesOf, Assigns, Effect, Line, Places, Silent, Warns, change_line, effect, is_prefix, lines_of, place_at, stream_location, warning_line}
-use Rattle.kc_language.specs.Texts.{ConfigGivesBack, HasShortLines, MinimalGivesBack, MinimalNeedsEach, Solution, config_text, has_prompt, known, lost_line, minimal_text, solution_view, valuation_view, value_of, value_warnings}
-use Rattle.kc_language.specs.Outcome.{AreLines, IsAcceptedTree, IsOutcome, IsRefusedTree, IsSolutionFor, NamesAreRead, Options, Outcome, diagnostics_of, is_outside, lines_text, names_of, read_of, refuses_input, reported, root_file, streams, warned_files, with_rule}
+use Rattle.kc_language.specs.ConfigFile.{ArePlacesOf, Assigns, Effect, Line, Places, Silent, Warns, effect, is_prefix, lines_of, place_at, stream_location, warning_line}
+use Rattle.kc_config_file.specs.PartsOfConfigFile.{change_line}
+use Rattle.kc_language.specs.Texts.{ConfigGivesBack, HasShortLines, MinimalGivesBack, MinimalNeedsEach, Solution, config_text, has_prompt, known, minimal_text, solution_view, valuation_view, value_of, value_warnings}
+use Rattle.kc_conf.specs.PartsOfTexts.{lost_line}
+use Rattle.kc_language.specs.Outcome.{IsAcceptedTree, IsOutcome, IsRefusedTree, IsSolutionFor, Options, Outcome, is_outside, lines_text, names_of, read_of, refuses_input, reported, root_file, streams, warned_files, with_rule}
+use Rattle.kc_conf.specs.PartsOfOutcome.{AreLines, NamesAreRead, diagnostics_of}
 
 -- ---- There is exactly one outcome
 -- An accepted tree has a solution under any user values of it.

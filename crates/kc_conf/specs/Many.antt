@@ -2,7 +2,9 @@
 -- Our own. It ends in `RunsEach`, and in the law `EachLeavesItsPart` of configurations whose files are apart.
 use Rattle.std.specs.{List.list_any, Prelude.{◌≡◌, ◌≢◌, ◌⊎◌, ℕ, suc, ◌<◌, Bool, true, false, not, ◌||◌, List, [], ◌∷◌, ◌++◌, Option, None, Some, String, string_bytes, bytes_eq, is_ok}, declared.alloc.Global.Global}
 use Rattle.kc_language.specs.{Expansion.{AreOpened, Files, Refused}, Symbols.TreeFacts, declared.outcome.{Delivery.Delivery, Status.Status}}
-use Rattle.kc_language.specs.Outcome.{IsAcceptedTree, IsOutcome, IsRefusedName, IsRefusedTree, Options, Outcome, input_files, lines_text, out_of_memory_line, refusal_line, reported, root_file, unreadable_name}
+use Rattle.kc_language.specs.Outcome.{IsAcceptedTree, IsOutcome, IsRefusedTree, Options, Outcome, input_files, lines_text, refusal_line, reported, root_file, unreadable_name}
+use Rattle.kc_conf.specs.PartsOfOutcome.{IsRefusedName}
+use Rattle.kc_diagnostics.specs.PartsOfOutcome.{out_of_memory_line}
 use Rattle.kc_io.specs.{Delivery.last_of, Log.{Journal, Leads, Log, failed, held}, declared.device.{Action.Action, Fault.Fault}}
 use Rattle.kc_conf.specs.{Faults.{AreInputs, Broken, Completes, InputFile, TriesToSay, bytes_of, nothing_said, stale_texts, status_with, still_told, texts_of}, declared.stop.Stop.Stop}
 

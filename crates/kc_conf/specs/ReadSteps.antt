@@ -1,6 +1,6 @@
 -- For proofs: What the steps of reading the input files do.
 use Rattle.std.specs.Prelude.{◌≡◌, ◌⊎◌, ℕ, Bool, true, false, not, if◌then◌else◌, List, [], ◌∷◌, ◌++◌, All, Option, None, Some, Result, OnOk, IfErr, length, map, take, ⊤, option_map}
-use Rattle.kc_language.specs.Lines.{HoldsNoLineFeed}
+use Rattle.kc_text.specs.PartsOfLines.{HoldsNoLineFeed}
 use Rattle.kc_language.specs.Symbols.{TreeFacts}
 use Rattle.kc_language.specs.ConfigFile.{ArePlacesOf, Line, UserInput, lines_from, lines_of, reading}
 use Rattle.kc_io.specs.Log.{Event, Log, Leads, did, each_byte, IsFound, IsOpened, OpenFile}
@@ -12,7 +12,8 @@ use Rattle.kc_language.specs.Texts.{HasShortLines}
 use Rattle.kc_config_file.specs.ReaderState.{ReaderState}
 use Rattle.kc_config_file.specs.Reading.{with_warnings}
 use Rattle.kc_language.specs.Text.{BeginsWith, GoesBeyond}
-use Rattle.kc_language.specs.Outcome.{Options, input_files, names_of, AreLines, streams}
+use Rattle.kc_language.specs.Outcome.{Options, input_files, names_of, streams}
+use Rattle.kc_conf.specs.PartsOfOutcome.{AreLines}
 use Rattle.kc_conf.specs.Faults.{InputFile, IsAsTold, IsThere, ReadsInto, begun, bytes_of, ended_lines, reads, reads_one, still_told, event_of}
 use Rattle.kc_conf.specs.Reads.{IsReportStop, ended_with}
 use Rattle.kc_conf.specs.declared.reading.Waiting.{Waiting}

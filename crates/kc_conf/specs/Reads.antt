@@ -10,7 +10,9 @@ use Rattle.kc_io.specs.declared.device.Fault.TheVariants as fault
 use Rattle.kc_io.specs.declared.steps.Failure.{Failure}
 use Rattle.kc_language.specs.ConfigFile.{ReadResult, StreamLocation, UserInput, lines_of, reading}
 use Rattle.kc_language.specs.Text.{BeginsWith, GoesBeyond}
-use Rattle.kc_language.specs.Outcome.{Options, names_of, out_of_memory_line, AreLines, streams}
+use Rattle.kc_language.specs.Outcome.{Options, names_of, streams}
+use Rattle.kc_diagnostics.specs.PartsOfOutcome.{out_of_memory_line}
+use Rattle.kc_conf.specs.PartsOfOutcome.{AreLines}
 use Rattle.kc_conf.specs.Faults.{event_of, AreInputs, AreThere, InputFile, ReadsTo, ReadsUpTo, bytes_of, reads, still_told}
 use Rattle.kc_conf.specs.declared.reading.LongLine.{LongLine}
 use Rattle.kc_conf.specs.declared.reading.Waiting.{Waiting}

@@ -3,7 +3,9 @@
 ghost use Rattle.std.specs.Prelude.{◌≡◌, ◌++◌, [], map, IfErr, OnOk};
 ghost use Rattle.std.specs.List.{flat_map};
 ghost use Rattle.kc_language.specs.Statements.{error_at, error_line};
-ghost use Rattle.kc_language.specs.Outcome.{run_error_text, lead, first_line, refusal_line, too_long_line, out_of_memory_line, lines_text};
+ghost use Rattle.kc_language.specs.Outcome.{run_error_text, lead, first_line, refusal_line, lines_text};
+ghost use Rattle.kc_conf.specs.PartsOfOutcome.{too_long_line};
+ghost use Rattle.kc_diagnostics.specs.PartsOfOutcome.{out_of_memory_line};
 ghost use Rattle.kc_diagnostics.specs.RunErrors.{shown_run_error};
 ghost use Rattle.kc_read.specs.RefusalView.{refusal_view};
 ghost use Rattle.kc_io.specs.Log.{Leads};

@@ -9,7 +9,8 @@ use Rattle.std.proofs.lemmas.Bool.{eqb-true, and_from, cases_Bool, le-leb, leb-t
 use Rattle.std.proofs.lemmas.List.Elements.{All-cons, All-nil, All-take, All-drop}
 use Rattle.std.proofs.lemmas.List.Folds.{list_any_none}
 use Rattle.kc_language.specs.Lines.{is_line_feed}
-use Rattle.kc_language.specs.Text.{escape, unescape, int_of, hex_of, preceded}
+use Rattle.kc_language.specs.Text.{escape, unescape, int_of, hex_of}
+use Rattle.kc_config_file.specs.PartsOfConfigFile.{preceded}
 use Rattle.kc_language.specs.Tokens.{is_blank}
 use Rattle.kc_language.specs.declared.expressions.SymId.{SymId}
 use Rattle.kc_language.specs.declared.expressions.Tri.{Tri}

@@ -7,7 +7,8 @@ use Rattle.std.proofs.lemmas.List.{reverse-append, drop-append-le, drop_all, tak
 use Rattle.std.proofs.lemmas.List.Elements.{All-get_or, All-from_get_or}
 use Rattle.std.proofs.lemmas.List.Sums.{suffix_len_is, suffix_len-le-length, sum_by-append}
 use Rattle.kc_text.specs.PartsOfText.{last_count}
-use Rattle.kc_language.specs.Text.{one_more, longest_input_line}
+use Rattle.kc_language.specs.Text.{longest_input_line}
+use Rattle.kc_text.specs.PartsOfText.{one_more}
 use Rattle.kc_language.specs.Lines.{is_line_feed}
 use Rattle.kc_config_file.specs.Feeding.{StreamPosition, IsWithinLine, fed, number_after}
 use Rattle.kc_config_file.proofs.LineLemmas.{HasNoLf}

@@ -8,7 +8,8 @@ use Rattle.kc_language.specs.Symbols.{TreeFacts}
 use Rattle.kc_config_file.specs.declared.fault.InputFault.{InputFault}
 use Rattle.kc_config_file.specs.declared.fault.InputFault.TheVariants.{InputLineTooLong, Memory}
 use Rattle.kc_config_file.specs.Feeding.{StreamPosition, IsWithinLine, fed, to_come, ReadsPiece, Feeds, StopsBecause, Refuses, FinishesStream}
-use Rattle.kc_language.specs.Text.{one_more, longest_input_line}
+use Rattle.kc_language.specs.Text.{longest_input_line}
+use Rattle.kc_text.specs.PartsOfText.{one_more}
 use Rattle.kc_language.specs.ConfigFile.{UserInput, lines_from, reading, input_after, warning}
 use Rattle.kc_config_file.specs.PartsOfConfigFile.{line}
 use Rattle.kc_config_file.specs.Reading.{with_warnings}

@@ -9,7 +9,8 @@ use Rattle.kc_language.specs.declared.expressions.SymId.{SymId}
 use Rattle.kc_language.specs.Expressions.{symbol}
 use Rattle.kc_language.specs.Symbols.{TreeFacts}
 use Rattle.kc_language.specs.Values.{GivenValue, Member, SymbolPlace, ChoicePlace, is_yes}
-use Rattle.kc_language.specs.ConfigFile.{Places, place_at, Assignment, each_from, chosen_in, places_given}
+use Rattle.kc_language.specs.ConfigFile.{Places, place_at, Assignment, each_from, places_given}
+use Rattle.kc_config_file.specs.PartsOfConfigFile.{chosen_in}
 use Rattle.kc_user.specs.PartsOfConfigFile.{no_places, member_place}
 use Rattle.kc_config_file.specs.PartsOfConfigFile.{given_to, is_this_choice, choice_of}
 

@@ -5,7 +5,7 @@ use Rattle.std.specs.Str.Lines.{strip_carriage_return}
 use Rattle.kc_language.specs.Symbols.{TreeFacts}
 use Rattle.kc_language.specs.ConfigFile.{Places, meaning_of, effect_of, Assignment, Line, ReadResult, UserInput, input_after, lines_from, reading, warning, places_given, places_after, effect}
 use Rattle.kc_config_file.specs.PartsOfConfigFile.{line, assignment_of}
-use Rattle.kc_language.specs.Text.{one_more}
+use Rattle.kc_text.specs.PartsOfText.{one_more}
 use Rattle.kc_config_file.specs.Reading.{with_warnings}
 use Rattle.kc_config_file.proofs.LineLemmas.{HasNoLf, lines_from-lf, lines_from-last, is_within-line}
 use Rattle.kc_config_file.proofs.PlaceLemmas.{places_given-append, places_given-nothing}

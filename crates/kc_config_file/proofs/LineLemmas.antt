@@ -10,7 +10,7 @@ use Rattle.kc_language.specs.ConfigFile.{Places, meaning_of, Effect, Silent, War
 use Rattle.kc_config_file.specs.PartsOfConfigFile.{line, last_line, text_of, effect_text, assignment_of, line_for}
 use Rattle.kc_config_file.specs.LineSteps.{input_by}
 use Rattle.kc_config_file.proofs.StepEffects.{places_by, lines_by, all_by}
-use Rattle.kc_language.specs.Text.{one_more}
+use Rattle.kc_text.specs.PartsOfText.{one_more}
 use Rattle.kc_config_file.proofs.PlaceLemmas.{each_same, one_place, places_given-nothing}
 
 -- there is a first part

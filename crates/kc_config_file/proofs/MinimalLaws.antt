@@ -15,7 +15,8 @@ use Rattle.kc_values.specs.GivenLines.{minimal_line}
 use Rattle.kc_values.specs.Laws.{DifferingAreAllowed}
 use Rattle.kc_values.specs.Members.{MembersAreTheirs, MembersAreBools}
 use Rattle.kc_values.proofs.FixedLines.{place_cases, named, Sel, differs-member}
-use Rattle.kc_language.specs.Texts.{valuation_view, read_alone, IsOneSolution, HasOtherSolution, IsOneLine, minimal_text, symbol_config}
+use Rattle.kc_language.specs.Texts.{valuation_view, read_alone, IsOneSolution, minimal_text, symbol_config}
+use Rattle.kc_config_file.specs.PartsOfTexts.{HasOtherSolution, IsOneLine}
 use Rattle.kc_config_file.specs.PartsOfTexts.{kept_lines}
 use Rattle.kc_config_file.specs.HasNames.{HasNames}
 use Rattle.kc_config_file.proofs.GivesLemmas.{Gives, gives_whole}

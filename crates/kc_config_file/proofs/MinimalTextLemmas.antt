@@ -22,7 +22,8 @@ use Rattle.kc_values.specs.Members.{MembersAreTheirs, MembersAreBools}
 use Rattle.kc_values.specs.PartsOfValues as sol
 use Rattle.kc_values.proofs.FixedLines.{place_cases, place_of_member, names_itself, named, Sel, member_now, differs-member}
 use Rattle.kc_values.proofs.Selection.{selected_member}
-use Rattle.kc_language.specs.Texts.{valuation_view, IsOneLine, symbol_config, config_file_line}
+use Rattle.kc_language.specs.Texts.{valuation_view, symbol_config, config_file_line}
+use Rattle.kc_config_file.specs.PartsOfTexts.{IsOneLine}
 use Rattle.kc_config_file.specs.PartsOfTexts.{kept_lines}
 use Rattle.kc_config_file.specs.HasNames.{HasNames}
 use Rattle.kc_config_file.proofs.FilledLemmas.{Holds, IsCandidate, filled_symbol, filled_member, filled_none, in_flat_map, to_flat_map, contains_here, contains_cases, no_element}

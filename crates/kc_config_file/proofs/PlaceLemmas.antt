@@ -7,7 +7,8 @@ use Rattle.std.proofs.lemmas.List.Elements.{filter_map-append}
 use Rattle.kc_language.specs.declared.expressions.SymId.{SymId}
 use Rattle.kc_language.specs.Symbols.{TreeFacts}
 use Rattle.kc_language.specs.Values.{GivenValue, is_yes}
-use Rattle.kc_language.specs.ConfigFile.{Places, ArePlacesOf, Assignment, each_from, chosen_in, places_given}
+use Rattle.kc_language.specs.ConfigFile.{Places, ArePlacesOf, Assignment, each_from, places_given}
+use Rattle.kc_config_file.specs.PartsOfConfigFile.{chosen_in}
 use Rattle.kc_config_file.specs.PartsOfConfigFile.{given_to, choice_of, is_this_choice}
 use Rattle.kc_config_file.specs.LineSteps.{with_member}
 

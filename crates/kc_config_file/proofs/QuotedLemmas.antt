@@ -4,7 +4,7 @@ use Rattle.std.proofs.Math.Seq.{take-add}
 use Rattle.std.proofs.lemmas.Bool.{ne_eqb}
 use Rattle.std.proofs.lemmas.List.{drop_more, drop-drop}
 use Rattle.kc_language.specs.ConfigFile.{until_quote}
-use Rattle.kc_language.specs.Text.{preceded}
+use Rattle.kc_config_file.specs.PartsOfConfigFile.{preceded}
 
 preceded-preceded : (a b : List ℕ) (found : Option (List ℕ)) → preceded a (preceded b found) ≡ preceded (a ++ b) found
 preceded-preceded a b None = refl

@@ -17,7 +17,8 @@ use Rattle.kc_language.specs.declared.expressions.Tri.TheVariants.{N, M, Y}
 use Rattle.kc_language.specs.declared.expressions.SymbolType.TheVariants as symbol_type
 use Rattle.kc_language.specs.Texts.{config_file_line, EndsPlainly}
 use Rattle.kc_config_file.specs.PartsOfTexts.{is_end_byte}
-use Rattle.kc_language.specs.Text.{escape, preceded}
+use Rattle.kc_language.specs.Text.{escape}
+use Rattle.kc_config_file.specs.PartsOfConfigFile.{preceded}
 use Rattle.kc_language.specs.Tokens.{is_blank}
 use Rattle.kc_text.proofs.Unescaping.{unescape_law}
 use Rattle.kc_language.specs.ConfigFile.{Set, Unset, meaning_of, without_prefix, without_suffix, unset_name, name_and_value, until_quote, is_prefix}

@@ -19,6 +19,7 @@ use Rattle.kc_config_file.proofs.LineLemmas.{HasNoLf}
 use Rattle.kc_config_file.proofs.SymbolLineLemmas.{IsOf, FitsLine}
 use Rattle.kc_config_file.proofs.TextBytes.{int_bytes, hex_bytes, number_plain, number_no_lf}
 use Rattle.std.proofs.lemmas.Bool.{false_from_ne_true}
+use Rattle.kc_values.specs.PartsOfValues.{by_choice}
 
 module _ (tree : TreeFacts) (known : SymId → SymbolValue) (s : SymId) (f : SymbolFacts) where
   -- a symbol without a type, or a value of its type
@@ -30,9 +31,9 @@ module _ (tree : TreeFacts) (known : SymId → SymbolValue) (s : SymId) (f : Sym
   type_shape symbol_type.Int user = inr refl
   type_shape symbol_type.Hex user = inr refl
 
-  choice_shape : (choice : Option ℕ) (user : Option GivenValue) → ((c : ℕ) → choice ≡ Some c → f.symbol_type ≡ symbol_type.Bool) → (f.symbol_type ≡ symbol_type.Undefined) ⊎ IsOf f.symbol_type (v.by_choice tree known s f choice user)
+  choice_shape : (choice : Option ℕ) (user : Option GivenValue) → ((c : ℕ) → choice ≡ Some c → f.symbol_type ≡ symbol_type.Bool) → (f.symbol_type ≡ symbol_type.Undefined) ⊎ IsOf f.symbol_type (by_choice tree known s f choice user)
   choice_shape None user bools = type_shape f.symbol_type user
-  choice_shape (Some c) user bools = inr (subst (λ k. IsOf k (v.by_choice tree known s f (Some c) user)) (sym (bools c refl)) tt)
+  choice_shape (Some c) user bools = inr (subst (λ k. IsOf k (by_choice tree known s f (Some c) user)) (sym (bools c refl)) tt)
 
   pub value_shape : (user : Option GivenValue) → facts tree s ≡ Some f → MembersAreBools tree → (f.symbol_type ≡ symbol_type.Undefined) ⊎ IsOf f.symbol_type (v.equation tree known s (facts tree s) user)
   value_shape user at bools = rw at (choice_shape f.choice user (λ c is. bools s f c at is))

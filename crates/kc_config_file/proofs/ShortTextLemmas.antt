@@ -7,7 +7,8 @@ use Rattle.std.proofs.lemmas.List.{length-append}
 use Rattle.std.proofs.lemmas.List.Elements.{All-append, All-cons, All-nil}
 use Rattle.std.proofs.lemmas.Option.{slice_get-get_or}
 use Rattle.kc_language.specs.Lines.{is_line_feed}
-use Rattle.kc_language.specs.Text.{escape, one_more}
+use Rattle.kc_language.specs.Text.{escape}
+use Rattle.kc_text.specs.PartsOfText.{one_more}
 use Rattle.kc_language.specs.declared.expressions.SymId.{SymId}
 use Rattle.kc_language.specs.declared.expressions.Tri.TheVariants.{N, M, Y}
 use Rattle.kc_language.specs.declared.expressions.SymbolType.TheVariants as symbol_type

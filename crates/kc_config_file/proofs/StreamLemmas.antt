@@ -21,7 +21,7 @@ use Rattle.kc_config_file.specs.Calls.{Call, Feed, Finish, NextStream, Answers, 
 use Rattle.kc_config_file.specs.Feeding.{StreamPosition, fed, ended, stream_start, ReadsPiece, EndsStream}
 use Rattle.kc_config_file.specs.LineSteps.{with_member}
 use Rattle.kc_config_file.specs.ReaderState.{ReaderState}
-use Rattle.kc_language.specs.Text.{one_more}
+use Rattle.kc_text.specs.PartsOfText.{one_more}
 use Rattle.kc_config_file.specs.Reading.{with_warnings}
 use Rattle.kc_config_file.specs.Streams.{Pieces, stream_of, feeds, calls_after, RefusalsKeepPlaces, StreamsAreRead, StreamsLeavePlaces, ReadingKeepsPlaces}
 use Rattle.kc_config_file.proofs.AllowedLemmas.{assigned_allowed, strip_no_lf}

@@ -26,7 +26,8 @@ use Rattle.kc_user.specs.Places.{allowed, allowed_by, allowed_for, fits_quoted}
 use Rattle.kc_language.specs.ConfigFile.{Set, Unset, meaning_of, effect_of, set_by_type, unset_by_type, symbol_named, is_prefix, Assignment}
 use Rattle.kc_config_file.specs.PartsOfConfigFile.{assigned_or, set_effect, unset_effect, line_value, number_value, assignment_of}
 use Rattle.kc_config_file.specs.PartsOfTexts.{is_end_byte}
-use Rattle.kc_language.specs.Texts.{EndsPlainly, IsOneLine, config_file_line}
+use Rattle.kc_language.specs.Texts.{EndsPlainly, config_file_line}
+use Rattle.kc_config_file.specs.PartsOfTexts.{IsOneLine}
 use Rattle.kc_config_file.specs.HasNames.{HasNames}
 use Rattle.kc_config_file.specs.RoundTrip.{IsShortText}
 use Rattle.kc_config_file.proofs.GivesLemmas.{Gives, gives_line}

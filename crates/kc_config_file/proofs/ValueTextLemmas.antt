@@ -16,9 +16,11 @@ use Rattle.kc_language.specs.declared.expressions.Tri.{Tri}
 use Rattle.kc_language.specs.declared.expressions.Tri.TheVariants.{N, M, Y}
 use Rattle.kc_language.specs.declared.expressions.SymbolType.{SymbolType}
 use Rattle.kc_language.specs.declared.expressions.SymbolType.TheVariants as symbol_type
-use Rattle.kc_language.specs.Expressions.{Form, Text, Symbol, Single, Related, Negated, LoneM, Every, Some_of, symbol, SymbolValue, Truth, TextValue, text_of_value, tri_text}
+use Rattle.kc_language.specs.Expressions.{Form, Text, Symbol, Single, Related, Negated, LoneM, Every, Some_of, symbol, SymbolValue, Truth, TextValue, tri_text}
+use Rattle.kc_expr.specs.PartsOfExpressions.{text_of_value}
 use Rattle.kc_language.specs.Needs.{needs_in, unordered_after, needs, needs_of, IsAccepted}
-use Rattle.kc_language.specs.Values.{Solves, GivenValue, GivenTruth, GivenText, Member, UserPlace, SymbolPlace, facts, name, is_mentioned, number_text, is_within_range, clamped, if_within_range, number_or_zero, name_count, known_from, user_place, equations, is_n, written}
+use Rattle.kc_language.specs.Values.{Solves, GivenValue, GivenTruth, GivenText, Member, UserPlace, SymbolPlace, facts, name, number_text, is_within_range, clamped, if_within_range, number_or_zero, name_count, known_from, user_place, equations, is_n, written}
+use Rattle.kc_values.specs.PartsOfValues.{is_mentioned}
 use Rattle.kc_language.specs.Symbols.{TreeFacts, SymbolFacts, Guarded}
 use Rattle.kc_tree.specs.TreeFacts.{HasLineTexts, IsLineForm, IsLineText}
 use Rattle.kc_user.specs.Places.{allowed_by, allowed_for, allowed_text, AllowedPlaces}
@@ -27,11 +29,13 @@ use Rattle.kc_values.specs.Laws.{EquationsReadNeeds, NeedsAreSymbols}
 use Rattle.kc_values.specs.PartsOfValues as sol
 use Rattle.kc_language.specs.Values as v
 use Rattle.kc_values.proofs.Selection.{found}
-use Rattle.kc_language.specs.Texts.{IsPlainNumber, HasPlainNumbers}
+use Rattle.kc_language.specs.Texts.{HasPlainNumbers}
+use Rattle.kc_config_file.specs.PartsOfTexts.{IsPlainNumber}
 use Rattle.kc_config_file.proofs.LineLemmas.{HasNoLf}
 use Rattle.kc_config_file.proofs.ShapeLemmas.{no_line_feed}
 use Rattle.kc_config_file.proofs.SymbolLineLemmas.{FitsLine}
 use Rattle.kc_config_file.proofs.TextBytes.{number_byte, byte_not, int_bytes, hex_bytes}
+use Rattle.kc_values.specs.PartsOfValues.{by_choice}
 
 -- The test: no line feed, and at most 65,000 bytes once escaped.
 abbrev pub fits_text : List ℕ → Bool
@@ -256,7 +260,7 @@ module _ (tree : TreeFacts) (known : SymId → SymbolValue) (all : (s : SymId) �
 
   choice_fits : (s : SymId) (f : SymbolFacts) (choice : Option ℕ) (u : Option GivenValue) → fits_text (name tree s) ≡ true →
       ((g : Guarded Form) → Contains f.defaults g → IsLineForm g.what) → ((g : GivenValue) → choice ≡ None → u ≡ Some g → allowed_by f.symbol_type g ≡ true) →
-      fits_known (v.by_choice tree known s f choice u) ≡ true
+      fits_known (by_choice tree known s f choice u) ≡ true
   choice_fits s f None u named lines given = type_fits s f f.symbol_type u refl named lines (λ g e. given g refl e)
   choice_fits s f (Some c) u named lines given = refl
 

@@ -5,7 +5,8 @@ use Rattle.std.specs.List.{last_or}
 use Rattle.kc_language.specs.declared.expressions.SymbolType.{SymbolType}
 use Rattle.kc_language.specs.Symbols.{TreeFacts, Warning, located_warning}
 use Rattle.kc_language.specs.Values.{GivenValue, SymbolPlace, same_given, name as name_of}
-use Rattle.kc_language.specs.ConfigFile.{place_at, StreamLocation, change_line, change_text, value_text, Effect, Silent, Warns, Assigns, UserInput, Line, ReadResult, effect, effect_warning, input_after, reading, stream_location, warning, warnings, lines_from}
+use Rattle.kc_language.specs.ConfigFile.{place_at, StreamLocation, change_text, value_text, Effect, Silent, Warns, Assigns, UserInput, Line, ReadResult, effect, effect_warning, input_after, reading, stream_location, warning, warnings, lines_from}
+use Rattle.kc_config_file.specs.PartsOfConfigFile.{change_line}
 use Rattle.kc_config_file.specs.PartsOfConfigFile.{type_of, before_too_long, effect_change, effect_text, warning_line_if}
 use Rattle.kc_language.specs.declared.diagnostics.Warning.TheVariants.{Changed}
 use Rattle.kc_config_file.specs.declared.fault.InputFault.{InputFault}

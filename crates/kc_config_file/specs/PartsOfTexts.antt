@@ -3,7 +3,7 @@ use Rattle.std.specs.List.{enumerate_from, flat_map}
 use Rattle.std.specs.Prelude.{Bool, List, None, Option, Some, [], codes, false, if◌then◌else◌, take, true, ℕ, ◌++◌, ◌<◌, ◌==◌, ◌||◌, ◌≡◌}
 use Rattle.kc_language.specs.ConfigFile.{Places, place_at}
 use Rattle.kc_language.specs.Expressions.{SymbolValue, TextValue}
-use Rattle.kc_language.specs.Lines.{HoldsNoLineFeed}
+use Rattle.kc_text.specs.PartsOfLines.{HoldsNoLineFeed}
 use Rattle.kc_language.specs.Symbols.{CommentShown, EndShown, MenuShown, Shown, SymbolShown, TreeFacts}
 use Rattle.kc_language.specs.Text.{byte, has_hex_prefix}
 use Rattle.kc_language.specs.Texts.{EndsPlainly, SolutionView, end_is_last, entry_text, header_line, symbol_config, title_lines}

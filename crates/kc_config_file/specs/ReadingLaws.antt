@@ -2,8 +2,9 @@
 use Rattle.std.specs.Prelude.{◌≡◌, ℕ, ◌++◌, List, [], ◌∷◌, length, true, false, Some, None, slice_set}
 use Rattle.std.specs.List.{after_last}
 use Rattle.kc_language.specs.declared.expressions.SymId.{SymId}
-use Rattle.kc_language.specs.Text.{one_more}
-use Rattle.kc_language.specs.Lines.{HoldsNoLineFeed, is_line_feed}
+use Rattle.kc_text.specs.PartsOfText.{one_more}
+use Rattle.kc_language.specs.Lines.{is_line_feed}
+use Rattle.kc_text.specs.PartsOfLines.{HoldsNoLineFeed}
 use Rattle.kc_language.specs.Symbols.{TreeFacts, Warning}
 use Rattle.kc_language.specs.Values.{GivenValue}
 use Rattle.kc_language.specs.ConfigFile.{ArePlacesOf, Places, Silent, Warns, Assigns, Line, UserInput, effect, input_after, is_within, lines_from, places_after, reading, stream_location, untaken, untaken_line, warning, warnings}

@@ -1,6 +1,6 @@
 -- Trusted: What holds of reading, and of the texts that are written, for every tree, every prefix and every solution.
 use Rattle.std.specs.Prelude.{◌≡◌, ℕ, List, Option, true}
-use Rattle.kc_language.specs.Lines.{HoldsNoLineFeed}
+use Rattle.kc_text.specs.PartsOfLines.{HoldsNoLineFeed}
 use Rattle.kc_language.specs.declared.expressions.SymId.{SymId}
 use Rattle.kc_language.specs.Expressions.{SymbolValue}
 use Rattle.kc_language.specs.Values.{Solves, GivenValue, UserPlace, equations, name_count}

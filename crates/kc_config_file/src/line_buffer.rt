@@ -1,11 +1,12 @@
 //! The line that is not yet ended, and what each byte does to it.
 ghost use Rattle.std.specs.Prelude.{◌≡◌, ◌<◌, ◌≤◌, ◌∷◌, ◌++◌, [], true, false, length, take, OnOk, OnErr, IfOk, IfErr, if◌then◌else◌, slice_index};
 ghost use Rattle.std.specs.Str.Lines.{strip_carriage_return};
-ghost use Rattle.kc_language.specs.Lines.{HoldsNoLineFeed, is_line_feed};
+ghost use Rattle.kc_language.specs.Lines.{is_line_feed};
+ghost use Rattle.kc_text.specs.PartsOfLines.{HoldsNoLineFeed};
 ghost use Rattle.kc_language.specs.ConfigFile.{ArePlacesOf};
 ghost use Rattle.kc_config_file.specs.PartsOfConfigFile.{line};
 ghost use Rattle.kc_config_file.specs.Feeding.{IsWithinLine, GoesOnBy, Refuses, StopsBecause, FinishesStream, fed, ended};
-ghost use Rattle.kc_language.specs.Text.{one_more};
+ghost use Rattle.kc_text.specs.PartsOfText.{one_more};
 ghost use Rattle.kc_config_file.specs.LineByLine.{line_at, after_line, warning_of, TakesPiece};
 ghost use Rattle.kc_config_file.specs.ReaderView.{position_of};
 

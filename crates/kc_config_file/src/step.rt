@@ -1,7 +1,8 @@
 //! What one line of a stream does to the user's input.
 ghost use Rattle.std.specs.Prelude.{◌≡◌, ◌++◌, ◌<◌, true, [], ◌∷◌, length, map, slice_set, Some, None, IfOk, OnOk, OnErr, IfSome, option_map};
 ghost use Rattle.kc_user.specs.ValueView.{given_of_value};
-ghost use Rattle.kc_language.specs.ConfigFile.{change_line, change_text, is_change, meaning_of, Assigns, effect_of, warning_line, ArePlacesOf, place_at, places_given};
+ghost use Rattle.kc_language.specs.ConfigFile.{change_text, is_change, meaning_of, Assigns, effect_of, warning_line, ArePlacesOf, place_at, places_given};
+ghost use Rattle.kc_config_file.specs.PartsOfConfigFile.{change_line};
 ghost use Rattle.kc_config_file.specs.PartsOfConfigFile.{effect_text, choice_of};
 ghost use Rattle.kc_language.specs.declared.diagnostics.Warning.TheVariants.{Changed, SetAgain};
 ghost use Rattle.kc_config_file.specs.LineSteps.{input_by, with_member};

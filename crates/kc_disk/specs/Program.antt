@@ -2,7 +2,9 @@
 -- `folder` and `folder_after` are what the folder of the Kconfig files records before and after a run; `old` and `new` are the logs of the device.
 use Rattle.std.specs.{Prelude.{◌≡◌, ◌≢◌, ◌⊎◌, ℕ, List, [], ◌∷◌, ◌++◌, true, if◌then◌else◌, Option, None, Some, Result, Ok, Err, String, codes, drop, length, map, slice_index_or, string_bytes}, Str.IsUtf8, IoError.error_kind, Vec.Iter.into_iter_items, declared.{alloc.Global.Global, io.{Error.Error, ErrorKind.TheVariants.OutOfMemory}, vec.IntoIter.IntoIter}}
 use Rattle.clap.specs.Words.{fault_of, takes}
-use Rattle.kc_language.specs.{Expansion.Files, Outcome.{Options, cannot_read_line, out_of_memory_line}, declared.outcome.Status.{Status, TheVariants.{Done, Refused, Usage, Faulted}}}
+use Rattle.kc_language.specs.{Expansion.Files, Outcome.Options, declared.outcome.Status.{Status, TheVariants.{Done, Refused, Usage, Faulted}}}
+use Rattle.kc_conf.specs.PartsOfOutcome.{cannot_read_line}
+use Rattle.kc_diagnostics.specs.PartsOfOutcome.{out_of_memory_line}
 use Rattle.kc_io.specs.Log.{Journal, Log, held, is_whole_lines}
 use Rattle.kc_load.specs.{Folder.{AnswersAs, AreFilesOf, FolderState, IsLoadFault, Leads as FolderLeads, failed_load, files_told}, declared.fault.LoadFault.LoadFault}
 use Rattle.kc_words.specs.{CommandLine.{AreApart, AreOptionsFor, IsClash, IsRefused, IsRequestOf, arguments_of, kconf_app, listed, refusal_of, rows_for, with_hint}, declared.{each.Each.Each, options.Request.{Request, TheVariants.{One, Each as Many}}, usage.UsageError.{UsageError, TheVariants.{Bad, Memory}}}}

@@ -2,7 +2,8 @@
 use Rattle.std.proofs.Common.{◌≡◌, ℕ, ◌∷◌, List, Bool}
 use Rattle.kc_expr.specs.declared.parse.ExprFault.{ExprFault}
 use Rattle.kc_language.specs.declared.expressions.Connective.TheVariants.{And, Or}
-use Rattle.kc_language.specs.Expressions.{Form, Leaf, Terminal, OperandToken, Atom, leaf, names_in_atom, lone_form, number_of, all_mentioned}
+use Rattle.kc_language.specs.Expressions.{Form, Leaf, Terminal, OperandToken, Atom, leaf, names_in_atom, number_of, all_mentioned}
+use Rattle.kc_expr.specs.PartsOfExpressions.{lone_form}
 use Rattle.kc_expr.specs.Names.{Extends}
 use Rattle.kc_expr.specs.Reading.{ParsedChain, FailsNot, FailsChain, StartsNoOp}
 use Rattle.kc_expr.proofs.ParseLemmas.{parsed_lone, parsed_negation, parsed_conjunction, parsed_only}

@@ -5,7 +5,8 @@ use Rattle.std.proofs.lemmas.Result.{err_from_is_err_and}
 use Rattle.kc_language.specs.declared.tokens.Op.{Op}
 use Rattle.kc_text.specs.declared.tokens.Token.{Token}
 use Rattle.kc_expr.specs.declared.parse.ExprFault.{ExprFault}
-use Rattle.kc_language.specs.Expressions.{Form, forms, Leaf, Related, Negated, number_of, all_mentioned, Atom, Terminal, OperandToken, Compares, Bang, Joins, Open, Close, Keyword, Chain, only, joined, negation, conjunction, bang, group, lone, compare, spell, spell_part, spell_not, levels, levels_not, leaf, lone_form, names_in_atom, connected, meaning, parts}
+use Rattle.kc_language.specs.Expressions.{Form, forms, Leaf, Related, Negated, number_of, all_mentioned, Atom, Terminal, OperandToken, Compares, Bang, Joins, Open, Close, Keyword, Chain, only, joined, negation, conjunction, bang, group, lone, compare, spell, spell_part, spell_not, levels, levels_not, leaf, names_in_atom, meaning, parts}
+use Rattle.kc_expr.specs.PartsOfExpressions.{lone_form, connected}
 use Rattle.kc_expr.specs.PartsOfExpressions.{names_in_terminals}
 use Rattle.kc_expr.specs.Names.{Extends}
 use Rattle.kc_language.specs.declared.expressions.Connective.{Connective}

@@ -2,7 +2,8 @@
 use Rattle.std.proofs.Common.{◌≡◌, ℕ, ◌+◌, ◌≤◌, Bool, true, false, List, [], ◌∷◌, ◌++◌, Some, None, option_and_then, Result, Ok, Err, IfErr, inr, refl, sym, ap, ◌∙◌, subst, append-nil, arith}
 use Rattle.kc_expr.specs.declared.parse.ExprFault.{ExprFault}
 use Rattle.kc_expr.specs.declared.parse.ExprFault.TheVariants.{Syntax, TooDeep, Memory}
-use Rattle.kc_language.specs.Expressions.{Form, Terminal, Disjunction, spell, levels, LongestFront, NoLonger, IsNoExpression, IsTooDeep}
+use Rattle.kc_language.specs.Expressions.{Form, Terminal, Disjunction, spell, levels, LongestFront, IsNoExpression, IsTooDeep}
+use Rattle.kc_expr.specs.PartsOfExpressions.{NoLonger}
 use Rattle.kc_expr.specs.PartsOfExpressions.{spell_or, levels_or}
 use Rattle.kc_language.specs.declared.expressions.Connective.TheVariants.{Or}
 use Rattle.kc_expr.specs.Scan.{State, want, run, lone_in, after}

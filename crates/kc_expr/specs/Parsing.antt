@@ -5,7 +5,7 @@ use Rattle.kc_expr.specs.declared.parse.ExprFault.{ExprFault}
 use Rattle.kc_expr.specs.declared.parse.ExprFault.TheVariants.{Syntax, TooDeep, Memory}
 use Rattle.kc_language.specs.Expressions.{Form, number_of, all_mentioned, Atom, Terminal, OperandToken, Disjunction, names_in, LongestFront, IsNoExpression, IsTooDeep}
 use Rattle.kc_expr.specs.PartsOfExpressions.{spell_or, levels_or, meaning_or}
-use Rattle.kc_language.specs.Text.{most_levels}
+use Rattle.kc_text.specs.PartsOfText.{most_levels}
 
 -- what parsing answers: the one expression of the longest front that begins some expression
 pub record IsParsed (condition : Bool) (ts rest : List Terminal) (old names : List (List ℕ)) (f : Form) : Type 0 where

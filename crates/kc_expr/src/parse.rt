@@ -2,10 +2,11 @@
 
 ghost use Rattle.std.specs.Prelude.{◌≡◌, ℕ, ◌≤◌, true, false, List, length, map, IfOk, IfErr};
 ghost use Rattle.kc_expr.specs.declared.parse.ExprFault.TheVariants.{Memory};
-ghost use Rattle.kc_language.specs.Text.{most_levels};
+ghost use Rattle.kc_text.specs.PartsOfText.{most_levels};
 ghost use Rattle.kc_language.specs.declared.expressions.Connective.TheVariants.{Or};
 ghost use Rattle.kc_expr.specs.Form.{form_of, leaf_of, parts_of};
-ghost use Rattle.kc_language.specs.Expressions.{forms, Negated, lone_form, Terminal};
+ghost use Rattle.kc_language.specs.Expressions.{forms, Negated, Terminal};
+ghost use Rattle.kc_expr.specs.PartsOfExpressions.{lone_form};
 ghost use Rattle.kc_expr.specs.PartsOfExpressions.{is_m_leaf};
 ghost use Rattle.kc_expr.specs.PartsOfExpressions as named;
 ghost use Rattle.kc_expr.specs.Grammar.{terminals_from, IsUnambiguous, HasOneLongestFront};

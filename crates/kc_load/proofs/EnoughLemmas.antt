@@ -8,7 +8,8 @@ use Rattle.std.specs.Str.{is_utf8}
 use Rattle.kc_language.specs.Lines.{UnreadLines, unread_lines}
 use Rattle.kc_language.specs.Expressions.{same_name}
 use Rattle.kc_language.specs.declared.diagnostics.Cause.TheVariants as cause
-use Rattle.kc_language.specs.Expansion.{FileContext, Expands, Log, Refused, Rest, bytes_cause, nothing_read, with_file, refused, root_context, sourcing_cause, at_end, unclosed, too_long, no_tokens, blank, bad_line, over_limit, statement, bad_source, refused_inside, source, Files}
+use Rattle.kc_language.specs.Expansion.{FileContext, Expands, Log, Refused, Rest, bytes_cause, with_file, refused, sourcing_cause, at_end, unclosed, too_long, no_tokens, blank, bad_line, over_limit, statement, bad_source, refused_inside, source, Files}
+use Rattle.kc_read.specs.PartsOfExpansion.{nothing_read, root_context}
 use Rattle.kc_language.specs.Statements.{Cause, Located, Named}
 use Rattle.kc_read.specs.OpenedFiles.{sourced_files}
 use Rattle.kc_read.proofs.ExpansionThere.{has_one_expansion}

@@ -12,7 +12,8 @@ use Rattle.kc_language.specs.Lines.{UnreadLines}
 use Rattle.kc_language.specs.Expressions.{same_name, mention}
 use Rattle.kc_expr.proofs.NamesLemmas.{same_name-refl}
 use Rattle.kc_language.specs.declared.diagnostics.Cause.TheVariants as cause
-use Rattle.kc_language.specs.Expansion.{FileContext, Log, Refused, Rest, NextStatement, bytes_cause, is_source, sourcing_cause, at_end, unclosed, too_long, no_tokens, blank, bad_line, over_limit, statement, bad_source, refused_inside, source, lines_of, Files, SourceNames}
+use Rattle.kc_language.specs.Expansion.{FileContext, Log, Refused, Rest, NextStatement, bytes_cause, sourcing_cause, at_end, unclosed, too_long, no_tokens, blank, bad_line, over_limit, statement, bad_source, refused_inside, source, Files, SourceNames}
+use Rattle.kc_read.specs.PartsOfExpansion.{is_source, lines_of}
 use Rattle.kc_language.specs.Statements.{Cause, LineContext, After, ReadsSource, begins_with, finish, plain_text, text_of, Located, Named, SourceLine}
 use Rattle.kc_read.specs.OpenedFiles.{sourced_files}
 use Rattle.kc_read.proofs.FileLemmas.{same_name_eq}
@@ -20,7 +21,8 @@ use Rattle.kc_read.proofs.OneExpansion.{none_or_some, one_some, source_line}
 use Rattle.kc_read.proofs.SourceLines as lines
 use Rattle.kc_read.proofs.SourceWord.{source_begins, begins_source}
 use Rattle.kc_load.specs.PartsOfFolder.{named}
-use Rattle.kc_language.specs.Outcome.{path_of, AreSources}
+use Rattle.kc_language.specs.Outcome.{path_of}
+use Rattle.kc_load.specs.Asking.{AreSources}
 use Rattle.kc_language.specs.Text.{most_lines}
 use Rattle.kc_text.specs.PartsOfText.{last_count}
 use Rattle.kc_load.specs.Steps.{was_requested}

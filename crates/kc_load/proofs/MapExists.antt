@@ -8,8 +8,10 @@ use Rattle.kc_text.specs.PartsOfText.{last_count}
 use Rattle.kc_language.specs.Text.{most_lines}
 use Rattle.kc_language.specs.Expressions.{same_name, mention}
 use Rattle.kc_read.proofs.OpenedFileLemmas.{has_one_list_of_names}
-use Rattle.kc_language.specs.Expansion.{lines_of, Files}
-use Rattle.kc_language.specs.Outcome.{path_of, AreSources}
+use Rattle.kc_language.specs.Expansion.{Files}
+use Rattle.kc_read.specs.PartsOfExpansion.{lines_of}
+use Rattle.kc_language.specs.Outcome.{path_of}
+use Rattle.kc_load.specs.Asking.{AreSources}
 use Rattle.kc_load.specs.Loading.{Loads, MapExists}
 use Rattle.kc_load.specs.Steps.{AddsName, State, Visits, no_text, not_new, no_file, file, initial_state, was_requested}
 use Rattle.kc_load.proofs.EndLemmas.{at_end, at_start, is_over, not_over, when_over}

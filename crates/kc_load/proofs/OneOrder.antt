@@ -5,7 +5,7 @@ use Rattle.std.proofs.lemmas.List.Elements.{Contains-append_left, Contains-appen
 use Rattle.kc_language.specs.Lines.{unread_lines}
 use Rattle.kc_read.proofs.SourceLines.{one_list}
 use Rattle.kc_language.specs.Expansion.{Files}
-use Rattle.kc_language.specs.Outcome.{AreSourcesOf, AskedAlong, IsNew, ended, passed, asked}
+use Rattle.kc_load.specs.Asking.{AreSourcesOf, AskedAlong, IsNew, ended, passed, asked}
 use Rattle.kc_load.specs.Loading.{OneOrder}
 
 -- ---- Fronts of lists

@@ -3,7 +3,8 @@ use Rattle.std.proofs.Common.{◌≡◌, ℕ, List, ◌++◌, reverse, min, true
 use Rattle.kc_text.specs.PartsOfText.{last_count}
 use Rattle.kc_language.specs.Expansion.{Files}
 use Rattle.kc_load.specs.Folder.{FolderFiles, AnswersAs, Answer, files_found, line_total}
-use Rattle.kc_language.specs.Outcome.{path_of, AskedAlong, AskedInOrder}
+use Rattle.kc_language.specs.Outcome.{path_of}
+use Rattle.kc_load.specs.Asking.{AskedAlong, AskedInOrder}
 use Rattle.kc_load.specs.Loading.{WereWithin}
 use Rattle.kc_load.specs.Steps.{State, was_requested}
 use Rattle.kc_load.proofs.FoundLemmas.{names_of}

@@ -5,7 +5,7 @@ use Rattle.std.proofs.lemmas.List.Elements.{Contains-append_left}
 use Rattle.std.proofs.lemmas.Str.{IsUtf8-from_is_utf8, is_utf8-from_IsUtf8}
 use Rattle.std.specs.Str.{is_utf8}
 use Rattle.kc_language.specs.Expansion.{Files}
-use Rattle.kc_language.specs.Outcome.{AreSourcesOf, AskedAlong, IsNew, ended, passed, asked}
+use Rattle.kc_load.specs.Asking.{AreSourcesOf, AskedAlong, IsNew, ended, passed, asked}
 use Rattle.kc_load.specs.Steps.{was_requested}
 use Rattle.kc_load.proofs.RequestedLemmas.{in_requested, not_in}
 

@@ -11,7 +11,7 @@ use Rattle.kc_read.proofs.FileLemmas.{same_name_eq}
 use Rattle.kc_read.proofs.OpenedFileLemmas.{has_one_list_of_names}
 use Rattle.kc_language.specs.Expansion.{Files}
 use Rattle.kc_load.specs.Folder.{Answer, files_found}
-use Rattle.kc_language.specs.Outcome.{AreSources, AreSourcesOf, AskedAlong, IsNew, ended, passed, asked}
+use Rattle.kc_load.specs.Asking.{AreSources, AreSourcesOf, AskedAlong, IsNew, ended, passed, asked}
 use Rattle.kc_load.specs.Loading.{HasOrder, OrderIsReached, Reached, itself, sourced}
 use Rattle.kc_load.specs.Steps.{was_requested}
 use Rattle.kc_load.proofs.FoundLemmas.{found_absent, names_of}

@@ -3,7 +3,8 @@ use Rattle.std.proofs.Common.{◌≡◌, ◌+◌, ◌∙◌, ℕ, Bool, true, fa
 use Rattle.std.specs.Prelude.{if◌then◌else◌, not}
 use Rattle.std.proofs.lemmas.List.{at_drop_more}
 use Rattle.std.proofs.lemmas.Option.{get_or_from_slice_get, slice_get_within}
-use Rattle.kc_language.specs.Outcome.{first_unreadable, is_read_by_make}
+use Rattle.kc_language.specs.Outcome.{is_read_by_make}
+use Rattle.kc_load.specs.PartsOfOutcome.{first_unreadable}
 
 at_name : (names : List (List ℕ)) (i : ℕ) (name : List ℕ) → slice_get names i ≡ Some name →
     first_unreadable (drop i names) ≡ (if not (is_read_by_make name) then Some name else first_unreadable (drop (i + 1) names))

@@ -8,7 +8,8 @@ use Rattle.kc_language.specs.Text.{most_lines}
 use Rattle.kc_read.proofs.FileLemmas.{same_name_eq}
 use Rattle.kc_language.specs.Expansion.{Files}
 use Rattle.kc_load.specs.Folder.{FolderFiles, AnswersAs, Answer, files_found, line_total}
-use Rattle.kc_language.specs.Outcome.{path_of, AreSourcesOf, AskedAlong, AskedInOrder, IsNew, passed, asked}
+use Rattle.kc_language.specs.Outcome.{path_of}
+use Rattle.kc_load.specs.Asking.{AreSourcesOf, AskedAlong, AskedInOrder, IsNew, passed, asked}
 use Rattle.kc_load.specs.Loading.{WereWithin}
 use Rattle.kc_load.specs.PartsOfFolder.{lines_found}
 use Rattle.kc_load.specs.Steps.{AddsName, IsDue, State, AddsFile, Visits, no_text, not_new, no_file, file, was_requested}

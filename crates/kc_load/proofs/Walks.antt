@@ -5,10 +5,11 @@ use Rattle.std.proofs.lemmas.List.{reverse-append, reverse-reverse}
 use Rattle.std.proofs.lemmas.List.Elements.{Contains-append_right, Contains-append_cases}
 use Rattle.kc_language.specs.Expressions.{mention}
 use Rattle.kc_load.specs.Folder.{FolderFiles, AnswersAs}
-use Rattle.kc_language.specs.Outcome.{path_of, AreSources}
+use Rattle.kc_language.specs.Outcome.{path_of}
+use Rattle.kc_load.specs.Asking.{AreSources}
 use Rattle.kc_language.specs.Text.{most_lines}
 use Rattle.kc_text.specs.PartsOfText.{last_count}
-use Rattle.kc_language.specs.Expansion.{lines_of}
+use Rattle.kc_read.specs.PartsOfExpansion.{lines_of}
 use Rattle.kc_load.specs.Steps.{State, Visits, no_text, not_new, no_file, file, initial_state, was_requested}
 use Rattle.kc_load.proofs.RequestedLemmas.{requested_still, requested_itself, only_element}
 

@@ -1,5 +1,6 @@
 -- For proofs: Parts of the definitions of Folder, by names of their own.
-use Rattle.kc_language.specs.Expansion.{Files, lines_of}
+use Rattle.kc_language.specs.Expansion.{Files}
+use Rattle.kc_read.specs.PartsOfExpansion.{lines_of}
 use Rattle.kc_language.specs.Outcome.{path_of}
 use Rattle.std.specs.Prelude.{ℕ, List, Option, None, if◌then◌else◌, Some}
 use Rattle.std.specs.Str.{is_utf8}

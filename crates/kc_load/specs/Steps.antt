@@ -4,10 +4,12 @@ use Rattle.std.specs.List.{list_any}
 use Rattle.std.specs.Str.{IsUtf8}
 use Rattle.kc_text.specs.PartsOfText.{last_count}
 use Rattle.kc_language.specs.Expressions.{same_name, mention}
-use Rattle.kc_language.specs.Expansion.{Files, bytes_in, lines_of}
+use Rattle.kc_language.specs.Expansion.{Files, bytes_in}
+use Rattle.kc_read.specs.PartsOfExpansion.{lines_of}
 use Rattle.kc_read.specs.Files.{Puts}
 use Rattle.kc_load.specs.Folder.{FolderFiles, AnswersAs}
-use Rattle.kc_language.specs.Outcome.{path_of, AreSources}
+use Rattle.kc_language.specs.Outcome.{path_of}
+use Rattle.kc_load.specs.Asking.{AreSources}
 use Rattle.kc_load.specs.declared.fault.LoadFault.{LoadFault}
 use Rattle.kc_load.specs.declared.fault.LoadFault.TheVariants.{CannotRead, Memory}
 use Rattle.kc_load.specs.declared.loading.Loading.{Loading}

@@ -4,7 +4,8 @@ ghost use Rattle.std.specs.Prelude.{◌≡◌, ◌+◌, IfOk, IfErr, OnOk, min, 
 ghost use Rattle.kc_load.specs.Loading.{Suffices, Loads};
 ghost use Rattle.kc_load.specs.Folder.{Leads, ReadsAt, files_told, IsLoadFault, failed_load};
 ghost use Rattle.kc_language.specs.Outcome.{path_of};
-ghost use Rattle.kc_language.specs.Expansion.{bytes_in, lines_of};
+ghost use Rattle.kc_language.specs.Expansion.{bytes_in};
+ghost use Rattle.kc_read.specs.PartsOfExpansion.{lines_of};
 ghost use Rattle.kc_language.specs.Text.{most_lines};
 ghost use Rattle.kc_text.specs.PartsOfText.{last_count};
 ghost use Rattle.kc_load.specs.Steps.{FailsAt, PushesSources, AddsFile, Visits, initial_state, state_of, was_requested};

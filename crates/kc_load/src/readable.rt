@@ -3,7 +3,8 @@
 ghost use Rattle.std.specs.Prelude.{◌≡◌, false, option_map};
 ghost use Rattle.std.specs.List.{list_any};
 ghost use Rattle.kc_language.specs.Expressions.{same_name};
-ghost use Rattle.kc_language.specs.Outcome.{ends_in, first_unreadable, is_library, is_plain, is_read_by_make, without_dots};
+ghost use Rattle.kc_language.specs.Outcome.{ends_in, is_library, is_plain, is_read_by_make, without_dots};
+ghost use Rattle.kc_load.specs.PartsOfOutcome.{first_unreadable};
 ghost use Rattle.kc_load.specs.PartsOfOutcome.{is_beyond_make, unreadable_of};
 ghost use Rattle.kc_language.specs.Outcome as spec;
 

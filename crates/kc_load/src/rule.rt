@@ -2,7 +2,8 @@
 
 ghost use Rattle.std.specs.Prelude.{◌≡◌, ◌++◌, IfOk, OnOk, flat_map};
 ghost use Rattle.kc_load.specs.PartsOfOutcome.{closed, empty_rule, prerequisite};
-ghost use Rattle.kc_language.specs.Outcome.{escaped, escaped_byte, is_special, needs_backslash};
+ghost use Rattle.kc_language.specs.Outcome.{escaped, is_special, needs_backslash};
+ghost use Rattle.kc_load.specs.PartsOfOutcome.{escaped_byte};
 ghost use Rattle.kc_language.specs.Outcome as spec;
 
 use crate::readable::ends_in;

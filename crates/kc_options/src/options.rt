@@ -2,7 +2,8 @@
 
 ghost use Rattle.std.specs.Prelude.{◌≡◌, [], not, slice_index_or};
 ghost use Rattle.std.specs.List.{flat_map};
-ghost use Rattle.kc_language.specs.Outcome.{holds_warnings, input_files, lead, target};
+ghost use Rattle.kc_language.specs.Outcome.{input_files, lead, target};
+ghost use Rattle.kc_options.specs.PartsOfOutcome.{holds_warnings};
 ghost use Rattle.kc_options.specs.Asked.{may_at};
 
 use kc_config_file::prefix::Prefix;

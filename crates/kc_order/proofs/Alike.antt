@@ -9,7 +9,8 @@ use Rattle.std.proofs.lemmas.List.Elements.{Contains-get_or}
 use Rattle.std.proofs.lemmas.List.Folds.{list_any_at, Any-from_list_any}
 use Rattle.kc_order.specs.Graph.{Nodes, IsGraph, groups_of, needs_of, stands_for}
 use Rattle.kc_order.specs.PartsOfNeeds.{IsFirstUnordered, IsNext}
-use Rattle.kc_language.specs.Needs.{IsNamedLoop, AreAccepted as IsAccepted, needs_in, unordered_after}
+use Rattle.kc_language.specs.Needs.{IsNamedLoop, needs_in, unordered_after}
+use Rattle.kc_order.specs.PartsOfNeeds.{AreAccepted as IsAccepted}
 use Rattle.kc_order.specs.Needs.{AreAlike, AreWithin}
 use Rattle.kc_order.specs.Order.{Orders}
 use Rattle.kc_order.proofs.FirstLemmas.{same_found}

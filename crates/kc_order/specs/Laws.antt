@@ -2,7 +2,8 @@
 use Rattle.std.specs.Prelude.{All, ◌≡◌, ◌⊎◌, ℕ, ◌<◌, ◌+◌, ◌-◌, ◌++◌, take, List, length, slice_index, true, Option, Bool}
 use Rattle.std.specs.List.{Contains, flat_map}
 use Rattle.kc_order.specs.Graph.{Nodes, IsGraph, groups_of, needs_of, stands_for}
-use Rattle.kc_language.specs.Needs.{needs_in, unordered_after, AreAccepted as IsAccepted, IsNamedLoop}
+use Rattle.kc_language.specs.Needs.{needs_in, unordered_after, IsNamedLoop}
+use Rattle.kc_order.specs.PartsOfNeeds.{AreAccepted as IsAccepted}
 use Rattle.kc_order.specs.Needs.{AreAlike, AreWithin, SomeUnordered}
 use Rattle.kc_order.specs.Loop.{HoldsNeeding, IsPath}
 use Rattle.kc_order.specs.Order.{Orders}

@@ -3,7 +3,8 @@
 ghost use Rattle.std.specs.Prelude.{◌≡◌, ℕ, ◌<◌, ◌^◌, length, All, Contains, IfOk, IfErr, OnOk};
 ghost use Rattle.kc_order.specs.Graph.{IsGraph, needs_of};
 ghost use Rattle.kc_order.specs.Loop.{HoldsNeeding};
-ghost use Rattle.kc_language.specs.Needs.{needs_in, AreAccepted as IsAccepted};
+ghost use Rattle.kc_language.specs.Needs.{needs_in};
+ghost use Rattle.kc_order.specs.PartsOfNeeds.{AreAccepted as IsAccepted};
 ghost use Rattle.kc_order.specs.Order.{Orders};
 ghost use Rattle.kc_order.specs.Reason.{IsReason};
 

@@ -5,7 +5,8 @@ use Rattle.std.proofs.lemmas.Bool.Decides.{nat_tests}
 use Rattle.std.proofs.lemmas.List.Elements.{filter_map-append}
 use Rattle.kc_language.specs.declared.statements.Block.{Block}
 use Rattle.kc_read.specs.declared.statement.OpenBlock.{OpenBlock}
-use Rattle.kc_language.specs.Expansion.{Bracket, Opens, Closes, NoBracket, bracket, bracket_at, opened, stays_open, is_open, open_block_indices, open_blocks, last_of, numbers, IsUnclosed}
+use Rattle.kc_language.specs.Expansion.{Bracket, Opens, Closes, NoBracket, bracket, bracket_at, opened, stays_open, open_block_indices, open_blocks, last_of, numbers, IsUnclosed}
+use Rattle.kc_read.specs.PartsOfExpansion.{is_open}
 use Rattle.kc_read.specs.PartsOfExpansion.{stays_after}
 use Rattle.kc_read.specs.Progress.{open_block_of, located_blocks, open_blocks_after}
 use Rattle.kc_language.specs.Statements.{Named, Located, statements}

@@ -13,7 +13,8 @@ use Rattle.kc_text.proofs.There.{one_cutting_law}
 use Rattle.kc_language.specs.Expressions.{same_name}
 use Rattle.kc_language.specs.declared.diagnostics.Cause.TheVariants as cause
 use Rattle.kc_read.specs.declared.statement.OpenBlock.{OpenBlock}
-use Rattle.kc_language.specs.Expansion.{last_of, FileContext, Log, Refused, Rest, NextLine, NextStatement, refused, bytes_cause, context_of, limit_cause, inside, is_help, is_source, logged, nothing_read, with_file, root_context, sourcing_cause, text_cause, with_line, without_help, at_end, unclosed, too_long, no_tokens, blank, bad_line, over_limit, statement, bad_source, refused_inside, source, Files}
+use Rattle.kc_language.specs.Expansion.{last_of, FileContext, Log, Refused, Rest, NextLine, NextStatement, refused, bytes_cause, context_of, limit_cause, inside, with_file, sourcing_cause, text_cause, with_line, without_help, at_end, unclosed, too_long, no_tokens, blank, bad_line, over_limit, statement, bad_source, refused_inside, source, Files}
+use Rattle.kc_read.specs.PartsOfExpansion.{is_help, is_source, logged, nothing_read, root_context}
 use Rattle.kc_read.specs.PartsOfExpansion.{source_cause}
 use Rattle.kc_read.specs.Existing.{HasOneExpansion}
 use Rattle.kc_language.specs.Statements.{Cause, Located, Named, SourceLine, ConfigLine, IfLine, EndIfLine, CommentLine, MenuLine, EndMenuLine, ChoiceLine, EndChoiceLine, MainMenuLine, TypeLine, PromptLine, DefaultLine, DefLine, DependsLine, VisibleLine, SelectLine, ImplyLine, RangeLine, HelpLine, ModulesLine, IgnoredLine}

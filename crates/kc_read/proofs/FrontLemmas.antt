@@ -5,7 +5,8 @@ use Rattle.kc_text.specs.Lexemes.{lexeme, lexemes}
 use Rattle.kc_text.specs.declared.tokens.Token.{Token}
 use Rattle.kc_expr.specs.declared.parse.ExprFault.{ExprFault}
 use Rattle.kc_expr.specs.declared.parse.ExprFault.TheVariants as expr
-use Rattle.kc_language.specs.Expressions.{Form, LongestFront, terminal_of, terminals}
+use Rattle.kc_language.specs.Expressions.{Form, LongestFront, terminal_of}
+use Rattle.kc_expr.specs.PartsOfExpressions.{terminals}
 use Rattle.kc_expr.specs.Grammar.{terminals_from}
 use Rattle.kc_expr.specs.Parsing.{IsParsed, IsRefused}
 use Rattle.kc_diagnostics.proofs.CauseLemmas.{no_other_memory}

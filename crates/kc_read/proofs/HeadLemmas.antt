@@ -8,7 +8,8 @@ use Rattle.kc_read.specs.declared.statement.Attribute.{Attribute}
 use Rattle.kc_read.specs.declared.statement.Attribute.TheVariants as attribute
 use Rattle.kc_read.specs.declared.statement.Head.{Head}
 use Rattle.kc_read.specs.declared.statement.Head.TheVariants as head
-use Rattle.kc_language.specs.Expansion.{Bracket, NoBracket, bracket, defined_name, is_attribute, is_source}
+use Rattle.kc_language.specs.Expansion.{Bracket, NoBracket, bracket, defined_name, is_attribute}
+use Rattle.kc_read.specs.PartsOfExpansion.{is_source}
 use Rattle.kc_read.specs.PartsOfExpansion.{nesting_cause}
 use Rattle.kc_read.specs.Progress.{defining_cause, limit_view}
 use Rattle.kc_language.specs.Statements.{Numbered}

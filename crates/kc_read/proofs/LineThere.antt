@@ -1,7 +1,8 @@
 -- Each line is a statement, or is refused for a cause.
 use Rattle.std.proofs.Common.{◌≡◌, ℕ, ◌⊎◌, Bool, true, false, List, [], ◌∷◌, ◌++◌, length, drop, codes, Option, Some, None, Result, Ok, Err, inl, inr, refl, sym, subst}
 use Rattle.kc_language.specs.declared.expressions.SymbolType.{SymbolType}
-use Rattle.kc_language.specs.Expressions.{Terminal, Disjunction, terminals, LongestFront, if_word}
+use Rattle.kc_language.specs.Expressions.{Terminal, Disjunction, LongestFront, if_word}
+use Rattle.kc_expr.specs.PartsOfExpressions.{terminals}
 use Rattle.kc_expr.specs.PartsOfExpressions.{spell_or}
 use Rattle.kc_expr.specs.Parsing.{Answer, Derived, NoExpression, TooManyLevels, Answers}
 use Rattle.kc_expr.proofs.OneAnswer.{one_answer_law}
@@ -9,7 +10,8 @@ use Rattle.kc_language.specs.Tokens.{Lexeme}
 use Rattle.kc_language.specs.declared.diagnostics.Cause.TheVariants as cause
 use Rattle.kc_language.specs.declared.statements.Keyword.{Keyword}
 use Rattle.kc_language.specs.declared.statements.Keyword.TheVariants as key
-use Rattle.kc_language.specs.Statements.{Named, InputPrompt, IfLine, EndIfLine, CommentLine, SourceLine, MenuLine, EndMenuLine, EndChoiceLine, MainMenuLine, TypeLine, PromptLine, DefaultLine, DefLine, DependsLine, VisibleLine, SelectLine, ImplyLine, RangeLine, HelpLine, ModulesLine, Cause, LineContext, StartsExpression, ExpressionFault, IsWhole, WholeFault, ReadsWhole, begins_with, IsCondition, ConditionFault, ReadsCondition, After, text_of, word_of, named_target, operand_of, finish, ReadsTextLine, plain_text, ReadsSource, ReadsConfig, choice_line, ReadsPrompt, ReadsType, ReadsValue, expected, ReadsTarget, option_line, ReadsRest, placement_cause, keyword_of, ReadsLine, in_place, keyword_or_refusal}
+use Rattle.kc_language.specs.Statements.{Named, InputPrompt, IfLine, EndIfLine, CommentLine, SourceLine, MenuLine, EndMenuLine, EndChoiceLine, MainMenuLine, TypeLine, PromptLine, DefaultLine, DefLine, DependsLine, VisibleLine, SelectLine, ImplyLine, RangeLine, HelpLine, ModulesLine, Cause, LineContext, StartsExpression, ExpressionFault, WholeFault, ReadsWhole, begins_with, IsCondition, ConditionFault, ReadsCondition, After, text_of, word_of, named_target, operand_of, finish, ReadsTextLine, plain_text, ReadsSource, ReadsPrompt, ReadsValue, option_line, ReadsRest, placement_cause, keyword_of, ReadsLine}
+use Rattle.kc_read.specs.PartsOfStatements.{IsWhole, ReadsConfig, choice_line, ReadsType, expected, ReadsTarget, in_place, keyword_or_refusal}
 use Rattle.kc_read.specs.PartsOfStatements.{front, good_name, ReadsRange, ReadsPlaced}
 use Rattle.kc_read.specs.Lines.{OneStatement}
 use Rattle.kc_read.proofs.OneLine.{one_line}

@@ -3,7 +3,8 @@ use Rattle.std.proofs.Common.{◌≡◌, ◌≢◌, ◌⊎◌, inl, inr, ℕ, fa
 use Rattle.std.proofs.lemmas.Bool.{both_ways}
 use Rattle.kc_language.specs.Lines.{UnreadLines, unread_lines}
 use Rattle.kc_language.specs.Tokens.{Lexeme}
-use Rattle.kc_language.specs.Expansion.{NextStatement, is_source, Files}
+use Rattle.kc_language.specs.Expansion.{NextStatement, Files}
+use Rattle.kc_read.specs.PartsOfExpansion.{is_source}
 use Rattle.kc_language.specs.Statements.{LineContext, ReadsLine, Located, Named, SourceLine}
 use Rattle.kc_read.specs.Replaced.{Owns, Replaces, OneListOf, located, no_line, no_tokens, one_more, nothing, kept, replaced}
 use Rattle.kc_read.proofs.OneExpansion.{Turn, Ends, Long, Line, IsTurn, one_turn, one_some, same_source}

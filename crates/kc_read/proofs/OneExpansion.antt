@@ -6,7 +6,8 @@ use Rattle.kc_language.specs.Tokens.{Lexeme, IsCut}
 use Rattle.kc_text.proofs.Joins.{takes_one, takes_less, taken_is_short, too_long_some}
 use Rattle.kc_text.proofs.Once.{same_cutting}
 use Rattle.kc_language.specs.declared.diagnostics.Cause.TheVariants as cause
-use Rattle.kc_language.specs.Expansion.{last_of, open_blocks, FileContext, Log, Refused, Rest, IsUnclosed, NextLine, NextStatement, refused, bytes_cause, context_of, limit_cause, inside, is_help, is_source, logged, nothing_read, with_file, root_context, text_cause, with_line, without_help, at_end, unclosed, too_long, no_tokens, blank, bad_line, over_limit, statement, bad_source, refused_inside, source, Files}
+use Rattle.kc_language.specs.Expansion.{last_of, open_blocks, FileContext, Log, Refused, Rest, IsUnclosed, NextLine, NextStatement, refused, bytes_cause, context_of, limit_cause, inside, with_file, text_cause, with_line, without_help, at_end, unclosed, too_long, no_tokens, blank, bad_line, over_limit, statement, bad_source, refused_inside, source, Files}
+use Rattle.kc_read.specs.PartsOfExpansion.{is_help, is_source, logged, nothing_read, root_context}
 use Rattle.kc_read.specs.PartsOfExpansion.{innermost, source_cause}
 use Rattle.kc_read.specs.Expansion.{OneExpansion}
 use Rattle.kc_language.specs.Statements.{Cause, ReadsLine, Located, Named, SourceLine, statements}

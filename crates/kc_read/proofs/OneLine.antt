@@ -4,13 +4,15 @@ use Rattle.std.proofs.Common.{◌≡◌, ◌⊎◌, inl, inr, ℕ, zero, suc, Bo
 use Rattle.std.proofs.lemmas.List.{length-map}
 use Rattle.kc_language.specs.Tokens.{Lexeme}
 use Rattle.kc_language.specs.declared.expressions.SymbolType.{SymbolType}
-use Rattle.kc_language.specs.Expressions.{Disjunction, terminals, terminal_of, if_word}
+use Rattle.kc_language.specs.Expressions.{Disjunction, terminal_of, if_word}
+use Rattle.kc_expr.specs.PartsOfExpressions.{terminals}
 use Rattle.kc_expr.specs.PartsOfExpressions.{spell_or}
 use Rattle.kc_expr.proofs.OneTree.{unambiguous}
 use Rattle.kc_expr.proofs.LongestLemmas.{one_longest, is_expression, not_too_deep, determined}
 use Rattle.kc_language.specs.declared.statements.Keyword.{Keyword}
 use Rattle.kc_language.specs.declared.statements.Keyword.TheVariants as key
-use Rattle.kc_language.specs.Statements.{Named, InputPrompt, IfLine, EndIfLine, CommentLine, SourceLine, MenuLine, EndMenuLine, EndChoiceLine, MainMenuLine, TypeLine, PromptLine, DefaultLine, DefLine, DependsLine, VisibleLine, SelectLine, ImplyLine, RangeLine, HelpLine, ModulesLine, Cause, LineContext, Front, StartsExpression, ExpressionFault, IsMore, IsWhole, WholeFault, ReadsWhole, IsCondition, ConditionFault, ReadsCondition, After, finish, text_of, word_of, named_target, operand_of, plain_text, choice_line, option_line, expected, keyword_of, placement_cause, ReadsTextLine, ReadsSource, ReadsConfig, ReadsPrompt, ReadsType, ReadsValue, ReadsTarget, ReadsRest, ReadsLine, begins_with, keyword_or_refusal, in_place}
+use Rattle.kc_language.specs.Statements.{Named, InputPrompt, IfLine, EndIfLine, CommentLine, SourceLine, MenuLine, EndMenuLine, EndChoiceLine, MainMenuLine, TypeLine, PromptLine, DefaultLine, DefLine, DependsLine, VisibleLine, SelectLine, ImplyLine, RangeLine, HelpLine, ModulesLine, Cause, LineContext, Front, StartsExpression, ExpressionFault, IsMore, WholeFault, ReadsWhole, IsCondition, ConditionFault, ReadsCondition, After, finish, text_of, word_of, named_target, operand_of, plain_text, option_line, keyword_of, placement_cause, ReadsTextLine, ReadsSource, ReadsPrompt, ReadsValue, ReadsRest, ReadsLine, begins_with}
+use Rattle.kc_read.specs.PartsOfStatements.{IsWhole, choice_line, expected, ReadsConfig, ReadsType, ReadsTarget, keyword_or_refusal, in_place}
 use Rattle.kc_read.specs.PartsOfStatements.{front, good_name, ReadsRange, ReadsPlaced}
 
 -- ---- Expressions

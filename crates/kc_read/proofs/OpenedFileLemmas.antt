@@ -8,7 +8,8 @@ use Rattle.kc_language.specs.Lines.{UnreadLines, TakesLine, unread_lines}
 use Rattle.kc_text.specs.Lines.{Next, Ended, Taken, TooLong, IsNextLine}
 use Rattle.kc_text.proofs.Joins.{one_next_line_law}
 use Rattle.kc_text.proofs.There.{one_cutting_law}
-use Rattle.kc_language.specs.Expansion.{FileContext, Log, Refused, Rest, NextLine, NextStatement, context_of, is_help, without_help, at_end, unclosed, too_long, no_tokens, blank, bad_line, over_limit, statement, bad_source, refused_inside, source, Files, SourceNames}
+use Rattle.kc_language.specs.Expansion.{FileContext, Log, Refused, Rest, NextLine, NextStatement, context_of, without_help, at_end, unclosed, too_long, no_tokens, blank, bad_line, over_limit, statement, bad_source, refused_inside, source, Files, SourceNames}
+use Rattle.kc_read.specs.PartsOfExpansion.{is_help}
 use Rattle.kc_language.specs.Statements.{Cause, LineContext, After, ReadsSource, begins_with, finish, plain_text, text_of, Located, Named, SourceLine}
 use Rattle.kc_read.specs.OpenedFiles.{sourced_files, IsNamedIn, IsNamedByOne, SourcedFilesAreNamed, HasOneListOfNames}
 use Rattle.kc_read.proofs.LineThere.{source_line}

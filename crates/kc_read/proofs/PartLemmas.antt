@@ -6,11 +6,13 @@ use Rattle.kc_language.specs.Text.{unescape}
 use Rattle.kc_language.specs.Tokens.{Lexeme, AWord, AQuoted}
 use Rattle.kc_language.specs.declared.expressions.SymId.{SymId}
 use Rattle.kc_language.specs.declared.expressions.Tri.{Tri}
-use Rattle.kc_language.specs.Expressions.{Form, Text, Symbol, tri_text, tristate_constant, Atom, Disjunction, WordAtom, QuotedAtom, is_tristate_constant, if_word, same_name, mention}
+use Rattle.kc_language.specs.Expressions.{Form, Text, Symbol, tri_text, tristate_constant, Atom, Disjunction, WordAtom, QuotedAtom, if_word, same_name, mention}
+use Rattle.kc_expr.specs.PartsOfExpressions.{is_tristate_constant}
 use Rattle.kc_expr.proofs.ConstantLemmas.{constant_text}
 use Rattle.kc_expr.specs.Names.{IsNumber}
 use Rattle.kc_language.specs.declared.diagnostics.Cause.TheVariants as cause
-use Rattle.kc_language.specs.Statements.{Cause, LineContext, ReadsValue, begins_with, operand_of, IsWhole, IsCondition, WholeFault, ConditionFault, ExpressionFault, text_of, word_of, named_target, is_good_name, ReadsTextLine, ReadsSource, ReadsConfig, ReadsPrompt, ReadsTarget, ReadsType, ReadsRest, ReadsLine, IsMore, keyword_of, placement_cause, option_line, Named, InputPrompt, SourceLine, ConfigLine, DependsLine, VisibleLine, ModulesLine, IgnoredLine, TypeLine, RangeLine}
+use Rattle.kc_language.specs.Statements.{Cause, LineContext, ReadsValue, begins_with, operand_of, IsCondition, WholeFault, ConditionFault, ExpressionFault, text_of, word_of, named_target, is_good_name, ReadsTextLine, ReadsSource, ReadsPrompt, ReadsRest, ReadsLine, IsMore, keyword_of, placement_cause, option_line, Named, InputPrompt, SourceLine, ConfigLine, DependsLine, VisibleLine, ModulesLine, IgnoredLine, TypeLine, RangeLine}
+use Rattle.kc_read.specs.PartsOfStatements.{IsWhole, ReadsConfig, ReadsTarget, ReadsType}
 use Rattle.kc_read.specs.PartsOfStatements.{front, is_pattern, ReadsDepends, ReadsVisible, ReadsRange}
 use Rattle.kc_language.specs.declared.expressions.SymbolType.{SymbolType}
 use Rattle.kc_language.specs.declared.statements.Keyword.{Keyword}

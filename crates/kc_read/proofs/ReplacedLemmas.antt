@@ -2,7 +2,8 @@
 use Rattle.std.proofs.Common.{◌≡◌, ℕ, List, [], ◌∷◌, ◌++◌, Option, Some, None, Result, Ok, Err, refl, sym, ap, subst, ◌∙◌, append_assoc, append-nil}
 use Rattle.std.specs.Prelude.{MatchOption, false}
 use Rattle.kc_language.specs.Lines.{UnreadLines, unread_lines}
-use Rattle.kc_language.specs.Expansion.{FileContext, Log, Refused, Rest, NextLine, NextStatement, is_source, context_of, bytes_cause, refused, with_file, root_context, nothing_read, at_end, unclosed, too_long, no_tokens, blank, bad_line, over_limit, statement, bad_source, refused_inside, source, Files}
+use Rattle.kc_language.specs.Expansion.{FileContext, Log, Refused, Rest, NextLine, NextStatement, context_of, bytes_cause, refused, with_file, at_end, unclosed, too_long, no_tokens, blank, bad_line, over_limit, statement, bad_source, refused_inside, source, Files}
+use Rattle.kc_read.specs.PartsOfExpansion.{is_source, root_context, nothing_read}
 use Rattle.kc_language.specs.Statements.{Cause, LineContext, Located, Named, SourceLine}
 use Rattle.kc_read.specs.Replaced as r
 use Rattle.kc_read.specs.Replaced.{Owns, Replaces, located, IsListOf, ExpandedIsListOf}

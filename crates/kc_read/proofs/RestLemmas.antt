@@ -16,10 +16,12 @@ use Rattle.kc_language.specs.declared.statements.EntryKind.TheVariants as entry
 use Rattle.kc_read.specs.declared.statement.Attribute.{Attribute}
 use Rattle.kc_read.specs.declared.statement.Statement.{Statement}
 use Rattle.kc_read.specs.declared.statement.Statement.TheVariants as made
-use Rattle.kc_language.specs.Expansion.{entry_of, is_attribute, last_of, FileContext, Log, Rest, refused, context_of, inside, is_help, is_source, logged, with_file, sourcing_cause, with_line, without_help, NextLine, NextStatement, at_end, unclosed, too_long, no_tokens, blank, bad_line, over_limit, statement, bad_source, refused_inside, source, Files}
+use Rattle.kc_language.specs.Expansion.{entry_of, is_attribute, last_of, FileContext, Log, Rest, refused, context_of, inside, with_file, sourcing_cause, with_line, without_help, NextLine, NextStatement, at_end, unclosed, too_long, no_tokens, blank, bad_line, over_limit, statement, bad_source, refused_inside, source, Files}
+use Rattle.kc_read.specs.PartsOfExpansion.{is_help, is_source, logged}
 use Rattle.kc_read.specs.PartsOfExpansion.{last_no_attribute, source_cause}
 use Rattle.kc_read.specs.Entries.{IsLastFile}
-use Rattle.kc_language.specs.Statements.{Cause, LineContext, is_config, is_entry, Located, Named, SourceLine, statements}
+use Rattle.kc_language.specs.Statements.{Cause, LineContext, is_config, Located, Named, SourceLine, statements}
+use Rattle.kc_read.specs.PartsOfStatements.{is_entry}
 use Rattle.kc_read.specs.Progress.{HasAdvanced, IsNextRead, IsReading, IsStatementRead, IsEnded, IsFileRead, IsOpenAtEnd, IsProgress, IsRestRefusal, IsState, IsTaken, limit_view, open_names}
 use Rattle.kc_read.specs.StatementViews.{statement_view}
 use Rattle.kc_read.specs.LineReads.{LineFault, IsMade, cause_of}

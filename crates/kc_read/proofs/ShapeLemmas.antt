@@ -6,7 +6,8 @@ use Rattle.std.specs.Option.{option_or}
 use Rattle.kc_language.specs.Expressions.{symbol, number_of}
 use Rattle.kc_language.specs.declared.statements.EntryKind.{EntryKind}
 use Rattle.kc_read.specs.declared.statement.Statement.{Statement}
-use Rattle.kc_language.specs.Expansion.{Bracket, bracket, is_attribute, is_modules, entry_of, defined_name, open_blocks, FileContext, Log, limit_cause, is_source}
+use Rattle.kc_language.specs.Expansion.{Bracket, bracket, is_attribute, is_modules, entry_of, defined_name, open_blocks, FileContext, Log, limit_cause}
+use Rattle.kc_read.specs.PartsOfExpansion.{is_source}
 use Rattle.kc_read.specs.PartsOfExpansion.{defined, nesting_cause, symbol_cause}
 use Rattle.kc_read.specs.Progress.{naming_cause}
 use Rattle.kc_read.specs.Expanded.{IsNamed}

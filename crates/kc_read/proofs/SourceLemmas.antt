@@ -9,7 +9,8 @@ use Rattle.kc_language.specs.Tokens.{Lexeme, IsCut}
 use Rattle.kc_text.specs.Lexemes.{lexemes}
 use Rattle.kc_text.specs.Tokens.{IsCutting, IsRefused}
 use Rattle.kc_read.specs.LineReads.{lexemes_from}
-use Rattle.kc_language.specs.Expansion.{NextLine, is_help, without_help, SourceNames}
+use Rattle.kc_language.specs.Expansion.{NextLine, without_help, SourceNames}
+use Rattle.kc_read.specs.PartsOfExpansion.{is_help}
 use Rattle.kc_language.specs.Statements.{Cause, ReadsSource, begins_with, SourceLine}
 use Rattle.kc_read.specs.SourceSteps.{HasMoreLines, IsFound}
 use Rattle.kc_read.proofs.FrontLemmas.{after_one}

@@ -13,7 +13,8 @@ use Rattle.kc_expr.proofs.NamesLemmas.{extends_on, mentioned_on, mentioned_exten
 use Rattle.kc_read.specs.declared.frame.Frame.{Frame}
 use Rattle.kc_read.specs.declared.progress.Progress.{Progress}
 use Rattle.kc_read.specs.declared.statement.Statement.{Statement}
-use Rattle.kc_language.specs.Expansion.{bracket, definitions, entry_of, is_attribute, is_modules, is_no_attribute, last_of, modules_of, defined_name, open_blocks, FileContext, Log, Rest, context_of, limit_cause, inside, is_choice, lines_of, logged, with_file, with_line, Expands, Refused, bytes_cause, nothing_read, refused, root_context, Files}
+use Rattle.kc_language.specs.Expansion.{bracket, definitions, entry_of, is_attribute, is_modules, is_no_attribute, last_of, modules_of, defined_name, open_blocks, FileContext, Log, Rest, context_of, limit_cause, inside, is_choice, with_file, with_line, Expands, Refused, bytes_cause, refused, Files}
+use Rattle.kc_read.specs.PartsOfExpansion.{lines_of, logged, nothing_read, root_context}
 use Rattle.kc_read.specs.PartsOfExpansion.{last_no_attribute, nesting_cause, defined, located_numbered}
 use Rattle.kc_read.proofs.ModulesLemmas.{marked_push, modules_of_push}
 use Rattle.kc_language.specs.Statements.{Cause, LineContext, is_config, Numbered, Located, Named, ConfigLine, names_in_statement, statements}

@@ -17,7 +17,8 @@ use Rattle.kc_read.specs.RefusalView.{refusal_view}
 use Rattle.kc_read.specs.NextStep.{IsStepRefusal, StepFault, too_long, no_tokens, refused_line, long_line}
 use Rattle.kc_text.specs.Lexemes.{lexemes}
 use Rattle.kc_text.specs.declared.tokens.Token.{Token}
-use Rattle.kc_language.specs.Expansion.{is_help, without_help, NextStatement, refused, text_cause}
+use Rattle.kc_language.specs.Expansion.{without_help, NextStatement, refused, text_cause}
+use Rattle.kc_read.specs.PartsOfExpansion.{is_help}
 
 pub help_first : (ls : List Lexeme) (b : Bool) → b ≡ begins_with (codes "help") ls → b ≡ true → b ≡ is_help ls
 help_first ls b e t = let h : begins_with (codes "help") ls ≡ true = sym e ∙ t in rw h t

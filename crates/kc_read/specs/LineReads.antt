@@ -11,7 +11,8 @@ use Rattle.kc_text.specs.Lexemes.{lexeme, lexemes}
 use Rattle.kc_text.specs.declared.tokens.Token.{Token}
 use Rattle.kc_language.specs.declared.diagnostics.Cause.TheVariants as cause
 use Rattle.kc_read.specs.declared.statement.Statement.{Statement}
-use Rattle.kc_language.specs.Statements.{Named, numbered, names_in_statement, names_in_condition, Cause, StartsExpression, IsWhole, IsCondition}
+use Rattle.kc_language.specs.Statements.{Named, numbered, names_in_statement, names_in_condition, Cause, StartsExpression, IsCondition}
+use Rattle.kc_read.specs.PartsOfStatements.{IsWhole}
 use Rattle.kc_read.specs.PartsOfStatements.{front}
 use Rattle.kc_diagnostics.specs.Causes.{shown_cause}
 use Rattle.kc_language.specs.declared.diagnostics.Cause as declared

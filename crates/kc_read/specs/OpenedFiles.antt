@@ -1,7 +1,8 @@
 -- Trusted: The files that an expansion opens.
 use Rattle.std.specs.List.{Contains}
 use Rattle.std.specs.Prelude.{◌≡◌, ℕ, List, [], ◌∷◌, ◌++◌, Some, Ok, Result}
-use Rattle.kc_language.specs.Expansion.{FileContext, Log, Refused, Rest, Expands, at_end, unclosed, too_long, no_tokens, blank, bad_line, over_limit, statement, bad_source, refused_inside, source, root_context, with_file, nothing_read, Files, SourceNames, AreOpened}
+use Rattle.kc_language.specs.Expansion.{FileContext, Log, Refused, Rest, Expands, at_end, unclosed, too_long, no_tokens, blank, bad_line, over_limit, statement, bad_source, refused_inside, source, with_file, Files, SourceNames, AreOpened}
+use Rattle.kc_read.specs.PartsOfExpansion.{root_context, nothing_read}
 use Rattle.kc_language.specs.Lines.{UnreadLines, unread_lines}
 use Rattle.kc_language.specs.Statements.{Located, Named}
 

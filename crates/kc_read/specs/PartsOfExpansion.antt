@@ -4,7 +4,8 @@ use Rattle.kc_language.specs.Expansion.{Bracket, Closes, FileContext, Files, Log
 use Rattle.kc_language.specs.Expressions.{all_mentioned, mention, number_of, same_name}
 use Rattle.kc_language.specs.Lines.{UnreadLines, physical_lines}
 use Rattle.kc_language.specs.Statements.{Cause, Located, Named, Numbered, SourceLine, Statement, begins_with, numbered, statements}
-use Rattle.kc_language.specs.Text.{most_blocks, most_symbols}
+use Rattle.kc_language.specs.Text.{most_symbols}
+use Rattle.kc_text.specs.PartsOfText.{most_blocks}
 use Rattle.kc_language.specs.Tokens.{Lexeme}
 use Rattle.kc_language.specs.declared.diagnostics.Cause.TheVariants as cause
 

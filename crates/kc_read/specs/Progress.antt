@@ -5,7 +5,8 @@ use Rattle.std.specs.Option.{option_or}
 use Rattle.std.specs.declared.alloc.Global.{Global}
 use Rattle.std.specs.declared.vec.Vec.{Vec}
 use Rattle.std.specs.declared.rc.Rc.{Rc}
-use Rattle.kc_language.specs.Text.{most_symbols, most_blocks, most_files, most_lines}
+use Rattle.kc_language.specs.Text.{most_symbols, most_lines}
+use Rattle.kc_text.specs.PartsOfText.{most_blocks, most_files}
 use Rattle.kc_language.specs.Lines.{UnreadLines}
 use Rattle.kc_language.specs.declared.expressions.SymId.{SymId}
 use Rattle.kc_language.specs.Expressions.{all_mentioned, mention, same_symbol}
@@ -19,7 +20,8 @@ use Rattle.kc_language.specs.declared.statements.EntryKind.TheVariants as entry
 use Rattle.kc_read.specs.declared.statement.OpenBlock.{OpenBlock}
 use Rattle.kc_language.specs.Expansion.{Bracket, Opens, Closes, NoBracket, bracket, opened, open_block_indices, last_of, entry_of, is_attribute, definitions, modules_of, defined_name, is_modules, FileContext, Log, Refused, Rest, is_choice, refused, Files}
 use Rattle.kc_read.specs.PartsOfExpansion.{last_no_attribute, defined, symbol_cause, nesting_cause, located_numbered}
-use Rattle.kc_language.specs.Statements.{Cause, LineContext, is_config, is_entry, Statement, Named, Numbered, Located, names_in_statement, statements}
+use Rattle.kc_language.specs.Statements.{Cause, LineContext, is_config, Statement, Named, Numbered, Located, names_in_statement, statements}
+use Rattle.kc_read.specs.PartsOfStatements.{is_entry}
 use Rattle.kc_read.specs.Entries.{lines_in, IsLastFile}
 use Rattle.kc_read.specs.StatementViews.{ForLater}
 use Rattle.kc_read.specs.RefusalView.{refusal_view}

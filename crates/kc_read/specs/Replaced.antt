@@ -2,7 +2,8 @@
 -- statement.
 use Rattle.std.specs.Prelude.{◌≡◌, ℕ, List, [], ◌∷◌, ◌++◌, false, Some, None, Ok}
 use Rattle.kc_language.specs.Lines.{UnreadLines, unread_lines}
-use Rattle.kc_language.specs.Expansion.{Log, Expands, NextLine, NextStatement, is_source, Files}
+use Rattle.kc_language.specs.Expansion.{Log, Expands, NextLine, NextStatement, Files}
+use Rattle.kc_read.specs.PartsOfExpansion.{is_source}
 use Rattle.kc_language.specs.Statements.{LineContext, Located, Named, SourceLine}
 
 abbrev pub located : List ℕ → ℕ → Named → Located Named

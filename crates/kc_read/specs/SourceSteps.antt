@@ -3,7 +3,8 @@ use Rattle.std.specs.Prelude.{[]}
 use Rattle.kc_language.specs.Lines.{UnreadLines}
 use Rattle.kc_read.specs.declared.sources.NextSource.{NextSource}
 use Rattle.kc_read.specs.declared.sources.NextSource.TheVariants as found
-use Rattle.kc_language.specs.Expansion.{IsOther, IsSource, SourceNames}
+use Rattle.kc_language.specs.Expansion.{IsSource, SourceNames}
+use Rattle.kc_read.specs.PartsOfExpansion.{IsOther}
 
 -- what the next line says: no more names, none, or this one
 abbrev pub IsFound : UnreadLines → UnreadLines → NextSource → Type 0

@@ -1,7 +1,8 @@
 //! Reading a file, and the files that it sources.
 
 ghost use Rattle.std.specs.Prelude.{◌≡◌, ◌≢◌, ◌≤◌, ◌<◌, ◌+◌, ℕ, List, [], None, Some, Ok, length, map, IfErr, IfOk, OnOk, IsTrue};
-ghost use Rattle.kc_language.specs.Text.{most_files, most_lines};
+ghost use Rattle.kc_language.specs.Text.{most_lines};
+ghost use Rattle.kc_text.specs.PartsOfText.{most_files};
 ghost use Rattle.kc_language.specs.Lines.{UnreadLines, unread_lines};
 ghost use Rattle.std.specs.List.{list_any};
 ghost use Rattle.kc_expr.specs.Names.{Extends};
@@ -16,6 +17,7 @@ ghost use Rattle.kc_read.specs.declared.frame.Frame.{Frame};
 ghost use Rattle.kc_read.specs.LineReads.{IsFault, IsMade, cause_of};
 ghost use Rattle.kc_language.specs.Statements.{Located, Named, SourceLine};
 ghost use Rattle.kc_read.specs.RefusalView.{IsMemory, refusal_view};
+ghost use Rattle.kc_read.specs.PartsOfExpansion.{lines_of};
 
 use crate::constants::Constants;
 use crate::file_map::FileMap;
@@ -55,7 +57,7 @@ pub(crate) fn open<'a, 'b>(
 ) -> Result<(&'a FileText, usize), LineFault<'b>>
     requires { total_lines ≤ most_lines }
     ensures bytes { IfOk result (λ r. bytes_in map.now name.now ≡ Some r.0.now) }
-    ensures total_lines { IfOk result (λ r. (r.1 ≡ total_lines + spec.lines_of r.0.now) × (r.1 ≤ most_lines)) }
+    ensures total_lines { IfOk result (λ r. (r.1 ≡ total_lines + lines_of r.0.now) × (r.1 ≤ most_lines)) }
     ensures allowed { OnOk result (spec.bytes_cause name.now total_lines (bytes_in map.now name.now) ≡ None) }
     ensures fault { IfErr result (λ f. spec.bytes_cause name.now total_lines (bytes_in map.now name.now) ≡ Some (cause_of f)) }
 {
@@ -91,7 +93,7 @@ fn open_source<'a, 'b>(
 ) -> Result<(&'a FileText, usize), LineFault<'b>>
     requires { IsBounded progress.now }
     ensures bytes { IfOk result (λ r. bytes_in map.now name.now ≡ Some r.0.now) }
-    ensures total_lines { IfOk result (λ r. (r.1 ≡ progress.now.total_lines + spec.lines_of r.0.now) × (r.1 ≤ most_lines)) }
+    ensures total_lines { IfOk result (λ r. (r.1 ≡ progress.now.total_lines + lines_of r.0.now) × (r.1 ≤ most_lines)) }
     ensures fewer { OnOk result (length progress.now.open_files.items < most_files) }
     ensures allowed { OnOk result (sourcing_cause (bytes_in map.now) (open_names progress.now) progress.now.total_lines name.now ≡ None) }
     ensures fault { IfErr result (λ f. sourcing_cause (bytes_in map.now) (open_names progress.now) progress.now.total_lines name.now ≡ Some (cause_of f)) }

@@ -2,7 +2,8 @@
 
 ghost use Rattle.std.specs.Prelude.{◌≡◌, ◌≤◌, [], false, length, IfOk, IfErr, OnOk, Err, IsTrue, ◌<◌};
 ghost use Rattle.kc_expr.specs.Form.{form_of, leaf_of};
-ghost use Rattle.kc_language.specs.Expressions.{if_word, is_tristate_constant, same_name, mention};
+ghost use Rattle.kc_language.specs.Expressions.{if_word, same_name, mention};
+ghost use Rattle.kc_expr.specs.PartsOfExpressions.{is_tristate_constant};
 ghost use Rattle.kc_expr.specs.Names.{IsNumber, Extends};
 ghost use Rattle.kc_language.specs.declared.diagnostics.Cause.TheVariants.{Memory, Syntax};
 ghost use Rattle.kc_language.specs.Statements as spec;

@@ -3,10 +3,12 @@
 ghost use Rattle.std.specs.Prelude.{◌≡◌, ◌≤◌, ℕ, length, IfOk, IfErr, Ok, Some, Err, List, Option};
 ghost use Rattle.kc_expr.specs.Names.{Extends};
 ghost use Rattle.kc_language.specs.Statements as spec;
-ghost use Rattle.kc_language.specs.Statements.{finish, ReadsLine, ReadsRest, ReadsWhole, ReadsValue, ReadsPrompt, ReadsType, ReadsTarget, ReadsConfig, ReadsSource, ReadsTextLine, Named, SourceLine, IfLine, CommentLine, DefaultLine, PromptLine, SelectLine, ImplyLine, MenuLine, MainMenuLine, DefLine, TypeLine};
+ghost use Rattle.kc_language.specs.Statements.{finish, ReadsLine, ReadsRest, ReadsWhole, ReadsValue, ReadsPrompt, ReadsSource, ReadsTextLine, Named, SourceLine, IfLine, CommentLine, DefaultLine, PromptLine, SelectLine, ImplyLine, MenuLine, MainMenuLine, DefLine, TypeLine};
+ghost use Rattle.kc_read.specs.PartsOfStatements.{ReadsType, ReadsTarget, ReadsConfig};
 ghost use Rattle.kc_read.specs.PartsOfStatements.{ReadsRange, ReadsDepends, ReadsVisible};
 ghost use Rattle.kc_read.specs.LineReads.{IsFault, IsRead, IsMade, lexemes_from};
 ghost use Rattle.kc_read.specs.Progress.{context_in};
+ghost use Rattle.kc_read.specs.PartsOfStatements.{choice_line as spec_choice_line};
 
 use crate::constants::Constants;
 use crate::frame::Frame;
@@ -144,7 +146,7 @@ fn end_line<'a>(tokens: &[Token<'a>], statement: Statement) -> Result<Statement,
 }
 
 fn choice_line<'a>(tokens: &[Token<'a>]) -> Result<Statement, LineFault<'a>>
-    ensures { (names : List (List ℕ)) → IsRead names names (λ r. r ≡ spec.choice_line (lexemes_from tokens.now 1)) result }
+    ensures { (names : List (List ℕ)) → IsRead names names (λ r. r ≡ spec_choice_line (lexemes_from tokens.now 1)) result }
 {
     match next(tokens, 1) {
         Some(_) => Err(left_out(b"named choice")),

@@ -4,7 +4,8 @@ ghost use Rattle.std.specs.Prelude.{◌≡◌, ◌≤◌, [], length, IfOk, IfEr
 ghost use Rattle.kc_expr.specs.Names.{Extends};
 ghost use Rattle.kc_language.specs.Lines.{UnreadLines, TakesLine};
 ghost use Rattle.kc_text.specs.Lexemes.{lexemes};
-ghost use Rattle.kc_language.specs.Expansion.{is_help, text_cause};
+ghost use Rattle.kc_language.specs.Expansion.{text_cause};
+ghost use Rattle.kc_read.specs.PartsOfExpansion.{is_help};
 ghost use Rattle.kc_read.specs.LineReads.{cause_of};
 ghost use Rattle.kc_read.specs.Progress.{context_in};
 ghost use Rattle.kc_read.specs.RefusalView.{IsMemory};

@@ -8,7 +8,8 @@ use Rattle.kc_language.specs.Symbols.{TreeFacts, SymbolFacts, is_symbol_of}
 use Rattle.std.specs.Prelude.{slice_get, slice_index_or}
 use Rattle.std.proofs.lemmas.List.FromFn.{get_or-map-range_with_len}
 use Rattle.kc_language.specs.Expressions.{symbol, SymbolValue}
-use Rattle.kc_language.specs.Values.{facts, choice_at, Solves, UserPlace, SymbolPlace, ChoicePlace, GivenValue, name_count, user_place, rhs, equations, selection, default_selection, differs, differs_at, selected, equation, by_choice, by_type, is_n, visibility, written}
+use Rattle.kc_language.specs.Values.{facts, choice_at, Solves, UserPlace, SymbolPlace, ChoicePlace, GivenValue, name_count, user_place, rhs, equations, selection, default_selection, differs, differs_at, selected, equation, by_type, is_n, visibility, written}
+use Rattle.kc_values.specs.PartsOfValues.{by_choice}
 use Rattle.kc_values.specs.PartsOfValues.{user_place_by, user_place_of, same_value}
 use Rattle.std.specs.Option.{is_some}
 use Rattle.kc_values.proofs.SameValue.{same_value_itself}

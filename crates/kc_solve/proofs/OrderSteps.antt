@@ -1,7 +1,8 @@
 -- What has an order is accepted, be it through groups.
 use Rattle.std.proofs.Common.{ℕ, ◌<◌, List, length, sym, ◌∙◌, ap, arith}
 use Rattle.kc_order.specs.Graph.{Nodes, IsGraph, needs_of}
-use Rattle.kc_language.specs.Needs.{AreAccepted as IsAccepted, needs_in, unordered_after, needs, IsAccepted as IsTreeAccepted}
+use Rattle.kc_language.specs.Needs.{needs_in, unordered_after, needs, IsAccepted as IsTreeAccepted}
+use Rattle.kc_order.specs.PartsOfNeeds.{AreAccepted as IsAccepted}
 use Rattle.kc_order.specs.Order.{Orders}
 use Rattle.kc_order.proofs.Alike.{accepted_alike}
 use Rattle.kc_order.proofs.ByOrder.{nothing_unordered}

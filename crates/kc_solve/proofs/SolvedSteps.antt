@@ -7,14 +7,16 @@ use Rattle.std.proofs.lemmas.List.{get_or_past}
 use Rattle.std.proofs.lemmas.List.FromFn.{get_or-map-range_with_len, length-map-range_with_len}
 use Rattle.std.proofs.lemmas.Option.{slice_get_past}
 use Rattle.kc_language.specs.Symbols.{Warning, SymbolFacts, TreeFacts, is_symbol_of}
-use Rattle.kc_language.specs.Expressions.{symbol, SymbolValue, TextValue, truth_of_value, text_of_value}
+use Rattle.kc_language.specs.Expressions.{symbol, SymbolValue, TextValue, truth_of_value}
+use Rattle.kc_expr.specs.PartsOfExpressions.{text_of_value}
 use Rattle.kc_expr.specs.Value.{value_by_type}
 use Rattle.kc_language.specs.declared.expressions.SymId.{SymId}
 use Rattle.kc_language.specs.declared.expressions.Tri.{Tri}
 use Rattle.kc_language.specs.declared.expressions.Tri.TheVariants.{N}
 use Rattle.kc_language.specs.declared.expressions.SymbolType.{SymbolType}
 use Rattle.kc_language.specs.declared.expressions.SymbolType.TheVariants.{Undefined, Bool as IsBool, Tristate, Str, Int, Hex}
-use Rattle.kc_language.specs.Values.{Solves, IsOnlySolution, GivenValue, UserPlace, SymbolPlace, ChoicePlace, differs, differs_at, selection, default_selection, choice_at, is_mentioned, facts, name, type_in, equations, rhs, known_from, user_place, name_count, equation, selected}
+use Rattle.kc_language.specs.Values.{Solves, IsOnlySolution, GivenValue, UserPlace, SymbolPlace, ChoicePlace, differs, differs_at, selection, default_selection, choice_at, facts, name, type_in, equations, rhs, known_from, user_place, name_count, equation, selected}
+use Rattle.kc_values.specs.PartsOfValues.{is_mentioned}
 use Rattle.kc_values.specs.PartsOfValues.{same_value}
 use Rattle.kc_tree.specs.TreeFacts.{IsWellFormed}
 use Rattle.kc_language.specs.ConfigFile.{Places, place_at}

@@ -31,7 +31,8 @@ use Rattle.kc_language.specs.Symbols.{SymbolFacts, TreeFacts}
 use Rattle.kc_language.specs.declared.symbols.ChoiceId.{ChoiceId}
 use Rattle.kc_tree.specs.declared.rows.Symbol.{Symbol}
 use Rattle.kc_tree.proofs.TreeLemmas.{symbols-length, symbols-at}
-use Rattle.kc_language.specs.Values.{GivenValue, SymbolPlace, is_mentioned, facts, name, type_in, name_count, known_from, user_place, equations, equation, by_choice, by_type}
+use Rattle.kc_language.specs.Values.{GivenValue, SymbolPlace, facts, name, type_in, name_count, known_from, user_place, equations, equation, by_type}
+use Rattle.kc_values.specs.PartsOfValues.{is_mentioned, by_choice}
 use Rattle.kc_values.specs.PartsOfValues.{user_place_by, user_place_of}
 use Rattle.kc_user.specs.declared.value.UserValue.{UserValue}
 use Rattle.kc_values.specs.TableFacts.{IsRowOf, known_at}

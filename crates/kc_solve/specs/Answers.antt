@@ -1,6 +1,7 @@
 -- Trusted: What a solution answers of symbols, conditions, entries and choices.
 use Rattle.std.specs.Prelude.{◌≡◌, ℕ, Bool, List, Option, Some, None}
-use Rattle.kc_language.specs.Expressions.{SymbolValue, truth_of_value, text_of_value}
+use Rattle.kc_language.specs.Expressions.{SymbolValue, truth_of_value}
+use Rattle.kc_expr.specs.PartsOfExpressions.{text_of_value}
 use Rattle.kc_expr.specs.Value.{values_by}
 use Rattle.kc_language.specs.declared.expressions.SymId.{SymId}
 use Rattle.kc_language.specs.declared.expressions.Tri.{Tri}

@@ -16,7 +16,8 @@ use Rattle.kc_tree.specs.Layouts.{IsLayoutOf}
 use Rattle.kc_tree.specs.declared.layout.Layout.{Layout}
 use Rattle.kc_tree.specs.declared.rows.Symbol.{Symbol}
 use Rattle.kc_language.specs.Symbols.{TreeFacts}
-use Rattle.kc_language.specs.Values.{GivenValue, choice_at, equations, user_place, rhs, by_choice, selected}
+use Rattle.kc_language.specs.Values.{GivenValue, choice_at, equations, user_place, rhs, selected}
+use Rattle.kc_values.specs.PartsOfValues.{by_choice}
 use Rattle.kc_user.specs.PartsOfConfigFile.{member_place}
 use Rattle.kc_user.specs.declared.value.UserValue.{UserValue}
 use Rattle.kc_values.specs.NeedRows.{AreNodeRows}

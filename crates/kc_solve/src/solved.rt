@@ -1,7 +1,7 @@
 //! The solution of a tree's equations under a user's places, and what follows from it.
 
 ghost use Rattle.std.specs.Prelude.{◌≡◌, ◌<◌, length, map, slice_get};
-ghost use Rattle.kc_language.specs.Expressions.{text_of_value};
+ghost use Rattle.kc_expr.specs.PartsOfExpressions.{text_of_value};
 ghost use Rattle.kc_values.specs.TableFacts.{known_at};
 ghost use Rattle.kc_solve.specs.Answers as spec;
 ghost use Rattle.kc_diagnostics.specs.Warnings.{owned_warning};

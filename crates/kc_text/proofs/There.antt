@@ -10,7 +10,8 @@ use Rattle.kc_language.specs.declared.tokens.TextFault.{TextFault}
 use Rattle.kc_language.specs.declared.tokens.TextFault.TheVariants as faults
 use Rattle.kc_language.specs.declared.tokens.Op.{Op}
 use Rattle.kc_language.specs.declared.tokens.Op.TheVariants as ops
-use Rattle.kc_language.specs.Tokens.{is_blank, is_word_byte, IsQuote, IsQuotedBody, op_text, Lexeme, AWord, AQuoted, AnOp, IsEnd, IsLongest, IsReason, CannotBeCut, IsCut, ended, stuck, skipped, taken}
+use Rattle.kc_language.specs.Tokens.{is_blank, is_word_byte, IsQuotedBody, op_text, Lexeme, AWord, AQuoted, AnOp, IsLongest, CannotBeCut, IsCut, ended, stuck, skipped, taken}
+use Rattle.kc_text.specs.PartsOfTokens.{IsQuote, IsEnd, IsReason}
 use Rattle.kc_text.specs.PartsOfTokens.{HasNoToken}
 use Rattle.kc_text.specs.Tokens.{OneCutting}
 use Rattle.kc_text.specs.LexerParts.{IsLongestOp, HasNoOp, IsQuoteFault}

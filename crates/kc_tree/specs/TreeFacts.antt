@@ -1,7 +1,7 @@
 -- Trusted: What a tree says, without where it lies in memory.
 use Rattle.std.specs.Prelude.{◌≡◌, ◌≢◌, ℕ, true, ◌<◌, ◌≤◌, List, length, Some, None, slice_get, Contains, All}
 use Rattle.kc_language.specs.Expressions.{Form, Text, Symbol, Single, Related, Negated, LoneM, Every, Some_of, is_name_byte}
-use Rattle.kc_language.specs.Lines.{HoldsNoLineFeed}
+use Rattle.kc_text.specs.PartsOfLines.{HoldsNoLineFeed}
 use Rattle.kc_language.specs.Symbols.{Condition, Guarded, Bounds, SymbolFacts, ChoiceFacts, Shown, SymbolShown, MenuShown, EndShown, CommentShown, TreeFacts}
 use Rattle.kc_language.specs.Text.{longest_line, longest_name, most_symbols}
 use Rattle.kc_language.specs.declared.expressions.SymId.{SymId}

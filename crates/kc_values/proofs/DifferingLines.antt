@@ -18,6 +18,7 @@ use Rattle.kc_values.specs.Members.{MembersAreBools}
 use Rattle.kc_values.proofs.FixedLines.{place_cases, Sel, member_now, other_value, differs-member}
 use Rattle.kc_values.proofs.IdempotentLines.{upgrade_allowed, is_truth_type}
 use Rattle.kc_values.proofs.ModeLaws.{members_are_bools}
+use Rattle.kc_values.specs.PartsOfValues.{by_choice}
 
 -- a text is the user's, which was allowed, or is the one without it
 text_allowed : (q : List ℕ → Bool) (u : Option GivenValue) (vis : Tri) (d : List ℕ) → ((t : List ℕ) → u ≡ Some (GivenText t) → q t ≡ true) →
@@ -79,7 +80,7 @@ module _ (tree : TreeFacts) (k : SymId → SymbolValue) where
           | inr e ↦ inr e
         ]
 
-    choice_allowed : (i : ℕ) (c : Option ℕ) → sol.user_place_by i c ≡ SymbolPlace i → AllowedOr (v.by_choice tree k s f c) (allowed_by f.symbol_type) u
+    choice_allowed : (i : ℕ) (c : Option ℕ) → sol.user_place_by i c ≡ SymbolPlace i → AllowedOr (by_choice tree k s f c) (allowed_by f.symbol_type) u
     choice_allowed i None e = type_allowed f.symbol_type refl
     choice_allowed i (Some c) e = cc
 

@@ -21,6 +21,8 @@ use Rattle.kc_values.proofs.SameValue.{same_value_itself, same_again}
 use Rattle.kc_values.proofs.Same.{same_symbol_itself, same_symbol-true}
 use Rattle.kc_values.proofs.TruthLines.{upgrade_if, line_fixed}
 use Rattle.kc_values.proofs.Selection.{selected_again, none_selected, selected_member}
+use Rattle.kc_values.specs.PartsOfValues.{by_choice}
+use Rattle.kc_values.specs.PartsOfValues.{text_equation}
 
 -- the equation with e's own line is e, or the user's place does not matter
 abbrev Again : (Option GivenValue → SymbolValue) → SymbolValue → Type 0
@@ -59,7 +61,7 @@ module _ (tree : TreeFacts) (k : SymId → SymbolValue) where
     text_again true t d = inl refl
     text_again false t d = inr refl
 
-    text_fixed : (user : Option GivenValue) → Again (λ u. TextValue Str (v.text_equation tree k f u)) (TextValue Str (v.text_equation tree k f user))
+    text_fixed : (user : Option GivenValue) → Again (λ u. TextValue Str (text_equation tree k f u)) (TextValue Str (text_equation tree k f user))
     text_fixed None = inl refl
     text_fixed (Some (GivenTruth t)) = inl refl
     text_fixed (Some (Member m)) = inl refl
@@ -99,7 +101,7 @@ module _ (tree : TreeFacts) (k : SymId → SymbolValue) where
     fixed_by_type s Int user = number_fixed Int user
     fixed_by_type s Hex user = number_fixed Hex user
 
-    fixed_by_choice : (s : SymId) (i : ℕ) (c : Option ℕ) (user : Option GivenValue) → v_parts.user_place_by i c ≡ SymbolPlace i → Again (v.by_choice tree k s f c) (v.by_choice tree k s f c user)
+    fixed_by_choice : (s : SymId) (i : ℕ) (c : Option ℕ) (user : Option GivenValue) → v_parts.user_place_by i c ≡ SymbolPlace i → Again (by_choice tree k s f c) (by_choice tree k s f c user)
     fixed_by_choice s i None user e = fixed_by_type s f.symbol_type user
     fixed_by_choice s i (Some c) user e = cc
 
@@ -118,7 +120,7 @@ module _ (tree : TreeFacts) (k : SymId → SymbolValue) where
 
   -- the equation of a member
   member_choice : (s : SymId) (f : SymbolFacts) (i c : ℕ) (user : Option GivenValue) (o : Option ℕ) → v_parts.user_place_by i o ≡ ChoicePlace c →
-      v.by_choice tree k s f o user ≡ Truth (cond (is_symbol_of s (v.selected tree k (choice_at tree c) user)) Y N)
+      by_choice tree k s f o user ≡ Truth (cond (is_symbol_of s (v.selected tree k (choice_at tree c) user)) Y N)
   member_choice s f i c user None e = cc
   member_choice s f i c user (Some d) e = let h : d ≡ c = cc in ap (λ n. Truth (cond (is_symbol_of s (v.selected tree k (choice_at tree n) user)) Y N)) h
 

@@ -22,6 +22,9 @@ use Rattle.kc_values.proofs.TruthLines.{upgrade_if, outcome, base_of, line_keeps
 use Rattle.kc_values.proofs.Selection.{found, selected_again, none_selected, selected_member, selected_visible}
 use Rattle.kc_values.proofs.FixedLines.{member_at, place_cases, place_of_member, names_itself, named, Sel, member_now}
 use Rattle.kc_values.proofs.ModeLaws.{members_are_theirs}
+use Rattle.kc_language.specs.Values.{changes_on_reread_truth}
+use Rattle.kc_values.specs.PartsOfValues.{changes_on_reread_by}
+use Rattle.kc_values.specs.PartsOfValues.{by_choice}
 
 -- the same, and unchanged on rereading; or another, and changed
 abbrev pub Keeps : SymbolValue → SymbolValue → Bool → Type 0
@@ -170,20 +173,20 @@ module _ (tree : TreeFacts) (k : SymId → SymbolValue) where
   shown_first b c e = ap (λ x. not x || c) e
 
   module _ (s : SymId) (f : SymbolFacts) where
-    not_tristate : (symbol_type : SymbolType) (t : Tri) → v.is_tristate tree k symbol_type ≡ false → symbol_type ≡ f.symbol_type → v_parts.changes_on_reread_truth tree k f t ≡ false
+    not_tristate : (symbol_type : SymbolType) (t : Tri) → v.is_tristate tree k symbol_type ≡ false → symbol_type ≡ f.symbol_type → changes_on_reread_truth tree k f t ≡ false
     not_tristate symbol_type t n h =
         ap (λ x. v.is_tristate tree k x && (v.is_visible tree k f && (above t (v.visibility tree k f) && above t (v.selected_to tree k f)))) (sym h)
         ∙ ap (λ b. b && (v.is_visible tree k f && (above t (v.visibility tree k f) && above t (v.selected_to tree k f)))) n
 
     truth_line : (u : Option GivenValue) → is_truth_type f.symbol_type ≡ true →
-        Settling (λ p. Truth (v.truth_equation tree k f p)) (v.written_truth tree k f) (allowed_by f.symbol_type) (v_parts.changes_on_reread_truth tree k f) (Truth (v.truth_equation tree k f u))
+        Settling (λ p. Truth (v.truth_equation tree k f p)) (v.written_truth tree k f) (allowed_by f.symbol_type) (changes_on_reread_truth tree k f) (Truth (v.truth_equation tree k f u))
     truth_line u e =
         truth_settles f.symbol_type e u (v.conditions tree k f.prompts) (v.selector_values tree k f.selectors)
         (v_parts.implied (v.default_value tree k (v.first_met tree k f.defaults)) (v.implied_to tree k f) (v.direct tree k f))
         (v.written_truth tree k f) (λ h. shown_first (is_n (v.visibility tree k f)) _ h)
 
     settles_by_type : (symbol_type : SymbolType) (u : Option GivenValue) → symbol_type ≡ f.symbol_type → ((g : GivenValue) → u ≡ Some g → allowed_by f.symbol_type g ≡ true) →
-        Settling (v.by_type tree k s f symbol_type) (v.written_by_type tree k f symbol_type) (allowed_by f.symbol_type) (v_parts.changes_on_reread_truth tree k f) (v.by_type tree k s f symbol_type u)
+        Settling (v.by_type tree k s f symbol_type) (v.written_by_type tree k f symbol_type) (allowed_by f.symbol_type) (changes_on_reread_truth tree k f) (v.by_type tree k s f symbol_type u)
     settles_by_type Undefined u h given = inl (refl, not_tristate Undefined N refl h)
     settles_by_type IsBool u h given = truth_line u (ap is_truth_type (sym h))
     settles_by_type Tristate u h given = truth_line u (ap is_truth_type (sym h))
@@ -209,7 +212,7 @@ module _ (tree : TreeFacts) (k : SymId → SymbolValue) where
         )
 
     settles_by_choice : (i : ℕ) (c : Option ℕ) (u : Option GivenValue) → v_parts.user_place_by i c ≡ SymbolPlace i → ((g : GivenValue) → u ≡ Some g → allowed_by f.symbol_type g ≡ true) →
-        Settling (v.by_choice tree k s f c) (v_parts.written_by_choice tree k f c) (allowed_by f.symbol_type) (v.changes_on_reread_by tree k f c) (v.by_choice tree k s f c u)
+        Settling (by_choice tree k s f c) (v_parts.written_by_choice tree k f c) (allowed_by f.symbol_type) (changes_on_reread_by tree k f c) (by_choice tree k s f c u)
     settles_by_choice i None u at given = settles_by_type f.symbol_type u refl given
     settles_by_choice i (Some c) u at given = cc
 
@@ -219,7 +222,7 @@ module _ (tree : TreeFacts) (k : SymId → SymbolValue) where
   settles_facts s i (Some f) u at given = settles_by_choice s f i f.choice u at given
 
   -- a member does not change on rereading
-  kept_choice : (f : SymbolFacts) (i c : ℕ) (t : Tri) (o : Option ℕ) → v_parts.user_place_by i o ≡ ChoicePlace c → v.changes_on_reread_by tree k f o t ≡ false
+  kept_choice : (f : SymbolFacts) (i c : ℕ) (t : Tri) (o : Option ℕ) → v_parts.user_place_by i o ≡ ChoicePlace c → changes_on_reread_by tree k f o t ≡ false
   kept_choice f i c t None e = cc
   kept_choice f i c t (Some d) e = refl
 

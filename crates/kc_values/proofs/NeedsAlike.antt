@@ -24,7 +24,8 @@ use Rattle.kc_tree.specs.declared.layout.Layout.{Layout}
 use Rattle.kc_tree.specs.declared.rows.Choice.{Choice}
 use Rattle.kc_language.specs.declared.symbols.ChoiceId.{ChoiceId}
 use Rattle.kc_tree.specs.declared.rows.EntryPrompt.{EntryPrompt}
-use Rattle.kc_language.specs.Values.{choice_at, facts, is_mentioned}
+use Rattle.kc_language.specs.Values.{choice_at, facts}
+use Rattle.kc_values.specs.PartsOfValues.{is_mentioned}
 use Rattle.kc_values.specs.NeedRows as rows
 use Rattle.kc_values.specs.NeedRows.{AreNodeRows, IsContextRow, of_top, of_inner}
 use Rattle.kc_values.specs.MadeRows.{AreChoicesThere}

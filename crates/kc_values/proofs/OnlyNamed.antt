@@ -8,11 +8,13 @@ use Rattle.kc_language.specs.declared.expressions.Tri.{Tri}
 use Rattle.kc_language.specs.declared.expressions.Tri.TheVariants.{N, M, Y}
 use Rattle.kc_language.specs.declared.expressions.SymbolType.{SymbolType}
 use Rattle.kc_language.specs.declared.expressions.SymbolType.TheVariants.{Undefined, Bool as IsBool, Tristate, Str, Int, Hex}
-use Rattle.kc_language.specs.Expressions.{Form, Leaf, Text, Symbol, Single, Related, Negated, LoneM, Every, Some_of, symbols, leaf_symbols, SymbolValue, Truth, TextValue, value, text, least, greatest, lesser, greater, truth_of_value, text_of_value, symbol, same_symbol}
+use Rattle.kc_language.specs.Expressions.{Form, Leaf, Text, Symbol, Single, Related, Negated, LoneM, Every, Some_of, symbols, leaf_symbols, SymbolValue, Truth, TextValue, value, text, least, greatest, lesser, greater, truth_of_value, symbol, same_symbol}
+use Rattle.kc_expr.specs.PartsOfExpressions.{text_of_value}
 use Rattle.kc_expr.specs.Value.{DependsOnSymbols}
 use Rattle.kc_language.specs.Symbols.{Condition, Guarded, Bounds, SymbolFacts, ChoiceFacts, TreeFacts, is_symbol_of, listed}
 use Rattle.kc_language.specs.declared.values.Interval.{Interval}
-use Rattle.kc_language.specs.Values.{facts, name, choice_at, is_mentioned, number_or_zero, GivenValue, GivenTruth, GivenText, Member, UserPlace, is_n, upgrade, user_place, known_from, equations}
+use Rattle.kc_language.specs.Values.{facts, name, choice_at, number_or_zero, GivenValue, GivenTruth, GivenText, Member, UserPlace, is_n, upgrade, user_place, known_from, equations}
+use Rattle.kc_values.specs.PartsOfValues.{is_mentioned}
 use Rattle.kc_language.specs.Values as v
 use Rattle.kc_values.specs.PartsOfValues as v_parts
 use Rattle.kc_language.specs.Needs as n
@@ -20,6 +22,12 @@ use Rattle.kc_values.specs.PartsOfNeeds as n_parts
 use Rattle.kc_language.specs.Needs.{needs_of}
 use Rattle.kc_order.specs.Solution.{ReadsNeeds}
 use Rattle.kc_values.proofs.Same.{front_of, back_of, map_same, found_same, same_symbol-true}
+use Rattle.kc_language.specs.Needs.{names_of_number}
+use Rattle.kc_values.specs.PartsOfNeeds.{mode_names}
+use Rattle.kc_values.specs.PartsOfValues.{by_choice}
+use Rattle.kc_values.specs.PartsOfValues.{text_equation}
+use Rattle.kc_values.specs.PartsOfValues.{unselected}
+use Rattle.kc_values.specs.PartsOfValues.{chosen_member}
 
 module _ (law : DependsOnSymbols) (tree : TreeFacts) (k l : SymId → SymbolValue) where
   abbrev Same : SymId → Type 0
@@ -52,14 +60,14 @@ module _ (law : DependsOnSymbols) (tree : TreeFacts) (k l : SymId → SymbolValu
   same_mode None h = refl
   same_mode (Some c) h = ap upgrade (same_prompt c.prompt h)
 
-  same_mode_value : (m : Option ℕ) → Sames (n.mode_names tree m) → v_parts.mode_value tree k m ≡ v_parts.mode_value tree l m
+  same_mode_value : (m : Option ℕ) → Sames (mode_names tree m) → v_parts.mode_value tree k m ≡ v_parts.mode_value tree l m
   same_mode_value None h = refl
   same_mode_value (Some c) h = same_mode (choice_at tree c) h
 
   pub same_condition : (c : Condition) → Sames (n.condition_names tree c) → v.condition tree k c ≡ v.condition tree l c
   same_condition c h =
-      let a = same_and_value c.conjuncts (front (flat_map (symbols tree.modules) c.conjuncts) (n.mode_names tree c.mode) h) in
-      let b = same_mode_value c.mode (back (flat_map (symbols tree.modules) c.conjuncts) (n.mode_names tree c.mode) h) in
+      let a = same_and_value c.conjuncts (front (flat_map (symbols tree.modules) c.conjuncts) (mode_names tree c.mode) h) in
+      let b = same_mode_value c.mode (back (flat_map (symbols tree.modules) c.conjuncts) (mode_names tree c.mode) h) in
       cc
 
   same_conditions : (cs : List Condition) → Sames (flat_map (n.condition_names tree) cs) → v.conditions tree k cs ≡ v.conditions tree l cs
@@ -185,7 +193,7 @@ module _ (law : DependsOnSymbols) (tree : TreeFacts) (k l : SymId → SymbolValu
     abbrev Ranges : List SymId
     Ranges = n.guarded_names tree (n_parts.bounds_names) f.ranges
 
-    same_text_equation : (user : Option GivenValue) → Sames (n.names_of_all tree f) → v.text_equation tree k f user ≡ v.text_equation tree l f user
+    same_text_equation : (user : Option GivenValue) → Sames (n.names_of_all tree f) → text_equation tree k f user ≡ text_equation tree l f user
     same_text_equation user h =
         let a = same_visible_text f user (front Prompts Defaults h) in
         let b = same_default_text f (back Prompts Defaults h) in
@@ -205,7 +213,7 @@ module _ (law : DependsOnSymbols) (tree : TreeFacts) (k l : SymId → SymbolValu
         let d = same_default f (back Prompts Defaults all) in
         same_upgraded f.symbol_type own _ _ (same_base user _ _ _ _ _ _ _ _ _ _ vis d implied_to dir selected_to)
 
-    pub same_number_equation : (user : Option GivenValue) → Sames (n_parts.names_of_number tree f) → v.number_equation tree k f user ≡ v.number_equation tree l f user
+    pub same_number_equation : (user : Option GivenValue) → Sames (names_of_number tree f) → v.number_equation tree k f user ≡ v.number_equation tree l f user
     same_number_equation user h =
         let all = front (Prompts ++ Defaults) Ranges h in
         let a = same_visible_text f user (front Prompts Defaults all) in
@@ -244,7 +252,7 @@ module _ (law : DependsOnSymbols) (tree : TreeFacts) (k l : SymId → SymbolValu
     same_visible_member : Sames Shown → (m : SymId) → v.visible_member tree k c m ≡ v.visible_member tree l c m
     same_visible_member h m = same_among m c.members h
 
-    same_unselected : Sames Shown → Sames (n.guarded_names tree (n_parts.no_name) c.defaults) → v.unselected tree k c ≡ v.unselected tree l c
+    same_unselected : Sames Shown → Sames (n.guarded_names tree (n_parts.no_name) c.defaults) → unselected tree k c ≡ unselected tree l c
     same_unselected h d =
         let first =
         found_same Same (λ (g : Guarded SymId). n_parts.no_name g.what ++ n.condition_names tree g.when)
@@ -260,7 +268,7 @@ module _ (law : DependsOnSymbols) (tree : TreeFacts) (k l : SymId → SymbolValu
         in
         cc
 
-    same_chosen_member : Sames Shown → (user : Option GivenValue) → v.chosen_member tree k c user ≡ v.chosen_member tree l c user
+    same_chosen_member : Sames Shown → (user : Option GivenValue) → chosen_member tree k c user ≡ chosen_member tree l c user
     same_chosen_member h None = refl
     same_chosen_member h (Some (GivenTruth t)) = refl
     same_chosen_member h (Some (GivenText t)) = refl
@@ -286,7 +294,7 @@ module _ (law : DependsOnSymbols) (tree : TreeFacts) (k l : SymId → SymbolValu
   same_by_type s f Int user h = ap (TextValue Int) (same_number_equation f user h)
   same_by_type s f Hex user h = ap (TextValue Hex) (same_number_equation f user h)
 
-  same_by_choice : (s : SymId) (f : SymbolFacts) (c : Option ℕ) (user : Option GivenValue) → Sames (n_parts.names_by_choice tree f c) → v.by_choice tree k s f c user ≡ v.by_choice tree l s f c user
+  same_by_choice : (s : SymId) (f : SymbolFacts) (c : Option ℕ) (user : Option GivenValue) → Sames (n_parts.names_by_choice tree f c) → by_choice tree k s f c user ≡ by_choice tree l s f c user
   same_by_choice s f None user h = same_by_type s f f.symbol_type user h
   same_by_choice s f (Some c) user h =
       ap (λ o. Truth (cond (is_symbol_of s o) Y N)) (same_selected (choice_at tree c) user h)

@@ -38,6 +38,8 @@ use Rattle.kc_values.specs.PartsOfNeeds as spec_parts
 use Rattle.kc_values.specs.Nodes.{choice_number}
 use Rattle.kc_values.proofs.Laid.{facts_laid}
 use Rattle.kc_values.proofs.AnyLemmas.{any_beside, any_flat, any_found, any_map, any_or, any_reverse, any_same, found_same, has_some, passes}
+use Rattle.kc_language.specs.Needs.{names_of_number}
+use Rattle.kc_values.specs.PartsOfNeeds.{mode_names}
 
 -- lists under a condition
 any_if : {X : Type 0} (p : X → Bool) (b : Bool) (xs : List X) → list_any p (cond b xs []) ≡ (b && list_any p xs)
@@ -88,13 +90,13 @@ module _ (tree : TreeFacts) (l : Layout) (v : ℕ) where
   forms fs = names (flat_map (symbols tree.modules) fs)
 
   abbrev pub mode : Option ℕ → Bool
-  mode o = names (spec.mode_names tree o)
+  mode o = names (mode_names tree o)
 
   abbrev pub condition_hits : Condition → Bool
   condition_hits c = names (spec.condition_names tree c)
 
   pub hits_conjuncts : (c : Condition) → condition_hits c ≡ (forms c.conjuncts || mode c.mode)
-  hits_conjuncts c = list_any-append hit (flat_map (symbols tree.modules) c.conjuncts) (spec.mode_names tree c.mode)
+  hits_conjuncts c = list_any-append hit (flat_map (symbols tree.modules) c.conjuncts) (mode_names tree c.mode)
 
   pub forms_more : (fs gs : List Form) → forms (fs ++ gs) ≡ (forms fs || forms gs)
   forms_more fs gs = ap names (flat_map-append (symbols tree.modules) fs gs) ∙ list_any-append hit (flat_map (symbols tree.modules) fs) (flat_map (symbols tree.modules) gs)
@@ -428,7 +430,7 @@ module _ (tree : TreeFacts) (l : Layout) (v : ℕ) (alike : l.modules ≡ tree.m
         close t n a p d r e f = grind arith
 
     number_needs : rows.is_truth s.symbol_type ≡ false → rows.is_number s.symbol_type ≡ true →
-        (list_any st (rows.definitions_nodes l s) || name (rows.definitions_names l s)) ≡ name (spec_parts.names_of_number tree (facts_of l i s))
+        (list_any st (rows.definitions_nodes l s) || name (rows.definitions_names l s)) ≡ name (names_of_number tree (facts_of l i s))
     number_needs t n =
         definitions_needs s.symbol_type (definition_ids s)
         ∙ close (rows.is_truth s.symbol_type) (rows.is_number s.symbol_type) (list_any dep_of (rows.definitions_of l (definition_ids s))) (list_any prompt_of (rows.definitions_of l (definition_ids s)))

@@ -13,6 +13,7 @@ use Rattle.kc_language.specs.Symbols.{SymbolFacts, TreeFacts}
 use Rattle.kc_language.specs.Values as v
 use Rattle.kc_language.specs.Values.{GivenValue, same_tri}
 use Rattle.kc_values.specs.PartsOfValues.{same_value}
+use Rattle.kc_values.specs.PartsOfValues.{by_choice}
 
 pub same_tri-true : (t u : Tri) → same_tri t u ≡ true → t ≡ u
 same_tri-true N N e = refl
@@ -55,7 +56,7 @@ module _ (tree : TreeFacts) (known : SymId → SymbolValue) where
   same_by_type s f Hex user other e = same_written Hex _ _ e
 
   same_by_choice : (s : SymId) (f : SymbolFacts) (c : Option ℕ) (user other : Option GivenValue) →
-      same_value (v.by_choice tree known s f c user) (v.by_choice tree known s f c other) ≡ true → v.by_choice tree known s f c user ≡ v.by_choice tree known s f c other
+      same_value (by_choice tree known s f c user) (by_choice tree known s f c other) ≡ true → by_choice tree known s f c user ≡ by_choice tree known s f c other
   same_by_choice s f None user other e = same_by_type s f f.symbol_type user other e
   same_by_choice s f (Some c) user other e = same_truth _ _ e
 

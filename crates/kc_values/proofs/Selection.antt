@@ -12,6 +12,8 @@ use Rattle.kc_values.specs.PartsOfValues as v_parts
 use Rattle.kc_language.specs.Values.{GivenValue, GivenTruth, GivenText, Member, is_n}
 use Rattle.kc_values.proofs.Same.{same_symbol_itself}
 use Rattle.kc_values.proofs.TreeNeeds.{among}
+use Rattle.kc_values.specs.PartsOfValues.{unselected}
+use Rattle.kc_values.specs.PartsOfValues.{chosen_member}
 
 found_at : {X : Type 0} (p : X → Bool) (b : Bool) (x y : X) (xs : List X) → p x ≡ b → (find p xs ≡ Some y → (p y ≡ true) × Contains xs y) → cond b (Some x) (find p xs) ≡ Some y →
     (p y ≡ true) × Contains (x ∷ xs) y
@@ -42,7 +44,7 @@ module _ (tree : TreeFacts) (k : SymId → SymbolValue) where
   chosen_if true x m e = (refl, cc)
   chosen_if false x m e = cc
 
-  chosen_visible : (c : ChoiceFacts) (user : Option GivenValue) (m : SymId) → v.chosen_member tree k c user ≡ Some m → v.visible_member tree k c m ≡ true
+  chosen_visible : (c : ChoiceFacts) (user : Option GivenValue) (m : SymId) → chosen_member tree k c user ≡ Some m → v.visible_member tree k c m ≡ true
   chosen_visible c None m e = cc
   chosen_visible c (Some (GivenTruth t)) m e = cc
   chosen_visible c (Some (GivenText t)) m e = cc
@@ -52,7 +54,7 @@ module _ (tree : TreeFacts) (k : SymId → SymbolValue) where
   what_some None m e = cc
   what_some (Some g) m e = (g, refl, cc)
 
-  unselected_visible : (c : ChoiceFacts) (m : SymId) → v.unselected tree k c ≡ Some m → v.visible_member tree k c m ≡ true
+  unselected_visible : (c : ChoiceFacts) (m : SymId) → unselected tree k c ≡ Some m → v.visible_member tree k c m ≡ true
   unselected_visible c m e =
       let p = λ (g : Guarded SymId). not (is_n (v.condition tree k g.when)) && v.visible_member tree k c g.what in
       elim (either_some (v_parts.what_of (find p c.defaults)) (find (v.visible tree k) c.members) m e) [
@@ -69,7 +71,7 @@ module _ (tree : TreeFacts) (k : SymId → SymbolValue) where
   pub selected_visible : (c : ChoiceFacts) (user : Option GivenValue) (m : SymId) → v.selected tree k (Some c) user ≡ Some m → v.visible_member tree k c m ≡ true
   selected_visible c user m e =
       let h = unlock (is_n (v.mode_of tree k (Some c))) _ m e in
-      elim (either_some (v.chosen_member tree k c user) (v.unselected tree k c) m h.1) [
+      elim (either_some (chosen_member tree k c user) (unselected tree k c) m h.1) [
         | inl a ↦ chosen_visible c user m a
         | inr b ↦ unselected_visible c m b
       ]
@@ -80,8 +82,8 @@ module _ (tree : TreeFacts) (k : SymId → SymbolValue) where
   selected_again (Some c) user m e =
       let h = unlock (is_n (v.mode_of tree k (Some c))) _ m e in
       let s = selected_visible c user m e in
-      ap (λ b. cond b None (option_or (v.chosen_member tree k c (Some (Member m))) (v.unselected tree k c))) h.0
-      ∙ ap (λ b. option_or (cond b (Some m) None) (v.unselected tree k c)) s
+      ap (λ b. cond b None (option_or (chosen_member tree k c (Some (Member m))) (unselected tree k c))) h.0
+      ∙ ap (λ b. option_or (cond b (Some m) None) (unselected tree k c)) s
 
   locked : (b : Bool) (x y : Option SymId) → (x ≡ None → y ≡ None) → cond b None x ≡ None → cond b None y ≡ None
   locked true x y h e = refl
@@ -91,8 +93,8 @@ module _ (tree : TreeFacts) (k : SymId → SymbolValue) where
   pub none_selected : (o : Option ChoiceFacts) (user : Option GivenValue) → v.selected tree k o user ≡ None → v.selected tree k o None ≡ None
   none_selected None user e = e
   none_selected (Some c) user e =
-      locked (is_n (v.mode_of tree k (Some c))) (option_or (v.chosen_member tree k c user) (v.unselected tree k c)) (v.unselected tree k c)
-      (neither (v.chosen_member tree k c user) (v.unselected tree k c)) e
+      locked (is_n (v.mode_of tree k (Some c))) (option_or (chosen_member tree k c user) (unselected tree k c)) (unselected tree k c)
+      (neither (chosen_member tree k c user) (unselected tree k c)) e
 
   -- what is selected is a member of a choice that is there
   pub selected_member : (o : Option ChoiceFacts) (user : Option GivenValue) (m : SymId) → v.selected tree k o user ≡ Some m → (c : ChoiceFacts) × (o ≡ Some c) × Contains c.members m

@@ -7,13 +7,15 @@ use Rattle.std.proofs.lemmas.List.{get_or_past}
 use Rattle.std.proofs.lemmas.Option.{slice_get_past}
 use Rattle.kc_expr.specs.Value.{DependsOnSymbols}
 use Rattle.kc_language.specs.declared.expressions.SymId.{SymId}
-use Rattle.kc_language.specs.Needs.{needs_in, AreAccepted as IsAccepted, needs, needs_of, names_of}
+use Rattle.kc_language.specs.Needs.{needs_in, needs, needs_of, names_of}
+use Rattle.kc_order.specs.PartsOfNeeds.{AreAccepted as IsAccepted}
 use Rattle.kc_order.specs.PartsOfNeeds.{NothingUnordered}
 use Rattle.kc_values.specs.PartsOfNeeds.{mentioned_numbers}
 use Rattle.kc_order.specs.Needs.{AreWithin, NeedsBelow}
 use Rattle.kc_order.specs.Solution.{ReadsNeeds}
 use Rattle.kc_language.specs.Symbols.{TreeFacts}
-use Rattle.kc_language.specs.Values.{is_mentioned, UserPlace, GivenValue, name_count, equations}
+use Rattle.kc_language.specs.Values.{UserPlace, GivenValue, name_count, equations}
+use Rattle.kc_values.specs.PartsOfValues.{is_mentioned}
 use Rattle.kc_language.specs.Expressions.{same_symbol}
 use Rattle.kc_values.proofs.Same.{same_symbol-true}
 use Rattle.kc_values.proofs.OnlyNamed.{reads_needs}

@@ -12,6 +12,7 @@ use Rattle.kc_language.specs.Symbols.{SymbolFacts, TreeFacts}
 use Rattle.kc_language.specs.Values.{GivenValue, GivenTruth, GivenText, Member, if_within_range, clamped}
 use Rattle.kc_language.specs.Values as v
 use Rattle.kc_values.specs.PartsOfValues as v_parts
+use Rattle.kc_values.specs.PartsOfValues.{text_equation}
 
 user_or_uncounted : (user : Option GivenValue) (vis other : Tri) → (is_some user && not (v.is_n vis)) ≡ false → v.user_or user vis other ≡ v.user_or None vis other
 user_or_uncounted None vis other e = refl
@@ -37,7 +38,7 @@ module _ (tree : TreeFacts) (known : SymId → SymbolValue) where
       (user_or_uncounted user (v.visibility tree known f) (v_parts.implied (v.default_value tree known (v.first_met tree known f.defaults)) (v.implied_to tree known f) (v.direct tree known f)) e)
 
   text_uncounted : (f : SymbolFacts) (user : Option GivenValue) → (is_some user && not (v.is_n (v.visibility tree known f))) ≡ false →
-      v.text_equation tree known f user ≡ v.text_equation tree known f None
+      text_equation tree known f user ≡ text_equation tree known f None
   text_uncounted f user e =
       ap (λ t. unwrap_or t (v.default_text known (v.first_met tree known f.defaults))) (visible_text_uncounted user (v.visibility tree known f) e)
 

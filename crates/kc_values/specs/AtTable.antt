@@ -20,6 +20,9 @@ use Rattle.kc_language.specs.Texts as warning
 use Rattle.kc_values.specs.PartsOfTexts as warning_parts
 use Rattle.kc_language.specs.declared.values.Interval.{Interval}
 use Rattle.kc_values.specs.declared.table.Table.{Table}
+use Rattle.kc_values.specs.PartsOfValues.{by_choice}
+use Rattle.kc_values.specs.PartsOfValues.{text_equation as lookup_text_equation}
+use Rattle.kc_values.specs.PartsOfValues.{unselected as lookup_unselected}
 
 module _ (t : Table) where
   -- what the rows of a definition and of a choice say, and what a symbol's own lines say
@@ -107,7 +110,7 @@ module _ (t : Table) where
   truth_equation id s given = lookup.truth_equation t.tree.now (known_at t) (facts_in t id s) given
 
   abbrev pub text_equation : Symbol → Option GivenValue → List ℕ
-  text_equation s given = lookup.text_equation t.tree.now (known_at t) (own_lines s) given
+  text_equation s given = lookup_text_equation t.tree.now (known_at t) (own_lines s) given
 
   abbrev pub number_equation : Symbol → Option GivenValue → List ℕ
   number_equation s given = lookup.number_equation t.tree.now (known_at t) (own_lines s) given
@@ -116,7 +119,7 @@ module _ (t : Table) where
   member_equation id c given = value_parts.member_equation t.tree.now (known_at t) id c given
 
   abbrev pub equation : SymId → Symbol → Option GivenValue → SymbolValue
-  equation id s given = lookup.by_choice t.tree.now (known_at t) id (facts_in t id s) (facts_in t id s).choice given
+  equation id s given = by_choice t.tree.now (known_at t) id (facts_in t id s) (facts_in t id s).choice given
 
   -- what a choice selects: by its row, and by its number
   abbrev pub visible : SymId → Bool
@@ -132,7 +135,7 @@ module _ (t : Table) where
   first_visible members = value_parts.first_visible t.tree.now (known_at t) members
 
   abbrev pub unselected : Choice → Option SymId
-  unselected c = lookup.unselected t.tree.now (known_at t) (choice_in c)
+  unselected c = lookup_unselected t.tree.now (known_at t) (choice_in c)
 
   abbrev pub selected_by : Choice → Option GivenValue → Option SymId
   selected_by c given = lookup.selected t.tree.now (known_at t) (Some (choice_in c)) given

@@ -1,6 +1,6 @@
 -- What waits is said first, or not.
 use Rattle.std.proofs.Common.{[]}
-use Rattle.kc_language.specs.Outcome.{too_long_line}
+use Rattle.kc_conf.specs.PartsOfOutcome.{too_long_line}
 use Rattle.kc_conf.specs.Reads.{stop_of}
 use Rattle.kc_language.specs.declared.outcome.Status.TheVariants.{Refused}
 use Rattle.kc_conf.proofs.EndingLemmas.{Ends-behind, Ends-unsaid}

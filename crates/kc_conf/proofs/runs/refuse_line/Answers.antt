@@ -1,6 +1,6 @@
 -- The line was said, or not.
 use Rattle.std.proofs.Common.{[]}
-use Rattle.kc_language.specs.Outcome.{too_long_line}
+use Rattle.kc_conf.specs.PartsOfOutcome.{too_long_line}
 use Rattle.kc_conf.specs.Reads.{stop_of}
 use Rattle.kc_conf.proofs.EndingLemmas.{BreaksEnd-report, IsEnded-line, some-too_long}
 use Rattle.kc_conf.proofs.runs.refuse_line.Goals as goal

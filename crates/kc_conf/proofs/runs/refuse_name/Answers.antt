@@ -1,6 +1,7 @@
 -- The line was said, or not.
 use Rattle.std.proofs.Common.{◌++◌, []}
-use Rattle.kc_language.specs.Outcome.{lead, unreadable_line}
+use Rattle.kc_language.specs.Outcome.{lead}
+use Rattle.kc_conf.specs.PartsOfOutcome.{unreadable_line}
 use Rattle.kc_conf.proofs.EndingLemmas.{BreaksEnd-report, IsEnded-line, some-unreadable}
 use Rattle.kc_conf.proofs.runs.refuse_name.Goals as goal
 

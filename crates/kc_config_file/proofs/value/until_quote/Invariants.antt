@@ -1,6 +1,6 @@
 use Rattle.std.proofs.Common.{◌≡◌, ◌-◌, length, take, drop}
 use Rattle.kc_language.specs.ConfigFile.{until_quote}
-use Rattle.kc_language.specs.Text.{preceded}
+use Rattle.kc_config_file.specs.PartsOfConfigFile.{preceded}
 use Rattle.kc_config_file.proofs.value.until_quote.Given as goal
 
 -- nothing before l.at ends the text

@@ -5,7 +5,8 @@ use Rattle.std.proofs.lemmas.Result.{IfOk-weaker}
 use Rattle.kc_expr.specs.declared.expression.Expr.{Expr}
 use Rattle.kc_expr.specs.declared.expression.Parts.{Parts}
 use Rattle.kc_expr.specs.Form.{form_of, parts_of}
-use Rattle.kc_language.specs.Expressions.{forms, connected, spell, spell_not, Bang}
+use Rattle.kc_language.specs.Expressions.{forms, spell, spell_not, Bang}
+use Rattle.kc_expr.specs.PartsOfExpressions.{connected}
 use Rattle.kc_expr.specs.Grammar.{terminals_from}
 use Rattle.kc_expr.proofs.ParseLemmas.{fault_passed, deep_bang_at, deep_group_at, fails_bang_at, fails_group_at, parsed_bang, unclosed_at, parsed_group, parsed_negation, parsed_conjunction, parsed_only, parts_one, parts_next, parsed_chain, fails_after}
 use Rattle.kc_expr.specs.declared.parse.ExprFault.TheVariants.{Memory}

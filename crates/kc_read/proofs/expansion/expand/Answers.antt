@@ -1,5 +1,6 @@
 use Rattle.std.proofs.Common.{◌≢◌, Ok, Err}
-use Rattle.kc_language.specs.Expansion.{Expands, nothing_read, with_file, root_context, bytes_in}
+use Rattle.kc_language.specs.Expansion.{Expands, with_file, bytes_in}
+use Rattle.kc_read.specs.PartsOfExpansion.{nothing_read, root_context}
 use Rattle.kc_read.specs.LineReads.{cause_of}
 use Rattle.kc_read.specs.RefusalView.{refusal_view}
 use Rattle.kc_language.specs.declared.diagnostics.Cause.TheVariants.{Memory}
