@@ -1,6 +1,7 @@
 -- Trusted: How texts are written to their files, event by event, and the laws of delivery (our own).
-use Rattle.std.specs.{Prelude.{◌≡◌, ℕ, Bool, true, false, not, ◌||◌, if◌then◌else◌, List, [], ◌∷◌, ◌++◌, filter, flat_map, Option, Some, Result, Ok, Err, bytes_eq}, List.list_any}
-use Rattle.kc_io.specs.{Log.{Event, Journal, Leads, Log, did, each_byte, held, is_held, keeps_files, with_events}, declared.{device.{Action.TheVariants.{Create, Write, Close, Move}, Site.{Site, TheVariants.{Place, Beside}}}, delivery.Manner.{Manner, TheVariants.{InPlace, Replacing}}, steps.Failure.Failure}}
+use Rattle.std.specs.{Prelude.{◌≡◌, ℕ, Bool, true, false, not, ◌||◌, if◌then◌else◌, List, [], ◌∷◌, ◌++◌, filter, flat_map, Option, None, Some, Result, Ok, Err, String, string_bytes, bytes_eq}, List.list_any, declared.alloc.Global.Global}
+use Rattle.kc_language.specs.{Outcome.{Options, Outcome, lead, stale_line}, declared.outcome.{Delivery.Delivery, Status.Status}}
+use Rattle.kc_io.specs.{Log.{Event, Journal, Leads, Log, did, each_byte, held, is_held, keeps_files, with_events}, declared.{device.{Action.{Action, TheVariants.{Clear, Create, Write, Close, Move}}, Site.{Site, TheVariants.{Place, Beside}}}, delivery.Manner.{Manner, TheVariants.{InPlace, Replacing}}, steps.Failure.Failure}}
 
 -- A text, and the name of the file that is to hold it.
 pub record NamedText : Type 0 where
@@ -37,6 +38,40 @@ abbrev pub StopsBefore : List Event → Result (Unit {0}) Failure → Type 0
 StopsBefore [] (Ok _) = Unit {0}
 StopsBefore (event ∷ _) (Err failure) = (event.action ≡ failure.action) × (event.name ≡ failure.name.now)
 StopsBefore _ _ = ⊥
+
+-- ---- The texts of an outcome
+-- the texts of an outcome with the names of their files, in the order in which they are delivered
+abbrev pub text_at : Option (String Global) → Option (List ℕ) → List NamedText
+text_at (Some name) (Some bytes) = record { name = string_bytes name; bytes = bytes } ∷ []
+text_at _ _ = []
+
+abbrev pub texts_of : Options → Outcome → List NamedText
+texts_of options outcome = text_at options.out outcome.config ++ text_at options.header outcome.header
+    ++ text_at options.minimal outcome.minimal ++ text_at options.depfile outcome.depfile
+
+-- They are written; with --replace those that differ from their files replace these; with --check nothing is written.
+abbrev pub delivers : Options → List NamedText → Journal → List Event
+delivers options = elim options.delivery [
+  | Delivery.Write ↦ λ texts journal. delivery InPlace texts
+  | Delivery.Check ↦ λ texts journal. []
+  | Delivery.Replace ↦ λ texts journal. delivery Replacing (chosen Replacing texts journal)
+]
+
+-- the texts that --check finds to differ from their files, and their error lines; if there is one, a run that was done is refused
+abbrev pub stale_texts : Options → List NamedText → Journal → List NamedText
+stale_texts options = elim options.delivery [ Delivery.Check ↦ stale | _ ↦ λ texts journal. [] ]
+
+abbrev pub stale_lines : Options → List NamedText → List ℕ
+stale_lines options texts = flat_map (λ text. lead options ++ stale_line text.name) texts
+
+abbrev pub status_with : List NamedText → Status → Status
+status_with texts = elim texts [ [] ↦ λ status. status | _ ↦ λ status. Status.Refused ]
+
+-- The temporary files are removed after a failure to write with --replace.
+abbrev pub cleared_by : Delivery → Action → List Event
+cleared_by Delivery.Replace action =
+    elim action [ Create _ ↦ did Clear [] | Write _ ↦ did Clear [] | Close _ ↦ did Clear [] | Move ↦ did Clear [] | _ ↦ [] ]
+cleared_by _ _ = []
 
 -- ---- Laws
 

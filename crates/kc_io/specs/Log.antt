@@ -139,3 +139,7 @@ pub record ReadsOn (count : ℕ) (buffer : List ℕ) (old new : OpenFile) : Type
 -- Whole lines: no bytes, or the last one is a line feed.
 abbrev pub is_whole_lines : List ℕ → Bool
 is_whole_lines bytes = elim (last_or None bytes) [ None ↦ true | Some b ↦ is_line_feed b ]
+
+-- The text was reported, unless the diagnostics failed.
+abbrev pub TriesToSay : List ℕ → Log → Log → Type 0
+TriesToSay text old new = (report : Result (Unit {0}) Fault) × Leads (reported report) (said report text) old new
