@@ -1,10 +1,8 @@
 -- Trusted: What a run reads, why it breaks off, and how it ends.
 -- Our own. It ends in `Runs` and, for the tree of a folder, `FolderRuns`. Claims about files are for devices whose log tells what they hold (kc_io).
-use Rattle.std.specs.{Prelude.{◌≡◌, ◌⊎◌, ℕ, ◌<◌, Bool, true, false, not, ◌&&◌, if◌then◌else◌, List, [], ◌∷◌, ◌++◌, All, map, take, filter, flat_map, is_none, is_ok, is_some, unwrap_or, slice_get, slice_index_or, string_bytes, Option, None, Some, Result, Ok, Err, String, ⊤}, declared.alloc.Global.Global}
-use Rattle.kc_language.specs.{ConfigFile.{Line, StreamLocation, lines_from, lines_of, reading}, Expansion.{Files, Refused}, Symbols.TreeFacts, Text.{BeginsWith, GoesBeyond}, Texts.HasShortLines, declared.outcome.{Delivery.Delivery, Status.Status}}
-use Rattle.kc_language.specs.Outcome.{AreLines, IsAcceptedTree, IsOutcome, IsRefusedName, IsRefusedTree, NamesAreRead, Options, Outcome, cannot_read_line, cannot_write_line, diagnostics_of, fresh_input, holds_warnings, input_files, lead, lines_text, names_of, out_of_memory_line, read_of, root_file, stale_line, streams}
-use Rattle.kc_io.specs.{Delivery.{StopsBefore, NamedText, chosen, delivery, stale}, Log.{Event, Journal, Leads, Log, Tells, did, each_byte, failed, held, reported, said}}
-use Rattle.kc_io.specs.declared.{delivery.Manner.TheVariants.{InPlace, Replacing}, device.{Action.{Action, TheVariants.{Clear, Close, Create, Miss, Move, Open, Read, Report, Write}}, Fault.Fault}, steps.Failure.Failure}
+use Rattle.std.specs.Prelude.{◌≡◌, ◌⊎◌, ℕ, if◌then◌else◌, List, [], ◌∷◌, ◌++◌, take, filter, slice_get, slice_index_or, string_bytes, Option, Some, Result, Ok, Err, ⊤}
+use Rattle.kc_language.specs.{ConfigFile.{Line, lines_from, lines_of, reading}, Expansion.{Files, Refused}, Symbols.TreeFacts, Text.{BeginsWith, GoesBeyond}, Texts.HasShortLines, Outcome.{AreLines, IsAcceptedTree, IsOutcome, IsRefusedName, IsRefusedTree, NamesAreRead, Options, Outcome, cannot_read_line, cannot_write_line, diagnostics_of, fresh_input, holds_warnings, lead, lines_text, names_of, out_of_memory_line, read_of, root_file, streams}, declared.outcome.{Delivery.Delivery, Status.Status}}
+use Rattle.kc_io.specs.{Delivery.{NamedText, StopsBefore, cleared_by, delivers, stale_lines, stale_texts, status_with, texts_of}, Inputs.{AreInputs, AreThere, HasTurn, InputFile, ReadsTo, begun, bytes_of, reads, still_told}, Log.{Event, Leads, Log, Tells, TriesToSay, failed, reported, said}, declared.{device.{Action.{Action, TheVariants.{Open, Read, Report}}, Fault.Fault}, steps.Failure.Failure}}
 use Rattle.kc_load.specs.{Folder.{AreFilesOf, IsLoadFault, failed_load, FolderState, Leads as FolderLeads, files_told}, declared.fault.LoadFault.LoadFault}
 use Rattle.kc_conf.specs.declared.stop.Stop.{Stop}
 
@@ -41,16 +39,13 @@ abbrev pub clearing : Options → Stop → List Event
 clearing options stop = elim stop [ Stop.OutOfMemory ↦ [] | Stop.Failed f ↦ cleared_by options.delivery f.action ]
 
 -- the error line of a run that was broken off; a failure of the diagnostics has none
-abbrev pub refusal_by : Action → List ℕ → List ℕ
-refusal_by action = elim action [ Open ↦ cannot_read_line | Read ↦ cannot_read_line | Report ↦ λ name. [] | _ ↦ cannot_write_line ]
-
 abbrev pub stop_line : Options → Stop → List ℕ
 stop_line options Stop.OutOfMemory = lead options ++ out_of_memory_line
 stop_line options (Stop.Failed f) = elim f.action [
   | Report ↦ []
   | action ↦ elim f.fault [
     | Fault.Memory ↦ lead options ++ out_of_memory_line
-    | Fault.Refused ↦ lead options ++ refusal_by action f.name.now
+    | Fault.Refused ↦ lead options ++ (elim action [ Open ↦ cannot_read_line | Read ↦ cannot_read_line | _ ↦ cannot_write_line ]) f.name.now
   ]
 ]
 
@@ -58,10 +53,6 @@ stop_line options (Stop.Failed f) = elim f.action [
 abbrev pub IsReport : Stop → Result (Unit {0}) Fault → Type 0
 IsReport Stop.OutOfMemory report = ⊤
 IsReport (Stop.Failed f) report = elim f.action [ Report ↦ report ≡ Ok tt | _ ↦ ⊤ ]
-
-abbrev pub Reports : Options → Stop → Bool → Log → Log → Type 0
-Reports options stop is_told old new = (report : Result (Unit {0}) Fault) × IsReport stop report × (is_told ≡ is_ok report)
-    × Leads (reported report) (said report (stop_line options stop)) old new
 
 -- ---- How a run ends
 -- What a run that is not broken off reads: nothing for a tree or a name that is refused; else its input files, up to a line that is too long. Each
@@ -118,20 +109,13 @@ pub record Broken (files : Files) (options : Options) (before : TreeFacts → Li
   pub log : Leads (done ++ event_of stop ++ clearing options stop ++ reported report) (front ++ said report (stop_line options stop)) old new
   pub status_is : status ≡ Status.Faulted
 
--- what is reported of the tree before anything is read: its warnings; or nothing, if they were reported before other configurations
-abbrev pub said_of_tree : TreeFacts → List ℕ
-said_of_tree tree = lines_text tree.warnings
-
-abbrev pub nothing_said : TreeFacts → List ℕ
-nothing_said tree = []
-
 -- A run over these files and over what the device gives: there is an outcome of them, and the run leaves it whole or was broken off.
 pub record Runs (files : Files) (options : Options) (old new : Log) (status : Status) : Type 0 where
   pub inputs : List InputFile
   pub are_inputs : AreInputs (still_told old new) options inputs
   pub outcome : Outcome
   pub is_outcome : IsOutcome files options (bytes_of inputs) outcome
-  pub ends : Completes files options inputs outcome old new status ⊎ Broken files options said_of_tree inputs outcome old new status
+  pub ends : Completes files options inputs outcome old new status ⊎ Broken files options (λ tree. lines_text tree.warnings) inputs outcome old new status
 
 -- A run over the files of a folder; or these could not be loaded, which is reported, and nothing more is done. The file that could not be read is
 -- one whose turn it was, and the folder failed at its path and nowhere else.

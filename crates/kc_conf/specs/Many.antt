@@ -1,10 +1,9 @@
 -- Trusted: What a run for many configurations of one tree leaves, and that these do not touch one another's files.
 -- Our own. It ends in `RunsEach`, and in the law `EachLeavesItsPart` of configurations whose files are apart.
 use Rattle.std.specs.{List.list_any, Prelude.{◌≡◌, ◌≢◌, ◌⊎◌, ℕ, suc, ◌<◌, Bool, true, false, not, ◌||◌, List, [], ◌∷◌, ◌++◌, Option, None, Some, String, string_bytes, bytes_eq, is_ok}, declared.alloc.Global.Global}
-use Rattle.kc_language.specs.{Expansion.{AreOpened, Files, Refused}, Symbols.TreeFacts, declared.outcome.{Delivery.Delivery, Status.Status}}
-use Rattle.kc_language.specs.Outcome.{IsAcceptedTree, IsOutcome, IsRefusedName, IsRefusedTree, Options, Outcome, input_files, lines_text, out_of_memory_line, refusal_line, reported, root_file, unreadable_name}
-use Rattle.kc_io.specs.{Delivery.last_of, Log.{Journal, Leads, Log, failed, held}, declared.device.{Action.Action, Fault.Fault}}
-use Rattle.kc_conf.specs.{Faults.{AreInputs, Broken, Completes, InputFile, TriesToSay, bytes_of, nothing_said, stale_texts, status_with, still_told, texts_of}, declared.stop.Stop.Stop}
+use Rattle.kc_language.specs.{Expansion.{AreOpened, Files, Refused}, Symbols.TreeFacts, Outcome.{IsAcceptedTree, IsOutcome, IsRefusedName, IsRefusedTree, Options, Outcome, input_files, lines_text, out_of_memory_line, refusal_line, reported, root_file, unreadable_name}, declared.outcome.{Delivery.Delivery, Status.Status}}
+use Rattle.kc_io.specs.{Delivery.{last_of, stale_texts, status_with, texts_of}, Inputs.{AreInputs, InputFile, bytes_of, still_told}, Log.{Journal, Leads, Log, TriesToSay, failed, held}, declared.device.{Action.Action, Fault.Fault}}
+use Rattle.kc_conf.specs.{Faults.{Broken, Completes}, declared.stop.Stop.Stop}
 
 -- ---- What one configuration leaves
 -- A run reports the tree's warnings before all else, unless it refuses a name that make cannot read. The run for one configuration leaves its part
@@ -40,7 +39,7 @@ ends_all (Stop.Failed f) = elim f.action [ Action.Report ↦ true | _ ↦ elim f
 pub data EndsTurn (files : Files) (options : Options) (inputs : List InputFile) (part : Outcome) (old new : Log) (status : Status) (is_over : Bool) :
     Type 0 where
   whole : Completes files options inputs part old new status → is_over ≡ false → EndsTurn files options inputs part old new status is_over
-  broken : (b : Broken files options nothing_said inputs part old new status) → is_over ≡ (ends_all b.stop || not (is_ok b.report)) →
+  broken : (b : Broken files options (λ tree. []) inputs part old new status) → is_over ≡ (ends_all b.stop || not (is_ok b.report)) →
       EndsTurn files options inputs part old new status is_over
 
 -- It leaves its part of what its own input files hold when its turn comes.
@@ -139,7 +138,7 @@ pub data EndsAmong (files : Files) (options : Options) (inputs : List InputFile)
       EndsAmong files options inputs part before after status is_over
   -- It was broken off. Its files held the same when its turn came and before all, and hold the same after its turn and after all.
   broken : (old new : Journal) → HoldAlike options before old → HoldAlike options new after →
-      (b : Broken files options nothing_said inputs part (Some old) (Some new) status) →
+      (b : Broken files options (λ tree. []) inputs part (Some old) (Some new) status) →
       is_over ≡ (ends_all b.stop || not (is_ok b.report)) → EndsAmong files options inputs part before after status is_over
 
 -- It leaves its part of what its own input files held before all turns.
