@@ -1,19 +1,16 @@
 -- Trusted: What a run reads, why it breaks off, and how it ends.
 -- Our own. It ends in `Runs` and, for the tree of a folder, `FolderRuns`. Claims about files are for devices whose log tells what they hold (kc_io).
 use Rattle.std.specs.Prelude.{◌≡◌, ◌⊎◌, ℕ, if◌then◌else◌, List, [], ◌∷◌, ◌++◌, take, filter, slice_get, slice_index_or, string_bytes, Option, Some, Result, Ok, Err, ⊤}
-use Rattle.kc_language.specs.{ConfigFile.{Line, lines_from, lines_of, reading}, Expansion.{Files, Refused}, Symbols.TreeFacts, Text.{BeginsWith, GoesBeyond}, Texts.HasShortLines, Outcome.{AreLines, IsAcceptedTree, IsOutcome, IsRefusedName, IsRefusedTree, NamesAreRead, Options, Outcome, cannot_read_line, cannot_write_line, diagnostics_of, fresh_input, holds_warnings, lead, lines_text, names_of, out_of_memory_line, read_of, root_file, streams}, declared.outcome.{Delivery.Delivery, Status.Status}}
+use Rattle.kc_language.specs.{ConfigFile.{lines_from, lines_of, reading}, Expansion.{Files, Refused}, Symbols.TreeFacts, Text.{BeginsWith, GoesBeyond}, Texts.HasShortLines, Outcome.{AreLines, IsAcceptedTree, IsOutcome, IsRefusedName, IsRefusedTree, NamesAreRead, Options, Outcome, cannot_read_line, cannot_write_line, diagnostics_of, fresh_input, holds_warnings, lead, lines_text, names_of, out_of_memory_line, read_of, root_file, streams}, declared.outcome.{Delivery.Delivery, Status.Status}}
 use Rattle.kc_io.specs.{Delivery.{NamedText, StopsBefore, cleared_by, delivers, stale_lines, stale_texts, status_with, texts_of}, Inputs.{AreInputs, AreThere, HasTurn, InputFile, ReadsTo, begun, bytes_of, reads, still_told}, Log.{Event, Leads, Log, Tells, TriesToSay, failed, reported, said}, declared.{device.{Action.{Action, TheVariants.{Open, Read, Report}}, Fault.Fault}, steps.Failure.Failure}}
 use Rattle.kc_load.specs.{Folder.{AreFilesOf, IsLoadFault, failed_load, FolderState, Leads as FolderLeads, files_told}, declared.fault.LoadFault.LoadFault}
 use Rattle.kc_conf.specs.declared.stop.Stop.{Stop}
 
 -- ---- What a run reads
--- The lines that a line feed ends in these first bytes of an input file; and the warnings of the files before file i and of such lines of it.
-abbrev pub ended_lines : List ℕ → List ℕ → List Line
-ended_lines name bytes = filter (λ l. l.ended) (lines_from name 1 bytes)
-
+-- The warnings of the files before file i, and of the lines that a line feed ends in these first bytes of it.
 abbrev pub warned_by : Options → TreeFacts → List InputFile → ℕ → List ℕ → List ℕ
-warned_by options tree files i bytes = (reading tree options.prefix (fresh_input options tree)
-    (lines_of (streams (names_of options) (bytes_of (take i files))) ++ ended_lines (slice_index_or (names_of options) i []) bytes)).warned
+warned_by options tree files i bytes = (reading tree options.prefix (fresh_input options tree) (lines_of (streams (names_of options)
+    (bytes_of (take i files))) ++ filter (λ l. l.ended) (lines_from (slice_index_or (names_of options) i []) 1 bytes))).warned
 
 -- This was done when a file could not be opened or read on. The files before it were there and were read, its turn had come, and these of its bytes
 -- were read, in which no line is too long. Their warnings up to there were reported, unless warnings are held back.

@@ -10,6 +10,7 @@ pub mod Many
 pub mod PartRuns
 pub mod PartsOfFaults
 pub mod PartsOfLaws
+pub mod PartsOfMany
 pub mod PartsOfOutcome
 pub mod PartsOfTexts
 pub mod ReadSteps

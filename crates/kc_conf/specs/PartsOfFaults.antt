@@ -1,5 +1,6 @@
 -- For proofs: Parts of the definitions of Faults, by names of their own.
-use Rattle.std.specs.Prelude.{List, [], ℕ}
+use Rattle.std.specs.Prelude.{List, [], ℕ, filter}
+use Rattle.kc_language.specs.ConfigFile.{Line, lines_from}
 use Rattle.kc_language.specs.Symbols.{TreeFacts}
 use Rattle.kc_language.specs.Outcome.{lines_text}
 use Rattle.kc_language.specs.declared.outcome.Delivery.{Delivery}
@@ -24,3 +25,7 @@ said_of_tree tree = lines_text tree.warnings
 
 abbrev pub nothing_said : TreeFacts → List ℕ
 nothing_said tree = []
+
+-- the lines that a line feed ends in these first bytes of an input file
+abbrev pub ended_lines : List ℕ → List ℕ → List Line
+ended_lines name bytes = filter (λ l. l.ended) (lines_from name 1 bytes)
