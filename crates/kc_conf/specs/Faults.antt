@@ -1,4 +1,4 @@
--- Trusted: What a run reads, why it breaks off, and how it ends.
+-- Trusted: Why a run breaks off, and how it ends.
 -- Our own. It ends in `Runs` and, for the tree of a folder, `FolderRuns`. Claims about files are for devices whose log tells what they hold (kc_io).
 use Rattle.std.specs.Prelude.{◌≡◌, ◌⊎◌, ℕ, if◌then◌else◌, List, [], ◌∷◌, ◌++◌, take, filter, slice_get, slice_index_or, string_bytes, Option, Some, Result, Ok, Err, ⊤}
 use Rattle.kc_language.specs.{ConfigFile.{lines_from, lines_of, reading}, Expansion.{Files, Refused}, Symbols.TreeFacts, Text.{BeginsWith, GoesBeyond}, Texts.HasShortLines, Outcome.{AreLines, IsAcceptedTree, IsOutcome, IsRefusedName, IsRefusedTree, NamesAreRead, Options, Outcome, cannot_read_line, cannot_write_line, diagnostics_of, fresh_input, holds_warnings, lead, lines_text, names_of, out_of_memory_line, read_of, root_file, streams}, declared.outcome.{Delivery.Delivery, Status.Status}}
@@ -6,7 +6,7 @@ use Rattle.kc_io.specs.{Delivery.{NamedText, StopsBefore, cleared_by, delivers, 
 use Rattle.kc_load.specs.{Folder.{AreFilesOf, IsLoadFault, failed_load, FolderState, Leads as FolderLeads, files_told}, declared.fault.LoadFault.LoadFault}
 use Rattle.kc_conf.specs.declared.stop.Stop.{Stop}
 
--- ---- What a run reads
+-- ---- An input file that cannot be read
 -- The warnings of the files before file i, and of the lines that a line feed ends in these first bytes of it.
 abbrev pub warned_by : Options → TreeFacts → List InputFile → ℕ → List ℕ → List ℕ
 warned_by options tree files i bytes = (reading tree options.prefix (fresh_input options tree) (lines_of (streams (names_of options)
