@@ -42,7 +42,7 @@ stop_line options (Stop.Failed f) = elim f.action [
   | Report ↦ []
   | action ↦ elim f.fault [
     | Fault.Memory ↦ lead options ++ out_of_memory_line
-    | Fault.Refused ↦ lead options ++ (elim action [ Open ↦ cannot_read_line | Read ↦ cannot_read_line | _ ↦ cannot_write_line ]) f.name.now
+    | Fault.Refused ↦ lead options ++ (elim action [ Open ↦ cannot_read_line f.name.now | Read ↦ cannot_read_line f.name.now | _ ↦ cannot_write_line f.name.now ])
   ]
 ]
 

@@ -97,7 +97,7 @@ abbrev pub output_files : Options → List (List ℕ)
 output_files options = name_if options.out ++ (name_if options.header ++ (name_if options.minimal ++ name_if options.depfile))
 
 abbrev pub written_files : Options → List (List ℕ)
-written_files options = (elim options.delivery [ Delivery.Check ↦ λ names. [] | _ ↦ λ names. names ]) (output_files options)
+written_files options = elim options.delivery [ Delivery.Check ↦ [] | _ ↦ output_files options ]
 
 abbrev pub is_among : List ℕ → List (List ℕ) → Bool
 is_among name = list_any (bytes_eq name)

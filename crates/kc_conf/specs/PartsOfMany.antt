@@ -16,4 +16,4 @@ IsWholeOf files tree options part outcome = (outcome ≡ reported (lines_text tr
 
 -- which of these files are written
 abbrev pub written_by : Delivery → List (List ℕ) → List (List ℕ)
-written_by how = elim how [ Delivery.Check ↦ λ names. [] | _ ↦ λ names. names ]
+written_by how names = elim how [ Delivery.Check ↦ [] | _ ↦ names ]
