@@ -40,7 +40,7 @@ StopsBefore (event ∷ _) (Err failure) = (event.action ≡ failure.action) × (
 StopsBefore _ _ = ⊥
 
 -- ---- The texts of an outcome
--- the texts of an outcome with the names of their files, in the order in which they are delivered
+-- They have the names of their files, and stand in the order in which they are delivered.
 abbrev pub text_at : Option (String Global) → Option (List ℕ) → List NamedText
 text_at (Some name) (Some bytes) = record { name = string_bytes name; bytes = bytes } ∷ []
 text_at _ _ = []
@@ -57,7 +57,7 @@ delivers options = elim options.delivery [
   | Delivery.Replace ↦ λ texts journal. delivery Replacing (chosen Replacing texts journal)
 ]
 
--- the texts that --check finds to differ from their files, and their error lines; if there is one, a run that was done is refused
+-- The texts that --check finds to differ from their files, and their error lines. If there is one, a run that was done is refused.
 abbrev pub stale_texts : Options → List NamedText → Journal → List NamedText
 stale_texts options = elim options.delivery [ Delivery.Check ↦ stale | _ ↦ λ texts journal. [] ]
 
@@ -74,7 +74,6 @@ cleared_by Delivery.Replace action =
 cleared_by _ _ = []
 
 -- ---- Laws
-
 -- The last text of this name, or what was there.
 abbrev pub last_of : List ℕ → List NamedText → Option (List ℕ) → Option (List ℕ)
 last_of name [] there = there

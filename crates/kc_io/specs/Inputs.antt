@@ -1,14 +1,14 @@
 -- Trusted: What a device records of the input files of a run, which are read one after another (our own).
--- The lines that are too long to be read, the names of the files and their lines are those of the chapters ConfigFile, Texts and Outcome.
+-- Which names the options give, and which lines are too long, is said in the language (Outcome, Texts).
 use Rattle.std.specs.Prelude.{◌≡◌, ℕ, ◌<◌, Bool, true, false, not, ◌&&◌, if◌then◌else◌, List, [], ◌∷◌, ◌++◌, All, map, take, flat_map, is_none, is_some, unwrap_or, slice_get, slice_index_or, Option, None, Some}
 use Rattle.kc_language.specs.{ConfigFile.StreamLocation, Texts.HasShortLines, Outcome.{Options, input_files}}
 use Rattle.kc_io.specs.{Log.{Event, Log, Tells, did, each_byte, held}, declared.device.Action.{Action, TheVariants.{Miss, Open, Read}}}
 
--- what the device told at first, if it still tells at the end
+-- What the device told at first, if it still tells at the end.
 abbrev pub still_told : Log → Log → Log
 still_told old new = elim new [ None ↦ None | Some journal ↦ old ]
 
--- an input file: its name, whether it is missing, and its bytes (none if it is missing)
+-- An input file: its name, whether it is missing, and its bytes (none if it is missing).
 pub record InputFile : Type 0 where
   pub name : List ℕ
   pub is_missing : Bool
@@ -56,6 +56,6 @@ pub data ReadsTo (files : List InputFile) : Option StreamLocation → List Event
   line : (stop : StreamLocation) (i : ℕ) (file : InputFile) (events : List Event) → slice_get files i ≡ Some file → HasTurn files i →
       (HasShortLines file.bytes → ⊥) → ReadsInto file events → ReadsTo files (Some stop) (reads (take i files) ++ events)
 
--- what was done with a file, of which these bytes were read, before this action failed
+-- What was done with a file, of which these bytes were read, before this action failed.
 abbrev pub begun : Action → List ℕ → List ℕ → List Event
 begun action = elim action [ Read ↦ λ name bytes. did Open name ++ each_byte Read name bytes | _ ↦ λ name bytes. [] ]
