@@ -16,7 +16,6 @@ use Rattle.kc_conf.specs.Endings.{Ends}
 use Rattle.kc_conf.specs.Faults.{clearing, event_of, stop_line}
 use Rattle.kc_conf.specs.PartsOfFaults.{nothing_said}
 use Rattle.kc_conf.specs.Endings.{Reports}
-use Rattle.kc_io.specs.Delivery.{texts_of}
 use Rattle.kc_io.specs.Inputs.{bytes_of, reads, still_told}
 use Rattle.kc_io.specs.Log.{TriesToSay}
 use Rattle.kc_conf.specs.Faults as ends

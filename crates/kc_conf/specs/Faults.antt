@@ -1,6 +1,6 @@
 -- Trusted: Why a run breaks off, and how it ends.
 -- Our own. It ends in `Runs` and, for the tree of a folder, `FolderRuns`. Claims about files are for devices whose log tells what they hold (kc_io).
-use Rattle.std.specs.Prelude.{◌≡◌, ◌⊎◌, ℕ, if◌then◌else◌, List, [], ◌∷◌, ◌++◌, take, filter, slice_get, slice_index_or, string_bytes, Option, Some, Result, Ok, Err, ⊤}
+use Rattle.std.specs.Prelude.{◌≡◌, ◌⊎◌, ℕ, if◌then◌else◌, List, [], ◌++◌, take, filter, slice_get, slice_index_or, string_bytes, Option, Some, Result, Ok, Err, ⊤}
 use Rattle.kc_language.specs.{ConfigFile.{lines_from, lines_of, reading}, Expansion.{Files, Refused}, Symbols.TreeFacts, Text.{BeginsWith, GoesBeyond}, Texts.HasShortLines, Outcome.{AreLines, IsAcceptedTree, IsOutcome, IsRefusedName, IsRefusedTree, NamesAreRead, Options, Outcome, cannot_read_line, cannot_write_line, diagnostics_of, fresh_input, holds_warnings, lead, lines_text, names_of, out_of_memory_line, read_of, root_file, streams}, declared.outcome.{Delivery.Delivery, Status.Status}}
 use Rattle.kc_io.specs.{Delivery.{NamedText, StopsBefore, cleared_by, delivers, stale_lines, stale_texts, status_with, texts_of}, Inputs.{AreInputs, AreThere, HasTurn, InputFile, ReadsTo, begun, bytes_of, reads, still_told}, Log.{Event, Leads, Log, Tells, TriesToSay, failed, reported, said}, declared.{device.{Action.{Action, TheVariants.{Open, Read, Report}}, Fault.Fault}, steps.Failure.Failure}}
 use Rattle.kc_load.specs.{Folder.{AreFilesOf, IsLoadFault, failed_load, FolderState, Leads as FolderLeads, files_told}, declared.fault.LoadFault.LoadFault}

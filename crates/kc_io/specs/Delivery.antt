@@ -1,5 +1,5 @@
 -- Trusted: How texts are written to their files, event by event, and the laws of delivery (our own).
-use Rattle.std.specs.{Prelude.{◌≡◌, ℕ, Bool, true, false, not, ◌||◌, if◌then◌else◌, List, [], ◌∷◌, ◌++◌, filter, flat_map, Option, None, Some, Result, Ok, Err, String, string_bytes, bytes_eq}, List.list_any, declared.alloc.Global.Global}
+use Rattle.std.specs.{Prelude.{◌≡◌, ℕ, Bool, true, false, not, ◌||◌, if◌then◌else◌, List, [], ◌∷◌, ◌++◌, filter, flat_map, Option, Some, Result, Ok, Err, String, string_bytes, bytes_eq}, List.list_any, declared.alloc.Global.Global}
 use Rattle.kc_language.specs.{Outcome.{Options, Outcome, lead, stale_line}, declared.outcome.{Delivery.Delivery, Status.Status}}
 use Rattle.kc_io.specs.{Log.{Event, Journal, Leads, Log, did, each_byte, held, is_held, keeps_files, with_events}, declared.{device.{Action.{Action, TheVariants.{Clear, Create, Write, Close, Move}}, Site.{Site, TheVariants.{Place, Beside}}}, delivery.Manner.{Manner, TheVariants.{InPlace, Replacing}}, steps.Failure.Failure}}
 
