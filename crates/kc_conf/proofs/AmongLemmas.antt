@@ -12,9 +12,12 @@ use Rattle.kc_io.proofs.LogLemmas.{keeps_reported}
 use Rattle.kc_language.specs.Expansion.{Files}
 use Rattle.kc_language.specs.Symbols.{TreeFacts}
 use Rattle.kc_language.specs.Outcome.{Options, input_files, Outcome, lines_text}
-use Rattle.kc_conf.specs.Faults.{stale_texts, status_with, texts_of, AreInputs, InputFile, IsAsTold}
+use Rattle.kc_io.specs.Delivery.{stale_texts, status_with, texts_of}
+use Rattle.kc_io.specs.Inputs.{AreInputs, InputFile, IsAsTold}
 use Rattle.kc_conf.specs.PartsOfFaults.{stale_by}
-use Rattle.kc_conf.specs.Many.{EndsTurn, StopsAtTree, TakeTurns, TakesTurn, AreSeparate, EachLeavesItsPart, EndsAmong, HoldAlike, TakesTurnAmong, TurnsAmong, is_among, output_files, written_by, written_files}
+use Rattle.kc_conf.specs.Many.{EndsTurn, RunsTurn, StopsAtTree, TakeTurns, TakesTurn, AreSeparate, EachLeavesItsPart, HoldAlike, RunsAmong, is_among, output_files, written_files}
+use Rattle.kc_conf.specs.PartsOfMany.{written_by}
+use Rattle.kc_conf.specs.Faults.{Completes}
 use Rattle.kc_conf.specs.Many as many
 use Rattle.kc_language.specs.declared.outcome.Delivery.{Delivery}
 use Rattle.kc_language.specs.declared.outcome.Delivery.TheVariants as delivered
@@ -48,7 +51,20 @@ known_leads events text old new after leads e = let o = leads.told after e in (o
 of_known : (R : Log → Log → Type 0) (old new : Log) (before after : Journal) → old ≡ Some before → new ≡ Some after → R old new → R (Some before) (Some after)
 of_known R old new before after is_old is_new r = subst (λ (l : Log). R l (Some after)) is_old (subst (λ (l : Log). R old l) is_new r)
 
+-- and back
+of_logs : (R : Log → Log → Type 0) (old new : Log) (before after : Journal) → old ≡ Some before → new ≡ Some after → R (Some before) (Some after) → R old new
+of_logs R old new before after is_old is_new r =
+    subst (λ (l : Log). R l new) (sym is_old) (subst (λ (l : Log). R (Some before) l) (sym is_new) r)
+
 -- ---- what was there when a turn came, and before all
+
+-- the files that the options name hold the same in both
+abbrev AreAlike : Options → Journal → Journal → Type 0
+AreAlike options earlier later = (name : List ℕ) → (is_among name (input_files options) || is_among name (output_files options)) ≡ true → held later name ≡ held earlier name
+
+told_alike : (options : Options) (earlier later : Journal) → AreAlike options earlier later → HoldAlike options (Some earlier) (Some later)
+told_alike options earlier later same name named a is_a b is_b =
+    ap (λ (j : Journal). held j name) (sym (some_same later b is_b)) ∙ same name named ∙ ap (λ (j : Journal). held j name) (some_same earlier a is_a)
 
 module _ (one other : Journal) where
   told-alike : (may : Bool) (file : InputFile) → held other file.name ≡ held one file.name → IsAsTold (Some other) may file → IsAsTold (Some one) may file
@@ -128,39 +144,43 @@ module _ (files : Files) (tree : TreeFacts) where
   ends_known options inputs part old new status is_over after (many.broken b ends) e = known_leads _ _ old new after b.log e
 
   module _ (are_options : Options → Type 0) where
-    takes_known : (old new : Log) (status : Status) (is_over : Bool) (after : Journal) → TakesTurn files tree are_options old new status is_over → new ≡ Some after → (before : Journal) × (old ≡ Some before)
+    takes_known : (old new : Log) (status : Status) (is_over : Bool) (after : Journal) → TakesTurn (RunsTurn files tree) are_options old new status is_over → new ≡ Some after → (before : Journal) × (old ≡ Some before)
     takes_known old new status is_over after (many.runs o are r) e = ends_known o r.inputs r.part old new status is_over after r.ends e
     takes_known old new status is_over after (many.no_options (report, leads) is over) e = known_leads _ _ old new after leads e
 
     -- a turn changes no file that it does not write
     takes_keeps : (name : List ℕ) (old new : Journal) (status : Status) (is_over : Bool) → ((o : Options) → are_options o → is_among name (written_files o) ≡ false) →
-        TakesTurn files tree are_options (Some old) (Some new) status is_over → held new name ≡ held old name
+        TakesTurn (RunsTurn files tree) are_options (Some old) (Some new) status is_over → held new name ≡ held old name
     takes_keeps name old new status is_over none (many.runs o are r) = turn_ends o r.inputs r.part name old new status is_over (none o are) r.ends
     takes_keeps name old new status is_over none (many.no_options (report, leads) is over) = kept_held name (reported report) _ old new leads (keeps_reported report)
 
     module _ (before last : Journal) where
-      ends_among : (o : Options) (inputs : List InputFile) (part : Outcome) (old new : Journal) (status : Status) (is_over : Bool) → HoldAlike o before old → HoldAlike o new last →
-          EndsTurn files o inputs part (Some old) (Some new) status is_over → EndsAmong files o inputs part before last status is_over
-      ends_among o inputs part old new status is_over first after (many.whole c goes_on) = many.whole
-          (λ name written.
-          let named : (is_among name (input_files o) || is_among name (output_files o)) ≡ true =
-          or-second (is_among name (input_files o)) (is_among name (output_files o)) (written_output name o.delivery (output_files o) written) in
-          after name named ∙ completes_last name files o inputs part old new status written c ∙ ap (last_of name (texts_of o part)) (first name named))
-          (c.status_is ∙ ap (λ (l : List NamedText). status_with l part.status) ((c.of_old old refl).1
-          ∙ stale_texts-alike before old o part (λ name output. first name (or-second (is_among name (input_files o)) (is_among name (output_files o)) output))))
-          goes_on
-      ends_among o inputs part old new status is_over first after (many.broken b ends) = many.broken old new first after b ends
+      whole_among : (o : Options) (inputs : List InputFile) (part : Outcome) (old new : Journal) (status : Status) → AreAlike o before old → AreAlike o new last →
+          Completes files o inputs part (Some old) (Some new) status →
+          ((name : List ℕ) → is_among name (written_files o) ≡ true → held last name ≡ last_of name (texts_of o part) (held before name))
+          × (status ≡ status_with (stale_texts o (texts_of o part) before) part.status)
+      whole_among o inputs part old new status first after c = (
+        λ name written.
+            let named : (is_among name (input_files o) || is_among name (output_files o)) ≡ true =
+            or-second (is_among name (input_files o)) (is_among name (output_files o)) (written_output name o.delivery (output_files o) written) in
+            after name named ∙ completes_last name files o inputs part old new status written c ∙ ap (last_of name (texts_of o part)) (first name named),
+        c.status_is ∙ ap (λ (l : List NamedText). status_with l part.status) ((c.of_old old refl).1
+            ∙ stale_texts-alike before old o part (λ name output. first name (or-second (is_among name (input_files o)) (is_among name (output_files o)) output))),
+      )
 
-      takes_among : (old new : Journal) (status : Status) (is_over : Bool) → ((o : Options) → are_options o → HoldAlike o before old) → ((o : Options) → are_options o → HoldAlike o new last) →
-          TakesTurn files tree are_options (Some old) (Some new) status is_over → TakesTurnAmong files tree are_options before last status is_over
-      takes_among old new status is_over first after (many.runs o are r) = many.runs o are (record {
-        inputs = r.inputs;
-        are_inputs = inputs-alike before old o r.inputs (λ name input. first o are name (or-first (is_among name (input_files o)) (is_among name (output_files o)) input)) r.are_inputs;
-        part = r.part;
-        is_part = r.is_part;
-        ends = ends_among o r.inputs r.part old new status is_over (first o are) (after o are) r.ends;
-      })
-      takes_among old new status is_over first after (many.no_options says is over) = many.no_options is over
+      runs_among : (o : Options) (old new : Journal) (status : Status) (is_over : Bool) → AreAlike o before old → AreAlike o new last →
+          RunsTurn files tree o (Some old) (Some new) status is_over → RunsAmong files tree before last o (Some old) (Some new) status is_over
+      runs_among o old new status is_over first after r = record {
+        turn = r;
+        alike = (told_alike o before old first, told_alike o new last after);
+        own_inputs = inputs-alike before old o r.inputs (λ name input. first name (or-first (is_among name (input_files o)) (is_among name (output_files o)) input)) r.are_inputs;
+        if_whole = λ c. whole_among o r.inputs r.part old new status first after c;
+      }
+
+      takes_among : (old new : Journal) (status : Status) (is_over : Bool) → ((o : Options) → are_options o → AreAlike o before old) → ((o : Options) → are_options o → AreAlike o new last) →
+          TakesTurn (RunsTurn files tree) are_options (Some old) (Some new) status is_over → TakesTurn (RunsAmong files tree before last) are_options (Some old) (Some new) status is_over
+      takes_among old new status is_over first after (many.runs o are r) = many.runs o are (runs_among o old new status is_over (first o are) (after o are) r)
+      takes_among old new status is_over first after (many.no_options says is over) = many.no_options says is over
 
 -- ---- all turns
 
@@ -170,13 +190,13 @@ module _ (files : Files) (tree : TreeFacts) (options : ℕ → Options → Type 
   NoneFrom i left name = (k : ℕ) (o : Options) → i ≤ k → k < i + left → options k o → is_among name (written_files o) ≡ false
 
   -- they change no file that none of them writes
-  turns_keep : (i left : ℕ) (start end : Log) (status : Status) → TakeTurns files tree options i left start end status → (last : Journal) → end ≡ Some last →
+  turns_keep : (i left : ℕ) (start end : Log) (status : Status) → TakeTurns (RunsTurn files tree) options i left start end status → (last : Journal) → end ≡ Some last →
       (first : Journal) × (start ≡ Some first) × ((name : List ℕ) → NoneFrom i left name → held last name ≡ held first name)
   turns_keep _ _ _ _ _ (many.none i log) last e = (last, e, λ name none. refl)
   turns_keep _ _ _ _ _ (many.next i left old mid new status others turn rest) last e =
       let (m, is_mid, later) = turns_keep (suc i) left mid new others rest last e in
       let (o, is_old) = takes_known files tree (options i) old mid status false m turn is_mid in
-      let here = of_known (λ l k. TakesTurn files tree (options i) l k status false) old mid o m is_old is_mid turn in (
+      let here = of_known (λ l k. TakesTurn (RunsTurn files tree) (options i) l k status false) old mid o m is_old is_mid turn in (
         o,
         is_old,
         λ name none. later name (λ k opts from below are. none k opts (omega (arith, from)) (omega (arith, below)) are)
@@ -184,7 +204,7 @@ module _ (files : Files) (tree : TreeFacts) (options : ℕ → Options → Type 
       )
   turns_keep _ _ _ _ _ (many.last i left old new status turn) last e =
       let (o, is_old) = takes_known files tree (options i) old new status true last turn e in
-      let here = of_known (λ l k. TakesTurn files tree (options i) l k status true) old new o last is_old e turn in
+      let here = of_known (λ l k. TakesTurn (RunsTurn files tree) (options i) l k status true) old new o last is_old e turn in
       (o, is_old, λ name none. takes_keeps files tree (options i) name o last status true (λ opts are. none i opts (omega arith) (omega arith) are) here)
 
   module _ (count : ℕ) (separate : AreSeparate options count) (before last : Journal) where
@@ -203,30 +223,33 @@ module _ (files : Files) (tree : TreeFacts) (options : ℕ → Options → Type 
             let apart = separate k i other o name small' small differs are' are e in
             absurd (let clash : false ≡ true = ap (λ (b : Bool). false || b) (sym apart.1) ∙ ap (λ (b : Bool). b || is_among name (output_files o)) (sym apart.0) ∙ named in cc)
 
-    first_of : (i : ℕ) (old : Journal) → i < count → IsFresh i old → (o : Options) → options i o → HoldAlike o before old
+    first_of : (i : ℕ) (old : Journal) → i < count → IsFresh i old → (o : Options) → options i o → AreAlike o before old
     first_of i old small fresh o are name named = fresh name (λ k other below are'. other_writes i k o other name small (omega (arith, below, small)) (λ e. absurd (let b : k < i = below in let s : k ≡ i = e in omega arith)) are are' named)
 
     module _ (new : Journal) (i left : ℕ) (within : suc i + left ≡ count) (later : (name : List ℕ) → NoneFrom (suc i) left name → held last name ≡ held new name) where
-      last_of_all : (o : Options) → options i o → HoldAlike o new last
+      last_of_all : (o : Options) → options i o → AreAlike o new last
       last_of_all o are name named = later name (λ k other from below are'. other_writes i k o other name (omega (arith, within)) (omega (arith, below, within)) (λ e. absurd (let f : suc i ≤ k = from in let s : k ≡ i = e in omega arith)) are are' named)
 
     -- one more turn
     more_fresh : (i : ℕ) (old new : Journal) → IsFresh i old → ((name : List ℕ) → ((o : Options) → options i o → is_among name (written_files o) ≡ false) → held new name ≡ held old name) → IsFresh (suc i) new
     more_fresh i old new fresh keeps name none = keeps name (λ o are. none i o (omega arith) are) ∙ fresh name (λ k o below are. none k o (omega (arith, below)) are)
 
-    turns_among : (i left : ℕ) (start end : Log) (status : Status) → TakeTurns files tree options i left start end status → (old : Journal) → start ≡ Some old → end ≡ Some last → i + left ≡ count → IsFresh i old →
-        TurnsAmong files tree options before last i left status
-    turns_among _ _ _ _ _ (many.none i log) old is_start is_end whole fresh = many.none i
+    turns_among : (i left : ℕ) (start end : Log) (status : Status) → TakeTurns (RunsTurn files tree) options i left start end status → (old : Journal) → start ≡ Some old → end ≡ Some last → i + left ≡ count → IsFresh i old →
+        TakeTurns (RunsAmong files tree before last) options i left start end status
+    turns_among _ _ _ _ _ (many.none i log) old is_start is_end whole fresh = many.none i log
     turns_among _ _ _ _ _ (many.next i left start mid end status others turn rest) old is_start is_end whole fresh =
         let (m, is_mid, later) = turns_keep (suc i) left mid end others rest last is_end in
-        let here = of_known (λ l k. TakesTurn files tree (options i) l k status false) start mid old m is_start is_mid turn in
-        many.next i left status others
-        (takes_among files tree (options i) before last old m status false (first_of i old (omega (arith, whole)) fresh) (last_of_all m i left (omega (arith, whole)) later) here)
+        let here = of_known (λ l k. TakesTurn (RunsTurn files tree) (options i) l k status false) start mid old m is_start is_mid turn in
+        many.next i left start mid end status others
+        (of_logs (λ l k. TakesTurn (RunsAmong files tree before last) (options i) l k status false) start mid old m is_start is_mid
+        (takes_among files tree (options i) before last old m status false (first_of i old (omega (arith, whole)) fresh) (last_of_all m i left (omega (arith, whole)) later) here))
         (turns_among (suc i) left mid end others rest m is_mid is_end (omega (arith, whole))
         (more_fresh i old m fresh (λ name none. takes_keeps files tree (options i) name old m status false none here)))
     turns_among _ _ _ _ _ (many.last i left start end status turn) old is_start is_end whole fresh =
-        let here = of_known (λ l k. TakesTurn files tree (options i) l k status true) start end old last is_start is_end turn in
-        many.last i left status (takes_among files tree (options i) before last old last status true (first_of i old (omega (arith, whole)) fresh) (λ o are name named. refl) here)
+        let here = of_known (λ l k. TakesTurn (RunsTurn files tree) (options i) l k status true) start end old last is_start is_end turn in
+        many.last i left start end status
+        (of_logs (λ l k. TakesTurn (RunsAmong files tree before last) (options i) l k status true) start end old last is_start is_end
+        (takes_among files tree (options i) before last old last status true (first_of i old (omega (arith, whole)) fresh) (λ o are name named. refl) here))
 
 -- ---- the whole run
 
@@ -243,6 +266,6 @@ each_leaves_its_part_law options count files root before after status separate (
     let (m, is_mid, later) = turns_keep files tree options 0 count mid (Some after) status ts after refl in
     let warned = subst (λ (l : Log). Leads [] (lines_text tree.warnings) (Some before) l) is_mid said in
     let quiet : (name : List ℕ) → held m name ≡ held before name = λ name. kept_held name [] (lines_text tree.warnings) before m warned refl in
-    many.turns tree accepted
+    many.turns tree mid accepted said
     (turns_among files tree options count separate before after 0 count mid (Some after) status ts m is_mid refl (omega arith) (λ name none. quiet name))
     (λ name none. later name (λ k o from below are. none k o (omega (arith, below)) are) ∙ quiet name)

@@ -19,10 +19,13 @@ use Rattle.kc_io.specs.declared.device.Site.TheVariants.{Beside}
 use Rattle.kc_io.specs.declared.steps.Failure.{Failure}
 use Rattle.kc_io.proofs.LogLemmas.{leads_as, leads_both, leads_nothing, leads_said}
 use Rattle.kc_language.specs.Outcome.{Options, lead, first_line, refusal_line, lines_text}
-use Rattle.kc_conf.specs.PartsOfOutcome.{error_if_at, stale_line, too_long_line, unreadable_line, AreLines}
+use Rattle.kc_conf.specs.PartsOfOutcome.{error_if_at, stale_line, too_long_line, unreadable_line}
+use Rattle.kc_conf.specs.Faults.{AreLines}
 use Rattle.kc_conf.specs.PartsOfOutcome.{strict_line}
 use Rattle.kc_conf.specs.Endings.{BreaksEnd, EndStops, Ends, HandsBy, IsChecked, IsEnded, in_delivery, in_diagnostics}
-use Rattle.kc_conf.specs.Faults.{delivers, stale_lines, stale_texts, status_with, still_told, cleared_by, clearing, event_of}
+use Rattle.kc_conf.specs.Faults.{clearing, event_of}
+use Rattle.kc_io.specs.Delivery.{delivers, stale_lines, stale_texts, status_with, cleared_by}
+use Rattle.kc_io.specs.Inputs.{still_told}
 use Rattle.kc_conf.specs.PartsOfFaults.{delivered_by, stale_by}
 use Rattle.kc_language.specs.Statements.{cause_text, error_at}
 use Rattle.kc_conf.specs.Reads.{IsReportStop}

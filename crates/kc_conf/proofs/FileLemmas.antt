@@ -13,7 +13,9 @@ use Rattle.kc_config_file.specs.Feeding.{ReadsPiece, StreamPosition, stream_star
 use Rattle.kc_config_file.specs.ReaderState.{ReaderState}
 use Rattle.kc_language.specs.ConfigFile.{Line, lines_from, reading}
 use Rattle.kc_config_file.specs.Reading.{with_warnings}
-use Rattle.kc_conf.specs.Faults.{InputFile, IsAsTold, IsThere, begun, ended_lines, reads_one, still_told, event_of}
+use Rattle.kc_conf.specs.Faults.{event_of}
+use Rattle.kc_io.specs.Inputs.{InputFile, IsAsTold, IsThere, begun, reads_one, still_told}
+use Rattle.kc_conf.specs.PartsOfFaults.{ended_lines}
 use Rattle.kc_conf.specs.ReadSteps.{BreaksEnd, BreaksFile, BreaksOpened, BreaksPiece, EndsFile, FailsAt, Gives, IsStillFresh, Opens, ReadsFile, ReadsLines, ReadsOpened, Stand, StopsFile, TakesPiece, TakesSoFar, Warns, in_file, in_lines, said_now, there_file}
 use Rattle.kc_conf.specs.declared.reading.Waiting.{Waiting}
 use Rattle.kc_conf.specs.declared.stop.Stop.{Stop}

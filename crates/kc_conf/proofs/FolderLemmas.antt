@@ -6,11 +6,12 @@ use Rattle.kc_io.specs.Log.{Event, Log}
 use Rattle.kc_load.specs.Loading.{ExpandsAlike}
 use Rattle.kc_language.specs.declared.outcome.Status.{Status}
 use Rattle.kc_conf.specs.declared.stop.Stop.{Stop}
-use Rattle.kc_conf.specs.Faults.{AreReads, Breaks, Broken, Completes, Runs, in_delivery, in_input, in_diagnostics, no_memory, of_tree, refused_name as reads_no_name, refused_tree as reads_no_tree, InputFile}
+use Rattle.kc_conf.specs.Faults.{AreReads, Breaks, Broken, Completes, Runs, in_delivery, in_input, in_diagnostics, no_memory, of_tree, refused_name as reads_no_name, refused_tree as reads_no_tree}
+use Rattle.kc_io.specs.Inputs.{InputFile}
 use Rattle.kc_conf.specs.Many.{AreRootedAt, EndsTurn, IsPart, RunsEach, RunsTurn, StopsAtTree, TakeTurns, TakesTurn}
 use Rattle.kc_conf.specs.Many as many
 use Rattle.kc_language.specs.Outcome.{Options, IsAcceptedTree, IsLenientOutcome, IsOutcome, IsRefusedTree, Outcome, accepted_tree, looped, no_tree, refused_name, refused_tree, root_file}
-use Rattle.kc_conf.specs.PartsOfOutcome.{IsRefusedName, NamesAreRead}
+use Rattle.kc_conf.specs.Faults.{IsRefusedName, NamesAreRead}
 
 -- from these files to others
 module _ (root : List ℕ) (files others : Files) (alike : ExpandsAlike root files others) where
@@ -147,11 +148,11 @@ module _ (root : List ℕ) (files others : Files) (alike : ExpandsAlike root fil
   }
 
   module _ (tree : TreeFacts) (options : ℕ → Options → Type 0) (rooted : AreRootedAt root options) where
-    takes_over : (i : ℕ) (old new : Log) (status : Status) (is_over : Bool) → TakesTurn files tree (options i) old new status is_over → TakesTurn others tree (options i) old new status is_over
+    takes_over : (i : ℕ) (old new : Log) (status : Status) (is_over : Bool) → TakesTurn (RunsTurn files tree) (options i) old new status is_over → TakesTurn (RunsTurn others tree) (options i) old new status is_over
     takes_over i old new status is_over (many.runs o are r) = many.runs o are (turn_over tree o old new status is_over (rooted i o are) r)
     takes_over i old new status is_over (many.no_options says is over) = many.no_options says is over
 
-    turns_over : (i left : ℕ) (old new : Log) (status : Status) → TakeTurns files tree options i left old new status → TakeTurns others tree options i left old new status
+    turns_over : (i left : ℕ) (old new : Log) (status : Status) → TakeTurns (RunsTurn files tree) options i left old new status → TakeTurns (RunsTurn others tree) options i left old new status
     turns_over _ _ _ _ _ (many.none i log) = many.none i log
     turns_over _ _ _ _ _ (many.next i left old mid new status rest t ts) =
         many.next i left old mid new status rest (takes_over i old mid status _ t) (turns_over (suc i) left mid new rest ts)

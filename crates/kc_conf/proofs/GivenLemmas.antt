@@ -9,7 +9,8 @@ use Rattle.kc_io.proofs.LogLemmas.{keeps_both, keeps_bytes}
 use Rattle.kc_language.specs.ConfigFile.{StreamLocation}
 use Rattle.kc_language.specs.Expansion.{Files}
 use Rattle.kc_language.specs.Symbols.{TreeFacts}
-use Rattle.kc_conf.specs.Faults.{AreReads, refused_tree, refused_name, of_tree, AreInputs, AreThere, InputFile, IsAsTold, IsThere, ReadsTo, ReadsUpTo, all, line, reads, reads_one, still_told}
+use Rattle.kc_conf.specs.Faults.{AreReads, refused_tree, refused_name, of_tree, ReadsUpTo}
+use Rattle.kc_io.specs.Inputs.{AreInputs, AreThere, InputFile, IsAsTold, IsThere, ReadsTo, all, line, reads, reads_one, still_told}
 use Rattle.kc_language.specs.Outcome.{Options}
 use Rattle.kc_conf.proofs.TellingLemmas.{Tells-first, Tells-later}
 

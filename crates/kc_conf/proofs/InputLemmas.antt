@@ -17,9 +17,12 @@ use Rattle.kc_config_file.specs.ReaderState.{ReaderState}
 use Rattle.kc_config_file.specs.Reading.{with_warnings}
 use Rattle.kc_language.specs.Outcome.{Options, input_files, lead, names_of, streams}
 use Rattle.kc_options.specs.PartsOfOutcome.{holds_warnings}
-use Rattle.kc_conf.specs.PartsOfOutcome.{AreLines, fresh_input}
+use Rattle.kc_conf.specs.PartsOfOutcome.{fresh_input}
+use Rattle.kc_conf.specs.Faults.{AreLines}
 use Rattle.kc_options.specs.Asked.{may_at}
-use Rattle.kc_conf.specs.Faults.{AreInputs, AreThere, HasTurn, InputFile, IsAsTold, IsThere, ReadsTo, all, begun, bytes_of, ended_lines, line, reads, reads_one, still_told, warned_by, event_of}
+use Rattle.kc_conf.specs.Faults.{warned_by, event_of}
+use Rattle.kc_io.specs.Inputs.{AreInputs, AreThere, HasTurn, InputFile, IsAsTold, IsThere, ReadsTo, all, begun, bytes_of, line, reads, reads_one, still_told}
+use Rattle.kc_conf.specs.PartsOfFaults.{ended_lines}
 use Rattle.kc_conf.specs.Reads.{BreaksInputs, ReadsInputs, StopsInputs, ended_with, in_input, in_diagnostics, no_memory}
 use Rattle.kc_conf.specs.ReadSteps.{AreAsTold, BreaksFile, ReadsFile, ReadsSoFar, Stand, StopsFile, StopsWarnings, Warns, held_back, in_file, in_lines, said_now}
 use Rattle.kc_conf.specs.declared.stop.Stop.{Stop}

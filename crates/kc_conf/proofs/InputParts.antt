@@ -11,12 +11,16 @@ use Rattle.kc_language.specs.ConfigFile.{ReadResult, StreamLocation, UserInput, 
 use Rattle.kc_language.specs.Text.{BeginsWith}
 use Rattle.kc_language.specs.Outcome.{Options, lead, names_of, IsAcceptedTree, IsOutcomeOfReading, Outcome, has_text, lines_text, lost_warnings, names_listed, reported, read_of, refused, root_file, streams, unreadable_name}
 use Rattle.kc_options.specs.PartsOfOutcome.{holds_warnings}
-use Rattle.kc_conf.specs.PartsOfOutcome.{too_long_line, AreLines, fresh_input}
+use Rattle.kc_conf.specs.PartsOfOutcome.{too_long_line, fresh_input}
+use Rattle.kc_conf.specs.Faults.{AreLines}
 use Rattle.kc_conf.specs.PartsOfOutcome.{outcome_of}
 use Rattle.kc_conf.specs.LawSteps.{OneAnswer}
 use Rattle.kc_conf.specs.Computed.{Computes, refuses, ruled_files, value_lines}
 use Rattle.kc_conf.specs.Endings.{Ends, line_if, status_if, texts_or}
-use Rattle.kc_conf.specs.Faults.{AreReads, of_tree, texts_of, nothing_said, AreInputs, AreThere, InputFile, ReadsTo, bytes_of, reads, still_told}
+use Rattle.kc_conf.specs.Faults.{AreReads, of_tree}
+use Rattle.kc_io.specs.Delivery.{texts_of}
+use Rattle.kc_conf.specs.PartsOfFaults.{nothing_said}
+use Rattle.kc_io.specs.Inputs.{AreInputs, AreThere, InputFile, ReadsTo, bytes_of, reads, still_told}
 use Rattle.kc_conf.specs.Laws.{ExactlyOneOutcome}
 use Rattle.kc_conf.specs.PartRuns.{LeavesPart}
 use Rattle.kc_conf.specs.Reads.{BreaksInputs, ReadsInputs, ended_with}

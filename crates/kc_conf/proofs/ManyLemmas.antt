@@ -14,10 +14,15 @@ use Rattle.kc_language.specs.Outcome.{Options, lead, IsAcceptedTree, IsLenientOu
 use Rattle.kc_conf.specs.PartsOfOutcome.{unreadable_line}
 use Rattle.kc_conf.specs.LawSteps.{OneAnswer, OneOutcome}
 use Rattle.kc_conf.specs.Endings.{Ends}
-use Rattle.kc_conf.specs.Faults.{nothing_said, texts_of, bytes_of, reads, still_told, Reports, TriesToSay, clearing, event_of, stop_line}
+use Rattle.kc_conf.specs.Faults.{clearing, event_of, stop_line}
+use Rattle.kc_conf.specs.PartsOfFaults.{nothing_said}
+use Rattle.kc_conf.specs.Endings.{Reports}
+use Rattle.kc_io.specs.Inputs.{bytes_of, reads, still_told}
+use Rattle.kc_io.specs.Log.{TriesToSay}
 use Rattle.kc_conf.specs.Faults as ends
 use Rattle.kc_conf.specs.Laws.{ExactlyOneOutcome}
-use Rattle.kc_conf.specs.Many.{AreRootedAt, CannotSay, ExactlyOnePart, IsPart, IsWholeOf, PartsAreOfRuns, RunsTurn, TakeTurns, TakesTurn, broken, ends_all, greater, last, next, none, warned_before, whole}
+use Rattle.kc_conf.specs.Many.{AreRootedAt, CannotSay, ExactlyOnePart, IsPart, PartsAreOfRuns, RunsTurn, TakeTurns, TakesTurn, broken, ends_all, greater, last, next, none, whole}
+use Rattle.kc_conf.specs.PartsOfMany.{IsWholeOf, warned_before}
 use Rattle.kc_conf.specs.PartRuns.{LeavesPart, LeavesTurn, strictly_after}
 use Rattle.kc_conf.specs.Reads.{IsReportStop}
 use Rattle.kc_conf.specs.declared.accepted.OrderedTree.{OrderedTree}
@@ -211,34 +216,34 @@ greater-assoc Faulted b c = refl
 -- whatever the others do that are left, this and they make the whole
 abbrev pub TurnsSoFar : (files : Files) (tree : TreeFacts) (options : ℕ → Options → Type 0) (count i : ℕ) (status : Status) (old now : Log) → Type 0
 TurnsSoFar files tree options count i status old now =
-    (new : Log) (others : Status) → TakeTurns files tree options i (count - i) now new others → TakeTurns files tree options 0 count old new (greater status others)
+    (new : Log) (others : Status) → TakeTurns (RunsTurn files tree) options i (count - i) now new others → TakeTurns (RunsTurn files tree) options 0 count old new (greater status others)
 
 module _ (files : Files) (tree : TreeFacts) (options : ℕ → Options → Type 0) (count : ℕ) where
   pub TurnsSoFar-none : (log : Log) → TurnsSoFar files tree options count 0 Done log log
   TurnsSoFar-none log = λ new others taken.
-      let e : count - 0 ≡ count = omega arith in subst (λ (n : ℕ). TakeTurns files tree options 0 n log new others) e taken
+      let e : count - 0 ≡ count = omega arith in subst (λ (n : ℕ). TakeTurns (RunsTurn files tree) options 0 n log new others) e taken
 
   left-more : (i : ℕ) → i < count → suc (count - suc i) ≡ count - i
   left-more i within = omega (arith, within)
 
   module _ (i : ℕ) (within : i < count) (status : Status) (old mid new : Log) (so_far : TurnsSoFar files tree options count i status old mid) (turn : Status) where
-    pub TurnsSoFar-next : TakesTurn files tree (options i) mid new turn false → TurnsSoFar files tree options count (i + 1) (greater status turn) old new
+    pub TurnsSoFar-next : TakesTurn (RunsTurn files tree) (options i) mid new turn false → TurnsSoFar files tree options count (i + 1) (greater status turn) old new
     TurnsSoFar-next taken = λ end others rest.
         let e : i + 1 ≡ suc i = omega arith in
-        let rest' : TakeTurns files tree options (suc i) (count - suc i) new end others = subst (λ (n : ℕ). TakeTurns files tree options n (count - n) new end others) e rest in
-        let here : TakeTurns files tree options i (count - i) mid end (greater turn others) =
-        subst (λ (n : ℕ). TakeTurns files tree options i n mid end (greater turn others)) (left-more i within) (next i (count - suc i) mid new end turn others taken rest') in
-        subst (λ (s : Status). TakeTurns files tree options 0 count old end s) (greater-assoc status turn others) (so_far end (greater turn others) here)
+        let rest' : TakeTurns (RunsTurn files tree) options (suc i) (count - suc i) new end others = subst (λ (n : ℕ). TakeTurns (RunsTurn files tree) options n (count - n) new end others) e rest in
+        let here : TakeTurns (RunsTurn files tree) options i (count - i) mid end (greater turn others) =
+        subst (λ (n : ℕ). TakeTurns (RunsTurn files tree) options i n mid end (greater turn others)) (left-more i within) (next i (count - suc i) mid new end turn others taken rest') in
+        subst (λ (s : Status). TakeTurns (RunsTurn files tree) options 0 count old end s) (greater-assoc status turn others) (so_far end (greater turn others) here)
 
-    pub TakeTurns-last : TakesTurn files tree (options i) mid new turn true → TakeTurns files tree options 0 count old new (greater status turn)
+    pub TakeTurns-last : TakesTurn (RunsTurn files tree) (options i) mid new turn true → TakeTurns (RunsTurn files tree) options 0 count old new (greater status turn)
     TakeTurns-last taken =
-        so_far new turn (subst (λ (n : ℕ). TakeTurns files tree options i n mid new turn) (left-more i within) (last i (count - suc i) mid new turn taken))
+        so_far new turn (subst (λ (n : ℕ). TakeTurns (RunsTurn files tree) options i n mid new turn) (left-more i within) (last i (count - suc i) mid new turn taken))
 
-  pub TakeTurns-all : (i : ℕ) → count ≤ i → (status : Status) (old new : Log) → TurnsSoFar files tree options count i status old new → TakeTurns files tree options 0 count old new status
+  pub TakeTurns-all : (i : ℕ) → count ≤ i → (status : Status) (old new : Log) → TurnsSoFar files tree options count i status old new → TakeTurns (RunsTurn files tree) options 0 count old new status
   TakeTurns-all i beyond status old new so_far =
       let e : 0 ≡ count - i = omega (arith, beyond) in
-      subst (λ (s : Status). TakeTurns files tree options 0 count old new s) (greater-done status)
-      (so_far new Done (subst (λ (n : ℕ). TakeTurns files tree options i n new new Done) e (none i new)))
+      subst (λ (s : Status). TakeTurns (RunsTurn files tree) options 0 count old new s) (greater-done status)
+      (so_far new Done (subst (λ (n : ℕ). TakeTurns (RunsTurn files tree) options i n new new Done) e (none i new)))
 
 -- ---- the tree
 

@@ -2,7 +2,8 @@
 use Rattle.std.proofs.Common.{◌≡◌, ℕ, Bool, true, false, List, [], ◌∷◌, ◌++◌, refl, sym, ap, ◌∙◌, append_assoc, length, map, not, Option, Some, None, is_some, Vec, Global, arith}
 use Rattle.std.specs.Prelude.{◌&&◌, ◌||◌, ◌==◌, if◌then◌else◌}
 use Rattle.kc_language.specs.Outcome.{Options, Outcome, has_text, is_done, lines_text, reported, refused_if, strictly, with_rule}
-use Rattle.kc_conf.specs.PartsOfOutcome.{diagnostics_of, text_if}
+use Rattle.kc_conf.specs.PartsOfOutcome.{text_if}
+use Rattle.kc_conf.specs.Faults.{diagnostics_of}
 use Rattle.kc_conf.specs.PartsOfOutcome.{depfile_text}
 use Rattle.kc_conf.specs.PartRuns.{strictly_after}
 

@@ -21,8 +21,8 @@ use Rattle.kc_config_file.specs.Feeding.{StreamPosition, stream_start, ReadsPiec
 use Rattle.kc_language.specs.Texts.{HasShortLines}
 use Rattle.kc_config_file.specs.Reading.{with_warnings}
 use Rattle.kc_language.specs.Outcome.{lines_text}
-use Rattle.kc_conf.specs.PartsOfOutcome.{AreLines}
-use Rattle.kc_conf.specs.Faults.{ended_lines}
+use Rattle.kc_conf.specs.Faults.{AreLines}
+use Rattle.kc_conf.specs.PartsOfFaults.{ended_lines}
 
 -- ---- whole lines
 

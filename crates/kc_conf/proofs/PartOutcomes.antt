@@ -10,9 +10,10 @@ use Rattle.kc_io.specs.Log.{Log}
 use Rattle.kc_io.specs.Delivery.{NamedText}
 use Rattle.kc_conf.specs.Computed.{refuses, ruled_files, value_lines}
 use Rattle.kc_conf.specs.Endings.{Ends, line_if, status_if, texts_or}
-use Rattle.kc_conf.specs.Faults.{text_at, texts_of}
+use Rattle.kc_io.specs.Delivery.{text_at, texts_of}
 use Rattle.kc_language.specs.Outcome.{Options, IsAcceptedTree, IsLenientOutcome, IsOutcome, IsOutcomeOfReading, IsSolutionFor, Outcome, accepted_tree, has_text, is_done, lines_text, long_line, names_listed, reported, read_of, refused, refused_if, refused_name, refused_tree, root_file, unreadable_name, warned_files, whole, with_rule, refuses_input}
-use Rattle.kc_conf.specs.PartsOfOutcome.{too_long_line, NamesAreRead}
+use Rattle.kc_conf.specs.PartsOfOutcome.{too_long_line}
+use Rattle.kc_conf.specs.Faults.{NamesAreRead}
 use Rattle.kc_conf.specs.PartsOfOutcome.{outcome_of}
 use Rattle.kc_conf.specs.LawSteps.{OneAnswer}
 use Rattle.kc_conf.specs.Laws.{ExactlyOneOutcome}

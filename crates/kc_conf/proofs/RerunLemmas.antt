@@ -17,7 +17,7 @@ use Rattle.kc_language.specs.Outcome.{Options, lead, IsAcceptedTree, IsLenientOu
 use Rattle.kc_conf.specs.PartsOfOutcome.{text_if, fresh_input, is_taken}
 use Rattle.kc_conf.specs.LawSteps.{OneAnswer}
 use Rattle.kc_conf.proofs.OutcomeLemmas.{strictly-config, strictly-minimal, strictly-off, config_kept, minimal_kept, rule-config, rule-minimal, text_if-same, text_if_is}
-use Rattle.kc_conf.specs.Laws.{AreAlone, ConfigIsReadAgain, OutcomesAreReadAgain, RefusesNothing, MinimalIsReadAgain, MinimalIsRunAgain, TextsHaveShortLines, WrittenAreWhole}
+use Rattle.kc_conf.specs.Laws.{AreAlone, OutcomesAreReadAgain, RefusesNothing, MinimalIsRunAgain, TextsAreReadAgain, WrittenAreWhole}
 
 -- ---- what is written is of a whole run
 
@@ -78,45 +78,38 @@ module _ (formed : TreesAreWellFormed) (leaves : StreamsLeavePlaces) (files : Fi
         solves = subst (λ (t : TreeFacts). Solves (name_count t) (equations t (place_at solution.places)) (value_of solution)) is.solution_is.tree_is is.solution_is.solves.solves;
       }
 
-pub minimal_read_again : TreesAreWellFormed → StreamsLeavePlaces → MinimalRestores → MinimalHasNothingToSpare → MinimalIsReadAgain
-minimal_read_again formed leaves restores spare files options all tree solution is_pre is =
+pub texts_read_again : TreesAreWellFormed → StreamsLeavePlaces → MinimalRestores → MinimalHasNothingToSpare → ConfigIsIdempotent → WrittenTextsAreShort → TextsAreReadAgain
+texts_read_again formed leaves restores spare settles short files options all tree solution is_pre is =
     let of_tree = whole_solution formed leaves files options all tree solution is in
-    (restores tree options.prefix solution.places (value_of solution) is_pre of_tree, spare tree options.prefix solution.places (value_of solution) is_pre of_tree)
-
-pub config_read_again : TreesAreWellFormed → StreamsLeavePlaces → ConfigIsIdempotent → ConfigIsReadAgain
-config_read_again formed leaves settles files options all tree solution is_pre is =
-    settles tree options.prefix solution.places (value_of solution) is_pre (whole_solution formed leaves files options all tree solution is)
-
-pub texts_short : TreesAreWellFormed → StreamsLeavePlaces → WrittenTextsAreShort → TextsHaveShortLines
-texts_short formed leaves short files options all tree solution is_pre is =
+    let shorts =
     subst (λ (f : TreeFacts). let t = valuation_view f (place_at solution.places) (value_of solution) in HasShortLines (config_text tree options.prefix t)
     × HasShortLines (minimal_text tree options.prefix t))
-    (sym is.solution_is.tree_is) (short tree options.prefix solution.places (value_of solution) is_pre (whole_solution formed leaves files options all tree solution is))
+    (sym is.solution_is.tree_is) (short tree options.prefix solution.places (value_of solution) is_pre of_tree) in (
+      restores tree options.prefix solution.places (value_of solution) is_pre of_tree,
+      spare tree options.prefix solution.places (value_of solution) is_pre of_tree,
+      settles tree options.prefix solution.places (value_of solution) is_pre of_tree,
+      shorts.0,
+      shorts.1,
+    )
 
 -- the same of an outcome's texts
-pub outcomes_read_again : WrittenAreWhole → MinimalIsReadAgain → ConfigIsReadAgain → TextsHaveShortLines → OutcomesAreReadAgain
-outcomes_read_again written minimals configs shorts files options all outcome config is_pre is_outcome there =
+pub outcomes_read_again : WrittenAreWhole → TextsAreReadAgain → OutcomesAreReadAgain
+outcomes_read_again written again files options all outcome config is_pre is_outcome there =
     let (tree, solution, is, (opened, are, from), kept) = written files options all outcome config is_outcome there in
     let part : Outcome = reported (lines_text tree.warnings) (reported (read_of options tree all).warned (warned_files options tree (read_of options tree all).input solution)) in
-    let view : valuation_view tree (place_at solution.places) (value_of solution) ≡ solution_view solution =
-    ap (λ (f : TreeFacts). valuation_view f (place_at solution.places) (value_of solution)) (sym is.solution_is.tree_is) in
-    let short = shorts files options all tree solution is_pre is in
-    let config_is : config ≡ config_text tree options.prefix (valuation_view tree (place_at solution.places) (value_of solution)) =
-    sym (text_if_is options.out _ config (sym (ap (λ (o : Outcome). o.config) from ∙ rule-config options opened part) ∙ there)) ∙ ap (config_text tree options.prefix) (sym view) in (
+    let (gives, needs, settles, short, short_minimal) = again files options all tree solution is_pre is in
+    let config_is : config ≡ config_text tree options.prefix (solution_view solution) =
+    sym (text_if_is options.out _ config (sym (ap (λ (o : Outcome). o.config) from ∙ rule-config options opened part) ∙ there)) in (
       tree,
       solution,
       is,
       config_is,
-      subst (λ t. HasShortLines t) (ap (config_text tree options.prefix) (sym view) ∙ sym config_is) short.0,
-      configs files options all tree solution is_pre is,
+      subst (λ t. HasShortLines t) (sym config_is) short,
+      settles,
       λ minimal wanted.
-          let minimal_is : minimal ≡ minimal_text tree options.prefix (valuation_view tree (place_at solution.places) (value_of solution)) =
-          sym (text_if_is options.minimal _ minimal (sym (ap (λ (o : Outcome). o.minimal) from ∙ rule-minimal options opened part) ∙ wanted)) ∙ ap (minimal_text tree options.prefix) (sym view) in (
-            minimal_is,
-            subst (λ t. HasShortLines t) (ap (minimal_text tree options.prefix) (sym view) ∙ sym minimal_is) short.1,
-            (minimals files options all tree solution is_pre is).0,
-            (minimals files options all tree solution is_pre is).1,
-          ),
+          let minimal_is : minimal ≡ minimal_text tree options.prefix (solution_view solution) =
+          sym (text_if_is options.minimal _ minimal (sym (ap (λ (o : Outcome). o.minimal) from ∙ rule-minimal options opened part) ∙ wanted)) in
+          (minimal_is, subst (λ t. HasShortLines t) (sym minimal_is) short_minimal, gives, needs),
     )
 
 -- ---- a run on the minimal file alone
@@ -171,7 +164,7 @@ values_same tree places s t same count one is =
     subst (λ (p : Places). Solves (name_count tree) (equations tree (place_at p)) (value_of t)) is.places_are first in
     ext_get_or (TextValue Undefined []) t.values s.values counts (λ i lt. one.only (value_of t) solves i (subst (λ n. i < n) (is.solves.count ∙ ap name_count is.tree_is) lt))
 
-module _ (text_same : ConfigIsOfValues) (answer : OneAnswer) (again : MinimalIsReadAgain) (files : Files) (options alone : Options) (all : List (List ℕ)) (text : List ℕ)
+module _ (text_same : ConfigIsOfValues) (answer : OneAnswer) (again : TextsAreReadAgain) (files : Files) (options alone : Options) (all : List (List ℕ)) (text : List ℕ)
     (is_pre : is_prefix options.prefix ≡ true) (same : AreAlone options alone) (lets_pass : alone.strict ≡ false) where
   module _ (tree : TreeFacts) (solution : Solution) (is : RefusesNothing files options all tree solution) (text_is : minimal_text tree options.prefix (solution_view solution) ≡ text) where
     abbrev name : List ℕ
@@ -226,7 +219,7 @@ module _ (text_same : ConfigIsOfValues) (answer : OneAnswer) (again : MinimalIsR
         let part' : IsOutcomeOfReading alone tree (read_of alone tree (text ∷ [])) rest = subst (λ t. IsOutcomeOfReading alone t (read_of alone t (text ∷ [])) rest) trees part in
         ap (λ (o : Outcome). o.config) was ∙ of_reading rest part'
 
-pub minimal_run_again : ConfigIsOfValues → OneAnswer → MinimalIsReadAgain → MinimalIsRunAgain
+pub minimal_run_again : ConfigIsOfValues → OneAnswer → TextsAreReadAgain → MinimalIsRunAgain
 minimal_run_again text_same answer again files options alone all outcome later text is_pre same lets_pass tree_passes read_all (lenient, opened, is_lenient, are, is_outcome) there (later_lenient, others, second, are_too, was) =
     let part : Outcome = strictly options lenient in
     let has : part.minimal ≡ Some text = sym (rule-minimal options opened part) ∙ sym (ap (λ (o : Outcome). o.minimal) is_outcome) ∙ there in

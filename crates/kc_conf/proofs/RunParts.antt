@@ -10,7 +10,8 @@ use Rattle.kc_io.specs.declared.steps.Failure.{Failure}
 use Rattle.kc_io.proofs.LogLemmas.{leads_as, leads_both, leads_nothing, leads_said}
 use Rattle.kc_language.specs.Text.{BeginsWith, GoesBeyond}
 use Rattle.kc_language.specs.Outcome.{Options, lead, refusal_line, IsAcceptedTree, IsLenientOutcome, IsOutcome, IsRefusedTree, refused, unreadable_name, Outcome, accepted_tree, has_text, is_done, lines_text, reported, refused_name, refused_tree, root_file, strictly}
-use Rattle.kc_conf.specs.PartsOfOutcome.{unreadable_line, AreLines, NamesAreRead, diagnostics_of}
+use Rattle.kc_conf.specs.PartsOfOutcome.{unreadable_line}
+use Rattle.kc_conf.specs.Faults.{AreLines, NamesAreRead, diagnostics_of}
 use Rattle.kc_conf.specs.LawSteps.{OneAnswer}
 use Rattle.kc_conf.specs.Endings.{Answers, BreaksEnd, EndStops, Ends, IsEnded}
 use Rattle.kc_conf.specs.Endings as tail
@@ -20,7 +21,10 @@ use Rattle.kc_diagnostics.proofs.CauseLemmas.{memory_or_not}
 use Rattle.kc_language.specs.declared.diagnostics.Cause.TheVariants.{Memory as NoMemory}
 use Rattle.kc_read.specs.declared.refusal.Refusal.{Refusal}
 use Rattle.kc_language.specs.declared.outcome.Status.TheVariants.{Refused}
-use Rattle.kc_conf.specs.Faults.{AreReads, Breaks, Completes, Runs, delivers, in_delivery, in_input, in_diagnostics, no_memory, nothing_said, refused_name as name_refused, refused_tree as tree_refused, said_of_tree, stale_lines, stale_texts, texts_of, InputFile, bytes_of, reads, still_told, cleared_by, clearing, event_of, stop_line}
+use Rattle.kc_conf.specs.Faults.{AreReads, Breaks, Completes, Runs, in_delivery, in_input, in_diagnostics, no_memory, refused_name as name_refused, refused_tree as tree_refused, clearing, event_of, stop_line}
+use Rattle.kc_io.specs.Delivery.{delivers, stale_lines, stale_texts, texts_of, cleared_by}
+use Rattle.kc_conf.specs.PartsOfFaults.{nothing_said, said_of_tree}
+use Rattle.kc_io.specs.Inputs.{InputFile, bytes_of, reads, still_told}
 use Rattle.kc_conf.specs.Laws.{ExactlyOneOutcome}
 use Rattle.kc_conf.specs.PartRuns.{EndsSo, IsBrokenOff, LeavesPart, LeavesRun, StopsLines}
 use Rattle.kc_conf.specs.Reads.{IsReportStop, StopsInputs}

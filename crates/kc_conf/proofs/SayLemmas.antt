@@ -13,9 +13,10 @@ use Rattle.kc_io.specs.declared.steps.Failure.{Failure}
 use Rattle.kc_io.specs.PartsOfLog.{ends_line}
 use Rattle.kc_config_file.specs.WholeLines.{AddsWholeLines}
 use Rattle.kc_language.specs.Outcome.{Options, first_line, lines_text, lead}
-use Rattle.kc_conf.specs.PartsOfOutcome.{cannot_read_line, AreLines}
+use Rattle.kc_language.specs.Outcome.{cannot_read_line}
+use Rattle.kc_conf.specs.Faults.{AreLines}
 use Rattle.kc_conf.specs.Reads.{IsWholeEnd, LastEndsLine, SaysIf, failure_line}
-use Rattle.kc_conf.specs.Faults.{Reports}
+use Rattle.kc_conf.specs.Endings.{Reports}
 use Rattle.kc_conf.specs.declared.stop.Stop.TheVariants.{Failed}
 
 -- ---- the bytes before the first line feed

@@ -18,7 +18,9 @@ use Rattle.kc_io.proofs.HeldLemmas.{delivery_held}
 use Rattle.kc_io.proofs.LogLemmas.{keeps_both, keeps_bytes, keeps_reported, looks_acts, spot_more, spot_of}
 use Rattle.kc_language.specs.Expansion.{Files}
 use Rattle.kc_language.specs.Symbols.{TreeFacts}
-use Rattle.kc_conf.specs.Faults.{Breaks, Broken, Completes, delivers, in_delivery, in_input, in_diagnostics, no_memory, text_at, texts_of, InputFile, begun, reads, cleared_by, clearing, event_of}
+use Rattle.kc_conf.specs.Faults.{Breaks, Broken, Completes, in_delivery, in_input, in_diagnostics, no_memory, clearing, event_of}
+use Rattle.kc_io.specs.Delivery.{delivers, text_at, texts_of, cleared_by}
+use Rattle.kc_io.specs.Inputs.{InputFile, begun, reads}
 use Rattle.kc_conf.specs.PartsOfFaults.{delivered_by}
 use Rattle.kc_language.specs.Outcome.{Options, Outcome}
 use Rattle.kc_language.specs.declared.outcome.Delivery.{Delivery}
@@ -27,7 +29,8 @@ use Rattle.kc_language.specs.declared.outcome.Status.{Status}
 use Rattle.kc_conf.specs.declared.stop.Stop.{Stop}
 use Rattle.kc_conf.specs.declared.stop.Stop.TheVariants.{OutOfMemory, Failed}
 use Rattle.kc_conf.proofs.GivenLemmas.{keeps-are_reads, keeps-reads}
-use Rattle.kc_conf.specs.Many.{is_among, name_if, output_files, written_by, written_files}
+use Rattle.kc_conf.specs.Many.{is_among, name_if, output_files, written_files}
+use Rattle.kc_conf.specs.PartsOfMany.{written_by}
 
 and-both : (a b : Bool) → (a && b) ≡ true → (a ≡ true) × (b ≡ true)
 and-both true b h = (refl, h)

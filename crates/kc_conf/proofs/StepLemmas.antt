@@ -17,7 +17,7 @@ use Rattle.kc_language.specs.Text.{BeginsWith, GoesBeyond}
 use Rattle.kc_config_file.specs.WholeLines.{AddsWholeLines}
 use Rattle.kc_config_file.specs.declared.fault.InputFault.{InputFault}
 use Rattle.kc_config_file.specs.declared.fault.InputFault.TheVariants.{InputLineTooLong, Memory}
-use Rattle.kc_conf.specs.PartsOfOutcome.{AreLines}
+use Rattle.kc_conf.specs.Faults.{AreLines}
 use Rattle.kc_conf.specs.Reads.{ended_with}
 use Rattle.kc_conf.specs.ReadSteps.{BreaksEnd, BreaksPiece, EndsFile, FailsAt, OnlyHeldWaits, SaysWaiting, Stand, StopsWarnings, TakesPiece, Warns, held_back, said_now}
 use Rattle.kc_conf.specs.Faults.{event_of}

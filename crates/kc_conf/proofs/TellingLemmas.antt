@@ -2,7 +2,7 @@
 use Rattle.std.proofs.Common.{◌≡◌, ℕ, List, refl, sym, ap, ◌∙◌, None, Some, true}
 use Rattle.kc_io.specs.Log.{keeps_files, Event, Journal, Log, Leads, Tells, held, with_events}
 use Rattle.kc_io.proofs.LogLemmas.{held_stays}
-use Rattle.kc_conf.specs.Faults.{still_told}
+use Rattle.kc_io.specs.Inputs.{still_told}
 
 -- where it tells in the end, it is what it told at first
 pub still-there : (old new : Log) (after : Journal) → new ≡ Some after → still_told old new ≡ old

@@ -6,7 +6,7 @@ use Rattle.kc_language.specs.ConfigFile.{UserInput}
 use Rattle.kc_io.specs.Delivery.{NamedText}
 use Rattle.kc_language.specs.Outcome.{Options, rule_text, lead, target, IsSolutionFor, Outcome, has_text, lines_text, lost_warnings, refuses_input}
 use Rattle.kc_conf.specs.PartsOfOutcome.{files_of}
-use Rattle.kc_conf.specs.Faults.{texts_of}
+use Rattle.kc_io.specs.Delivery.{texts_of}
 
 -- the files of a solution, with a dependency file that lists these names
 abbrev pub ruled_files : Options → TreeFacts → Solution → Option (List (List ℕ)) → Outcome

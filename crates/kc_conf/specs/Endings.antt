@@ -1,16 +1,19 @@
 -- For proofs: How a run ends behind its reading.
-use Rattle.std.specs.Prelude.{◌≡◌, ◌≢◌, ◌⊎◌, ℕ, Bool, List, [], ◌++◌, Option, None, Some, Result, Ok, Err}
+use Rattle.std.specs.Prelude.{◌≡◌, ◌≢◌, ◌⊎◌, ℕ, Bool, List, [], ◌++◌, Option, None, Some, Result, Ok, Err, is_ok}
 use Rattle.kc_language.specs.Text.{GoesBeyond}
 use Rattle.kc_io.specs.Delivered.{Delivered}
 use Rattle.kc_io.specs.Delivery.{StopsBefore, NamedText, stale}
-use Rattle.kc_io.specs.Log.{Event, Log, Leads, Tells}
+use Rattle.kc_io.specs.Log.{Event, Log, Leads, Tells, reported, said}
 use Rattle.kc_io.specs.declared.delivery.Manner.{Manner}
 use Rattle.kc_io.specs.declared.device.Action.TheVariants.{Report}
+use Rattle.kc_io.specs.declared.device.Fault.{Fault}
 use Rattle.kc_io.specs.declared.steps.Failure.{Failure}
 use Rattle.kc_language.specs.Outcome.{Options, lead}
-use Rattle.kc_conf.specs.PartsOfOutcome.{AreLines}
+use Rattle.kc_conf.specs.Faults.{AreLines}
 use Rattle.kc_conf.specs.PartsOfOutcome.{strict_line}
-use Rattle.kc_conf.specs.Faults.{delivers, stale_lines, stale_texts, status_with, still_told, Reports, clearing, event_of}
+use Rattle.kc_conf.specs.Faults.{IsReport, clearing, event_of, stop_line}
+use Rattle.kc_io.specs.Delivery.{delivers, stale_lines, stale_texts, status_with}
+use Rattle.kc_io.specs.Inputs.{still_told}
 use Rattle.kc_conf.specs.Reads.{IsReportStop}
 use Rattle.kc_language.specs.declared.outcome.Delivery.TheVariants.{Check}
 use Rattle.kc_language.specs.declared.outcome.Status.{Status}
@@ -76,6 +79,11 @@ pub record IsChecked (options : Options) (texts : List NamedText) (old new : Log
   pub of_old : Tells (still_told old new) (λ journal. found ≡ stale texts journal)
   pub log : Leads [] (stale_lines options found) old new
   pub status_is : status ≡ status_with found Done
+
+-- it is reported why a run was broken off
+abbrev pub Reports : Options → Stop → Bool → Log → Log → Type 0
+Reports options stop is_told old new = (report : Result (Unit {0}) Fault) × IsReport stop report × (is_told ≡ is_ok report)
+    × Leads (reported report) (said report (stop_line options stop)) old new
 
 -- a run that was not broken off answers its status; else it says why it was, and answers `Faulted`
 abbrev pub Answers : Options → Result Status Stop → Status → Log → Log → Type 0

@@ -2,7 +2,15 @@
 use Rattle.std.specs.Prelude.{◌≡◌, ◌⊎◌, ℕ, List}
 use Rattle.kc_language.specs.Expansion.{Files, Refused}
 use Rattle.kc_language.specs.Symbols.{TreeFacts}
-use Rattle.kc_language.specs.Outcome.{IsAcceptedTree, IsOutcome, IsRefusedTree, Options, Outcome, root_file}
+use Rattle.kc_language.specs.ConfigFile.{ArePlacesOf, Places}
+use Rattle.kc_language.specs.Needs.{IsAccepted}
+use Rattle.kc_language.specs.Texts.{Solution}
+use Rattle.kc_language.specs.Outcome.{IsAcceptedTree, IsOutcome, IsRefusedTree, IsSolutionFor, Options, Outcome, root_file}
+
+-- An accepted tree has a solution under any user values of it.
+abbrev pub SolutionExists : Type 0
+SolutionExists =
+    (tree : TreeFacts) (places : Places) → IsAccepted tree → ArePlacesOf tree places → (solution : Solution) × IsSolutionFor tree places solution
 
 -- Over any files a root file has an accepted tree or a refusal.
 abbrev pub AnswerExists : Type 0

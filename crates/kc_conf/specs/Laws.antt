@@ -1,32 +1,17 @@
 -- Trusted: The laws of outcomes: there is exactly one, its texts give the values back, no line of the input files is lost, and what --strict takes.
 -- Our own. Each law is the contract of a function that does nothing (src/laws.rt).
 use Rattle.std.specs.{List.list_any, Prelude.{◌≡◌, ◌⊎◌, ℕ, Bool, true, false, All, Contains, List, [], ◌∷◌, ◌++◌, Some, None, codes, is_some}}
-use Rattle.kc_language.specs.{Expansion.{AreOpened, Files, Refused}, Needs.IsAccepted, Symbols.{SymbolFacts, TreeFacts}, Values.{GivenValue, facts, given_of, name, same_given}, declared.{diagnostics.Warning.TheVariants.SetAgain, expressions.{SymId.SymId, SymbolType.SymbolType}}}
-use Rattle.kc_language.specs.ConfigFile.{ArePlacesOf, Assigns, Effect, Line, Places, Silent, Warns, effect, is_prefix, lines_of, place_at, stream_location, warning_line}
-use Rattle.kc_config_file.specs.PartsOfConfigFile.{change_line}
-use Rattle.kc_language.specs.Texts.{ConfigGivesBack, HasShortLines, MinimalGivesBack, MinimalNeedsEach, Solution, config_text, has_prompt, known, minimal_text, solution_view, valuation_view, value_of, value_warnings}
-use Rattle.kc_conf.specs.PartsOfTexts.{lost_line}
-use Rattle.kc_language.specs.Outcome.{IsAcceptedTree, IsOutcome, IsRefusedTree, IsSolutionFor, Options, Outcome, is_outside, lines_text, names_of, read_of, refuses_input, reported, root_file, streams, warned_files, with_rule}
-use Rattle.kc_conf.specs.PartsOfOutcome.{AreLines, NamesAreRead, diagnostics_of}
+use Rattle.kc_language.specs.{ConfigFile.{Assigns, Effect, Line, Silent, Warns, effect, is_prefix, lines_of, value_text, warning_line}, Expansion.{AreOpened, Files, Refused}, Symbols.{SymbolFacts, TreeFacts}, Texts.{ConfigGivesBack, HasShortLines, MinimalGivesBack, MinimalNeedsEach, Solution, config_text, has_prompt, known, minimal_text, solution_view, value_of, value_warnings}, Values.{GivenValue, facts, given_of, name, same_given}, Outcome.{IsAcceptedTree, IsOutcome, IsRefusedTree, IsSolutionFor, Options, Outcome, is_outside, lines_text, names_of, read_of, refuses_input, reported, root_file, streams, warned_files, with_rule}, declared.{diagnostics.Warning.TheVariants.{Changed, Lost, SetAgain}, expressions.{SymId.SymId, SymbolType.SymbolType}}}
+use Rattle.kc_conf.specs.Faults.{AreLines, NamesAreRead, diagnostics_of}
 
 -- ---- There is exactly one outcome
--- An accepted tree has a solution under any user values of it.
-abbrev pub SolutionExists : Type 0
-SolutionExists =
-    (tree : TreeFacts) (places : Places) → IsAccepted tree → ArePlacesOf tree places → (solution : Solution) × IsSolutionFor tree places solution
-
 -- Over any files a root file has one accepted tree and no refusal, or one refusal and no accepted tree.
-abbrev pub IsOnlyAccepted : Files → List ℕ → TreeFacts → Type 0
-IsOnlyAccepted files root tree = IsAcceptedTree files root tree
-    × ((other : TreeFacts) → IsAcceptedTree files root other → tree ≡ other) × ((r : Refused) → IsRefusedTree files root r → ⊥)
-
-abbrev pub IsOnlyRefused : Files → List ℕ → Refused → Type 0
-IsOnlyRefused files root r = IsRefusedTree files root r
-    × ((other : Refused) → IsRefusedTree files root other → r ≡ other) × ((tree : TreeFacts) → IsAcceptedTree files root tree → ⊥)
-
 abbrev pub ExactlyOneAnswer : Type 0
-ExactlyOneAnswer =
-    (files : Files) (root : List ℕ) → ((tree : TreeFacts) × IsOnlyAccepted files root tree) ⊎ ((r : Refused) × IsOnlyRefused files root r)
+ExactlyOneAnswer = (files : Files) (root : List ℕ) →
+    ((tree : TreeFacts) × IsAcceptedTree files root tree × ((other : TreeFacts) → IsAcceptedTree files root other → tree ≡ other)
+    × ((r : Refused) → IsRefusedTree files root r → ⊥))
+    ⊎ ((r : Refused) × IsRefusedTree files root r × ((other : Refused) → IsRefusedTree files root other → r ≡ other)
+    × ((tree : TreeFacts) → IsAcceptedTree files root tree → ⊥))
 
 -- For all files, options and input files there is an outcome, and no other. Its diagnostics are whole lines.
 abbrev pub ExactlyOneOutcome : Type 0
@@ -53,33 +38,23 @@ WrittenAreWhole = (files : Files) (options : Options) (all : List (List ℕ)) (o
     (reported (read_of options tree all).warned (warned_files options tree (read_of options tree all).input solution)))))
     × (refuses_input options (read_of options tree all).input solution ≡ false)
 
--- The minimal file, read alone and starting from no user values, gives the values back. With any nonempty set of its lines left out it does not.
-abbrev pub MinimalIsReadAgain : Type 0
-MinimalIsReadAgain = (files : Files) (options : Options) (all : List (List ℕ)) (tree : TreeFacts) (solution : Solution) →
+-- Each text of such a run is read alone and starting from no user values. The minimal file gives the values back; with any nonempty set of its lines
+-- left out it does not. The .config gives them back exactly where `ConfigGivesBack` says. No line of them is too long to be read again.
+abbrev pub TextsAreReadAgain : Type 0
+TextsAreReadAgain = (files : Files) (options : Options) (all : List (List ℕ)) (tree : TreeFacts) (solution : Solution) →
     is_prefix options.prefix ≡ true → RefusesNothing files options all tree solution →
     MinimalGivesBack tree options.prefix solution.places (value_of solution) × MinimalNeedsEach tree options.prefix solution.places (value_of solution)
-
--- The .config, read alone and starting from no user values, gives the values back exactly where `ConfigGivesBack` says.
-abbrev pub ConfigIsReadAgain : Type 0
-ConfigIsReadAgain = (files : Files) (options : Options) (all : List (List ℕ)) (tree : TreeFacts) (solution : Solution) →
-    is_prefix options.prefix ≡ true → RefusesNothing files options all tree solution →
-    ConfigGivesBack tree options.prefix solution.places (value_of solution)
-
--- No line of the .config or of the minimal file is too long to be read again.
-abbrev pub TextsHaveShortLines : Type 0
-TextsHaveShortLines = (files : Files) (options : Options) (all : List (List ℕ)) (tree : TreeFacts) (solution : Solution) →
-    is_prefix options.prefix ≡ true → RefusesNothing files options all tree solution →
-    HasShortLines (config_text tree options.prefix (solution_view solution)) × HasShortLines (minimal_text tree options.prefix (solution_view solution))
+    × ConfigGivesBack tree options.prefix solution.places (value_of solution)
+    × HasShortLines (config_text tree options.prefix (solution_view solution)) × HasShortLines (minimal_text tree options.prefix (solution_view solution))
 
 -- The texts of an outcome are those of one solution, and all this holds of them.
 abbrev pub OutcomesAreReadAgain : Type 0
 OutcomesAreReadAgain = (files : Files) (options : Options) (all : List (List ℕ)) (outcome : Outcome) (config : List ℕ) →
     is_prefix options.prefix ≡ true → IsOutcome files options all outcome → outcome.config ≡ Some config →
     (tree : TreeFacts) × (solution : Solution) × RefusesNothing files options all tree solution
-    × (config ≡ config_text tree options.prefix (valuation_view tree (place_at solution.places) (value_of solution)))
-    × HasShortLines config × ConfigGivesBack tree options.prefix solution.places (value_of solution)
-    × ((minimal : List ℕ) → outcome.minimal ≡ Some minimal →
-    (minimal ≡ minimal_text tree options.prefix (valuation_view tree (place_at solution.places) (value_of solution))) × HasShortLines minimal
+    × (config ≡ config_text tree options.prefix (solution_view solution)) × HasShortLines config
+    × ConfigGivesBack tree options.prefix solution.places (value_of solution) × ((minimal : List ℕ) → outcome.minimal ≡ Some minimal →
+    (minimal ≡ minimal_text tree options.prefix (solution_view solution)) × HasShortLines minimal
     × MinimalGivesBack tree options.prefix solution.places (value_of solution) × MinimalNeedsEach tree options.prefix solution.places (value_of solution))
 
 -- options with the same root file and prefix, which ask for the full `.config` where these do, and without fragments
@@ -101,21 +76,14 @@ MinimalIsRunAgain = (files : Files) (options alone : Options) (all : List (List 
 abbrev pub HoldsLine : List ℕ → List ℕ → Type 0
 HoldsLine text line = (before after : List ℕ) × (text ≡ before ++ line ++ after) × AreLines before
 
--- The line gives that symbol no value.
-abbrev pub LeavesAlone : TreeFacts → List ℕ → SymId → Line → Type 0
-LeavesAlone tree prefix s l = (given : GivenValue) → effect tree prefix l ≡ Assigns s given → ⊥
-
 -- The next line that gives the symbol a value is reported to set it again and, if the value is another one, to change it from this line's value.
 abbrev pub IsSetAgain : TreeFacts → List ℕ → List ℕ → Line → SymId → SymbolType → GivenValue → List Line → Type 0
 IsSetAgain tree prefix warned l s symbol_type given later = (front back : List Line) × (next : Line) × (other : GivenValue)
-    × (later ≡ front ++ next ∷ back) × All (LeavesAlone tree prefix s) front × (effect tree prefix next ≡ Assigns s other)
+    × (later ≡ front ++ next ∷ back) × All (λ m. (value : GivenValue) → effect tree prefix m ≡ Assigns s value → ⊥) front
+    × (effect tree prefix next ≡ Assigns s other)
     × HoldsLine warned (warning_line next.stream next.number (SetAgain (name tree s))) × (same_given given other ≡ false →
-    HoldsLine warned (change_line (stream_location next) (name tree s) symbol_type given (stream_location l) other))
-
--- What this line gave is the symbol's value, or it is reported that it is not.
-abbrev pub IsKeptOrWarned : TreeFacts → Solution → List ℕ → Line → SymId → SymbolFacts → GivenValue → Type 0
-IsKeptOrWarned tree solution warned l s f given = (given ≡ given_of (known solution s))
-    ⊎ HoldsLine warned (lost_line (stream_location l) (name tree s) f.symbol_type given (given_of (known solution s)) ++ codes "\n")
+    HoldsLine warned (warning_line next.stream next.number
+    (Changed (name tree s) (value_text symbol_type given) l.stream l.number (value_text symbol_type other))))
 
 -- A line of this effect, before these lines, is accounted for: it is warned of, or what it gives a prompted symbol is replaced, kept or reported.
 module _ (tree : TreeFacts) (prefix : List ℕ) (solution : Solution) (warned : List ℕ) where
@@ -123,7 +91,9 @@ module _ (tree : TreeFacts) (prefix : List ℕ) (solution : Solution) (warned : 
   IsAccountedFor l later Silent = Unit {0}
   IsAccountedFor l later (Warns line_warning) = HoldsLine warned (warning_line l.stream l.number line_warning)
   IsAccountedFor l later (Assigns s given) = (f : SymbolFacts) → facts tree s ≡ Some f → has_prompt f.prompts ≡ true →
-      IsSetAgain tree prefix warned l s f.symbol_type given later ⊎ IsKeptOrWarned tree solution warned l s f given
+      IsSetAgain tree prefix warned l s f.symbol_type given later ⊎ ((given ≡ given_of (known solution s))
+      ⊎ HoldsLine warned (warning_line l.stream l.number
+      (Lost (name tree s) (value_text f.symbol_type given) (value_text f.symbol_type (given_of (known solution s))))))
 
 -- If files are written, the .config is the text of the solution, and the warnings account for each line of the input files by its values.
 abbrev pub NothingIsLost : Type 0

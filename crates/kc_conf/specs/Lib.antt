@@ -9,6 +9,8 @@ pub mod LostView
 pub mod Many
 pub mod PartRuns
 pub mod PartsOfFaults
+pub mod PartsOfLaws
+pub mod PartsOfMany
 pub mod PartsOfOutcome
 pub mod PartsOfTexts
 pub mod ReadSteps

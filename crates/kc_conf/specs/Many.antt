@@ -1,22 +1,16 @@
 -- Trusted: What a run for many configurations of one tree leaves, and that these do not touch one another's files.
 -- Our own. It ends in `RunsEach`, and in the law `EachLeavesItsPart` of configurations whose files are apart.
 use Rattle.std.specs.{List.list_any, Prelude.{◌≡◌, ◌≢◌, ◌⊎◌, ℕ, suc, ◌<◌, Bool, true, false, not, ◌||◌, List, [], ◌∷◌, ◌++◌, Option, None, Some, String, string_bytes, bytes_eq, is_ok}, declared.alloc.Global.Global}
-use Rattle.kc_language.specs.{Expansion.{AreOpened, Files, Refused}, Symbols.TreeFacts, declared.outcome.{Delivery.Delivery, Status.Status}}
-use Rattle.kc_language.specs.Outcome.{IsAcceptedTree, IsOutcome, IsRefusedTree, Options, Outcome, input_files, lines_text, refusal_line, reported, root_file, unreadable_name}
-use Rattle.kc_conf.specs.PartsOfOutcome.{IsRefusedName}
-use Rattle.kc_diagnostics.specs.PartsOfOutcome.{out_of_memory_line}
-use Rattle.kc_io.specs.{Delivery.last_of, Log.{Journal, Leads, Log, failed, held}, declared.device.{Action.Action, Fault.Fault}}
-use Rattle.kc_conf.specs.{Faults.{AreInputs, Broken, Completes, InputFile, TriesToSay, bytes_of, nothing_said, stale_texts, status_with, still_told, texts_of}, declared.stop.Stop.Stop}
+use Rattle.kc_language.specs.{Expansion.{AreOpened, Files, Refused}, Symbols.TreeFacts, Outcome.{IsAcceptedTree, IsOutcome, IsRefusedTree, Options, Outcome, input_files, lines_text, out_of_memory_line, refusal_line, reported, root_file, unreadable_name}, declared.outcome.{Delivery.Delivery, Status.Status}}
+use Rattle.kc_io.specs.{Delivery.{last_of, stale_texts, status_with, texts_of}, Inputs.{AreInputs, InputFile, bytes_of, still_told}, Log.{Journal, Leads, Log, Tells, TriesToSay, failed, held}, declared.device.{Action.Action, Fault.Fault}}
+use Rattle.kc_conf.specs.{Faults.{Broken, Completes, IsRefusedName}, declared.stop.Stop.Stop}
 
 -- ---- What one configuration leaves
 -- A run reports the tree's warnings before all else, unless it refuses a name that make cannot read. The run for one configuration leaves its part
 -- behind them: with them before it, it is what that run leaves alone. A name is refused for one configuration.
-abbrev pub warned_before : TreeFacts → Option (List ℕ) → List ℕ
-warned_before tree refused = elim refused [ None ↦ lines_text tree.warnings | _ ↦ [] ]
-
 abbrev pub IsPart : Files → TreeFacts → Options → List (List ℕ) → Outcome → Type 0
 IsPart files tree options all part = (opened : List (List ℕ)) × AreOpened files (root_file options) opened
-    × IsOutcome files options all (reported (warned_before tree (unreadable_name options opened)) part)
+    × IsOutcome files options all (reported (elim (unreadable_name options opened) [ None ↦ lines_text tree.warnings | _ ↦ [] ]) part)
 
 -- A configuration of an accepted tree leaves one part, in whatever company and order: its own options and input files determine it.
 abbrev pub ExactlyOnePart : Type 0
@@ -24,14 +18,10 @@ ExactlyOnePart = (files : Files) (tree : TreeFacts) (options : Options) (all : L
     (part : Outcome) × IsPart files tree options all part × ((other : Outcome) → IsPart files tree options all other → part ≡ other)
 
 -- What its own run leaves is the tree's warnings and then its part, or where a name is refused, its part.
-abbrev pub IsWholeOf : Files → TreeFacts → Options → Outcome → Outcome → Type 0
-IsWholeOf files tree options part outcome = (outcome ≡ reported (lines_text tree.warnings) part)
-    ⊎ ((name : List ℕ) × IsRefusedName files options name × (outcome ≡ part))
-
 abbrev pub PartsAreOfRuns : Type 0
 PartsAreOfRuns = (files : Files) (tree : TreeFacts) (options : Options) (all : List (List ℕ)) (outcome : Outcome) →
-    IsAcceptedTree files (root_file options) tree → IsOutcome files options all outcome →
-    (part : Outcome) × IsPart files tree options all part × IsWholeOf files tree options part outcome
+    IsAcceptedTree files (root_file options) tree → IsOutcome files options all outcome → (part : Outcome) × IsPart files tree options all part
+    × ((outcome ≡ reported (lines_text tree.warnings) part) ⊎ ((name : List ℕ) × IsRefusedName files options name × (outcome ≡ part)))
 
 -- ---- One turn
 -- A run for one configuration is whole; or it was broken off and reports why. That ends all runs if memory ran out or the diagnostics failed.
@@ -42,7 +32,7 @@ ends_all (Stop.Failed f) = elim f.action [ Action.Report ↦ true | _ ↦ elim f
 pub data EndsTurn (files : Files) (options : Options) (inputs : List InputFile) (part : Outcome) (old new : Log) (status : Status) (is_over : Bool) :
     Type 0 where
   whole : Completes files options inputs part old new status → is_over ≡ false → EndsTurn files options inputs part old new status is_over
-  broken : (b : Broken files options nothing_said inputs part old new status) → is_over ≡ (ends_all b.stop || not (is_ok b.report)) →
+  broken : (b : Broken files options (λ tree. []) inputs part old new status) → is_over ≡ (ends_all b.stop || not (is_ok b.report)) →
       EndsTurn files options inputs part old new status is_over
 
 -- It leaves its part of what its own input files hold when its turn comes.
@@ -53,15 +43,7 @@ pub record RunsTurn (files : Files) (tree : TreeFacts) (options : Options) (old 
   pub is_part : IsPart files tree options (bytes_of inputs) part
   pub ends : EndsTurn files options inputs part old new status is_over
 
--- A configuration with such options is run; or there was no memory for its options, which ends all.
-pub data TakesTurn (files : Files) (tree : TreeFacts) (are_options : Options → Type 0) (old new : Log) (status : Status) (is_over : Bool) : Type 0 where
-  runs : (options : Options) → are_options options → RunsTurn files tree options old new status is_over →
-      TakesTurn files tree are_options old new status is_over
-  no_options : TriesToSay out_of_memory_line old new → status ≡ Status.Faulted → is_over ≡ true →
-      TakesTurn files tree are_options old new status is_over
-
 -- ---- All turns
--- The configurations from number i on, so many as are left, take their turns, up to one that ends all. The status is the greatest of theirs.
 abbrev pub greater : Status → Status → Status
 greater a = elim a [
   | Status.Done ↦ λ b. b
@@ -70,12 +52,19 @@ greater a = elim a [
   | Status.Faulted ↦ λ b. Status.Faulted
 ]
 
-pub data TakeTurns (files : Files) (tree : TreeFacts) (options : ℕ → Options → Type 0) : ℕ → ℕ → Log → Log → Status → Type 0 where
-  none : (i : ℕ) (log : Log) → TakeTurns files tree options i 0 log log Status.Done
-  next : (i left : ℕ) (old mid new : Log) (status others : Status) → TakesTurn files tree (options i) old mid status false →
-      TakeTurns files tree options (suc i) left mid new others → TakeTurns files tree options i (suc left) old new (greater status others)
-  last : (i left : ℕ) (old new : Log) (status : Status) → TakesTurn files tree (options i) old new status true →
-      TakeTurns files tree options i (suc left) old new status
+module _ (turn : Options → Log → Log → Status → Bool → Type 0) where
+  -- A configuration with such options takes its turn (`turn` says what it does then); or there was no memory for its options, which ends all.
+  pub data TakesTurn (are_options : Options → Type 0) (old new : Log) (status : Status) (is_over : Bool) : Type 0 where
+    runs : (options : Options) → are_options options → turn options old new status is_over → TakesTurn are_options old new status is_over
+    no_options : TriesToSay out_of_memory_line old new → status ≡ Status.Faulted → is_over ≡ true → TakesTurn are_options old new status is_over
+
+  -- The configurations from number i on, so many as are left, take their turns, up to one that ends all. The status is the greatest of theirs.
+  pub data TakeTurns (options : ℕ → Options → Type 0) : ℕ → ℕ → Log → Log → Status → Type 0 where
+    none : (i : ℕ) (log : Log) → TakeTurns options i 0 log log Status.Done
+    next : (i left : ℕ) (old mid new : Log) (status others : Status) → TakesTurn (options i) old mid status false →
+        TakeTurns options (suc i) left mid new others → TakeTurns options i (suc left) old new (greater status others)
+    last : (i left : ℕ) (old new : Log) (status : Status) → TakesTurn (options i) old new status true →
+        TakeTurns options i (suc left) old new status
 
 -- all options name this root file; the diagnostics failed
 abbrev pub AreRootedAt : List ℕ → (ℕ → Options → Type 0) → Type 0
@@ -85,19 +74,19 @@ abbrev pub CannotSay : Log → Log → Type 0
 CannotSay old new = (fault : Fault) × Leads (failed Action.Report [] fault) [] old new
 
 -- No configuration takes its turn: the tree is refused and this is reported, or the diagnostics (for it or for its warnings) or memory failed.
-pub data StopsAtTree (files : Files) (root : List ℕ) (old new : Log) (status : Status) : Type 0 where
-  refused_tree : (r : Refused) → IsRefusedTree files root r → Leads [] (refusal_line r) old new → status ≡ Status.Refused →
-      StopsAtTree files root old new status
-  unsaid_refusal : (r : Refused) → IsRefusedTree files root r → CannotSay old new → status ≡ Status.Faulted → StopsAtTree files root old new status
-  unsaid_warnings : (tree : TreeFacts) → IsAcceptedTree files root tree → lines_text tree.warnings ≢ [] → CannotSay old new →
-      status ≡ Status.Faulted → StopsAtTree files root old new status
-  no_memory : TriesToSay out_of_memory_line old new → status ≡ Status.Faulted → StopsAtTree files root old new status
+module _ (files : Files) (root : List ℕ) (old new : Log) (status : Status) where
+  pub data StopsAtTree : Type 0 where
+    refused_tree : (r : Refused) → IsRefusedTree files root r → Leads [] (refusal_line r) old new → status ≡ Status.Refused → StopsAtTree
+    unsaid_refusal : (r : Refused) → IsRefusedTree files root r → CannotSay old new → status ≡ Status.Faulted → StopsAtTree
+    unsaid_warnings : (tree : TreeFacts) → IsAcceptedTree files root tree → lines_text tree.warnings ≢ [] → CannotSay old new →
+        status ≡ Status.Faulted → StopsAtTree
+    no_memory : TriesToSay out_of_memory_line old new → status ≡ Status.Faulted → StopsAtTree
 
 -- A run for so many configurations. It ends at the tree; or the tree is accepted, its warnings are reported once, and then they take their turns.
 pub data RunsEach (files : Files) (root : List ℕ) (options : ℕ → Options → Type 0) (count : ℕ) (old new : Log) (status : Status) : Type 0 where
   stops : StopsAtTree files root old new status → RunsEach files root options count old new status
   turns : (tree : TreeFacts) (mid : Log) → IsAcceptedTree files root tree → Leads [] (lines_text tree.warnings) old mid →
-      TakeTurns files tree options 0 count mid new status → RunsEach files root options count old new status
+      TakeTurns (RunsTurn files tree) options 0 count mid new status → RunsEach files root options count old new status
 
 -- ---- Configurations whose files are apart
 -- the files that a run with these options writes, or compares with --check; those that it writes; and whether a name is one of these
@@ -107,11 +96,8 @@ name_if file = elim file [ None ↦ [] | Some name ↦ string_bytes name ∷ [] 
 abbrev pub output_files : Options → List (List ℕ)
 output_files options = name_if options.out ++ (name_if options.header ++ (name_if options.minimal ++ name_if options.depfile))
 
-abbrev pub written_by : Delivery → List (List ℕ) → List (List ℕ)
-written_by how = elim how [ Delivery.Check ↦ λ names. [] | _ ↦ λ names. names ]
-
 abbrev pub written_files : Options → List (List ℕ)
-written_files options = written_by options.delivery (output_files options)
+written_files options = elim options.delivery [ Delivery.Check ↦ [] | _ ↦ output_files options ]
 
 abbrev pub is_among : List ℕ → List (List ℕ) → Bool
 is_among name = list_any (bytes_eq name)
@@ -122,51 +108,22 @@ AreSeparate options count = (i j : ℕ) (one other : Options) (name : List ℕ) 
     i < count → j < count → i ≢ j → options i one → options j other →
     is_among name (written_files one) ≡ true → (is_among name (input_files other) ≡ false) × (is_among name (output_files other) ≡ false)
 
--- No configuration writes the file.
-abbrev pub IsWrittenByNone : (ℕ → Options → Type 0) → ℕ → List ℕ → Type 0
-IsWrittenByNone options count name = (i : ℕ) (one : Options) → i < count → options i one → is_among name (written_files one) ≡ false
-
 -- The files that the options name hold the same at both times.
-abbrev pub HoldAlike : Options → Journal → Journal → Type 0
-HoldAlike options earlier later = (name : List ℕ) →
-    (is_among name (input_files options) || is_among name (output_files options)) ≡ true → held later name ≡ held earlier name
+abbrev pub HoldAlike : Options → Log → Log → Type 0
+HoldAlike options earlier later = (name : List ℕ) → (is_among name (input_files options) || is_among name (output_files options)) ≡ true →
+    Tells earlier (λ a. Tells later (λ b. held b name ≡ held a name))
 
--- How the turn of a configuration ended, among others. (`before` tells what the files held before all turns, and `after` what they hold after all.)
-pub data EndsAmong (files : Files) (options : Options) (inputs : List InputFile) (part : Outcome) (before after : Journal) (status : Status)
-    (is_over : Bool) : Type 0 where
-  -- It is whole: each file that it writes holds its text. With --check it was compared with what was there before all.
-  whole : ((name : List ℕ) → is_among name (written_files options) ≡ true →
-      held after name ≡ last_of name (texts_of options part) (held before name)) →
-      status ≡ status_with (stale_texts options (texts_of options part) before) part.status → is_over ≡ false →
-      EndsAmong files options inputs part before after status is_over
-  -- It was broken off. Its files held the same when its turn came and before all, and hold the same after its turn and after all.
-  broken : (old new : Journal) → HoldAlike options before old → HoldAlike options new after →
-      (b : Broken files options nothing_said inputs part (Some old) (Some new) status) →
-      is_over ≡ (ends_all b.stop || not (is_ok b.report)) → EndsAmong files options inputs part before after status is_over
-
--- It leaves its part of what its own input files held before all turns.
-pub record RunsAmong (files : Files) (tree : TreeFacts) (options : Options) (before after : Journal) (status : Status) (is_over : Bool) : Type 0 where
-  pub inputs : List InputFile
-  pub are_inputs : AreInputs (Some before) options inputs
-  pub part : Outcome
-  pub is_part : IsPart files tree options (bytes_of inputs) part
-  pub ends : EndsAmong files options inputs part before after status is_over
-
--- A configuration with such options is run; or there was no memory for its options.
-pub data TakesTurnAmong (files : Files) (tree : TreeFacts) (are_options : Options → Type 0) (before after : Journal) (status : Status)
-    (is_over : Bool) : Type 0 where
-  runs : (options : Options) → are_options options → RunsAmong files tree options before after status is_over →
-      TakesTurnAmong files tree are_options before after status is_over
-  no_options : status ≡ Status.Faulted → is_over ≡ true → TakesTurnAmong files tree are_options before after status is_over
-
--- The configurations from one number on, so many as are left, take their turns, up to one that ends all. Each leaves what it leaves of the files as
--- they were before all turns, whatever the others do.
-pub data TurnsAmong (files : Files) (tree : TreeFacts) (options : ℕ → Options → Type 0) (before after : Journal) : ℕ → ℕ → Status → Type 0 where
-  none : (i : ℕ) → TurnsAmong files tree options before after i 0 Status.Done
-  next : (i left : ℕ) (status others : Status) → TakesTurnAmong files tree (options i) before after status false →
-      TurnsAmong files tree options before after (suc i) left others → TurnsAmong files tree options before after i (suc left) (greater status others)
-  last : (i left : ℕ) (status : Status) → TakesTurnAmong files tree (options i) before after status true →
-      TurnsAmong files tree options before after i (suc left) status
+-- The turn of a configuration among others. Its files held the same when its turn came and `before` all turns, and hold the same after its turn and
+-- `after` all. It leaves its part of what its own input files held before all. If it is whole, each file that it writes holds its text; with --check
+-- it was compared with what was there before all.
+pub record RunsAmong (files : Files) (tree : TreeFacts) (before after : Journal) (options : Options) (old new : Log) (status : Status) (is_over : Bool) :
+    Type 0 where
+  pub turn : RunsTurn files tree options old new status is_over
+  pub alike : HoldAlike options (Some before) old × HoldAlike options new (Some after)
+  pub own_inputs : AreInputs (Some before) options turn.inputs
+  pub if_whole : Completes files options turn.inputs turn.part old new status → ((name : List ℕ) → is_among name (written_files options) ≡ true →
+      held after name ≡ last_of name (texts_of options turn.part) (held before name))
+      × (status ≡ status_with (stale_texts options (texts_of options turn.part) before) turn.part.status)
 
 -- A run for so many configurations, where the files held these before and those after. It ends at the tree, and changes no file; or the
 -- configurations take their turns, none of which touches what another one reads or leaves, and a file that none of them writes holds what it held.
@@ -174,8 +131,9 @@ pub data LeavesEach (files : Files) (root : List ℕ) (options : ℕ → Options
     Type 0 where
   stops : StopsAtTree files root (Some before) (Some after) status → ((name : List ℕ) → held after name ≡ held before name) →
       LeavesEach files root options count before after status
-  turns : (tree : TreeFacts) → IsAcceptedTree files root tree → TurnsAmong files tree options before after 0 count status →
-      ((name : List ℕ) → IsWrittenByNone options count name → held after name ≡ held before name) →
+  turns : (tree : TreeFacts) (mid : Log) → IsAcceptedTree files root tree → Leads [] (lines_text tree.warnings) (Some before) mid →
+      TakeTurns (RunsAmong files tree before after) options 0 count mid (Some after) status → ((name : List ℕ) →
+      ((i : ℕ) (one : Options) → i < count → options i one → is_among name (written_files one) ≡ false) → held after name ≡ held before name) →
       LeavesEach files root options count before after status
 
 -- If none of them writes a file of another one, a run for all leaves, over a device that tells, what each leaves of the files before the run.

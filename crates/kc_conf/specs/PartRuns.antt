@@ -3,7 +3,9 @@ use Rattle.std.specs.Prelude.{◌≢◌, ℕ, Bool, ◌&&◌, ◌||◌, List, []
 use Rattle.kc_language.specs.Expansion.{Files}
 use Rattle.kc_language.specs.Symbols.{TreeFacts}
 use Rattle.kc_io.specs.Log.{Event, Log, Leads}
-use Rattle.kc_conf.specs.Faults.{Breaks, Completes, nothing_said, said_of_tree, AreInputs, InputFile, bytes_of, still_told, clearing, event_of}
+use Rattle.kc_conf.specs.Faults.{Breaks, Completes, clearing, event_of}
+use Rattle.kc_conf.specs.PartsOfFaults.{nothing_said, said_of_tree}
+use Rattle.kc_io.specs.Inputs.{AreInputs, InputFile, bytes_of, still_told}
 use Rattle.kc_conf.specs.Many.{IsPart}
 use Rattle.kc_language.specs.Outcome.{Options, IsOutcome, Outcome, has_text, is_done, lines_text, reported, refused_if}
 use Rattle.kc_conf.specs.Reads.{IsReportStop}

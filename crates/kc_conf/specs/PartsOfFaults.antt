@@ -1,5 +1,8 @@
 -- For proofs: Parts of the definitions of Faults, by names of their own.
-use Rattle.std.specs.Prelude.{List, []}
+use Rattle.std.specs.Prelude.{List, [], ℕ, filter}
+use Rattle.kc_language.specs.ConfigFile.{Line, lines_from}
+use Rattle.kc_language.specs.Symbols.{TreeFacts}
+use Rattle.kc_language.specs.Outcome.{lines_text}
 use Rattle.kc_language.specs.declared.outcome.Delivery.{Delivery}
 use Rattle.kc_io.specs.Delivery.{NamedText, chosen, delivery, stale}
 use Rattle.kc_io.specs.Log.{Event, Journal}
@@ -15,3 +18,14 @@ delivered_by Delivery.Check texts journal = []
 abbrev pub stale_by : Delivery → List NamedText → Journal → List NamedText
 stale_by Delivery.Check texts journal = stale texts journal
 stale_by _ texts journal = []
+
+-- what is reported of the tree before anything is read: its warnings; or nothing, if they were reported before other configurations
+abbrev pub said_of_tree : TreeFacts → List ℕ
+said_of_tree tree = lines_text tree.warnings
+
+abbrev pub nothing_said : TreeFacts → List ℕ
+nothing_said tree = []
+
+-- the lines that a line feed ends in these first bytes of an input file
+abbrev pub ended_lines : List ℕ → List ℕ → List Line
+ended_lines name bytes = filter (λ l. l.ended) (lines_from name 1 bytes)

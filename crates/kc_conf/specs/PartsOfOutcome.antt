@@ -11,9 +11,6 @@ use Rattle.kc_language.specs.declared.outcome.Status.TheVariants.{Done}
 use Rattle.kc_language.specs.declared.diagnostics.RunError.TheVariants as run
 
 -- ---- The error lines of a run
-abbrev pub cannot_read_line : List ℕ → List ℕ
-cannot_read_line name = error_line (run_error_text (run.CannotRead name))
-
 abbrev pub cannot_write_line : List ℕ → List ℕ
 cannot_write_line name = error_line (run_error_text (run.CannotWrite name))
 
@@ -33,18 +30,6 @@ strict_line = error_line (run_error_text run.WarningsRefused)
 -- an error line, at its location if it has one
 abbrev pub error_if_at : Option (List ℕ × ℕ) → List ℕ → List ℕ
 error_if_at location text = elim location [ None ↦ error_line text | Some place ↦ error_at place.0 place.1 text ]
-
--- ---- The names of the dependency file
--- Make can read each name of the rule. Or the tree is accepted, and this is the first name that make cannot read.
-abbrev pub NamesAreRead : Files → Options → Type 0
-NamesAreRead files options = (opened : List (List ℕ)) → AreOpened files (root_file options) opened → unreadable_name options opened ≡ None
-
-pub record IsRefusedName (files : Files) (options : Options) (name : List ℕ) : Type 0 where
-  pub tree : TreeFacts
-  pub accepted : IsAcceptedTree files (root_file options) tree
-  pub opened : List (List ℕ)
-  pub are_opened : AreOpened files (root_file options) opened
-  pub unreadable : unreadable_name options opened ≡ Some name
 
 -- ---- What reading and solving give
 -- the user's input before any file is read
@@ -85,11 +70,3 @@ depfile_text options opened = option_map (rule_text (target options)) (names_lis
 abbrev pub IsOutcomeOfTree : Options → TreeFacts → List (List ℕ) → Outcome → Type 0
 IsOutcomeOfTree options tree all outcome =
     (rest : Outcome) × IsOutcomeOfReading options tree (read_of options tree all) rest × (outcome ≡ reported (lines_text tree.warnings) rest)
-
--- ---- Diagnostics
-abbrev pub diagnostics_of : Outcome → List ℕ
-diagnostics_of outcome = outcome.warned ++ outcome.refusal
-
--- the text is lines, each with its line feed
-abbrev pub AreLines : List ℕ → Type 0
-AreLines text = (lines : List (List ℕ)) × (text ≡ lines_text lines)

@@ -13,8 +13,10 @@ use Rattle.kc_config_file.specs.ReaderState.{ReaderState}
 use Rattle.kc_config_file.specs.Reading.{with_warnings}
 use Rattle.kc_language.specs.Text.{BeginsWith, GoesBeyond}
 use Rattle.kc_language.specs.Outcome.{Options, input_files, names_of, streams}
-use Rattle.kc_conf.specs.PartsOfOutcome.{AreLines}
-use Rattle.kc_conf.specs.Faults.{InputFile, IsAsTold, IsThere, ReadsInto, begun, bytes_of, ended_lines, reads, reads_one, still_told, event_of}
+use Rattle.kc_conf.specs.Faults.{AreLines}
+use Rattle.kc_conf.specs.Faults.{event_of}
+use Rattle.kc_io.specs.Inputs.{InputFile, IsAsTold, IsThere, ReadsInto, begun, bytes_of, reads, reads_one, still_told}
+use Rattle.kc_conf.specs.PartsOfFaults.{ended_lines}
 use Rattle.kc_conf.specs.Reads.{IsReportStop, ended_with}
 use Rattle.kc_conf.specs.declared.reading.Waiting.{Waiting}
 use Rattle.kc_conf.specs.declared.stop.Stop.{Stop}

@@ -11,9 +11,10 @@ use Rattle.kc_io.specs.declared.steps.Failure.{Failure}
 use Rattle.kc_language.specs.ConfigFile.{ReadResult, StreamLocation, UserInput, lines_of, reading}
 use Rattle.kc_language.specs.Text.{BeginsWith, GoesBeyond}
 use Rattle.kc_language.specs.Outcome.{Options, names_of, streams}
-use Rattle.kc_diagnostics.specs.PartsOfOutcome.{out_of_memory_line}
-use Rattle.kc_conf.specs.PartsOfOutcome.{AreLines}
-use Rattle.kc_conf.specs.Faults.{event_of, AreInputs, AreThere, InputFile, ReadsTo, ReadsUpTo, bytes_of, reads, still_told}
+use Rattle.kc_language.specs.Outcome.{out_of_memory_line}
+use Rattle.kc_conf.specs.Faults.{AreLines}
+use Rattle.kc_conf.specs.Faults.{event_of, ReadsUpTo}
+use Rattle.kc_io.specs.Inputs.{AreInputs, AreThere, InputFile, ReadsTo, bytes_of, reads, still_told}
 use Rattle.kc_conf.specs.declared.reading.LongLine.{LongLine}
 use Rattle.kc_conf.specs.declared.reading.Waiting.{Waiting}
 use Rattle.kc_conf.specs.declared.stop.Stop.{Stop}

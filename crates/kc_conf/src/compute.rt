@@ -12,7 +12,7 @@ ghost use Rattle.kc_conf.specs.Accepted.{IsReady};
 ghost use Rattle.kc_language.specs.Outcome.{lead, target, has_text, lines_text, names_listed, is_outside, lost_warnings, refuses_input};
 ghost use Rattle.kc_conf.specs.PartsOfOutcome.{text_if};
 ghost use Rattle.kc_conf.specs.Computed.{Computes, ruled_files};
-ghost use Rattle.kc_conf.specs.Faults.{text_at, texts_of};
+ghost use Rattle.kc_io.specs.Delivery.{text_at, texts_of};
 
 use crate::accepted::OrderedTree;
 use crate::lost::lost_warnings;

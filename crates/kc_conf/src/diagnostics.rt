@@ -5,12 +5,14 @@ ghost use Rattle.std.specs.List.{flat_map};
 ghost use Rattle.kc_language.specs.Statements.{error_at, error_line};
 ghost use Rattle.kc_language.specs.Outcome.{run_error_text, lead, first_line, refusal_line, lines_text};
 ghost use Rattle.kc_conf.specs.PartsOfOutcome.{too_long_line};
-ghost use Rattle.kc_diagnostics.specs.PartsOfOutcome.{out_of_memory_line};
+ghost use Rattle.kc_language.specs.Outcome.{out_of_memory_line};
 ghost use Rattle.kc_diagnostics.specs.RunErrors.{shown_run_error};
 ghost use Rattle.kc_read.specs.RefusalView.{refusal_view};
 ghost use Rattle.kc_io.specs.Log.{Leads};
 ghost use Rattle.kc_conf.specs.Reads.{IsReportOrMemory, LastEndsLine, Says, SaysIf, failure_line, stop_of};
-ghost use Rattle.kc_conf.specs.Faults.{Reports, event_of, TriesToSay};
+ghost use Rattle.kc_conf.specs.Faults.{event_of};
+ghost use Rattle.kc_conf.specs.Endings.{Reports};
+ghost use Rattle.kc_io.specs.Log.{TriesToSay};
 
 use crate::compute::add_lines;
 use crate::reading::LongLine;

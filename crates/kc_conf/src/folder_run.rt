@@ -1,5 +1,6 @@
 //! A run over a folder: it loads the files of the tree and runs over them.
-ghost use Rattle.kc_conf.specs.Faults.{FolderRuns, load_line, TriesToSay};
+ghost use Rattle.kc_conf.specs.Faults.{FolderRuns, load_line};
+ghost use Rattle.kc_io.specs.Log.{TriesToSay};
 
 use crate::accepted::AcceptedTree;
 use crate::diagnostics::try_to_say_error;

@@ -1,5 +1,6 @@
 //! What holds of the outcomes of runs, stated as the contracts of functions that do nothing.
-ghost use Rattle.kc_conf.specs.Laws.{ExactlyOneAnswer, ExactlyOneOutcome, SolutionExists, NothingIsLost, StrictTakesAll, DiagnosticsAreLines, ConfigIsReadAgain, MinimalIsReadAgain, MinimalIsRunAgain, OutcomesAreReadAgain, TextsHaveShortLines, WrittenAreWhole};
+ghost use Rattle.kc_conf.specs.Laws.{ExactlyOneAnswer, ExactlyOneOutcome, NothingIsLost, StrictTakesAll, DiagnosticsAreLines, MinimalIsRunAgain, OutcomesAreReadAgain, TextsAreReadAgain, WrittenAreWhole};
+ghost use Rattle.kc_conf.specs.LawSteps.{SolutionExists};
 ghost use Rattle.kc_conf.specs.LawSteps.{AcceptedHaveAnOutcome, AnswerExists, OutcomeExists, OneAnswer, OneOutcome};
 ghost use Rattle.kc_conf.specs.Many.{ExactlyOnePart, PartsAreOfRuns, EachLeavesItsPart};
 
@@ -75,9 +76,7 @@ pub fn strict_takes_all()
 /// and what it is selected to, under the premises of `config_is_idempotent` of kc_config_file. No line of the two is too long to be
 /// read again, whatever the numbers and titles. All this asks that the prefix is one. (Our own.)
 pub fn texts_are_read_again()
-    ensures minimal { MinimalIsReadAgain }
-    ensures config { ConfigIsReadAgain }
-    ensures short { TextsHaveShortLines }
+    ensures { TextsAreReadAgain }
 {
     trees_are_well_formed();
     reading_leaves_allowed_places();

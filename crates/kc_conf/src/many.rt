@@ -142,7 +142,7 @@ fn take_turn<C: Configurations, D: Device>(
     requires ready { IsReady accepted.now }
     requires warned { is_warned ≡ has_text (lines_text accepted.now.laid.tree.now.warnings) }
     ensures { (files : Files) → ((options : Options) → C.options configurations.now i options → IsAcceptedOf files options accepted.now) →
-        TakesTurn files accepted.now.laid.tree.now (C.options configurations.now i) (D.log device.old) (D.log device.new) result.status result.is_over }
+        TakesTurn (RunsTurn files accepted.now.laid.tree.now) (C.options configurations.now i) (D.log device.old) (D.log device.new) result.status result.is_over }
 {
     match configurations.options_of(alloc, i) {
         Ok(options) => run_turn(alloc, &options, accepted, is_warned, device),
@@ -181,7 +181,7 @@ fn take_turns<C: Configurations, D: Device>(
     requires ready { IsReady accepted.now }
     requires warned { is_warned ≡ has_text (lines_text accepted.now.laid.tree.now.warnings) }
     ensures { (files : Files) → ((i : ℕ) (options : Options) → C.options configurations.now i options → IsAcceptedOf files options accepted.now) →
-        TakeTurns files accepted.now.laid.tree.now (C.options configurations.now) 0 (C.number configurations.now) (D.log device.old) (D.log device.new) result }
+        TakeTurns (RunsTurn files accepted.now.laid.tree.now) (C.options configurations.now) 0 (C.number configurations.now) (D.log device.old) (D.log device.new) result }
 {
     let mut status = Status::Done;
     for i in 0..configurations.count() {

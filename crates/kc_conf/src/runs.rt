@@ -6,7 +6,8 @@ ghost use Rattle.kc_language.specs.declared.diagnostics.Cause.TheVariants.{Memor
 ghost use Rattle.kc_io.specs.Delivered.{text_view};
 ghost use Rattle.kc_conf.specs.Accepted.{IsAcceptedOf, IsReadOf, IsReady};
 ghost use Rattle.kc_language.specs.Outcome.{Options, lead, refusal_line, root_file, has_text, lines_text, names_listed, unreadable_name};
-ghost use Rattle.kc_conf.specs.PartsOfOutcome.{too_long_line, unreadable_line, AreLines};
+ghost use Rattle.kc_conf.specs.PartsOfOutcome.{too_long_line, unreadable_line};
+ghost use Rattle.kc_conf.specs.Faults.{AreLines};
 ghost use Rattle.kc_conf.specs.PartsOfOutcome.{strict_line};
 ghost use Rattle.kc_conf.specs.Faults.{Runs};
 ghost use Rattle.kc_conf.specs.Endings.{Answers, Ends, HandsBy, SaysAll, line_if, status_if, texts_or};

@@ -2,7 +2,7 @@
 
 ghost use Rattle.std.specs.Prelude.{◌≡◌, flat_map};
 ghost use Rattle.kc_language.specs.Outcome.{run_error_text};
-ghost use Rattle.kc_diagnostics.specs.PartsOfOutcome.{out_of_memory_line};
+ghost use Rattle.kc_language.specs.Outcome.{out_of_memory_line};
 ghost use Rattle.kc_diagnostics.specs.RunErrors.{shown_run_error};
 
 use kc_language::diagnostics::RunError;

@@ -7,7 +7,8 @@ use Rattle.kc_load.specs.declared.fault.LoadFault.TheVariants.{CannotRead, Memor
 use Rattle.kc_words.specs.CommandLine.{AreApart, IsClash}
 use Rattle.kc_words.specs.declared.each.Each.{Each}
 use Rattle.kc_words.specs.declared.usage.UsageError.{UsageError}
-use Rattle.kc_conf.specs.Faults.{load_line, TriesToSay}
+use Rattle.kc_conf.specs.Faults.{load_line}
+use Rattle.kc_io.specs.Log.{TriesToSay}
 use Rattle.kc_language.specs.declared.outcome.Status.{Status}
 use Rattle.kc_language.specs.declared.outcome.Status.TheVariants as answered
 use Rattle.kc_disk.specs.Program.{AreListed, AreNames, FolderRunsEach, clashing, loaded, no_memory, unlisted, unloaded, unreadable}

@@ -11,7 +11,7 @@ use Rattle.kc_words.specs.declared.usage.UsageError.{UsageError}
 use Rattle.kc_words.specs.declared.usage.UsageError.TheVariants as usage
 use Rattle.kc_language.specs.Outcome.{Options, input_files}
 use Rattle.kc_conf.specs.Many.{AreSeparate, is_among, name_if, output_files}
-use Rattle.kc_conf.specs.Faults.{TriesToSay}
+use Rattle.kc_io.specs.Log.{TriesToSay}
 use Rattle.kc_conf.proofs.AmongLemmas.{each_leaves_its_part_law, written_output}
 use Rattle.kc_disk.specs.Program.{NamedStandApart, ends_before, leaves, GivesOptions, clashing, loaded, unlisted, unloaded, SaysUsage}
 

@@ -9,7 +9,8 @@ use Rattle.kc_load.specs.declared.fault.LoadFault.TheVariants.{CannotRead, Memor
 use Rattle.kc_language.specs.Expansion.{Files}
 use Rattle.kc_words.specs.CommandLine.{listed}
 use Rattle.kc_words.specs.declared.each.Each.{Each}
-use Rattle.kc_conf.specs.Faults.{load_line, TriesToSay}
+use Rattle.kc_conf.specs.Faults.{load_line}
+use Rattle.kc_io.specs.Log.{TriesToSay}
 use Rattle.kc_conf.specs.Many.{RunsEach}
 use Rattle.kc_language.specs.declared.outcome.Status.{Status}
 use Rattle.kc_language.specs.declared.outcome.Status.TheVariants as answered

@@ -2,13 +2,11 @@
 -- `folder` and `folder_after` are what the folder of the Kconfig files records before and after a run; `old` and `new` are the logs of the device.
 use Rattle.std.specs.{Prelude.{◌≡◌, ◌≢◌, ◌⊎◌, ℕ, List, [], ◌∷◌, ◌++◌, true, if◌then◌else◌, Option, None, Some, Result, Ok, Err, String, codes, drop, length, map, slice_index_or, string_bytes}, Str.IsUtf8, IoError.error_kind, Vec.Iter.into_iter_items, declared.{alloc.Global.Global, io.{Error.Error, ErrorKind.TheVariants.OutOfMemory}, vec.IntoIter.IntoIter}}
 use Rattle.clap.specs.Words.{fault_of, takes}
-use Rattle.kc_language.specs.{Expansion.Files, Outcome.Options, declared.outcome.Status.{Status, TheVariants.{Done, Refused, Usage, Faulted}}}
-use Rattle.kc_conf.specs.PartsOfOutcome.{cannot_read_line}
-use Rattle.kc_diagnostics.specs.PartsOfOutcome.{out_of_memory_line}
-use Rattle.kc_io.specs.Log.{Journal, Log, held, is_whole_lines}
+use Rattle.kc_language.specs.{Expansion.Files, Outcome.{Options, cannot_read_line, out_of_memory_line}, declared.outcome.Status.{Status, TheVariants.{Done, Refused, Usage, Faulted}}}
+use Rattle.kc_io.specs.Log.{Journal, Log, TriesToSay, held, is_whole_lines}
 use Rattle.kc_load.specs.{Folder.{AnswersAs, AreFilesOf, FolderState, IsLoadFault, Leads as FolderLeads, failed_load, files_told}, declared.fault.LoadFault.LoadFault}
 use Rattle.kc_words.specs.{CommandLine.{AreApart, AreOptionsFor, IsClash, IsRefused, IsRequestOf, arguments_of, kconf_app, listed, refusal_of, rows_for, with_hint}, declared.{each.Each.Each, options.Request.{Request, TheVariants.{One, Each as Many}}, usage.UsageError.{UsageError, TheVariants.{Bad, Memory}}}}
-use Rattle.kc_conf.specs.{Faults.{FolderRuns, TriesToSay, load_line}, Many.{LeavesEach, RunsEach}}
+use Rattle.kc_conf.specs.{Faults.{FolderRuns, load_line}, Many.{LeavesEach, RunsEach}}
 use Rattle.kc_disk.specs.declared.arguments.Arguments.{Arguments, TheVariants.{Given, Unread}}
 
 -- The exit status.
@@ -19,7 +17,6 @@ exit_status Usage = 2
 exit_status Faulted = 3
 
 -- ---- Usage errors
-
 -- The status if the arguments ask for no run. Help and the version go to standard output; the status is a fault if it does not take them.
 abbrev pub EndsUsage : UsageError → Status → Type 0
 EndsUsage (Bad text) status = status ≡ Usage
@@ -36,7 +33,6 @@ SaysUsage Memory old new = SaysText out_of_memory_line old new
 SaysUsage _ old new = new ≡ old
 
 -- ---- Many configurations
-
 -- The configurations that the list names, if there is one. All configurations: those that the arguments name, and then those of the list.
 abbrev pub AreListed : Option FolderState → Option (String Global) → List (List ℕ) → Type 0
 AreListed folder None names = names ≡ []
@@ -98,7 +94,6 @@ NamedStandApart = (each : Each) (folder folder_after : Option FolderState) (befo
     FolderRunsEach each folder folder_after (Some before) (Some after) status → FolderLeavesEach each folder_after before after status
 
 -- ---- The program
-
 -- The arguments ask for this: clap finds no fault, they do not exclude each other, and the options are what they give.
 pub record GiveRequest (arguments : List (String Global)) (request : Request) : Type 0 where
   pub faultless : fault_of kconf_app (arguments_of arguments) ≡ []

@@ -1,6 +1,7 @@
 -- Trusted: How texts are written to their files, event by event, and the laws of delivery (our own).
-use Rattle.std.specs.{Prelude.{◌≡◌, ℕ, Bool, true, false, not, ◌||◌, if◌then◌else◌, List, [], ◌∷◌, ◌++◌, filter, flat_map, Option, Some, Result, Ok, Err, bytes_eq}, List.list_any}
-use Rattle.kc_io.specs.{Log.{Event, Journal, Leads, Log, did, each_byte, held, is_held, keeps_files, with_events}, declared.{device.{Action.TheVariants.{Create, Write, Close, Move}, Site.{Site, TheVariants.{Place, Beside}}}, delivery.Manner.{Manner, TheVariants.{InPlace, Replacing}}, steps.Failure.Failure}}
+use Rattle.std.specs.{Prelude.{◌≡◌, ℕ, Bool, true, false, not, ◌||◌, if◌then◌else◌, List, [], ◌∷◌, ◌++◌, filter, flat_map, Option, Some, Result, Ok, Err, String, string_bytes, bytes_eq}, List.list_any, declared.alloc.Global.Global}
+use Rattle.kc_language.specs.{Outcome.{Options, Outcome, lead, run_error_text}, Statements.error_line, declared.{diagnostics.RunError.RunError, outcome.{Delivery.Delivery, Status.Status}}}
+use Rattle.kc_io.specs.{Log.{Event, Journal, Leads, Log, did, each_byte, held, is_held, keeps_files, with_events}, declared.{device.{Action.{Action, TheVariants.{Clear, Create, Write, Close, Move}}, Site.{Site, TheVariants.{Place, Beside}}}, delivery.Manner.{Manner, TheVariants.{InPlace, Replacing}}, steps.Failure.Failure}}
 
 -- A text, and the name of the file that is to hold it.
 pub record NamedText : Type 0 where
@@ -38,8 +39,41 @@ StopsBefore [] (Ok _) = Unit {0}
 StopsBefore (event ∷ _) (Err failure) = (event.action ≡ failure.action) × (event.name ≡ failure.name.now)
 StopsBefore _ _ = ⊥
 
--- ---- Laws
+-- ---- The texts of an outcome
+-- They have the names of their files, and stand in the order in which they are delivered.
+abbrev pub text_at : Option (String Global) → Option (List ℕ) → List NamedText
+text_at (Some name) (Some bytes) = record { name = string_bytes name; bytes = bytes } ∷ []
+text_at _ _ = []
 
+abbrev pub texts_of : Options → Outcome → List NamedText
+texts_of options outcome = text_at options.out outcome.config ++ text_at options.header outcome.header
+    ++ text_at options.minimal outcome.minimal ++ text_at options.depfile outcome.depfile
+
+-- They are written; with --replace those that differ from their files replace these; with --check nothing is written.
+abbrev pub delivers : Options → List NamedText → Journal → List Event
+delivers options = elim options.delivery [
+  | Delivery.Write ↦ λ texts journal. delivery InPlace texts
+  | Delivery.Check ↦ λ texts journal. []
+  | Delivery.Replace ↦ λ texts journal. delivery Replacing (chosen Replacing texts journal)
+]
+
+-- The texts that --check finds to differ from their files, and their error lines. If there is one, a run that was done is refused.
+abbrev pub stale_texts : Options → List NamedText → Journal → List NamedText
+stale_texts options = elim options.delivery [ Delivery.Check ↦ stale | _ ↦ λ texts journal. [] ]
+
+abbrev pub stale_lines : Options → List NamedText → List ℕ
+stale_lines options texts = flat_map (λ text. lead options ++ error_line (run_error_text (RunError.NotUpToDate text.name))) texts
+
+abbrev pub status_with : List NamedText → Status → Status
+status_with texts = elim texts [ [] ↦ λ status. status | _ ↦ λ status. Status.Refused ]
+
+-- The temporary files are removed after a failure to write with --replace.
+abbrev pub cleared_by : Delivery → Action → List Event
+cleared_by Delivery.Replace action =
+    elim action [ Create _ ↦ did Clear [] | Write _ ↦ did Clear [] | Close _ ↦ did Clear [] | Move ↦ did Clear [] | _ ↦ [] ]
+cleared_by _ _ = []
+
+-- ---- Laws
 -- The last text of this name, or what was there.
 abbrev pub last_of : List ℕ → List NamedText → Option (List ℕ) → Option (List ℕ)
 last_of name [] there = there

@@ -1,4 +1,5 @@
 pub mod Delivered
 pub mod Delivery
+pub mod Inputs
 pub mod Log
 pub mod PartsOfLog

@@ -5,7 +5,6 @@ use Rattle.kc_language.specs.Lines.{is_line_feed}
 use Rattle.kc_io.specs.declared.device.{Action.{Action, TheVariants.{Open, Miss, Read, Create, Write, Move, Report}}, Site.{Site, TheVariants.{Place, Beside}}, Fault.Fault}
 
 -- ---- Events
-
 -- An action, the file's name, the byte that was read or written (if any), and why the action failed (if it did).
 pub record Event : Type 0 where
   pub action : Action
@@ -53,7 +52,6 @@ said (Ok _) text = text
 said (Err fault) text = []
 
 -- ---- The log
-
 -- What each file held at first, the events since then, in order, and the text of the diagnostics.
 pub record Journal : Type 0 where
   pub files : List ℕ → Option (List ℕ)
@@ -75,7 +73,6 @@ pub record Leads (events : List Event) (text : List ℕ) (old new : Log) : Type 
   pub told : (after : Journal) → new ≡ Some after → (before : Journal) × (old ≡ Some before) × (with_events events text before ≡ after)
 
 -- ---- What the files hold
-
 -- What the file of a name holds, if there is one, and the bytes of the file beside it, which is to replace it.
 pub record Spot : Type 0 where
   pub held : Option (List ℕ)
@@ -111,7 +108,6 @@ abbrev pub keeps_files : List Event → Bool
 keeps_files events = list_all (λ event. is_some event.fault || only_looks event.action) events
 
 -- ---- Reading and diagnostics
-
 -- The file that was opened last: the bytes that are still to be read, if they are recorded, and how many reads may still give some.
 pub record OpenFile : Type 0 where
   pub to_come : Option (List ℕ)
@@ -139,3 +135,7 @@ pub record ReadsOn (count : ℕ) (buffer : List ℕ) (old new : OpenFile) : Type
 -- Whole lines: no bytes, or the last one is a line feed.
 abbrev pub is_whole_lines : List ℕ → Bool
 is_whole_lines bytes = elim (last_or None bytes) [ None ↦ true | Some b ↦ is_line_feed b ]
+
+-- The text was reported, unless the diagnostics failed.
+abbrev pub TriesToSay : List ℕ → Log → Log → Type 0
+TriesToSay text old new = (report : Result (Unit {0}) Fault) × Leads (reported report) (said report text) old new

@@ -23,7 +23,7 @@ input_files options = string_bytes options.config ∷ map string_bytes options.f
 abbrev pub names_of : Options → List (List ℕ)
 names_of options = string_bytes options.config ∷ map (λ name. lead options ++ string_bytes name) options.fragments.items
 
--- The text of each error of a run. A name that make cannot read is reported up to its first line feed.
+-- The text of each error of a run, and two error lines. A name that make cannot read is reported up to its first line feed.
 abbrev pub run_error_text : RunError (List ℕ) → List ℕ
 run_error_text RunError.LineTooLong = codes "E17: line longer than " ++ decimal longest_input_line ++ codes " bytes"
 run_error_text (RunError.CannotRead name) = codes "E18: cannot read " ++ name
@@ -32,6 +32,12 @@ run_error_text RunError.Memory = codes "E20: out of memory"
 run_error_text RunError.WarningsRefused = codes "E21: warnings are refused"
 run_error_text (RunError.NotUpToDate name) = codes "E22: " ++ name ++ codes " is not up to date"
 run_error_text (RunError.UnreadableName name) = codes "E23: make cannot read the name " ++ name
+
+abbrev pub out_of_memory_line : List ℕ
+out_of_memory_line = error_line (run_error_text RunError.Memory)
+
+abbrev pub cannot_read_line : List ℕ → List ℕ
+cannot_read_line name = error_line (run_error_text (RunError.CannotRead name))
 
 abbrev pub first_line : List ℕ → List ℕ
 first_line [] = []

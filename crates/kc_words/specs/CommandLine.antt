@@ -7,7 +7,6 @@ use Rattle.kc_language.specs.{Text.{byte, longest_prefix}, ConfigFile.is_prefix,
 use Rattle.kc_words.specs.declared.{each.Each.Each, options.Request.{Request, TheVariants.{One, Each as Many}}, usage.UsageError.{UsageError, TheVariants.{Help, Version, Bad, Memory}}}
 
 -- ---- The command
-
 -- The rules: --NAME VALUE; --NAME; --NAME VALUE, which may be repeated; KCONFIG, which is required; and the arguments after it.
 abbrev pub option_rule : Text → Rule
 option_rule name = record (new_rule name) { long = Some name; value_names = 1 }
@@ -48,7 +47,6 @@ abbrev pub rows_for : List (String Global) → List Row
 rows_for words = matches_of kconf_app (arguments_of words)
 
 -- ---- What is asked for
-
 -- Whether a flag is given; whether an argument has a value; and all its values.
 abbrev pub is_given : Text → List Row → Bool
 is_given id rows = bytes_eq (unwrap_or (first_of id rows) []) (codes "true")
@@ -109,7 +107,6 @@ AsksFor rows (One options) = (is_each rows ≡ false) × AreOptionsOf rows optio
 AsksFor rows (Many each) = (is_each rows ≡ true) × IsEachOf rows each
 
 -- ---- Refusals
-
 -- How an error about the arguments ends.
 abbrev pub with_hint : Text → Text
 with_hint text = text ++ codes "\n\nFor more information, try '--help'.\n"
@@ -148,7 +145,6 @@ IsRefused kinds rows (Bad told) = ((k : ErrorKind) × (k ≢ DisplayHelp) × (k 
 IsRefused kinds rows Memory = Unit {0}
 
 -- ---- Many configurations
-
 -- The configurations that a file names: its lines, without the empty ones.
 abbrev pub listed : Text → List Text
 listed bytes = filter (λ line. not (length line == 0)) (lines bytes)

@@ -6,7 +6,7 @@ use Rattle.kc_language.specs.Texts.{Solution, warnings}
 use Rattle.kc_io.specs.Delivery.{NamedText}
 use Rattle.kc_language.specs.Outcome.{Options, lead, has_text, lines_text, refuses_input}
 use Rattle.kc_conf.specs.Computed.{ruled_files}
-use Rattle.kc_conf.specs.Faults.{texts_of}
+use Rattle.kc_io.specs.Delivery.{texts_of}
 use Rattle.kc_conf.proofs.compute.compute.Goals as goal
 
 given_by : Options → TreeFacts → Solution → Option (List (List ℕ)) → Bool → Option (List NamedText)

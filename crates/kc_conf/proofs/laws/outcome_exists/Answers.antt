@@ -1,4 +1,4 @@
-use Rattle.kc_conf.specs.Laws.{SolutionExists}
+use Rattle.kc_conf.specs.LawSteps.{SolutionExists}
 use Rattle.kc_conf.specs.LawSteps.{AnswerExists}
 use Rattle.kc_conf.proofs.ExistenceLemmas.{accepted_outcome, answer_exists, outcome_exists, solution_exists}
 use Rattle.kc_conf.proofs.laws.outcome_exists.Goals as goal

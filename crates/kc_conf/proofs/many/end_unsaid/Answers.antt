@@ -1,7 +1,7 @@
 -- There was no memory, which is said, or the diagnostics failed.
 use Rattle.std.proofs.Common.{refl, subst}
 use Rattle.kc_language.specs.Outcome.{lines_text}
-use Rattle.kc_diagnostics.specs.PartsOfOutcome.{out_of_memory_line}
+use Rattle.kc_language.specs.Outcome.{out_of_memory_line}
 use Rattle.kc_conf.specs.Many.{no_memory, unsaid_warnings}
 use Rattle.kc_conf.specs.PartRuns.{StopsLines}
 use Rattle.kc_conf.specs.declared.stop.Stop.{Stop}

@@ -1,6 +1,6 @@
 -- One turn after another.
 use Rattle.std.proofs.Common.{◌+◌, ◌<◌, ◌≤◌, ℕ, arith, subst, sym, Bool}
-use Rattle.kc_conf.specs.Many.{TakeTurns, TakesTurn}
+use Rattle.kc_conf.specs.Many.{RunsTurn, TakeTurns, TakesTurn}
 use Rattle.kc_language.specs.declared.outcome.Status.{Status}
 use Rattle.kc_conf.proofs.ManyLemmas.{TakeTurns-all, TakeTurns-last, TurnsSoFar, TurnsSoFar-next, TurnsSoFar-none}
 use Rattle.kc_conf.proofs.many.take_turns.Goals as goal
@@ -20,7 +20,7 @@ loop-i-preserved g c = λ files of.
     let turn = c.take_turn-turn.result in
     subst (λ (s : Status). TurnsSoFar files tree options count (c.loop-i.i + 1) s old new) (sym c.greater-status.ensures)
     (TurnsSoFar-next files tree options count c.loop-i.i (subst (λ (n : ℕ). c.loop-i.i < n) c.count-i-end.ensures c.loop-i-test.true) c.loop-i.status old mid new (c.loop-i.invariant files of) turn.status
-    (subst (λ (b : Bool). TakesTurn files tree (options c.loop-i.i) mid new turn.status b) c.if-turn.false (c.take_turn-turn.ensures files (of c.loop-i.i))))
+    (subst (λ (b : Bool). TakesTurn (RunsTurn files tree) (options c.loop-i.i) mid new turn.status b) c.if-turn.false (c.take_turn-turn.ensures files (of c.loop-i.i))))
 
 pub returns-then-turn : goal.returns-then-turn
 returns-then-turn g c = λ files of.
@@ -31,9 +31,9 @@ returns-then-turn g c = λ files of.
     let mid = g.D.Device.log c.loop-i.device in
     let new = g.D.Device.log c.take_turn-turn.new.device in
     let turn = c.take_turn-turn.result in
-    subst (λ (s : Status). TakeTurns files tree options 0 count old new s) (sym c.greater-status.ensures)
+    subst (λ (s : Status). TakeTurns (RunsTurn files tree) options 0 count old new s) (sym c.greater-status.ensures)
     (TakeTurns-last files tree options count c.loop-i.i (subst (λ (n : ℕ). c.loop-i.i < n) c.count-i-end.ensures c.loop-i-test.true) c.loop-i.status old mid new (c.loop-i.invariant files of) turn.status
-    (subst (λ (b : Bool). TakesTurn files tree (options c.loop-i.i) mid new turn.status b) c.if-turn.true (c.take_turn-turn.ensures files (of c.loop-i.i))))
+    (subst (λ (b : Bool). TakesTurn (RunsTurn files tree) (options c.loop-i.i) mid new turn.status b) c.if-turn.true (c.take_turn-turn.ensures files (of c.loop-i.i))))
 
 pub returns : goal.returns
 returns g c = λ files of.

@@ -2,7 +2,7 @@
 use Rattle.std.proofs.Common.{◌∙◌, map, sym, subst, option_map}
 use Rattle.std.proofs.lemmas.Result.{err_from_is_err_and}
 use Rattle.kc_io.specs.Delivered.{text_view}
-use Rattle.kc_conf.specs.PartsOfOutcome.{AreLines}
+use Rattle.kc_conf.specs.Faults.{AreLines}
 use Rattle.kc_conf.specs.Reads.{stop_of}
 use Rattle.kc_conf.proofs.InputParts.{AreLines-values, AreLines-waiting, LeavesPart-broken, LeavesPart-long, LeavesPart-nothing, LeavesPart-uncomputed, LeavesPart-whole}
 use Rattle.kc_conf.proofs.runs.run_inputs.Goals as goal
