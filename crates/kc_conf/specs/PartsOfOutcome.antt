@@ -1,4 +1,4 @@
--- Trusted: Parts of the definitions of Outcome, by names of their own.
+-- For proofs: Parts of the definitions of Outcome, by names of their own.
 use Rattle.std.specs.List.{list_any}
 use Rattle.std.specs.Prelude.{Bool, List, None, Option, Some, [], option_map, ℕ, ◌&&◌, ◌++◌, ◌==◌, ◌≡◌, length, not}
 use Rattle.kc_language.specs.ConfigFile.{StreamLocation, UserInput, no_input}

@@ -1,4 +1,4 @@
--- Trusted: Parts of the definitions of Texts, by names of their own.
+-- For proofs: Parts of the definitions of Texts, by names of their own.
 use Rattle.std.specs.Prelude.{List, None, Option, slice_index_or, ℕ}
 use Rattle.kc_language.specs.ConfigFile.{StreamLocation, place_at, value_text}
 use Rattle.kc_language.specs.Expressions.{symbol}
