@@ -16,7 +16,8 @@ use Rattle.kc_language.specs.declared.statements.Keyword.TheVariants as key
 use Rattle.kc_language.specs.Expansion.{FileContext, Log, Refused, Rest, Expands, NextLine, bytes_cause, context_of, with_file, refused, with_line, without_help, at_end, unclosed, too_long, no_tokens, blank, bad_line, over_limit, statement, bad_source, refused_inside, source, Files}
 use Rattle.kc_read.specs.PartsOfExpansion.{nothing_read, root_context, is_help}
 use Rattle.kc_language.specs.Statements.{Cause, LineContext, After, Front, IsCondition, ReadsLine, ReadsRest, ReadsWhole, ReadsCondition, ReadsTextLine, ReadsValue, ReadsPrompt, StartsExpression, begins_with, finish, is_good_name, keyword_of, operand_of, option_line, placement_cause, plain_text, named_target, text_of, word_of, Statement, InputPrompt, Named, Located, ConfigLine, IfLine, EndIfLine, CommentLine, SourceLine, MenuLine, EndMenuLine, ChoiceLine, EndChoiceLine, MainMenuLine, TypeLine, PromptLine, DefaultLine, DefLine, DependsLine, VisibleLine, SelectLine, ImplyLine, RangeLine, HelpLine, ModulesLine, IgnoredLine, names_in_condition, names_in_statement, statements}
-use Rattle.kc_read.specs.PartsOfStatements.{IsWhole, ReadsTarget, ReadsType, choice_line, expected, in_place, keyword_or_refusal}
+use Rattle.kc_read.specs.PartsOfStatements.{IsWhole, ReadsTarget, ReadsType, choice_line, expected}
+use Rattle.kc_language.specs.Statements.{in_place, keyword_or_refusal}
 use Rattle.kc_read.specs.PartsOfStatements.{ReadsPlaced, front, good_name, value_form}
 use Rattle.kc_tree.specs.TreeFacts.{IsLineText, IsLineForm}
 use Rattle.kc_build.proofs.LineTextLemmas.{AreOneLine, IsLineAtom, IsLineLexeme, IsLineTerminal, all_front, atom_lines, cut_line, file_lines, helped, taken_line, terminal_lines, value_line, word_lines}

@@ -326,9 +326,16 @@ ReadsRest w k = elim k [
   | key.LeftOut ↦ λ ts r. r ≡ Err (cause.LeftOut w)
 ]
 
+-- The first word is a keyword. Then the line is in a right place.
+abbrev pub keyword_or_refusal : Option Keyword → Result Keyword Cause
+keyword_or_refusal word = elim word [ None ↦ Err cause.Syntax | Some k ↦ Ok k ]
+
+abbrev pub in_place : Keyword → Option Cause → Result Keyword Cause
+in_place k = elim [ None ↦ Ok k | Some why ↦ Err why ]
+
 -- The tokens of a line read as this statement, or are refused: by the first word, then by where the line stands, then by what follows the word.
 abbrev pub ReadsLine : LineContext → List Lexeme → Result Named Cause → Type 0
 ReadsLine c ts =
     After (word_of ts) (λ w.
-    After (elim (keyword_of w) [ None ↦ Err cause.Syntax | Some k ↦ Ok k ]) (λ k.
-    After (elim (placement_cause c w (drop 1 ts) k) [ None ↦ Ok k | Some why ↦ Err why ]) (λ j. ReadsRest w j (drop 1 ts))))
+    After (keyword_or_refusal (keyword_of w)) (λ k.
+    After (in_place k (placement_cause c w (drop 1 ts) k)) (λ j. ReadsRest w j (drop 1 ts))))

@@ -3,7 +3,7 @@ use Rattle.std.specs.List.{list_any}
 use Rattle.std.specs.Map.{lookup}
 use Rattle.std.specs.Prelude.{Bool, Err, List, None, Ok, Option, Result, Some, [], codes, drop, false, if◌then◌else◌, true, ℕ, ◌==◌, ◌||◌, ◌∷◌, ◌≡◌, ◌⊎◌}
 use Rattle.kc_language.specs.Expressions.{Disjunction, Form, if_word, same_name}
-use Rattle.kc_language.specs.Statements.{After, Cause, ChoiceLine, ConfigLine, DependsLine, Front, IsMore, LineContext, Named, RangeLine, ReadsCondition, ReadsPrompt, ReadsRest, ReadsWhole, StartsExpression, TypeLine, VisibleLine, begins_with, finish, is_good_name, named_target, operand_of, placement_cause, word_of}
+use Rattle.kc_language.specs.Statements.{After, Cause, ChoiceLine, ConfigLine, DependsLine, Front, IsMore, LineContext, Named, RangeLine, ReadsCondition, ReadsPrompt, ReadsRest, ReadsWhole, StartsExpression, TypeLine, VisibleLine, begins_with, finish, in_place, is_good_name, named_target, operand_of, placement_cause, word_of}
 use Rattle.kc_language.specs.Text.{byte}
 use Rattle.kc_language.specs.Tokens.{Lexeme}
 use Rattle.kc_language.specs.declared.expressions.SymbolType.{SymbolType}
@@ -142,15 +142,6 @@ ReadsVisible ts r = After (expected if_word ts) (λ us. ReadsWhole VisibleLine u
 
 abbrev pub ReadsRange : List Lexeme → Result Named Cause → Type 0
 ReadsRange ts = After (operand_of ts) (λ a. After (operand_of (drop 1 ts)) (λ b. ReadsCondition (RangeLine a b) (drop 2 ts)))
-
--- the first word is a keyword; then the line is in a right place
-abbrev pub keyword_or_refusal : Option Keyword → Result Keyword Cause
-keyword_or_refusal None = Err cause.Syntax
-keyword_or_refusal (Some k) = Ok k
-
-abbrev pub in_place : Keyword → Option Cause → Result Keyword Cause
-in_place k None = Ok k
-in_place k (Some why) = Err why
 
 -- the placement, and then the rest
 abbrev pub ReadsPlaced : LineContext → List ℕ → List Lexeme → Keyword → Result Named Cause → Type 0
