@@ -4,7 +4,7 @@ use Rattle.kc_language.specs.ConfigFile.{UserInput}
 use Rattle.kc_language.specs.Outcome.{IsOutcomeOfReading, Options, Outcome, lines_text, names_listed, read_of, refused_if, refuses_input, reported, rule_text, run_error_text, target, text_if, warned_files}
 use Rattle.kc_language.specs.Statements.{error_line}
 use Rattle.kc_language.specs.Symbols.{TreeFacts}
-use Rattle.kc_language.specs.Texts.{Solution, config_text, header_text, minimal_text, solution_view}
+use Rattle.kc_language.specs.Texts.{Solution, config_text, header_text, minimal_text, new_text, solution_view}
 use Rattle.kc_language.specs.declared.outcome.Status.TheVariants.{Done}
 use Rattle.kc_language.specs.declared.diagnostics.RunError.TheVariants as run
 
@@ -18,6 +18,7 @@ files_of options tree solution = record {
   config = text_if options.out (config_text tree options.prefix (solution_view solution));
   header = text_if options.header (header_text tree options.prefix (solution_view solution));
   minimal = text_if options.minimal (minimal_text tree options.prefix (solution_view solution));
+  list_new = text_if options.list_new (new_text tree options.prefix (solution_view solution));
   depfile = None;
   warned = [];
   refusal = [];

@@ -3,7 +3,7 @@
 use Rattle.std.specs.{List.list_any, Option.option_map_or, Prelude.{Bool, Contains, Err, IsUtf8, List, None, Ok, Option, Some, [], codes, decimal, false, flat_map, if◌then◌else◌, length, map, nat_le, not, option_map, slice_get, string_bytes, true, ℕ, ◌&&◌, ◌++◌, ◌-◌, ◌==◌, ◌||◌, ◌∷◌, ◌≡◌}}
 use Rattle.kc_language.specs.{ConfigFile.{Places, ReadResult, Stream, StreamLocation, UserInput, no_input, reading_of}, Expansion.{AreOpened, Files, Refused, SourceNames}}
 use Rattle.kc_language.specs.{Expressions.{all_mentioned, same_name}, Lines.unread_lines, Needs.{IsAccepted, IsLoopText, loop_refused}, Statements.{cause_text, error_at, error_line}}
-use Rattle.kc_language.specs.{Symbols.{IsTreeOf, TreeFacts, Warning}, Text.{byte, longest_input_line}, Texts.{IsSolution, Solution, config_text, header_text, lost_lines, minimal_text, solution_view, value_warnings, warnings}}
+use Rattle.kc_language.specs.{Symbols.{IsTreeOf, TreeFacts, Warning}, Text.{byte, longest_input_line}, Texts.{IsSolution, Solution, config_text, header_text, lost_lines, minimal_text, new_text, solution_view, value_warnings, warnings}}
 use Rattle.kc_language.specs.declared.{diagnostics.{RunError.RunError, Warning.TheVariants.UserOutside}, outcome.{Options.Options as AnyOptions, Position.Position, Status.Status}}
 
 -- The options of a run, the root file, the file of --out (the target in a dependency file), and how a diagnostic of no line of the `.config` begins.
@@ -229,6 +229,7 @@ pub record Outcome : Type 0 where
   pub config : Option (List ℕ)
   pub header : Option (List ℕ)
   pub minimal : Option (List ℕ)
+  pub list_new : Option (List ℕ)
   pub depfile : Option (List ℕ)
   pub warned : List ℕ
   pub refusal : List ℕ
@@ -242,7 +243,7 @@ abbrev pub reported : List ℕ → Outcome → Outcome
 reported text outcome = record outcome { warned = text ++ outcome.warned }
 
 abbrev pub refused : List ℕ → Outcome
-refused line = record { config = None; header = None; minimal = None; depfile = None; warned = []; refusal = line; status = Status.Refused }
+refused line = record { config = None; header = None; minimal = None; list_new = None; depfile = None; warned = []; refusal = line; status = Status.Refused }
 
 abbrev pub refused_if : Options → Bool → Outcome → Outcome
 refused_if options refuses outcome =
@@ -267,6 +268,7 @@ warned_files options tree input solution = record {
   config = text_if options.out (config_text tree options.prefix (solution_view solution));
   header = text_if options.header (header_text tree options.prefix (solution_view solution));
   minimal = text_if options.minimal (minimal_text tree options.prefix (solution_view solution));
+  list_new = text_if options.list_new (new_text tree options.prefix (solution_view solution));
   depfile = None;
   warned = lines_text (map (λ line. lead options ++ line) (warnings solution)) ++ lines_text (lost_warnings options input solution);
   refusal = [];

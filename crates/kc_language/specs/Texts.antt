@@ -8,7 +8,7 @@ use Rattle.kc_language.specs.Lines.{HoldsNoLineFeed}
 use Rattle.kc_language.specs.Symbols.{CommentShown, Condition, EndShown, MenuShown, Shown, SymbolFacts, SymbolShown, TreeFacts, Warning, located_warning, warning_line}
 use Rattle.kc_language.specs.Text.{byte, escape, has_hex_prefix}
 use Rattle.kc_language.specs.Tokens.{is_blank}
-use Rattle.kc_language.specs.Values.{GivenValue, IsOnlySolution, Solves, SymbolPlace, UserPlace, above, active_range, changes_on_reread, clamped, condition, differs, direct, equations, facts, first_met, given_of, if_within_range, is_n, is_within_range, known_from, name, name_count, number_text, same_given, selected_to, single_text, visibility, visible_text, written}
+use Rattle.kc_language.specs.Values.{GivenValue, IsOnlySolution, Solves, SymbolPlace, UserPlace, above, active_range, changes_on_reread, clamped, condition, differs, direct, equations, facts, first_met, given_of, if_within_range, is_n, is_new, is_within_range, known_from, name, name_count, number_text, same_given, selected_to, single_text, visibility, visible_text, written}
 use Rattle.kc_language.specs.declared.{diagnostics.Warning.TheVariants.{DefaultOutside, Lost, Selected, UserOutside}, expressions.{SymId.SymId, SymbolType.{SymbolType, TheVariants.{Bool as IsBool, Hex, Int, Str, Tristate, Undefined}}, Tri.{TheVariants.{M, N, Y}, Tri}}, values.Interval.Interval}
 
 -- The line of a `.config`. `called` is the prefix with the symbol's name: `CONFIG_NAME`.
@@ -31,11 +31,12 @@ header_line called (TextValue Hex text) =
     codes "#define " ++ called ++ codes " " ++ (if has_hex_prefix text then text else codes "0x" ++ text) ++ codes "\n"
 header_line called _ = []
 
--- What the files need of a solution: the value of a symbol, whether it is written, whether it differs, and the value of a condition.
+-- What the files need of a solution: the value of a symbol, whether it is written, whether it differs, whether it is new, and the value of a condition.
 pub record SolutionView : Type 0 where
   pub value : SymId → SymbolValue
   pub written : SymId → Bool
   pub differs : SymId → Bool
+  pub is_new : SymId → Bool
   pub truth : Condition → Tri
 
 -- A menu or a comment is shown unless its condition is n: the lines of its title, and the title of a menu at its end line.
@@ -84,6 +85,10 @@ module _ (tree : TreeFacts) (prefix : List ℕ) (solution : SolutionView) where
   -- The minimal file: the `.config` lines of the symbols that differ, in the same order.
   unfoldable pub minimal_text : List ℕ
   minimal_text = flat_map (λ s. if solution.differs s then symbol_config s else []) tree.defined
+
+  -- The list of new symbols: their `.config` lines, in the same order.
+  unfoldable pub new_text : List ℕ
+  new_text = flat_map (λ s. if solution.is_new s then symbol_config s else []) tree.defined
 
 -- ---- Warnings about values
 -- K12: a visible user value is outside the active range. K13: so is a default that counts, since no user value is `used`.
@@ -152,6 +157,7 @@ valuation_view tree user V = record {
   value = known_from tree V;
   written = written tree (known_from tree V);
   differs = λ s. differs tree user V s.0;
+  is_new = λ s. is_new tree user V s.0;
   truth = condition tree (known_from tree V);
 }
 

@@ -1,7 +1,7 @@
 -- Trusted: 8. Values: the equation that gives each symbol its value, which symbols are written, and which differ from their defaults.
 -- Sources: the kernel's kconfig-language document and kconfiglib's documentation; "our own" marks what neither of them settles.
 -- `known` is the value of each symbol. Under a tree and `known`, a symbol has limits and an `equation`. A solution satisfies all equations.
-use Rattle.std.specs.{Fmt.{digits, signed_decimal}, List.list_any, Option.option_or}
+use Rattle.std.specs.{Fmt.{digits, signed_decimal}, List.list_any, Option.{option_map_or, option_or}}
 use Rattle.std.specs.Prelude.{Bool, List, None, Option, Some, [], bytes_eq, codes, false, find, if◌then◌else◌, int_lt, is_some, length, map, nat_lt, not, option_and_then, option_map, pos, slice_get, true, unsigned_abs, unwrap_or, ℕ, ℤ, ◌&&◌, ◌++◌, ◌<◌, ◌||◌, ◌≡◌}
 use Rattle.kc_language.specs.Expressions.{Form, Leaf, Single, SymbolValue, TextValue, Truth, greater, greatest, least, lesser, same_symbol, symbol, text, truth_of_value, value}
 use Rattle.kc_language.specs.Symbols.{ChoiceFacts, Condition, Guarded, SymbolFacts, TreeFacts, is_symbol_of, name_by}
@@ -218,6 +218,27 @@ module _ (tree : TreeFacts) (known : SymId → SymbolValue) where
   equation s None user = TextValue Undefined (name tree s)
   equation s (Some f) user = by_choice s f f.choice user
 
+  -- Whether an answer of the user would change the value of a symbol outside a choice: of a bool y or n, of a tristate y, m or n. Of a string some text
+  -- would, if it is visible; of an int or hex some number in its range, since each number can be written with more zeros in front.
+  abbrev pub changes : SymId → SymbolFacts → Tri → Bool
+  changes s f t = not (same_tri (truth_equation f (Some (GivenTruth t))) (truth_of_value (known s)))
+
+  abbrev pub can_change : SymId → SymbolFacts → SymbolType → Bool
+  can_change s f kind = elim kind [
+    | Undefined ↦ false
+    | IsBool ↦ changes s f Y || changes s f N
+    | Tristate ↦ changes s f Y || (changes s f M || changes s f N)
+    | Str ↦ is_visible f
+    | _ ↦ is_visible f && option_map_or (λ r. not (int_lt r.high r.low)) (active_range f) true
+  ]
+
+  -- Whether a choice with this selection has another visible member.
+  abbrev pub has_other : ℕ → Option SymId → Bool
+  has_other c selection = elim selection [
+    | None ↦ false
+    | Some s ↦ list_any (λ m. not (same_symbol s m) && visible m) (option_map_or (λ c. c.members) (choice_at tree c) [])
+  ]
+
   -- Which symbols have a line in the .config. A member: if it is visible. A bool or tristate: if it is visible, or its default, what it is
   -- selected to, or what it is implied to within its direct dependency is not n. A string, int or hex: if it is visible, or a default is met.
   abbrev pub written_truth : SymbolFacts → Bool
@@ -284,3 +305,12 @@ module _ (tree : TreeFacts) (user : UserPlace → Option GivenValue) (V : ℕ �
 
   abbrev pub differs : ℕ → Bool
   differs i = differs_at i (user_place tree i)
+
+  -- A symbol is new if no line answered its question (our own): none gave it a value, and an answer would change its value. A member: none gave it a
+  -- value or chose a member of its choice, it is visible, and a member could be selected in place of the selection.
+  abbrev pub is_new_by : ℕ → SymbolFacts → Option ℕ → Bool
+  is_new_by i f None = can_change tree (known_from tree V) (symbol i) f f.symbol_type
+  is_new_by i f (Some c) = is_visible tree (known_from tree V) f && (not (is_some (user (ChoicePlace c))) && has_other tree (known_from tree V) c (selection c))
+
+  abbrev pub is_new : ℕ → Bool
+  is_new i = not (is_some (user (SymbolPlace i))) && elim (facts tree (symbol i)) [ None ↦ false | Some f ↦ is_new_by i f f.choice ]

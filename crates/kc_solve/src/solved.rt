@@ -12,6 +12,7 @@ ghost use Rattle.kc_solve.specs.Titles.{IsTitleAt};
 ghost use Rattle.kc_language.specs.Needs.{IsAccepted};
 ghost use Rattle.kc_language.specs.Values.{name_count};
 
+use crate::compute::symbol_row;
 use crate::flags::{at_choice, at_symbol, visibility_at};
 use kc_diagnostics::Warning;
 use kc_expr::expression::{SymId, SymbolType, Tri};
@@ -20,7 +21,8 @@ use kc_tree::layout::Layout;
 use kc_tree::rows::{ChoiceId, ContextId, ShownEntry, Title};
 use kc_tree::tree::Tree;
 use kc_user::user::User;
-use kc_values::conditions::title_condition;
+use kc_values::answers::{can_change, has_other};
+use kc_values::conditions::{is_n, title_condition};
 use kc_values::laws::{idempotent_where, minimal_restores};
 use kc_values::table::Table;
 use std::marker::Model;
@@ -167,6 +169,27 @@ impl<'a> Solved<'a> {
         ensures { result ≡ spec.differs self.now id }
     {
         at_symbol(&self.differing, id)
+    }
+
+    /// Whether the symbol is new: no line answered its question. None gave it a value, and an answer would change its value; a
+    /// member: none gave it a value or chose a member of its choice, it is visible, and a member could be selected in place of the
+    /// selection (our own). It is found when it is asked for.
+    pub fn is_new(&self, id: SymId) -> bool
+        requires { id.0 < name_count self.now.tree }
+        ensures { result ≡ spec.is_new self.now id }
+    {
+        if self.user.get(id).is_some() {
+            return false;
+        }
+        let symbol = symbol_row(self.table.layout, id);
+        match symbol.choice.get() {
+            Some(choice) => {
+                !is_n(visibility_at(&self.visibilities, id))
+                    && self.user.selected(choice).is_none()
+                    && has_other(&self.table, choice, at_choice(&self.selections, choice))
+            }
+            None => can_change(&self.table, id, symbol),
+        }
     }
 
     /// The warnings of the values, in the order of the symbols' first definitions: selected above its dependency (K11), a
