@@ -157,7 +157,7 @@ valuation_view tree user V = record {
   value = known_from tree V;
   written = written tree (known_from tree V);
   differs = λ s. differs tree user V s.0;
-  is_new = λ s. is_new tree user V s.0;
+  is_new = is_new tree (known_from tree V) user;
   truth = condition tree (known_from tree V);
 }
 

@@ -232,12 +232,18 @@ module _ (tree : TreeFacts) (known : SymId → SymbolValue) where
     | _ ↦ is_visible f && option_map_or (λ r. not (int_lt r.high r.low)) (active_range f) true
   ]
 
-  -- Whether a choice with this selection has another visible member.
-  abbrev pub has_other : ℕ → Option SymId → Bool
-  has_other c selection = elim selection [
-    | None ↦ false
-    | Some s ↦ list_any (λ m. not (same_symbol s m) && visible m) (option_map_or (λ c. c.members) (choice_at tree c) [])
-  ]
+  -- Whether a choice has a visible member beside the one that it selects without the user's.
+  abbrev pub has_other : ChoiceFacts → Bool
+  has_other c = elim (selected (Some c) None) [ None ↦ false | Some s ↦ list_any (λ m. not (same_symbol s m) && visible m) c.members ]
+
+  -- A symbol is new if no line answered its question (our own): none gave it a value, and an answer would change its value. A member: none gave it a
+  -- value or chose a member of its choice, it is visible, and another member could be selected in place of the selection.
+  abbrev pub is_new_by : (UserPlace → Option GivenValue) → SymId → SymbolFacts → Option ℕ → Bool
+  is_new_by user s f None = can_change s f f.symbol_type
+  is_new_by user s f (Some c) = is_visible f && (not (is_some (user (ChoicePlace c))) && option_map_or has_other (choice_at tree c) false)
+
+  abbrev pub is_new : (UserPlace → Option GivenValue) → SymId → Bool
+  is_new user s = not (is_some (user (SymbolPlace s.0))) && elim (facts tree s) [ None ↦ false | Some f ↦ is_new_by user s f f.choice ]
 
   -- Which symbols have a line in the .config. A member: if it is visible. A bool or tristate: if it is visible, or its default, what it is
   -- selected to, or what it is implied to within its direct dependency is not n. A string, int or hex: if it is visible, or a default is met.
@@ -305,12 +311,3 @@ module _ (tree : TreeFacts) (user : UserPlace → Option GivenValue) (V : ℕ �
 
   abbrev pub differs : ℕ → Bool
   differs i = differs_at i (user_place tree i)
-
-  -- A symbol is new if no line answered its question (our own): none gave it a value, and an answer would change its value. A member: none gave it a
-  -- value or chose a member of its choice, it is visible, and a member could be selected in place of the selection.
-  abbrev pub is_new_by : ℕ → SymbolFacts → Option ℕ → Bool
-  is_new_by i f None = can_change tree (known_from tree V) (symbol i) f f.symbol_type
-  is_new_by i f (Some c) = is_visible tree (known_from tree V) f && (not (is_some (user (ChoicePlace c))) && has_other tree (known_from tree V) c (selection c))
-
-  abbrev pub is_new : ℕ → Bool
-  is_new i = not (is_some (user (SymbolPlace i))) && elim (facts tree (symbol i)) [ None ↦ false | Some f ↦ is_new_by i f f.choice ]

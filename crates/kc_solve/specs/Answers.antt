@@ -67,4 +67,4 @@ differs s id = values.differs s.tree (place_at s.places) (value_of s) id.0
 
 -- whether a symbol is new
 abbrev pub is_new : Solution → SymId → Bool
-is_new s id = values.is_new s.tree (place_at s.places) (value_of s) id.0
+is_new s id = values.is_new s.tree (known s) (place_at s.places) id

@@ -13,7 +13,7 @@ ghost use Rattle.kc_language.specs.Needs.{IsAccepted};
 ghost use Rattle.kc_language.specs.Values.{name_count};
 
 use crate::compute::symbol_row;
-use crate::flags::{at_choice, at_symbol, visibility_at};
+use crate::flags::{at_choice, at_symbol, symbol_is_new, visibility_at};
 use kc_diagnostics::Warning;
 use kc_expr::expression::{SymId, SymbolType, Tri};
 use kc_expr::values::{Values, tri_text, truth_of};
@@ -21,8 +21,7 @@ use kc_tree::layout::Layout;
 use kc_tree::rows::{ChoiceId, ContextId, ShownEntry, Title};
 use kc_tree::tree::Tree;
 use kc_user::user::User;
-use kc_values::answers::{can_change, has_other};
-use kc_values::conditions::{is_n, title_condition};
+use kc_values::conditions::title_condition;
 use kc_values::laws::{idempotent_where, minimal_restores};
 use kc_values::table::Table;
 use std::marker::Model;
@@ -178,18 +177,8 @@ impl<'a> Solved<'a> {
         requires { id.0 < name_count self.now.tree }
         ensures { result ≡ spec.is_new self.now id }
     {
-        if self.user.get(id).is_some() {
-            return false;
-        }
         let symbol = symbol_row(self.table.layout, id);
-        match symbol.choice.get() {
-            Some(choice) => {
-                !is_n(visibility_at(&self.visibilities, id))
-                    && self.user.selected(choice).is_none()
-                    && has_other(&self.table, choice, at_choice(&self.selections, choice))
-            }
-            None => can_change(&self.table, id, symbol),
-        }
+        symbol_is_new(&self.table, self.user, id, symbol, &self.default_selections)
     }
 
     /// The warnings of the values, in the order of the symbols' first definitions: selected above its dependency (K11), a

@@ -1,5 +1,6 @@
 -- Trusted: What the equations say under the values of a table, of its rows.
-use Rattle.std.specs.Prelude.{ℕ, Bool, List, Option, Some, not, ◌&&◌}
+use Rattle.std.specs.Prelude.{ℕ, Bool, List, Option, Some, false, not, ◌&&◌}
+use Rattle.std.specs.Option.{option_map_or}
 use Rattle.kc_language.specs.Symbols.{Warning, ChoiceFacts, Condition, Guarded, SymbolFacts}
 use Rattle.kc_language.specs.Expressions.{Form, SymbolValue, same_symbol}
 use Rattle.kc_language.specs.declared.expressions.SymId.{SymId}
@@ -166,8 +167,8 @@ module _ (t : Table) where
   abbrev pub is_other : SymId → SymId → Bool
   is_other selected m = not (same_symbol selected m) && lookup.visible t.tree.now (known_at t) m
 
-  abbrev pub has_other : ℕ → Option SymId → Bool
-  has_other c selection = lookup.has_other t.tree.now (known_at t) c selection
+  abbrev pub has_other : ℕ → Bool
+  has_other c = option_map_or (lookup.has_other t.tree.now (known_at t)) (lookup.choice_at t.tree.now c) false
 
   -- what a symbol is warned of
   abbrev pub select_warnings : List ℕ → SymId → Symbol → List Warning

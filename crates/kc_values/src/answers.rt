@@ -1,6 +1,6 @@
 //! Which symbols an answer of the user would change.
 
-ghost use Rattle.std.specs.Prelude.{◌≡◌, Some, false, int_lt, not, true};
+ghost use Rattle.std.specs.Prelude.{◌≡◌, None, int_lt, not, true};
 ghost use Rattle.std.specs.Option.{option_map_or};
 ghost use Rattle.std.specs.List.{list_any};
 ghost use Rattle.kc_language.specs.Expressions.{same_symbol};
@@ -77,15 +77,14 @@ fn is_other_visible(table: &Table<'_>, selected: SymId, members: &[SymId]) -> bo
     false
 }
 
-/// Whether a choice with this selection has another visible member, which could be selected in its place (our own).
-pub fn has_other(table: &Table<'_>, choice: ChoiceId, selection: Option<SymId>) -> bool
-    ensures { result ≡ spec.has_other table.now choice.0 selection }
+/// Whether a choice has a visible member beside its default selection, which the user could select in its place (our own). The
+/// caller owes the default selection, so that it is not found again.
+pub fn has_other(table: &Table<'_>, choice: ChoiceId, default: Option<SymId>) -> bool
+    requires { default ≡ spec.selected table.now choice.0 None }
+    ensures { result ≡ spec.has_other table.now choice.0 }
 {
-    let Some(selected) = selection else {
-        return false;
-    };
-    match table.layout.choice(choice) {
-        Some(found) => is_other_visible(table, selected, &found.members),
-        None => false,
+    match (table.layout.choice(choice), default) {
+        (Some(found), Some(selected)) => is_other_visible(table, selected, &found.members),
+        _ => false,
     }
 }
