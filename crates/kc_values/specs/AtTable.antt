@@ -167,6 +167,9 @@ module _ (t : Table) where
   abbrev pub is_other : SymId → SymId → Bool
   is_other selected m = not (same_symbol selected m) && lookup.visible t.tree.now (known_at t) m
 
+  abbrev pub has_other_member : Choice → Bool
+  has_other_member c = lookup.has_other t.tree.now (known_at t) (choice_in c)
+
   abbrev pub has_other : ℕ → Bool
   has_other c = option_map_or (lookup.has_other t.tree.now (known_at t)) (lookup.choice_at t.tree.now c) false
 

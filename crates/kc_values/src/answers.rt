@@ -14,7 +14,7 @@ use crate::table::Table;
 use crate::truths::{truth_equation, visibility};
 use kc_expr::expression::{SymId, SymbolType, Tri};
 use kc_expr::values::truth_of;
-use kc_tree::rows::{ChoiceId, Symbol};
+use kc_tree::rows::{Choice, ChoiceId, Symbol};
 use kc_user::value::UserValue;
 
 // Whether a truth value as the user's would change the value of a bool or tristate symbol outside a choice.
@@ -77,14 +77,25 @@ fn is_other_visible(table: &Table<'_>, selected: SymId, members: &[SymId]) -> bo
     false
 }
 
+// Whether a choice has a visible member beside its default selection.
+fn has_other_member(table: &Table<'_>, choice: &Choice, default: Option<SymId>) -> bool
+    requires { default ≡ spec.selected_by table.now choice.now None }
+    ensures { result ≡ spec.has_other_member table.now choice.now }
+{
+    match default {
+        Some(selected) => is_other_visible(table, selected, &choice.members),
+        None => false,
+    }
+}
+
 /// Whether a choice has a visible member beside its default selection, which the user could select in its place (our own). The
 /// caller owes the default selection, so that it is not found again.
 pub fn has_other(table: &Table<'_>, choice: ChoiceId, default: Option<SymId>) -> bool
     requires { default ≡ spec.selected table.now choice.0 None }
     ensures { result ≡ spec.has_other table.now choice.0 }
 {
-    match (table.layout.choice(choice), default) {
-        (Some(found), Some(selected)) => is_other_visible(table, selected, &found.members),
-        _ => false,
+    match table.layout.choice(choice) {
+        Some(found) => has_other_member(table, found, default),
+        None => false,
     }
 }
