@@ -30,8 +30,10 @@ text_at-none : (name : Option (String Global)) → text_at name None ≡ []
 text_at-none None = refl
 text_at-none (Some name) = refl
 
-pub texts-none : (options : Options) → text_at options.out None ++ text_at options.header None ++ text_at options.minimal None ++ text_at options.depfile None ≡ []
-texts-none options = rw (text_at-none options.out, text_at-none options.header, text_at-none options.minimal, text_at-none options.depfile) refl
+pub texts-none : (options : Options) →
+    text_at options.out None ++ text_at options.header None ++ text_at options.minimal None ++ text_at options.list_new None ++ text_at options.depfile None ≡ []
+texts-none options =
+    rw (text_at-none options.out, text_at-none options.header, text_at-none options.minimal, text_at-none options.list_new, text_at-none options.depfile) refl
 
 -- ---- the part of a run
 

@@ -6,7 +6,7 @@ use Rattle.kc_language.specs.Expansion.{AreOpened, Files}
 use Rattle.kc_language.specs.Outcome.{IsAcceptedTree, IsOutcomeOfReading, Options, Outcome, first_line, is_outside, lines_text, lost_warnings, names_listed, read_of, refused_if, refuses_input, reported, root_file, rule_text, run_error_text, target, unreadable_name, warned_files}
 use Rattle.kc_language.specs.Statements.{error_at, error_line}
 use Rattle.kc_language.specs.Symbols.{TreeFacts}
-use Rattle.kc_language.specs.Texts.{Solution, config_text, header_text, minimal_text, solution_view, value_warnings}
+use Rattle.kc_language.specs.Texts.{Solution, config_text, header_text, minimal_text, new_text, solution_view, value_warnings}
 use Rattle.kc_language.specs.declared.outcome.Status.TheVariants.{Done}
 use Rattle.kc_language.specs.declared.diagnostics.RunError.TheVariants as run
 
@@ -52,6 +52,7 @@ files_of options tree solution = record {
   config = text_if options.out (config_text tree options.prefix (solution_view solution));
   header = text_if options.header (header_text tree options.prefix (solution_view solution));
   minimal = text_if options.minimal (minimal_text tree options.prefix (solution_view solution));
+  list_new = text_if options.list_new (new_text tree options.prefix (solution_view solution));
   depfile = None;
   warned = [];
   refusal = [];

@@ -17,7 +17,7 @@ ghost use Rattle.kc_io.specs.Delivery.{text_at, texts_of};
 use crate::accepted::OrderedTree;
 use crate::lost::lost_warnings;
 use kc_config_file::config::config_text;
-use kc_config_file::header::{header_text, minimal_text};
+use kc_config_file::header::{header_text, list_of_new, minimal_text};
 use kc_config_file::user_input::UserInput;
 use kc_diagnostics::{Warning, add_warning, borrowed};
 use kc_expr::names::Names;
@@ -254,6 +254,27 @@ fn add_minimal<'o>(
     Ok(())
 }
 
+// Adds that of the list of new symbols, where it is wanted.
+fn add_new<'o>(
+    alloc: Global,
+    options: &'o Options,
+    solved: &Solved<'_>,
+    texts: &mut Vec<Text<'o>>,
+) -> Result<(), AllocError>
+    ensures { OnOk result (map text_view texts.new.items ≡ map text_view texts.old.items
+        ++ text_at options.now.list_new (text_if options.now.list_new (whole.new_text solved.now.tree options.now.prefix (solution_view solved.now)))) }
+{
+    let Some(name) = &options.list_new else {
+        return Ok(());
+    };
+    let bytes = list_of_new(alloc, solved, &options.prefix)?;
+    texts.push(Text {
+        name: name.as_str(),
+        bytes,
+    })?;
+    Ok(())
+}
+
 // Adds that of the dependency file that lists these names, where it is wanted.
 fn add_rule<'o>(
     alloc: Global,
@@ -291,6 +312,7 @@ fn texts_of<'o>(
     add_config(alloc, options, solved, &mut texts)?;
     add_header(alloc, options, solved, &mut texts)?;
     add_minimal(alloc, options, solved, &mut texts)?;
+    add_new(alloc, options, solved, &mut texts)?;
     add_rule(alloc, options, names, &mut texts)?;
     Ok(texts)
 }

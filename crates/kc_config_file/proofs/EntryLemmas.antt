@@ -41,10 +41,10 @@ module _ (tree : TreeFacts) (prefix : List ℕ) (solution : SolutionView) where
   pub entries_text-after : (entries : List Shown) → entries_text tree prefix solution entries ≡ entries_after tree prefix solution false entries
   entries_text-after entries = texts_after [] entries
 
--- The .config does not ask which symbols differ.
-module _ (tree : TreeFacts) (prefix : List ℕ) (value : SymId → SymbolValue) (written differs other : SymId → Bool) (truth : Condition → Tri) where
-  abbrev view : (SymId → Bool) → SolutionView
-  view d = record { value = value; written = written; differs = d; truth = truth }
+-- The .config does not ask which symbols differ or are new.
+module _ (tree : TreeFacts) (prefix : List ℕ) (value : SymId → SymbolValue) (written : SymId → Bool) (differs other : (SymId → Bool) × (SymId → Bool)) (truth : Condition → Tri) where
+  abbrev view : (SymId → Bool) × (SymId → Bool) → SolutionView
+  view d = record { value = value; written = written; differs = d.0; is_new = d.1; truth = truth }
 
   title_same : (o : Option Shown) → shown_title (view differs) o ≡ shown_title (view other) o
   title_same None = refl

@@ -15,7 +15,7 @@ use Rattle.kc_tree.specs.declared.rows.ShownEntry.{ShownEntry}
 use Rattle.kc_config_file.specs.Named.{HasName}
 use Rattle.kc_language.specs.Values.{name as name_of}
 use Rattle.kc_language.specs.Texts.{config_file_line, header_line, entry_text, SolutionView}
-use Rattle.kc_config_file.specs.PartsOfTexts.{header_if, minimal_if, gap}
+use Rattle.kc_config_file.specs.PartsOfTexts.{header_if, minimal_if, new_if, gap}
 use Rattle.kc_config_file.specs.EntryTexts.{ends_after, entries_after}
 
 -- a text grows by the next part of what is still to come
@@ -48,6 +48,13 @@ module _ (tree : TreeFacts) (prefix : List ℕ) (solution : SolutionView) (s : S
 
   pub minimal_if-not : solution.differs s ≡ false → [] ≡ minimal_if tree prefix solution s
   minimal_if-not same = rw same refl
+
+  pub new_if-new : (name : List ℕ) (known : SymbolValue) → solution.is_new s ≡ true → slice_get tree.names s.0 ≡ Some name → known ≡ solution.value s →
+      config_file_line (prefix ++ name) known ≡ new_if tree prefix solution s
+  new_if-new name known new found value = rw (new, name_is tree s name found, value) refl
+
+  pub new_if-not : solution.is_new s ≡ false → [] ≡ new_if tree prefix solution s
+  new_if-not not_new = rw not_new refl
 
 -- Symbol by symbol.
 module _ (tree : TreeFacts) (f : SymId → List ℕ) where

@@ -56,6 +56,9 @@ module _ (tree : TreeFacts) (prefix : List ℕ) (solution : SolutionView) where
   abbrev pub minimal_if : SymId → List ℕ
   minimal_if s = if solution.differs s then symbol_config tree prefix solution s else []
 
+  abbrev pub new_if : SymId → List ℕ
+  new_if s = if solution.is_new s then symbol_config tree prefix solution s else []
+
 -- a blank or a carriage return
 abbrev pub is_end_byte : ℕ → Bool
 is_end_byte b = is_blank b || b == byte "\r"

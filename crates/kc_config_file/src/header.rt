@@ -1,7 +1,7 @@
-//! The writers of the header and of the minimal file.
+//! The writers of the header, of the minimal file and of the list of new symbols.
 ghost use Rattle.std.specs.Prelude.{◌≡◌, ◌<◌, ◌++◌, length, OnOk, OnErr, IfOk, flat_map};
-ghost use Rattle.kc_language.specs.Texts.{HasShortLines, MinimalGivesBack, MinimalNeedsEach, header_text, minimal_text, solution_view, value_of};
-ghost use Rattle.kc_config_file.specs.PartsOfTexts.{header_heading, header_if, minimal_if};
+ghost use Rattle.kc_language.specs.Texts.{HasShortLines, MinimalGivesBack, MinimalNeedsEach, header_text, minimal_text, new_text, solution_view, value_of};
+ghost use Rattle.kc_config_file.specs.PartsOfTexts.{header_heading, header_if, minimal_if, new_if};
 ghost use Rattle.kc_config_file.specs.Writing.{Writes};
 ghost use Rattle.kc_user.specs.Places.{ArePlaces};
 ghost use Rattle.kc_language.specs.Values.{name_count};
@@ -51,6 +51,28 @@ fn add_minimal_if(
     ensures some { OnErr result (0 < length (minimal_if solved.now.tree prefix.now (solution_view solved.now) id)) }
 {
     if !solved.differs(id) {
+        return Ok(());
+    }
+    add_config_file_line(
+        prefix,
+        solved.tree().name(id),
+        symbol_value(solved, id),
+        file,
+    )
+}
+
+// Adds the symbol's line where it is new.
+fn add_new_if(
+    solved: &Solved<'_>,
+    prefix: &Prefix,
+    id: SymId,
+    file: &mut Vec<u8>,
+) -> Result<(), AllocError>
+    requires named { id.0 < length solved.now.tree.names }
+    requires mentioned { id.0 < name_count solved.now.tree }
+    ensures { OnOk result (file.new.items ≡ file.old.items ++ new_if solved.now.tree prefix.now (solution_view solved.now) id) }
+{
+    if !solved.is_new(id) {
         return Ok(());
     }
     add_config_file_line(
@@ -137,6 +159,24 @@ pub fn minimal_text(
     let tree = solved.tree();
     for i in 0..tree.symbol_count() {
         add_minimal_if(solved, prefix, tree.symbol(i), &mut file)?;
+    }
+    Ok(file)
+}
+
+/// The list of new symbols: their `.config` lines, in the order of their first definition. (Our own form.)
+///
+/// The only error is to be out of memory.
+pub fn list_of_new(
+    alloc: Global,
+    solved: &Solved<'_>,
+    prefix: &Prefix,
+) -> Result<Vec<u8>, AllocError>
+    ensures { IfOk result (λ text. text.items ≡ new_text solved.now.tree prefix.now (solution_view solved.now)) }
+{
+    let mut file = Vec::new(alloc);
+    let tree = solved.tree();
+    for i in 0..tree.symbol_count() {
+        add_new_if(solved, prefix, tree.symbol(i), &mut file)?;
     }
     Ok(file)
 }

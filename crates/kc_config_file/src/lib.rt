@@ -13,7 +13,7 @@
 //! Writing:
 //!
 //! - [`config`]: the text of the `.config`.
-//! - [`header`]: the texts of the C header and of the minimal file.
+//! - [`header`]: the texts of the C header, of the minimal file and of the list of new symbols.
 //! - [`prefix`]: what stands before each name, `CONFIG_` by default.
 //! - [`batch`] and [`sink`]: [`put`] hands a text to a [`Sink`], which may fail with a [`Fault`].
 //!

@@ -271,6 +271,7 @@ module _ (any : Options) (out header minimal : String Global) (root_is : string_
     out = Some out;
     header = Some header;
     minimal = Some minimal;
+    list_new = None;
     depfile = None;
     strict = false;
     strict_tree = false;
@@ -285,6 +286,7 @@ module _ (any : Options) (out header minimal : String Global) (root_is : string_
     header =
         Some (codes "/*\n * Automatically generated file; DO NOT EDIT.\n * Main menu\n */\n#define CONFIG_A 1\n#define CONFIG_B 1\n#define CONFIG_C 7\n");
     minimal = Some (codes "CONFIG_A=y\n");
+    list_new = None;
     depfile = None;
     warned = codes ".config:2: warning K7: unknown symbol D\n";
     refusal = [];

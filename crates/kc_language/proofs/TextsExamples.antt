@@ -3,7 +3,7 @@ use Rattle.std.proofs.Common.{◌≡◌, refl}
 use Rattle.std.specs.Prelude.{None, [], codes, true, ◌==◌, ◌∷◌}
 use Rattle.kc_language.specs.Expressions.{TextValue, Truth, symbol}
 use Rattle.kc_language.specs.Symbols.{Condition, EndShown, MenuShown, SymbolFacts, SymbolShown, TreeFacts}
-use Rattle.kc_language.specs.Texts.{SolutionView, config_file_line, config_text, header_line, header_text, minimal_text}
+use Rattle.kc_language.specs.Texts.{SolutionView, config_file_line, config_text, header_line, header_text, minimal_text, new_text}
 use Rattle.kc_language.specs.declared.expressions.SymbolType.TheVariants.{Bool, Hex, Str}
 use Rattle.kc_language.specs.declared.expressions.Tri.TheVariants.{M, N, Y}
 
@@ -36,9 +36,9 @@ module _ (any_tree : TreeFacts) (any_facts : SymbolFacts) (always : Condition) w
     main_menu = codes "Main";
   }
 
-  -- Both are y and written, and the menu is shown. Only B differs from what it is without the user.
+  -- Both are y and written, and the menu is shown. Only B differs from what it is without the user, and only A is new.
   all_y : SolutionView
-  all_y = record { value = λ s. Truth Y; written = λ s. true; differs = λ s. s.0 == 1; truth = λ c. Y }
+  all_y = record { value = λ s. Truth Y; written = λ s. true; differs = λ s. s.0 == 1; is_new = λ s. s.0 == 0; truth = λ c. Y }
 
   -- A menu has its title after an empty line, its symbols, and an end line. An empty line stands before the symbol after it.
   menu_layout : config_text two_bools (codes "CONFIG_") all_y
@@ -56,3 +56,8 @@ module _ (any_tree : TreeFacts) (any_facts : SymbolFacts) (always : Condition) w
   minimal_layout : minimal_text two_bools (codes "CONFIG_") all_y ≡ codes "CONFIG_B=y\n"
   unfolding two_bools all_y minimal_text
   minimal_layout = refl
+
+  -- The list of new symbols has the one that is new, and no heading.
+  new_layout : new_text two_bools (codes "CONFIG_") all_y ≡ codes "CONFIG_A=y\n"
+  unfolding two_bools all_y new_text
+  new_layout = refl

@@ -1,7 +1,7 @@
 -- Trusted: 12. Outcome: the texts, the diagnostics and the status that a run is to leave.
 -- Our own, except for the syntax of a dependency file, which is GNU make's. Everything here is a part of `IsOutcome`, at the end.
 use Rattle.std.specs.{List.list_any, Option.option_map_or, Prelude.{Bool, Err, List, None, Ok, Option, Some, [], codes, decimal, false, find, flat_map, if◌then◌else◌, length, map, nat_le, not, option_map, slice_get, string_bytes, true, ℕ, ◌&&◌, ◌++◌, ◌-◌, ◌==◌, ◌||◌, ◌∷◌, ◌≡◌}}
-use Rattle.kc_language.specs.{ConfigFile.{Places, ReadResult, Stream, StreamLocation, UserInput, no_input, reading_of}, Expansion.{AreOpened, Files, Refused}, Expressions.{all_mentioned, same_name}, Needs.{IsAccepted, IsLoopText, loop_refused}, Statements.{cause_text, error_at, error_line}, Symbols.{IsTreeOf, TreeFacts, Warning}, Text.{byte, longest_input_line}, Texts.{IsSolution, Solution, config_text, header_text, lost_lines, minimal_text, solution_view, value_warnings, warnings}, declared.{diagnostics.{RunError.RunError, Warning.TheVariants.UserOutside}, outcome.{Options.Options as AnyOptions, Position.Position, Status.Status}}}
+use Rattle.kc_language.specs.{ConfigFile.{Places, ReadResult, Stream, StreamLocation, UserInput, no_input, reading_of}, Expansion.{AreOpened, Files, Refused}, Expressions.{all_mentioned, same_name}, Needs.{IsAccepted, IsLoopText, loop_refused}, Statements.{cause_text, error_at, error_line}, Symbols.{IsTreeOf, TreeFacts, Warning}, Text.{byte, longest_input_line}, Texts.{IsSolution, Solution, config_text, header_text, lost_lines, minimal_text, new_text, solution_view, value_warnings, warnings}, declared.{diagnostics.{RunError.RunError, Warning.TheVariants.UserOutside}, outcome.{Options.Options as AnyOptions, Position.Position, Status.Status}}}
 
 -- The options of a run, the root file, the file of --out (the target in a dependency file), and how a diagnostic of no line of the `.config` begins.
 abbrev pub Options : Type 0
@@ -158,6 +158,7 @@ pub record Outcome : Type 0 where
   pub config : Option (List ℕ)
   pub header : Option (List ℕ)
   pub minimal : Option (List ℕ)
+  pub list_new : Option (List ℕ)
   pub depfile : Option (List ℕ)
   pub warned : List ℕ
   pub refusal : List ℕ
@@ -168,7 +169,7 @@ abbrev pub reported : List ℕ → Outcome → Outcome
 reported text outcome = record outcome { warned = text ++ outcome.warned }
 
 abbrev pub refused : List ℕ → Outcome
-refused line = record { config = None; header = None; minimal = None; depfile = None; warned = []; refusal = line; status = Status.Refused }
+refused line = record { config = None; header = None; minimal = None; list_new = None; depfile = None; warned = []; refusal = line; status = Status.Refused }
 
 abbrev pub refused_if : Options → Bool → Outcome → Outcome
 refused_if options refuses outcome =
@@ -187,6 +188,7 @@ warned_files options tree input solution = record {
   config = option_map (λ file. config_text tree options.prefix (solution_view solution)) options.out;
   header = option_map (λ file. header_text tree options.prefix (solution_view solution)) options.header;
   minimal = option_map (λ file. minimal_text tree options.prefix (solution_view solution)) options.minimal;
+  list_new = option_map (λ file. new_text tree options.prefix (solution_view solution)) options.list_new;
   depfile = None;
   warned = lines_text (map (λ line. lead options ++ line) (warnings solution)) ++ lines_text (lost_warnings options input solution);
   refusal = [];

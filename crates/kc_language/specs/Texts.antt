@@ -1,7 +1,7 @@
 -- Trusted: 11. Texts: what a run writes: the `.config`, the header, the minimal file, and the warnings K11 to K14 about values.
 -- Source: our own, in the manner of the kernel's `conf` and kconfiglib (docs/language.md, "Texts"). At the end: what reading a written file again gives.
 use Rattle.std.specs.{List.{enumerate_from, last_or}, Option.option_map_or, Str.Lines.strip_carriage_return, Prelude.{All, Bool, List, None, Option, Some, [], codes, false, filter, flat_map, if◌then◌else◌, is_some, length, map, not, option_map, slice_get, slice_index_or, take, true, ℕ, ◌++◌, ◌<◌, ◌==◌, ◌||◌, ◌↔◌, ◌∷◌, ◌≡◌}}
-use Rattle.kc_language.specs.{ConfigFile.{ArePlacesOf, Places, ReadResult, StreamLocation, Unset, is_within, lines_from, meaning_of, no_input, place_at, reading_of, text_in_config, value_text}, Expressions.{SymbolValue, TextValue, Truth, tri_text}, Lines.is_line_feed, Symbols.{CommentShown, Condition, EndShown, MenuShown, Shown, SymbolFacts, SymbolShown, TreeFacts, Warning, located_warning, warning_line}, Text.{byte, escape, has_hex_prefix}, Tokens.is_blank, Values.{GivenValue, IsOnlySolution, Solves, SymbolPlace, UserPlace, above, active_range, changes_on_reread, clamped, condition, differs, direct, equations, facts, first_met, given_of, if_within_range, is_n, is_within_range, known_from, name, name_count, number_text, same_given, selected_to, single_text, visibility, visible_text, written}, declared.{diagnostics.Warning.TheVariants.{DefaultOutside, Lost, Selected, UserOutside}, expressions.{SymId.SymId, SymbolType.{SymbolType, TheVariants.{Bool as IsBool, Hex, Int, Str, Tristate, Undefined}}, Tri.{TheVariants.{M, N, Y}, Tri}}, values.Interval.Interval}}
+use Rattle.kc_language.specs.{ConfigFile.{ArePlacesOf, Places, ReadResult, StreamLocation, Unset, is_within, lines_from, meaning_of, no_input, place_at, reading_of, text_in_config, value_text}, Expressions.{SymbolValue, TextValue, Truth, tri_text}, Lines.is_line_feed, Symbols.{CommentShown, Condition, EndShown, MenuShown, Shown, SymbolFacts, SymbolShown, TreeFacts, Warning, located_warning, warning_line}, Text.{byte, escape, has_hex_prefix}, Tokens.is_blank, Values.{GivenValue, IsOnlySolution, Solves, SymbolPlace, UserPlace, above, active_range, changes_on_reread, clamped, condition, differs, direct, equations, facts, first_met, given_of, if_within_range, is_n, is_new, is_within_range, known_from, name, name_count, number_text, same_given, selected_to, single_text, visibility, visible_text, written}, declared.{diagnostics.Warning.TheVariants.{DefaultOutside, Lost, Selected, UserOutside}, expressions.{SymId.SymId, SymbolType.{SymbolType, TheVariants.{Bool as IsBool, Hex, Int, Str, Tristate, Undefined}}, Tri.{TheVariants.{M, N, Y}, Tri}}, values.Interval.Interval}}
 
 -- The line of a `.config`. `called` is the prefix with the symbol's name: `CONFIG_NAME`.
 abbrev pub config_file_line : List ℕ → SymbolValue → List ℕ
@@ -22,11 +22,12 @@ header_line called (TextValue Int text) = codes "#define " ++ called ++ codes " 
 header_line called (TextValue Hex text) = codes "#define " ++ called ++ codes " " ++ (if has_hex_prefix text then text else codes "0x" ++ text) ++ codes "\n"
 header_line called _ = []
 
--- What the files need of a solution: the value of a symbol, whether it is written, whether it differs, and the value of a condition.
+-- What the files need of a solution: the value of a symbol, whether it is written, whether it differs, whether it is new, and the value of a condition.
 pub record SolutionView : Type 0 where
   pub value : SymId → SymbolValue
   pub written : SymId → Bool
   pub differs : SymId → Bool
+  pub is_new : SymId → Bool
   pub truth : Condition → Tri
 
 -- A menu or a comment is shown unless its condition is n: the lines of its title, and the title of a menu at its end line.
@@ -74,6 +75,10 @@ module _ (tree : TreeFacts) (prefix : List ℕ) (solution : SolutionView) where
   -- The minimal file: the `.config` lines of the symbols that differ, in the same order.
   unfoldable pub minimal_text : List ℕ
   minimal_text = flat_map (λ s. if solution.differs s then symbol_config s else []) tree.defined
+
+  -- The list of new symbols: their `.config` lines, in the same order.
+  unfoldable pub new_text : List ℕ
+  new_text = flat_map (λ s. if solution.is_new s then symbol_config s else []) tree.defined
 
 -- ---- Warnings about values
 -- K12: a visible user value is outside the active range. K13: so is a default that counts, since no user value is `used`.
@@ -137,6 +142,7 @@ valuation_view tree user V = record {
   value = known_from tree V;
   written = written tree (known_from tree V);
   differs = λ s. differs tree user V s.0;
+  is_new = is_new tree (known_from tree V) user;
   truth = condition tree (known_from tree V);
 }
 

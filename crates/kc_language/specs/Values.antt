@@ -1,6 +1,6 @@
 -- Trusted: 8. Values: the equation that gives each symbol its value, which symbols are written, and which differ from their defaults.
 -- Sources: the kernel's kconfig-language document and kconfiglib's documentation; "our own" marks the rest. `known` is the value of each symbol.
-use Rattle.std.specs.{Fmt.{digits, signed_decimal}, List.list_any, Option.option_or, Prelude.{Bool, List, None, Option, Some, [], bytes_eq, codes, false, find, if◌then◌else◌, int_lt, is_some, length, map, nat_lt, not, option_and_then, option_map, pos, slice_get, true, unsigned_abs, unwrap_or, ℕ, ℤ, ◌&&◌, ◌++◌, ◌<◌, ◌||◌, ◌≡◌}}
+use Rattle.std.specs.{Fmt.{digits, signed_decimal}, List.list_any, Option.{option_map_or, option_or}, Prelude.{Bool, List, None, Option, Some, [], bytes_eq, codes, false, find, if◌then◌else◌, int_lt, is_some, length, map, nat_lt, not, option_and_then, option_map, pos, slice_get, true, unsigned_abs, unwrap_or, ℕ, ℤ, ◌&&◌, ◌++◌, ◌<◌, ◌||◌, ◌≡◌}}
 use Rattle.kc_language.specs.{Expressions.{Form, Leaf, Single, SymbolValue, TextValue, Truth, greater, greatest, least, lesser, same_symbol, symbol, text, truth_of_value, value}, Symbols.{ChoiceFacts, Condition, Guarded, SymbolFacts, TreeFacts, is_symbol_of, name_by}, Text.{hex_of, int_of}, declared.{expressions.{SymId.SymId, SymbolType.{SymbolType, TheVariants.{Bool as IsBool, Hex, Int, Str, Tristate, Undefined}}, Tri.{TheVariants.{M, N, Y}, Tri}}, values.Interval.Interval}}
 
 -- What the user gives: a truth value or a text to a symbol, or to a choice the member to select.
@@ -182,6 +182,33 @@ module _ (tree : TreeFacts) (known : SymId → SymbolValue) where
   abbrev pub equation : SymId → Option SymbolFacts → Option GivenValue → SymbolValue
   equation s None = λ user. TextValue Undefined (name tree s)
   equation s (Some f) = elim f.choice [ None ↦ by_type s f f.symbol_type | Some c ↦ λ u. Truth (if is_symbol_of s (selected (choice_at tree c) u) then Y else N) ]
+
+  -- Whether an answer of the user would change the value of a symbol outside a choice: of a bool y or n, of a tristate y, m or n. Of a string some text
+  -- would, if it is visible; of an int or hex some number in its range, since each number can be written with more zeros in front.
+  abbrev pub changes : SymId → SymbolFacts → Tri → Bool
+  changes s f t = not (same_tri (truth_equation f (Some (GivenTruth t))) (truth_of_value (known s)))
+
+  abbrev pub can_change : SymId → SymbolFacts → SymbolType → Bool
+  can_change s f kind = elim kind [
+    | Undefined ↦ false
+    | IsBool ↦ changes s f Y || changes s f N
+    | Tristate ↦ changes s f Y || (changes s f M || changes s f N)
+    | Str ↦ is_visible f
+    | _ ↦ is_visible f && option_map_or (λ r. not (int_lt r.high r.low)) (active_range f) true
+  ]
+
+  -- Whether a choice has a visible member beside the one that it selects without the user's.
+  abbrev pub has_other : ChoiceFacts → Bool
+  has_other c = elim (selected (Some c) None) [ None ↦ false | Some s ↦ list_any (λ m. not (same_symbol s m) && visible m) c.members ]
+
+  -- A symbol is new if no line answered its question (our own): none gave it a value, and an answer would change its value. A member: none gave it a
+  -- value or chose a member of its choice, it is visible, and another member could be selected in place of the selection.
+  abbrev pub is_new_by : (UserPlace → Option GivenValue) → SymId → SymbolFacts → Option ℕ → Bool
+  is_new_by user s f None = can_change s f f.symbol_type
+  is_new_by user s f (Some c) = is_visible f && (not (is_some (user (ChoicePlace c))) && option_map_or has_other (choice_at tree c) false)
+
+  abbrev pub is_new : (UserPlace → Option GivenValue) → SymId → Bool
+  is_new user s = not (is_some (user (SymbolPlace s.0))) && elim (facts tree s) [ None ↦ false | Some f ↦ is_new_by user s f f.choice ]
 
   -- Which symbols have a line in the .config. A member: if it is visible. A bool or tristate: if it is visible, or its default, what it is
   -- selected to, or what it is implied to within its direct dependency is not n. A string, int or hex: if it is visible, or a default is met.

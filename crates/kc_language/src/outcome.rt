@@ -26,6 +26,8 @@ pub struct Options<P> {
     pub header: Option<String>,
     /// The minimal `.config` to write.
     pub minimal: Option<String>,
+    /// The list of new symbols to write.
+    pub list_new: Option<String>,
     /// The dependency file to write.
     pub depfile: Option<String>,
     /// The files to read after the `.config`, in this order.

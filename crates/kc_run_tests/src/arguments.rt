@@ -22,6 +22,7 @@ struct Want {
     kconfig: &'static str,
     header: Option<&'static str>,
     minimal: Option<&'static str>,
+    list_new: Option<&'static str>,
     depfile: Option<&'static str>,
     prefix: &'static [u8],
     fragments: &'static [&'static str],
@@ -36,6 +37,7 @@ const PLAIN: Want = Want {
     kconfig: "Kconfig",
     header: None,
     minimal: None,
+    list_new: None,
     depfile: None,
     prefix: b"CONFIG_",
     fragments: &[],
@@ -90,6 +92,7 @@ fn are_options(alloc: Global, options: &Options, want: &Want) -> bool {
         && options.kconfig.as_str() == want.kconfig
         && is_name(&options.header, want.header)
         && is_name(&options.minimal, want.minimal)
+        && is_name(&options.list_new, want.list_new)
         && is_name(&options.depfile, want.depfile)
         && options.prefix.as_bytes() == want.prefix
         && are_fragments(&options.fragments, want.fragments)
@@ -123,11 +126,12 @@ const OPTIONS: &[(&str, Want)] = &[
         },
     ),
     (
-        "Kconfig|--out=b|--header=h|--savedefconfig|m|--depfile=d",
+        "Kconfig|--out=b|--header=h|--savedefconfig|m|--list-new=n|--depfile=d",
         Want {
             out: Some("b"),
             header: Some("h"),
             minimal: Some("m"),
+            list_new: Some("n"),
             depfile: Some("d"),
             ..PLAIN
         },
@@ -241,12 +245,13 @@ const CONFIGURATIONS: &[(&str, WantEach)] = &[
         },
     ),
     (
-        "--each-from=l|Kconfig|a|--out|{}.full|--depfile={}.d|--replace",
+        "--each-from=l|Kconfig|a|--out|{}.full|--depfile={}.d|--list-new={}.new|--replace",
         WantEach {
             configurations: &["a"],
             list: Some("l"),
             options: Want {
                 out: Some("{}.full"),
+                list_new: Some("{}.new"),
                 depfile: Some("{}.d"),
                 flags: "must-exist replace names-config ",
                 ..EACH

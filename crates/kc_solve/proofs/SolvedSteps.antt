@@ -1,5 +1,5 @@
 -- What a full table tells, as a solution.
-use Rattle.std.proofs.Common.{◌≡◌, ℕ, ◌<◌, ◌≤◌, Bool, false, not, ◌&&◌, cond, List, [], length, map, Option, None, refl, sym, ◌∙◌, ap, subst, inl, inr, arith}
+use Rattle.std.proofs.Common.{◌≡◌, ℕ, ◌<◌, ◌≤◌, Bool, false, not, ◌&&◌, cond, List, [], length, map, Option, None, Some, is_some, refl, sym, ◌∙◌, ap, subst, inl, inr, arith}
 use Rattle.std.specs.Prelude.{slice_index_or}
 use Rattle.std.specs.List.{flat_map, range_with_len}
 use Rattle.std.proofs.lemmas.Bool.{cases_Bool, ltb-false, ltb-true}
@@ -15,7 +15,7 @@ use Rattle.kc_language.specs.declared.expressions.Tri.{Tri}
 use Rattle.kc_language.specs.declared.expressions.Tri.TheVariants.{N}
 use Rattle.kc_language.specs.declared.expressions.SymbolType.{SymbolType}
 use Rattle.kc_language.specs.declared.expressions.SymbolType.TheVariants.{Undefined, Bool as IsBool, Tristate, Str, Int, Hex}
-use Rattle.kc_language.specs.Values.{Solves, IsOnlySolution, GivenValue, UserPlace, SymbolPlace, ChoicePlace, differs, differs_at, selection, default_selection, choice_at, facts, name, type_in, equations, rhs, known_from, user_place, name_count, equation, selected}
+use Rattle.kc_language.specs.Values.{Solves, IsOnlySolution, GivenValue, UserPlace, SymbolPlace, ChoicePlace, differs, differs_at, is_new, is_new_by, selection, default_selection, choice_at, facts, name, type_in, equations, rhs, known_from, user_place, name_count, equation, selected}
 use Rattle.kc_values.specs.PartsOfValues.{is_mentioned}
 use Rattle.kc_values.specs.PartsOfValues.{same_value}
 use Rattle.kc_tree.specs.TreeFacts.{IsWellFormed}
@@ -193,6 +193,14 @@ module _ (tree : TreeFacts) (places : Places) (values : List (Option Value)) whe
 
       pub visible_is : (i : SymId) → slice_index_or visibilities i.0 N ≡ solved.visibility s i
       visible_is i = subst (λ (x : Solution). slice_index_or visibilities i.0 N ≡ solved.visibility x i) e (visible_at i)
+
+      pub new_is : length values ≡ name_count tree → (x : Bool) (i : SymId) (f : SymbolFacts) → facts tree i ≡ Some f →
+          x ≡ (not (is_some (place_at places (SymbolPlace i.0))) && is_new_by tree (known_in tree values) (place_at places) i f f.choice) → x ≡ solved.is_new s i
+      new_is full x i f at is_x =
+          let by_facts : (not (is_some (place_at places (SymbolPlace i.0))) && is_new_by tree (known_in tree values) (place_at places) i f f.choice)
+          ≡ is_new tree (known_in tree values) (place_at places) i =
+          rw at refl in
+          subst (λ (y : Solution). x ≡ solved.is_new y i) e (is_x ∙ by_facts ∙ ap (λ k. is_new tree k (place_at places) i) (table_tells full))
 
       pub written_is : (i : SymId) → slice_index_or written i.0 false ≡ solved.written s i
       written_is i = subst (λ (x : Solution). slice_index_or written i.0 false ≡ solved.written x i) e (written_at i)

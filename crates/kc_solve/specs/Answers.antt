@@ -65,3 +65,7 @@ default_selection s c = values.default_selection s.tree (value_of s) c
 -- whether a symbol has a line in the minimal file
 abbrev pub differs : Solution → SymId → Bool
 differs s id = values.differs s.tree (place_at s.places) (value_of s) id.0
+
+-- whether a symbol is new
+abbrev pub is_new : Solution → SymId → Bool
+is_new s id = values.is_new s.tree (known s) (place_at s.places) id

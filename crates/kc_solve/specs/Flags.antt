@@ -1,12 +1,13 @@
 -- For proofs: The visibility of a symbol, whether it differs, by the selections of the choices, and whether it is written.
-use Rattle.std.specs.Prelude.{◌≡◌, ℕ, Bool, not, ◌&&◌, List, map, length, Option, Some, None, slice_index_or}
+use Rattle.std.specs.Prelude.{◌≡◌, ℕ, Bool, not, ◌&&◌, List, map, length, Option, Some, None, is_some, slice_index_or}
 use Rattle.std.specs.List.{range_with_len}
 use Rattle.kc_language.specs.Expressions.{symbol, SymbolValue}
 use Rattle.kc_language.specs.declared.expressions.SymId.{SymId}
 use Rattle.kc_language.specs.declared.expressions.Tri.{Tri}
 use Rattle.kc_tree.specs.declared.rows.Symbol.{Symbol}
 use Rattle.kc_language.specs.Symbols.{SymbolFacts, TreeFacts, is_symbol_of}
-use Rattle.kc_language.specs.Values.{GivenValue, by_type, facts, default_selection, differs, selection, known_from, name_count, written}
+use Rattle.kc_language.specs.Values.{ChoicePlace, GivenValue, SymbolPlace, by_type, facts, default_selection, differs, is_new_by, selection, known_from, name_count, written}
+use Rattle.kc_values.specs.AtTable.{has_other, is_visible}
 use Rattle.kc_values.specs.PartsOfValues.{same_value}
 use Rattle.kc_language.specs.ConfigFile.{Places, place_at}
 use Rattle.kc_values.specs.TableFacts.{facts_in, known_at}
@@ -31,6 +32,16 @@ IsSolvedOwn tree known s f (Some c) given = Unit {0}
 -- the same, by its row
 abbrev pub IsSolvedRow : Table → SymId → Symbol → Option GivenValue → Type 0
 IsSolvedRow t id row given = IsSolvedOwn t.tree.now (known_at t) id (facts_in t id row) (facts_in t id row).choice given
+
+-- whether a member is new for which nothing was given, and whether a symbol is, by its row
+abbrev pub member_is_new : Table → Places → Symbol → ℕ → Bool
+member_is_new t user row c =
+    is_visible t row && (not (is_some (place_at user (ChoicePlace c))) && has_other t c)
+
+abbrev pub row_is_new : Table → Places → SymId → Symbol → Bool
+row_is_new t user id row =
+    not (is_some (place_at user (SymbolPlace id.0)))
+    && is_new_by t.tree.now (known_at t) (place_at user) id (facts_in t id row) (facts_in t id row).choice
 
 -- the visibility of the symbol of a number, under a valuation
 abbrev pub visibility_at : TreeFacts → (ℕ → SymbolValue) → ℕ → Tri

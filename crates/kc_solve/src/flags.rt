@@ -20,6 +20,7 @@ use kc_tree::rows::{ChoiceId, Symbol};
 use kc_tree::tree::Tree;
 use kc_user::user::User;
 use kc_user::value::UserValue;
+use kc_values::answers::{can_change, has_other, is_visible};
 use kc_values::choices::{selected_in, selection};
 use kc_values::differs::{can_count, member_differs, own_differs};
 use kc_values::table::Table;
@@ -143,6 +144,49 @@ fn symbol_differs(
                 Ok(false)
             }
         }
+    }
+}
+
+// Whether a member is new for which nothing was given. The caller owes the default selection of its choice.
+fn member_is_new(
+    table: &Table,
+    user: &User,
+    symbol: &Symbol,
+    choice: ChoiceId,
+    default: Option<SymId>,
+) -> bool
+    requires user { choice.0 < length user.now.choices }
+    requires default { default ≡ at.selected table.now choice.0 None }
+    ensures { result ≡ flag.member_is_new table.now user.now symbol.now choice.0 }
+{
+    is_visible(table, symbol)
+        && user.selected(choice).is_none()
+        && has_other(table, choice, default)
+}
+
+/// Whether a symbol is new under the values of a full table and a user's places of that tree: no line answered its question. The
+/// caller owes the default selections.
+pub(crate) fn symbol_is_new(
+    table: &Table,
+    user: &User,
+    id: SymId,
+    symbol: &Symbol,
+    defaults: &[Option<SymId>],
+) -> bool
+    requires row { IsRowOf table.now id symbol.now }
+    requires full { length table.now.values ≡ name_count table.now.tree.now }
+    requires below { id.0 < name_count table.now.tree.now }
+    requires user { ArePlacesOf table.now.tree.now user.now }
+    requires defaults { defaults.now ≡ flag.selected_by_default table.now }
+    ensures { result ≡ flag.row_is_new table.now user.now id symbol.now }
+{
+    let _count = table.tree.name_count();
+    if user.get(id).is_some() {
+        return false;
+    }
+    match symbol.choice.get() {
+        Some(choice) => { member_is_new(table, user, symbol, choice, at_choice(defaults, choice)) }
+        None => can_change(table, id, symbol),
     }
 }
 

@@ -12,7 +12,8 @@ ghost use Rattle.kc_solve.specs.Titles.{IsTitleAt};
 ghost use Rattle.kc_language.specs.Needs.{IsAccepted};
 ghost use Rattle.kc_language.specs.Values.{name_count};
 
-use crate::flags::{at_choice, at_symbol, visibility_at};
+use crate::compute::symbol_row;
+use crate::flags::{at_choice, at_symbol, symbol_is_new, visibility_at};
 use kc_diagnostics::Warning;
 use kc_expr::expression::{SymId, SymbolType, Tri};
 use kc_expr::values::{Values, tri_text, truth_of};
@@ -167,6 +168,17 @@ impl<'a> Solved<'a> {
         ensures { result ≡ spec.differs self.now id }
     {
         at_symbol(&self.differing, id)
+    }
+
+    /// Whether the symbol is new: no line answered its question. None gave it a value, and an answer would change its value; a
+    /// member: none gave it a value or chose a member of its choice, it is visible, and a member could be selected in place of the
+    /// selection (our own). It is found when it is asked for.
+    pub fn is_new(&self, id: SymId) -> bool
+        requires { id.0 < name_count self.now.tree }
+        ensures { result ≡ spec.is_new self.now id }
+    {
+        let symbol = symbol_row(self.table.layout, id);
+        symbol_is_new(&self.table, self.user, id, symbol, &self.default_selections)
     }
 
     /// The warnings of the values, in the order of the symbols' first definitions: selected above its dependency (K11), a

@@ -30,3 +30,5 @@ pub mod NodesBelow
 pub mod GraphNeeds
 pub mod NeedsAlike
 pub mod UpgradeLemmas
+pub mod NumberTexts
+pub mod NewSymbols

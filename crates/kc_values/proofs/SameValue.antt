@@ -31,7 +31,7 @@ same_tri_itself N = refl
 same_tri_itself M = refl
 same_tri_itself Y = refl
 
-same_text_itself : (t : List ℕ) → pointwise nat_eq t t ≡ true
+pub same_text_itself : (t : List ℕ) → pointwise nat_eq t t ≡ true
 same_text_itself [] = refl
 same_text_itself (b ∷ t) = and_from (nat_eq b b) (pointwise nat_eq t t) (eq-eqb b b refl) (same_text_itself t)
 

@@ -1,7 +1,8 @@
 -- Trusted: What the equations say under the values of a table, of its rows.
-use Rattle.std.specs.Prelude.{ℕ, Bool, List, Option, Some}
+use Rattle.std.specs.Prelude.{ℕ, Bool, List, Option, Some, false, not, ◌&&◌}
+use Rattle.std.specs.Option.{option_map_or}
 use Rattle.kc_language.specs.Symbols.{Warning, ChoiceFacts, Condition, Guarded, SymbolFacts}
-use Rattle.kc_language.specs.Expressions.{Form, SymbolValue}
+use Rattle.kc_language.specs.Expressions.{Form, SymbolValue, same_symbol}
 use Rattle.kc_language.specs.declared.expressions.SymId.{SymId}
 use Rattle.kc_language.specs.declared.expressions.SymbolType.{SymbolType}
 use Rattle.kc_language.specs.declared.expressions.Tri.{Tri}
@@ -155,6 +156,25 @@ module _ (t : Table) where
 
   abbrev pub is_written : SymId → Symbol → Bool
   is_written id s = value_parts.written_facts t.tree.now (known_at t) (Some (facts_in t id s))
+
+  -- whether an answer would change a symbol, and whether a choice has another visible member
+  abbrev pub is_visible : Symbol → Bool
+  is_visible s = lookup.is_visible t.tree.now (known_at t) (own_lines s)
+
+  abbrev pub changes : SymId → Symbol → Tri → Bool
+  changes id s answer = lookup.changes t.tree.now (known_at t) id (facts_in t id s) answer
+
+  abbrev pub can_change : SymId → Symbol → Bool
+  can_change id s = lookup.can_change t.tree.now (known_at t) id (facts_in t id s) s.symbol_type
+
+  abbrev pub is_other : SymId → SymId → Bool
+  is_other selected m = not (same_symbol selected m) && lookup.visible t.tree.now (known_at t) m
+
+  abbrev pub has_other_member : Choice → Bool
+  has_other_member c = lookup.has_other t.tree.now (known_at t) (choice_in c)
+
+  abbrev pub has_other : ℕ → Bool
+  has_other c = option_map_or (lookup.has_other t.tree.now (known_at t)) (lookup.choice_at t.tree.now c) false
 
   -- what a symbol is warned of
   abbrev pub select_warnings : List ℕ → SymId → Symbol → List Warning

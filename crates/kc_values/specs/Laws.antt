@@ -1,5 +1,6 @@
 -- Trusted: What holds of the equations of a tree.
-use Rattle.std.specs.Prelude.{◌≡◌, ℕ, ◌<◌, ◌↔◌, map, Option, Some, Bool, true, false, slice_get, option_map}
+use Rattle.std.specs.List.{Contains}
+use Rattle.std.specs.Prelude.{◌≡◌, ◌≢◌, ℕ, ◌<◌, ◌↔◌, map, None, Option, Some, Bool, true, false, slice_get, option_map}
 use Rattle.kc_language.specs.Expressions.{SymbolValue, symbol}
 use Rattle.kc_language.specs.declared.expressions.SymId.{SymId}
 use Rattle.kc_tree.specs.Layouts.{IsLayoutOf, facts_of}
@@ -9,11 +10,11 @@ use Rattle.kc_tree.specs.declared.layout.Layout.{Layout}
 use Rattle.kc_order.specs.Loop.{HoldsNeeding}
 use Rattle.kc_language.specs.Needs.{needs_in, IsAccepted, needs}
 use Rattle.kc_order.specs.Needs.{AreWithin}
-use Rattle.kc_language.specs.Values.{Solves, IsOnlySolution, choice_at, facts, GivenValue, UserPlace, condition, name_count, equations, rhs, user_place, differs, given_of, changes_on_reread}
+use Rattle.kc_language.specs.Values.{ChoicePlace, Member, Solves, IsOnlySolution, SymbolPlace, choice_at, facts, GivenValue, UserPlace, condition, is_new, known_from, name_count, equations, rhs, same_given, selected, selection, user_place, differs, given_of, changes_on_reread, visible}
 use Rattle.kc_values.specs.PartsOfValues.{prompt_value}
 use Rattle.kc_order.specs.Solution.{HasOneSolution, ReadsNeeds}
 use Rattle.kc_order.specs.Minimal.{Restores, NothingCanGo}
-use Rattle.kc_user.specs.Places.{allowed, AllowedPlaces}
+use Rattle.kc_user.specs.Places.{allowed, AllowedPlaces, members_of}
 use Rattle.kc_values.specs.GivenLines.{TellsDiffering, minimal_line, reread_places}
 
 -- An equation reads only what its symbol needs, whatever the places.
@@ -72,6 +73,22 @@ IdempotentWhere =
     (tree : TreeFacts) (user : UserPlace → Option GivenValue) (V : ℕ → SymbolValue) →
     IsWellFormed tree → AllowedPlaces tree user → Solves (name_count tree) (equations tree user) V →
     Solves (name_count tree) (equations tree (reread_places tree V)) V ↔ ((i : ℕ) → i < name_count tree → changes_on_reread tree V i ≡ false)
+
+-- An answer to a symbol's question, by the place that it is for: a value that a line can give, under which the symbol's equation gives another value. A
+-- member is visible, no line chose a member of its choice, and with some member as the user's the choice selects another one.
+abbrev pub CanBeAnswered : TreeFacts → (UserPlace → Option GivenValue) → (ℕ → SymbolValue) → ℕ → UserPlace → Type 0
+CanBeAnswered tree user V i (SymbolPlace j) =
+    (given : GivenValue) × (allowed tree (symbol i) given ≡ true) × (same_given (given_of (rhs tree i (Some given) V)) (given_of (V i)) ≡ false)
+CanBeAnswered tree user V i (ChoicePlace c) =
+    (visible tree (known_from tree V) (symbol i) ≡ true) × (user (ChoicePlace c) ≡ None) × (m : SymId) × Contains (members_of (choice_at tree c)) m
+    × (selected tree (known_from tree V) (choice_at tree c) (Some (Member m)) ≢ selection tree user V c)
+
+-- A symbol is new exactly if no line gave it a value and its question can be answered.
+abbrev pub NewCanBeAnswered : Type 0
+NewCanBeAnswered =
+    (tree : TreeFacts) (user : UserPlace → Option GivenValue) (V : ℕ → SymbolValue) (i : ℕ) → i < name_count tree →
+    Solves (name_count tree) (equations tree user) V →
+    is_new tree (known_from tree V) user (symbol i) ≡ true ↔ (user (SymbolPlace i) ≡ None) × CanBeAnswered tree user V i (user_place tree i)
 
 -- Choices don't nest: the prompt of a choice asks for no mode of another, so its mode is y exactly where its prompt is visible.
 abbrev pub ModeIsPromptCondition : Type 0

@@ -1,6 +1,6 @@
 //! What holds of the equations of every tree.
 
-ghost use Rattle.kc_values.specs.Laws.{EquationsReadNeeds, NeedsAreSymbols, NeedingAreDefined, AcceptedHaveOneSolution, SolutionsAgree, LinesAreFixed, MinimalRestores, MinimalHasNothingToSpare, IdempotentWhere, DifferingAreAllowed, ModeIsPromptCondition, RowsTellFacts};
+ghost use Rattle.kc_values.specs.Laws.{EquationsReadNeeds, NeedsAreSymbols, NeedingAreDefined, AcceptedHaveOneSolution, SolutionsAgree, LinesAreFixed, MinimalRestores, MinimalHasNothingToSpare, IdempotentWhere, DifferingAreAllowed, ModeIsPromptCondition, NewCanBeAnswered, RowsTellFacts};
 
 use kc_expr::values::value_depends_on_symbols;
 
@@ -57,6 +57,13 @@ pub fn idempotent_where()
 /// The value of a symbol that differs is one that `allowed` accepts (our own).
 pub fn differing_are_allowed()
     ensures { DifferingAreAllowed }
+{}
+
+/// A symbol is new exactly if no line gave it a value and its question can be answered: outside a choice, some value that
+/// `allowed` accepts makes its equation give another value; a member is visible, no line chose a member of its choice, and with
+/// some member as the user's the choice selects another one (our own).
+pub fn new_can_be_answered()
+    ensures { NewCanBeAnswered }
 {}
 
 /// Choices don't nest: the prompt of a choice asks for no mode of another, so that the mode of a choice is y exactly where its

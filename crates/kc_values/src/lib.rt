@@ -7,9 +7,11 @@
 //! - [`table`]: the values that are known so far.
 //! - [`needs`] and [`nodes`]: which values each equation asks for, as a graph.
 //! - [`written`] and [`differs`]: which symbols a file shows, and which a minimal file needs.
+//! - [`answers`]: which symbols an answer of the user would change.
 //! - [`warnings`]: the warnings about values.
 //! - [`laws`]: what holds of the equations of every tree.
 
+pub mod answers;
 pub mod choices;
 pub mod conditions;
 pub mod differs;

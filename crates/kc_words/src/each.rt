@@ -13,7 +13,7 @@ use std::alloc::{AllocError, Global};
 /// What is asked for each of many configurations of one tree (our own).
 #[derive(Drop)]
 pub struct Each {
-    /// The options of each. Its `out`, `header`, `minimal` and `depfile` are patterns of names, in which `{}` stands for the
+    /// The options of each. Its `out`, `header`, `minimal`, `list_new` and `depfile` are patterns of names, in which `{}` stands for the
     /// configuration as given and `{/}` for its file name without the folder. Its `config` is empty.
     pub options: Options,
     /// The configurations that the words name.
@@ -54,6 +54,7 @@ impl Each {
             kconfig: String::from_str(alloc, asked.kconfig.as_str())?,
             header: filled_if(alloc, config, &asked.header)?,
             minimal: filled_if(alloc, config, &asked.minimal)?,
+            list_new: filled_if(alloc, config, &asked.list_new)?,
             depfile: filled_if(alloc, config, &asked.depfile)?,
             fragments: copies_of(alloc, &asked.fragments)?,
             prefix: copy_of_prefix(alloc, &asked.prefix)?,
@@ -74,6 +75,7 @@ impl Each {
         push_filled(alloc, config, &self.options.out, &mut names)?;
         push_filled(alloc, config, &self.options.header, &mut names)?;
         push_filled(alloc, config, &self.options.minimal, &mut names)?;
+        push_filled(alloc, config, &self.options.list_new, &mut names)?;
         push_filled(alloc, config, &self.options.depfile, &mut names)?;
         Ok(names)
     }

@@ -1,0 +1,28 @@
+use Rattle.std.proofs.Common.{◌≤◌, length, ap, arith, refl}
+use Rattle.kc_language.specs.Symbols.{TreeFacts}
+use Rattle.kc_config_file.specs.PartsOfTexts.{new_if}
+use Rattle.kc_language.specs.Texts.{new_text, solution_view}
+use Rattle.kc_config_file.proofs.TextLemmas.{defined_named, symbols_next, symbols_end, grows, is_grown}
+use Rattle.kc_config_file.proofs.header.list_of_new.Goals as goal
+
+pub loop-i-init : goal.loop-i-init
+unfolding new_text
+loop-i-init c = rw c.new-file.ensures.items refl
+
+pub add_new_if-requires-clause-named : goal.add_new_if-requires-clause-named
+add_new_if-requires-clause-named c = defined_named c.args.solved.now.tree (rw c.tree-tree.ensures at c.symbol_count-i-end.ensures.formed) c.loop-i.i c.symbol.result (rw c.tree-tree.ensures at c.symbol.ensures)
+
+pub add_new_if-requires-clause-mentioned : goal.add_new_if-requires-clause-mentioned
+add_new_if-requires-clause-mentioned c =
+    let there = defined_named c.args.solved.now.tree (rw c.tree-tree.ensures at c.symbol_count-i-end.ensures.formed) c.loop-i.i c.symbol.result (rw c.tree-tree.ensures at c.symbol.ensures) in
+    omega (arith, there, (rw c.tree-tree.ensures at c.symbol_count-i-end.ensures.formed).symbols_named)
+
+pub loop-i-preserved : goal.loop-i-preserved
+loop-i-preserved c =
+    let next = symbols_next c.args.solved.now.tree (new_if c.args.solved.now.tree c.args.prefix.now (solution_view c.args.solved.now)) c.loop-i.i c.symbol.result (rw c.tree-tree.ensures at c.symbol.ensures) in
+    grows _ _ _ _ _ _ c.loop-i.invariant next c.in_ok-add_new_if.ensures
+
+pub returns : goal.returns
+returns c =
+    let all : length c.args.solved.now.tree.defined ≤ c.loop-i.i = omega (arith, ap (λ (t : TreeFacts). length t.defined) c.tree-tree.ensures) in
+    is_grown _ _ _ c.loop-i.invariant (symbols_end c.args.solved.now.tree (new_if c.args.solved.now.tree c.args.prefix.now (solution_view c.args.solved.now)) c.loop-i.i all)

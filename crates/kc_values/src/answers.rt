@@ -1,0 +1,101 @@
+//! Which symbols an answer of the user would change.
+
+ghost use Rattle.std.specs.Prelude.{◌≡◌, None, int_lt, not, true};
+ghost use Rattle.std.specs.Option.{option_map_or};
+ghost use Rattle.std.specs.List.{list_any};
+ghost use Rattle.kc_language.specs.Expressions.{same_symbol};
+ghost use Rattle.kc_language.specs.declared.values.Interval.{Interval};
+ghost use Rattle.kc_values.specs.AtTable as spec;
+
+use crate::choices::visible;
+use crate::conditions::is_n;
+use crate::numbers::{Interval, active_range};
+use crate::table::Table;
+use crate::truths::{truth_equation, visibility};
+use kc_expr::expression::{SymId, SymbolType, Tri};
+use kc_expr::values::truth_of;
+use kc_tree::rows::{Choice, ChoiceId, Symbol};
+use kc_user::value::UserValue;
+
+// Whether a truth value as the user's would change the value of a bool or tristate symbol outside a choice.
+fn changes(table: &Table<'_>, id: SymId, symbol: &Symbol, answer: Tri) -> bool
+    ensures { result ≡ spec.changes table.now id symbol.now answer }
+{
+    let given = UserValue::Tri(answer);
+    truth_equation(table, id, symbol, Some(&given)) != truth_of(id, table)
+}
+
+// Whether some number is inside the range.
+fn has_room(range: Option<Interval>) -> bool
+    ensures { result ≡ option_map_or (λ (r : Interval). not (int_lt r.high r.low)) range true }
+{
+    match range {
+        Some(bounds) => bounds.low <= bounds.high,
+        None => true,
+    }
+}
+
+/// Whether a symbol is visible: a prompt of it has a condition that is not n (kconfiglib's `visibility`).
+pub fn is_visible(table: &Table<'_>, symbol: &Symbol) -> bool
+    ensures { result ≡ spec.is_visible table.now symbol.now }
+{
+    !is_n(visibility(table, symbol))
+}
+
+/// Whether some answer of the user would change the value of a symbol outside a choice, under the same values of all others
+/// (our own): of a bool y or n, of a tristate y, m or n; of a string a text, of an int or hex a number. A number can be written
+/// with more zeros in front, so one would if it is visible, and its active range, if there is one, has room.
+pub fn can_change(table: &Table<'_>, id: SymId, symbol: &Symbol) -> bool
+    ensures { result ≡ spec.can_change table.now id symbol.now }
+{
+    match symbol.symbol_type {
+        SymbolType::Undefined => false,
+        SymbolType::Bool => {
+            changes(table, id, symbol, Tri::Y) || changes(table, id, symbol, Tri::N)
+        }
+        SymbolType::Tristate => {
+            changes(table, id, symbol, Tri::Y)
+                || changes(table, id, symbol, Tri::M)
+                || changes(table, id, symbol, Tri::N)
+        }
+        SymbolType::Str => is_visible(table, symbol),
+        SymbolType::Int | SymbolType::Hex => {
+            is_visible(table, symbol) && has_room(active_range(table, symbol))
+        }
+    }
+}
+
+// Whether one of the members is visible and is not the selected one.
+fn is_other_visible(table: &Table<'_>, selected: SymId, members: &[SymId]) -> bool
+    ensures { result ≡ list_any (spec.is_other table.now selected) members.now }
+{
+    for member in members {
+        if selected.0 != member.0 && visible(table, *member) {
+            return true;
+        }
+    }
+    false
+}
+
+// Whether a choice has a visible member beside its default selection.
+fn has_other_member(table: &Table<'_>, choice: &Choice, default: Option<SymId>) -> bool
+    requires { default ≡ spec.selected_by table.now choice.now None }
+    ensures { result ≡ spec.has_other_member table.now choice.now }
+{
+    match default {
+        Some(selected) => is_other_visible(table, selected, &choice.members),
+        None => false,
+    }
+}
+
+/// Whether a choice has a visible member beside its default selection, which the user could select in its place (our own). The
+/// caller owes the default selection, so that it is not found again.
+pub fn has_other(table: &Table<'_>, choice: ChoiceId, default: Option<SymId>) -> bool
+    requires { default ≡ spec.selected table.now choice.0 None }
+    ensures { result ≡ spec.has_other table.now choice.0 }
+{
+    match table.layout.choice(choice) {
+        Some(found) => has_other_member(table, found, default),
+        None => false,
+    }
+}
