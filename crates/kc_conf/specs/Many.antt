@@ -6,8 +6,8 @@ use Rattle.kc_io.specs.{Delivery.{last_of, stale_texts, status_with, texts_of}, 
 use Rattle.kc_conf.specs.{Faults.{Broken, Completes, IsRefusedName}, declared.stop.Stop.Stop}
 
 -- ---- What one configuration leaves
--- A run reports the tree's warnings before all else, unless it refuses a name that make cannot read. The run for one configuration leaves its part
--- behind them: with them before it, it is what that run leaves alone. A name is refused for one configuration.
+-- The part of a configuration is what its own run leaves after the tree's warnings. A run of its own that refuses a name that make cannot read does
+-- not report these warnings. Then the part is all that it leaves.
 abbrev pub IsPart : Files → TreeFacts → Options → List (List ℕ) → Outcome → Type 0
 IsPart files tree options all part = (opened : List (List ℕ)) × AreOpened files (root_file options) opened
     × IsOutcome files options all (reported (elim (unreadable_name options opened) [ None ↦ lines_text tree.warnings | _ ↦ [] ]) part)
@@ -43,7 +43,7 @@ pub record RunsTurn (files : Files) (tree : TreeFacts) (options : Options) (old 
   pub is_part : IsPart files tree options (bytes_of inputs) part
   pub ends : EndsTurn files options inputs part old new status is_over
 
--- ---- All turns
+-- ---- All turns. The greater of two statuses
 abbrev pub greater : Status → Status → Status
 greater a = elim a [
   | Status.Done ↦ λ b. b
@@ -136,7 +136,7 @@ pub data LeavesEach (files : Files) (root : List ℕ) (options : ℕ → Options
       ((i : ℕ) (one : Options) → i < count → options i one → is_among name (written_files one) ≡ false) → held after name ≡ held before name) →
       LeavesEach files root options count before after status
 
--- If none of them writes a file of another one, a run for all leaves, over a device that tells, what each leaves of the files before the run.
+-- If none of them writes a file of another one, a run for all leaves, over a device that records, what each leaves of the files before the run.
 abbrev pub EachLeavesItsPart : (ℕ → Options → Type 0) → ℕ → Type 0
 EachLeavesItsPart options count = (files : Files) (root : List ℕ) (before after : Journal) (status : Status) → AreSeparate options count →
     RunsEach files root options count (Some before) (Some after) status → LeavesEach files root options count before after status
