@@ -58,7 +58,7 @@ module _ (turn : Options → Log → Log → Status → Bool → Type 0) where
     runs : (options : Options) → are_options options → turn options old new status is_over → TakesTurn are_options old new status is_over
     no_options : TriesToSay out_of_memory_line old new → status ≡ Status.Faulted → is_over ≡ true → TakesTurn are_options old new status is_over
 
-  -- The configurations from number i on, so many as are left, take their turns, up to one that ends all. The status is the greatest of theirs.
+  -- The `left` configurations from number i on take their turns, up to one that ends all. The status is the greatest of theirs.
   pub data TakeTurns (options : ℕ → Options → Type 0) : ℕ → ℕ → Log → Log → Status → Type 0 where
     none : (i : ℕ) (log : Log) → TakeTurns options i 0 log log Status.Done
     next : (i left : ℕ) (old mid new : Log) (status others : Status) → TakesTurn (options i) old mid status false →
@@ -82,7 +82,7 @@ module _ (files : Files) (root : List ℕ) (old new : Log) (status : Status) whe
         status ≡ Status.Faulted → StopsAtTree
     no_memory : TriesToSay out_of_memory_line old new → status ≡ Status.Faulted → StopsAtTree
 
--- A run for so many configurations. It ends at the tree; or the tree is accepted, its warnings are reported once, and then they take their turns.
+-- A run for `count` configurations. It ends at the tree; or the tree is accepted, its warnings are reported once, and then they take their turns.
 pub data RunsEach (files : Files) (root : List ℕ) (options : ℕ → Options → Type 0) (count : ℕ) (old new : Log) (status : Status) : Type 0 where
   stops : StopsAtTree files root old new status → RunsEach files root options count old new status
   turns : (tree : TreeFacts) (mid : Log) → IsAcceptedTree files root tree → Leads [] (lines_text tree.warnings) old mid →
@@ -102,7 +102,7 @@ written_files options = elim options.delivery [ Delivery.Check ↦ [] | _ ↦ ou
 abbrev pub is_among : List ℕ → List (List ℕ) → Bool
 is_among name = list_any (bytes_eq name)
 
--- No file that one of so many configurations writes is an input or an output of another one.
+-- No file that one of the `count` configurations writes is an input or an output of another one.
 abbrev pub AreSeparate : (ℕ → Options → Type 0) → ℕ → Type 0
 AreSeparate options count = (i j : ℕ) (one other : Options) (name : List ℕ) →
     i < count → j < count → i ≢ j → options i one → options j other →
@@ -125,7 +125,7 @@ pub record RunsAmong (files : Files) (tree : TreeFacts) (before after : Journal)
       held after name ≡ last_of name (texts_of options turn.part) (held before name))
       × (status ≡ status_with (stale_texts options (texts_of options turn.part) before) turn.part.status)
 
--- A run for so many configurations, where the files held these before and those after. It ends at the tree, and changes no file; or the
+-- A run for `count` configurations. `before` and `after` say what the files held at these times. It ends at the tree, and changes no file; or the
 -- configurations take their turns, none of which touches what another one reads or leaves, and a file that none of them writes holds what it held.
 pub data LeavesEach (files : Files) (root : List ℕ) (options : ℕ → Options → Type 0) (count : ℕ) (before after : Journal) (status : Status) :
     Type 0 where

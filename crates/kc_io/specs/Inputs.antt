@@ -46,7 +46,7 @@ IsThere told file = file.is_missing ≡ false → Tells told (λ journal. is_som
 abbrev pub AreThere : Log → List InputFile → Type 0
 AreThere told files = (i : ℕ) (file : InputFile) → slice_get files i ≡ Some file → HasTurn files i → IsThere told file
 
--- All are read; or those up to the first one that has a line which is too long, and that one up to some place after the line.
+-- All are read; or those before the first one that has a line which is too long, and some first part of that one.
 pub record ReadsInto (file : InputFile) (events : List Event) : Type 0 where
   pub left : List Event
   pub begins : events ++ left ≡ reads_one file

@@ -51,14 +51,14 @@ module _ {E L S : Type 0} where
   stays_open d (s ∷ ss) =
       elim (bracket s) [ Opens k ↦ stays_open (suc d) ss | Closes ↦ elim d [ zero ↦ false | suc n ↦ stays_open n ss ] | NoBracket ↦ stays_open d ss ]
 
-  -- The places of the statements that open a block that is still open after the last statement, the outermost first. Their blocks.
+  -- The indices of the statements that open a block that is still open after the last statement, the outermost first. Their blocks.
   abbrev pub open_block_indices : List (Statement E L S) → List ℕ
   open_block_indices ss = filter (λ j. is_some (opened (bracket_at ss j)) && stays_open 0 (drop (suc j) ss)) (numbers (length ss))
 
   abbrev pub open_blocks : List (Statement E L S) → List Block
   open_blocks ss = filter_map (λ j. opened (bracket_at ss j)) (open_block_indices ss)
 
-  -- The places of the statements whose blocks enclose statement i. The last line of a block counts as enclosed by it.
+  -- The indices of the statements whose blocks enclose statement i. A closing line is inside the block that it closes.
   abbrev pub enclosing : List (Statement E L S) → ℕ → List ℕ
   enclosing ss i = open_block_indices (take i ss)
 

@@ -36,7 +36,7 @@ pub record ChoiceFacts : Type 0 where
   pub members : List SymId
 
 -- An entry of the menu: a symbol at its first definition; a menu or a comment with its text and the condition under which it is shown;
--- the end of a menu, with that menu's place among the entries.
+-- the end of a menu, with that menu's index among the entries.
 pub data Shown : Type 0 where
   SymbolShown : SymId → Shown
   MenuShown : List ℕ → Condition → Shown
@@ -231,7 +231,7 @@ module _ (ss : List Numbered) where
   shows_entry i (Some (ConfigLine s)) = is_first_definition i s
   shows_entry i o = elim o [ Some (MenuLine t) ↦ true | Some EndMenuLine ↦ true | Some (CommentLine t) ↦ true | _ ↦ false ]
 
-  -- the entry; an `endmenu` closes the innermost block, whose place is the number of entries before it
+  -- the entry; an `endmenu` closes the innermost block, whose index is the number of entries before it
   abbrev pub shown_at : ℕ → Option Numbered → Option Shown
   shown_at i (Some (ConfigLine s)) = if is_first_definition i s then Some (SymbolShown s) else None
   shown_at i (Some (MenuLine t)) = Some (MenuShown t (shown_under i (own_visible i)))
