@@ -29,7 +29,7 @@ pub record SolutionView : Type 0 where
   pub differs : SymId → Bool
   pub truth : Condition → Tri
 
--- A menu or a comment is shown unless its condition is n: the lines of its title, and the title of a menu at its end line.
+-- A menu or a comment is shown unless its condition is n. The lines of its title. The title of a menu that is shown, for its end line.
 abbrev pub is_shown : Tri → Bool
 is_shown t = not (is_n t)
 
@@ -150,7 +150,7 @@ value_warnings s = flat_map (λ i. warnings_of s.tree (known s) (name s.tree i) 
 abbrev pub warnings : Solution → List (List ℕ)
 warnings s = map warning_line (value_warnings s)
 
--- K14: the value that the line `at` gave last is not the symbol's. Only symbols with a prompt have it, members of a choice too.
+-- K14: the last line for the symbol, `at`, gave a value that the symbol does not have. Only symbols with a prompt have it, members of a choice too.
 abbrev pub lost_by : List ℕ → SymbolType → Option StreamLocation → Option GivenValue → GivenValue → List (List ℕ)
 lost_by called kind at None value = []
 lost_by called kind (Some at) (Some given) value =
