@@ -1,5 +1,5 @@
 -- Trusted: Why a run breaks off, and how it ends.
--- Our own. It ends in `Runs` and, for the tree of a folder, `FolderRuns`. Claims about files are for devices whose log tells what they hold (kc_io).
+-- Our own. It ends in `Runs` and, for the tree of a folder, `FolderRuns`. Claims about files are for devices that record what files hold (kc_io).
 use Rattle.std.specs.Prelude.{◌≡◌, ◌⊎◌, ℕ, if◌then◌else◌, List, [], ◌++◌, ◌||◌, take, filter, slice_get, slice_index_or, string_bytes, Option, None, Some, Result, Ok, Err, ⊤}
 use Rattle.kc_language.specs.{ConfigFile.{lines_from, lines_of, no_input, reading}, Expansion.{AreOpened, Files, Refused}, Symbols.TreeFacts, Text.{BeginsWith, GoesBeyond}, Texts.HasShortLines, Outcome.{IsAcceptedTree, IsOutcome, IsRefusedTree, Options, Outcome, cannot_read_line, lead, lines_text, names_of, out_of_memory_line, read_of, root_file, run_error_text, streams, unreadable_name}, Statements.error_line, declared.{diagnostics.RunError.RunError, outcome.{Delivery.Delivery, Status.Status}}}
 use Rattle.kc_io.specs.{Delivery.{NamedText, StopsBefore, cleared_by, delivers, stale_lines, stale_texts, status_with, texts_of}, Inputs.{AreInputs, AreThere, HasTurn, InputFile, ReadsTo, begun, bytes_of, reads, still_told}, Log.{Event, Leads, Log, Tells, TriesToSay, failed, reported, said}, declared.{device.{Action.{Action, TheVariants.{Open, Read, Report}}, Fault.Fault}, steps.Failure.Failure}}
@@ -32,7 +32,7 @@ warned_by options tree files i bytes = (reading tree options.prefix (no_input op
     (bytes_of (take i files))) ++ filter (λ l. l.ended) (lines_from (slice_index_or (names_of options) i []) 1 bytes))).warned
 
 -- This was done when a file could not be opened or read on. The files before it were there and were read, its turn had come, and these of its bytes
--- were read, in which no line is too long. Their warnings up to there were reported, unless warnings are held back.
+-- were read, in which no line is too long. The warnings up to there were reported, unless --strict or --strict-tree holds them back.
 pub record ReadsUpTo (told : Log) (options : Options) (tree : TreeFacts) (files : List InputFile) (action : Action) (file : InputFile)
     (done : List Event) (said : List ℕ) : Type 0 where
   pub i : ℕ
@@ -72,7 +72,7 @@ IsReport (Stop.Failed f) report = elim f.action [ Report ↦ report ≡ Ok tt | 
 
 -- ---- How a run ends
 -- What a run that is not broken off reads: nothing for a tree or a name that is refused; else its input files, up to a line that is too long. Each
--- of them is there, unless it is found to be missing. (`told` is what the device told at first.)
+-- of them is there, unless it is found to be missing. (`told` is what the device recorded at first.)
 pub data AreReads (files : Files) (options : Options) (inputs : List InputFile) (told : Log) : List Event → Type 0 where
   refused_tree : (r : Refused) → IsRefusedTree files (root_file options) r → AreReads files options inputs told []
   refused_name : (name : List ℕ) → IsRefusedName files options name → AreReads files options inputs told []
@@ -92,7 +92,7 @@ pub record Completes (files : Files) (options : Options) (inputs : List InputFil
   pub only_checked : (stale ≡ []) ⊎ ((options.delivery ≡ Delivery.Check) × (outcome.status ≡ Status.Done))
 
 -- Why a run with this outcome was broken off, what was done until then and what was reported. (`before` is what is reported of the tree before
--- anything is read, and `told` what the device told at first.)
+-- anything is read, and `told` what the device recorded at first.)
 pub data Breaks (files : Files) (options : Options) (before : TreeFacts → List ℕ) (inputs : List InputFile) (outcome : Outcome) (told : Log) :
     Stop → List Event → List ℕ → Type 0 where
   -- It ran out of memory before any text was delivered. Whole lines were reported.

@@ -1,4 +1,4 @@
--- Trusted: The laws of outcomes: there is exactly one, its texts give the values back, no line of the input files is lost, and what --strict takes.
+-- Trusted: The laws of outcomes: there is exactly one, its texts give the values back, no line is lost, and --strict passes only lines taken as written.
 -- Our own. Each law is the contract of a function that does nothing (src/laws.rt).
 use Rattle.std.specs.{List.list_any, Prelude.{◌≡◌, ◌⊎◌, ℕ, Bool, true, false, All, Contains, List, [], ◌∷◌, ◌++◌, Some, None, is_some}}
 use Rattle.kc_language.specs.{ConfigFile.{Assigns, Effect, Line, Silent, Warns, effect, is_prefix, lines_of, value_text, warning_line}, Expansion.{AreOpened, Files, Refused}, Symbols.{SymbolFacts, TreeFacts}, Texts.{ConfigGivesBack, HasShortLines, MinimalGivesBack, MinimalNeedsEach, Solution, config_text, has_prompt, known, minimal_text, solution_view, value_of, value_warnings}, Values.{GivenValue, facts, given_of, name, same_given}, Outcome.{IsAcceptedTree, IsOutcome, IsRefusedTree, IsSolutionFor, Options, Outcome, is_outside, lines_text, names_of, read_of, refuses_input, reported, root_file, streams, warned_files, with_rule}, declared.{diagnostics.Warning.TheVariants.{Changed, Lost, SetAgain}, expressions.{SymId.SymId, SymbolType.SymbolType}}}

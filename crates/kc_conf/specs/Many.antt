@@ -6,8 +6,8 @@ use Rattle.kc_io.specs.{Delivery.{last_of, stale_texts, status_with, texts_of}, 
 use Rattle.kc_conf.specs.{Faults.{Broken, Completes, IsRefusedName}, declared.stop.Stop.Stop}
 
 -- ---- What one configuration leaves
--- A run reports the tree's warnings before all else, unless it refuses a name that make cannot read. The run for one configuration leaves its part
--- behind them: with them before it, it is what that run leaves alone. A name is refused for one configuration.
+-- The part of a configuration is what its own run leaves after the tree's warnings. A run of its own that refuses a name that make cannot read does
+-- not report these warnings. Then the part is all that it leaves.
 abbrev pub IsPart : Files → TreeFacts → Options → List (List ℕ) → Outcome → Type 0
 IsPart files tree options all part = (opened : List (List ℕ)) × AreOpened files (root_file options) opened
     × IsOutcome files options all (reported (elim (unreadable_name options opened) [ None ↦ lines_text tree.warnings | _ ↦ [] ]) part)
@@ -43,7 +43,7 @@ pub record RunsTurn (files : Files) (tree : TreeFacts) (options : Options) (old 
   pub is_part : IsPart files tree options (bytes_of inputs) part
   pub ends : EndsTurn files options inputs part old new status is_over
 
--- ---- All turns
+-- ---- All turns. The greater of two statuses
 abbrev pub greater : Status → Status → Status
 greater a = elim a [
   | Status.Done ↦ λ b. b
@@ -58,7 +58,7 @@ module _ (turn : Options → Log → Log → Status → Bool → Type 0) where
     runs : (options : Options) → are_options options → turn options old new status is_over → TakesTurn are_options old new status is_over
     no_options : TriesToSay out_of_memory_line old new → status ≡ Status.Faulted → is_over ≡ true → TakesTurn are_options old new status is_over
 
-  -- The configurations from number i on, so many as are left, take their turns, up to one that ends all. The status is the greatest of theirs.
+  -- The `left` configurations from number i on take their turns, up to one that ends all. The status is the greatest of theirs.
   pub data TakeTurns (options : ℕ → Options → Type 0) : ℕ → ℕ → Log → Log → Status → Type 0 where
     none : (i : ℕ) (log : Log) → TakeTurns options i 0 log log Status.Done
     next : (i left : ℕ) (old mid new : Log) (status others : Status) → TakesTurn (options i) old mid status false →
@@ -82,7 +82,7 @@ module _ (files : Files) (root : List ℕ) (old new : Log) (status : Status) whe
         status ≡ Status.Faulted → StopsAtTree
     no_memory : TriesToSay out_of_memory_line old new → status ≡ Status.Faulted → StopsAtTree
 
--- A run for so many configurations. It ends at the tree; or the tree is accepted, its warnings are reported once, and then they take their turns.
+-- A run for `count` configurations. It ends at the tree; or the tree is accepted, its warnings are reported once, and then they take their turns.
 pub data RunsEach (files : Files) (root : List ℕ) (options : ℕ → Options → Type 0) (count : ℕ) (old new : Log) (status : Status) : Type 0 where
   stops : StopsAtTree files root old new status → RunsEach files root options count old new status
   turns : (tree : TreeFacts) (mid : Log) → IsAcceptedTree files root tree → Leads [] (lines_text tree.warnings) old mid →
@@ -102,7 +102,7 @@ written_files options = elim options.delivery [ Delivery.Check ↦ [] | _ ↦ ou
 abbrev pub is_among : List ℕ → List (List ℕ) → Bool
 is_among name = list_any (bytes_eq name)
 
--- No file that one of so many configurations writes is an input or an output of another one.
+-- No file that one of the `count` configurations writes is an input or an output of another one.
 abbrev pub AreSeparate : (ℕ → Options → Type 0) → ℕ → Type 0
 AreSeparate options count = (i j : ℕ) (one other : Options) (name : List ℕ) →
     i < count → j < count → i ≢ j → options i one → options j other →
@@ -125,7 +125,7 @@ pub record RunsAmong (files : Files) (tree : TreeFacts) (before after : Journal)
       held after name ≡ last_of name (texts_of options turn.part) (held before name))
       × (status ≡ status_with (stale_texts options (texts_of options turn.part) before) turn.part.status)
 
--- A run for so many configurations, where the files held these before and those after. It ends at the tree, and changes no file; or the
+-- A run for `count` configurations. `before` and `after` say what the files held at these times. It ends at the tree, and changes no file; or the
 -- configurations take their turns, none of which touches what another one reads or leaves, and a file that none of them writes holds what it held.
 pub data LeavesEach (files : Files) (root : List ℕ) (options : ℕ → Options → Type 0) (count : ℕ) (before after : Journal) (status : Status) :
     Type 0 where
@@ -136,7 +136,7 @@ pub data LeavesEach (files : Files) (root : List ℕ) (options : ℕ → Options
       ((i : ℕ) (one : Options) → i < count → options i one → is_among name (written_files one) ≡ false) → held after name ≡ held before name) →
       LeavesEach files root options count before after status
 
--- If none of them writes a file of another one, a run for all leaves, over a device that tells, what each leaves of the files before the run.
+-- If none of them writes a file of another one, a run for all leaves, over a device that records, what each leaves of the files before the run.
 abbrev pub EachLeavesItsPart : (ℕ → Options → Type 0) → ℕ → Type 0
 EachLeavesItsPart options count = (files : Files) (root : List ℕ) (before after : Journal) (status : Status) → AreSeparate options count →
     RunsEach files root options count (Some before) (Some after) status → LeavesEach files root options count before after status

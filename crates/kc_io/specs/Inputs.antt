@@ -1,10 +1,10 @@
 -- Trusted: What a device records of the input files of a run, which are read one after another (our own).
--- Which names the options give, and which lines are too long, is said in the language (Outcome, Texts).
+-- The language says which names the options give (Outcome) and which lines are too long (Texts).
 use Rattle.std.specs.Prelude.{◌≡◌, ℕ, ◌<◌, Bool, true, false, not, ◌&&◌, if◌then◌else◌, List, [], ◌∷◌, ◌++◌, All, map, take, flat_map, is_none, is_some, unwrap_or, slice_get, slice_index_or, Option, None, Some}
 use Rattle.kc_language.specs.{ConfigFile.StreamLocation, Texts.HasShortLines, Outcome.{Options, input_files}}
 use Rattle.kc_io.specs.{Log.{Event, Log, Tells, did, each_byte, held}, declared.device.Action.{Action, TheVariants.{Miss, Open, Read}}}
 
--- What the device told at first, if it still tells at the end.
+-- What the device recorded at first, if it still records at the end.
 abbrev pub still_told : Log → Log → Log
 still_told old new = elim new [ None ↦ None | Some journal ↦ old ]
 
@@ -17,7 +17,7 @@ pub record InputFile : Type 0 where
 abbrev pub bytes_of : List InputFile → List (List ℕ)
 bytes_of files = map (λ file. file.bytes) files
 
--- It is what the device tells of the file. Only one that may be missing is found to be so; any other that is not there cannot be opened.
+-- It is what the device records of the file. Only one that may be missing is found to be so; any other that is not there cannot be opened.
 pub record IsAsTold (log : Log) (may_be_missing : Bool) (file : InputFile) : Type 0 where
   pub missing : file.is_missing ≡ true → (may_be_missing ≡ true) × (file.bytes ≡ [])
   pub told : Tells log (λ journal. (file.bytes ≡ unwrap_or (held journal file.name) [])
@@ -46,7 +46,7 @@ IsThere told file = file.is_missing ≡ false → Tells told (λ journal. is_som
 abbrev pub AreThere : Log → List InputFile → Type 0
 AreThere told files = (i : ℕ) (file : InputFile) → slice_get files i ≡ Some file → HasTurn files i → IsThere told file
 
--- All are read; or those up to the first one that has a line which is too long, and that one up to some place after the line.
+-- All are read; or those before the first one that has a line which is too long, and some first part of that one.
 pub record ReadsInto (file : InputFile) (events : List Event) : Type 0 where
   pub left : List Event
   pub begins : events ++ left ≡ reads_one file

@@ -41,7 +41,7 @@ meaning_of prefix bytes =
     (if option_map_or (λ b. b == byte "#") (find (λ b. not (is_blank b)) text) false then Nothing
     else elim (name_and_value prefix text) [ None ↦ Malformed | Some parts ↦ Set parts.0 parts.1 ])
 
--- The bytes up to the first `"`. A `\` takes the byte after it along, even a `"`.
+-- The bytes before the first `"`, if there is one. A `\` takes the byte after it along, even a `"`.
 abbrev pub until_quote : List ℕ → Option (List ℕ)
 until_quote [] = None
 until_quote (b ∷ []) = if b == byte "\"" then Some [] else None
@@ -67,7 +67,7 @@ pub data Effect : Type 0 where
   Warns : Warning → Effect
   Assigns : SymId → GivenValue → Effect
 
--- A set line gives its value, an unset line gives a bool or tristate n. K7: no symbol of this name has a type. K8: the value is not allowed.
+-- A set line gives its value, an unset line a bool or tristate n. K7: no symbol of this name has a type. K8: the value is too long or not allowed.
 abbrev pub set_by_type : List ℕ → SymId → List ℕ → SymbolType → Effect
 set_by_type called s text Undefined = Warns (UnknownSymbol called)
 set_by_type called s text kind =
@@ -106,7 +106,7 @@ pub record StreamLocation : Type 0 where
 abbrev pub stream_location : Line → StreamLocation
 stream_location l = record { stream = l.stream; number = l.number }
 
--- The lines of these bytes, numbered from n on up to 2^64 - 1: the parts between line feeds. The last part is a line only if it is not empty.
+-- The lines of these bytes: the parts between line feeds. The last part is a line only if it is not empty. Numbers go on from n, and stay at 2^64 - 1.
 abbrev pub lines_in_stream : List ℕ → ℕ → List (List ℕ) → List Line
 lines_in_stream stream n [] = []
 lines_in_stream stream n (last ∷ []) = if length last == 0 then [] else record { stream = stream; number = n; bytes = last; ended = false } ∷ []

@@ -51,18 +51,18 @@ module _ {E L S : Type 0} where
   stays_open d (s ∷ ss) =
       elim (bracket s) [ Opens k ↦ stays_open (suc d) ss | Closes ↦ elim d [ zero ↦ false | suc n ↦ stays_open n ss ] | NoBracket ↦ stays_open d ss ]
 
-  -- The places of the statements that open a block that is still open after the last statement, the outermost first. Their blocks.
+  -- The indices of the statements that open a block that is still open after the last statement, the outermost first. Their blocks.
   abbrev pub open_block_indices : List (Statement E L S) → List ℕ
   open_block_indices ss = filter (λ j. is_some (opened (bracket_at ss j)) && stays_open 0 (drop (suc j) ss)) (numbers (length ss))
 
   abbrev pub open_blocks : List (Statement E L S) → List Block
   open_blocks ss = filter_map (λ j. opened (bracket_at ss j)) (open_block_indices ss)
 
-  -- The places of the statements whose blocks enclose statement i. The last line of a block counts as enclosed by it.
+  -- The indices of the statements whose blocks enclose statement i. A closing line is inside the block that it closes.
   abbrev pub enclosing : List (Statement E L S) → ℕ → List ℕ
   enclosing ss i = open_block_indices (take i ss)
 
-  -- An attribute belongs to the entry before it. The attributes of the entry at j follow it without a gap.
+  -- An attribute: no line of a block, no `config`, `comment`, `source` or `mainmenu` line. It belongs to the entry before it. Those of the entry at j.
   abbrev pub is_attribute : Statement E L S → Bool
   is_attribute s =
       elim (bracket s) [ NoBracket ↦ elim s [ ConfigLine n ↦ false | CommentLine t ↦ false | SourceLine t ↦ false | MainMenuLine t ↦ false | _ ↦ true ] | _ ↦ false ]
@@ -99,7 +99,7 @@ abbrev pub numbered_lines : List (Located Named) → List (Located Numbered)
 numbered_lines ls = map (λ l. record { file = l.file; line = l.line; statement = numbered (number_of (names_of (statements ls))) l.statement }) ls
 
 -- ---- What a line is read with
--- An error and where it stands: a file and a line.
+-- An error and where it stands: a file and a line. A dependency loop has no location.
 pub record Refused : Type 0 where
   pub cause : Cause
   pub location : Option (List ℕ × ℕ)
@@ -113,7 +113,7 @@ pub record FileContext : Type 0 where
   pub file : List ℕ
   pub blocks : List Block
 
--- What was read of all files: their statements, the number of their physical lines, and their names, each once, as first opened.
+-- What was read of all files: their statements, the number of their physical lines, and their names, each once, in the order of opening.
 pub record Log : Type 0 where
   pub lines : List (Located Named)
   pub total_lines : ℕ
@@ -168,7 +168,7 @@ with_line ls a n s = ls ++ record { file = a.file; line = n; statement = s } ∷
 abbrev pub without_help : UnreadLines → UnreadLines
 without_help l = record l { lines = after_help l.lines; number = min (l.number + (length l.lines - length (after_help l.lines))) (2 ^ 32 - 1) }
 
--- The next logical line of l is cut into these tokens. After it, and after its help text where it is a `help` line, m is left.
+-- The next logical line of l is cut into these tokens, up to a place that cannot be cut if `out` is a fault. After it and its help text m is left.
 pub record NextLine (l m : UnreadLines) (ts : List Lexeme) (out : Option TextFault) : Type 0 where
   pub middle : UnreadLines
   pub text : List ℕ
@@ -223,7 +223,7 @@ pub data Rest (files : Files) : FileContext → UnreadLines → List (Located Na
       files name ≡ Some bytes → Rest files (inside a own name) (unread_lines bytes 1) [] (with_file log name bytes) (Ok more) →
       Rest files a m (with_line own a l.number (SourceLine name)) more r → Rest files a l own log r
 
--- The root file expands to this log, or to the first error. No other file is open, and nothing was read.
+-- The root file expands to this log, or to the first error. At first no other file is open, and nothing was read.
 abbrev pub Expands : Files → List ℕ → Result Log Refused → Type 0
 Expands files root r = MatchOption (bytes_cause root 0 (files root))
     ((bytes : List ℕ) × (files root ≡ Some bytes) × Rest files (record { open_files = root ∷ []; file = root; blocks = [] })

@@ -50,7 +50,7 @@ pub record UnreadLines : Type 0 where
 abbrev pub unread_lines : List ℕ → ℕ → UnreadLines
 unread_lines rest number = record { lines = physical_lines rest; number = number; refusal = None }
 
--- The next logical line has this text, and `new` is unread after it (its number is at most 2^32 - 1); the next logical line is too long.
+-- The next logical line has this text, and `new` is unread after it (line numbers stay at 2^32 - 1). The next logical line is too long.
 abbrev pub TakesLine : UnreadLines → UnreadLines → List ℕ → Type 0
 TakesLine old new text = (front : List Physical) × IsFirstLine old.lines front new.lines × (text ≡ joined_text front) × (length text ≤ longest_line)
     × (new.number ≡ min (old.number + length front) (2 ^ 32 - 1)) × (new.refusal ≡ None)

@@ -1,9 +1,9 @@
 -- Trusted: 12. Outcome: the texts, the diagnostics and the status that a run is to leave.
--- Our own, except for the syntax of a dependency file, which is GNU make's. Everything here is a part of `IsOutcome`, at the end.
+-- Our own, except for the syntax of a dependency file, which is GNU make's. `IsOutcome` at the end is the rule.
 use Rattle.std.specs.{List.list_any, Option.option_map_or, Prelude.{Bool, Err, List, None, Ok, Option, Some, [], codes, decimal, false, find, flat_map, if◌then◌else◌, length, map, nat_le, not, option_map, slice_get, string_bytes, true, ℕ, ◌&&◌, ◌++◌, ◌-◌, ◌==◌, ◌||◌, ◌∷◌, ◌≡◌}}
 use Rattle.kc_language.specs.{ConfigFile.{Places, ReadResult, Stream, StreamLocation, UserInput, no_input, reading_of}, Expansion.{AreOpened, Files, Refused}, Expressions.{all_mentioned, same_name}, Needs.{IsAccepted, IsLoopText, loop_refused}, Statements.{cause_text, error_at, error_line}, Symbols.{IsTreeOf, TreeFacts, Warning}, Text.{byte, longest_input_line}, Texts.{IsSolution, Solution, config_text, header_text, lost_lines, minimal_text, new_text, solution_view, value_warnings, warnings}, declared.{diagnostics.{RunError.RunError, Warning.TheVariants.UserOutside}, outcome.{Options.Options as AnyOptions, Position.Position, Status.Status}}}
 
--- The options of a run, the root file, the file of --out (the target in a dependency file), and how a diagnostic of no line of the `.config` begins.
+-- The options, the root file, the file of --out (the target in a dependency file), and the name that some diagnostics begin with under --each.
 abbrev pub Options : Type 0
 Options = AnyOptions (List ℕ)
 
@@ -126,7 +126,7 @@ pub record IsAcceptedTree (files : Files) (root : List ℕ) (tree : TreeFacts) :
   pub built : IsTreeOf files root (Ok tree)
   pub accepted : IsAccepted tree
 
--- what reading the input files of these bytes gives, one after another; the lines of values are kept for the warnings of lost ones
+-- the input files of these names and bytes; what reading them gives, one after another (lines of values are kept if lost values are to be reported)
 abbrev pub streams : List (List ℕ) → List (List ℕ) → List Stream
 streams (name ∷ names) (bytes ∷ all) = record { name = name; bytes = bytes } ∷ streams names all
 streams _ _ = []
@@ -204,7 +204,7 @@ pub data IsOutcomeOfReading (options : Options) (tree : TreeFacts) (read : ReadR
       outcome ≡ reported read.warned (refused_if options (refuses_input options read.input solution) (warned_files options tree read.input solution))
       → IsOutcomeOfReading options tree read outcome
 
--- What a run leaves without --strict-tree and without a dependency file, if the tree opens these files and the input files hold these bytes.
+-- What a run leaves if --strict-tree is left aside and no dependency file is added. The tree opens these files, and the input files hold these bytes.
 pub data IsLenientOutcome (files : Files) (options : Options) (opened all : List (List ℕ)) (outcome : Outcome) : Type 0 where
   refused_tree : (r : Refused) → IsRefusedTree files (root_file options) r → outcome ≡ refused (refusal_line r) → IsLenientOutcome files options opened all outcome
   refused_name : (tree : TreeFacts) (name : List ℕ) → IsAcceptedTree files (root_file options) tree → unreadable_name options opened ≡ Some name →

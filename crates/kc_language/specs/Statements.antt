@@ -162,7 +162,7 @@ is_config e = elim e [ EntryKind.Config ↦ true | _ ↦ false ]
 abbrev pub is_choice : EntryKind → Bool
 is_choice e = elim e [ EntryKind.Choice ↦ true | _ ↦ false ]
 
--- E9: a block's last line closes the innermost open block of the same file.
+-- E9: a closing line has to fit the innermost open block of its own file.
 abbrev pub closing_cause : Block → Option Block → Option Cause
 closing_cause Block.If (Some Block.If) = None
 closing_cause Block.Menu (Some Block.Menu) = None
@@ -211,7 +211,7 @@ pub record Front : Type 0 where
   pub tree : Disjunction
   pub rest : List Lexeme
 
--- The tokens begin with this expression, and no longer prefix of them begins any expression.
+-- The tokens begin with this expression of at most `most_open` levels, and no longer prefix of them begins any expression.
 pub record StartsExpression (ts : List Lexeme) (f : Front) : Type 0 where
   pub used : ℕ
   pub rest_is : f.rest ≡ drop used ts
@@ -229,7 +229,7 @@ IsMore ts = (t : Lexeme) × (us : List Lexeme) × (ts ≡ t ∷ us)
 abbrev pub finish : {A : Type 0} → A → List Lexeme → Result A Cause
 finish a = elim [ [] ↦ Ok a | t ∷ ts ↦ Err cause.Syntax ]
 
--- An expression up to the end of the line: what the line reads as, or why it is refused.
+-- An expression up to the end of the line: why it is refused, and what the line reads as.
 abbrev pub WholeFault : List Lexeme → Cause → Type 0
 WholeFault ts c = ExpressionFault ts c ⊎ ((f : Front) × StartsExpression ts f × IsMore f.rest × (c ≡ cause.Syntax))
 
@@ -281,7 +281,7 @@ plain_text t = if list_any (λ b. b == byte "*" || b == byte "?" || b == byte "[
 abbrev pub ReadsSource : List Lexeme → Result Named Cause → Type 0
 ReadsSource ts = After (text_of ts) (λ t. After (plain_text t) (λ u r. r ≡ finish (SourceLine u) (drop 1 ts)))
 
--- `config`, `menuconfig`: a name, which is 1 to 255 bytes that may stand in a name, and none of the words `n`, `m`, `y` and `if`.
+-- The name after `config` or `menuconfig`: 1 to 255 letters, digits and `_`, and none of the words `n`, `m`, `y` and `if`.
 abbrev pub is_good_name : List ℕ → Bool
 is_good_name w = if same_name w if_word || is_some (tristate_constant w) then false
     else (nat_le 1 (length w) && nat_le (length w) longest_name && list_all is_name_byte w)
@@ -290,7 +290,7 @@ is_good_name w = if same_name w if_word || is_some (tristate_constant w) then fa
 abbrev pub ReadsPrompt : (InputPrompt Disjunction → Named) → List Lexeme → Result Named Cause → Type 0
 ReadsPrompt make ts = After (text_of ts) (λ t. ReadsCondition (λ w. make (record { text = t; when = w })) (drop 1 ts))
 
--- `option`: `modules`, or `allnoconfig_y`, which has no effect.
+-- `option`: `modules`, or `allnoconfig_y`, which has no effect. `env` and `defconfig_list` are left out (E7).
 abbrev pub option_line : List Lexeme → Result Named Cause
 option_line ts =
     if begins_with (codes "modules") ts then finish ModulesLine (drop 1 ts)

@@ -36,7 +36,7 @@ pub record ChoiceFacts : Type 0 where
   pub members : List SymId
 
 -- An entry of the menu: a symbol at its first definition; a menu or a comment with its text and the condition under which it is shown;
--- the end of a menu, with that menu's place among the entries.
+-- the end of a menu, with that menu's index among the entries.
 pub data Shown : Type 0 where
   SymbolShown : SymId → Shown
   MenuShown : List ℕ → Condition → Shown
@@ -84,7 +84,7 @@ entry_symbol e = elim e [ MenuEntry.Symbol s ↦ Some s | _ ↦ None ]
 abbrev pub entry_choice : MenuEntry → Option ℕ
 entry_choice e = elim e [ MenuEntry.Choice k ↦ Some k.0 | _ ↦ None ]
 
--- ---- Symbols, types and values
+-- ---- Symbols and types. The option holds this symbol
 abbrev pub is_symbol_of : SymId → Option SymId → Bool
 is_symbol_of s o = elim o [ None ↦ false | Some t ↦ same_symbol s t ]
 
@@ -160,7 +160,7 @@ module _ (ss : List Numbered) where
   abbrev pub dependency : ℕ → Condition
   dependency i = record { conjuncts = flat_map block_conjuncts (enclosing ss i) ++ own_dependencies i; mode = enclosing_choice i }
 
-  -- what one of its lines says, under the line's own condition too
+  -- what a line of the entry at i says, under the entry's dependency and the line's own condition
   abbrev pub guarded : {X : Type 0} → ℕ → X → Option Form → Guarded X
   guarded i x w = record { what = x; when = record { conjuncts = (dependency i).conjuncts ++ listed w; mode = (dependency i).mode } }
 
@@ -189,7 +189,7 @@ module _ (ss : List Numbered) where
   abbrev pub can_be_target : SymId → Bool
   can_be_target t = is_none (choice_of t) && is_selectable (type_of t)
 
-  -- the symbol that statement i defines, for each line of its entry in which `condition_in` finds a condition
+  -- the symbol that statement i defines, once for each line of its entry that `condition_in` takes, under the condition that it gives
   abbrev pub naming_at : (Numbered → Option (Option Form)) → ℕ → List (Guarded SymId)
   naming_at condition_in i = flat_map (λ s. map (guarded i s) (filter_map condition_in (attributes ss i))) (listed (symbol_at i))
 
@@ -231,7 +231,7 @@ module _ (ss : List Numbered) where
   shows_entry i (Some (ConfigLine s)) = is_first_definition i s
   shows_entry i o = elim o [ Some (MenuLine t) ↦ true | Some EndMenuLine ↦ true | Some (CommentLine t) ↦ true | _ ↦ false ]
 
-  -- the entry; an `endmenu` closes the innermost block, whose place is the number of entries before it
+  -- the entry; an `endmenu` closes the innermost block, whose index is the number of entries before it
   abbrev pub shown_at : ℕ → Option Numbered → Option Shown
   shown_at i (Some (ConfigLine s)) = if is_first_definition i s then Some (SymbolShown s) else None
   shown_at i (Some (MenuLine t)) = Some (MenuShown t (shown_under i (own_visible i)))

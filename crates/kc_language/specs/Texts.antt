@@ -30,7 +30,7 @@ pub record SolutionView : Type 0 where
   pub is_new : SymId → Bool
   pub truth : Condition → Tri
 
--- A menu or a comment is shown unless its condition is n: the lines of its title, and the title of a menu at its end line.
+-- A menu or a comment is shown unless its condition is n. The lines of its title. The title of a menu that is shown, for its end line.
 abbrev pub is_shown : Tri → Bool
 is_shown t = not (is_n t)
 
@@ -94,7 +94,7 @@ default_warnings kind called (Some r) None (Some t) =
     else DefaultOutside called t (number_text kind r.low) (number_text kind r.high) (clamped kind (Some r) t) ∷ []
 default_warnings kind called _ None _ = []
 
--- For the symbol `called` with facts `f`. K11: it is selected above its direct dependency. A member of a choice has no warning.
+-- For the symbol `called` with facts `f`. K11: it is selected above its direct dependency. A member of a choice has none of K11 to K13.
 module _ (tree : TreeFacts) (known : SymId → SymbolValue) where
   abbrev pub select_warnings : List ℕ → SymbolFacts → List Warning
   select_warnings called f = let to = selected_to tree known f in let limit = direct tree known f in
@@ -156,7 +156,7 @@ value_warnings s = flat_map (λ i. warnings_of s.tree (known s) (name s.tree i) 
 abbrev pub warnings : Solution → List (List ℕ)
 warnings s = map warning_line (value_warnings s)
 
--- K14: the value that the line `at` gave last is not the symbol's. Only symbols with a prompt have it, members of a choice too.
+-- K14: the last line for the symbol, `at`, gave a value that the symbol does not have. Only symbols with a prompt have it, members of a choice too.
 abbrev pub lost_by : List ℕ → SymbolType → Option StreamLocation → Option GivenValue → GivenValue → List (List ℕ)
 lost_by called kind at None value = []
 lost_by called kind (Some at) (Some given) value =
@@ -191,7 +191,7 @@ MinimalGivesBack tree prefix places V =
     (stream : List ℕ) → let read = read_alone tree prefix stream (minimal_text tree prefix (valuation_view tree (place_at places) V)) in
     (read.stopped ≡ None) × IsOneSolution tree read.input.places V
 
--- The minimal file needs each of its lines: with some lines left out, reading it gives values for which no solution is this one.
+-- The minimal file needs each of its lines: each is one line, and if any are left out, no solution for the user values that are read is this one.
 abbrev pub MinimalNeedsEach : TreeFacts → List ℕ → Places → (ℕ → SymbolValue) → Type 0
 MinimalNeedsEach tree prefix places V =
     (stream : List ℕ) (keep : SymId → Bool) (s : SymId) →
@@ -224,8 +224,8 @@ pub record HasPlainTitles (tree : TreeFacts) (prefix : List ℕ) (solution : Sol
   pub main_menu : IsNotUnsetLine prefix (codes "# " ++ tree.main_menu)
   pub entries : (i : ℕ) (e : Shown) → slice_get tree.entries i ≡ Some e → HasPlainTitle prefix solution e
 
--- With these, reading the `.config` gives the solution back if and only if no visible tristate outside a choice is above both its visibility and what
--- it is selected to.
+-- With plain numbers and titles, reading the `.config` gives the solution back if and only if no symbol changes on rereading: no visible tristate
+-- outside a choice is above both its visibility and what it is selected to.
 abbrev pub ConfigGivesBack : TreeFacts → List ℕ → Places → (ℕ → SymbolValue) → Type 0
 ConfigGivesBack tree prefix places V =
     HasPlainNumbers tree V → HasPlainTitles tree prefix (valuation_view tree (place_at places) V) → (stream : List ℕ) →

@@ -1,4 +1,4 @@
--- Trusted: 8. Values: the equation that gives each symbol its value, which symbols are written, and which differ from their defaults.
+-- Trusted: 8. Values: the equation that gives each symbol its value, which symbols are written, and which stand in the minimal file.
 -- Sources: the kernel's kconfig-language document and kconfiglib's documentation; "our own" marks the rest. `known` is the value of each symbol.
 use Rattle.std.specs.{Fmt.{digits, signed_decimal}, List.list_any, Option.{option_map_or, option_or}, Prelude.{Bool, List, None, Option, Some, [], bytes_eq, codes, false, find, if◌then◌else◌, int_lt, is_some, length, map, nat_lt, not, option_and_then, option_map, pos, slice_get, true, unsigned_abs, unwrap_or, ℕ, ℤ, ◌&&◌, ◌++◌, ◌<◌, ◌||◌, ◌≡◌}}
 use Rattle.kc_language.specs.{Expressions.{Form, Leaf, Single, SymbolValue, TextValue, Truth, greater, greatest, least, lesser, same_symbol, symbol, text, truth_of_value, value}, Symbols.{ChoiceFacts, Condition, Guarded, SymbolFacts, TreeFacts, is_symbol_of, name_by}, Text.{hex_of, int_of}, declared.{expressions.{SymId.SymId, SymbolType.{SymbolType, TheVariants.{Bool as IsBool, Hex, Int, Str, Tristate, Undefined}}, Tri.{TheVariants.{M, N, Y}, Tri}}, values.Interval.Interval}}
@@ -45,7 +45,7 @@ user_or user = elim user [ Some (GivenTruth u) ↦ λ vis otherwise. if is_n vis
 abbrev pub visible_text : Option GivenValue → Tri → Option (List ℕ)
 visible_text user = elim user [ Some (GivenText t) ↦ λ vis. if is_n vis then None else Some t | _ ↦ λ vis. None ]
 
--- Int is decimal. Hex is hexadecimal, and a hex bound, never negative, is written as `0xff`. A text that is no number counts as 0 (all our own).
+-- Int is decimal, hex hexadecimal. A text that is no number counts as 0. A hex bound, which is never negative, is written as `0xff` (all our own).
 abbrev pub number_as : SymbolType → List ℕ → Option ℤ
 number_as k = elim k [ Int ↦ int_of | Hex ↦ hex_of | _ ↦ λ bytes. None ]
 
@@ -55,7 +55,7 @@ number_or_zero k bytes = unwrap_or (number_as k bytes) (pos 0)
 abbrev pub number_text : SymbolType → ℤ → List ℕ
 number_text k = elim k [ Hex ↦ λ n. codes "0x" ++ digits 16 false (unsigned_abs n) | _ ↦ signed_decimal ]
 
--- Ranges: both bounds are inside. A number below the low bound becomes that bound, else one above the high bound that one.
+-- Ranges: both bounds are inside. A number below the low bound becomes the low bound. Otherwise one above the high bound becomes the high bound.
 abbrev pub is_within_range : SymbolType → Option Interval → List ℕ → Bool
 is_within_range k range = elim range [ None ↦ λ t. true | Some r ↦ λ t. not (int_lt (number_or_zero k t) r.low) && not (int_lt r.high (number_or_zero k t)) ]
 
@@ -82,7 +82,7 @@ name tree s = name_by tree.names s
 abbrev pub choice_at : TreeFacts → ℕ → Option ChoiceFacts
 choice_at tree c = slice_get tree.choices c
 
--- The value of the modules symbol, n if there is none; the text of a default, which is empty if the default is not one operand.
+-- The value of the modules symbol, n if there is none. The text of an expression that is one operand (else empty), and of a default.
 abbrev pub modules_value : (SymId → SymbolValue) → Option SymId → Tri
 modules_value known modules = elim modules [ None ↦ N | Some m ↦ truth_of_value (known m) ]
 
@@ -93,7 +93,7 @@ abbrev pub default_text : (SymId → SymbolValue) → Option (Guarded Form) → 
 default_text known default = elim default [ None ↦ [] | Some g ↦ single_text known g.what ]
 
 module _ (tree : TreeFacts) (known : SymId → SymbolValue) where
-  -- The mode of a choice: y if its prompt's condition is not n (a choice of bools; kconfiglib's `tri_value` of a choice), n without a prompt.
+  -- The `&&` of conjuncts. The mode of a choice: y if its prompt's condition is not n (kconfiglib's `tri_value`, for bools), n without a prompt.
   abbrev pub and_value : List Form → Tri
   and_value conjuncts = least (map (value known tree.modules) conjuncts)
 
@@ -170,7 +170,7 @@ module _ (tree : TreeFacts) (known : SymId → SymbolValue) where
   selected (Some c) user = if is_n (mode_of (Some c)) then None else option_or (elim user [ Some (Member m) ↦ if visible_member c m then Some m else None | _ ↦ None ])
       (option_or (option_map (λ g. g.what) (find (λ g. not (is_n (condition g.when)) && visible_member c g.what) c.defaults)) (find visible c.members))
 
-  -- The value by type: without a type the symbol's own name; of a string the user's text, else the default's, else nothing (`str_value`).
+  -- The value by type: without a type the symbol's own name; of a string the user's text, else the default's, else empty (kconfiglib's `str_value`).
   abbrev pub by_type : SymId → SymbolFacts → SymbolType → Option GivenValue → SymbolValue
   by_type s f Undefined user = TextValue Undefined (name tree s)
   by_type s f Str user = TextValue Str (unwrap_or (visible_text user (visibility f)) (default_text known (first_met f.defaults)))
@@ -210,8 +210,8 @@ module _ (tree : TreeFacts) (known : SymId → SymbolValue) where
   abbrev pub is_new : (UserPlace → Option GivenValue) → SymId → Bool
   is_new user s = not (is_some (user (SymbolPlace s.0))) && elim (facts tree s) [ None ↦ false | Some f ↦ is_new_by user s f f.choice ]
 
-  -- Which symbols have a line in the .config. A member: if it is visible. A bool or tristate: if it is visible, or its default, what it is
-  -- selected to, or what it is implied to within its direct dependency is not n. A string, int or hex: if it is visible, or a default is met.
+  -- Which symbols have a line in the .config: each visible one with a type. Outside a choice also a bool or tristate if its default or what it is
+  -- selected to is not n, or what it is implied to and its direct dependency both are not n; and a string, int or hex if a default is met.
   abbrev pub written_truth : SymbolFacts → Bool
   written_truth f = is_visible f || (not (is_n (default_value (first_met f.defaults))) || (not (is_n (selected_to f)) ||
       (not (is_n (implied_to f)) && not (is_n (direct f)))))
@@ -229,7 +229,7 @@ module _ (tree : TreeFacts) (known : SymId → SymbolValue) where
   abbrev pub changes_on_reread_facts : Option SymbolFacts → Tri → Bool
   changes_on_reread_facts o = elim o [ None ↦ λ t. false | Some f ↦ elim f.choice [ Some c ↦ λ t. false | None ↦ changes_on_reread_truth f ] ]
 
--- V gives each symbol its value by number; a symbol past the last has an empty name.
+-- V gives values by number. The value of a symbol (past the last, an empty text); whether it changes on rereading; a choice's default selection.
 abbrev pub known_from : TreeFacts → (ℕ → SymbolValue) → SymId → SymbolValue
 known_from tree V s = if nat_lt s.0 (name_count tree) then V s.0 else TextValue Undefined (name tree s)
 
@@ -239,7 +239,7 @@ changes_on_reread tree V i = changes_on_reread_facts tree (known_from tree V) (f
 abbrev pub default_selection : TreeFacts → (ℕ → SymbolValue) → ℕ → Option SymId
 default_selection tree V c = selected tree (known_from tree V) (choice_at tree c) None
 
--- The right side of the equation of symbol i, under what was given in its place; a member's place is its choice.
+-- Where the user gives symbol i a value: a member in its choice. The right side of its equation, under what is given there.
 module _ (tree : TreeFacts) where
   abbrev pub user_place : ℕ → UserPlace
   user_place i = elim (facts tree (symbol i)) [ None ↦ SymbolPlace i | Some f ↦ elim f.choice [ None ↦ SymbolPlace i | Some c ↦ ChoicePlace c ] ]
