@@ -196,7 +196,7 @@ streams (name ∷ names) (bytes ∷ all) = record { name = name; bytes = bytes }
 streams _ _ = []
 
 abbrev pub fresh_input : Options → TreeFacts → UserInput
-fresh_input options tree = no_input options.warn_lost tree
+fresh_input options tree = record (no_input options.warn_lost tree) { gone = option_map (λ name. ([], [])) options.list_gone }
 
 abbrev pub read_of : Options → TreeFacts → List (List ℕ) → ReadResult
 read_of options tree all = reading_of tree options.prefix (fresh_input options tree) (streams (names_of options) all)
@@ -230,6 +230,7 @@ pub record Outcome : Type 0 where
   pub header : Option (List ℕ)
   pub minimal : Option (List ℕ)
   pub list_new : Option (List ℕ)
+  pub list_gone : Option (List ℕ)
   pub depfile : Option (List ℕ)
   pub warned : List ℕ
   pub refusal : List ℕ
@@ -243,7 +244,7 @@ abbrev pub reported : List ℕ → Outcome → Outcome
 reported text outcome = record outcome { warned = text ++ outcome.warned }
 
 abbrev pub refused : List ℕ → Outcome
-refused line = record { config = None; header = None; minimal = None; list_new = None; depfile = None; warned = []; refusal = line; status = Status.Refused }
+refused line = record { config = None; header = None; minimal = None; list_new = None; list_gone = None; depfile = None; warned = []; refusal = line; status = Status.Refused }
 
 abbrev pub refused_if : Options → Bool → Outcome → Outcome
 refused_if options refuses outcome =
@@ -269,6 +270,7 @@ warned_files options tree input solution = record {
   header = text_if options.header (header_text tree options.prefix (solution_view solution));
   minimal = text_if options.minimal (minimal_text tree options.prefix (solution_view solution));
   list_new = text_if options.list_new (new_text tree options.prefix (solution_view solution));
+  list_gone = text_if options.list_gone (option_map_or (λ told. told.0 ++ told.1) input.gone []);
   depfile = None;
   warned = lines_text (map (λ line. lead options ++ line) (warnings solution)) ++ lines_text (lost_warnings options input solution);
   refusal = [];
