@@ -69,7 +69,7 @@ module _ (formed : TreesAreWellFormed) (leaves : StreamsLeavePlaces) (files : Fi
   pub whole_solution : IsSolutionOf tree solution.places (value_of solution)
   whole_solution =
       let well = formed files (root_file options) tree is.accepted.built in
-      let held : ArePlaces tree read_places = leaves tree options.prefix options.warn_lost (streams (names_of options) all) well in
+      let held : ArePlaces tree read_places = leaves tree options.prefix options.warn_lost (fresh_input options tree).gone (streams (names_of options) all) well in
       record {
         formed = well;
         accepted = is.accepted.accepted;

@@ -1,5 +1,6 @@
 -- For proofs: Parts of the definitions of Outcome, by names of their own.
-use Rattle.std.specs.Prelude.{List, None, Option, [], option_map, ℕ, ◌≡◌}
+use Rattle.std.specs.Option.{option_map_or}
+use Rattle.std.specs.Prelude.{List, None, Option, [], option_map, ℕ, ◌++◌, ◌≡◌}
 use Rattle.kc_language.specs.ConfigFile.{UserInput}
 use Rattle.kc_language.specs.Outcome.{IsOutcomeOfReading, Options, Outcome, lines_text, names_listed, read_of, refused_if, refuses_input, reported, rule_text, run_error_text, target, text_if, warned_files}
 use Rattle.kc_language.specs.Statements.{error_line}
@@ -12,13 +13,14 @@ use Rattle.kc_language.specs.declared.diagnostics.RunError.TheVariants as run
 abbrev pub strict_line : List ℕ
 strict_line = error_line (run_error_text run.WarningsRefused)
 
--- the files of a solution
-abbrev pub files_of : Options → TreeFacts → Solution → Outcome
-files_of options tree solution = record {
+-- the files of a solution for the user's input
+abbrev pub files_of : Options → TreeFacts → UserInput → Solution → Outcome
+files_of options tree input solution = record {
   config = text_if options.out (config_text tree options.prefix (solution_view solution));
   header = text_if options.header (header_text tree options.prefix (solution_view solution));
   minimal = text_if options.minimal (minimal_text tree options.prefix (solution_view solution));
   list_new = text_if options.list_new (new_text tree options.prefix (solution_view solution));
+  list_gone = text_if options.list_gone (option_map_or (λ told. told.0 ++ told.1) input.gone []);
   depfile = None;
   warned = [];
   refusal = [];

@@ -6,7 +6,14 @@ use std::io::ErrorKind;
 use std::{fs, io};
 
 // Files that a run writes by these names: each is there afterwards only if `expect` has it.
-const OUTPUTS: [&str; 5] = [".config", "autoconf.h", "defconfig", "new.config", "configured.d"];
+const OUTPUTS: [&str; 6] = [
+    ".config",
+    "autoconf.h",
+    "defconfig",
+    "new.config",
+    "gone.config",
+    "configured.d",
+];
 
 /// What a run answered.
 #[derive(Drop)]
