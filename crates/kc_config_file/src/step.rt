@@ -296,12 +296,12 @@ pub(crate) fn read_line<'a>(
     match line_effect(alloc, stream.tree, line)? {
         Effect::Silent => Ok(()),
         Effect::Warns(line_warning) => {
-            let before = told.len();
+            let untold = told.len();
             let is_gone = is_gone(&line_warning);
             warn(stream.name, number, line_warning, told)?;
             let noted = user.leave_out(alloc, stream.prefix, line, is_gone);
             if noted.is_err() {
-                told.truncate(before);
+                told.truncate(untold);
             }
             noted
         }
