@@ -22,7 +22,7 @@ fn is_on(line: ConfigFileLine<'_>) -> bool
     ensures { result ≡ is_on (meaning_view line.entry) }
 {
     match line {
-        ConfigFileLine::Set(_, value) => value != b"n",
+        ConfigFileLine::Set(_, value) => value != b"n".as_slice(),
         ConfigFileLine::Nothing | ConfigFileLine::Unset(_) | ConfigFileLine::Malformed => false,
     }
 }
