@@ -3,7 +3,7 @@
 
 - Each example of a diagnostic in docs/formats.md is run. The program must print the line of the page.
 - The session in README.md is run in a copy of the example (crates/kconf_firmware/data), and must print the same.
-- The dependency file of docs/formats.md must be the one that the program writes.
+- The dependency file and the list of new symbols of docs/formats.md must be those that the program writes.
 - The makefiles of docs/make.md are run over the example, the first one with each of its two rules.
 - The version must be the same in the program, the man pages and the changelog.
 - Each option of the help must stand in README.md, the man page and both completions.
@@ -109,15 +109,21 @@ class Built:
         return run.returncode, "--header" in run.stdout, "-include" in run.stdout, run.stderr
 
 
-def rule(kconf):
-    """Complaints about the dependency file that docs/formats.md shows."""
-    shown = re.search(r"writes\n\n((?: {4}.*\n|\n)*)", read("docs/formats.md").partition("## The dependency file")[2]).group(1)
+def shown_file(kconf, section, *words):
+    """Complaints about the file that this section of docs/formats.md shows. The last of the words is its name."""
+    shown = re.search(r"writes\n\n((?: {4}.*\n|\n)*)", read("docs/formats.md").partition(section)[2]).group(1)
     with tempfile.TemporaryDirectory() as folder:
         shutil.copytree(os.path.join(TOP, "crates/kconf_firmware/data"), folder, dirs_exist_ok=True)
-        subprocess.run([kconf, "--depfile", ".config.d", "Kconfig", "site.config"], cwd=folder, capture_output=True, check=True)
-        with open(os.path.join(folder, ".config.d"), encoding="utf-8") as file:
+        subprocess.run([kconf, *words, "Kconfig", "site.config"], cwd=folder, capture_output=True, check=True)
+        with open(os.path.join(folder, words[-1]), encoding="utf-8") as file:
             came = file.read()
-    return [] if came == re.sub("^ {4}", "", shown.rstrip("\n") + "\n", flags=re.M) else [f"docs/formats.md: the rule is {came!r}"]
+    return [] if came == re.sub("^ {4}", "", shown.rstrip("\n") + "\n", flags=re.M) else [f"docs/formats.md: the file is {came!r}"]
+
+
+def rule(kconf):
+    """Complaints about the dependency file that docs/formats.md shows, and about its list of new symbols."""
+    listed = "--config", "start.config", "--out", ".config", "--list-new", "new.config"
+    return shown_file(kconf, "## The dependency file", "--depfile", ".config.d") + shown_file(kconf, "### The list of new symbols", *listed)
 
 
 def makefiles():

@@ -63,7 +63,7 @@ module _ (tree : TreeFacts) (prefix : List ℕ) where
   silent : (input : UserInput) (l : Line) → effect tree prefix l ≡ Silent → input_after tree prefix input (l ∷ []) ≡ input
   silent input l is =
       let same : gone_after tree prefix input.gone (l ∷ []) ≡ input.gone =
-      gone_after-line tree prefix input.gone l ∙ ap (λ e. gone_by prefix (meaning prefix l) e input.gone) is in
+      gone_after-line tree prefix input.gone l ∙ ap (λ e. gone_by prefix (meaning tree prefix l) e input.gone) is in
       step input l Silent is ∙ ap (λ (gone : Option (List ℕ × List ℕ)). record input { gone = gone }) same
 
   value : (input : UserInput) (l : Line) (s : SymId) (given : GivenValue) → effect tree prefix l ≡ Assigns s given →

@@ -86,9 +86,9 @@ one_gone text true false (Some told) = λ i. Some (append-nil told.0 i, told.1 +
 one_gone text false on (Some told) = λ i. Some (append-nil told.0 i, append-nil told.1 i)
 
 pub gone_after-line : (tree : TreeFacts) (prefix : List ℕ) (old : Option (List ℕ × List ℕ)) (l : Line) →
-    gone_after tree prefix old (l ∷ []) ≡ gone_by prefix (meaning prefix l) (effect tree prefix l) old
+    gone_after tree prefix old (l ∷ []) ≡ gone_by prefix (meaning tree prefix l) (effect tree prefix l) old
 unfolding gone_after
-gone_after-line tree prefix old l = one_gone (said_line prefix (meaning prefix l)) (is_gone (effect tree prefix l)) (is_on (meaning prefix l)) old
+gone_after-line tree prefix old l = one_gone (said_line prefix (meaning tree prefix l)) (is_gone (effect tree prefix l)) (is_on (meaning tree prefix l)) old
 
 pub input_after-parts : (tree : TreeFacts) (prefix : List ℕ) (input : UserInput) (l : Line) →
     input_after tree prefix input (l ∷ [])

@@ -20,9 +20,8 @@ use kc_tree::rows::{ChoiceId, Symbol};
 use kc_tree::tree::Tree;
 use kc_user::user::User;
 use kc_user::value::UserValue;
-use kc_values::answers::{can_change, has_other};
+use kc_values::answers::{can_change, has_other, is_visible};
 use kc_values::choices::{selected_in, selection};
-use kc_values::conditions::is_n;
 use kc_values::differs::{can_count, member_differs, own_differs};
 use kc_values::table::Table;
 use kc_values::truths::visibility;
@@ -160,7 +159,7 @@ fn member_is_new(
     requires default { default ≡ at.selected table.now choice.0 None }
     ensures { result ≡ flag.member_is_new table.now user.now symbol.now choice.0 }
 {
-    !is_n(visibility(table, symbol))
+    is_visible(table, symbol)
         && user.selected(choice).is_none()
         && has_other(table, choice, default)
 }

@@ -178,7 +178,7 @@ module _ (known : SymId → SymbolValue) (kind : SymbolType) (numbers : (t : Lis
       let high = number_or_zero kind (text known r.what.high) in
       let is_inside : (n : ℤ) → n ≡ low → (not (int_lt n low) && not (int_lt high n)) ≡ true =
       λ n is. ap (λ m. not (int_lt m low) && not (int_lt high m)) is
-          ∙ and_from (not (int_lt low low)) (not (int_lt high low)) (not_from_false (int_lt low low) (not_below_itself low)) room in
+      ∙ and_from (not (int_lt low low)) (not (int_lt high low)) (not_from_false (int_lt low low) (not_below_itself low)) room in
       record {
         one = two.one;
         other = two.other;

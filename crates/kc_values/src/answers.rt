@@ -35,8 +35,8 @@ fn has_room(range: Option<Interval>) -> bool
     }
 }
 
-// Whether the symbol is visible.
-fn is_visible(table: &Table<'_>, symbol: &Symbol) -> bool
+/// Whether a symbol is visible: a prompt of it has a condition that is not n (kconfiglib's `visibility`).
+pub fn is_visible(table: &Table<'_>, symbol: &Symbol) -> bool
     ensures { result ≡ spec.is_visible table.now symbol.now }
 {
     !is_n(visibility(table, symbol))

@@ -26,8 +26,14 @@ enum Role {
 fn role_of(option: &str) -> Role {
     match option {
         "--root" | "--prefix" => Role::Kept,
-        "--config" | "--out" | "--header" | "--savedefconfig" | "--list-new" | "--list-gone"
-        | "--depfile" | "--fragment" => Role::Dropped,
+        "--config"
+        | "--out"
+        | "--header"
+        | "--savedefconfig"
+        | "--list-new"
+        | "--list-gone"
+        | "--depfile"
+        | "--fragment" => Role::Dropped,
         _ if option.starts_with("--root=") || option.starts_with("--prefix=") => Role::Whole,
         _ => Role::Flag,
     }
