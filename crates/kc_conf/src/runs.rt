@@ -200,7 +200,11 @@ fn finish_long<D: Device>(
 // ---- the run
 
 // What the user gave before the first input file: nothing.
-fn fresh_input<'a>(alloc: Global, options: &Options, tree: &Tree) -> Result<UserInput<'a>, AllocError>
+fn fresh_input<'a>(
+    alloc: Global,
+    options: &Options,
+    tree: &Tree,
+) -> Result<UserInput<'a>, AllocError>
     ensures { IfOk result (λ input. input ≡ fresh_input options.now tree.now) }
 {
     let mut input = UserInput::new(alloc, tree, options.warn_lost)?;

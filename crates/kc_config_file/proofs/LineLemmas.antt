@@ -69,11 +69,11 @@ all_by_effect input Silent = is_and_true input.all_taken
 all_by_effect input (Warns line_warning) = is_and_false input.all_taken
 all_by_effect input (Assigns s given) = refl
 
-by_parts : (tree : TreeFacts) (input : UserInput) (at : StreamLocation) (gone : Option (List ℕ × List ℕ)) (e : Effect) →
-    record { places = places_by tree input.places e; lines = lines_by input.lines at e; all_taken = all_by input e; gone = gone } ≡ record (input_by tree input at e) { gone = gone }
-by_parts tree input at gone Silent = refl
-by_parts tree input at gone (Warns line_warning) = refl
-by_parts tree input at gone (Assigns s given) = refl
+by_parts : (tree : TreeFacts) (input : UserInput) (at : StreamLocation) (told : Option (List ℕ × List ℕ)) (e : Effect) →
+    record { places = places_by tree input.places e; lines = lines_by input.lines at e; all_taken = all_by input e; gone = told } ≡ record (input_by tree input at e) { gone = told }
+by_parts tree input at told Silent = refl
+by_parts tree input at told (Warns line_warning) = refl
+by_parts tree input at told (Assigns s given) = refl
 
 -- one gone line
 one_gone : (text : List ℕ) (gone on : Bool) (old : Option (List ℕ × List ℕ)) →

@@ -37,9 +37,7 @@ fn add_said_line(
 {
     let prefix = prefix.as_bytes();
     match line {
-        ConfigFileLine::Unset(name) => {
-            add_parts(&[b"# ", prefix, name, b" is not set\n"], text)
-        }
+        ConfigFileLine::Unset(name) => { add_parts(&[b"# ", prefix, name, b" is not set\n"], text) }
         ConfigFileLine::Set(name, value) => add_parts(&[prefix, name, b"=", value, b"\n"], text),
         ConfigFileLine::Nothing | ConfigFileLine::Malformed => Ok(()),
     }

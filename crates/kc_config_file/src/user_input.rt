@@ -120,7 +120,9 @@ impl<'a> UserInput<'a> {
         is_gone: bool,
     ) -> Result<(), AllocError>
         ensures noted { OnOk result (self.new ≡ record self.old {
-            all_taken = false; gone = if is_gone then option_map (with_line prefix.now (meaning_view line.entry)) self.old.gone else self.old.gone }) }
+          all_taken = false;
+          gone = if is_gone then option_map (with_line prefix.now (meaning_view line.entry)) self.old.gone else self.old.gone;
+        }) }
         ensures nothing { OnErr result (self.new ≡ self.old) }
     {
         if is_gone {
