@@ -3,7 +3,7 @@
 
 - Each example of a diagnostic in docs/formats.md is run. The program must print the line of the page.
 - The session in README.md is run in a copy of the example (crates/kconf_firmware/data), and must print the same.
-- The dependency file and the list of new symbols of docs/formats.md must be those that the program writes.
+- The dependency file and the two lists of docs/formats.md must be those that the program writes.
 - The makefiles of docs/make.md are run over the example, the first one with each of its two rules.
 - The version must be the same in the program, the man pages and the changelog.
 - Each option of the help must stand in README.md, the man page and both completions.
@@ -121,9 +121,13 @@ def shown_file(kconf, section, *words):
 
 
 def rule(kconf):
-    """Complaints about the dependency file that docs/formats.md shows, and about its list of new symbols."""
-    listed = "--config", "start.config", "--out", ".config", "--list-new", "new.config"
-    return shown_file(kconf, "## The dependency file", "--depfile", ".config.d") + shown_file(kconf, "### The list of new symbols", *listed)
+    """Complaints about the dependency file that docs/formats.md shows, and about its lists of new symbols and of gone lines."""
+    old = "--config", "start.config", "--out", ".config"
+    return (
+        shown_file(kconf, "## The dependency file", "--depfile", ".config.d")
+        + shown_file(kconf, "### The list of new symbols", *old, "--list-new", "new.config")
+        + shown_file(kconf, "### The list of gone lines", *old, "--list-gone", "gone.config")
+    )
 
 
 def makefiles():

@@ -22,7 +22,7 @@ import tempfile
 
 HERE = pathlib.Path(__file__).resolve().parent
 KCONF = os.path.realpath(os.environ.get("KCONF", HERE / "../crates/kconf/out/kconf"))
-OUTPUTS = {"--out": "full", "--header": "header", "--savedefconfig": "minimal"}
+OUTPUTS = {"--out": "full", "--header": "header", "--savedefconfig": "minimal", "--list-new": "new", "--list-gone": "gone"}
 
 
 def run(folder, *words):

@@ -5,7 +5,7 @@ _kconf_tree() {
         --root)
             COMPREPLY=($(compgen -d -- "$word"))
             return ;;
-        --config | --out | --header | --savedefconfig | --list-new | --depfile | --fragment | --missing-ok)
+        --config | --out | --header | --savedefconfig | --list-new | --list-gone | --depfile | --fragment | --missing-ok)
             COMPREPLY=($(compgen -f -- "$word"))
             return ;;
         --prefix)
@@ -14,7 +14,7 @@ _kconf_tree() {
     esac
     if [[ $word == -* ]]; then
         COMPREPLY=($(compgen -W \
-            '--relative-source --missing-ok --root --config --out --header --savedefconfig --list-new --depfile --prefix --must-exist --strict --strict-tree --warn-lost --replace --check --fragment --help --version' -- "$word"))
+            '--relative-source --missing-ok --root --config --out --header --savedefconfig --list-new --list-gone --depfile --prefix --must-exist --strict --strict-tree --warn-lost --replace --check --fragment --help --version' -- "$word"))
     else
         COMPREPLY=($(compgen -f -- "$word"))
     fi

@@ -5,7 +5,7 @@ _kconf() {
         --root)
             COMPREPLY=($(compgen -d -- "$word"))
             return ;;
-        --config | --out | --header | --savedefconfig | --list-new | --depfile | --each-from | --fragment)
+        --config | --out | --header | --savedefconfig | --list-new | --list-gone | --depfile | --each-from | --fragment)
             COMPREPLY=($(compgen -f -- "$word"))
             return ;;
         --prefix)
@@ -14,7 +14,7 @@ _kconf() {
     esac
     if [[ $word == -* ]]; then
         COMPREPLY=($(compgen -W \
-            '--root --config --out --header --savedefconfig --list-new --depfile --prefix --must-exist --strict --strict-tree --warn-lost --replace --check --each --each-from --fragment --help --version' -- "$word"))
+            '--root --config --out --header --savedefconfig --list-new --list-gone --depfile --prefix --must-exist --strict --strict-tree --warn-lost --replace --check --each --each-from --fragment --help --version' -- "$word"))
     else
         COMPREPLY=($(compgen -f -- "$word"))
     fi

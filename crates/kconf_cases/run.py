@@ -20,12 +20,14 @@ import sys
 import tempfile
 
 DATA = os.path.join(os.path.dirname(os.path.abspath(__file__)), "data")
-OUTPUTS = (".config", "autoconf.h", "defconfig", "new.config", "configured.d")
+OUTPUTS = (".config", "autoconf.h", "defconfig", "new.config", "gone.config", "configured.d")
 NO_FILES = ("status", "diagnostics", "output", "again")
 # The options for a conf, and the version of Linux that each is for.
 CONFS = {"--conf": "7.2", "--conf-6.1": "6.1"}
 # Options of kconf with a value.
-VALUED = ("--config", "--out", "--header", "--savedefconfig", "--list-new", "--depfile", "--prefix", "--root")
+VALUED = (
+    "--config", "--out", "--header", "--savedefconfig", "--list-new", "--list-gone", "--depfile", "--prefix", "--root"
+)
 
 
 def read(path):

@@ -28,7 +28,7 @@ use Rattle.kc_config_file.specs.ReadingLaws.{LinesGiveInTurn, LinesInTurn}
 use Rattle.kc_conf.specs.Laws.{HoldsLine, IsAccountedFor, IsSetAgain, NothingIsLost, RefusesNothing, WrittenAreWhole}
 use Rattle.kc_conf.specs.PartsOfLaws.{IsKeptOrWarned, LeavesAlone}
 use Rattle.kc_language.specs.Outcome.{Options, lead, Outcome, lines_text, lost_warnings, names_of, reported, read_of, root_file, streams, warned_files, with_rule}
-use Rattle.kc_conf.specs.PartsOfOutcome.{fresh_input}
+use Rattle.kc_language.specs.Outcome.{fresh_input}
 use Rattle.kc_conf.specs.Faults.{AreLines}
 use Rattle.kc_conf.proofs.OutcomeLemmas.{text_if_is}
 use Rattle.kc_conf.proofs.PartLemmas.{AreLines-append, AreLines-nothing, AreLines-reading, AreLines-warning_if, AreLines-warnings}

@@ -3,7 +3,8 @@ use Rattle.std.proofs.Common.{◌≡◌, ℕ, map, Bool, true, false, List, [], 
 use Rattle.std.specs.Prelude.{decimal, if◌then◌else◌, ◌&&◌}
 use Rattle.kc_language.specs.Statements.{cause_text}
 use Rattle.kc_language.specs.Outcome.{Options, run_error_text, lead, first_line, refusal_line, IsLenientOutcome, IsOutcomeOfReading, Outcome, accepted_tree, has_text, is_done, lines_text, long_line, lost_warnings, names_of, reported, read_of, refused, refused_name, refused_tree, streams, strictly, whole, refused_if, warned_files, refuses_input}
-use Rattle.kc_conf.specs.PartsOfOutcome.{error_if_at, too_long_line, unreadable_line, fresh_input}
+use Rattle.kc_conf.specs.PartsOfOutcome.{error_if_at, too_long_line, unreadable_line}
+use Rattle.kc_language.specs.Outcome.{fresh_input}
 use Rattle.kc_conf.specs.Faults.{AreLines}
 use Rattle.kc_conf.specs.PartsOfOutcome.{strict_line, depfile_text, outcome_of}
 use Rattle.kc_conf.specs.Laws.{DiagnosticsAreLines}

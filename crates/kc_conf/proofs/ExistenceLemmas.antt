@@ -95,7 +95,7 @@ module _ (opens : OpenedAreOneList) (formed : TreesAreWellFormed) (leaves : Stre
       (stopped : Option StreamLocation) → (read_of options tree all).stopped ≡ stopped → (rest : Outcome) × IsOutcomeOfReading options tree (read_of options tree all) rest
   of_stop files options all tree accepted (Some stop) is = (reported (read_of options tree all).warned (refused (too_long_line stop)), long_line stop is refl)
   of_stop files options all tree accepted None is =
-      let held : ArePlaces tree (read_of options tree all).input.places = leaves tree options.prefix options.warn_lost (streams (names_of options) all) (formed files (root_file options) tree accepted.built) in
+      let held : ArePlaces tree (read_of options tree all).input.places = leaves tree options.prefix options.warn_lost (fresh_input options tree).gone (streams (names_of options) all) (formed files (root_file options) tree accepted.built) in
       let (solution, for) = solved tree (read_of options tree all).input.places accepted.accepted held.there in
       (reported (read_of options tree all).warned (outcome_of options tree (read_of options tree all).input solution), whole solution is for refl)
 

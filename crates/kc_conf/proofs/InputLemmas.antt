@@ -17,7 +17,7 @@ use Rattle.kc_config_file.specs.ReaderState.{ReaderState}
 use Rattle.kc_config_file.specs.Reading.{with_warnings}
 use Rattle.kc_language.specs.Outcome.{Options, input_files, lead, names_of, streams}
 use Rattle.kc_options.specs.PartsOfOutcome.{holds_warnings}
-use Rattle.kc_conf.specs.PartsOfOutcome.{fresh_input}
+use Rattle.kc_language.specs.Outcome.{fresh_input}
 use Rattle.kc_conf.specs.Faults.{AreLines}
 use Rattle.kc_options.specs.Asked.{may_at}
 use Rattle.kc_conf.specs.Faults.{warned_by, event_of}

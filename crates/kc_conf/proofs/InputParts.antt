@@ -11,7 +11,8 @@ use Rattle.kc_language.specs.ConfigFile.{ReadResult, StreamLocation, UserInput, 
 use Rattle.kc_language.specs.Text.{BeginsWith}
 use Rattle.kc_language.specs.Outcome.{Options, lead, names_of, IsAcceptedTree, IsOutcomeOfReading, Outcome, has_text, lines_text, lost_warnings, names_listed, reported, read_of, refused, root_file, streams, unreadable_name}
 use Rattle.kc_options.specs.PartsOfOutcome.{holds_warnings}
-use Rattle.kc_conf.specs.PartsOfOutcome.{too_long_line, fresh_input}
+use Rattle.kc_conf.specs.PartsOfOutcome.{too_long_line}
+use Rattle.kc_language.specs.Outcome.{fresh_input}
 use Rattle.kc_conf.specs.Faults.{AreLines}
 use Rattle.kc_conf.specs.PartsOfOutcome.{outcome_of}
 use Rattle.kc_conf.specs.LawSteps.{OneAnswer}
@@ -183,9 +184,9 @@ module _ (law : OneAnswer) (outcomes : ExactlyOneOutcome) (files : Files) (optio
       let values = value_lines options after c.solution in
       let rest : Outcome = reported r.warned (outcome_of options tree after c.solution) in
       let text-is : text ≡ (if waiting.holds then r.warned else []) ++ values = c.adds ∙ ap (λ l. l ++ values) r.waits in
-      let given-is : given ≡ (if refuses options after c.solution before_it text then None else Some (texts_of options (ruled_files options tree c.solution (names_listed options opened)))) =
-      c.texts_are ∙ ap (λ b. if refuses options after c.solution b text then None else Some (texts_of options (ruled_files options tree c.solution names))) told
-      ∙ ap (λ (n : Option (List (List ℕ))). if refuses options after c.solution before_it text then None else Some (texts_of options (ruled_files options tree c.solution n))) listed in
+      let given-is : given ≡ (if refuses options after c.solution before_it text then None else Some (texts_of options (ruled_files options tree after c.solution (names_listed options opened)))) =
+      c.texts_are ∙ ap (λ b. if refuses options after c.solution b text then None else Some (texts_of options (ruled_files options tree after c.solution names))) told
+      ∙ ap (λ (n : Option (List (List ℕ))). if refuses options after c.solution before_it text then None else Some (texts_of options (ruled_files options tree after c.solution n))) listed in
       let has = part-has options tree opened after r.warned c.solution before_it text (λ on. text-is ∙ ap (λ l. l ++ values) (waits-held waiting.holds r.warned (holds ∙ strict-holds options on))) in
       ended-part r.inputs None after r.warned waiting.holds text r.events rest result old mid new are_inputs there e r.reads_to
       (rest-whole options tree (read_of options tree (bytes_of r.inputs)) after r.warned c.solution e c.solution_is)

@@ -31,9 +31,9 @@ text_at-none None = refl
 text_at-none (Some name) = refl
 
 pub texts-none : (options : Options) →
-    text_at options.out None ++ text_at options.header None ++ text_at options.minimal None ++ text_at options.list_new None ++ text_at options.depfile None ≡ []
+    text_at options.out None ++ text_at options.header None ++ text_at options.minimal None ++ text_at options.list_new None ++ text_at options.list_gone None ++ text_at options.depfile None ≡ []
 texts-none options =
-    rw (text_at-none options.out, text_at-none options.header, text_at-none options.minimal, text_at-none options.list_new, text_at-none options.depfile) refl
+    rw (text_at-none options.out, text_at-none options.header, text_at-none options.minimal, text_at-none options.list_new, text_at-none options.list_gone, text_at-none options.depfile) refl
 
 -- ---- the part of a run
 
@@ -104,7 +104,7 @@ module _ (options : Options) (tree : TreeFacts) (opened : List (List ℕ)) (inpu
   made refused_too = reported warned (refused_if options refused_too (warned_files options tree input solution))
 
   abbrev given_by : Bool → Option (List NamedText)
-  given_by b = if b then None else Some (texts_of options (ruled_files options tree solution (names_listed options opened)))
+  given_by b = if b then None else Some (texts_of options (ruled_files options tree input solution (names_listed options opened)))
 
   -- the part has this line, these texts and this status
   abbrev Has : Outcome → Option (List NamedText) → Type 0

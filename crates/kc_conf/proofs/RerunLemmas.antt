@@ -14,7 +14,8 @@ use Rattle.kc_language.specs.Texts.{Solution, value_of, HasShortLines, IsOneSolu
 use Rattle.kc_config_file.specs.WrittenLaws.{ConfigIsIdempotent, ConfigIsOfValues, IsSolutionOf, MinimalHasNothingToSpare, MinimalRestores, WrittenTextsAreShort}
 use Rattle.kc_config_file.specs.Streams.{StreamsLeavePlaces}
 use Rattle.kc_language.specs.Outcome.{Options, lead, IsAcceptedTree, IsLenientOutcome, IsOutcomeOfReading, IsRefusedTree, IsSolutionFor, Outcome, accepted_tree, lines_text, long_line, names_of, reported, read_of, refused_name, refused_tree, root_file, streams, strictly, unreadable_name, whole, with_rule, refused_if, warned_files, refuses_input}
-use Rattle.kc_conf.specs.PartsOfOutcome.{text_if, fresh_input, is_taken}
+use Rattle.kc_conf.specs.PartsOfOutcome.{text_if, is_taken}
+use Rattle.kc_language.specs.Outcome.{fresh_input}
 use Rattle.kc_conf.specs.LawSteps.{OneAnswer}
 use Rattle.kc_conf.proofs.OutcomeLemmas.{strictly-config, strictly-minimal, strictly-off, config_kept, minimal_kept, rule-config, rule-minimal, text_if-same, text_if_is}
 use Rattle.kc_conf.specs.Laws.{AreAlone, OutcomesAreReadAgain, RefusesNothing, MinimalIsRunAgain, TextsAreReadAgain, WrittenAreWhole}
@@ -70,7 +71,7 @@ module _ (formed : TreesAreWellFormed) (leaves : StreamsLeavePlaces) (files : Fi
   pub whole_solution : IsSolutionOf tree solution.places (value_of solution)
   whole_solution =
       let well = formed files (root_file options) tree is.accepted.built in
-      let held : ArePlaces tree read_places = leaves tree options.prefix options.warn_lost (streams (names_of options) all) well in
+      let held : ArePlaces tree read_places = leaves tree options.prefix options.warn_lost (fresh_input options tree).gone (streams (names_of options) all) well in
       record {
         formed = well;
         accepted = is.accepted.accepted;

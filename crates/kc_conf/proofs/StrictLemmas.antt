@@ -17,7 +17,8 @@ use Rattle.kc_language.specs.Texts.{Solution, known, value_warnings, solution_vi
 use Rattle.kc_config_file.specs.ReadingLaws.{LinesGiveInTurn, LinesInTurn}
 use Rattle.kc_conf.proofs.OutcomeLemmas.{text_if_is}
 use Rattle.kc_language.specs.Outcome.{Options, Outcome, names_of, read_of, root_file, streams, is_outside, lost_warnings, refuses_input}
-use Rattle.kc_conf.specs.PartsOfOutcome.{fresh_input, is_taken}
+use Rattle.kc_conf.specs.PartsOfOutcome.{is_taken}
+use Rattle.kc_language.specs.Outcome.{fresh_input}
 use Rattle.kc_conf.specs.Laws.{RefusesNothing, WrittenAreWhole, IsTakenAsWritten, StrictTakesAll}
 use Rattle.kc_conf.proofs.AccountedLemmas.{given_is, some_prompts, input_is, lost_if, line_in, no_line, number_of, places_are, same_symbol, value_in}
 

@@ -8,9 +8,9 @@ use Rattle.kc_language.specs.Outcome.{Options, rule_text, lead, target, IsSoluti
 use Rattle.kc_conf.specs.PartsOfOutcome.{files_of}
 use Rattle.kc_io.specs.Delivery.{texts_of}
 
--- the files of a solution, with a dependency file that lists these names
-abbrev pub ruled_files : Options → TreeFacts → Solution → Option (List (List ℕ)) → Outcome
-ruled_files options tree solution names = record (files_of options tree solution) { depfile = option_map (rule_text (target options)) names }
+-- the files of a solution for the user's input, with a dependency file that lists these names
+abbrev pub ruled_files : Options → TreeFacts → UserInput → Solution → Option (List (List ℕ)) → Outcome
+ruled_files options tree input solution names = record (files_of options tree input solution) { depfile = option_map (rule_text (target options)) names }
 
 -- what the values are warned of, and which are lost
 abbrev pub value_lines : Options → UserInput → Solution → List ℕ
@@ -25,4 +25,4 @@ pub record Computes (options : Options) (tree : TreeFacts) (names : Option (List
   pub solution : Solution
   pub solution_is : IsSolutionFor tree input.places solution
   pub adds : new ≡ old ++ value_lines options input solution
-  pub texts_are : texts ≡ (if refuses options input solution before new then None else Some (texts_of options (ruled_files options tree solution names)))
+  pub texts_are : texts ≡ (if refuses options input solution before new then None else Some (texts_of options (ruled_files options tree input solution names)))

@@ -94,7 +94,7 @@ abbrev pub name_if : Option (String Global) → List (List ℕ)
 name_if file = elim file [ None ↦ [] | Some name ↦ string_bytes name ∷ [] ]
 
 abbrev pub output_files : Options → List (List ℕ)
-output_files options = name_if options.out ++ (name_if options.header ++ (name_if options.minimal ++ (name_if options.list_new ++ name_if options.depfile)))
+output_files options = name_if options.out ++ (name_if options.header ++ (name_if options.minimal ++ (name_if options.list_new ++ (name_if options.list_gone ++ name_if options.depfile))))
 
 abbrev pub written_files : Options → List (List ℕ)
 written_files options = elim options.delivery [ Delivery.Check ↦ [] | _ ↦ output_files options ]

@@ -1,7 +1,8 @@
 -- For proofs: Parts of the definitions of Outcome, by names of their own.
+use Rattle.std.specs.Option.{option_map_or}
 use Rattle.std.specs.List.{list_any}
 use Rattle.std.specs.Prelude.{Bool, List, None, Option, Some, [], option_map, ℕ, ◌&&◌, ◌++◌, ◌==◌, ◌≡◌, length, not}
-use Rattle.kc_language.specs.ConfigFile.{StreamLocation, UserInput, no_input}
+use Rattle.kc_language.specs.ConfigFile.{StreamLocation, UserInput}
 use Rattle.kc_language.specs.Expansion.{AreOpened, Files}
 use Rattle.kc_language.specs.Outcome.{IsAcceptedTree, IsOutcomeOfReading, Options, Outcome, first_line, is_outside, lines_text, lost_warnings, names_listed, read_of, refused_if, refuses_input, reported, root_file, rule_text, run_error_text, target, unreadable_name, warned_files}
 use Rattle.kc_language.specs.Statements.{error_at, error_line}
@@ -32,10 +33,6 @@ abbrev pub error_if_at : Option (List ℕ × ℕ) → List ℕ → List ℕ
 error_if_at location text = elim location [ None ↦ error_line text | Some place ↦ error_at place.0 place.1 text ]
 
 -- ---- What reading and solving give
--- the user's input before any file is read
-abbrev pub fresh_input : Options → TreeFacts → UserInput
-fresh_input options tree = no_input options.warn_lost tree
-
 -- The user's lines were all taken as written: none was warned of (K7 to K9) or changed what another gave, no user value that counts lies outside
 -- its range, and none is reported as lost.
 abbrev pub is_taken : Options → UserInput → Solution → Bool
@@ -46,13 +43,14 @@ is_taken options input solution =
 abbrev pub text_if : {T : Type 0} → Option T → List ℕ → Option (List ℕ)
 text_if name text = option_map (λ file. text) name
 
--- the files of a solution
-abbrev pub files_of : Options → TreeFacts → Solution → Outcome
-files_of options tree solution = record {
+-- the files of a solution for the user's input
+abbrev pub files_of : Options → TreeFacts → UserInput → Solution → Outcome
+files_of options tree input solution = record {
   config = text_if options.out (config_text tree options.prefix (solution_view solution));
   header = text_if options.header (header_text tree options.prefix (solution_view solution));
   minimal = text_if options.minimal (minimal_text tree options.prefix (solution_view solution));
   list_new = text_if options.list_new (new_text tree options.prefix (solution_view solution));
+  list_gone = text_if options.list_gone (option_map_or (λ told. told.0 ++ told.1) input.gone []);
   depfile = None;
   warned = [];
   refusal = [];

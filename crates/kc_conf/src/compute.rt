@@ -1,6 +1,7 @@
 //! What a run is to leave: its warnings and texts, whole in memory.
 ghost use Rattle.std.specs.Prelude.{◌≡◌, ◌++◌, ◌||◌, ◌&&◌, [], ◌∷◌, map, IfOk, OnOk, option_map};
 ghost use Rattle.std.specs.List.{flat_map, list_any};
+ghost use Rattle.std.specs.Option.{option_map_or};
 ghost use Rattle.kc_diagnostics.specs.Warnings.{owned_warning};
 ghost use Rattle.kc_language.specs.Symbols.{warning_line};
 ghost use Rattle.kc_language.specs.ConfigFile.{ArePlacesOf};
@@ -275,6 +276,27 @@ fn add_new<'o>(
     Ok(())
 }
 
+// Adds that of the list of the input lines that named no symbol, where it is wanted.
+fn add_gone<'o>(
+    alloc: Global,
+    options: &'o Options,
+    input: &UserInput<'_>,
+    texts: &mut Vec<Text<'o>>,
+) -> Result<(), AllocError>
+    ensures { OnOk result (map text_view texts.new.items ≡ map text_view texts.old.items
+        ++ text_at options.now.list_gone (text_if options.now.list_gone (option_map_or (λ told. told.0 ++ told.1) input.now.gone []))) }
+{
+    let Some(name) = &options.list_gone else {
+        return Ok(());
+    };
+    let bytes = input.gone_text(alloc)?;
+    texts.push(Text {
+        name: name.as_str(),
+        bytes,
+    })?;
+    Ok(())
+}
+
 // Adds that of the dependency file that lists these names, where it is wanted.
 fn add_rule<'o>(
     alloc: Global,
@@ -299,20 +321,22 @@ fn add_rule<'o>(
     Ok(())
 }
 
-// The texts of a solution, in the order in which they are delivered.
+// The texts of a solution for the user's input, in the order in which they are delivered.
 fn texts_of<'o>(
     alloc: Global,
     options: &'o Options,
+    input: &UserInput<'_>,
     solved: &Solved<'_>,
     names: &Option<Names>,
 ) -> Result<Vec<Text<'o>>, AllocError>
-    ensures { IfOk result (λ texts. map text_view texts.items ≡ texts_of options.now (ruled_files options.now solved.now.tree solved.now names.now)) }
+    ensures { IfOk result (λ texts. map text_view texts.items ≡ texts_of options.now (ruled_files options.now solved.now.tree input.now solved.now names.now)) }
 {
     let mut texts = Vec::new(alloc);
     add_config(alloc, options, solved, &mut texts)?;
     add_header(alloc, options, solved, &mut texts)?;
     add_minimal(alloc, options, solved, &mut texts)?;
     add_new(alloc, options, solved, &mut texts)?;
+    add_gone(alloc, options, input, &mut texts)?;
     add_rule(alloc, options, names, &mut texts)?;
     Ok(texts)
 }
@@ -341,6 +365,6 @@ pub(crate) fn compute<'o>(
     if is_refused(options, input, &solved, &lost, is_warned) {
         return Ok(None);
     }
-    let texts = texts_of(alloc, options, &solved, names)?;
+    let texts = texts_of(alloc, options, input, &solved, names)?;
     Ok(Some(texts))
 }

@@ -6,7 +6,7 @@ ghost use Rattle.kc_language.specs.ConfigFile.{ArePlacesOf};
 ghost use Rattle.kc_config_file.specs.Feeding.{stream_start};
 ghost use Rattle.kc_language.specs.Outcome.{lead, names_of};
 ghost use Rattle.kc_options.specs.PartsOfOutcome.{holds_warnings};
-ghost use Rattle.kc_conf.specs.PartsOfOutcome.{fresh_input};
+ghost use Rattle.kc_language.specs.Outcome.{fresh_input};
 ghost use Rattle.kc_conf.specs.Reads.{BreaksInputs, ReadsInputs, stop_of};
 ghost use Rattle.kc_conf.specs.ReadSteps.{BreaksEnd, BreaksFile, BreaksOpened, BreaksPiece, EndsFile, FailsAt, IsReadyToRead, Opens, ReadsFile, ReadsOpened, SaysWaiting, TakesPiece, stand};
 

@@ -1,11 +1,11 @@
 //! One run: it accepts the tree, reads the input files, computes the texts and delivers them.
-ghost use Rattle.std.specs.Prelude.{◌≡◌, ◌≢◌, ◌++◌, ℕ, List, [], map, option_map, Err};
+ghost use Rattle.std.specs.Prelude.{◌≡◌, ◌≢◌, ◌++◌, ℕ, List, [], map, option_map, Err, IfOk};
 ghost use Rattle.kc_language.specs.Expansion.{Files, bytes_in};
 ghost use Rattle.kc_read.specs.RefusalView.{refusal_view};
 ghost use Rattle.kc_language.specs.declared.diagnostics.Cause.TheVariants.{Memory};
 ghost use Rattle.kc_io.specs.Delivered.{text_view};
 ghost use Rattle.kc_conf.specs.Accepted.{IsAcceptedOf, IsReadOf, IsReady};
-ghost use Rattle.kc_language.specs.Outcome.{Options, lead, refusal_line, root_file, has_text, lines_text, names_listed, unreadable_name};
+ghost use Rattle.kc_language.specs.Outcome.{Options, fresh_input, lead, refusal_line, root_file, has_text, lines_text, names_listed, unreadable_name};
 ghost use Rattle.kc_conf.specs.PartsOfOutcome.{too_long_line, unreadable_line};
 ghost use Rattle.kc_conf.specs.Faults.{AreLines};
 ghost use Rattle.kc_conf.specs.PartsOfOutcome.{strict_line};
@@ -33,7 +33,7 @@ use kc_read::laws::opened_are_one_list;
 use kc_read::refusal::Refusal;
 use kc_solve::evaluation_order::EvaluationOrder;
 use kc_tree::tree::Tree;
-use std::alloc::Global;
+use std::alloc::{AllocError, Global};
 
 // ---- the texts
 
@@ -201,6 +201,24 @@ fn finish_long<D: Device>(
 
 // ---- the run
 
+// What the user gave before the first input file: nothing.
+fn fresh_input<'a>(
+    alloc: Global,
+    options: &Options,
+    tree: &Tree,
+) -> Result<UserInput<'a>, AllocError>
+    ensures { IfOk result (λ input. input ≡ fresh_input options.now tree.now) }
+{
+    let mut input = UserInput::new(alloc, tree, options.warn_lost)?;
+    match &options.list_gone {
+        None => Ok(input),
+        Some(_) => {
+            input.keep_gone(alloc);
+            Ok(input)
+        }
+    }
+}
+
 /// Runs for one configuration of an accepted tree, behind what was said of the tree: `is_warned` tells whether it has warnings.
 pub(crate) fn run_inputs<'o, D: Device>(
     alloc: Global,
@@ -220,7 +238,7 @@ pub(crate) fn run_inputs<'o, D: Device>(
     exactly_one_outcome();
     let tree = accepted.laid.tree;
     let streams = stream_names(alloc, options)?;
-    let mut user = UserInput::new(alloc, tree, options.warn_lost)?;
+    let mut user = fresh_input(alloc, options, tree)?;
     let mut waiting = Waiting {
         holds: holds_warnings(options),
         text: Vec::new(alloc),

@@ -1,14 +1,14 @@
 -- The laws of lines that are read one after another.
-use Rattle.std.proofs.Common.{◌≡◌, ℕ, List, [], ◌∷◌, ◌++◌, refl, ap, ◌∙◌, append-nil, Some}
+use Rattle.std.proofs.Common.{◌≡◌, ℕ, List, [], ◌∷◌, ◌++◌, refl, ap, ◌∙◌, append-nil, Option, Some}
 use Rattle.std.specs.Prelude.{slice_set}
 use Rattle.kc_language.specs.declared.expressions.SymId.{SymId}
 use Rattle.kc_language.specs.Symbols.{TreeFacts}
 use Rattle.kc_language.specs.Values.{GivenValue}
-use Rattle.kc_language.specs.ConfigFile.{Places, Effect, Silent, Warns, Assigns, Line, UserInput, effect, input_after, places_after, stream_location, untaken, untaken_line, warning, warnings}
-use Rattle.kc_config_file.specs.PartsOfConfigFile.{assignments, text_of}
-use Rattle.kc_config_file.specs.LineSteps.{input_by}
+use Rattle.kc_language.specs.ConfigFile.{Places, Effect, Silent, Warns, Assigns, Line, UserInput, effect, gone_after, input_after, meaning, places_after, stream_location, untaken, untaken_line, warning, warnings}
+use Rattle.kc_config_file.specs.PartsOfConfigFile.{assignments}
+use Rattle.kc_config_file.specs.LineSteps.{gone_by, input_by}
 use Rattle.kc_config_file.specs.ReadingLaws.{GoesLineByLine, LinesAddUp, LinesAreCut, LinesDoWhatTheySay, LinesInTurn, LinesKeepCounts}
-use Rattle.kc_config_file.proofs.LineLemmas.{input_after-line, lines_from-last, lines_from-lf}
+use Rattle.kc_config_file.proofs.LineLemmas.{gone_after-line, input_after-parts, lines_from-last, lines_from-lf}
 use Rattle.kc_config_file.proofs.PlaceLemmas.{ArePlacesOf-given, places_given-one}
 use Rattle.kc_config_file.proofs.ReadingLemmas.{input_after-append, input_after-nothing, lines_after-length, reading-nothing, reading_long, reading_within, untaken-append, untaken-cons, warnings-append, warnings-cons, warnings-nothing}
 use Rattle.kc_config_file.proofs.StreamLemmas.{waiting_no_lf}
@@ -54,9 +54,17 @@ module _ (tree : TreeFacts) (prefix : List ℕ) where
 
   -- ---- what a line does
 
-  step : (input : UserInput) (l : Line) (e : Effect) → effect tree prefix l ≡ e → input_after tree prefix input (l ∷ []) ≡ input_by tree input (stream_location l) e
+  step : (input : UserInput) (l : Line) (e : Effect) → effect tree prefix l ≡ e →
+      input_after tree prefix input (l ∷ []) ≡ record (input_by tree input (stream_location l) e) { gone = gone_after tree prefix input.gone (l ∷ []) }
   unfolding effect
-  step input l e is = input_after-line tree prefix input l (text_of l) refl ∙ ap (input_by tree input (stream_location l)) is
+  step input l e is =
+      input_after-parts tree prefix input l ∙ ap (λ x. record (input_by tree input (stream_location l) x) { gone = gone_after tree prefix input.gone (l ∷ []) }) is
+
+  silent : (input : UserInput) (l : Line) → effect tree prefix l ≡ Silent → input_after tree prefix input (l ∷ []) ≡ input
+  silent input l is =
+      let same : gone_after tree prefix input.gone (l ∷ []) ≡ input.gone =
+      gone_after-line tree prefix input.gone l ∙ ap (λ e. gone_by prefix (meaning tree prefix l) e input.gone) is in
+      step input l Silent is ∙ ap (λ (gone : Option (List ℕ × List ℕ)). record input { gone = gone }) same
 
   value : (input : UserInput) (l : Line) (s : SymId) (given : GivenValue) → effect tree prefix l ≡ Assigns s given →
       (input_after tree prefix input (l ∷ [])).places.symbols ≡ slice_set input.places.symbols s.0 (Some given)
@@ -66,7 +74,7 @@ module _ (tree : TreeFacts) (prefix : List ℕ) where
 
   says : LinesDoWhatTheySay tree prefix
   says = record {
-    silent = λ input l is. step input l Silent is;
+    silent = silent;
     warned = λ input l line_warning is. step input l (Warns line_warning) is;
     value = value;
     by_line = λ input l s given is. ap (λ (i : UserInput). i.lines) (step input l (Assigns s given) is);

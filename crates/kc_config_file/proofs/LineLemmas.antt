@@ -1,14 +1,14 @@
 -- The lines of a stream's bytes, one at a time.
-use Rattle.std.proofs.Common.{◌≡◌, ℕ, ◌≤◌, List, [], ◌∷◌, ◌++◌, Bool, true, false, length, refl, ap, ◌∙◌, inl, inr, Option, cond, arith}
-use Rattle.std.specs.Prelude.{◌&&◌, ◌==◌}
+use Rattle.std.proofs.Common.{◌≡◌, ℕ, ◌≤◌, List, [], ◌∷◌, ◌++◌, Bool, true, false, length, refl, ap, ◌∙◌, inl, inr, Option, Some, None, append-nil, cond, arith}
+use Rattle.std.specs.Prelude.{◌&&◌, ◌==◌, not, option_map}
 use Rattle.std.specs.List.{All, slice_split, onto_first, cons_option, last_or}
 use Rattle.std.proofs.lemmas.Bool.{cases_Bool, le-leb}
 use Rattle.std.proofs.lemmas.List.Splits.{slice_split_at, slice_split_none, slice_split-cons_no, slice_split-cons_yes}
 use Rattle.kc_language.specs.Lines.{is_line_feed}
 use Rattle.kc_language.specs.Symbols.{TreeFacts}
-use Rattle.kc_language.specs.ConfigFile.{Places, meaning_of, Effect, Silent, Warns, Assigns, effect_of, Line, StreamLocation, UserInput, is_within, lines_from, effect, each_from, input_after, is_taken, lines_after, places_given, stream_location, untaken, untaken_line, warning}
+use Rattle.kc_language.specs.ConfigFile.{Places, meaning_of, Effect, Silent, Warns, Assigns, effect_of, Line, StreamLocation, UserInput, is_within, lines_from, effect, meaning, said_line, each_from, gone_after, input_after, is_gone, is_on, is_taken, lines_after, places_given, stream_location, untaken, untaken_line, warning}
 use Rattle.kc_config_file.specs.PartsOfConfigFile.{line, last_line, text_of, effect_text, assignment_of, line_for}
-use Rattle.kc_config_file.specs.LineSteps.{input_by}
+use Rattle.kc_config_file.specs.LineSteps.{gone_by, input_by, input_with, with_line}
 use Rattle.kc_config_file.proofs.StepEffects.{places_by, lines_by, all_by}
 use Rattle.kc_text.specs.PartsOfText.{one_more}
 use Rattle.kc_config_file.proofs.PlaceLemmas.{each_same, one_place, places_given-nothing}
@@ -69,23 +69,48 @@ all_by_effect input Silent = is_and_true input.all_taken
 all_by_effect input (Warns line_warning) = is_and_false input.all_taken
 all_by_effect input (Assigns s given) = refl
 
-by_parts : (tree : TreeFacts) (input : UserInput) (at : StreamLocation) (e : Effect) →
-    record { places = places_by tree input.places e; lines = lines_by input.lines at e; all_taken = all_by input e } ≡ input_by tree input at e
-by_parts tree input at Silent = refl
-by_parts tree input at (Warns line_warning) = refl
-by_parts tree input at (Assigns s given) = refl
+by_parts : (tree : TreeFacts) (input : UserInput) (at : StreamLocation) (told : Option (List ℕ × List ℕ)) (e : Effect) →
+    record { places = places_by tree input.places e; lines = lines_by input.lines at e; all_taken = all_by input e; gone = told } ≡ record (input_by tree input at e) { gone = told }
+by_parts tree input at told Silent = refl
+by_parts tree input at told (Warns line_warning) = refl
+by_parts tree input at told (Assigns s given) = refl
 
-pub input_after-line : (tree : TreeFacts) (prefix : List ℕ) (input : UserInput) (l : Line) (text : List ℕ) → text ≡ text_of l →
-    input_after tree prefix input (l ∷ []) ≡ input_by tree input (stream_location l) (effect_of tree (meaning_of prefix text))
+-- one gone line
+one_gone : (text : List ℕ) (gone on : Bool) (old : Option (List ℕ × List ℕ)) →
+    option_map (λ told. (told.0 ++ (cond (gone && on) text [] ++ []), told.1 ++ (cond (gone && not on) text [] ++ []))) old
+    ≡ cond gone (option_map (λ told. cond on (told.0 ++ text, told.1) (told.0, told.1 ++ text)) old) old
+one_gone text true on None = refl
+one_gone text false on None = refl
+one_gone text true true (Some told) = λ i. Some (told.0 ++ append-nil text i, append-nil told.1 i)
+one_gone text true false (Some told) = λ i. Some (append-nil told.0 i, told.1 ++ append-nil text i)
+one_gone text false on (Some told) = λ i. Some (append-nil told.0 i, append-nil told.1 i)
+
+pub gone_after-line : (tree : TreeFacts) (prefix : List ℕ) (old : Option (List ℕ × List ℕ)) (l : Line) →
+    gone_after tree prefix old (l ∷ []) ≡ gone_by prefix (meaning tree prefix l) (effect tree prefix l) old
+unfolding gone_after
+gone_after-line tree prefix old l = one_gone (said_line prefix (meaning tree prefix l)) (is_gone (effect tree prefix l)) (is_on (meaning tree prefix l)) old
+
+pub input_after-parts : (tree : TreeFacts) (prefix : List ℕ) (input : UserInput) (l : Line) →
+    input_after tree prefix input (l ∷ [])
+    ≡ record (input_by tree input (stream_location l) (effect_of tree (meaning_of prefix (text_of l)))) { gone = gone_after tree prefix input.gone (l ∷ []) }
 unfolding effect lines_after untaken_line untaken
-input_after-line tree prefix input l text is =
+input_after-parts tree prefix input l =
     let e = effect_of tree (meaning_of prefix (text_of l)) in
     let nothing : places_given tree input.places [] ≡ input.places = places_given-nothing tree input.places in
     let none : (length (cond (is_taken (places_given tree input.places []) e) [] (l ∷ []) ++ []) == 0) ≡ is_taken input.places e =
     none_untaken l (is_taken (places_given tree input.places []) e) ∙ ap (λ (p : Places). is_taken p e) nothing in
     let all : (input.all_taken && (length (cond (is_taken (places_given tree input.places []) e) [] (l ∷ []) ++ []) == 0)) ≡ all_by input e =
     ap (λ b. input.all_taken && b) none ∙ all_by_effect input e in
-    rw is (rw (after_effect tree input.places e, lines_by_effect (stream_location l) input.lines e, all) (by_parts tree input (stream_location l) e))
+    rw (after_effect tree input.places e, lines_by_effect (stream_location l) input.lines e, all)
+    (by_parts tree input (stream_location l) (gone_after tree prefix input.gone (l ∷ [])) e)
+
+pub input_after-line : (tree : TreeFacts) (prefix : List ℕ) (input : UserInput) (l : Line) (text : List ℕ) → text ≡ text_of l →
+    input_after tree prefix input (l ∷ []) ≡ input_with tree prefix input (stream_location l) (meaning_of prefix text)
+unfolding effect
+input_after-line tree prefix input l text is =
+    rw is (input_after-parts tree prefix input l
+    ∙ ap (λ (gone : Option (List ℕ × List ℕ)). record (input_by tree input (stream_location l) (effect_of tree (meaning_of prefix (text_of l)))) { gone = gone })
+    (gone_after-line tree prefix input.gone l))
 
 pub warning-line : (tree : TreeFacts) (prefix : List ℕ) (input : UserInput) (l : Line) (text : List ℕ) → text ≡ text_of l →
     warning tree prefix input l ≡ effect_text tree input (stream_location l) (effect_of tree (meaning_of prefix text))

@@ -1,12 +1,13 @@
 -- Reading line by line.
-use Rattle.std.proofs.Common.{◌≡◌, ℕ, List, [], ◌∷◌, ◌++◌, Bool, true, false, not, length, refl, sym, ap, ◌∙◌, Option, Some, None, append_assoc}
+use Rattle.std.proofs.Common.{◌≡◌, ℕ, List, [], ◌∷◌, ◌++◌, Bool, true, false, not, length, refl, sym, ap, ◌∙◌, Option, Some, None, append-nil, append_assoc}
 use Rattle.std.specs.Prelude.{◌&&◌, ◌==◌, find, option_map}
 use Rattle.std.specs.List.{filter_map, last_or}
 use Rattle.std.proofs.Math.Dec.{eqb-suc-zero}
 use Rattle.std.proofs.lemmas.List.Elements.{filter_map-append}
+use Rattle.std.proofs.lemmas.List.Concat.{flat_map-append}
 use Rattle.std.proofs.lemmas.List.Sums.{take_while-cons}
 use Rattle.kc_language.specs.Symbols.{TreeFacts}
-use Rattle.kc_language.specs.ConfigFile.{Places, Line, StreamLocation, UserInput, ReadResult, stream_location, is_within, effect, input_after, lines_after, places_after, untaken, untaken_line, warning, warnings, reading}
+use Rattle.kc_language.specs.ConfigFile.{Places, Line, LineMeaning, StreamLocation, UserInput, ReadResult, stream_location, is_within, effect, gone_after, gone_text, input_after, is_on, lines_after, places_after, untaken, untaken_line, warning, warnings, reading}
 use Rattle.kc_config_file.specs.PartsOfConfigFile.{assignments, line_for, before_too_long}
 use Rattle.kc_config_file.specs.Reading.{with_warnings}
 use Rattle.kc_config_file.proofs.InTurnLemmas.{told-append, told-cons}
@@ -62,16 +63,32 @@ module _ (tree : TreeFacts) (prefix : List ℕ) where
   unfolding lines_after
   lines_after-length old lines = length-each_from (λ i last. last_or last (filter_map (λ l. line_for i (stream_location l) (effect tree prefix l)) lines)) 0 old
 
+  -- the gone lines
+  gone_after-nothing : (old : Option (List ℕ × List ℕ)) → gone_after tree prefix old [] ≡ old
+  unfolding gone_after
+  gone_after-nothing None = refl
+  gone_after-nothing (Some told) = λ i. Some (append-nil told.0 i, append-nil told.1 i)
+
+  gone_text-more : (is_kind : LineMeaning → Bool) (told : List ℕ) (a b : List Line) →
+      told ++ gone_text tree prefix is_kind (a ++ b) ≡ (told ++ gone_text tree prefix is_kind a) ++ gone_text tree prefix is_kind b
+  gone_text-more is_kind told a b =
+      ap (λ t. told ++ t) (flat_map-append _ a b) ∙ sym (append_assoc told (gone_text tree prefix is_kind a) (gone_text tree prefix is_kind b))
+
+  gone_after-append : (old : Option (List ℕ × List ℕ)) (a b : List Line) → gone_after tree prefix old (a ++ b) ≡ gone_after tree prefix (gone_after tree prefix old a) b
+  unfolding gone_after
+  gone_after-append None a b = refl
+  gone_after-append (Some told) a b = λ i. Some (gone_text-more is_on told.0 a b i, gone_text-more (λ m. not (is_on m)) told.1 a b i)
+
   -- the input that some lines leave is the input before the others
   pub input_after-append : (input : UserInput) (a b : List Line) → input_after tree prefix input (a ++ b) ≡ input_after tree prefix (input_after tree prefix input a) b
   input_after-append input a b =
       let left = untaken tree prefix input.places a in
       let right = untaken tree prefix (places_after tree prefix input.places a) b in
-      rw (places_after-append input.places a b, lines_after-append input.lines a b, untaken-append input.places a b, no_lines_left left right, and_assoc input.all_taken (length left == 0) (length right == 0)) refl
+      rw (places_after-append input.places a b, lines_after-append input.lines a b, gone_after-append input.gone a b, untaken-append input.places a b, no_lines_left left right, and_assoc input.all_taken (length left == 0) (length right == 0)) refl
 
   pub input_after-nothing : (input : UserInput) → input_after tree prefix input [] ≡ input
   input_after-nothing input =
-      rw (places_after-nothing input.places, lines_after-nothing input.lines, untaken-nothing input.places, and_true input.all_taken) refl
+      rw (places_after-nothing input.places, lines_after-nothing input.lines, gone_after-nothing input.gone, untaken-nothing input.places, and_true input.all_taken) refl
 
   -- a line's warning, and then those of the others from the input after it
   pub warnings-cons : (input : UserInput) (l : Line) (lines : List Line) →

@@ -1,8 +1,17 @@
 -- Trusted: What the fields of a user's input say.
-use Rattle.std.specs.Prelude.{map, option_map}
+use Rattle.std.specs.Prelude.{List, map, option_map, ℕ}
 use Rattle.kc_language.specs.ConfigFile.{UserInput}
 use Rattle.kc_config_file.specs.ShownView.{location_of}
+use Rattle.kc_config_file.specs.declared.gone.GoneLines.{GoneLines}
 use Rattle.kc_config_file.specs.declared.user_input.UserInput.TheInside.{Inside}
 
+abbrev pub gone_of : GoneLines → List ℕ × List ℕ
+gone_of gone = (gone.on.items, gone.off.items)
+
 abbrev pub input_of : Inside → UserInput
-input_of input = record { places = input.user; lines = map (option_map location_of) input.lines.items; all_taken = input.all_taken }
+input_of input = record {
+  places = input.user;
+  lines = map (option_map location_of) input.lines.items;
+  all_taken = input.all_taken;
+  gone = option_map gone_of input.gone;
+}

@@ -7,7 +7,7 @@ use Rattle.kc_language.specs.Lines.{is_line_feed}
 use Rattle.kc_text.specs.PartsOfLines.{HoldsNoLineFeed}
 use Rattle.kc_language.specs.Symbols.{TreeFacts, Warning}
 use Rattle.kc_language.specs.Values.{GivenValue}
-use Rattle.kc_language.specs.ConfigFile.{ArePlacesOf, Places, Silent, Warns, Assigns, Line, UserInput, effect, input_after, is_within, lines_from, places_after, reading, stream_location, untaken, untaken_line, warning, warnings}
+use Rattle.kc_language.specs.ConfigFile.{ArePlacesOf, Places, Silent, Warns, Assigns, Line, UserInput, effect, gone_after, input_after, is_within, lines_from, places_after, reading, stream_location, untaken, untaken_line, warning, warnings}
 use Rattle.kc_config_file.specs.PartsOfConfigFile.{last_line, line}
 use Rattle.kc_config_file.specs.Reading.{with_warnings}
 
@@ -53,7 +53,7 @@ module _ (tree : TreeFacts) (prefix : List ℕ) where
     pub silent : (input : UserInput) (l : Line) → effect tree prefix l ≡ Silent → input_after tree prefix input (l ∷ []) ≡ input
     pub warned :
         (input : UserInput) (l : Line) (line_warning : Warning) → effect tree prefix l ≡ Warns line_warning →
-        input_after tree prefix input (l ∷ []) ≡ record input { all_taken = false }
+        input_after tree prefix input (l ∷ []) ≡ record input { all_taken = false; gone = gone_after tree prefix input.gone (l ∷ []) }
     pub value :
         (input : UserInput) (l : Line) (s : SymId) (given : GivenValue) → effect tree prefix l ≡ Assigns s given →
         (input_after tree prefix input (l ∷ [])).places.symbols ≡ slice_set input.places.symbols s.0 (Some given)

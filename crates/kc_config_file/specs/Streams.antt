@@ -1,5 +1,5 @@
 -- Trusted: Streams that are handed to a reader in pieces of any size.
-use Rattle.std.specs.Prelude.{◌≡◌, ℕ, List, [], ◌∷◌, ◌++◌, map, Bool, None}
+use Rattle.std.specs.Prelude.{◌≡◌, ℕ, List, [], ◌∷◌, ◌++◌, map, Bool, None, Option}
 use Rattle.std.specs.List.{concat}
 use Rattle.kc_user.specs.Places.{ArePlaces}
 use Rattle.kc_language.specs.Symbols.{TreeFacts}
@@ -42,8 +42,8 @@ ReadingKeepsPlaces =
 -- What reading any streams leaves, from empty places, holds what is allowed.
 abbrev pub StreamsLeavePlaces : Type 0
 StreamsLeavePlaces =
-    (tree : TreeFacts) (prefix : List ℕ) (keeps_lines : Bool) (streams : List Stream) → IsWellFormed tree →
-    ArePlaces tree (reading_of tree prefix (no_input keeps_lines tree) streams).input.places
+    (tree : TreeFacts) (prefix : List ℕ) (keeps_lines : Bool) (gone : Option (List ℕ × List ℕ)) (streams : List Stream) → IsWellFormed tree →
+    ArePlaces tree (reading_of tree prefix (record (no_input keeps_lines tree) { gone = gone }) streams).input.places
 
 -- Places that hold what is allowed still do after a call that was refused.
 abbrev pub RefusalsKeepPlaces : Type 0

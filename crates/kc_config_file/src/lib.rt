@@ -23,6 +23,7 @@ pub mod batch;
 pub mod config;
 pub mod effect;
 pub mod fault;
+mod gone;
 pub mod header;
 pub mod laws;
 pub mod line;

@@ -1,11 +1,12 @@
 //! What one line of a stream does to the user's input.
 ghost use Rattle.std.specs.Prelude.{◌≡◌, ◌++◌, ◌<◌, true, [], ◌∷◌, length, map, slice_set, Some, None, IfOk, OnOk, OnErr, IfSome, option_map};
 ghost use Rattle.kc_user.specs.ValueView.{given_of_value};
-ghost use Rattle.kc_language.specs.ConfigFile.{change_text, is_change, meaning_of, Assigns, effect_of, warning_line, ArePlacesOf, place_at, places_given};
+ghost use Rattle.kc_language.specs.ConfigFile.{change_text, is_change, meaning_of, Assigns, Warns, effect_of, is_gone, warning_line, ArePlacesOf, place_at, places_given};
 ghost use Rattle.kc_config_file.specs.PartsOfConfigFile.{change_line};
 ghost use Rattle.kc_config_file.specs.PartsOfConfigFile.{effect_text, choice_of};
 ghost use Rattle.kc_language.specs.declared.diagnostics.Warning.TheVariants.{Changed, SetAgain};
-ghost use Rattle.kc_config_file.specs.LineSteps.{input_by, with_member};
+ghost use Rattle.kc_config_file.specs.LineSteps.{input_by, input_with, with_member};
+ghost use Rattle.kc_diagnostics.specs.Warnings.{shown_warning};
 ghost use Rattle.kc_config_file.specs.ShownView.{given_by, location_of};
 ghost use Rattle.kc_language.specs.Values.{SymbolPlace, is_yes};
 
@@ -263,6 +264,13 @@ fn warn_again(
     }
 }
 
+// Whether the warning is of a line that names no symbol.
+fn is_gone(line_warning: &Warning<&[u8]>) -> bool
+    ensures { result ≡ is_gone (Warns (shown_warning line_warning.now)) }
+{
+    matches!(line_warning, Warning::UnknownSymbol(_))
+}
+
 /// Reads one line, given without its end: tells its warning, and then changes the input. Its only error is to be out of
 /// memory; then the input is as it was, and nothing was told.
 pub(crate) fn read_line<'a>(
@@ -274,8 +282,8 @@ pub(crate) fn read_line<'a>(
     told: &mut Vec<u8>,
 ) -> Result<(), AllocError>
     requires { ArePlacesOf stream.now.tree.now user.old.places }
-    ensures places { OnOk result (user.new ≡ input_by stream.now.tree.now user.old (record { stream = stream.now.name.now; number = number })
-        (effect_of stream.now.tree.now (meaning_of stream.now.prefix.now text.now))) }
+    ensures places { OnOk result (user.new ≡ input_with stream.now.tree.now stream.now.prefix.now user.old (record { stream = stream.now.name.now; number = number })
+        (meaning_of stream.now.prefix.now text.now)) }
     ensures warned { OnOk result (told.new.items ≡ told.old.items
         ++ effect_text stream.now.tree.now user.old (record { stream = stream.now.name.now; number = number })
         (effect_of stream.now.tree.now (meaning_of stream.now.prefix.now text.now))) }
@@ -285,16 +293,18 @@ pub(crate) fn read_line<'a>(
         file: stream.name,
         number,
     };
-    match line_effect(
-        alloc,
-        stream.tree,
-        parse_config_file_line(stream.prefix.as_bytes(), text),
-    )? {
+    let line = parse_config_file_line(stream.prefix.as_bytes(), text);
+    match line_effect(alloc, stream.tree, line)? {
         Effect::Silent => Ok(()),
         Effect::Warns(line_warning) => {
+            let untold = told.len();
+            let is_gone = is_gone(&line_warning);
             warn(stream.name, number, line_warning, told)?;
-            user.leave_out();
-            Ok(())
+            let noted = user.leave_out(alloc, stream.prefix, line, is_gone);
+            if noted.is_err() {
+                told.truncate(untold);
+            }
+            noted
         }
         Effect::Assigns(id, value) => {
             let before = told.len();

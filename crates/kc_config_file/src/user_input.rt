@@ -1,8 +1,14 @@
 //! What the user's input files gave.
-ghost use Rattle.std.specs.Prelude.{◌≡◌, [], length, map, replicate, slice_index_or, false, None, IfOk, if◌then◌else◌, option_map};
+ghost use Rattle.std.specs.Prelude.{◌≡◌, ◌++◌, [], length, map, replicate, slice_index_or, false, None, Some, IfOk, OnOk, OnErr, if◌then◌else◌, option_map};
+ghost use Rattle.std.specs.Option.{option_map_or};
 ghost use Rattle.kc_language.specs.ConfigFile.{no_input};
+ghost use Rattle.kc_config_file.specs.ConfigFileLine.{meaning_view};
+ghost use Rattle.kc_config_file.specs.LineSteps.{with_line};
 ghost use Rattle.kc_config_file.specs.ShownView.{location_of};
 
+use crate::gone::{GoneLines, joined, keep_line};
+use crate::line::ConfigFileLine;
+use crate::prefix::Prefix;
 use crate::shown::InputLine;
 use kc_expr::expression::SymId;
 use kc_tree::tree::Tree;
@@ -11,12 +17,13 @@ use std::alloc::{AllocError, Global};
 use std::marker::Model;
 
 /// What the lines of a user's input files gave: the user's values; where this is wanted, for each symbol the line that gave
-/// its value last; and whether every line was taken as written. (Our own.)
+/// its value last; whether every line was taken as written; and where this is wanted, the lines that named no symbol. (Our own.)
 #[derive(Drop)]
 pub struct UserInput<'a> {
     pub(crate) user: User,
     pub(crate) lines: Vec<Option<InputLine<'a>>>,
     pub(crate) all_taken: bool,
+    pub(crate) gone: Option<GoneLines>,
 }
 
 impl<'a> Model for UserInput<'a> {
@@ -53,6 +60,7 @@ impl<'a> UserInput<'a> {
             user,
             lines,
             all_taken: true,
+            gone: None,
         })
     }
 
@@ -81,10 +89,46 @@ impl<'a> UserInput<'a> {
         self.all_taken
     }
 
-    // Notes that a line was not taken as written.
-    pub(crate) fn leave_out(&mut self)
-        ensures { self.new ≡ record self.old { all_taken = false } }
+    /// Keeps each line that names no symbol (K7) from here on, and none of those before.
+    pub fn keep_gone(&mut self, alloc: Global)
+        ensures { self.new ≡ record self.old { gone = Some ([], []) } }
     {
+        self.gone = Some(GoneLines {
+            on: Vec::new(alloc),
+            off: Vec::new(alloc),
+        });
+    }
+
+    /// The lines that named no symbol, where such lines are kept, as they were read, each with a line feed: first those that
+    /// are on, and then the others, which are unset lines or have the value n. Its only error is to be out of memory.
+    pub fn gone_text(&self, alloc: Global) -> Result<Vec<u8>, AllocError>
+        ensures { IfOk result (λ text. text.items ≡ option_map_or (λ told. told.0 ++ told.1) self.now.gone []) }
+    {
+        match &self.gone {
+            None => Ok(Vec::new(alloc)),
+            Some(gone) => joined(alloc, gone),
+        }
+    }
+
+    // Notes that a line was not taken as written, and keeps it where it named no symbol and such lines are kept. Its only error
+    // is to be out of memory, and then nothing was noted.
+    pub(crate) fn leave_out(
+        &mut self,
+        alloc: Global,
+        prefix: &Prefix,
+        line: ConfigFileLine<'_>,
+        is_gone: bool,
+    ) -> Result<(), AllocError>
+        ensures noted { OnOk result (self.new ≡ record self.old {
+          all_taken = false;
+          gone = if is_gone then option_map (with_line prefix.now (meaning_view line.entry)) self.old.gone else self.old.gone;
+        }) }
+        ensures nothing { OnErr result (self.new ≡ self.old) }
+    {
+        if is_gone {
+            keep_line(alloc, prefix, line, &mut self.gone)?;
+        }
         self.all_taken = false;
+        Ok(())
     }
 }

@@ -41,12 +41,18 @@ module _ (each : Each) (config : List ℕ) (one : Options) (are : AreOptionsFor 
   outputs : output_files one ≡ writes each config
   outputs =
       let asked = each.options in
-      ap (λ (l : List (List ℕ)). l ++ (name_if one.header ++ (name_if one.minimal ++ (name_if one.list_new ++ name_if one.depfile)))) (named config one.out asked.out are.out)
-      ∙ ap (λ (l : List (List ℕ)). pattern_if asked.out ++ (l ++ (name_if one.minimal ++ (name_if one.list_new ++ name_if one.depfile)))) (named config one.header asked.header are.header)
-      ∙ ap (λ (l : List (List ℕ)). pattern_if asked.out ++ (pattern_if asked.header ++ (l ++ (name_if one.list_new ++ name_if one.depfile)))) (named config one.minimal asked.minimal are.minimal)
-      ∙ ap (λ (l : List (List ℕ)). pattern_if asked.out ++ (pattern_if asked.header ++ (pattern_if asked.minimal ++ (l ++ name_if one.depfile))))
+      ap (λ (l : List (List ℕ)). l ++ (name_if one.header ++ (name_if one.minimal ++ (name_if one.list_new ++ (name_if one.list_gone ++ name_if one.depfile)))))
+      (named config one.out asked.out are.out)
+      ∙ ap (λ (l : List (List ℕ)). pattern_if asked.out ++ (l ++ (name_if one.minimal ++ (name_if one.list_new ++ (name_if one.list_gone ++ name_if one.depfile)))))
+      (named config one.header asked.header are.header)
+      ∙ ap (λ (l : List (List ℕ)). pattern_if asked.out ++ (pattern_if asked.header ++ (l ++ (name_if one.list_new ++ (name_if one.list_gone ++ name_if one.depfile)))))
+      (named config one.minimal asked.minimal are.minimal)
+      ∙ ap (λ (l : List (List ℕ)). pattern_if asked.out ++ (pattern_if asked.header ++ (pattern_if asked.minimal ++ (l ++ (name_if one.list_gone ++ name_if one.depfile)))))
       (named config one.list_new asked.list_new are.list_new)
-      ∙ ap (λ (l : List (List ℕ)). pattern_if asked.out ++ (pattern_if asked.header ++ (pattern_if asked.minimal ++ (pattern_if asked.list_new ++ l)))) (named config one.depfile asked.depfile are.depfile)
+      ∙ ap (λ (l : List (List ℕ)). pattern_if asked.out ++ (pattern_if asked.header ++ (pattern_if asked.minimal ++ (pattern_if asked.list_new ++ (l ++ name_if one.depfile)))))
+      (named config one.list_gone asked.list_gone are.list_gone)
+      ∙ ap (λ (l : List (List ℕ)). pattern_if asked.out ++ (pattern_if asked.header ++ (pattern_if asked.minimal ++ (pattern_if asked.list_new ++ (pattern_if asked.list_gone ++ l)))))
+      (named config one.depfile asked.depfile are.depfile)
 
   inputs : input_files one ≡ reads each config
   inputs = ap (λ (n : List ℕ). n ∷ map string_bytes one.fragments.items) are.config ∙ ap (λ (l : List (List ℕ)). config ∷ l) are.fragments

@@ -1,8 +1,8 @@
 -- Examples for the chapter ConfigFile: lines of a `.config`, the values that they give, and the warnings about them.
 use Rattle.std.proofs.Common.{◌≡◌, refl}
-use Rattle.std.specs.Prelude.{List, None, Some, [], codes, true, ℕ, ◌∷◌}
+use Rattle.std.specs.Prelude.{List, None, Some, [], codes, false, true, ℕ, ◌∷◌}
 use Rattle.std.specs.Fmt.{digits}
-use Rattle.kc_language.specs.ConfigFile.{Malformed, Nothing, ReadResult, Set, Unset, effect, lines_after, lines_from, meaning_of, no_input, places_given, reading, reading_of, untaken, untaken_line, value_by, warning, warnings}
+use Rattle.kc_language.specs.ConfigFile.{Malformed, Nothing, ReadResult, Set, Unset, effect, gone_after, lines_after, lines_from, meaning_of, no_input, places_given, reading, reading_of, untaken, untaken_line, value_by, warning, warnings}
 use Rattle.kc_language.specs.Symbols.{SymbolFacts, TreeFacts}
 use Rattle.kc_language.specs.Values.{GivenText, GivenTruth}
 use Rattle.kc_language.specs.declared.expressions.SymbolType.TheVariants.{Bool, Str}
@@ -71,3 +71,13 @@ module _ (any_tree : TreeFacts) (any_facts : SymbolFacts) where
       ≡ codes ".config:1: warning K7: unknown symbol C\n.config:2: warning K8: value not allowed for B\n.config:3: warning K9: malformed line\n"
   unfolding read_text
   warned_lines = refl
+
+  -- The lines of unknown names, if they are kept: those that are on, and then the others. B has a type, and its line is not among them.
+  gone_lines :
+      (reading_of two_bools (codes "CONFIG_") (record (no_input false two_bools) { gone = Some ([], []) }) (record {
+        name = codes ".config";
+        bytes = codes "CONFIG_C=n  \n# CONFIG_D is not set\nCONFIG_E=\"n\" \nCONFIG_B=m\n";
+      } ∷ [])).input.gone
+      ≡ Some (codes "CONFIG_E=\"n\"\n", codes "CONFIG_C=n\n# CONFIG_D is not set\n")
+  unfolding two_bools reading warnings warning untaken untaken_line lines_after gone_after places_given effect lines_from digits
+  gone_lines = refl

@@ -5,7 +5,7 @@ use Rattle.std.specs.List.{list_all}
 use Rattle.std.specs.Prelude.{List, None, Ok, Option, Some, [], codes, false, if◌then◌else◌, String, length, map, min, string_bytes, take, true, ℕ, ◌++◌, ◌-◌, ◌^◌, ◌||◌, ◌∷◌}
 use Rattle.std.specs.Fmt.{digits}
 use Rattle.std.specs.declared.alloc.Global.{Global}
-use Rattle.kc_language.specs.ConfigFile.{ReadResult, effect, lines_after, lines_from, no_input, place_at, places_given, reading, reading_of, untaken, untaken_line, warning, warnings}
+use Rattle.kc_language.specs.ConfigFile.{ReadResult, effect, gone_after, lines_after, lines_from, no_input, place_at, places_given, reading, reading_of, untaken, untaken_line, warning, warnings}
 use Rattle.kc_language.specs.Expansion.{AreOpened, Expands, FileContext, Files, Log, NextStatement, Rest, at_end, bytes_in, statement, with_file, without_help}
 use Rattle.kc_language.specs.Expressions.{Atom, Disjunction, OperandToken, QuotedAtom, Single, Symbol, Text, TextValue, Truth, WordAtom, conjunction, lone, negation, only, symbol, terminal_of}
 use Rattle.kc_language.specs.Lines.{Physical, UnreadLines, continues, joined_text, physical_lines, unread_lines}
@@ -229,14 +229,14 @@ tree_is_accepted (suc (suc (suc s))) h = absurd (omega (arith, h))
 -- Reading the `.config` gives A the value y, and one warning.
 abbrev read : ReadResult
 read = record {
-  input = record { places = record { symbols = Some (GivenTruth Y) ∷ None ∷ None ∷ []; choices = [] }; lines = []; all_taken = false };
+  input = record { places = record { symbols = Some (GivenTruth Y) ∷ None ∷ None ∷ []; choices = [] }; lines = []; all_taken = false; gone = None };
   warned = codes ".config:2: warning K7: unknown symbol D\n";
   stopped = None;
 }
 
 config_is_read :
     reading_of tree (codes "CONFIG_") (no_input false tree) (record { name = codes ".config"; bytes = old_config } ∷ []) ≡ read
-unfolding reading warnings warning untaken untaken_line lines_after places_given effect lines_from digits
+unfolding reading warnings warning untaken untaken_line lines_after gone_after places_given effect lines_from digits
 config_is_read = refl
 
 -- The values: A and B are y, and C is 7.
@@ -272,6 +272,7 @@ module _ (any : Options) (out header minimal : String Global) (root_is : string_
     header = Some header;
     minimal = Some minimal;
     list_new = None;
+    list_gone = None;
     depfile = None;
     strict = false;
     strict_tree = false;
@@ -287,6 +288,7 @@ module _ (any : Options) (out header minimal : String Global) (root_is : string_
         Some (codes "/*\n * Automatically generated file; DO NOT EDIT.\n * Main menu\n */\n#define CONFIG_A 1\n#define CONFIG_B 1\n#define CONFIG_C 7\n");
     minimal = Some (codes "CONFIG_A=y\n");
     list_new = None;
+    list_gone = None;
     depfile = None;
     warned = codes ".config:2: warning K7: unknown symbol D\n";
     refusal = [];

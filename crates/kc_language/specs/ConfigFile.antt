@@ -88,6 +88,18 @@ effect_of tree (Set called text) =
     elim (symbol_named tree called) [ None ↦ Warns (UnknownSymbol called) | Some s ↦ set_by_type called s text (type_in (facts tree s)) ]
 effect_of tree Malformed = Warns MalformedLine
 
+-- A line is gone if no symbol of the tree has its name (K7). It is on unless it is an unset line or its value is n. Last, its text with a line feed.
+abbrev pub is_gone : Effect → Bool
+is_gone e = elim e [ Warns w ↦ elim w [ UnknownSymbol called ↦ true | _ ↦ false ] | _ ↦ false ]
+
+abbrev pub is_on : LineMeaning → Bool
+is_on meaning = elim meaning [ Set called text ↦ not (bytes_eq text (codes "n")) | _ ↦ false ]
+
+abbrev pub said_line : List ℕ → LineMeaning → List ℕ
+said_line prefix (Unset called) = codes "# " ++ prefix ++ called ++ codes " is not set\n"
+said_line prefix (Set called text) = prefix ++ called ++ codes "=" ++ text ++ codes "\n"
+said_line prefix _ = []
+
 -- A line of the input file `stream`: its bytes before the line feed, and whether a line feed ends it. `is_within`: it is not too long.
 pub record Line : Type 0 where
   pub stream : List ℕ
@@ -157,16 +169,19 @@ places_given tree places given = record {
 }
 
 -- What files gave so far: values, the line that gave each last (an empty list without --warn-lost), and whether all lines were taken as written.
+-- With --list-gone also the texts of the gone lines: of those that are on, and of the others.
 pub record UserInput : Type 0 where
   pub places : Places
   pub lines : List (Option StreamLocation)
   pub all_taken : Bool
+  pub gone : Option (List ℕ × List ℕ)
 
 abbrev pub no_input : Bool → TreeFacts → UserInput
 no_input keeps_lines tree = record {
   places = record { symbols = replicate (length tree.symbols) None; choices = replicate (length tree.choices) None };
   lines = if keeps_lines then replicate (length tree.symbols) None else [];
   all_taken = true;
+  gone = None;
 }
 
 -- A line is taken as written: it causes no warning, or only K10 with the value that the symbol already has.
@@ -206,9 +221,12 @@ pub record ReadResult : Type 0 where
   pub stopped : Option StreamLocation
 
 module _ (tree : TreeFacts) (prefix : List ℕ) where
-  -- What a line does. A carriage return directly before the line feed belongs to the line's end.
+  -- What a line says and does. A carriage return directly before the line feed belongs to the line's end.
+  abbrev pub meaning : Line → LineMeaning
+  meaning l = meaning_of prefix (if l.ended then strip_carriage_return l.bytes else l.bytes)
+
   unfoldable pub effect : Line → Effect
-  effect l = effect_of tree (meaning_of prefix (if l.ended then strip_carriage_return l.bytes else l.bytes))
+  effect l = effect_of tree (meaning l)
 
   -- The values after these lines, and for each symbol the line that gave its value last.
   abbrev pub places_after : Places → List Line → Places
@@ -218,6 +236,13 @@ module _ (tree : TreeFacts) (prefix : List ℕ) where
   unfoldable pub lines_after : List (Option StreamLocation) → List Line → List (Option StreamLocation)
   lines_after old lines = each_from (λ i last. last_or last (filter_map (λ l.
       elim (effect l) [ Assigns s given ↦ if s.0 == i then Some (stream_location l) else None | _ ↦ None ]) lines)) 0 old
+
+  -- The texts of the gone lines: those of this kind, and those before and among these lines.
+  abbrev pub gone_text : (LineMeaning → Bool) → List Line → List ℕ
+  gone_text is_kind lines = flat_map (λ l. if is_gone (effect l) && is_kind (meaning l) then said_line prefix (meaning l) else []) lines
+
+  unfoldable pub gone_after : Option (List ℕ × List ℕ) → List Line → Option (List ℕ × List ℕ)
+  gone_after old lines = option_map (λ told. (told.0 ++ gone_text is_on lines, told.1 ++ gone_text (λ m. not (is_on m)) lines)) old
 
   -- The lines that are not taken as written. Each is judged with the values that the lines before it give.
   unfoldable pub untaken_line : Places → Line → List Line
@@ -232,6 +257,7 @@ module _ (tree : TreeFacts) (prefix : List ℕ) where
     places = places_after input.places lines;
     lines = lines_after input.lines lines;
     all_taken = input.all_taken && (length (untaken input.places lines) == 0);
+    gone = gone_after input.gone lines;
   }
 
   -- The diagnostics of one line and of all lines. Each is judged with the input that the lines before it give.

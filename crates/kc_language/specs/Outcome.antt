@@ -131,8 +131,11 @@ abbrev pub streams : List (List ℕ) → List (List ℕ) → List Stream
 streams (name ∷ names) (bytes ∷ all) = record { name = name; bytes = bytes } ∷ streams names all
 streams _ _ = []
 
+abbrev pub fresh_input : Options → TreeFacts → UserInput
+fresh_input options tree = record (no_input options.warn_lost tree) { gone = option_map (λ name. ([], [])) options.list_gone }
+
 abbrev pub read_of : Options → TreeFacts → List (List ℕ) → ReadResult
-read_of options tree all = reading_of tree options.prefix (no_input options.warn_lost tree) (streams (names_of options) all)
+read_of options tree all = reading_of tree options.prefix (fresh_input options tree) (streams (names_of options) all)
 
 -- the one solution of the tree's equations for these user values
 pub record IsSolutionFor (tree : TreeFacts) (places : Places) (solution : Solution) : Type 0 where
@@ -159,6 +162,7 @@ pub record Outcome : Type 0 where
   pub header : Option (List ℕ)
   pub minimal : Option (List ℕ)
   pub list_new : Option (List ℕ)
+  pub list_gone : Option (List ℕ)
   pub depfile : Option (List ℕ)
   pub warned : List ℕ
   pub refusal : List ℕ
@@ -169,7 +173,7 @@ abbrev pub reported : List ℕ → Outcome → Outcome
 reported text outcome = record outcome { warned = text ++ outcome.warned }
 
 abbrev pub refused : List ℕ → Outcome
-refused line = record { config = None; header = None; minimal = None; list_new = None; depfile = None; warned = []; refusal = line; status = Status.Refused }
+refused line = record { config = None; header = None; minimal = None; list_new = None; list_gone = None; depfile = None; warned = []; refusal = line; status = Status.Refused }
 
 abbrev pub refused_if : Options → Bool → Outcome → Outcome
 refused_if options refuses outcome =
@@ -189,6 +193,7 @@ warned_files options tree input solution = record {
   header = option_map (λ file. header_text tree options.prefix (solution_view solution)) options.header;
   minimal = option_map (λ file. minimal_text tree options.prefix (solution_view solution)) options.minimal;
   list_new = option_map (λ file. new_text tree options.prefix (solution_view solution)) options.list_new;
+  list_gone = option_map (λ file. option_map_or (λ told. told.0 ++ told.1) input.gone []) options.list_gone;
   depfile = None;
   warned = lines_text (map (λ line. lead options ++ line) (warnings solution)) ++ lines_text (lost_warnings options input solution);
   refusal = [];

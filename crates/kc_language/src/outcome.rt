@@ -28,6 +28,8 @@ pub struct Options<P> {
     pub minimal: Option<String>,
     /// The list of new symbols to write.
     pub list_new: Option<String>,
+    /// The list of the input lines that named no symbol to write.
+    pub list_gone: Option<String>,
     /// The dependency file to write.
     pub depfile: Option<String>,
     /// The files to read after the `.config`, in this order.

@@ -23,6 +23,7 @@ struct Want {
     header: Option<&'static str>,
     minimal: Option<&'static str>,
     list_new: Option<&'static str>,
+    list_gone: Option<&'static str>,
     depfile: Option<&'static str>,
     prefix: &'static [u8],
     fragments: &'static [&'static str],
@@ -38,6 +39,7 @@ const PLAIN: Want = Want {
     header: None,
     minimal: None,
     list_new: None,
+    list_gone: None,
     depfile: None,
     prefix: b"CONFIG_",
     fragments: &[],
@@ -93,6 +95,7 @@ fn are_options(alloc: Global, options: &Options, want: &Want) -> bool {
         && is_name(&options.header, want.header)
         && is_name(&options.minimal, want.minimal)
         && is_name(&options.list_new, want.list_new)
+        && is_name(&options.list_gone, want.list_gone)
         && is_name(&options.depfile, want.depfile)
         && options.prefix.as_bytes() == want.prefix
         && are_fragments(&options.fragments, want.fragments)
@@ -126,12 +129,13 @@ const OPTIONS: &[(&str, Want)] = &[
         },
     ),
     (
-        "Kconfig|--out=b|--header=h|--savedefconfig|m|--list-new=n|--depfile=d",
+        "Kconfig|--out=b|--header=h|--savedefconfig|m|--list-new=n|--list-gone=o|--depfile=d",
         Want {
             out: Some("b"),
             header: Some("h"),
             minimal: Some("m"),
             list_new: Some("n"),
+            list_gone: Some("o"),
             depfile: Some("d"),
             ..PLAIN
         },
@@ -245,13 +249,14 @@ const CONFIGURATIONS: &[(&str, WantEach)] = &[
         },
     ),
     (
-        "--each-from=l|Kconfig|a|--out|{}.full|--depfile={}.d|--list-new={}.new|--replace",
+        "--each-from=l|Kconfig|a|--out|{}.full|--depfile={}.d|--list-new={}.new|--list-gone={}.gone|--replace",
         WantEach {
             configurations: &["a"],
             list: Some("l"),
             options: Want {
                 out: Some("{}.full"),
                 list_new: Some("{}.new"),
+                list_gone: Some("{}.gone"),
                 depfile: Some("{}.d"),
                 flags: "must-exist replace names-config ",
                 ..EACH

@@ -31,7 +31,7 @@ empty_app = on_top (λ s. record s { no_binary_name = true; has_version = true }
 unfoldable pub with_options : App → App
 with_options app = fold with_rule app
     (option_rule (codes "root") ∷ option_rule (codes "config") ∷ option_rule (codes "out") ∷ option_rule (codes "header")
-    ∷ option_rule (codes "savedefconfig") ∷ option_rule (codes "list-new") ∷ option_rule (codes "depfile") ∷ option_rule (codes "prefix")
+    ∷ option_rule (codes "savedefconfig") ∷ option_rule (codes "list-new") ∷ option_rule (codes "list-gone") ∷ option_rule (codes "depfile") ∷ option_rule (codes "prefix")
     ∷ flag_rule (codes "must-exist") ∷ flag_rule (codes "strict") ∷ flag_rule (codes "strict-tree") ∷ flag_rule (codes "warn-lost")
     ∷ flag_rule (codes "replace") ∷ flag_rule (codes "check") ∷ flag_rule (codes "each")
     ∷ option_rule (codes "each-from") ∷ repeated_rule (codes "fragment") ∷ [])
@@ -74,6 +74,7 @@ pub record AreSharedOptions (rows : List Row) (options : Options) : Type 0 where
   pub header : option_map string_bytes options.header ≡ first_of (codes "header") rows
   pub minimal : option_map string_bytes options.minimal ≡ first_of (codes "savedefconfig") rows
   pub list_new : option_map string_bytes options.list_new ≡ first_of (codes "list-new") rows
+  pub list_gone : option_map string_bytes options.list_gone ≡ first_of (codes "list-gone") rows
   pub depfile : option_map string_bytes options.depfile ≡ first_of (codes "depfile") rows
   pub prefix : options.prefix ≡ prefix_option rows
   pub prefix_is_one : is_prefix (prefix_option rows) ≡ true
@@ -177,6 +178,7 @@ pub record AreOptionsFor (each : Each) (name : Text) (options : Options) : Type 
   pub header : option_map string_bytes options.header ≡ option_map (λ p. filled name (string_bytes p)) each.options.header
   pub minimal : option_map string_bytes options.minimal ≡ option_map (λ p. filled name (string_bytes p)) each.options.minimal
   pub list_new : option_map string_bytes options.list_new ≡ option_map (λ p. filled name (string_bytes p)) each.options.list_new
+  pub list_gone : option_map string_bytes options.list_gone ≡ option_map (λ p. filled name (string_bytes p)) each.options.list_gone
   pub depfile : option_map string_bytes options.depfile ≡ option_map (λ p. filled name (string_bytes p)) each.options.depfile
   pub fragments : map string_bytes options.fragments.items ≡ map string_bytes each.options.fragments.items
   pub prefix : options.prefix ≡ each.options.prefix
@@ -194,7 +196,8 @@ filled_if config (Some pattern) = filled config (string_bytes pattern) ∷ []
 
 abbrev pub writes : Each → Text → List Text
 writes each config = filled_if config each.options.out ++ (filled_if config each.options.header
-    ++ (filled_if config each.options.minimal ++ (filled_if config each.options.list_new ++ filled_if config each.options.depfile)))
+    ++ (filled_if config each.options.minimal ++ (filled_if config each.options.list_new
+    ++ (filled_if config each.options.list_gone ++ filled_if config each.options.depfile))))
 
 abbrev pub reads : Each → Text → List Text
 reads each config = config ∷ map string_bytes each.options.fragments.items

@@ -16,8 +16,8 @@ const AFTER_HELP: &str = "\
 Example: update .config from a fragment, and write the minimal .config too:
   kconf --savedefconfig defconfig Kconfig site.config
 
-With --each, {} in the FILEs of --out, --header, --savedefconfig, --list-new and --depfile stands
-for the configuration as given, and {/} for its file name without the folder.
+With --each, {} in the FILEs of --out, --header, --savedefconfig, --list-new, --list-gone and
+--depfile stands for the configuration as given, and {/} for its file name without the folder.
 
 Exit status:
   0  success: every output file is complete
@@ -65,6 +65,11 @@ const MINIMAL: OptionTexts = OptionTexts {
 const LIST_NEW: OptionTexts = OptionTexts {
     value: "FILE",
     help: "Write the .config lines of symbols that no input answered to FILE",
+};
+
+const LIST_GONE: OptionTexts = OptionTexts {
+    value: "FILE",
+    help: "Write the lines of input files that name no symbol of the tree to FILE",
 };
 
 const DEPFILE: OptionTexts = OptionTexts {
@@ -197,6 +202,7 @@ fn with_options<'a>(alloc: Global, command: Command<'a>) -> Result<Command<'a>, 
     let command = with_option(alloc, command, "header", HEADER)?;
     let command = with_option(alloc, command, "savedefconfig", MINIMAL)?;
     let command = with_option(alloc, command, "list-new", LIST_NEW)?;
+    let command = with_option(alloc, command, "list-gone", LIST_GONE)?;
     let command = with_option(alloc, command, "depfile", DEPFILE)?;
     let command = with_option(alloc, command, "prefix", PREFIX)?;
     let command = with_flag(alloc, command, "must-exist", MUST_EXIST)?;

@@ -13,7 +13,7 @@ use std::alloc::{AllocError, Global};
 /// What is asked for each of many configurations of one tree (our own).
 #[derive(Drop)]
 pub struct Each {
-    /// The options of each. Its `out`, `header`, `minimal`, `list_new` and `depfile` are patterns of names, in which `{}` stands for the
+    /// The options of each. Its `out`, `header`, `minimal`, `list_new`, `list_gone` and `depfile` are patterns of names, in which `{}` stands for the
     /// configuration as given and `{/}` for its file name without the folder. Its `config` is empty.
     pub options: Options,
     /// The configurations that the words name.
@@ -55,6 +55,7 @@ impl Each {
             header: filled_if(alloc, config, &asked.header)?,
             minimal: filled_if(alloc, config, &asked.minimal)?,
             list_new: filled_if(alloc, config, &asked.list_new)?,
+            list_gone: filled_if(alloc, config, &asked.list_gone)?,
             depfile: filled_if(alloc, config, &asked.depfile)?,
             fragments: copies_of(alloc, &asked.fragments)?,
             prefix: copy_of_prefix(alloc, &asked.prefix)?,
@@ -76,6 +77,7 @@ impl Each {
         push_filled(alloc, config, &self.options.header, &mut names)?;
         push_filled(alloc, config, &self.options.minimal, &mut names)?;
         push_filled(alloc, config, &self.options.list_new, &mut names)?;
+        push_filled(alloc, config, &self.options.list_gone, &mut names)?;
         push_filled(alloc, config, &self.options.depfile, &mut names)?;
         Ok(names)
     }

@@ -186,6 +186,7 @@ fn read_options(
     let header = text_of(alloc, matches, "header")?;
     let minimal = text_of(alloc, matches, "savedefconfig")?;
     let list_new = text_of(alloc, matches, "list-new")?;
+    let list_gone = text_of(alloc, matches, "list-gone")?;
     let depfile = text_of(alloc, matches, "depfile")?;
     let prefix = text_or(alloc, matches, "prefix", "CONFIG_")?;
     let prefix = prefix_of(alloc, prefix.as_str())?;
@@ -197,6 +198,7 @@ fn read_options(
         header,
         minimal,
         list_new,
+        list_gone,
         depfile,
         fragments: inputs.fragments,
         prefix,
@@ -313,13 +315,13 @@ fn usage_of(alloc: Global, error: &Error) -> UsageError
 }
 
 /// Reads the arguments after the program's name, as the command line
-/// `[--root DIR] [--config FILE] [--out FILE] [--header FILE] [--savedefconfig FILE] [--list-new FILE] [--depfile FILE]
-/// [--prefix TEXT] [--must-exist] [--strict] [--strict-tree] [--warn-lost] [--replace] [--check] [--fragment FILE ..] KCONFIG [FRAGMENT ..]`,
+/// `[--root DIR] [--config FILE] [--out FILE] [--header FILE] [--savedefconfig FILE] [--list-new FILE] [--list-gone FILE]
+/// [--depfile FILE] [--prefix TEXT] [--must-exist] [--strict] [--strict-tree] [--warn-lost] [--replace] [--check] [--fragment FILE ..] KCONFIG [FRAGMENT ..]`,
 /// `.. [--each] [--each-from FILE] .. KCONFIG [CONFIGURATION ..]`, `--help`, `-h`, `--version` or `-V`
 /// (our own; the arguments are read as Rust's `clap` reads them, whose documentation has the rules).
 ///
 /// Each field is what the arguments hold, or for an absent option: root `.`, config `.config`, out the file of `--config`, prefix
-/// `CONFIG_`, header, minimal, list of new symbols and depfile none, `--must-exist`, `--strict`, `--strict-tree` and `--warn-lost` false; the texts are
+/// `CONFIG_`, header, minimal, the two lists and depfile none, `--must-exist`, `--strict`, `--strict-tree` and `--warn-lost` false; the texts are
 /// written, or with `--replace` replaced, or with `--check` compared. The files of `--fragment` follow the others.
 ///
 /// With `--each` or `--each-from` each argument after KCONFIG is a configuration of its own, and the fragments are those of

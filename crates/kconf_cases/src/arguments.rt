@@ -31,6 +31,7 @@ fn role_of(option: &str) -> Role {
         | "--header"
         | "--savedefconfig"
         | "--list-new"
+        | "--list-gone"
         | "--depfile"
         | "--fragment" => Role::Dropped,
         _ if option.starts_with("--root=") || option.starts_with("--prefix=") => Role::Whole,

@@ -6,11 +6,12 @@ use std::io::ErrorKind;
 use std::{fs, io};
 
 // Files that a run writes by these names: each is there afterwards only if `expect` has it.
-const OUTPUTS: [&str; 5] = [
+const OUTPUTS: [&str; 6] = [
     ".config",
     "autoconf.h",
     "defconfig",
     "new.config",
+    "gone.config",
     "configured.d",
 ];
 

@@ -1,6 +1,7 @@
 -- The texts are those of the solution, or are refused.
 use Rattle.std.proofs.Common.{◌∙◌, ℕ, Bool, List, ap, sym, map, Option, None, Some, Vec, Global}
 use Rattle.std.specs.Prelude.{◌||◌, ◌&&◌, ◌++◌, if◌then◌else◌}
+use Rattle.kc_language.specs.ConfigFile.{UserInput}
 use Rattle.kc_language.specs.Symbols.{TreeFacts}
 use Rattle.kc_language.specs.Texts.{Solution, warnings}
 use Rattle.kc_io.specs.Delivery.{NamedText}
@@ -9,8 +10,8 @@ use Rattle.kc_conf.specs.Computed.{ruled_files}
 use Rattle.kc_io.specs.Delivery.{texts_of}
 use Rattle.kc_conf.proofs.compute.compute.Goals as goal
 
-given_by : Options → TreeFacts → Solution → Option (List (List ℕ)) → Bool → Option (List NamedText)
-given_by options tree s names b = if b then None else Some (texts_of options (ruled_files options tree s names))
+given_by : Options → TreeFacts → UserInput → Solution → Option (List (List ℕ)) → Bool → Option (List NamedText)
+given_by options tree input s names b = if b then None else Some (texts_of options (ruled_files options tree input s names))
 
 pub returns-then-is_refused : goal.returns-then-is_refused
 unfolding given_by
@@ -25,7 +26,7 @@ returns-then-is_refused c =
       solution = s;
       solution_is = record { tree_is = c.in_ok-solved.ensures.tree; places_are = c.in_ok-solved.ensures.places ∙ c.user.ensures; solves = c.is_solution.ensures };
       adds = c.in_ok-add_value_lines.ensures ∙ ap (λ l. c.args.waiting.now.items ++ (lines_text (map (λ line. lead options ++ line) (warnings s)) ++ lines_text l)) lost;
-      texts_are = sym (ap (given_by c.args.options.now c.args.accepted.now.laid.tree.now s c.args.names.now) e);
+      texts_are = sym (ap (given_by c.args.options.now c.args.accepted.now.laid.tree.now input s c.args.names.now) e);
     }
 
 pub returns : goal.returns
@@ -43,6 +44,6 @@ returns c =
       adds = c.in_ok-add_value_lines.ensures ∙ ap (λ l. c.args.waiting.now.items ++ (lines_text (map (λ line. lead options ++ line) (warnings s)) ++ lines_text l)) lost;
       texts_are =
           ap Some c.in_ok-texts.ensures
-          ∙ ap (λ (t : TreeFacts). Some (texts_of options (ruled_files options t s c.args.names.now))) c.in_ok-solved.ensures.tree
-          ∙ sym (ap (given_by c.args.options.now c.args.accepted.now.laid.tree.now s c.args.names.now) e);
+          ∙ ap (λ (t : TreeFacts). Some (texts_of options (ruled_files options t input s c.args.names.now))) c.in_ok-solved.ensures.tree
+          ∙ sym (ap (given_by c.args.options.now c.args.accepted.now.laid.tree.now input s c.args.names.now) e);
     }

@@ -17,14 +17,15 @@ returns c =
     let four = c.in_ok-command-4.ensures ∙ ap (λ a. with_rule a (option_rule (codes "header"))) three in
     let five = c.in_ok-command-5.ensures ∙ ap (λ a. with_rule a (option_rule (codes "savedefconfig"))) four in
     let six = c.in_ok-command-6.ensures ∙ ap (λ a. with_rule a (option_rule (codes "list-new"))) five in
-    let seven = c.in_ok-command-7.ensures ∙ ap (λ a. with_rule a (option_rule (codes "depfile"))) six in
-    let eight = c.in_ok-command-8.ensures ∙ ap (λ a. with_rule a (option_rule (codes "prefix"))) seven in
-    let nine = c.in_ok-command-9.ensures ∙ ap (λ a. with_rule a (flag_rule (codes "must-exist"))) eight in
-    let ten = c.in_ok-command-10.ensures ∙ ap (λ a. with_rule a (flag_rule (codes "strict"))) nine in
-    let eleven = c.in_ok-command-11.ensures ∙ ap (λ a. with_rule a (flag_rule (codes "strict-tree"))) ten in
-    let twelve = c.in_ok-command-12.ensures ∙ ap (λ a. with_rule a (flag_rule (codes "warn-lost"))) eleven in
-    let thirteen = c.in_ok-command-13.ensures ∙ ap (λ a. with_rule a (flag_rule (codes "replace"))) twelve in
-    let fourteen = c.in_ok-command-14.ensures ∙ ap (λ a. with_rule a (flag_rule (codes "check"))) thirteen in
-    let fifteen = c.in_ok-command-15.ensures ∙ ap (λ a. with_rule a (flag_rule (codes "each"))) fourteen in
-    let sixteen = c.in_ok-command-16.ensures ∙ ap (λ a. with_rule a (option_rule (codes "each-from"))) fifteen in
-    last_rule c.with_repeated.result _ _ (repeated_rule (codes "fragment")) sixteen c.with_repeated.ensures
+    let seven = c.in_ok-command-7.ensures ∙ ap (λ a. with_rule a (option_rule (codes "list-gone"))) six in
+    let eight = c.in_ok-command-8.ensures ∙ ap (λ a. with_rule a (option_rule (codes "depfile"))) seven in
+    let nine = c.in_ok-command-9.ensures ∙ ap (λ a. with_rule a (option_rule (codes "prefix"))) eight in
+    let ten = c.in_ok-command-10.ensures ∙ ap (λ a. with_rule a (flag_rule (codes "must-exist"))) nine in
+    let eleven = c.in_ok-command-11.ensures ∙ ap (λ a. with_rule a (flag_rule (codes "strict"))) ten in
+    let twelve = c.in_ok-command-12.ensures ∙ ap (λ a. with_rule a (flag_rule (codes "strict-tree"))) eleven in
+    let thirteen = c.in_ok-command-13.ensures ∙ ap (λ a. with_rule a (flag_rule (codes "warn-lost"))) twelve in
+    let fourteen = c.in_ok-command-14.ensures ∙ ap (λ a. with_rule a (flag_rule (codes "replace"))) thirteen in
+    let fifteen = c.in_ok-command-15.ensures ∙ ap (λ a. with_rule a (flag_rule (codes "check"))) fourteen in
+    let sixteen = c.in_ok-command-16.ensures ∙ ap (λ a. with_rule a (flag_rule (codes "each"))) fifteen in
+    let seventeen = c.in_ok-command-17.ensures ∙ ap (λ a. with_rule a (option_rule (codes "each-from"))) sixteen in
+    last_rule c.with_repeated.result _ _ (repeated_rule (codes "fragment")) seventeen c.with_repeated.ensures
