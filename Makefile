@@ -1,5 +1,5 @@
 # Each target is one or two commands.
-.PHONY: build install example test case cases mutants bench shapes real refused replaced trials each make-names flatten-test docs clean
+.PHONY: build install example test case cases mutants bench shapes real refused replaced trials each lists make-names flatten-test docs clean
 
 PREFIX ?= /usr/local
 
@@ -81,6 +81,10 @@ trials: build
 # Compares --each with the runs that it stands for, over generated trees with random configurations and faults.
 each: build
 	bench/each.py
+
+# Compares --list-new and --list-gone with what trying each answer shows, on random trees. Any program: make lists KCONF=FILE
+lists:
+	bench/lists.py $(KCONF) 3000
 
 # Asks GNU make which names it reads in a dependency file, and looks that kconf writes those and refuses the others.
 make-names: build

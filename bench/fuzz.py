@@ -322,4 +322,5 @@ def main():
     print(f"{count} cases, none differs; statuses {dict(sorted(statuses.items()))}")
 
 
-main()
+if __name__ == "__main__":
+    main()
