@@ -19,7 +19,7 @@ use Rattle.kc_values.specs.Laws.{AcceptedHaveOneSolution, EquationsReadNeeds, Ne
 use Rattle.kc_language.specs.Needs.{needs, needs_of, loop_text, loop_refused}
 use Rattle.kc_language.specs.Texts.{Solution, value_of}
 use Rattle.kc_config_file.specs.Streams.{StreamsLeavePlaces}
-use Rattle.kc_language.specs.Outcome.{Options, lead, refusal_line, IsAcceptedTree, IsLenientOutcome, IsOutcome, IsOutcomeOfReading, IsRefusedTree, Outcome, accepted_tree, lines_text, long_line, looped, names_of, no_tree, reported, read_of, refused, refused_name, refused_tree, root_file, streams, strictly, unreadable_name, whole, with_rule}
+use Rattle.kc_language.specs.Outcome.{Options, fresh_input, lead, refusal_line, IsAcceptedTree, IsLenientOutcome, IsOutcome, IsOutcomeOfReading, IsRefusedTree, Outcome, accepted_tree, lines_text, long_line, looped, names_of, no_tree, reported, read_of, refused, refused_name, refused_tree, root_file, streams, strictly, unreadable_name, whole, with_rule}
 use Rattle.kc_conf.specs.PartsOfOutcome.{too_long_line, unreadable_line}
 use Rattle.kc_conf.specs.PartsOfOutcome.{outcome_of}
 use Rattle.kc_conf.specs.LawSteps.{SolutionExists}
