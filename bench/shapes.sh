@@ -50,6 +50,12 @@ def hidden_choice_defaults(count):
     return config("NEVER", "bool") + 'choice\n\tprompt "c"\n' + defaults + "\n" + "".join(members) + "endchoice\n"
 
 
+def hidden_members(count):
+    """A choice of so many members, the first half of which have no visible prompt. The rest are new."""
+    members = [config(f"M_{i}", 'bool "m" if NEVER' if i < count // 2 else 'bool "m"') for i in range(count)]
+    return config("NEVER", "bool") + 'choice\n\tprompt "c"\n\n' + "".join(members) + "endchoice\n"
+
+
 def visible_strangers(count):
     """A choice of so many members with as many defaults, which all name a symbol that is visible and no member."""
     defaults = "".join("\tdefault OTHER\n" for _ in range(count))
@@ -280,6 +286,7 @@ SHAPES = [
     (loop_beside_a_chain, 16000),
     (loop_beside_wide_conditions, 1000),
     (hidden_choice_defaults, 15000),
+    (hidden_members, 15000),
     (visible_strangers, 15000),
     (depends_and_defaults, 16000),
     (depends_and_ranges, 16000),
@@ -310,8 +317,9 @@ SHAPES = [
     (sourced_help, 16000),
     (sourced_tabs, 16000),
 ]
-# Those that are refused, for their loop.
+# Those that are refused, for their loop; and those of which the new symbols are listed.
 REFUSED = {loop_beside_a_chain, loop_beside_wide_conditions}
+LISTED = {hidden_members}
 
 
 def write(shape, count, folder):
@@ -328,12 +336,12 @@ def write(shape, count, folder):
         sys.exit(f"{shape.__name__} was not written")
 
 
-def spent(program, folder, wanted):
+def spent(program, folder, options, wanted):
     """The least processor time of some runs in seconds, and the greatest peak memory in MiB. Each has to end with this status."""
     times, peaks = [], []
     for _ in range(TIMES):
         process = subprocess.Popen(
-            [program, "--config", "dot.config", "--out", "out", "Kconfig"], cwd=folder, stdin=subprocess.DEVNULL,
+            [program, "--config", "dot.config", "--out", "out", *options, "Kconfig"], cwd=folder, stdin=subprocess.DEVNULL,
             stdout=subprocess.DEVNULL, stderr=subprocess.DEVNULL,
             preexec_fn=lambda: resource.setrlimit(resource.RLIMIT_AS, (ROOM, ROOM)))
         _, status, usage = os.wait4(process.pid, 0)
@@ -360,13 +368,14 @@ def grown(rows):
 
 def measured(program, shape, least, times):
     """A shape's three sizes, each with its time and its memory, by so many rounds of runs until nothing has grown too much."""
+    options = ["--list-new", "new"] if shape in LISTED else []
     rows = [(least, 9e9, 0), (2 * least, 9e9, 0), (4 * least, 9e9, 0)]
     with tempfile.TemporaryDirectory() as folder:
         for count, _, _ in rows:
             os.mkdir(f"{folder}/{count}")
             write(shape, count, f"{folder}/{count}")
         for _ in range(times):
-            found = [spent(program, f"{folder}/{count}", 1 if shape in REFUSED else 0) for count, _, _ in rows]
+            found = [spent(program, f"{folder}/{count}", options, 1 if shape in REFUSED else 0) for count, _, _ in rows]
             rows = [(count, min(old, new), max(peak, more)) for (count, old, peak), (new, more) in zip(rows, found)]
             if not grown(rows):
                 break

@@ -4,6 +4,7 @@ pub mod GroupNames
 pub mod UserSteps
 pub mod WarningSteps
 pub mod FlagSteps
+pub mod MemberSteps
 pub mod OrderSteps
 pub mod SequenceSteps
 pub mod SolvedSteps

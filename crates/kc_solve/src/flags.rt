@@ -1,6 +1,6 @@
 //! What each choice selects, and what is said of each symbol, under the values of a full table.
 
-ghost use Rattle.std.specs.Prelude.{◌≡◌, ◌<◌, false, length, map, slice_index_or, None, IfOk, IfSome};
+ghost use Rattle.std.specs.Prelude.{◌≡◌, ◌<◌, false, length, map, slice_index_or, None, Some, true, IfOk, IfSome};
 ghost use Rattle.kc_language.specs.declared.expressions.Tri.TheVariants.{N};
 ghost use Rattle.kc_language.specs.Values.{Solves, name_count, equations};
 ghost use Rattle.kc_solve.specs.Flags as flag;
@@ -147,21 +147,45 @@ fn symbol_differs(
     }
 }
 
-// Whether a member is new for which nothing was given. The caller owes the default selection of its choice.
-fn member_is_new(
+// Whether the choice of this visible member has a visible member beside its default selection, which the caller owes. Any other
+// member is one itself, so the members are looked through for the default selection alone: once for each choice.
+fn has_other_by(
     table: &Table,
-    user: &User,
+    id: SymId,
     symbol: &Symbol,
     choice: ChoiceId,
     default: Option<SymId>,
 ) -> bool
+    requires row { IsRowOf table.now id symbol.now }
+    requires member { symbol.now.choice ≡ Some choice }
+    requires visible { at.is_visible table.now symbol.now ≡ true }
+    requires default { default ≡ at.selected table.now choice.0 None }
+    ensures { result ≡ at.has_other table.now choice.0 }
+{
+    match default {
+        Some(selected) if selected.0 != id.0 => true,
+        _ => has_other(table, choice, default),
+    }
+}
+
+// Whether a member is new for which nothing was given. The caller owes the default selection of its choice.
+fn member_is_new(
+    table: &Table,
+    user: &User,
+    id: SymId,
+    symbol: &Symbol,
+    choice: ChoiceId,
+    default: Option<SymId>,
+) -> bool
+    requires row { IsRowOf table.now id symbol.now }
+    requires member { symbol.now.choice ≡ Some choice }
     requires user { choice.0 < length user.now.choices }
     requires default { default ≡ at.selected table.now choice.0 None }
     ensures { result ≡ flag.member_is_new table.now user.now symbol.now choice.0 }
 {
     is_visible(table, symbol)
         && user.selected(choice).is_none()
-        && has_other(table, choice, default)
+        && has_other_by(table, id, symbol, choice, default)
 }
 
 /// Whether a symbol is new under the values of a full table and a user's places of that tree: no line answered its question. The
@@ -185,7 +209,7 @@ pub(crate) fn symbol_is_new(
         return false;
     }
     match symbol.choice.get() {
-        Some(choice) => { member_is_new(table, user, symbol, choice, at_choice(defaults, choice)) }
+        Some(choice) => member_is_new(table, user, id, symbol, choice, at_choice(defaults, choice)),
         None => can_change(table, id, symbol),
     }
 }

@@ -172,7 +172,8 @@ impl<'a> Solved<'a> {
 
     /// Whether the symbol is new: no line answered its question. None gave it a value, and an answer would change its value; a
     /// member: none gave it a value or chose a member of its choice, it is visible, and a member could be selected in place of the
-    /// selection (our own). It is found when it is asked for.
+    /// selection (our own). It is found when it is asked for. The members of a choice are looked through for its default selection
+    /// alone, so asking for each symbol once takes time linear in the tree.
     pub fn is_new(&self, id: SymId) -> bool
         requires { id.0 < name_count self.now.tree }
         ensures { result ≡ spec.is_new self.now id }
