@@ -11,7 +11,8 @@
 # - the values are compared with those of the tree's own tool; a symbol without a line is n or empty;
 # - kconf-tree has to give the same values as kconf by hand;
 # - the full and the minimal file are compared byte for byte with those of the tree's own tool.
-# Then kconf --each runs all of these at once: bench/real/each.py says what it checks.
+# Then kconf --each runs all of these at once: bench/real/each.py says what it checks. And the list of kconf --list-new is compared
+# with that of the tree's own conf --listnewconfig: bench/real/new.py says over which inputs.
 #
 # Then come:
 # - SeaBIOS and toybox, each built with its own conf and with kconf: the results have to be the same byte for byte;
@@ -24,7 +25,7 @@
 #
 # kconf is crates/kconf/out/kconf (make build), or the program that KCONF names. The status is 1 if
 # - a value differs that is not in bench/real/known.txt,
-# - a line of a written file differs whose cause is not in bench/real/lines.txt,
+# - a line of a written file differs whose cause is not in bench/real/lines.txt, or a list of new symbols one that is not in new.txt,
 # - kconf refuses a tree, or a check above fails.
 # JOBS is the number of compilers that may run at once (2), RUNS_AT_ONCE that of runs of kconf or of a tree's own tool (3).
 set -eu

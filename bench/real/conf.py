@@ -60,9 +60,11 @@ class Conf:
     def __init__(self, program, tree, kconfig, settings, words=None, place="KCONFIG_CONFIG"):
         self.program, self.tree, self.kconfig = program, tree, kconfig
         self.settings, self.words, self.place = settings, words or {}, place
+        # The programs that know no long words list no new symbols.
+        self.lists_new = not self.words
 
     def run(self, mode, config, more=None):
-        """Runs one mode over a .config, in place. Each question of the oldest programs is answered with its default."""
+        """Runs one mode over a .config, in place; what it prints. Each question of the oldest programs is answered with its default."""
         mode = self.words.get(mode, mode)
         # Where there is an auto.conf, the kernel's conf writes none into the tree.
         auto = self.program.with_name("auto.conf")
@@ -84,6 +86,7 @@ class Conf:
             shutil.rmtree(folder)
         if ran.returncode:
             raise RuntimeError(f"conf {mode}: status {ran.returncode}: {ran.stderr[-600:]}")
+        return ran.stdout
 
     def completed(self, start, config):
         """Writes the full .config of a start."""
@@ -109,6 +112,7 @@ class Library:
 
     def __init__(self, source, tree, kconfig, settings):
         self.source, self.tree, self.kconfig, self.settings = source, tree, kconfig, settings
+        self.lists_new = False
 
     def run(self, mode, seed, config):
         """Runs one mode over a .config, in place."""

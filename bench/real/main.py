@@ -12,6 +12,7 @@ import boards
 import builds
 import companion
 import each
+import new
 import trees
 from conf import environment
 from debian import say
@@ -69,7 +70,7 @@ def kconf_tree():
     return os.environ.get("KCONF_TREE") or str(HERE.parent.parent / "tools" / "kconf-tree")
 
 
-def one_tree(name, place, kconf, known, causes):
+def one_tree(name, place, kconf, known, causes, reasons):
     """All runs of a tree."""
     began = time.monotonic()
     tree = trees.TREES[name](place)
@@ -78,7 +79,10 @@ def one_tree(name, place, kconf, known, causes):
     causes.read(root / kconfig)
     runs = Runs(tree, kconf, kconf_tree(), (root, kconfig), place.folder / "runs" / name, known)
     summary = told(tree, runs.all(place.none), known, causes)
-    summary.faults += not each.Each(tree, kconf, (root, kconfig), place.folder / "each" / name).all(*runs.given(), causes)
+    configurations, own = runs.given()
+    summary.faults += not each.Each(tree, kconf, (root, kconfig), place.folder / "each" / name).all(configurations, own, causes)
+    lists = new.New(tree, kconf, kconf_tree(), (root, kconfig), place.folder / "new" / name)
+    summary.faults += not lists.all(configurations, own, new.older(name, place), reasons)
     print(f"  {time.monotonic() - began:.0f} s", flush=True)
     return summary
 
@@ -110,10 +114,11 @@ def main():
     place = trees.Place(folder)
     programs(place)
     library(place)
-    known, causes, names = Known(), Causes(), sys.argv[1:] or [*trees.TREES, "boards"]
-    summaries = [one_tree(name, place, kconf, known, causes) for name in names if name in trees.TREES]
+    known, causes, reasons = Known(), Causes(), new.Reasons()
+    names = sys.argv[1:] or [*trees.TREES, "boards"]
+    summaries = [one_tree(name, place, kconf, known, causes, reasons) for name in names if name in trees.TREES]
     table(summaries)
-    for entry in known.unmet(names) + causes.unmet(names):
+    for entry in known.unmet(names) + causes.unmet(names) + reasons.unmet(names):
         print(f"known, and not met: {' '.join(entry)}")
     print()
     done = [builds.pair(name, BUILDS[name], place.tree(name), place.folder / "build", kconf) for name in names if name in BUILDS]
