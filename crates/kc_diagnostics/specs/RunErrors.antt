@@ -14,3 +14,4 @@ shown_run_error run.Memory = run.Memory
 shown_run_error run.WarningsRefused = run.WarningsRefused
 shown_run_error (run.NotUpToDate name) = run.NotUpToDate name.now
 shown_run_error (run.UnreadableName name) = run.UnreadableName name.now
+shown_run_error (run.UnknownName name near) = run.UnknownName name.now near.now

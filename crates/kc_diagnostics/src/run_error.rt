@@ -19,6 +19,7 @@ pub fn run_error_parts<'a>(error: RunError<&'a [u8]>) -> [&'a [u8]; 3]
         RunError::WarningsRefused => [b"E21: warnings are refused", b"", b""],
         RunError::NotUpToDate(name) => [b"E22: ", name, b" is not up to date"],
         RunError::UnreadableName(name) => [b"E23: make cannot read the name ", name, b""],
+        RunError::UnknownName(name, near) => [b"E24: no symbol has the name ", name, near],
     }
 }
 

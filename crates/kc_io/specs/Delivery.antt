@@ -48,7 +48,7 @@ text_at _ _ = []
 abbrev pub texts_of : Options → Outcome → List NamedText
 texts_of options outcome = text_at options.out outcome.config ++ text_at options.header outcome.header
     ++ text_at options.minimal outcome.minimal ++ text_at options.list_new outcome.list_new ++ text_at options.list_gone outcome.list_gone
-    ++ text_at options.depfile outcome.depfile
+    ++ text_at options.depfile outcome.depfile ++ text_at options.explanation outcome.explanation
 
 -- They are written; with --replace those that differ from their files replace these; with --check nothing is written.
 abbrev pub delivers : Options → List NamedText → Journal → List Event

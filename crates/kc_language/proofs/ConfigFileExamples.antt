@@ -2,7 +2,7 @@
 use Rattle.std.proofs.Common.{◌≡◌, refl}
 use Rattle.std.specs.Prelude.{List, None, Some, [], codes, false, true, ℕ, ◌∷◌}
 use Rattle.std.specs.Fmt.{digits}
-use Rattle.kc_language.specs.ConfigFile.{Malformed, Nothing, ReadResult, Set, Unset, effect, gone_after, lines_after, lines_from, meaning_of, no_input, places_given, reading, reading_of, untaken, untaken_line, value_by, warning, warnings}
+use Rattle.kc_language.specs.ConfigFile.{Malformed, Nothing, ReadResult, Set, Unset, effect, gone_after, lines_after, lines_from, meaning_of, no_input, places_given, reading, reading_of, refused_after, untaken, untaken_line, value_by, warning, warnings}
 use Rattle.kc_language.specs.Symbols.{SymbolFacts, TreeFacts}
 use Rattle.kc_language.specs.Values.{GivenText, GivenTruth}
 use Rattle.kc_language.specs.declared.expressions.SymbolType.TheVariants.{Bool, Str}
@@ -48,7 +48,7 @@ module _ (any_tree : TreeFacts) (any_facts : SymbolFacts) where
 
   -- What the input file `.config` with this text gives, where nothing was given before.
   read_text : List ℕ → ReadResult
-  unfolding two_bools reading warnings warning untaken untaken_line lines_after places_given effect lines_from digits
+  unfolding two_bools reading warnings warning untaken untaken_line lines_after refused_after places_given effect lines_from digits
   read_text text = reading_of two_bools (codes "CONFIG_") (no_input true two_bools) (record { name = codes ".config"; bytes = text } ∷ [])
 
   -- A gets y. The last line needs no line feed. A symbol that no line names has no value.
@@ -72,6 +72,11 @@ module _ (any_tree : TreeFacts) (any_facts : SymbolFacts) where
   unfolding read_text
   warned_lines = refl
 
+  -- The last line whose value for B is not allowed stays known, even after one that gives B a value.
+  refused_lines : (read_text (codes "CONFIG_B=1\nCONFIG_B=m\nCONFIG_B=y\nCONFIG_C=m\n")).input.refused ≡ None ∷ Some (record { stream = codes ".config"; number = 2 }) ∷ []
+  unfolding read_text
+  refused_lines = refl
+
   -- The lines of unknown names, if they are kept: those that are on, and then the others. B has a type, and its line is not among them.
   gone_lines :
       (reading_of two_bools (codes "CONFIG_") (record (no_input false two_bools) { gone = Some ([], []) }) (record {
@@ -79,5 +84,5 @@ module _ (any_tree : TreeFacts) (any_facts : SymbolFacts) where
         bytes = codes "CONFIG_C=n  \n# CONFIG_D is not set\nCONFIG_E=\"n\" \nCONFIG_B=m\n";
       } ∷ [])).input.gone
       ≡ Some (codes "CONFIG_E=\"n\"\n", codes "CONFIG_C=n\n# CONFIG_D is not set\n")
-  unfolding two_bools reading warnings warning untaken untaken_line lines_after gone_after places_given effect lines_from digits
+  unfolding two_bools reading warnings warning untaken untaken_line lines_after refused_after gone_after places_given effect lines_from digits
   gone_lines = refl

@@ -2,7 +2,14 @@
 mod ConfigFileExamples
 mod ExampleTools
 mod ExpansionExamples
+mod ExplanationsExamples
+pub mod Explained
+pub mod ExplainedMembers
+pub mod ExplanationParts
+pub mod ExplanationSuffices
+pub mod ExpressionTexts
 mod ExpressionsExamples
+pub mod FewestParentheses
 mod LinesExamples
 mod NeedsExamples
 mod OpenedTools

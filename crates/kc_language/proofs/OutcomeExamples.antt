@@ -2,15 +2,16 @@
 use Rattle.std.proofs.Common.{◌≡◌, refl, sym, ◌∙◌, ap, subst, arith, inl, inr, ◌≤◌, ◌+◌, suc, zero}
 use Rattle.std.proofs.lemmas.List.{append-nil}
 use Rattle.std.specs.List.{list_all}
-use Rattle.std.specs.Prelude.{List, None, Ok, Option, Some, [], codes, false, if◌then◌else◌, String, length, map, min, string_bytes, take, true, ℕ, ◌++◌, ◌-◌, ◌^◌, ◌||◌, ◌∷◌}
+use Rattle.std.specs.Prelude.{List, None, Ok, Option, Some, [], codes, false, find, if◌then◌else◌, is_some, not, String, length, map, min, string_bytes, take, true, ℕ, ◌++◌, ◌-◌, ◌^◌, ◌||◌, ◌∷◌}
 use Rattle.std.specs.Fmt.{digits}
 use Rattle.std.specs.declared.alloc.Global.{Global}
-use Rattle.kc_language.specs.ConfigFile.{ReadResult, effect, gone_after, lines_after, lines_from, no_input, place_at, places_given, reading, reading_of, untaken, untaken_line, warning, warnings}
-use Rattle.kc_language.specs.Expansion.{AreOpened, Expands, FileContext, Files, Log, NextStatement, Rest, at_end, bytes_in, statement, with_file, without_help}
+use Rattle.kc_language.specs.ConfigFile.{ReadResult, effect, gone_after, lines_after, lines_from, no_input, place_at, places_given, reading, reading_of, refused_after, untaken, untaken_line, warning, warnings}
+use Rattle.kc_language.specs.Expansion.{AreOpened, Expands, FileContext, Files, Log, NextStatement, Rest, at_end, bytes_in, numbered_lines, statement, with_file, without_help}
 use Rattle.kc_language.specs.Expressions.{Atom, Disjunction, OperandToken, QuotedAtom, Single, Symbol, Text, TextValue, Truth, WordAtom, conjunction, lone, negation, only, symbol, terminal_of}
+use Rattle.kc_language.specs.Explanations.{asked_symbol}
 use Rattle.kc_language.specs.Lines.{Physical, UnreadLines, continues, joined_text, physical_lines, unread_lines}
 use Rattle.kc_language.specs.Needs.{IsAccepted}
-use Rattle.kc_language.specs.Outcome.{IsAcceptedTree, IsOutcome, IsOutcomeOfReading, Options, Outcome, accepted_tree, first_line, is_read_by_make, read_of, root_file, rule_text, run_error_text, streams, whole}
+use Rattle.kc_language.specs.Outcome.{IsAcceptedTree, IsOutcome, IsOutcomeOfReading, Options, Outcome, accepted_tree, first_line, is_read_by_make, read_of, root_file, rule_text, run_error_text, streams, unknown_name, whole}
 use Rattle.kc_language.specs.Statements.{ConfigLine, DefaultLine, LineContext, Located, Named, ReadsLine, ReadsRest, ReadsValue, TypeLine, begins_with, error_line}
 use Rattle.kc_language.specs.Symbols.{IsTreeOf, SymbolShown, TreeFacts}
 use Rattle.kc_language.specs.Text.{longest_line, natural_of, unescape}
@@ -229,14 +230,14 @@ tree_is_accepted (suc (suc (suc s))) h = absurd (omega (arith, h))
 -- Reading the `.config` gives A the value y, and one warning.
 abbrev read : ReadResult
 read = record {
-  input = record { places = record { symbols = Some (GivenTruth Y) ∷ None ∷ None ∷ []; choices = [] }; lines = []; all_taken = false; gone = None };
+  input = record { places = record { symbols = Some (GivenTruth Y) ∷ None ∷ None ∷ []; choices = [] }; lines = []; refused = []; all_taken = false; gone = None };
   warned = codes ".config:2: warning K7: unknown symbol D\n";
   stopped = None;
 }
 
 config_is_read :
     reading_of tree (codes "CONFIG_") (no_input false tree) (record { name = codes ".config"; bytes = old_config } ∷ []) ≡ read
-unfolding reading warnings warning untaken untaken_line lines_after gone_after places_given effect lines_from digits
+unfolding reading warnings warning untaken untaken_line lines_after refused_after gone_after places_given effect lines_from digits
 config_is_read = refl
 
 -- The values: A and B are y, and C is 7.
@@ -264,7 +265,7 @@ is_solution = record { places = record { symbols = refl; choices = refl }; count
 
 -- The run writes a `.config`, a header and a minimal file. Warnings are not refused. The other options may be anything.
 module _ (any : Options) (out header minimal : String Global) (root_is : string_bytes any.kconfig ≡ codes "Kconfig")
-    (config_is : string_bytes any.config ≡ codes ".config") (no_fragments : any.fragments.items ≡ []) where
+    (config_is : string_bytes any.config ≡ codes ".config") (no_fragments : any.fragments.items ≡ []) (no_names : any.explain.items ≡ []) where
   abbrev options : Options
   options = record any {
     prefix = codes "CONFIG_";
@@ -274,10 +275,13 @@ module _ (any : Options) (out header minimal : String Global) (root_is : string_
     list_new = None;
     list_gone = None;
     depfile = None;
+    explanation = None;
     strict = false;
     strict_tree = false;
     warn_lost = false;
     names_config = false;
+    with_help = false;
+    explain_lost = false;
   }
 
   -- The texts, the diagnostics and the status that the run is to leave. Only A differs from its default, so only A is in the minimal file.
@@ -290,6 +294,7 @@ module _ (any : Options) (out header minimal : String Global) (root_is : string_
     list_new = None;
     list_gone = None;
     depfile = None;
+    explanation = None;
     warned = codes ".config:2: warning K7: unknown symbol D\n";
     refusal = [];
     status = Done;
@@ -304,19 +309,25 @@ module _ (any : Options) (out header minimal : String Global) (root_is : string_
       ∙ config_is_read
 
   -- From the reading to the outcome.
-  reading_has_outcome : IsOutcomeOfReading options tree read outcome
+  reading_has_outcome : IsOutcomeOfReading files options tree (numbered_lines (log_of read_statements).lines) read outcome
   unfolding config_text header_text minimal_text natural_of digits
   reading_has_outcome = whole solution refl (record { tree_is = refl; places_are = refl; solves = is_solution }) refl
 
   -- The whole run: from the bytes of `Kconfig` and of `.config` to the outcome.
   run_has_outcome : IsOutcome files options (old_config ∷ []) outcome
-  run_has_outcome = (outcome, codes "Kconfig" ∷ [], accepted_tree tree accepted refl (outcome, read_outcome, refl), opened, refl)
+  run_has_outcome = (outcome, codes "Kconfig" ∷ [], accepted_tree tree (log_of read_statements) accepted expands refl none_unknown (outcome, read_outcome, refl), opened, refl)
     where
       accepted : IsAcceptedTree files (root_file options) tree
       accepted = subst (λ root. IsAcceptedTree files root tree) (sym root_is) (record { built = tree_is_built; accepted = tree_is_accepted })
 
-      read_outcome : IsOutcomeOfReading options tree (read_of options tree (old_config ∷ [])) outcome
-      read_outcome = subst (λ r. IsOutcomeOfReading options tree r outcome) (sym input_is_read) reading_has_outcome
+      read_outcome : IsOutcomeOfReading files options tree (numbered_lines (log_of read_statements).lines) (read_of options tree (old_config ∷ [])) outcome
+      read_outcome = subst (λ r. IsOutcomeOfReading files options tree (numbered_lines (log_of read_statements).lines) r outcome) (sym input_is_read) reading_has_outcome
+
+      none_unknown : unknown_name options tree ≡ None
+      none_unknown = ap (λ names. find (λ asked. not (is_some (asked_symbol tree (codes "CONFIG_") asked))) (map string_bytes names)) no_names
+
+      expands : Expands files (root_file options) (Ok (log_of read_statements))
+      expands = subst (λ root. Expands files root (Ok (log_of read_statements))) (sym root_is) root_expands
 
       opened : AreOpened files (root_file options) (codes "Kconfig" ∷ [])
       opened = subst (λ root. AreOpened files root (codes "Kconfig" ∷ [])) (sym root_is) only_root_opened

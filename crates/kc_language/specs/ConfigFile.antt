@@ -88,6 +88,10 @@ effect_of tree (Set called text) =
     elim (symbol_named tree called) [ None ↦ Warns (UnknownSymbol called) | Some s ↦ set_by_type called s text (type_in (facts tree s)) ]
 effect_of tree Malformed = Warns MalformedLine
 
+-- The symbol to which a line gives a value that is not allowed (K8), if the line does so.
+abbrev pub not_allowed : TreeFacts → Effect → Option SymId
+not_allowed tree e = elim e [ Warns w ↦ elim w [ NotAllowed called ↦ symbol_named tree called | _ ↦ None ] | _ ↦ None ]
+
 -- A line is gone if no symbol of the tree has its name (K7). It is on unless it is an unset line or its value is n. Last, its text with a line feed.
 abbrev pub is_gone : Effect → Bool
 is_gone e = elim e [ Warns w ↦ elim w [ UnknownSymbol called ↦ true | _ ↦ false ] | _ ↦ false ]
@@ -168,11 +172,13 @@ places_given tree places given = record {
       then Some a.symbol else None) given)) 0 places.choices;
 }
 
--- What files gave so far: values, the line that gave each last (an empty list without --warn-lost), and whether all lines were taken as written.
+-- What files gave so far: values, the line that gave each last, and the last line whose value for it was not allowed (K8). The lists of lines are
+-- empty without --warn-lost. And whether all lines were taken as written.
 -- With --list-gone also the texts of the gone lines: of those that are on, and of the others.
 pub record UserInput : Type 0 where
   pub places : Places
   pub lines : List (Option StreamLocation)
+  pub refused : List (Option StreamLocation)
   pub all_taken : Bool
   pub gone : Option (List ℕ × List ℕ)
 
@@ -180,6 +186,7 @@ abbrev pub no_input : Bool → TreeFacts → UserInput
 no_input keeps_lines tree = record {
   places = record { symbols = replicate (length tree.symbols) None; choices = replicate (length tree.choices) None };
   lines = if keeps_lines then replicate (length tree.symbols) None else [];
+  refused = if keeps_lines then replicate (length tree.symbols) None else [];
   all_taken = true;
   gone = None;
 }
@@ -237,6 +244,11 @@ module _ (tree : TreeFacts) (prefix : List ℕ) where
   lines_after old lines = each_from (λ i last. last_or last (filter_map (λ l.
       elim (effect l) [ Assigns s given ↦ if s.0 == i then Some (stream_location l) else None | _ ↦ None ]) lines)) 0 old
 
+  -- For each symbol the last line whose value was not allowed (K8).
+  unfoldable pub refused_after : List (Option StreamLocation) → List Line → List (Option StreamLocation)
+  refused_after old lines = each_from (λ i last. last_or last (filter_map (λ l.
+      elim (not_allowed tree (effect l)) [ Some s ↦ if s.0 == i then Some (stream_location l) else None | None ↦ None ]) lines)) 0 old
+
   -- The texts of the gone lines: those of this kind, and those before and among these lines.
   abbrev pub gone_text : (LineMeaning → Bool) → List Line → List ℕ
   gone_text is_kind lines = flat_map (λ l. if is_gone (effect l) && is_kind (meaning l) then said_line prefix (meaning l) else []) lines
@@ -256,6 +268,7 @@ module _ (tree : TreeFacts) (prefix : List ℕ) where
   input_after input lines = record {
     places = places_after input.places lines;
     lines = lines_after input.lines lines;
+    refused = refused_after input.refused lines;
     all_taken = input.all_taken && (length (untaken input.places lines) == 0);
     gone = gone_after input.gone lines;
   }

@@ -1,6 +1,7 @@
--- The language, in twelve chapters.
+-- The language, in thirteen chapters.
 pub mod ConfigFile
 pub mod Expansion
+pub mod Explanations
 pub mod Expressions
 pub mod Lines
 pub mod Needs

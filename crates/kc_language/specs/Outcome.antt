@@ -1,7 +1,7 @@
--- Trusted: 12. Outcome: the texts, the diagnostics and the status that a run is to leave.
+-- Trusted: 13. Outcome: the texts, the diagnostics and the status that a run is to leave.
 -- Our own, except for the syntax of a dependency file, which is GNU make's. `IsOutcome` at the end is the rule.
-use Rattle.std.specs.{List.list_any, Option.option_map_or, Prelude.{Bool, Err, List, None, Ok, Option, Some, [], codes, decimal, false, find, flat_map, if◌then◌else◌, length, map, nat_le, not, option_map, slice_get, string_bytes, true, ℕ, ◌&&◌, ◌++◌, ◌-◌, ◌==◌, ◌||◌, ◌∷◌, ◌≡◌}}
-use Rattle.kc_language.specs.{ConfigFile.{Places, ReadResult, Stream, StreamLocation, UserInput, no_input, reading_of}, Expansion.{AreOpened, Files, Refused}, Expressions.{all_mentioned, same_name}, Needs.{IsAccepted, IsLoopText, loop_refused}, Statements.{cause_text, error_at, error_line}, Symbols.{IsTreeOf, TreeFacts, Warning}, Text.{byte, longest_input_line}, Texts.{IsSolution, Solution, config_text, header_text, lost_lines, minimal_text, new_text, solution_view, value_warnings, warnings}, declared.{diagnostics.{RunError.RunError, Warning.TheVariants.UserOutside}, outcome.{Options.Options as AnyOptions, Position.Position, Status.Status}}}
+use Rattle.std.specs.{List.list_any, Option.option_map_or, Prelude.{Bool, Err, List, None, Ok, Option, Some, [], codes, decimal, false, find, flat_map, if◌then◌else◌, is_some, length, map, nat_le, not, option_map, slice_get, string_bytes, true, ℕ, ◌&&◌, ◌++◌, ◌-◌, ◌==◌, ◌||◌, ◌∷◌, ◌≡◌}}
+use Rattle.kc_language.specs.{ConfigFile.{Places, ReadResult, Stream, StreamLocation, UserInput, no_input, reading_of}, Expansion.{AreOpened, Expands, Files, Log, Refused, numbered_lines}, Explanations.{asked_symbol, explanation_text, near_names, new_text_with_help}, Expressions.{all_mentioned, same_name}, Needs.{IsAccepted, IsLoopText, loop_refused}, Statements.{Located, Numbered, cause_text, error_at, error_line}, Symbols.{IsTreeOf, TreeFacts, Warning, listed}, Text.{byte, longest_input_line}, Texts.{IsSolution, Solution, config_text, header_text, lost_at, lost_lines, minimal_text, new_text, solution_view, value_warnings, warnings}, declared.{diagnostics.{RunError.RunError, Warning.TheVariants.UserOutside}, outcome.{Options.Options as AnyOptions, Position.Position, Status.Status}}}
 
 -- The options, the root file, the file of --out (the target in a dependency file), and the name that some diagnostics begin with under --each.
 abbrev pub Options : Type 0
@@ -32,6 +32,7 @@ run_error_text RunError.Memory = codes "E20: out of memory"
 run_error_text RunError.WarningsRefused = codes "E21: warnings are refused"
 run_error_text (RunError.NotUpToDate name) = codes "E22: " ++ name ++ codes " is not up to date"
 run_error_text (RunError.UnreadableName name) = codes "E23: make cannot read the name " ++ name
+run_error_text (RunError.UnknownName name near) = codes "E24: no symbol has the name " ++ name ++ near
 
 abbrev pub out_of_memory_line : List ℕ
 out_of_memory_line = error_line (run_error_text RunError.Memory)
@@ -126,13 +127,13 @@ pub record IsAcceptedTree (files : Files) (root : List ℕ) (tree : TreeFacts) :
   pub built : IsTreeOf files root (Ok tree)
   pub accepted : IsAccepted tree
 
--- the input files of these names and bytes; what reading them gives, one after another (lines of values are kept if lost values are to be reported)
+-- the input files of these names and bytes; what reading them gives, one after another (lines of values are kept for lost values and explanations)
 abbrev pub streams : List (List ℕ) → List (List ℕ) → List Stream
 streams (name ∷ names) (bytes ∷ all) = record { name = name; bytes = bytes } ∷ streams names all
 streams _ _ = []
 
 abbrev pub fresh_input : Options → TreeFacts → UserInput
-fresh_input options tree = record (no_input options.warn_lost tree) { gone = option_map (λ name. ([], [])) options.list_gone }
+fresh_input options tree = record (no_input (options.warn_lost || is_some options.explanation) tree) { gone = option_map (λ name. ([], [])) options.list_gone }
 
 abbrev pub read_of : Options → TreeFacts → List (List ℕ) → ReadResult
 read_of options tree all = reading_of tree options.prefix (fresh_input options tree) (streams (names_of options) all)
@@ -164,6 +165,7 @@ pub record Outcome : Type 0 where
   pub list_new : Option (List ℕ)
   pub list_gone : Option (List ℕ)
   pub depfile : Option (List ℕ)
+  pub explanation : Option (List ℕ)
   pub warned : List ℕ
   pub refusal : List ℕ
   pub status : Status
@@ -173,7 +175,7 @@ abbrev pub reported : List ℕ → Outcome → Outcome
 reported text outcome = record outcome { warned = text ++ outcome.warned }
 
 abbrev pub refused : List ℕ → Outcome
-refused line = record { config = None; header = None; minimal = None; list_new = None; list_gone = None; depfile = None; warned = []; refusal = line; status = Status.Refused }
+refused line = record { config = None; header = None; minimal = None; list_new = None; list_gone = None; depfile = None; explanation = None; warned = []; refusal = line; status = Status.Refused }
 
 abbrev pub refused_if : Options → Bool → Outcome → Outcome
 refused_if options refuses outcome =
@@ -186,28 +188,49 @@ lines_text lines = flat_map (λ line. line ++ codes "\n") lines
 abbrev pub has_text : List ℕ → Bool
 has_text text = elim text [ [] ↦ false | _ ↦ true ]
 
+-- What is asked to be explained: the first name that no symbol has, and the names that differ from it by one letter; the explanations, one by one.
+abbrev pub unknown_name : Options → TreeFacts → Option (List ℕ)
+unknown_name options tree = find (λ asked. not (is_some (asked_symbol tree options.prefix asked))) (map string_bytes options.explain.items)
+
+abbrev pub near_text : TreeFacts → List ℕ → List ℕ
+near_text tree asked = elim (near_names tree asked) [ [] ↦ [] | called ∷ more ↦ codes "; one letter differs: " ++ called ++ flat_map (λ name. codes ", " ++ name) more ]
+
+abbrev pub explained_text : Options → List (Located Numbered) → UserInput → Solution → List ℕ
+explained_text options lines input solution = flat_map (λ asked. flat_map (explanation_text lines solution input [] options.explain_depth)
+    (listed (asked_symbol solution.tree options.prefix asked))) (map string_bytes options.explain.items)
+
+-- The lines of the values that are lost. With --explain-lost, each is followed by the explanation of its symbol, with what holds it down.
+abbrev pub lost_text : Options → List (Located Numbered) → UserInput → Solution → List ℕ
+lost_text options lines input solution = if options.explain_lost && options.warn_lost
+    then flat_map (λ s. flat_map (λ line. line ++ codes "\n" ++ explanation_text lines solution input (codes "  ") 1 s) (lost_at input.lines solution s)) solution.tree.defined
+    else lines_text (lost_warnings options input solution)
+
 -- The files of a solution for the user's input, where they are wanted. The values' warnings are reported before, and then the values that are lost.
-abbrev pub warned_files : Options → TreeFacts → UserInput → Solution → Outcome
-warned_files options tree input solution = record {
+-- `files` and `lines` are those of the tree.
+abbrev pub warned_files : Files → Options → TreeFacts → List (Located Numbered) → UserInput → Solution → Outcome
+warned_files files options tree lines input solution = record {
   config = option_map (λ file. config_text tree options.prefix (solution_view solution)) options.out;
   header = option_map (λ file. header_text tree options.prefix (solution_view solution)) options.header;
   minimal = option_map (λ file. minimal_text tree options.prefix (solution_view solution)) options.minimal;
-  list_new = option_map (λ file. new_text tree options.prefix (solution_view solution)) options.list_new;
+  list_new = option_map (λ file. let view = solution_view solution in if options.with_help then new_text_with_help files lines tree options.prefix view
+      else new_text tree options.prefix view) options.list_new;
   list_gone = option_map (λ file. option_map_or (λ told. told.0 ++ told.1) input.gone []) options.list_gone;
   depfile = None;
-  warned = lines_text (map (λ line. lead options ++ line) (warnings solution)) ++ lines_text (lost_warnings options input solution);
+  explanation = option_map (λ file. explained_text options lines input solution) options.explanation;
+  warned = lines_text (map (λ line. lead options ++ line) (warnings solution)) ++ lost_text options lines input solution;
   refusal = [];
   status = Status.Done;
 }
 
 -- What follows the tree's warnings: a line that is too long is refused; else it is the files of the one solution, unless --strict refuses them.
-pub data IsOutcomeOfReading (options : Options) (tree : TreeFacts) (read : ReadResult) (outcome : Outcome) : Type 0 where
+pub data IsOutcomeOfReading (files : Files) (options : Options) (tree : TreeFacts) (lines : List (Located Numbered)) (read : ReadResult)
+    (outcome : Outcome) : Type 0 where
   long_line : (stop : StreamLocation) → read.stopped ≡ Some stop →
       outcome ≡ reported read.warned (refused (error_at stop.stream stop.number (run_error_text RunError.LineTooLong))) →
-      IsOutcomeOfReading options tree read outcome
+      IsOutcomeOfReading files options tree lines read outcome
   whole : (solution : Solution) → read.stopped ≡ None → IsSolutionFor tree read.input.places solution →
-      outcome ≡ reported read.warned (refused_if options (refuses_input options read.input solution) (warned_files options tree read.input solution))
-      → IsOutcomeOfReading options tree read outcome
+      outcome ≡ reported read.warned (refused_if options (refuses_input options read.input solution) (warned_files files options tree lines read.input solution))
+      → IsOutcomeOfReading files options tree lines read outcome
 
 -- What a run leaves if --strict-tree is left aside and no dependency file is added. The tree opens these files, and the input files hold these bytes.
 pub data IsLenientOutcome (files : Files) (options : Options) (opened all : List (List ℕ)) (outcome : Outcome) : Type 0 where
@@ -215,8 +238,14 @@ pub data IsLenientOutcome (files : Files) (options : Options) (opened all : List
   refused_name : (tree : TreeFacts) (name : List ℕ) → IsAcceptedTree files (root_file options) tree → unreadable_name options opened ≡ Some name →
       outcome ≡ refused (lead options ++ error_line (run_error_text (RunError.UnreadableName (first_line name)))) →
       IsLenientOutcome files options opened all outcome
-  accepted_tree : (tree : TreeFacts) → IsAcceptedTree files (root_file options) tree → unreadable_name options opened ≡ None →
-      (rest : Outcome) × IsOutcomeOfReading options tree (read_of options tree all) rest × (outcome ≡ reported (lines_text tree.warnings) rest) →
+  unknown_symbol : (tree : TreeFacts) (asked : List ℕ) → IsAcceptedTree files (root_file options) tree → unreadable_name options opened ≡ None →
+      unknown_name options tree ≡ Some asked →
+      outcome ≡ refused (lead options ++ error_line (run_error_text (RunError.UnknownName (first_line asked) (near_text tree asked)))) →
+      IsLenientOutcome files options opened all outcome
+  accepted_tree : (tree : TreeFacts) (log : Log) → IsAcceptedTree files (root_file options) tree → Expands files (root_file options) (Ok log) →
+      unreadable_name options opened ≡ None → unknown_name options tree ≡ None →
+      (rest : Outcome) × IsOutcomeOfReading files options tree (numbered_lines log.lines) (read_of options tree all) rest
+      × (outcome ≡ reported (lines_text tree.warnings) rest) →
       IsLenientOutcome files options opened all outcome
 
 -- With --strict-tree, what would write files and warns of anything is refused. What then writes files also writes the dependency file, if wanted.

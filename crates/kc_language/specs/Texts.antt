@@ -171,9 +171,11 @@ abbrev pub lost_of : List ℕ → Option SymbolFacts → Option StreamLocation �
 lost_of called None at given value = []
 lost_of called (Some f) at given value = if has_prompt f.prompts then lost_by called f.symbol_type at given value else []
 
+abbrev pub lost_at : List (Option StreamLocation) → Solution → SymId → List (List ℕ)
+lost_at lines s i = lost_of (name s.tree i) (facts s.tree i) (slice_index_or lines i.0 None) (place_at s.places (SymbolPlace i.0)) (given_of (known s i))
+
 abbrev pub lost_lines : List (Option StreamLocation) → Solution → List (List ℕ)
-lost_lines lines s = flat_map (λ i. lost_of (name s.tree i) (facts s.tree i) (slice_index_or lines i.0 None)
-    (place_at s.places (SymbolPlace i.0)) (given_of (known s i))) s.tree.defined
+lost_lines lines s = flat_map (lost_at lines s) s.tree.defined
 
 -- ---- Reading a written file again
 -- What reading this text alone gives, under this name.

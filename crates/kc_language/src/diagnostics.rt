@@ -77,6 +77,8 @@ pub enum RunError<N> {
     NotUpToDate(N),
     /// E23: make cannot read the name of the file.
     UnreadableName(N),
+    /// E24: no symbol has the first name. The second text names those that differ from it by one letter.
+    UnknownName(N, N),
 }
 
 /// What there is to warn of (our own). A warning holds the texts that it is about, each kept as an `N`: names of symbols, and

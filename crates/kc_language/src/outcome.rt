@@ -28,10 +28,20 @@ pub struct Options<P> {
     pub minimal: Option<String>,
     /// The list of new symbols to write.
     pub list_new: Option<String>,
+    /// Whether that list shows the definitions of each symbol, with prompt and help, as comments.
+    pub with_help: bool,
     /// The list of the input lines that named no symbol to write.
     pub list_gone: Option<String>,
     /// The dependency file to write.
     pub depfile: Option<String>,
+    /// The file to write explanations to.
+    pub explanation: Option<String>,
+    /// The names of the symbols to explain, with or without the prefix.
+    pub explain: Vec<String>,
+    /// In how many steps the symbols that hold such a symbol down are explained too.
+    pub explain_depth: usize,
+    /// Whether each lost value that is warned of (K14) is explained, with what holds it down in one step.
+    pub explain_lost: bool,
     /// The files to read after the `.config`, in this order.
     pub fragments: Vec<String>,
     /// What stands before each symbol's name.

@@ -78,6 +78,13 @@ impl Tree {
         self.layout.defined()[i]
     }
 
+    /// The names that the tree mentions, each once, in the order of their first mention (our own).
+    pub fn names(&self) -> &Names
+        ensures { result.now ≡ self.now.names }
+    {
+        &self.names
+    }
+
     /// The number of a name that the tree mentions, defined or not; `None` for another name (the numbers are our own;
     /// kconfiglib's `syms` finds the same names).
     pub fn find(&self, name: &[u8]) -> Option<SymId>
