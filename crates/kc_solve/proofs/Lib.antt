@@ -9,3 +9,4 @@ pub mod OrderSteps
 pub mod SequenceSteps
 pub mod SolvedSteps
 pub mod ShownSteps
+pub mod SourceSteps

@@ -1,11 +1,11 @@
 -- A visible member that is not the default selection of its choice is another that could be selected.
 use Rattle.std.proofs.Common.{◌≡◌, ◌≢◌, ◌&&◌, ℕ, Bool, true, false, not, Some, None, refl, sym, ◌∙◌, ap}
-use Rattle.std.specs.List.{Contains, list_any}
+use Rattle.std.specs.List.{list_any}
 use Rattle.std.specs.Option.{option_map_or}
 use Rattle.std.proofs.lemmas.Bool.{and_from, false_from_ne_true, not_from_false, true≢false}
 use Rattle.std.proofs.lemmas.List.Folds.{list_any_at}
 use Rattle.kc_language.specs.Expressions.{SymbolValue, same_symbol}
-use Rattle.kc_language.specs.Symbols.{ChoiceFacts, SymbolFacts, TreeFacts}
+use Rattle.kc_language.specs.Symbols.{SymbolFacts, TreeFacts}
 use Rattle.kc_language.specs.Values as v
 use Rattle.kc_language.specs.declared.expressions.SymId.{SymId}
 use Rattle.kc_language.specs.declared.expressions.SymbolType.{SymbolType}

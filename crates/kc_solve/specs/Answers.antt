@@ -1,5 +1,6 @@
 -- Trusted: What a solution answers of symbols, conditions, entries and choices.
 use Rattle.std.specs.Prelude.{◌≡◌, ℕ, Bool, List, Option, Some, None}
+use Rattle.std.specs.List.{flat_map}
 use Rattle.kc_language.specs.Expressions.{SymbolValue, truth_of_value}
 use Rattle.kc_expr.specs.PartsOfExpressions.{text_of_value}
 use Rattle.kc_expr.specs.Value.{values_by}
@@ -7,10 +8,10 @@ use Rattle.kc_language.specs.declared.expressions.SymId.{SymId}
 use Rattle.kc_language.specs.declared.expressions.Tri.{Tri}
 use Rattle.kc_language.specs.declared.expressions.Tri.TheVariants.{N, Y}
 use Rattle.kc_language.specs.declared.expressions.SymbolType.{SymbolType}
-use Rattle.kc_language.specs.Symbols.{Condition, SymbolFacts, TreeFacts, Shown, SymbolShown, MenuShown, EndShown, CommentShown}
+use Rattle.kc_language.specs.Symbols.{Condition, SymbolFacts, TreeFacts, Shown, SymbolShown, MenuShown, EndShown, CommentShown, listed}
 use Rattle.kc_language.specs.ConfigFile.{place_at}
 use Rattle.kc_language.specs.Values as values
-use Rattle.kc_language.specs.Values.{facts, type_in}
+use Rattle.kc_language.specs.Values.{conditions, facts, type_in}
 use Rattle.kc_language.specs.Texts.{Solution, known, value_of}
 
 -- the type of a symbol, its truth value and its text, as values that expressions read
@@ -38,6 +39,10 @@ visibility_by tree known (Some f) = values.visibility tree known f
 -- the greatest condition of a symbol's prompts (kconfiglib's `visibility`); a name that is not defined has none
 abbrev pub visibility : Solution → SymId → Tri
 visibility s id = visibility_by s.tree (known s) (facts s.tree id)
+
+-- the same in any type, m staying m
+abbrev pub prompts_condition : Solution → SymId → Tri
+prompts_condition s id = conditions s.tree (known s) (flat_map (λ f. f.prompts) (listed (facts s.tree id)))
 
 -- what a condition is worth
 abbrev pub truth : Solution → Condition → Tri

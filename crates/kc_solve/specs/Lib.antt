@@ -9,3 +9,4 @@ pub mod SolutionCode
 pub mod Computing
 pub mod Graphs
 pub mod Titles
+pub mod Sources

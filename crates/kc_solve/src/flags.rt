@@ -29,8 +29,8 @@ use kc_values::warnings::warnings_into;
 use kc_values::written::written as is_written;
 use std::alloc::{AllocError, Global};
 
-// How many choices a tree has.
-fn choice_count(tree: &Tree) -> usize
+/// How many choices a tree has.
+pub(crate) fn choice_count(tree: &Tree) -> usize
     ensures { result ≡ length tree.now.choices }
 {
     tree.choices().len()

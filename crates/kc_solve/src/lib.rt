@@ -10,6 +10,7 @@ pub mod evaluation_order;
 mod flags;
 pub mod solve;
 pub mod solved;
+mod sources;
 
 pub use evaluation_order::EvaluationOrder;
 pub use solved::Solved;

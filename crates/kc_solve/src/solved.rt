@@ -1,28 +1,33 @@
 //! The solution of a tree's equations under a user's places, and what follows from it.
 
-ghost use Rattle.std.specs.Prelude.{◌≡◌, ◌<◌, length, map, slice_get};
+ghost use Rattle.std.specs.Prelude.{◌≡◌, ◌<◌, length, map, option_and_then, slice_get, IfSome};
 ghost use Rattle.kc_expr.specs.PartsOfExpressions.{text_of_value};
+ghost use Rattle.kc_values.specs.Small.{HasSmallBounds};
 ghost use Rattle.kc_values.specs.TableFacts.{known_at};
 ghost use Rattle.kc_solve.specs.Answers as spec;
 ghost use Rattle.kc_diagnostics.specs.Warnings.{owned_warning};
-ghost use Rattle.kc_language.specs.Texts.{IsSolution, value_warnings};
+ghost use Rattle.kc_language.specs.Explanations.{source};
+ghost use Rattle.kc_language.specs.Texts.{IsSolution, known, value_warnings};
 ghost use Rattle.kc_solve.specs.SolvedLaws.{IsMinimal, IdempotentWhere};
 ghost use Rattle.kc_solve.specs.Answers.{TellsKnown};
 ghost use Rattle.kc_solve.specs.Titles.{IsTitleAt};
 ghost use Rattle.kc_language.specs.Needs.{IsAccepted};
-ghost use Rattle.kc_language.specs.Values.{name_count};
+ghost use Rattle.kc_language.specs.Values.{active_range, choice_at, facts, mode_of, name_count};
 
 use crate::compute::symbol_row;
 use crate::flags::{at_choice, at_symbol, symbol_is_new, visibility_at};
+use crate::sources::{mode_at, prompts_condition_at, symbol_source};
 use kc_diagnostics::Warning;
 use kc_expr::expression::{SymId, SymbolType, Tri};
 use kc_expr::values::{Values, tri_text, truth_of};
+use kc_language::explanations::Source;
 use kc_tree::layout::Layout;
 use kc_tree::rows::{ChoiceId, ContextId, ShownEntry, Title};
 use kc_tree::tree::Tree;
 use kc_user::user::User;
 use kc_values::conditions::title_condition;
 use kc_values::laws::{idempotent_where, minimal_restores};
+use kc_values::numbers::{Interval, active_range};
 use kc_values::table::Table;
 use std::marker::Model;
 
@@ -133,6 +138,14 @@ impl<'a> Solved<'a> {
         visibility_at(&self.visibilities, id)
     }
 
+    /// The greatest condition of the symbol's prompts as they are written, m where m is the greatest even if the symbol can't be m; n
+    /// where the tree has no such symbol (our own). It is found when it is asked for.
+    pub fn prompts_condition(&self, id: SymId) -> Tri
+        ensures { result ≡ spec.prompts_condition self.now id }
+    {
+        prompts_condition_at(&self.table, id)
+    }
+
     /// Whether the symbol has a line in the `.config`: it is visible; or, outside a choice, a bool or tristate whose
     /// default, what it is selected to, or what it is implied to within its dependency is not n, or a string, int or hex one of whose
     /// defaults counts. A symbol without a type has none (kconfiglib's `config_string`).
@@ -180,6 +193,35 @@ impl<'a> Solved<'a> {
     {
         let symbol = symbol_row(self.table.layout, id);
         symbol_is_new(&self.table, self.user, id, symbol, &self.default_selections)
+    }
+
+    /// Where the value of the symbol comes from (our own): a `select` that raises it, the user, an `imply`, a default, or none; of
+    /// a member, how its choice selects. It is found when it is asked for.
+    pub fn source(&self, id: SymId) -> Source
+        requires { id.0 < name_count self.now.tree }
+        ensures { result ≡ source self.now id }
+    {
+        let symbol = symbol_row(self.table.layout, id);
+        symbol_source(&self.table, self.user, id, symbol, &self.selections)
+    }
+
+    /// The active range of the symbol: the first whose condition is not n (the kernel's kconfig-language document, "Menu
+    /// attributes": numerical ranges). It is found when it is asked for.
+    pub fn active_range(&self, id: SymId) -> Option<Interval>
+        requires { id.0 < name_count self.now.tree }
+        ensures range { result ≡ option_and_then (active_range self.now.tree (known self.now)) (facts self.now.tree id) }
+        ensures small { IfSome result HasSmallBounds }
+    {
+        let symbol = symbol_row(self.table.layout, id);
+        active_range(&self.table, symbol)
+    }
+
+    /// The mode of the choice of this number: y where its prompt's condition is not n, else n; n where there is no such choice
+    /// (kconfiglib's `tri_value` of a choice).
+    pub fn mode(&self, choice: usize) -> Tri
+        ensures { result ≡ mode_of self.now.tree (known self.now) (choice_at self.now.tree choice) }
+    {
+        mode_at(&self.table, choice)
     }
 
     /// The warnings of the values, in the order of the symbols' first definitions: selected above its dependency (K11), a

@@ -1,10 +1,10 @@
 -- A symbol is new exactly if its question can be answered.
-use Rattle.std.proofs.Common.{◌≡◌, ◌≢◌, ℕ, suc, ◌<◌, ◌↔◌, Bool, true, false, not, ◌&&◌, ◌||◌, cond, List, [], ◌∷◌, Option, Some, None, is_some, length, pos, refl, sym, ap, subst, ◌∙◌, inl, inr, arith, codes}
-use Rattle.std.specs.Prelude.{bytes_eq, int_lt, nat_eq, nat_le, option_map, unwrap_or, ℤ}
-use Rattle.std.specs.Cmp.Lexicographic.{pointwise, same_text}
+use Rattle.std.proofs.Common.{◌≡◌, ◌≢◌, ℕ, suc, ◌↔◌, Bool, true, false, not, ◌&&◌, ◌||◌, cond, List, [], ◌∷◌, Option, Some, None, is_some, length, pos, refl, sym, ap, subst, ◌∙◌, inl, inr, arith}
+use Rattle.std.specs.Prelude.{bytes_eq, int_lt, nat_le, option_map, unwrap_or, ℤ}
+use Rattle.std.specs.Cmp.Lexicographic.{same_text}
 use Rattle.std.specs.List.{Contains, find, list_any}
 use Rattle.std.specs.Option.{option_map_or, option_or, option_and_then}
-use Rattle.std.proofs.lemmas.Bool.{and_cases, and_from, and_parts, cases_Bool, eq-eqb, false_from_ne_true, lt-ltb, true_from_ne_false, not_from_false, or_cases, or_left, or_right, true≢false}
+use Rattle.std.proofs.lemmas.Bool.{and_from, and_parts, cases_Bool, false_from_ne_true, lt-ltb, true_from_ne_false, not_from_false, or_cases, or_left, or_right, true≢false}
 use Rattle.std.proofs.lemmas.List.Folds.{list_any_at}
 use Rattle.kc_language.specs.Expressions.{SymbolValue, TextValue, Truth, same_symbol, symbol, text, truth_of_value}
 use Rattle.kc_language.specs.Symbols.{Bounds, ChoiceFacts, Guarded, SymbolFacts, TreeFacts}
@@ -18,7 +18,7 @@ use Rattle.kc_language.specs.declared.values.Interval.{Interval}
 use Rattle.kc_language.specs.Values as v
 use Rattle.kc_language.specs.Values.{ChoicePlace, GivenText, GivenTruth, GivenValue, Member, SymbolPlace, UserPlace, given_of, is_n, known_from, name_count, number_or_zero, same_given, same_tri}
 use Rattle.kc_values.specs.PartsOfValues.{user_place_by, user_place_of, visible_facts}
-use Rattle.kc_user.specs.Places.{allowed_by, allowed_for, allowed_text, allowed_truth, members_of}
+use Rattle.kc_user.specs.Places.{allowed_by, allowed_for, allowed_text, members_of}
 use Rattle.kc_values.specs.Laws.{NewCanBeAnswered}
 use Rattle.kc_values.proofs.NumberTexts.{TwoTexts, hex_texts_of, int_texts}
 use Rattle.kc_values.proofs.Same.{same_symbol-true, same_symbol_itself}

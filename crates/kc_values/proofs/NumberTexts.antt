@@ -1,14 +1,14 @@
 -- Each number in the limits of its type is written by two short texts.
-use Rattle.std.proofs.Common.{◌≡◌, ℕ, zero, suc, ◌<◌, ◌≤◌, ◌+◌, ◌*◌, ◌^◌, Bool, true, false, cond, List, [], ◌∷◌, length, Option, Some, None, drop, pos, refl, sym, ap, ◌∙◌, arith, inl, inr, codes}
-use Rattle.std.specs.Prelude.{bytes_eq, if◌then◌else◌, is_some, nat_le, nat_lt, neg_ℤ, option_map, unwrap_or, ℤ, ◌&&◌, ◌++◌, ◌==◌, ◌/◌, ◌%◌}
+use Rattle.std.proofs.Common.{◌≡◌, ℕ, zero, suc, ◌<◌, ◌≤◌, ◌+◌, ◌^◌, Bool, true, false, cond, List, [], ◌∷◌, length, Option, Some, None, drop, pos, refl, sym, ap, arith}
+use Rattle.std.specs.Prelude.{bytes_eq, nat_le, nat_lt, option_map, unwrap_or, ℤ, ◌==◌, ◌/◌, ◌%◌}
 use Rattle.std.specs.Char.{digit_value, is_digit}
 use Rattle.std.specs.Fmt.{digit_glyph, digits, digits_onto}
-use Rattle.std.specs.Str.Parse.{AllDigits, IsNumeral, digits_value, digits_value_after, starts_with_minus}
-use Rattle.std.proofs.lemmas.Bool.{and_from, and_parts, cases_Bool, lt-ltb, ltb-true}
+use Rattle.std.specs.Str.Parse.{AllDigits, digits_value, starts_with_minus}
+use Rattle.std.proofs.lemmas.Bool.{and_from, and_parts, lt-ltb, ltb-true}
 use Rattle.std.proofs.lemmas.Fmt.{digits_is_IsNumeral}
 use Rattle.std.proofs.lemmas.Bool.{false_from_ne_true, le-leb}
 use Rattle.std.specs.Cmp.Lexicographic.{same_text}
-use Rattle.kc_language.specs.Text.{has_hex_prefix, int_of, hex_of, natural_of, longest_value}
+use Rattle.kc_language.specs.Text.{natural_of, longest_value}
 use Rattle.kc_language.specs.Values.{number_as, number_or_zero}
 use Rattle.kc_language.specs.declared.expressions.SymbolType.{SymbolType}
 use Rattle.kc_language.specs.declared.expressions.SymbolType.TheVariants.{Hex, Int}

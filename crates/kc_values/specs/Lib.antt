@@ -12,6 +12,7 @@ pub mod PartsOfTexts
 pub mod PartsOfValues
 pub mod Selections
 pub mod Small
+pub mod Sources
 pub mod Table
 pub mod TableFacts
 pub mod User

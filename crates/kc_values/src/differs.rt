@@ -48,8 +48,8 @@ pub fn can_count(user: Option<&UserValue>, visibility: Tri) -> bool
     user.is_some() && !is_n(visibility)
 }
 
-// Whether a selection is the symbol.
-fn selects(selection: Option<SymId>, id: SymId) -> bool
+/// Whether a selection is the symbol.
+pub(crate) fn selects(selection: Option<SymId>, id: SymId) -> bool
     ensures { result ≡ is_symbol_of id selection }
 {
     match selection {

@@ -8,6 +8,7 @@
 //! - [`needs`] and [`nodes`]: which values each equation asks for, as a graph.
 //! - [`written`] and [`differs`]: which symbols a file shows, and which a minimal file needs.
 //! - [`answers`]: which symbols an answer of the user would change.
+//! - [`sources`]: where a value comes from.
 //! - [`warnings`]: the warnings about values.
 //! - [`laws`]: what holds of the equations of every tree.
 
@@ -20,6 +21,7 @@ pub mod laws;
 pub mod needs;
 pub mod nodes;
 pub mod numbers;
+pub mod sources;
 pub mod table;
 pub mod texts;
 pub mod truths;

@@ -67,7 +67,7 @@ fn first_met<'t>(table: &Table<'t>, definition: &Definition) -> Option<&'t Symbo
 
 /// The active range of a symbol: the first whose condition is not n (the kernel's kconfig-language document, "Menu
 /// attributes": numerical ranges). A bound that is no number counts as 0 (our own).
-pub(crate) fn active_range(table: &Table<'_>, symbol: &Symbol) -> Option<Interval>
+pub fn active_range(table: &Table<'_>, symbol: &Symbol) -> Option<Interval>
     ensures range { result ≡ spec.active_range table.now symbol.now }
     ensures small { IfSome result HasSmallBounds }
 {

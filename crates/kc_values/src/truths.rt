@@ -62,7 +62,7 @@ fn prompt_visibility(table: &Table<'_>, definition: &Definition) -> Tri
 }
 
 /// The greatest condition of the prompts of a symbol; n without a prompt.
-pub(crate) fn prompts_condition(table: &Table<'_>, symbol: &Symbol) -> Tri
+pub fn prompts_condition(table: &Table<'_>, symbol: &Symbol) -> Tri
     ensures { result ≡ spec.conditions table.now (spec.own_lines table.now symbol.now).prompts }
 {
     let mut greatest = Tri::N;
@@ -198,8 +198,8 @@ pub(crate) fn implied_to(table: &Table<'_>, id: SymId, symbol: &Symbol) -> Tri
     }
 }
 
-// The default, which an imply raises up to the direct dependency. That is looked at only where something implies the symbol.
-fn implied(table: &Table<'_>, id: SymId, symbol: &Symbol) -> Tri
+/// The default, which an imply raises up to the direct dependency. That is looked at only where something implies the symbol.
+pub(crate) fn implied(table: &Table<'_>, id: SymId, symbol: &Symbol) -> Tri
     ensures { result ≡ spec.implied_value table.now id symbol.now }
 {
     let default = default_truth(table, symbol);
@@ -210,8 +210,13 @@ fn implied(table: &Table<'_>, id: SymId, symbol: &Symbol) -> Tri
     }
 }
 
-// The user's truth up to the visibility, where the symbol is visible, and else its default. Only what counts is looked at.
-fn given_or_implied(table: &Table<'_>, id: SymId, symbol: &Symbol, user: Option<&UserValue>) -> Tri
+/// The user's truth up to the visibility, where the symbol is visible, and else its default. Only what counts is looked at.
+pub(crate) fn given_or_implied(
+    table: &Table<'_>,
+    id: SymId,
+    symbol: &Symbol,
+    user: Option<&UserValue>,
+) -> Tri
     ensures { result ≡ user_or (given_in user.entry) (spec.visibility table.now symbol.now) (spec.implied_value table.now id symbol.now) }
 {
     match user {

@@ -24,8 +24,8 @@ use kc_tree::rows::Symbol;
 use kc_user::value::UserValue;
 use std::alloc::{AllocError, Global};
 
-// Whether one truth is greater than another.
-fn is_above(a: Tri, b: Tri) -> bool
+/// Whether one truth is greater than another.
+pub(crate) fn is_above(a: Tri, b: Tri) -> bool
     ensures { result ≡ above a b }
 {
     match (a, b) {

@@ -1,4 +1,4 @@
-use Rattle.std.proofs.Common.{◌≡◌, ◌<◌, ap, arith, subst, sym}
+use Rattle.std.proofs.Common.{◌<◌, arith, subst, sym}
 use Rattle.kc_language.specs.Texts.{Solution}
 use Rattle.kc_language.specs.Values.{name_count}
 use Rattle.kc_tree.specs.Layouts.{facts_of}

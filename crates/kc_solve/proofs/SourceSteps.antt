@@ -1,0 +1,69 @@
+-- Where the value of a symbol comes from, by its row and at a solution; and its prompts, by its row.
+use Rattle.std.proofs.Common.{◌≡◌, ℕ, List, [], length, Option, None, Some, refl, sym, ◌∙◌, ap, subst, append-nil, flat_map}
+use Rattle.std.proofs.Math.Logic.{∥∥₁_elim}
+use Rattle.std.specs.Prelude.{slice_get}
+use Rattle.std.specs.Coded.{Coded-set, coded_option}
+use Rattle.kc_language.specs.ConfigFile.{Places, place_at}
+use Rattle.kc_language.specs.Explanations.{member_source, source, source_by, source_by_type}
+use Rattle.kc_language.specs.Expressions.{SymbolValue}
+use Rattle.kc_language.specs.Symbols.{Condition, SymbolFacts, TreeFacts, listed}
+use Rattle.kc_language.specs.Texts.{Solution}
+use Rattle.kc_language.specs.Values.{GivenValue, UserPlace, choice_at, facts, name_count, user_place}
+use Rattle.kc_language.specs.declared.explanations.Source.{Source}
+use Rattle.kc_language.specs.declared.expressions.SymId.{SymId}
+use Rattle.kc_tree.specs.TreeCode.{symbol_code}
+use Rattle.kc_tree.specs.declared.rows.Symbol.{Symbol}
+use Rattle.kc_values.proofs.Laid.{symbol_found}
+use Rattle.kc_values.specs.AtTable.{own_lines}
+use Rattle.kc_values.specs.PartsOfValues.{user_place_by, user_place_of}
+use Rattle.kc_values.specs.Table.{known_in}
+use Rattle.kc_values.specs.TableFacts.{IsRowOf}
+use Rattle.kc_values.specs.declared.table.Table.{Table}
+use Rattle.kc_values.specs.declared.table.Value.{Value}
+use Rattle.kc_solve.specs.Kept.{solution_in}
+use Rattle.kc_solve.specs.Sources.{source_by_choice}
+use Rattle.kc_solve.proofs.SolvedSteps.{table_tells}
+use Rattle.kc_solve.proofs.TableSteps.{row_facts}
+
+module _ (tree : TreeFacts) (known : SymId → SymbolValue) (user : UserPlace → Option GivenValue) (id : SymId) (f : SymbolFacts) where
+  abbrev by_place : Option ℕ → Option GivenValue → Source
+  by_place None given = source_by_type tree known f f.symbol_type given
+  by_place (Some k) given = member_source tree known (choice_at tree k) given
+
+  at_place : (c : Option ℕ) → source_by_choice tree known user id f c ≡ by_place c (user (user_place_by id.0 c))
+  at_place None = refl
+  at_place (Some k) = refl
+
+  by_choice : (c : Option ℕ) (given : Option GivenValue) → by_place c given
+      ≡ elim c [ None ↦ source_by_type tree known f f.symbol_type given | Some k ↦ member_source tree known (choice_at tree k) given ]
+  by_choice None given = refl
+  by_choice (Some k) given = refl
+
+  source_found : facts tree id ≡ Some f → source_by_choice tree known user id f f.choice ≡ source_by tree known (facts tree id) (user (user_place tree id.0))
+  source_found at = at_place f.choice ∙ by_choice f.choice (user (user_place_by id.0 f.choice)) ∙ sym (ap (λ o. source_by tree known o (user (user_place_of id.0 o))) at)
+
+-- the source that a full table gives is that of its solution
+pub source_is : (tree : TreeFacts) (places : Places) (values : List (Option Value)) → length values ≡ name_count tree → (s : Solution) → solution_in tree places values ≡ s →
+    (id : SymId) (f : SymbolFacts) → facts tree id ≡ Some f → (x : Source) → x ≡ source_by_choice tree (known_in tree values) (place_at places) id f f.choice → x ≡ source s id
+source_is tree places values full s e id f at x h =
+    subst (λ (y : Solution). x ≡ source y id) e
+    (h
+    ∙ source_found tree (known_in tree values) (place_at places) id f at
+    ∙ ap (λ k. source_by tree k (facts tree id) (place_at places (user_place tree id.0))) (table_tells tree places values full))
+
+-- the prompts of the symbol of this number, if there is one
+abbrev pub prompts_at : Table → SymId → List Condition
+prompts_at t id = flat_map (λ (f : SymbolFacts). f.prompts) (listed (facts t.tree.now id))
+
+-- they are those of its row
+pub prompts_of_row : (t : Table) (id : SymId) (s : Symbol) → IsRowOf t id s → prompts_at t id ≡ (own_lines t s).prompts
+prompts_of_row t id s row =
+    ap (λ o. flat_map (λ (f : SymbolFacts). f.prompts) (listed o)) (row_facts t id s row) ∙ append-nil (own_lines t s).prompts
+
+-- and none where there is no row
+pub no_facts : (t : Table) (id : SymId) → slice_get t.layout.now.symbols.items id.0 ≡ None → facts t.tree.now id ≡ None
+no_facts t id none =
+    ∥∥₁_elim t.laid (Coded-set (coded_option symbol_code) _ _) (λ laid. sym (symbol_found t.tree.now t.layout.now laid id.0 None (sym none)))
+
+pub no_prompts : (t : Table) (id : SymId) → slice_get t.layout.now.symbols.items id.0 ≡ None → prompts_at t id ≡ []
+no_prompts t id none = ap (λ o. flat_map (λ (f : SymbolFacts). f.prompts) (listed o)) (no_facts t id none)

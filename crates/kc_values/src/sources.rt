@@ -1,0 +1,162 @@
+//! Where the value of a symbol comes from.
+
+ghost use Rattle.std.specs.Prelude.{◌≡◌};
+ghost use Rattle.std.specs.Option.{option_copied};
+ghost use Rattle.kc_user.specs.PartsOfConfigFile.{member_place};
+ghost use Rattle.kc_values.specs.AtTable as at;
+ghost use Rattle.kc_values.specs.Sources as spec;
+ghost use Rattle.kc_values.specs.User.{given_in};
+
+use crate::answers::is_visible;
+use crate::conditions::{is_n, mode_of};
+use crate::differs::selects;
+use crate::numbers::{active_range, if_within_range, is_within_range};
+use crate::table::Table;
+use crate::texts::{default_text, visible_text_of};
+use crate::truths::{default_truth, given_or_implied, implied, met_default, selected_to, upgraded};
+use crate::warnings::is_above;
+use kc_expr::expression::{SymId, SymbolType};
+use kc_language::explanations::Source;
+use kc_tree::rows::{ChoiceId, Symbol};
+use kc_user::value::UserValue;
+
+// The default that applied, as it is or moved into the active range.
+fn default_source(table: &Table<'_>, symbol: &Symbol) -> Source
+    ensures { result ≡ spec.default_source table.now symbol.now }
+{
+    if met_default(table, symbol).is_none() {
+        return Source::NoDefault;
+    }
+    let range = active_range(table, symbol);
+    if is_within_range(symbol.symbol_type, range, default_text(table, symbol)) {
+        Source::Default
+    } else {
+        Source::MovedDefault
+    }
+}
+
+// Whether the user gave a truth value and the symbol is visible.
+fn is_truth_used(table: &Table<'_>, symbol: &Symbol, user: Option<&UserValue>) -> bool
+    ensures { result ≡ spec.is_truth_used table.now symbol.now (given_in user.entry) }
+{
+    match user {
+        Some(UserValue::Tri(_)) => is_visible(table, symbol),
+        _ => false,
+    }
+}
+
+// The source of a bool or tristate symbol without the user and a `select`: an `imply` that raises the default, else the default.
+fn implied_source(table: &Table<'_>, id: SymId, symbol: &Symbol) -> Source
+    ensures { result ≡ spec.implied_source table.now id symbol.now }
+{
+    if is_above(implied(table, id, symbol), default_truth(table, symbol)) {
+        Source::Implied
+    } else {
+        default_source(table, symbol)
+    }
+}
+
+// The source of a bool or tristate symbol without a `select`: the user where the symbol is visible, else what the rest is.
+fn unselected_source(
+    table: &Table<'_>,
+    id: SymId,
+    symbol: &Symbol,
+    user: Option<&UserValue>,
+) -> Source
+    ensures { result ≡ spec.unselected_source table.now id symbol.now (given_in user.entry) }
+{
+    if is_truth_used(table, symbol, user) {
+        Source::User
+    } else {
+        implied_source(table, id, symbol)
+    }
+}
+
+// The source of a bool or tristate symbol: a `select` that raises it above the rest, or what the rest is.
+fn truth_source(table: &Table<'_>, id: SymId, symbol: &Symbol, user: Option<&UserValue>) -> Source
+    ensures { result ≡ spec.truth_source table.now id symbol.now (given_in user.entry) }
+{
+    let rest = given_or_implied(table, id, symbol, user);
+    let unselected = upgraded(table, symbol.symbol_type, rest);
+    if is_above(selected_to(table, id, symbol), unselected) {
+        Source::Selected
+    } else {
+        unselected_source(table, id, symbol, user)
+    }
+}
+
+// The source of a string, int or hex symbol: the user's text where one is used, else the default.
+fn text_source(table: &Table<'_>, symbol: &Symbol, used: Option<&[u8]>) -> Source
+    ensures { result ≡ spec.text_source table.now symbol.now (option_copied used.entry) }
+{
+    match used {
+        Some(_) => Source::User,
+        None => default_source(table, symbol),
+    }
+}
+
+// The source of an int or hex symbol, whose range the user's text has to be inside.
+fn number_source(table: &Table<'_>, symbol: &Symbol, user: Option<&UserValue>) -> Source
+    ensures { result ≡ spec.number_source table.now symbol.now (given_in user.entry) }
+{
+    let range = active_range(table, symbol);
+    let given = visible_text_of(table, symbol, user);
+    text_source(
+        table,
+        symbol,
+        if_within_range(symbol.symbol_type, range, given),
+    )
+}
+
+/// Where the value of a symbol outside a choice comes from (our own). Of a bool or tristate a `select` that raises it above the
+/// rest, else the user's truth value if it is visible, else an `imply` that raises the default; of a string the user's text if it
+/// is visible, of an int or hex if it is in the active range too. Else the default that applied, which the active range may have
+/// moved, or none. Without a type it is none of these.
+pub fn own_source(table: &Table<'_>, id: SymId, symbol: &Symbol, user: Option<&UserValue>) -> Source
+    ensures { result ≡ spec.own_source table.now id symbol.now (given_in user.entry) }
+{
+    match symbol.symbol_type {
+        SymbolType::Undefined => Source::Untyped,
+        SymbolType::Bool => truth_source(table, id, symbol, user),
+        SymbolType::Tristate => truth_source(table, id, symbol, user),
+        SymbolType::Str => text_source(table, symbol, visible_text_of(table, symbol, user)),
+        SymbolType::Int => number_source(table, symbol, user),
+        SymbolType::Hex => number_source(table, symbol, user),
+    }
+}
+
+// Whether the selection of a choice is the user's member.
+fn is_of_user(
+    table: &Table<'_>,
+    choice: ChoiceId,
+    user: Option<SymId>,
+    selection: Option<SymId>,
+) -> bool
+    requires { selection ≡ at.selected table.now choice.0 (member_place user) }
+    ensures { result ≡ spec.is_of_user table.now choice.0 (member_place user) }
+{
+    match user {
+        Some(member) => selects(selection, member),
+        None => false,
+    }
+}
+
+/// Where the values of the members of a choice come from (our own): the choice's mode is n, or it selects the user's member, or a
+/// default or the first visible member. The caller owes the selection under the user's member, so that it is not found again.
+pub fn member_source(
+    table: &Table<'_>,
+    choice: ChoiceId,
+    user: Option<SymId>,
+    selection: Option<SymId>,
+) -> Source
+    requires { selection ≡ at.selected table.now choice.0 (member_place user) }
+    ensures { result ≡ spec.member_source table.now choice.0 (member_place user) }
+{
+    if is_n(mode_of(table, choice)) {
+        Source::ChoiceOff
+    } else if is_of_user(table, choice, user, selection) {
+        Source::UserMember
+    } else {
+        Source::DefaultMember
+    }
+}
