@@ -4,13 +4,13 @@ use Rattle.std.specs.Prelude.{slice_set}
 use Rattle.kc_language.specs.declared.expressions.SymId.{SymId}
 use Rattle.kc_language.specs.Symbols.{TreeFacts}
 use Rattle.kc_language.specs.Values.{GivenValue}
-use Rattle.kc_language.specs.ConfigFile.{Places, Effect, Silent, Warns, Assigns, Line, UserInput, effect, gone_after, input_after, meaning, places_after, stream_location, untaken, untaken_line, warning, warnings}
+use Rattle.kc_language.specs.ConfigFile.{Places, Effect, Silent, Warns, Assigns, Line, UserInput, StreamLocation, effect, gone_after, input_after, meaning, not_allowed, places_after, refused_after, stream_location, untaken, untaken_line, warning, warnings}
 use Rattle.kc_config_file.specs.PartsOfConfigFile.{assignments}
-use Rattle.kc_config_file.specs.LineSteps.{gone_by, input_by}
+use Rattle.kc_config_file.specs.LineSteps.{gone_by, input_by, refused_by}
 use Rattle.kc_config_file.specs.ReadingLaws.{GoesLineByLine, LinesAddUp, LinesAreCut, LinesDoWhatTheySay, LinesInTurn, LinesKeepCounts}
-use Rattle.kc_config_file.proofs.LineLemmas.{gone_after-line, input_after-parts, lines_from-last, lines_from-lf}
+use Rattle.kc_config_file.proofs.LineLemmas.{gone_after-line, input_after-parts, lines_from-last, lines_from-lf, refused_after-line}
 use Rattle.kc_config_file.proofs.PlaceLemmas.{ArePlacesOf-given, places_given-one}
-use Rattle.kc_config_file.proofs.ReadingLemmas.{input_after-append, input_after-nothing, lines_after-length, reading-nothing, reading_long, reading_within, untaken-append, untaken-cons, warnings-append, warnings-cons, warnings-nothing}
+use Rattle.kc_config_file.proofs.ReadingLemmas.{input_after-append, input_after-nothing, lines_after-length, reading-nothing, reading_long, reading_within, refused_after-length, untaken-append, untaken-cons, warnings-append, warnings-cons, warnings-nothing}
 use Rattle.kc_config_file.proofs.StreamLemmas.{waiting_no_lf}
 
 pub lines_cut : LinesAreCut
@@ -55,16 +55,26 @@ module _ (tree : TreeFacts) (prefix : List ℕ) where
   -- ---- what a line does
 
   step : (input : UserInput) (l : Line) (e : Effect) → effect tree prefix l ≡ e →
-      input_after tree prefix input (l ∷ []) ≡ record (input_by tree input (stream_location l) e) { gone = gone_after tree prefix input.gone (l ∷ []) }
+      input_after tree prefix input (l ∷ []) ≡ record (input_by tree input (stream_location l) e) {
+        refused = refused_after tree prefix input.refused (l ∷ []);
+        gone = gone_after tree prefix input.gone (l ∷ []);
+      }
   unfolding effect
   step input l e is =
-      input_after-parts tree prefix input l ∙ ap (λ x. record (input_by tree input (stream_location l) x) { gone = gone_after tree prefix input.gone (l ∷ []) }) is
+      input_after-parts tree prefix input l ∙ ap (λ x. record (input_by tree input (stream_location l) x) {
+        refused = refused_after tree prefix input.refused (l ∷ []);
+        gone = gone_after tree prefix input.gone (l ∷ []);
+      }) is
 
   silent : (input : UserInput) (l : Line) → effect tree prefix l ≡ Silent → input_after tree prefix input (l ∷ []) ≡ input
   silent input l is =
+      let kept : refused_after tree prefix input.refused (l ∷ []) ≡ input.refused =
+      refused_after-line tree prefix input.refused l ∙ ap (λ e. refused_by (stream_location l) (not_allowed tree e) input.refused) is in
       let same : gone_after tree prefix input.gone (l ∷ []) ≡ input.gone =
       gone_after-line tree prefix input.gone l ∙ ap (λ e. gone_by prefix (meaning tree prefix l) e input.gone) is in
-      step input l Silent is ∙ ap (λ (gone : Option (List ℕ × List ℕ)). record input { gone = gone }) same
+      step input l Silent is
+      ∙ ap (λ (refused : List (Option StreamLocation)). record input { refused = refused; gone = gone_after tree prefix input.gone (l ∷ []) }) kept
+      ∙ ap (λ (gone : Option (List ℕ × List ℕ)). record input { gone = gone }) same
 
   value : (input : UserInput) (l : Line) (s : SymId) (given : GivenValue) → effect tree prefix l ≡ Assigns s given →
       (input_after tree prefix input (l ∷ [])).places.symbols ≡ slice_set input.places.symbols s.0 (Some given)
@@ -72,12 +82,17 @@ module _ (tree : TreeFacts) (prefix : List ℕ) where
       ap (λ (i : UserInput). i.places.symbols) (step input l (Assigns s given) is)
       ∙ ap (λ (p : Places). p.symbols) (places_given-one tree input.places s given)
 
+  refused : (input : UserInput) (l : Line) (s : SymId) → not_allowed tree (effect tree prefix l) ≡ Some s →
+      (input_after tree prefix input (l ∷ [])).refused ≡ slice_set input.refused s.0 (Some (stream_location l))
+  refused input l s is = refused_after-line tree prefix input.refused l ∙ ap (λ o. refused_by (stream_location l) o input.refused) is
+
   says : LinesDoWhatTheySay tree prefix
   says = record {
     silent = silent;
     warned = λ input l line_warning is. step input l (Warns line_warning) is;
     value = value;
     by_line = λ input l s given is. ap (λ (i : UserInput). i.lines) (step input l (Assigns s given) is);
+    refused = refused;
   }
 
   -- ---- what is as it was
@@ -86,6 +101,7 @@ module _ (tree : TreeFacts) (prefix : List ℕ) where
   counts = record {
     places = λ input lines there. ArePlacesOf-given tree input.places (assignments tree prefix lines) there;
     lines = λ input lines. lines_after-length tree prefix input.lines lines;
+    refused = λ input lines. refused_after-length tree prefix input.refused lines;
   }
 
   pub in_turn : LinesInTurn tree prefix

@@ -5,10 +5,11 @@ use Rattle.std.specs.List.{All, slice_split, onto_first, cons_option, last_or}
 use Rattle.std.proofs.lemmas.Bool.{cases_Bool, le-leb}
 use Rattle.std.proofs.lemmas.List.Splits.{slice_split_at, slice_split_none, slice_split-cons_no, slice_split-cons_yes}
 use Rattle.kc_language.specs.Lines.{is_line_feed}
+use Rattle.kc_language.specs.declared.expressions.SymId.{SymId}
 use Rattle.kc_language.specs.Symbols.{TreeFacts}
-use Rattle.kc_language.specs.ConfigFile.{Places, meaning_of, Effect, Silent, Warns, Assigns, effect_of, Line, StreamLocation, UserInput, is_within, lines_from, effect, meaning, said_line, each_from, gone_after, input_after, is_gone, is_on, is_taken, lines_after, places_given, stream_location, untaken, untaken_line, warning}
-use Rattle.kc_config_file.specs.PartsOfConfigFile.{line, last_line, text_of, effect_text, assignment_of, line_for}
-use Rattle.kc_config_file.specs.LineSteps.{gone_by, input_by, input_with, with_line}
+use Rattle.kc_language.specs.ConfigFile.{Places, meaning_of, Effect, Silent, Warns, Assigns, effect_of, Line, StreamLocation, UserInput, is_within, lines_from, effect, meaning, said_line, each_from, gone_after, input_after, is_gone, is_on, is_taken, lines_after, not_allowed, places_given, refused_after, stream_location, untaken, untaken_line, warning}
+use Rattle.kc_config_file.specs.PartsOfConfigFile.{line, last_line, text_of, effect_text, assignment_of, line_for, refused_for}
+use Rattle.kc_config_file.specs.LineSteps.{gone_by, input_by, input_with, refused_by, with_line}
 use Rattle.kc_config_file.proofs.StepEffects.{places_by, lines_by, all_by}
 use Rattle.kc_text.specs.PartsOfText.{one_more}
 use Rattle.kc_config_file.proofs.PlaceLemmas.{each_same, one_place, places_given-nothing}
@@ -69,11 +70,23 @@ all_by_effect input Silent = is_and_true input.all_taken
 all_by_effect input (Warns line_warning) = is_and_false input.all_taken
 all_by_effect input (Assigns s given) = refl
 
-by_parts : (tree : TreeFacts) (input : UserInput) (at : StreamLocation) (told : Option (List ℕ × List ℕ)) (e : Effect) →
-    record { places = places_by tree input.places e; lines = lines_by input.lines at e; all_taken = all_by input e; gone = told } ≡ record (input_by tree input at e) { gone = told }
-by_parts tree input at told Silent = refl
-by_parts tree input at told (Warns line_warning) = refl
-by_parts tree input at told (Assigns s given) = refl
+by_parts : (tree : TreeFacts) (input : UserInput) (at : StreamLocation) (refused : List (Option StreamLocation)) (told : Option (List ℕ × List ℕ)) (e : Effect) →
+    record { places = places_by tree input.places e; lines = lines_by input.lines at e; refused = refused; all_taken = all_by input e; gone = told }
+    ≡ record (input_by tree input at e) { refused = refused; gone = told }
+by_parts tree input at refused told Silent = refl
+by_parts tree input at refused told (Warns line_warning) = refl
+by_parts tree input at refused told (Assigns s given) = refl
+
+-- one line whose value is not allowed
+refused_by_one : (at : StreamLocation) (refused : List (Option StreamLocation)) (o : Option SymId) →
+    each_from (λ i last. last_or last (cons_option (refused_for i at o) [])) 0 refused ≡ refused_by at o refused
+refused_by_one at refused None = each_same 0 refused
+refused_by_one at refused (Some s) = one_place s.0 0 s.0 at refused (omega arith)
+
+pub refused_after-line : (tree : TreeFacts) (prefix : List ℕ) (old : List (Option StreamLocation)) (l : Line) →
+    refused_after tree prefix old (l ∷ []) ≡ refused_by (stream_location l) (not_allowed tree (effect tree prefix l)) old
+unfolding refused_after
+refused_after-line tree prefix old l = refused_by_one (stream_location l) old (not_allowed tree (effect tree prefix l))
 
 -- one gone line
 one_gone : (text : List ℕ) (gone on : Bool) (old : Option (List ℕ × List ℕ)) →
@@ -92,7 +105,10 @@ gone_after-line tree prefix old l = one_gone (said_line prefix (meaning tree pre
 
 pub input_after-parts : (tree : TreeFacts) (prefix : List ℕ) (input : UserInput) (l : Line) →
     input_after tree prefix input (l ∷ [])
-    ≡ record (input_by tree input (stream_location l) (effect_of tree (meaning_of prefix (text_of l)))) { gone = gone_after tree prefix input.gone (l ∷ []) }
+    ≡ record (input_by tree input (stream_location l) (effect_of tree (meaning_of prefix (text_of l)))) {
+      refused = refused_after tree prefix input.refused (l ∷ []);
+      gone = gone_after tree prefix input.gone (l ∷ []);
+    }
 unfolding effect lines_after untaken_line untaken
 input_after-parts tree prefix input l =
     let e = effect_of tree (meaning_of prefix (text_of l)) in
@@ -102,15 +118,21 @@ input_after-parts tree prefix input l =
     let all : (input.all_taken && (length (cond (is_taken (places_given tree input.places []) e) [] (l ∷ []) ++ []) == 0)) ≡ all_by input e =
     ap (λ b. input.all_taken && b) none ∙ all_by_effect input e in
     rw (after_effect tree input.places e, lines_by_effect (stream_location l) input.lines e, all)
-    (by_parts tree input (stream_location l) (gone_after tree prefix input.gone (l ∷ [])) e)
+    (by_parts tree input (stream_location l) (refused_after tree prefix input.refused (l ∷ [])) (gone_after tree prefix input.gone (l ∷ [])) e)
 
 pub input_after-line : (tree : TreeFacts) (prefix : List ℕ) (input : UserInput) (l : Line) (text : List ℕ) → text ≡ text_of l →
     input_after tree prefix input (l ∷ []) ≡ input_with tree prefix input (stream_location l) (meaning_of prefix text)
 unfolding effect
 input_after-line tree prefix input l text is =
     rw is (input_after-parts tree prefix input l
-    ∙ ap (λ (gone : Option (List ℕ × List ℕ)). record (input_by tree input (stream_location l) (effect_of tree (meaning_of prefix (text_of l)))) { gone = gone })
-    (gone_after-line tree prefix input.gone l))
+    ∙ ap (λ (refused : List (Option StreamLocation)). record (input_by tree input (stream_location l) (effect_of tree (meaning_of prefix (text_of l)))) {
+      refused = refused;
+      gone = gone_after tree prefix input.gone (l ∷ []);
+    }) (refused_after-line tree prefix input.refused l)
+    ∙ ap (λ (gone : Option (List ℕ × List ℕ)). record (input_by tree input (stream_location l) (effect_of tree (meaning_of prefix (text_of l)))) {
+      refused = refused_by (stream_location l) (not_allowed tree (effect tree prefix l)) input.refused;
+      gone = gone;
+    }) (gone_after-line tree prefix input.gone l))
 
 pub warning-line : (tree : TreeFacts) (prefix : List ℕ) (input : UserInput) (l : Line) (text : List ℕ) → text ≡ text_of l →
     warning tree prefix input l ≡ effect_text tree input (stream_location l) (effect_of tree (meaning_of prefix text))

@@ -7,8 +7,8 @@ use Rattle.std.proofs.lemmas.List.Elements.{filter_map-append}
 use Rattle.std.proofs.lemmas.List.Concat.{flat_map-append}
 use Rattle.std.proofs.lemmas.List.Sums.{take_while-cons}
 use Rattle.kc_language.specs.Symbols.{TreeFacts}
-use Rattle.kc_language.specs.ConfigFile.{Places, Line, LineMeaning, StreamLocation, UserInput, ReadResult, stream_location, is_within, effect, gone_after, gone_text, input_after, is_on, lines_after, places_after, untaken, untaken_line, warning, warnings, reading}
-use Rattle.kc_config_file.specs.PartsOfConfigFile.{assignments, line_for, before_too_long}
+use Rattle.kc_language.specs.ConfigFile.{Places, Line, LineMeaning, StreamLocation, UserInput, ReadResult, stream_location, is_within, effect, gone_after, gone_text, input_after, is_on, lines_after, not_allowed, places_after, refused_after, untaken, untaken_line, warning, warnings, reading}
+use Rattle.kc_config_file.specs.PartsOfConfigFile.{assignments, line_for, refused_for, before_too_long}
 use Rattle.kc_config_file.specs.Reading.{with_warnings}
 use Rattle.kc_config_file.proofs.InTurnLemmas.{told-append, told-cons}
 use Rattle.kc_config_file.proofs.PlaceLemmas.{each_last, each_same, length-each_from, places_given-append, places_given-nothing}
@@ -63,6 +63,20 @@ module _ (tree : TreeFacts) (prefix : List ℕ) where
   unfolding lines_after
   lines_after-length old lines = length-each_from (λ i last. last_or last (filter_map (λ l. line_for i (stream_location l) (effect tree prefix l)) lines)) 0 old
 
+  -- the lines whose values were not allowed
+  refused_after-nothing : (old : List (Option StreamLocation)) → refused_after tree prefix old [] ≡ old
+  unfolding refused_after
+  refused_after-nothing old = each_same 0 old
+
+  refused_after-append : (old : List (Option StreamLocation)) (a b : List Line) → refused_after tree prefix old (a ++ b) ≡ refused_after tree prefix (refused_after tree prefix old a) b
+  unfolding refused_after
+  refused_after-append old a b = each_last (λ i l. refused_for i (stream_location l) (not_allowed tree (effect tree prefix l))) a b old
+
+  pub refused_after-length : (old : List (Option StreamLocation)) (lines : List Line) → length (refused_after tree prefix old lines) ≡ length old
+  unfolding refused_after
+  refused_after-length old lines =
+      length-each_from (λ i last. last_or last (filter_map (λ l. refused_for i (stream_location l) (not_allowed tree (effect tree prefix l))) lines)) 0 old
+
   -- the gone lines
   gone_after-nothing : (old : Option (List ℕ × List ℕ)) → gone_after tree prefix old [] ≡ old
   unfolding gone_after
@@ -84,11 +98,11 @@ module _ (tree : TreeFacts) (prefix : List ℕ) where
   input_after-append input a b =
       let left = untaken tree prefix input.places a in
       let right = untaken tree prefix (places_after tree prefix input.places a) b in
-      rw (places_after-append input.places a b, lines_after-append input.lines a b, gone_after-append input.gone a b, untaken-append input.places a b, no_lines_left left right, and_assoc input.all_taken (length left == 0) (length right == 0)) refl
+      rw (places_after-append input.places a b, lines_after-append input.lines a b, refused_after-append input.refused a b, gone_after-append input.gone a b, untaken-append input.places a b, no_lines_left left right, and_assoc input.all_taken (length left == 0) (length right == 0)) refl
 
   pub input_after-nothing : (input : UserInput) → input_after tree prefix input [] ≡ input
   input_after-nothing input =
-      rw (places_after-nothing input.places, lines_after-nothing input.lines, gone_after-nothing input.gone, untaken-nothing input.places, and_true input.all_taken) refl
+      rw (places_after-nothing input.places, lines_after-nothing input.lines, refused_after-nothing input.refused, gone_after-nothing input.gone, untaken-nothing input.places, and_true input.all_taken) refl
 
   -- a line's warning, and then those of the others from the input after it
   pub warnings-cons : (input : UserInput) (l : Line) (lines : List Line) →

@@ -12,6 +12,7 @@ abbrev pub input_of : Inside → UserInput
 input_of input = record {
   places = input.user;
   lines = map (option_map location_of) input.lines.items;
+  refused = map (option_map location_of) input.refused.items;
   all_taken = input.all_taken;
   gone = option_map gone_of input.gone;
 }

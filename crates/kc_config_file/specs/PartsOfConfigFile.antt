@@ -163,6 +163,11 @@ line_for i at Silent = None
 line_for i at (Warns line_warning) = None
 line_for i at (Assigns s given) = if s.0 == i then Some at else None
 
+-- the line whose value for symbol i is not allowed
+abbrev pub refused_for : ℕ → StreamLocation → Option SymId → Option StreamLocation
+refused_for i at None = None
+refused_for i at (Some s) = if s.0 == i then Some at else None
+
 -- the lines before the first that is too long count
 abbrev pub before_too_long : List Line → List Line
 before_too_long lines = take_while is_within lines

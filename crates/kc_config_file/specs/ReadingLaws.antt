@@ -7,7 +7,7 @@ use Rattle.kc_language.specs.Lines.{is_line_feed}
 use Rattle.kc_text.specs.PartsOfLines.{HoldsNoLineFeed}
 use Rattle.kc_language.specs.Symbols.{TreeFacts, Warning}
 use Rattle.kc_language.specs.Values.{GivenValue}
-use Rattle.kc_language.specs.ConfigFile.{ArePlacesOf, Places, Silent, Warns, Assigns, Line, UserInput, effect, gone_after, input_after, is_within, lines_from, places_after, reading, stream_location, untaken, untaken_line, warning, warnings}
+use Rattle.kc_language.specs.ConfigFile.{ArePlacesOf, Places, Silent, Warns, Assigns, Line, UserInput, effect, gone_after, input_after, is_within, lines_from, not_allowed, places_after, reading, refused_after, stream_location, untaken, untaken_line, warning, warnings}
 use Rattle.kc_config_file.specs.PartsOfConfigFile.{last_line, line}
 use Rattle.kc_config_file.specs.Reading.{with_warnings}
 
@@ -48,23 +48,32 @@ module _ (tree : TreeFacts) (prefix : List ℕ) where
         untaken tree prefix places (a ++ b) ≡ untaken tree prefix places a ++ untaken tree prefix (places_after tree prefix places a) b
 
   -- A line does what it says: one that is silent or is warned of gives no symbol a value; one that gives a symbol a value
-  -- puts it in the symbol's place, and itself as the line that gave it.
+  -- puts it in the symbol's place, and itself as the line that gave it; and one whose value for a symbol is not allowed puts
+  -- itself as the line of that.
   pub record LinesDoWhatTheySay : Type 0 where
     pub silent : (input : UserInput) (l : Line) → effect tree prefix l ≡ Silent → input_after tree prefix input (l ∷ []) ≡ input
     pub warned :
         (input : UserInput) (l : Line) (line_warning : Warning) → effect tree prefix l ≡ Warns line_warning →
-        input_after tree prefix input (l ∷ []) ≡ record input { all_taken = false; gone = gone_after tree prefix input.gone (l ∷ []) }
+        input_after tree prefix input (l ∷ []) ≡ record input {
+          refused = refused_after tree prefix input.refused (l ∷ []);
+          all_taken = false;
+          gone = gone_after tree prefix input.gone (l ∷ []);
+        }
     pub value :
         (input : UserInput) (l : Line) (s : SymId) (given : GivenValue) → effect tree prefix l ≡ Assigns s given →
         (input_after tree prefix input (l ∷ [])).places.symbols ≡ slice_set input.places.symbols s.0 (Some given)
     pub by_line :
         (input : UserInput) (l : Line) (s : SymId) (given : GivenValue) → effect tree prefix l ≡ Assigns s given →
         (input_after tree prefix input (l ∷ [])).lines ≡ slice_set input.lines s.0 (Some (stream_location l))
+    pub refused :
+        (input : UserInput) (l : Line) (s : SymId) → not_allowed tree (effect tree prefix l) ≡ Some s →
+        (input_after tree prefix input (l ∷ [])).refused ≡ slice_set input.refused s.0 (Some (stream_location l))
 
   -- Lines make no place, and take none away.
   pub record LinesKeepCounts : Type 0 where
     pub places : (input : UserInput) (lines : List Line) → ArePlacesOf tree input.places → ArePlacesOf tree (input_after tree prefix input lines).places
     pub lines : (input : UserInput) (lines : List Line) → length (input_after tree prefix input lines).lines ≡ length input.lines
+    pub refused : (input : UserInput) (lines : List Line) → length (input_after tree prefix input lines).refused ≡ length input.refused
 
 abbrev pub ReadingGoesLineByLine : Type 0
 ReadingGoesLineByLine = (tree : TreeFacts) (prefix : List ℕ) → GoesLineByLine tree prefix

@@ -1,6 +1,6 @@
 //! The writers of the header, of the minimal file and of the list of new symbols.
 ghost use Rattle.std.specs.Prelude.{◌≡◌, ◌<◌, ◌++◌, length, OnOk, OnErr, IfOk, flat_map};
-ghost use Rattle.kc_language.specs.Texts.{HasShortLines, MinimalGivesBack, MinimalNeedsEach, header_text, minimal_text, new_text, solution_view, value_of};
+ghost use Rattle.kc_language.specs.Texts.{HasShortLines, MinimalGivesBack, MinimalNeedsEach, header_text, minimal_text, new_text, solution_view, symbol_config, value_of};
 ghost use Rattle.kc_config_file.specs.PartsOfTexts.{header_heading, header_if, minimal_if, new_if};
 ghost use Rattle.kc_config_file.specs.Writing.{Writes};
 ghost use Rattle.kc_user.specs.Places.{ArePlaces};
@@ -58,6 +58,24 @@ fn add_minimal_if(
         solved.tree().name(id),
         symbol_value(solved, id),
         file,
+    )
+}
+
+/// Adds the symbol's `.config` line. Its only error is to be out of memory.
+pub fn add_symbol_line(
+    solved: &Solved<'_>,
+    prefix: &Prefix,
+    id: SymId,
+    text: &mut Vec<u8>,
+) -> Result<(), AllocError>
+    requires { id.0 < length solved.now.tree.names }
+    ensures { OnOk result (text.new.items ≡ text.old.items ++ symbol_config solved.now.tree prefix.now (solution_view solved.now) id) }
+{
+    add_config_file_line(
+        prefix,
+        solved.tree().name(id),
+        symbol_value(solved, id),
+        text,
     )
 }
 

@@ -1,11 +1,11 @@
 //! What one line of a stream does to the user's input.
 ghost use Rattle.std.specs.Prelude.{◌≡◌, ◌++◌, ◌<◌, true, [], ◌∷◌, length, map, slice_set, Some, None, IfOk, OnOk, OnErr, IfSome, option_map};
 ghost use Rattle.kc_user.specs.ValueView.{given_of_value};
-ghost use Rattle.kc_language.specs.ConfigFile.{change_text, is_change, meaning_of, Assigns, Warns, effect_of, is_gone, warning_line, ArePlacesOf, place_at, places_given};
+ghost use Rattle.kc_language.specs.ConfigFile.{change_text, is_change, meaning_of, Assigns, Warns, effect_of, is_gone, not_allowed, warning_line, ArePlacesOf, place_at, places_given};
 ghost use Rattle.kc_config_file.specs.PartsOfConfigFile.{change_line};
 ghost use Rattle.kc_config_file.specs.PartsOfConfigFile.{effect_text, choice_of};
 ghost use Rattle.kc_language.specs.declared.diagnostics.Warning.TheVariants.{Changed, SetAgain};
-ghost use Rattle.kc_config_file.specs.LineSteps.{input_by, input_with, with_member};
+ghost use Rattle.kc_config_file.specs.LineSteps.{input_by, input_with, refused_by, with_member};
 ghost use Rattle.kc_diagnostics.specs.Warnings.{shown_warning};
 ghost use Rattle.kc_config_file.specs.ShownView.{given_by, location_of};
 ghost use Rattle.kc_language.specs.Values.{SymbolPlace, is_yes};
@@ -271,6 +271,26 @@ fn is_gone(line_warning: &Warning<&[u8]>) -> bool
     matches!(line_warning, Warning::UnknownSymbol(_))
 }
 
+// The symbol whose value in the line is not allowed, where the warning is of that.
+fn not_allowed(tree: &Tree, line_warning: &Warning<&[u8]>) -> Option<SymId>
+    ensures { result ≡ not_allowed tree.now (Warns (shown_warning line_warning.now)) }
+{
+    match line_warning {
+        Warning::NotAllowed(name) => tree.find(name),
+        _ => None,
+    }
+}
+
+// Puts the line into the place of the symbol whose value in it is not allowed, where there is one and such lines are kept.
+fn refuse<'a>(refused: Option<SymId>, at: InputLine<'a>, input: &mut UserInput<'a>)
+    ensures { input.new ≡ record input.old { refused = refused_by (location_of at.entry) refused input.old.refused } }
+{
+    match refused {
+        Some(id) => set_line(&mut input.refused, id, at),
+        None => {}
+    }
+}
+
 /// Reads one line, given without its end: tells its warning, and then changes the input. Its only error is to be out of
 /// memory; then the input is as it was, and nothing was told.
 pub(crate) fn read_line<'a>(
@@ -299,9 +319,12 @@ pub(crate) fn read_line<'a>(
         Effect::Warns(line_warning) => {
             let untold = told.len();
             let is_gone = is_gone(&line_warning);
+            let refused = not_allowed(stream.tree, &line_warning);
             warn(stream.name, number, line_warning, told)?;
             let noted = user.leave_out(alloc, stream.prefix, line, is_gone);
-            if noted.is_err() {
+            if noted.is_ok() {
+                refuse(refused, at, user);
+            } else {
                 told.truncate(untold);
             }
             noted

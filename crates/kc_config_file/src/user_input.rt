@@ -17,11 +17,13 @@ use std::alloc::{AllocError, Global};
 use std::marker::Model;
 
 /// What the lines of a user's input files gave: the user's values; where this is wanted, for each symbol the line that gave
-/// its value last; whether every line was taken as written; and where this is wanted, the lines that named no symbol. (Our own.)
+/// its value last, and the last line whose value for it was not allowed; whether every line was taken as written; and where
+/// this is wanted, the lines that named no symbol. (Our own.)
 #[derive(Drop)]
 pub struct UserInput<'a> {
     pub(crate) user: User,
     pub(crate) lines: Vec<Option<InputLine<'a>>>,
+    pub(crate) refused: Vec<Option<InputLine<'a>>>,
     pub(crate) all_taken: bool,
     pub(crate) gone: Option<GoneLines>,
 }
@@ -50,15 +52,18 @@ fn no_lines<'a>(
 }
 
 impl<'a> UserInput<'a> {
-    /// Nothing given yet. With `keeps_lines` it keeps the line of each symbol's value. Its only error is to be out of memory.
+    /// Nothing given yet. With `keeps_lines` it keeps for each symbol the line of its value, and the last line whose value
+    /// for it was not allowed. Its only error is to be out of memory.
     pub fn new(alloc: Global, tree: &Tree, keeps_lines: bool) -> Result<UserInput<'a>, AllocError>
         ensures { IfOk result (λ input. input ≡ no_input keeps_lines tree.now) }
     {
         let user = User::new(alloc, tree)?;
         let lines = no_lines(alloc, tree, keeps_lines)?;
+        let refused = no_lines(alloc, tree, keeps_lines)?;
         Ok(UserInput {
             user,
             lines,
+            refused,
             all_taken: true,
             gone: None,
         })
@@ -76,6 +81,16 @@ impl<'a> UserInput<'a> {
         ensures { option_map location_of result ≡ slice_index_or self.now.lines id.0 None }
     {
         match self.lines.get(id.0) {
+            Some(line) => *line,
+            None => None,
+        }
+    }
+
+    /// The last line whose value for the symbol was not allowed (K8), where such lines are kept.
+    pub fn refused_line(&self, id: SymId) -> Option<InputLine<'a>>
+        ensures { option_map location_of result ≡ slice_index_or self.now.refused id.0 None }
+    {
+        match self.refused.get(id.0) {
             Some(line) => *line,
             None => None,
         }
