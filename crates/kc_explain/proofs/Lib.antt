@@ -1,0 +1,11 @@
+pub mod AttributeLemmas
+pub mod BlockLemmas
+pub mod ExcerptLemmas
+pub mod HoldingLemmas
+pub mod LineIndexLemmas
+pub mod NamingLemmas
+pub mod NearLemmas
+pub mod PartLemmas
+pub mod RowLemmas
+pub mod SourceLineLemmas
+pub mod ToldLemmas

@@ -1,0 +1,223 @@
+-- Parts of conditions and lines that say something, one after the other.
+use Rattle.std.proofs.Common.{◌≡◌, ℕ, zero, suc, ◌+◌, ◌<◌, ◌≤◌, Bool, true, false, not, List, [], ◌∷◌, ◌++◌, length, drop, take, filter, map, Option, Some, None, refl, ap, sym, ◌∙◌, arith, add-one, get_or, append_assoc}
+use Rattle.std.specs.Prelude.{if◌then◌else◌, option_map}
+use Rattle.std.specs.Option.{option_or}
+use Rattle.std.specs.List.{slice_get, filter_map, flat_map, cons_option, enumerate_from, last_or}
+use Rattle.std.proofs.lemmas.List.{map-append, append-nil, get_or_default}
+use Rattle.std.proofs.lemmas.List.Concat.{flat_map-append}
+use Rattle.std.proofs.lemmas.Option.{slice_get-get_or}
+use Rattle.kc_expr.proofs.FormLemmas.{lesser-assoc}
+use Rattle.kc_language.specs.Expansion.{attributes, enclosing, last_of}
+use Rattle.kc_language.specs.Expressions.{Form, least, lesser}
+use Rattle.kc_language.specs.declared.expressions.Tri.{Tri}
+use Rattle.kc_language.specs.declared.expressions.Tri.TheVariants.{N, M, Y}
+use Rattle.kc_language.specs.Explanations as rules
+use Rattle.kc_language.specs.Statements.{IfLine, MenuLine, Numbered, statements, Located}
+use Rattle.kc_language.specs.Symbols.{listed, of_block}
+use Rattle.kc_language.specs.declared.statements.Block.{Block}
+use Rattle.kc_explain.specs.declared.lines.AttributeAt.{AttributeAt}
+use Rattle.kc_explain.specs.declared.parts.OwnCondition.{OwnCondition}
+use Rattle.kc_explain.specs.LineViews.{attribute_at_view}
+use Rattle.kc_explain.specs.PartsOfExplanations.{block_parts, head_parts, own_parts, read_by, said_one, visible_parts}
+
+-- ---- A walk that adds what each element gives
+drop-get : {X : Type 0} (xs : List X) (i : ℕ) (x : X) → slice_get xs i ≡ Some x → drop i xs ≡ x ∷ drop (suc i) xs
+drop-get [] i x h = cc
+drop-get (y ∷ xs) zero x h = cc
+drop-get (y ∷ xs) (suc i) x h = drop-get xs i x h
+
+pub drop_at : {X : Type 0} (xs : List X) (i : ℕ) (x : X) → i < length xs → x ≡ get_or xs i x → drop i xs ≡ x ∷ drop (i + 1) xs
+drop_at xs i x h e = drop-get xs i x (slice_get-get_or xs i x h ∙ ap Some (sym e)) ∙ (rw add-one refl)
+
+pub drop_past : {X : Type 0} (xs : List X) (i : ℕ) → length xs ≤ i → drop i xs ≡ []
+drop_past [] zero h = refl
+drop_past [] (suc i) h = refl
+drop_past (x ∷ xs) zero h = absurd (omega arith)
+drop_past (x ∷ xs) (suc i) h = drop_past xs i (omega arith)
+
+module _ {X A : Type 0} (g : X → List A) (base : List A) where
+  abbrev pub Adds : List X → ℕ → List A → Type 0
+  Adds xs i out = out ++ flat_map g (drop i xs) ≡ base ++ flat_map g xs
+
+  pub adds_next : (xs : List X) (i : ℕ) (x : X) (out new : List A) → Adds xs i out → i < length xs → x ≡ get_or xs i x → new ≡ out ++ g x → Adds xs (i + 1) new
+  adds_next xs i x out new a h e n =
+      let d : drop i xs ≡ x ∷ drop (i + 1) xs = drop_at xs i x h e in
+      ap (λ o. o ++ flat_map g (drop (i + 1) xs)) n ∙ append_assoc out (g x) (flat_map g (drop (i + 1) xs)) ∙ (rw d at a)
+
+  pub adds_end : (xs : List X) (i : ℕ) (out : List A) → Adds xs i out → length xs ≤ i → out ≡ base ++ flat_map g xs
+  adds_end xs i out a h = let d : drop i xs ≡ [] = drop_past xs i h in sym (append-nil out) ∙ (rw d at a)
+
+pub adds_number : {A : Type 0} (g : ℕ → List A) (base : List A) (xs : List ℕ) (i : ℕ) (out new : List A) → Adds g base xs i out → i < length xs →
+    new ≡ out ++ g (get_or xs i 0) → Adds g base xs (i + 1) new
+adds_number g base xs i out new a h n = adds_next g base xs i (get_or xs i 0) out new a h (get_or_default xs i 0 (get_or xs i 0) h) n
+
+-- ---- What the attributes of an entry say
+one_part : (k i : ℕ) (o : Option Form) (rest : List (rules.Said Form)) → map (rules.worth k) (listed o) ++ map (λ l. rules.worth l.at l.what) rest
+    ≡ map (λ (l : rules.Said Form). rules.worth l.at l.what) (cons_option (option_map (λ x. record { entry = i; at = k; what = x }) o) rest)
+one_part k i None rest = refl
+one_part k i (Some e) rest = refl
+
+all_parts : (word : OwnCondition) (i : ℕ) (ks : List (ℕ × Numbered)) →
+    flat_map (own_parts word) ks ≡ map (λ (l : rules.Said Form). rules.worth l.at l.what) (filter_map (said_one (read_by word) i) ks)
+all_parts word i [] = refl
+all_parts word i (k ∷ ks) =
+    ap (λ r. own_parts word k ++ r) (all_parts word i ks) ∙ one_part k.0 i (read_by word k.1) (filter_map (said_one (read_by word) i) ks)
+
+flat_map-map : {A B C : Type 0} (h : B → List C) (v : A → B) (xs : List A) → flat_map (λ x. h (v x)) xs ≡ flat_map h (map v xs)
+flat_map-map h v [] = refl
+flat_map-map h v (x ∷ xs) = ap (λ r. h (v x) ++ r) (flat_map-map h v xs)
+
+pub parts_of_all : (ss : List Numbered) (word : OwnCondition) (i : ℕ) (all : List AttributeAt) → map attribute_at_view all ≡ enumerate_from (suc i) (attributes ss i) →
+    flat_map (λ a. own_parts word (attribute_at_view a)) all ≡ rules.parts_at ss (read_by word) i
+parts_of_all ss word i all e =
+    flat_map-map (own_parts word) attribute_at_view all ∙ ap (flat_map (own_parts word)) e ∙ all_parts word i (enumerate_from (suc i) (attributes ss i))
+
+one_said : {X : Type 0} (o : Option X) (rest : List X) → listed o ++ rest ≡ cons_option o rest
+one_said None rest = refl
+one_said (Some x) rest = refl
+
+flat_map-listed : {A X : Type 0} (f : A → Option X) (xs : List A) → flat_map (λ x. listed (f x)) xs ≡ filter_map f xs
+flat_map-listed f [] = refl
+flat_map-listed f (x ∷ xs) = ap (λ r. listed (f x) ++ r) (flat_map-listed f xs) ∙ one_said (f x) (filter_map f xs)
+
+pub said_of_all : {X : Type 0} (read : Numbered → Option X) (ss : List Numbered) (i : ℕ) (all : List AttributeAt) →
+    map attribute_at_view all ≡ enumerate_from (suc i) (attributes ss i) →
+    flat_map (λ a. listed (said_one read i (attribute_at_view a))) all ≡ rules.said_at ss read i
+said_of_all read ss i all e =
+    flat_map-map (λ k. listed (said_one read i k)) attribute_at_view all ∙ flat_map-listed (said_one read i) (map attribute_at_view all)
+    ∙ ap (filter_map (said_one read i)) e
+
+-- ---- The last one
+module _ {X A : Type 0} (f : X → Option A) where
+  abbrev pub LastIs : List X → ℕ → Option A → Type 0
+  LastIs xs i o = last_or o (filter_map f (drop i xs)) ≡ last_of (filter_map f xs)
+
+  or_last : (o now : Option A) (ys : List A) → last_or now (cons_option o ys) ≡ last_or (option_or o now) ys
+  or_last None now ys = refl
+  or_last (Some a) now ys = refl
+
+  -- in terms of what stands for the values in memory
+  map-or : {B : Type 0} (v : B → A) (o now : Option B) → option_map v (option_or o now) ≡ option_or (option_map v o) (option_map v now)
+  map-or v None now = refl
+  map-or v (Some b) now = refl
+
+  pub last_next : {B : Type 0} (v : B → A) (xs : List X) (i : ℕ) (x : X) (found now next : Option B) → LastIs xs i (option_map v now) → i < length xs →
+      x ≡ get_or xs i x → option_map v found ≡ f x → next ≡ option_or found now → LastIs xs (i + 1) (option_map v next)
+  last_next v xs i x found now next h b at e n =
+      let step : option_map v next ≡ option_or (f x) (option_map v now) = ap (option_map v) n ∙ map-or v found now ∙ ap (λ o. option_or o (option_map v now)) e in
+      let d : drop i xs ≡ x ∷ drop (i + 1) xs = drop_at xs i x b at in
+      rw step (sym (or_last (f x) (option_map v now) (filter_map f (drop (i + 1) xs))) ∙ (rw d at h))
+
+  pub last_end : (xs : List X) (i : ℕ) (now : Option A) → LastIs xs i now → length xs ≤ i → now ≡ last_of (filter_map f xs)
+  last_end xs i now h b = let d : drop i xs ≡ [] = drop_past xs i b in (rw d at h)
+
+filter_map-map : {A B C : Type 0} (h : B → Option C) (v : A → B) (xs : List A) → filter_map (λ x. h (v x)) xs ≡ filter_map h (map v xs)
+filter_map-map h v [] = refl
+filter_map-map h v (x ∷ xs) = ap (cons_option (h (v x))) (filter_map-map h v xs)
+
+pub last_said : {X : Type 0} (read : Numbered → Option X) (ss : List Numbered) (i : ℕ) (all : List AttributeAt) →
+    map attribute_at_view all ≡ enumerate_from (suc i) (attributes ss i) →
+    last_of (filter_map (λ a. said_one read i (attribute_at_view a)) all) ≡ last_of (rules.said_at ss read i)
+last_said read ss i all e =
+    ap last_of (filter_map-map (said_one read i) attribute_at_view all ∙ ap (filter_map (said_one read i)) e)
+
+-- the last that passes a test
+module _ {X : Type 0} (p : X → Bool) where
+  abbrev pub LastPasses : List X → ℕ → Option X → Type 0
+  LastPasses xs i o = last_or o (filter p (drop i xs)) ≡ last_of (filter p xs)
+
+  passes : (b : Bool) (x : X) (ys : List X) (now : Option X) → last_or now (if b then x ∷ ys else ys) ≡ last_or (if b then Some x else now) ys
+  passes true x ys now = refl
+  passes false x ys now = refl
+
+  pub passes_next : (b : Bool) (xs : List X) (i : ℕ) (x : X) (now : Option X) → LastPasses xs i now → i < length xs → x ≡ get_or xs i x → b ≡ p x → LastPasses xs (i + 1) (if b then Some x else now)
+  passes_next b xs i x now h l at e =
+      let d : drop i xs ≡ x ∷ drop (i + 1) xs = drop_at xs i x l at in
+      ap (λ c. last_or (if c then Some x else now) (filter p (drop (i + 1) xs))) e
+      ∙ sym (passes (p x) x (filter p (drop (i + 1) xs)) now) ∙ (rw d at h)
+
+  pub passes_end : (xs : List X) (i : ℕ) (now : Option X) → LastPasses xs i now → length xs ≤ i → now ≡ last_of (filter p xs)
+  passes_end xs i now h b = let d : drop i xs ≡ [] = drop_past xs i b in (rw d at h)
+
+-- ---- Menus
+kept_parts : {X A : Type 0} (g : X → List A) (b : Bool) (x : X) (ys : List X) → (if b then g x else []) ++ flat_map g ys ≡ flat_map g (if b then x ∷ ys else ys)
+kept_parts g true x ys = refl
+kept_parts g false x ys = refl
+
+pub flat_map-kept : {X A : Type 0} (p : X → Bool) (g : X → List A) (xs : List X) → flat_map (λ x. if p x then g x else []) xs ≡ flat_map g (filter p xs)
+flat_map-kept p g [] = refl
+flat_map-kept p g (x ∷ xs) = ap (λ r. (if p x then g x else []) ++ r) (flat_map-kept p g xs) ∙ kept_parts g (p x) x (filter p xs)
+
+pub shown_is : (ss : List Numbered) (entry at : ℕ) (none seen all : List rules.ConditionPart) (around : List ℕ) (o w : Option Form) → none ≡ [] →
+    seen ≡ none ++ flat_map (visible_parts ss) around → around ≡ enclosing ss entry → all ≡ seen ++ map (rules.worth at) (listed o) → o ≡ w →
+    all ≡ flat_map (rules.parts_at ss rules.visible_in) (filter (of_block ss Block.Menu) (enclosing ss entry)) ++ map (rules.worth at) (listed w)
+shown_is ss entry at none seen all around o w n s r a e =
+    let shown : seen ≡ flat_map (rules.parts_at ss rules.visible_in) (filter (of_block ss Block.Menu) (enclosing ss entry)) =
+    s ∙ ap (λ l. l ++ flat_map (visible_parts ss) around) n ∙ ap (flat_map (visible_parts ss)) r
+    ∙ flat_map-kept (of_block ss Block.Menu) (rules.parts_at ss rules.visible_in) (enclosing ss entry) in
+    a ∙ ap (λ l. l ++ map (rules.worth at) (listed o)) shown
+    ∙ ap (λ x. flat_map (rules.parts_at ss rules.visible_in) (filter (of_block ss Block.Menu) (enclosing ss entry)) ++ map (rules.worth at) (listed x)) e
+
+-- ---- The least of values
+pub map-twice : {A B C : Type 0} (h : B → C) (v : A → B) (xs : List A) → map (λ x. h (v x)) xs ≡ map h (map v xs)
+map-twice h v [] = refl
+map-twice h v (x ∷ xs) = ap (λ r. h (v x) ∷ r) (map-twice h v xs)
+
+pub lesser_y : (t : Tri) → lesser t Y ≡ t
+lesser_y N = refl
+lesser_y M = refl
+lesser_y Y = refl
+
+module _ {X : Type 0} (f : X → Tri) where
+  abbrev pub LeastIs : List X → ℕ → Tri → Type 0
+  LeastIs xs i t = lesser t (least (map f (drop i xs))) ≡ least (map f xs)
+
+  pub least_next : (xs : List X) (i : ℕ) (x : X) (now next one : Tri) → LeastIs xs i now → i < length xs → x ≡ get_or xs i x → one ≡ f x → next ≡ lesser now one → LeastIs xs (i + 1) next
+  least_next xs i x now next one h l at e n =
+      let d : drop i xs ≡ x ∷ drop (i + 1) xs = drop_at xs i x l at in
+      ap (λ t. lesser t (least (map f (drop (i + 1) xs)))) (n ∙ ap (lesser now) e)
+      ∙ lesser-assoc now (f x) (least (map f (drop (i + 1) xs))) ∙ (rw d at h)
+
+  pub least_end : (xs : List X) (i : ℕ) (now : Tri) → LeastIs xs i now → length xs ≤ i → now ≡ least (map f xs)
+  least_end xs i now h b = let d : drop i xs ≡ [] = drop_past xs i b in sym (lesser_y now) ∙ (rw d at h)
+
+least-append : (xs ys : List Tri) → least (xs ++ ys) ≡ lesser (least xs) (least ys)
+least-append [] ys = refl
+least-append (x ∷ xs) ys = ap (lesser x) (least-append xs ys) ∙ sym (lesser-assoc x (least xs) (least ys))
+
+pub least_of_both : {X : Type 0} (f : X → Tri) (first made own : List X) (a b all : Tri) → made ≡ first → a ≡ least (map f made) → b ≡ least (map f own) →
+    all ≡ lesser a b → all ≡ least (map f (first ++ own))
+least_of_both f first made own a b all m p q r =
+    r ∙ ap (λ t. lesser t b) (p ∙ ap (λ xs. least (map f xs)) m) ∙ ap (lesser (least (map f first))) q ∙ sym (least-append (map f first) (map f own))
+    ∙ ap least (sym (map-append f first own))
+
+-- ---- Those up to the first that passes a test
+module _ {X Z : Type 0} (p : Z → Bool) (v : X → Z) where
+  abbrev pub ThroughIs : List X → ℕ → List X → Type 0
+  ThroughIs xs i met = map v met ++ rules.through p (map v (drop i xs)) ≡ rules.through p (map v xs)
+
+  through_true : (b : Bool) (z : Z) (zs : List Z) → b ≡ true → (if b then z ∷ [] else z ∷ zs) ≡ z ∷ []
+  through_true true z zs h = refl
+  through_true false z zs h = cc
+
+  through_false : (b : Bool) (z : Z) (zs : List Z) → b ≡ false → (if b then z ∷ [] else z ∷ zs) ≡ z ∷ zs
+  through_false true z zs h = cc
+  through_false false z zs h = refl
+
+  pub through_met : (xs : List X) (i : ℕ) (x : X) (met new : List X) (b : Bool) → ThroughIs xs i met → i < length xs → x ≡ get_or xs i x → new ≡ met ++ x ∷ [] →
+      b ≡ p (v x) → b ≡ true → map v new ≡ rules.through p (map v xs)
+  through_met xs i x met new b h l at n e t =
+      let d : drop i xs ≡ x ∷ drop (i + 1) xs = drop_at xs i x l at in
+      ap (map v) n ∙ map-append v met (x ∷ []) ∙ ap (λ r. map v met ++ r) (sym (through_true (p (v x)) (v x) (rules.through p (map v (drop (i + 1) xs))) (sym e ∙ t)))
+      ∙ (rw d at h)
+
+  pub through_more : (xs : List X) (i : ℕ) (x : X) (met new : List X) (b : Bool) → ThroughIs xs i met → i < length xs → x ≡ get_or xs i x → new ≡ met ++ x ∷ [] →
+      b ≡ p (v x) → b ≡ false → ThroughIs xs (i + 1) new
+  through_more xs i x met new b h l at n e t =
+      let d : drop i xs ≡ x ∷ drop (i + 1) xs = drop_at xs i x l at in
+      let rest = rules.through p (map v (drop (i + 1) xs)) in
+      ap (λ r. r ++ rest) (ap (map v) n ∙ map-append v met (x ∷ [])) ∙ append_assoc (map v met) (v x ∷ []) rest
+      ∙ ap (λ r. map v met ++ r) (sym (through_false (p (v x)) (v x) rest (sym e ∙ t))) ∙ (rw d at h)
+
+  pub through_end : (xs : List X) (i : ℕ) (met : List X) → ThroughIs xs i met → length xs ≤ i → map v met ≡ rules.through p (map v xs)
+  through_end xs i met h b = let d : drop i xs ≡ [] = drop_past xs i b in sym (append-nil (map v met)) ∙ (rw d at h)

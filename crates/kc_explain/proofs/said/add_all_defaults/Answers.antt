@@ -1,0 +1,19 @@
+-- One line more, and all.
+use Rattle.std.proofs.Common.{map, refl}
+use Rattle.kc_language.specs.Symbols.{listed, stated_default}
+use Rattle.kc_explain.specs.LineViews.{attribute_at_view}
+use Rattle.kc_explain.specs.PartViews.{default_said}
+use Rattle.kc_explain.specs.PartsOfExplanations.{said_one}
+use Rattle.kc_explain.proofs.PartLemmas.{adds_next, adds_end}
+use Rattle.kc_explain.proofs.said.add_all_defaults.Goals as goal
+
+pub loop-line-init : goal.loop-line-init
+loop-line-init c = refl
+
+pub loop-line-preserved : goal.loop-line-preserved
+loop-line-preserved c =
+    adds_next (λ a. listed (said_one stated_default c.args.entry (attribute_at_view a))) (map default_said c.args.all.now.items) c.args.own.now c.loop-line.line-index c.line-item.result (map default_said c.loop-line.all.items) _ c.loop-line.invariant c.loop-line-test.true c.line-item.is c.in_ok-add_default.ensures
+
+pub returns : goal.returns
+returns c =
+    adds_end (λ a. listed (said_one stated_default c.args.entry (attribute_at_view a))) (map default_said c.args.all.now.items) c.args.own.now c.loop-line.line-index (map default_said c.loop-line.all.items) c.loop-line.invariant c.loop-line-test.false

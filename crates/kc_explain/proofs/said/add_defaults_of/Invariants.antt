@@ -1,0 +1,11 @@
+-- What the numbers so far give was added.
+use Rattle.std.proofs.Common.{map}
+use Rattle.kc_language.specs.Explanations.{said_at}
+use Rattle.kc_language.specs.Statements.{statements}
+use Rattle.kc_language.specs.Symbols.{stated_default}
+use Rattle.kc_explain.specs.PartViews.{default_said}
+use Rattle.kc_explain.proofs.PartLemmas.{Adds}
+use Rattle.kc_explain.proofs.said.add_defaults_of.Given as goal
+
+abbrev pub invariant-loop-i : goal.invariant-loop-i
+invariant-loop-i l = Adds (said_at (statements l.lines) stated_default) (map default_said l.fn.all.items) l.entries l.i-index (map default_said l.all.items)

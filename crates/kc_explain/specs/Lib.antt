@@ -1,0 +1,11 @@
+pub mod Excerpts
+pub mod Holding
+pub mod LineCode
+pub mod LineIndexes
+pub mod LineViews
+pub mod NearNames
+pub mod PartViews
+pub mod PartsOfExplanations
+pub mod SourceLines
+pub mod SymbolsTold
+pub mod Told

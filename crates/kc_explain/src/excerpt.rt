@@ -1,0 +1,174 @@
+//! The list of new symbols, each with its definitions as they are written.
+
+ghost use Rattle.std.specs.Prelude.{◌≡◌, ◌<◌, ◌++◌, length, option_map, IfOk, OnOk, codes, decimal, flat_map};
+ghost use Rattle.kc_language.specs.Expansion.{bytes_in};
+ghost use Rattle.kc_language.specs.Explanations as whole;
+ghost use Rattle.kc_language.specs.Texts.{solution_view};
+ghost use Rattle.kc_language.specs.Values.{name_count};
+ghost use Rattle.kc_explain.specs.Excerpts.{definition, definition_at, excerpt_of, heading, line_and_gap, new_with_help};
+ghost use Rattle.kc_explain.specs.LineViews.{line_view};
+
+use crate::lines::{Line, Lines};
+use crate::source_lines::{LineReader, add_excerpt};
+use itoa::Buffer;
+use kc_config_file::header::add_symbol_line;
+use kc_config_file::prefix::Prefix;
+use kc_expr::expression::SymId;
+use kc_read::file_map::FileMap;
+use kc_solve::solved::Solved;
+use std::alloc::{AllocError, Global};
+
+// Adds where the definition stands.
+fn add_heading(file: &[u8], number: u32, text: &mut Vec<u8>) -> Result<(), AllocError>
+    ensures { OnOk result (text.new.items ≡ text.old.items ++ heading file.now number) }
+{
+    let mut buffer = Buffer::new();
+    text.extend_from_slice(b"# ")?;
+    text.extend_from_slice(file)?;
+    text.extend_from_slice(b":")?;
+    text.extend_from_slice(buffer.format(number).as_bytes())?;
+    text.extend_from_slice(b"\n")
+}
+
+// Adds the lines of a definition in this file, if there is such a file.
+fn add_from_file<'n>(
+    alloc: Global,
+    reader: &mut LineReader<'_, 'n>,
+    file: &'n [u8],
+    number: u32,
+    text: &mut Vec<u8>,
+) -> Result<(), AllocError>
+    ensures text { OnOk result (text.new.items ≡ text.old.items ++ excerpt_of (bytes_in reader.old file.now) number) }
+    ensures files { reader.new ≡ reader.old }
+{
+    let rest = reader.behind(file, number.saturating_sub(1) as usize)?;
+    add_excerpt(alloc, rest, text)
+}
+
+// Adds the definition that begins with this line.
+fn add_definition<'n>(
+    alloc: Global,
+    reader: &mut LineReader<'_, 'n>,
+    line: Line<'n>,
+    text: &mut Vec<u8>,
+) -> Result<(), AllocError>
+    ensures text { OnOk result (text.new.items ≡ text.old.items ++ definition (bytes_in reader.old) (line_view line.entry)) }
+    ensures files { reader.new ≡ reader.old }
+{
+    add_heading(line.file, line.number, text)?;
+    add_from_file(alloc, reader, line.file, line.number, text)
+}
+
+// Adds the definition that begins with the line of this number.
+fn add_definition_at<'n>(
+    alloc: Global,
+    reader: &mut LineReader<'_, 'n>,
+    lines: &Lines<'n>,
+    at: usize,
+    text: &mut Vec<u8>,
+) -> Result<(), AllocError>
+    ensures text { OnOk result (text.new.items ≡ text.old.items ++ definition_at (bytes_in reader.old) lines.now at) }
+    ensures files { reader.new ≡ reader.old }
+{
+    match lines.get(at) {
+        None => Ok(()),
+        Some(line) => add_definition(alloc, reader, line, text),
+    }
+}
+
+// Adds the definitions that begin with the lines of these numbers.
+fn add_each_definition<'n>(
+    alloc: Global,
+    reader: &mut LineReader<'_, 'n>,
+    lines: &Lines<'n>,
+    definitions: &[usize],
+    text: &mut Vec<u8>,
+) -> Result<(), AllocError>
+    ensures text { OnOk result (text.new.items ≡ text.old.items ++ flat_map (definition_at (bytes_in reader.old) lines.now) definitions.now) }
+    ensures files { reader.new ≡ reader.old }
+{
+    for at in definitions {
+        add_definition_at(alloc, reader, lines, *at, text)?;
+    }
+    Ok(())
+}
+
+// Adds the definitions of a symbol.
+fn add_definitions<'n>(
+    alloc: Global,
+    reader: &mut LineReader<'_, 'n>,
+    lines: &Lines<'n>,
+    id: SymId,
+    text: &mut Vec<u8>,
+) -> Result<(), AllocError>
+    ensures text { OnOk result (text.new.items ≡ text.old.items ++ whole.definition_comments (bytes_in reader.old) lines.now id) }
+    ensures files { reader.new ≡ reader.old }
+{
+    let definitions = lines.definitions_of(alloc, id)?;
+    add_each_definition(alloc, reader, lines, &definitions, text)
+}
+
+// Adds the symbol's `.config` line and an empty line.
+fn add_line_and_gap(
+    solved: &Solved<'_>,
+    prefix: &Prefix,
+    id: SymId,
+    text: &mut Vec<u8>,
+) -> Result<(), AllocError>
+    requires { id.0 < length solved.now.tree.names }
+    ensures { OnOk result (text.new.items ≡ text.old.items ++ line_and_gap solved.now.tree prefix.now (solution_view solved.now) id) }
+{
+    add_symbol_line(solved, prefix, id, text)?;
+    text.extend_from_slice(b"\n")
+}
+
+// Adds the symbol with its definitions and an empty line, where it is new.
+fn add_new_with_help<'n>(
+    alloc: Global,
+    reader: &mut LineReader<'_, 'n>,
+    lines: &Lines<'n>,
+    solved: &Solved<'_>,
+    prefix: &Prefix,
+    id: SymId,
+    text: &mut Vec<u8>,
+) -> Result<(), AllocError>
+    requires named { id.0 < length solved.now.tree.names }
+    requires mentioned { id.0 < name_count solved.now.tree }
+    ensures text { OnOk result (text.new.items ≡ text.old.items
+        ++ new_with_help (bytes_in reader.old) lines.now solved.now.tree prefix.now (solution_view solved.now) id) }
+    ensures files { reader.new ≡ reader.old }
+{
+    if !solved.is_new(id) {
+        return Ok(());
+    }
+    add_definitions(alloc, reader, lines, id, text)?;
+    add_line_and_gap(solved, prefix, id, text)
+}
+
+/// The list of new symbols, each with its definitions as they are written, as comments before its `.config` line, and an
+/// empty line behind it, in the order of their first definition. (Our own form.) Its only error is to be out of memory.
+pub fn new_text_with_help(
+    alloc: Global,
+    files: &FileMap,
+    lines: &Lines<'_>,
+    solved: &Solved<'_>,
+    prefix: &Prefix,
+) -> Result<Vec<u8>, AllocError>
+    ensures { IfOk result (λ t. t.items ≡ whole.new_text_with_help (bytes_in files.now) lines.now solved.now.tree prefix.now (solution_view solved.now)) }
+{
+    let mut text = Vec::new(alloc);
+    let mut reader = LineReader::new(alloc, files);
+    let tree = solved.tree();
+    for i in 0..tree.symbol_count() {
+        add_new_with_help(
+            alloc,
+            &mut reader,
+            lines,
+            solved,
+            prefix,
+            tree.symbol(i),
+            &mut text,
+        )?;
+    }
+    Ok(text)
+}

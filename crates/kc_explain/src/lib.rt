@@ -1,0 +1,25 @@
+#![tactic(auto)]
+//! Why a symbol has its value, and how it is defined.
+//!
+//! - [`Lines`]: the lines of a tree, with what stands where.
+//! - [`add_explanation`]: the lines that explain a symbol.
+//! - [`new_text_with_help`]: the list of new symbols with their definitions as they are written.
+//! - [`asked_symbol`], [`near_text`]: the symbol of a name, and names that differ from one by one letter.
+
+mod attributes;
+mod blocks;
+pub mod excerpt;
+mod holders;
+pub mod laws;
+mod line_text;
+pub mod lines;
+pub mod names;
+mod parts;
+mod said;
+mod source_lines;
+pub mod text;
+
+pub use excerpt::new_text_with_help;
+pub use lines::Lines;
+pub use names::{asked_symbol, near_text};
+pub use text::add_explanation;

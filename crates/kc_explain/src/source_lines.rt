@@ -1,0 +1,256 @@
+//! A definition as it is written: a line of a file, and the lines that belong to it.
+
+ghost use Rattle.std.specs.Prelude.{◌≡◌, ◌≤◌, ◌∷◌, ◌-◌, ◌++◌, length, map, drop, take_while, IfOk, OnOk, flat_map};
+ghost use Rattle.std.specs.Option.{option_copied};
+ghost use Rattle.std.specs.List.{slice_split, suffix_len};
+ghost use Rattle.kc_language.specs.Expansion.{bytes_in};
+ghost use Rattle.kc_language.specs.Explanations as whole;
+ghost use Rattle.kc_language.specs.Lines.{is_line_feed};
+ghost use Rattle.kc_explain.specs.SourceLines.{StandsBehind, comment, excerpt_in, lines_left, lines_of, shown_of};
+
+use bstr::ByteSlice;
+use indexmap::IndexMap;
+use kc_read::file_map::FileMap;
+use kc_text::is_blank;
+use std::alloc::{AllocError, Global};
+use std::marker::Model;
+
+// A place in a file: how many lines are passed, and what is left behind them.
+#[derive(Clone, Copy)]
+struct LinePlace<'f, 'n> {
+    file: &'n [u8],
+    passed: usize,
+    rest: Option<&'f [u8]>,
+}
+
+/// Files whose lines are read, mostly one behind another: it keeps its place in each file.
+#[derive(Drop)]
+pub(crate) struct LineReader<'f, 'n> {
+    files: &'f FileMap,
+    places: IndexMap<&'n [u8], LinePlace<'f, 'n>>,
+}
+
+impl<'f, 'n> Model for LineReader<'f, 'n> {
+    ghost use Rattle.std.specs.Prelude.{ℕ, List, All};
+    ghost use Rattle.std.specs.Option.{option_copied};
+    ghost use Rattle.kc_language.specs.Expansion.{bytes_in};
+    ghost use Rattle.kc_explain.specs.SourceLines.{StandsBehind, lines_of};
+
+    ghost Value = { List (List ℕ × List ℕ) };
+
+    ghost view = { λ r. r.files.now };
+
+    ghost invariant = { λ r. All (λ e. StandsBehind (lines_of (bytes_in r.files.now) e.1.file.now) e.1.passed (option_copied e.1.rest)) r.places.entries };
+}
+
+impl<'f, 'n> LineReader<'f, 'n> {
+    /// A reader of these files.
+    pub(crate) fn new(alloc: Global, files: &'f FileMap) -> Self
+        ensures { result ≡ files.now }
+    {
+        LineReader {
+            files,
+            places: IndexMap::new(alloc),
+        }
+    }
+
+    // The place that is kept for the file, else its start.
+    fn kept_place(&self, file: &'n [u8]) -> LinePlace<'f, 'n>
+        ensures { StandsBehind (lines_of (bytes_in self.now) result.file.now) result.passed (option_copied result.rest) }
+    {
+        match self.places.get(&file) {
+            None => start_of(self.files, file),
+            Some(place) => *place,
+        }
+    }
+
+    /// What is behind so many lines of the file, if it has more lines.
+    pub(crate) fn behind(
+        &mut self,
+        file: &'n [u8],
+        count: usize,
+    ) -> Result<Option<&'f [u8]>, AllocError>
+        ensures files { self.new ≡ self.old }
+        ensures rest { IfOk result (λ r. lines_left (option_copied r) ≡ drop count (lines_of (bytes_in self.old) file.now)) }
+    {
+        let kept = self.kept_place(file);
+        let place = place_behind(self.files, kept, file, count);
+        self.places.insert(file, place)?;
+        Ok(place.rest)
+    }
+}
+
+// The start of a file.
+fn start_of<'f, 'n>(files: &'f FileMap, file: &'n [u8]) -> LinePlace<'f, 'n>
+    ensures file { result.file.now ≡ file.now }
+    ensures passed { result.passed ≡ 0 }
+    ensures place { StandsBehind (lines_of (bytes_in files.now) file.now) result.passed (option_copied result.rest) }
+{
+    LinePlace {
+        file,
+        passed: 0,
+        rest: files.get(file),
+    }
+}
+
+// The place, if it is in the file and has passed no more lines than these; else the start of the file.
+fn nearest_place<'f, 'n>(
+    files: &'f FileMap,
+    place: LinePlace<'f, 'n>,
+    file: &'n [u8],
+    count: usize,
+) -> LinePlace<'f, 'n>
+    requires { StandsBehind (lines_of (bytes_in files.now) place.file.now) place.passed (option_copied place.rest) }
+    ensures passed { result.passed ≤ count }
+    ensures place { StandsBehind (lines_of (bytes_in files.now) file.now) result.passed (option_copied result.rest) }
+{
+    if place.file == file && place.passed <= count {
+        return place;
+    }
+    start_of(files, file)
+}
+
+// The place behind so many lines of the file.
+fn place_behind<'f, 'n>(
+    files: &'f FileMap,
+    place: LinePlace<'f, 'n>,
+    file: &'n [u8],
+    count: usize,
+) -> LinePlace<'f, 'n>
+    requires { StandsBehind (lines_of (bytes_in files.now) place.file.now) place.passed (option_copied place.rest) }
+    ensures file { result.file.now ≡ file.now }
+    ensures passed { result.passed ≡ count }
+    ensures place { StandsBehind (lines_of (bytes_in files.now) file.now) count (option_copied result.rest) }
+{
+    let near = nearest_place(files, place, file, count);
+    LinePlace {
+        file,
+        passed: count,
+        rest: behind_lines(near.rest, count - near.passed),
+    }
+}
+
+// The first line, and what is behind its line feed.
+fn next_line(rest: &[u8]) -> (&[u8], Option<&[u8]>)
+    ensures { slice_split is_line_feed rest.now ≡ result.0.now ∷ lines_left (option_copied result.1) }
+{
+    match rest.find_byte(b'\n') {
+        Some(at) => (&rest[..at], Some(&rest[at + 1..])),
+        None => (rest, None),
+    }
+}
+
+// What is behind the first line.
+fn without_line(rest: Option<&[u8]>) -> Option<&[u8]>
+    ensures { lines_left (option_copied result) ≡ drop 1 (lines_left (option_copied rest.entry)) }
+{
+    match rest {
+        None => None,
+        Some(text) => {
+            let (_, behind) = next_line(text);
+            behind
+        }
+    }
+}
+
+// What is behind so many lines.
+fn behind_lines(from: Option<&[u8]>, count: usize) -> Option<&[u8]>
+    ensures { lines_left (option_copied result) ≡ drop count (lines_left (option_copied from.entry)) }
+{
+    let mut rest = from;
+    for _i in 0..count {
+        rest = without_line(rest);
+    }
+    rest
+}
+
+// Whether the line is empty or begins with a blank.
+fn begins_blank(line: &[u8]) -> bool
+    ensures { result ≡ whole.begins_blank line.now }
+{
+    match line {
+        [first, ..] => is_blank(*first) || *first == b'\r',
+        [] => true,
+    }
+}
+
+// Whether the line has nothing but blanks.
+fn is_without_text(line: &[u8]) -> bool
+    ensures { result ≡ whole.without_text line.now }
+{
+    line.iter().all(|b| is_blank(*b) || *b == b'\r')
+}
+
+// The lines up to the first that begins with text.
+fn own_lines<'a>(alloc: Global, first: Option<&'a [u8]>) -> Result<Vec<&'a [u8]>, AllocError>
+    ensures { IfOk result (λ all. map (λ l. l.now) all.items ≡ take_while whole.begins_blank (lines_left (option_copied first.entry))) }
+{
+    let mut all = Vec::new(alloc);
+    let mut rest = first;
+    'lines: while let Some(text) = rest {
+        let (line, behind) = next_line(text);
+        if !begins_blank(line) {
+            return Ok(all);
+        }
+        all.push(line)?;
+        rest = behind;
+    }
+    Ok(all)
+}
+
+// How many lines there are without those at the end that have no text.
+fn lines_with_text(lines: &[&[u8]]) -> usize
+    ensures { let own = map (λ l. l.now) lines.now in result ≡ length own - suffix_len whole.without_text own }
+{
+    let mut end = lines.len();
+    while end > 0 && is_without_text(lines[end - 1]) {
+        end -= 1;
+    }
+    end
+}
+
+// Adds the line as a comment.
+fn add_comment(line: &[u8], text: &mut Vec<u8>) -> Result<(), AllocError>
+    ensures { OnOk result (text.new.items ≡ text.old.items ++ comment line.now) }
+{
+    text.extend_from_slice(b"# ")?;
+    text.extend_from_slice(line)?;
+    text.extend_from_slice(b"\n")
+}
+
+// Adds the lines as comments.
+fn add_comments(lines: &[&[u8]], text: &mut Vec<u8>) -> Result<(), AllocError>
+    ensures { OnOk result (text.new.items ≡ text.old.items ++ flat_map (λ l. comment l.now) lines.now) }
+{
+    for line in lines {
+        add_comment(line, text)?;
+    }
+    Ok(())
+}
+
+// Adds the lines that belong to the line before them.
+fn add_own_lines(alloc: Global, rest: Option<&[u8]>, text: &mut Vec<u8>) -> Result<(), AllocError>
+    ensures { OnOk result (text.new.items ≡ text.old.items ++ flat_map comment (shown_of (lines_left (option_copied rest.entry)))) }
+{
+    let own = own_lines(alloc, rest)?;
+    add_comments(&own[..lines_with_text(&own)], text)
+}
+
+/// Adds the first line of what is left of a file, and the lines that belong to it, as comments: those after it that are
+/// empty or begin with a blank, but none without text at the end (our own). Its only error is to be out of memory.
+pub(crate) fn add_excerpt(
+    alloc: Global,
+    left: Option<&[u8]>,
+    text: &mut Vec<u8>,
+) -> Result<(), AllocError>
+    ensures { OnOk result (text.new.items ≡ text.old.items ++ flat_map comment (excerpt_in (lines_left (option_copied left.entry)))) }
+{
+    match left {
+        None => Ok(()),
+        Some(rest) => {
+            let (line, behind) = next_line(rest);
+            add_comment(line, text)?;
+            add_own_lines(alloc, behind, text)
+        }
+    }
+}
