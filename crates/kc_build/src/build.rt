@@ -100,8 +100,15 @@ fn build_parts(
     }
 }
 
-/// The tree that the lines of a root file say, or the first refusal that the whole list shows, which leaves nothing. The
-/// files that the lines were read from are not looked at.
+/// A tree, and the lines that it was built from.
+#[derive(Drop)]
+pub struct BuiltTree {
+    pub tree: Tree,
+    pub entries: Entries,
+}
+
+/// The tree that the lines of a root file say, with these lines, or the first refusal that the whole list shows, which leaves
+/// nothing. The files that the lines were read from are not looked at.
 ///
 /// E13 comes at the first `config` line, in order, that defines a choice's member and is not the first to define it, or that
 /// stands in a choice while its symbol is no bool. So of a symbol that is defined once outside and then in its choice the
@@ -110,9 +117,10 @@ fn build_parts(
 /// has no location, is being out of memory.
 ///
 /// The caller owes lines as [`read_listing`] gives them.
-pub fn tree_of(alloc: Global, listing: Listing) -> Result<Tree, Refusal>
+pub fn built_tree(alloc: Global, listing: Listing) -> Result<BuiltTree, Refusal>
     requires { (files : Files) × (root : List ℕ) × IsListingOf files root listing }
-    ensures built { IfOk result (λ t. (files : Files) (root : List ℕ) → IsListingOf files root listing → IsTreeOf files root (Ok t)) }
+    ensures built { IfOk result (λ b. (files : Files) (root : List ℕ) → IsListingOf files root listing → IsTreeOf files root (Ok b.tree)) }
+    ensures lines { IfOk result (λ b. lines_in b.entries ≡ lines_in listing.entries) }
     ensures refused { IfErr result (λ r. r.cause ≢ Memory → (files : Files) (root : List ℕ) → IsListingOf files root listing → IsTreeOf files root (Err (refusal_view r))) }
     ensures memory { IfErr result IsMemory }
 {
@@ -130,8 +138,24 @@ pub fn tree_of(alloc: Global, listing: Listing) -> Result<Tree, Refusal>
         Err(refusal) => Err(refusal),
         Ok(parts) => {
             names.are_distinct();
-            Ok(Tree::of(names, parts))
+            Ok(BuiltTree {
+                tree: Tree::of(names, parts),
+                entries,
+            })
         }
+    }
+}
+
+/// The tree that the lines of a root file say, or the first refusal, as [`built_tree`] gives them.
+pub fn tree_of(alloc: Global, listing: Listing) -> Result<Tree, Refusal>
+    requires { (files : Files) × (root : List ℕ) × IsListingOf files root listing }
+    ensures built { IfOk result (λ t. (files : Files) (root : List ℕ) → IsListingOf files root listing → IsTreeOf files root (Ok t)) }
+    ensures refused { IfErr result (λ r. r.cause ≢ Memory → (files : Files) (root : List ℕ) → IsListingOf files root listing → IsTreeOf files root (Err (refusal_view r))) }
+    ensures memory { IfErr result IsMemory }
+{
+    match built_tree(alloc, listing) {
+        Ok(built) => Ok(built.tree),
+        Err(refusal) => Err(refusal),
     }
 }
 

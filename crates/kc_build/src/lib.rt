@@ -2,8 +2,9 @@
 //! From the statements of a Kconfig tree to its symbols, choices, entries and warnings.
 //!
 //! - [`read_listing`] reads a root file: a [`RootReading`] holds its [`Listing`] and the files that it opened.
-//! - [`tree_of`] makes the tree of a listing, or answers the first error that only the whole list shows.
-//! - [`build_tree`] does both.
+//! - [`tree_of`] makes the tree of a listing, or answers the first error that only the whole list shows. [`built_tree`] gives
+//!   the lines of the listing beside the tree.
+//! - [`build_tree`] reads a root file and makes its tree.
 //! - [`laws`]: a root file has one tree or one error, and each tree is well formed.
 
 mod attributes;
@@ -21,5 +22,5 @@ mod symbols;
 mod walk;
 mod warning;
 
-pub use build::{build_tree, tree_of};
+pub use build::{BuiltTree, build_tree, built_tree, tree_of};
 pub use listing::{Listing, RootReading, read_listing};

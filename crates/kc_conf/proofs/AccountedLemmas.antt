@@ -1,6 +1,6 @@
 -- That no line of the streams goes unaccounted for where lost values are warned of.
 use Rattle.std.proofs.Common.{◌≡◌, ◌⊎◌, inl, inr, ℕ, ◌+◌, ◌<◌, zero, suc, Bool, true, false, List, [], ◌∷◌, ◌++◌, length, Some, None, refl, sym, ap, subst, ◌∙◌, append_assoc, append-nil, arith, codes, eqb, map, Option}
-use Rattle.std.specs.Prelude.{not, find, is_some, replicate, slice_index_or, if◌then◌else◌, option_map}
+use Rattle.std.specs.Prelude.{◌&&◌, ◌||◌, not, find, is_some, replicate, slice_index_or, if◌then◌else◌, option_map}
 use Rattle.std.specs.List.{All, Contains, flat_map, slice_get}
 use Rattle.std.proofs.lemmas.Grind.{flat_map-append}
 use Rattle.std.proofs.lemmas.List.{get_or-set_same, get_or-set_other, length-replicate}
@@ -12,7 +12,9 @@ use Rattle.std.proofs.lemmas.Slice.Eq.{bytes_eq-Decides}
 use Rattle.kc_language.specs.declared.expressions.SymId.{SymId}
 use Rattle.kc_language.specs.declared.expressions.Tri.{Tri}
 use Rattle.kc_language.specs.declared.expressions.Tri.TheVariants.{N, M, Y}
-use Rattle.kc_language.specs.Expansion.{Files}
+use Rattle.kc_language.specs.Expansion.{Files, numbered_lines}
+use Rattle.kc_language.specs.Explanations.{explanation_text}
+use Rattle.kc_language.specs.Statements.{Located, Numbered}
 use Rattle.kc_language.specs.Symbols.{Condition, SymbolFacts, TreeFacts, Warning}
 use Rattle.kc_tree.specs.TreeFacts.{IsWellFormed}
 use Rattle.kc_build.specs.Trees.{TreesAreWellFormed}
@@ -20,18 +22,18 @@ use Rattle.kc_language.specs.Values.{GivenValue, GivenTruth, GivenText, Member, 
 use Rattle.kc_language.specs.ConfigFile.{ArePlacesOf, Places, place_at, StreamLocation, change_text, Effect, Silent, Warns, Assigns, warning_line, Line, UserInput, effect, input_after, is_within, lines_of, reading, stream_location, warning, warnings}
 use Rattle.kc_config_file.specs.PartsOfConfigFile.{change_line}
 use Rattle.kc_config_file.specs.PartsOfConfigFile.{type_of, before_too_long, effect_text, warning_line_if}
-use Rattle.kc_language.specs.Texts.{Solution, known, warnings as value_warnings, solution_view, config_text, has_prompt, lost_by, lost_lines, lost_of}
+use Rattle.kc_language.specs.Texts.{Solution, known, warnings as value_warnings, solution_view, config_text, has_prompt, lost_at, lost_by, lost_lines, lost_of}
 use Rattle.kc_conf.specs.PartsOfTexts.{lost_line}
-use Rattle.kc_conf.specs.PartsOfTexts.{lost_at}
 use Rattle.kc_language.specs.declared.diagnostics.Warning.TheVariants.{SetAgain}
 use Rattle.kc_config_file.specs.ReadingLaws.{LinesGiveInTurn, LinesInTurn}
 use Rattle.kc_conf.specs.Laws.{HoldsLine, IsAccountedFor, IsSetAgain, NothingIsLost, RefusesNothing, WrittenAreWhole}
 use Rattle.kc_conf.specs.PartsOfLaws.{IsKeptOrWarned, LeavesAlone}
-use Rattle.kc_language.specs.Outcome.{Options, lead, Outcome, lines_text, lost_warnings, names_of, reported, read_of, root_file, streams, warned_files, with_rule}
+use Rattle.kc_language.specs.Outcome.{Options, lead, Outcome, lines_text, lost_text, lost_warnings, names_of, reported, read_of, root_file, streams, warned_files, with_rule}
 use Rattle.kc_language.specs.Outcome.{fresh_input}
 use Rattle.kc_conf.specs.Faults.{AreLines}
 use Rattle.kc_conf.proofs.OutcomeLemmas.{text_if_is}
-use Rattle.kc_conf.proofs.PartLemmas.{AreLines-append, AreLines-nothing, AreLines-reading, AreLines-warning_if, AreLines-warnings}
+use Rattle.kc_conf.proofs.ExplainedLemmas.{AreLines-explanation, one_line}
+use Rattle.kc_conf.proofs.PartLemmas.{AreLines-append, AreLines-each, AreLines-nothing, AreLines-reading, AreLines-warning_if, AreLines-warnings}
 
 -- ---- lines that stand in texts
 
@@ -51,6 +53,15 @@ stands_first part back = ([], back, refl, AreLines-nothing)
 stands_within : (front part back text : List ℕ) → AreLines front → StandsIn (front ++ (part ++ back)) text → StandsIn part text
 stands_within front part back text whole (before, after, is, lines) =
     (before ++ front, back ++ after, is ∙ simp append_assoc, AreLines-append before front lines whole)
+
+-- one of whole texts stands among all of them
+stands_in_all : {X : Type 0} (g : X → List ℕ) → ((x : X) → AreLines (g x)) → (xs : List X) (i : ℕ) (x : X) (part : List ℕ) → slice_get xs i ≡ Some x → StandsIn part (g x) →
+    StandsIn part (flat_map g xs)
+stands_in_all g whole [] i x part e stands = absurd (let clash : None ≡ Some x = e in cc)
+stands_in_all g whole (y ∷ xs) zero x part e stands =
+    let same : y ≡ x = (let both : Some y ≡ Some x = e in cc) in
+    stands_before (flat_map g xs) part (g y) (subst (λ z. StandsIn part (g z)) (sym same) stands)
+stands_in_all g whole (y ∷ xs) (suc i) x part e stands = stands_after (g y) part (flat_map g xs) (whole y) (stands_in_all g whole xs i x part e stands)
 
 -- ---- one value
 
@@ -105,7 +116,7 @@ module _ (lines : List (Option StreamLocation)) (s : Solution) (id : SymId) (f :
   abbrev line_of : List ℕ
   line_of = lost_line at (name s.tree id) f.symbol_type given value
 
-  lost_here : lost_at lines s id.0 ≡ (if same_given given value then [] else line_of ∷ [])
+  lost_here : lost_at lines s id ≡ (if same_given given value then [] else line_of ∷ [])
   lost_here =
       ap (λ o. lost_of (name s.tree id) o (slice_index_or lines id.0 None) (place_at s.places (SymbolPlace id.0)) value) defined
       ∙ ap (λ b. if b then lost_by (name s.tree id) f.symbol_type (slice_index_or lines id.0 None) (place_at s.places (SymbolPlace id.0)) value else []) prompted
@@ -117,9 +128,30 @@ module _ (lines : List (Option StreamLocation)) (s : Solution) (id : SymId) (f :
     by : (b : Bool) → same_given given value ≡ b → (given ≡ value) ⊎ StandsIn (line_of ++ codes "\n") (lines_text (lost_lines lines s))
     by true e = inl (given_is given value e)
     by false e =
-        let (before, after, is) = one_of_all (λ x. lost_at lines s x.0) s.tree.defined one.0 id (slice_get-get_or s.tree.defined one.0 id one.1 ∙ ap Some one.2) in
-        let here : lost_at lines s id.0 ≡ line_of ∷ [] = lost_here ∙ ap (λ b. if b then [] else line_of ∷ []) e in
+        let (before, after, is) = one_of_all (lost_at lines s) s.tree.defined one.0 id (slice_get-get_or s.tree.defined one.0 id one.1 ∙ ap Some one.2) in
+        let here : lost_at lines s id ≡ line_of ∷ [] = lost_here ∙ ap (λ b. if b then [] else line_of ∷ []) e in
         inr (line_stands line_of (lost_lines lines s) before after (is ∙ ap (λ l. before ++ (l ++ after)) here))
+
+  -- the same where whole lines follow each of them
+  module _ (behind : SymId → List ℕ) (whole : (x : SymId) → AreLines (behind x)) where
+    abbrev told_all : SymId → List ℕ
+    told_all x = flat_map (λ line. line ++ codes "\n" ++ behind x) (lost_at lines s x)
+
+    all_whole : (x : SymId) → AreLines (told_all x)
+    all_whole x = AreLines-each (λ line. line ++ codes "\n" ++ behind x) (lost_at lines s x) (λ line. AreLines-append (line ++ codes "\n") (behind x) (one_line line) (whole x))
+
+    told_here : lost_at lines s id ≡ line_of ∷ [] → StandsIn (line_of ++ codes "\n") (told_all id)
+    told_here is =
+        subst (λ ls. StandsIn (line_of ++ codes "\n") (flat_map (λ line. line ++ codes "\n" ++ behind id) ls)) (sym is)
+        (stands_before [] (line_of ++ codes "\n") (line_of ++ codes "\n" ++ behind id) (stands_first (line_of ++ codes "\n") (behind id)))
+
+    kept_or_explained : (given ≡ value) ⊎ StandsIn (line_of ++ codes "\n") (flat_map told_all s.tree.defined)
+    kept_or_explained = by (same_given given value) refl where
+      by : (b : Bool) → same_given given value ≡ b → (given ≡ value) ⊎ StandsIn (line_of ++ codes "\n") (flat_map told_all s.tree.defined)
+      by true e = inl (given_is given value e)
+      by false e =
+          inr (stands_in_all told_all all_whole s.tree.defined one.0 id (line_of ++ codes "\n") (slice_get-get_or s.tree.defined one.0 id one.1 ∙ ap Some one.2)
+          (told_here (lost_here ∙ ap (λ b. if b then [] else line_of ∷ []) e)))
 
   -- where no line is lost, what was given is the value
   pub lost_if : lost_lines lines s ≡ [] → given ≡ value
@@ -131,8 +163,8 @@ module _ (lines : List (Option StreamLocation)) (s : Solution) (id : SymId) (f :
     by : (b : Bool) → same_given given value ≡ b → given ≡ value
     by true e = given_is given value e
     by false e =
-        let (before, after, is) = one_of_all (λ x. lost_at lines s x.0) s.tree.defined one.0 id (slice_get-get_or s.tree.defined one.0 id one.1 ∙ ap Some one.2) in
-        let here : lost_at lines s id.0 ≡ line_of ∷ [] = lost_here ∙ ap (λ b. if b then [] else line_of ∷ []) e in
+        let (before, after, is) = one_of_all (lost_at lines s) s.tree.defined one.0 id (slice_get-get_or s.tree.defined one.0 id one.1 ∙ ap Some one.2) in
+        let here : lost_at lines s id ≡ line_of ∷ [] = lost_here ∙ ap (λ b. if b then [] else line_of ∷ []) e in
         absurd (never before line_of after (sym (ap (λ l. before ++ (l ++ after)) here) ∙ sym is ∙ none))
 
 -- ---- the lines of the streams
@@ -299,22 +331,24 @@ module _ (files : Files) (options : Options) (all : List (List ℕ)) (tree : Tre
   abbrev last_lines : List (Option StreamLocation)
   last_lines = (input_after tree prefix empty lines).lines
 
-  module _ (formed : IsWellFormed tree) (turn : LinesInTurn tree prefix) (asked : options.warn_lost ≡ true) (outcome : Outcome) (opened : List (List ℕ)) (is : outcome ≡ with_rule options opened
-      (reported (lines_text tree.warnings) (reported (read_of options tree all).warned (warned_files options tree (read_of options tree all).input solution)))) where
-    diagnostics_are : outcome.warned ≡ lines_text tree.warnings ++ (warnings tree prefix empty lines ++ (lines_text (map (λ line. lead options ++ line) (value_warnings solution)) ++ lines_text (lost_lines last_lines solution)))
+  module _ (formed : IsWellFormed tree) (turn : LinesInTurn tree prefix) (asked : options.warn_lost ≡ true) (outcome : Outcome) (opened : List (List ℕ)) (tree_lines : List (Located Numbered)) (is : outcome ≡ with_rule options opened
+      (reported (lines_text tree.warnings) (reported (read_of options tree all).warned (warned_files files options tree tree_lines (read_of options tree all).input solution)))) where
+    abbrev last : UserInput
+    last = input_after tree prefix empty lines
+
+    diagnostics_are : outcome.warned ≡ lines_text tree.warnings ++ (warnings tree prefix empty lines ++ (lines_text (map (λ line. lead options ++ line) (value_warnings solution)) ++ lost_text options tree_lines last solution))
     diagnostics_are =
         ap (λ (o : Outcome). o.warned) is
-        ∙ ap (λ w. lines_text tree.warnings ++ (w ++ (lines_text (map (λ line. lead options ++ line) (value_warnings solution)) ++ lines_text (lost_warnings options (read_of options tree all).input solution)))) warned_are
-        ∙ ap (λ (i : UserInput). lines_text tree.warnings ++ (warnings tree prefix empty lines ++ (lines_text (map (λ line. lead options ++ line) (value_warnings solution)) ++ lines_text (lost_warnings options i solution)))) input_is
-        ∙ ap (λ b. lines_text tree.warnings ++ (warnings tree prefix empty lines ++ (lines_text (map (λ line. lead options ++ line) (value_warnings solution)) ++ lines_text (if b then lost_lines last_lines solution else [])))) asked
+        ∙ ap (λ w. lines_text tree.warnings ++ (w ++ (lines_text (map (λ line. lead options ++ line) (value_warnings solution)) ++ lost_text options tree_lines (read_of options tree all).input solution))) warned_are
+        ∙ ap (λ (i : UserInput). lines_text tree.warnings ++ (warnings tree prefix empty lines ++ (lines_text (map (λ line. lead options ++ line) (value_warnings solution)) ++ lost_text options tree_lines i solution))) input_is
 
     -- what is warned of as the streams are read stands in the notes, and so does what is lost
     of_streams : (part : List ℕ) → StandsIn part (warnings tree prefix empty lines) → StandsIn part outcome.warned
     of_streams part stands =
         subst (StandsIn part) (sym diagnostics_are)
-        (stands_after (lines_text tree.warnings) part _ (tree.warnings, refl) (stands_before (lines_text (map (λ line. lead options ++ line) (value_warnings solution)) ++ lines_text (lost_lines last_lines solution)) part _ stands))
+        (stands_after (lines_text tree.warnings) part _ (tree.warnings, refl) (stands_before (lines_text (map (λ line. lead options ++ line) (value_warnings solution)) ++ lost_text options tree_lines last solution) part _ stands))
 
-    of_lost : (part : List ℕ) → StandsIn part (lines_text (lost_lines last_lines solution)) → StandsIn part outcome.warned
+    of_lost : (part : List ℕ) → StandsIn part (lost_text options tree_lines last solution) → StandsIn part outcome.warned
     of_lost part stands =
         subst (StandsIn part) (sym diagnostics_are)
         (stands_after (lines_text tree.warnings) part _ (tree.warnings, refl)
@@ -348,7 +382,7 @@ module _ (files : Files) (options : Options) (all : List (List ℕ)) (tree : Tre
       line_counts : length (input_after tree prefix empty before).lines ≡ length tree.symbols
       line_counts =
           turn.counts.lines empty before
-          ∙ ap (λ b. length (if b then replicate (length tree.symbols) no_line else [])) asked
+          ∙ ap (λ b. length (if b || is_some options.explanation then replicate (length tree.symbols) no_line else [])) asked
           ∙ length-replicate (length tree.symbols) no_line
 
       line_below : s.0 < length (input_after tree prefix empty before).lines
@@ -359,14 +393,25 @@ module _ (files : Files) (options : Options) (all : List (List ℕ)) (tree : Tre
           subst (λ (q : UserInput). Has q s.0 given (stream_location l)) (sym (turn.add_up.leave empty before (l ∷ [])))
           (assigned tree prefix turn (input_after tree prefix empty before) l s given assigns below line_below)
 
+      -- what is told of lost values, with explanations or without
+      abbrev line_told_of : TreeFacts → List ℕ
+      line_told_of t = lost_line (stream_location l) (name t s) f.symbol_type given (given_of (known solution s)) ++ codes "\n"
+
+      abbrev explained : SymId → List ℕ
+      explained x = explanation_text tree_lines solution last (codes "  ") 1 x
+
+      abbrev text_by : Bool → List ℕ
+      text_by b = if b then flat_map (λ x. flat_map (λ line. line ++ codes "\n" ++ explained x) (lost_at last_lines solution x)) solution.tree.defined
+          else lines_text (lost_warnings options last solution)
+
+      heard_in : (b : Bool) → (options.explain_lost && options.warn_lost) ≡ b → StandsIn (line_told_of solution.tree) (text_by b) → IsKeptOrWarned tree solution outcome.warned l s f given
+      heard_in b e told =
+          inr (of_lost (line_told_of tree)
+          (subst (λ (t : TreeFacts). StandsIn (line_told_of t) (lost_text options tree_lines last solution)) is_whole.solution_is.tree_is
+          (subst (λ c. StandsIn (line_told_of solution.tree) (text_by c)) (sym e) told)))
+
       kept : Has (input_after tree prefix here later) s.0 given (stream_location l) → IsKeptOrWarned tree solution outcome.warned l s f given
-      kept stays = elim (kept_or_told last_lines solution s f given (stream_location l) (subst (λ (t : TreeFacts). facts t s ≡ Some f) (sym is_whole.solution_is.tree_is) defined)
-          (subst (λ (t : TreeFacts). Contains t.defined s) (sym is_whole.solution_is.tree_is) (formed.prompted_defined s f defined (some_prompts f.prompts prompted))) prompted there by_line) [
-            | inl same ↦ inl same
-            | inr told ↦ inr (of_lost (lost_line (stream_location l) (name tree s) f.symbol_type given (given_of (known solution s)) ++ codes "\n")
-                (subst (λ (t : TreeFacts). StandsIn (lost_line (stream_location l) (name t s) f.symbol_type given (given_of (known solution s)) ++ codes "\n")
-                (lines_text (lost_lines last_lines solution))) is_whole.solution_is.tree_is told))
-          ]
+      kept stays = by (options.explain_lost && options.warn_lost) refl
         where
           joined : lines ≡ (before ++ l ∷ []) ++ later
           joined = split ∙ sym (append_assoc before (l ∷ []) later)
@@ -379,6 +424,19 @@ module _ (files : Files) (options : Options) (all : List (List ℕ)) (tree : Tre
 
           by_line : slice_index_or last_lines s.0 None ≡ Some (stream_location l)
           by_line = ap (λ (q : UserInput). slice_index_or q.lines s.0 None) at_end ∙ stays.1
+
+          by : (b : Bool) → (options.explain_lost && options.warn_lost) ≡ b → IsKeptOrWarned tree solution outcome.warned l s f given
+          by true e = elim (kept_or_explained last_lines solution s f given (stream_location l) (subst (λ (t : TreeFacts). facts t s ≡ Some f) (sym is_whole.solution_is.tree_is) defined)
+              (subst (λ (t : TreeFacts). Contains t.defined s) (sym is_whole.solution_is.tree_is) (formed.prompted_defined s f defined (some_prompts f.prompts prompted))) prompted there by_line
+              explained (AreLines-explanation tree_lines last solution (codes "  ") 1)) [
+                | inl same ↦ inl same
+                | inr told ↦ heard_in true e told
+              ]
+          by false e = elim (kept_or_told last_lines solution s f given (stream_location l) (subst (λ (t : TreeFacts). facts t s ≡ Some f) (sym is_whole.solution_is.tree_is) defined)
+              (subst (λ (t : TreeFacts). Contains t.defined s) (sym is_whole.solution_is.tree_is) (formed.prompted_defined s f defined (some_prompts f.prompts prompted))) prompted there by_line) [
+                | inl same ↦ inl same
+                | inr told ↦ heard_in false e (subst (λ c. StandsIn (line_told_of solution.tree) (lines_text (if c then lost_lines last_lines solution else []))) (sym asked) told)
+              ]
 
       module _ (front back : List Line) (m : Line) (other : GivenValue) (is_later : later ≡ front ++ m ∷ back) (sets : effect tree prefix m ≡ Assigns s other)
           (had : Has (input_after tree prefix here front) s.0 given (stream_location l)) where
@@ -443,8 +501,8 @@ module _ (files : Files) (options : Options) (all : List (List ℕ)) (tree : Tre
 
 pub nothing_lost : TreesAreWellFormed → WrittenAreWhole → LinesGiveInTurn → NothingIsLost
 nothing_lost trees written turns files options all outcome text is_outcome there asked =
-    let (tree, solution, is_whole, (opened, are, is), passed) = written files options all outcome text is_outcome there in
+    let (tree, solution, is_whole, (opened, are, log, expands, is), passed) = written files options all outcome text is_outcome there in
     let text_is : text ≡ config_text tree options.prefix (solution_view solution) =
     sym (text_if_is options.out _ text (sym (ap (λ (o : Outcome). o.config) is) ∙ there))
     in
-    (tree, solution, is_whole, text_is, each_accounted_for files options all tree solution is_whole (trees files (root_file options) tree is_whole.accepted.built) (turns tree options.prefix) asked outcome opened is)
+    (tree, solution, is_whole, text_is, each_accounted_for files options all tree solution is_whole (trees files (root_file options) tree is_whole.accepted.built) (turns tree options.prefix) asked outcome opened (numbered_lines log.lines) is)

@@ -21,6 +21,7 @@ use Rattle.kc_io.proofs.LogLemmas.{leads_as, leads_both, leads_nothing, leads_sa
 use Rattle.kc_language.specs.Outcome.{Options, lead, first_line, refusal_line, lines_text}
 use Rattle.kc_conf.specs.PartsOfOutcome.{error_if_at, stale_line, too_long_line, unreadable_line}
 use Rattle.kc_conf.specs.Faults.{AreLines}
+use Rattle.kc_conf.specs.RefusedNames.{unknown_near}
 use Rattle.kc_conf.specs.PartsOfOutcome.{strict_line}
 use Rattle.kc_conf.specs.Endings.{BreaksEnd, EndStops, Ends, HandsBy, IsChecked, IsEnded, in_delivery, in_diagnostics}
 use Rattle.kc_conf.specs.Faults.{clearing, event_of}
@@ -62,6 +63,10 @@ some-strict options e = some-after (lead options) strict_line (λ e. cc) e
 pub some-unreadable : (options : Options) (name : List ℕ) → lead options ++ unreadable_line name ≢ []
 some-unreadable options name e =
     some-after (lead options) (unreadable_line name) (λ e. some-after (codes "error E23: make cannot read the name " ++ first_line name) (codes "\n") (λ e. cc) e) e
+
+pub some-unknown : (options : Options) (name near : List ℕ) → lead options ++ unknown_near name near ≢ []
+some-unknown options name near e =
+    some-after (lead options) (unknown_near name near) (λ e. some-after (codes "error E24: no symbol has the name " ++ first_line name ++ near) (codes "\n") (λ e. cc) e) e
 
 some-at : (file : List ℕ) (number : ℕ) (text : List ℕ) → error_at file number text ≢ []
 some-at file number text e = some-after (file ++ codes ":" ++ decimal number ++ codes ": error " ++ text) (codes "\n") (λ e. cc) e

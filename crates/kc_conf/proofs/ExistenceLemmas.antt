@@ -1,11 +1,12 @@
 -- There is an outcome.
 use Rattle.std.proofs.Common.{◌≡◌, ◌⊎◌, ℕ, ◌<◌, List, [], length, map, Option, Some, None, Result, Ok, Err, refl, sym, ◌∙◌, arith, inl, inr, ◌++◌}
 use Rattle.std.specs.List.{range_with_len}
+use Rattle.std.specs.Prelude.{◌||◌, is_some}
 use Rattle.kc_language.specs.declared.expressions.SymId.{SymId}
 use Rattle.std.proofs.lemmas.List.FromFn.{get_or-map-range_with_len, length-map-range_with_len}
 use Rattle.kc_language.specs.Expressions.{SymbolValue, TextValue}
 use Rattle.kc_language.specs.declared.expressions.SymbolType.TheVariants.{Undefined}
-use Rattle.kc_language.specs.Expansion.{AreOpened, Refused, Files}
+use Rattle.kc_language.specs.Expansion.{AreOpened, Expands, Log, Refused, Files, numbered_lines}
 use Rattle.kc_read.specs.OpenedFiles.{OpenedAreOneList}
 use Rattle.kc_read.specs.Existing.{HasOneExpansion}
 use Rattle.kc_language.specs.Symbols.{TreeFacts, IsTreeOf}
@@ -19,11 +20,12 @@ use Rattle.kc_values.specs.Laws.{AcceptedHaveOneSolution, EquationsReadNeeds, Ne
 use Rattle.kc_language.specs.Needs.{needs, needs_of, loop_text, loop_refused}
 use Rattle.kc_language.specs.Texts.{Solution, value_of}
 use Rattle.kc_config_file.specs.Streams.{StreamsLeavePlaces}
-use Rattle.kc_language.specs.Outcome.{Options, fresh_input, lead, refusal_line, IsAcceptedTree, IsLenientOutcome, IsOutcome, IsOutcomeOfReading, IsRefusedTree, Outcome, accepted_tree, lines_text, long_line, looped, names_of, no_tree, reported, read_of, refused, refused_name, refused_tree, root_file, streams, strictly, unreadable_name, whole, with_rule}
-use Rattle.kc_conf.specs.PartsOfOutcome.{too_long_line, unreadable_line}
+use Rattle.kc_language.specs.Outcome.{Options, fresh_input, lead, refusal_line, IsAcceptedTree, IsLenientOutcome, IsOutcome, IsOutcomeOfReading, IsRefusedTree, Outcome, accepted_tree, lines_text, long_line, looped, names_of, no_tree, reported, read_of, refused, refused_name, refused_tree, root_file, streams, strictly, unknown_name, unknown_symbol, unreadable_name, whole, with_rule}
+use Rattle.kc_conf.specs.PartsOfOutcome.{too_long_line, unknown_line, unreadable_line}
 use Rattle.kc_conf.specs.PartsOfOutcome.{outcome_of}
 use Rattle.kc_conf.specs.LawSteps.{SolutionExists}
 use Rattle.kc_conf.specs.LawSteps.{AcceptedHaveAnOutcome, AnswerExists, OutcomeExists}
+use Rattle.kc_conf.proofs.Once.{expansion_of}
 
 -- ---- a solution
 
@@ -91,25 +93,32 @@ ended files options opened all lenient are is =
     (with_rule options opened (strictly options lenient), (lenient, opened, is, are, refl))
 
 module _ (opens : OpenedAreOneList) (formed : TreesAreWellFormed) (leaves : StreamsLeavePlaces) (solved : SolutionExists) where
-  of_stop : (files : Files) (options : Options) (all : List (List ℕ)) (tree : TreeFacts) → IsAcceptedTree files (root_file options) tree →
-      (stopped : Option StreamLocation) → (read_of options tree all).stopped ≡ stopped → (rest : Outcome) × IsOutcomeOfReading options tree (read_of options tree all) rest
-  of_stop files options all tree accepted (Some stop) is = (reported (read_of options tree all).warned (refused (too_long_line stop)), long_line stop is refl)
-  of_stop files options all tree accepted None is =
-      let held : ArePlaces tree (read_of options tree all).input.places = leaves tree options.prefix options.warn_lost (fresh_input options tree).gone (streams (names_of options) all) (formed files (root_file options) tree accepted.built) in
-      let (solution, for) = solved tree (read_of options tree all).input.places accepted.accepted held.there in
-      (reported (read_of options tree all).warned (outcome_of options tree (read_of options tree all).input solution), whole solution is for refl)
+  of_stop : (files : Files) (options : Options) (all : List (List ℕ)) (tree : TreeFacts) (log : Log) → IsAcceptedTree files (root_file options) tree →
+      (stopped : Option StreamLocation) → (read_of options tree all).stopped ≡ stopped →
+      (rest : Outcome) × IsOutcomeOfReading files options tree (numbered_lines log.lines) (read_of options tree all) rest
+  of_stop files options all tree log accepted (Some stop) is = (reported (read_of options tree all).warned (refused (too_long_line stop)), long_line stop is refl)
+  of_stop files options all tree log accepted None is =
+      let held : ArePlaces tree (read_of options tree all).input.places =
+      leaves tree options.prefix (options.warn_lost || is_some options.explanation) (fresh_input options tree).gone (streams (names_of options) all) (formed files (root_file options) tree accepted.built) in
+      let (solution, for) = solved tree (read_of options tree all).input.places accepted.accepted held.there in (
+        reported (read_of options tree all).warned (outcome_of files options tree (numbered_lines log.lines) (read_of options tree all).input solution),
+        whole solution is for refl,
+      )
 
   pub accepted_outcome : AcceptedHaveAnOutcome
   accepted_outcome files options all tree accepted =
       let (opened, are, only) = opens files (root_file options) in
-      by opened are (unreadable_name options opened) refl
+      by opened are (unreadable_name options opened) (unknown_name options tree) refl refl
     where
-      by : (opened : List (List ℕ)) → AreOpened files (root_file options) opened → (found : Option (List ℕ)) → unreadable_name options opened ≡ found →
+      by : (opened : List (List ℕ)) → AreOpened files (root_file options) opened → (found unknown : Option (List ℕ)) → unreadable_name options opened ≡ found → unknown_name options tree ≡ unknown →
           (outcome : Outcome) × IsOutcome files options all outcome
-      by opened are (Some name) unread = ended files options opened all (refused (lead options ++ unreadable_line name)) are (refused_name tree name accepted unread refl)
-      by opened are None read =
-          let (rest, part) = of_stop files options all tree accepted (read_of options tree all).stopped refl in
-          ended files options opened all (reported (lines_text tree.warnings) rest) are (accepted_tree tree accepted read (rest, part, refl))
+      by opened are (Some name) unknown unread is = ended files options opened all (refused (lead options ++ unreadable_line name)) are (refused_name tree name accepted unread refl)
+      by opened are None (Some asked) read is =
+          ended files options opened all (refused (lead options ++ unknown_line tree asked)) are (unknown_symbol tree asked accepted read is refl)
+      by opened are None None read known =
+          let (log, expands) = expansion_of files (root_file options) tree accepted in
+          let (rest, part) = of_stop files options all tree log accepted (read_of options tree all).stopped refl in
+          ended files options opened all (reported (lines_text tree.warnings) rest) are (accepted_tree tree log accepted expands read known (rest, part, refl))
 
   pub outcome_exists : AnswerExists → OutcomeExists
   outcome_exists answer files options all = elim (answer files (root_file options)) [

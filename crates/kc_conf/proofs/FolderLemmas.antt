@@ -1,6 +1,6 @@
 -- Over files that expand alike, trees, refusals, outcomes and runs are the same.
-use Rattle.std.proofs.Common.{◌≡◌, ◌⊎◌, inl, inr, ℕ, suc, Bool, List, Result, subst, sym}
-use Rattle.kc_language.specs.Expansion.{Refused, Files, AreOpened}
+use Rattle.std.proofs.Common.{◌≡◌, ◌⊎◌, inl, inr, ℕ, suc, Bool, List, Result, Ok, ap, subst, sym, ◌∙◌}
+use Rattle.kc_language.specs.Expansion.{AreOpened, Expands, Files, Log as TreeLog, Refused, numbered_lines}
 use Rattle.kc_language.specs.Symbols.{TreeFacts, IsTreeOf}
 use Rattle.kc_io.specs.Log.{Event, Log}
 use Rattle.kc_load.specs.Loading.{ExpandsAlike}
@@ -10,13 +10,21 @@ use Rattle.kc_conf.specs.Faults.{AreReads, Breaks, Broken, Completes, Runs, in_d
 use Rattle.kc_io.specs.Inputs.{InputFile}
 use Rattle.kc_conf.specs.Many.{AreRootedAt, EndsTurn, IsPart, RunsEach, RunsTurn, StopsAtTree, TakeTurns, TakesTurn}
 use Rattle.kc_conf.specs.Many as many
-use Rattle.kc_language.specs.Outcome.{Options, IsAcceptedTree, IsLenientOutcome, IsOutcome, IsRefusedTree, Outcome, accepted_tree, looped, no_tree, refused_name, refused_tree, root_file}
-use Rattle.kc_conf.specs.Faults.{IsRefusedName, NamesAreRead}
+use Rattle.kc_language.specs.Outcome.{Options, IsAcceptedTree, IsLenientOutcome, IsOutcome, IsOutcomeOfReading, IsRefusedTree, Outcome, accepted_tree, long_line, looped, no_tree, read_of, refused_if, refused_name, refused_tree, refuses_input, reported, root_file, unknown_symbol, whole}
+use Rattle.kc_conf.specs.Faults.{IsRefusedName, NamesAreTaken}
+use Rattle.kc_conf.proofs.SourceLemmas.{lines-same, warned_files-same}
+
+-- in the other direction
+pub flipped : (root : List ℕ) (files others : Files) → ExpandsAlike root files others → ExpandsAlike root others files
+flipped root files others alike = record {
+  gives = λ r. ((alike.gives r).1, (alike.gives r).0);
+  holds = λ log d i l within. sym (alike.holds log ((alike.gives (Ok log)).1 d) i l within);
+}
 
 -- from these files to others
 module _ (root : List ℕ) (files others : Files) (alike : ExpandsAlike root files others) where
   tree_over : (r : Result TreeFacts Refused) → IsTreeOf files root r → IsTreeOf others root r
-  tree_over r x = (x.0, (alike x.0).0 x.1, x.2)
+  tree_over r x = (x.0, (alike.gives x.0).0 x.1, x.2)
 
   pub refused_over : (r : Refused) → IsRefusedTree files root r → IsRefusedTree others root r
   refused_over r (no_tree x) = no_tree (tree_over _ x)
@@ -27,27 +35,42 @@ module _ (root : List ℕ) (files others : Files) (alike : ExpandsAlike root fil
 
   -- what is opened over these is opened over the others
   opened_over : (opened : List (List ℕ)) → AreOpened files root opened → AreOpened others root opened
-  opened_over opened are log expands = are log ((alike _).1 expands)
+  opened_over opened are log expands = are log ((alike.gives _).1 expands)
 
   -- and the other way round
   opened_back : (opened : List (List ℕ)) → AreOpened others root opened → AreOpened files root opened
-  opened_back opened are log expands = are log ((alike _).0 expands)
+  opened_back opened are log expands = are log ((alike.gives _).0 expands)
 
 module _ (options : Options) (files others : Files) (alike : ExpandsAlike (root_file options) files others) where
   abbrev top : List ℕ
   top = root_file options
 
+  -- what follows from the input files is made of the lines' files alone
+  rest_over : (tree : TreeFacts) (log : TreeLog) (all : List (List ℕ)) (rest : Outcome) → Expands files (root_file options) (Ok log) →
+      IsOutcomeOfReading files options tree (numbered_lines log.lines) (read_of options tree all) rest →
+      IsOutcomeOfReading others options tree (numbered_lines log.lines) (read_of options tree all) rest
+  rest_over tree log all rest expands (long_line stop stopped is) = long_line stop stopped is
+  rest_over tree log all rest expands (whole solution none solves is) =
+      let read = read_of options tree all in
+      whole solution none solves
+      (is ∙ ap (λ o. reported read.warned (refused_if options (refuses_input options read.input solution) o))
+      (warned_files-same files others (numbered_lines log.lines) (lines-same files others log (alike.holds log expands)) options tree read.input solution))
+
   lenient_over : (opened all : List (List ℕ)) (outcome : Outcome) → IsLenientOutcome files options opened all outcome → IsLenientOutcome others options opened all outcome
   lenient_over opened all outcome (refused_tree r x e) = refused_tree r (refused_over top files others alike r x) e
   lenient_over opened all outcome (refused_name tree name x unread e) = refused_name tree name (accepted_over top files others alike tree x) unread e
-  lenient_over opened all outcome (accepted_tree tree x read y) = accepted_tree tree (accepted_over top files others alike tree x) read y
+  lenient_over opened all outcome (unknown_symbol tree asked x read unknown e) = unknown_symbol tree asked (accepted_over top files others alike tree x) read unknown e
+  lenient_over opened all outcome (accepted_tree tree log x expands read known y) =
+      accepted_tree tree log (accepted_over top files others alike tree x) ((alike.gives _).0 expands) read known
+      (y.0, rest_over tree log all y.0 expands y.1, y.2)
 
   outcome_over : (all : List (List ℕ)) (outcome : Outcome) → IsOutcome files options all outcome → IsOutcome others options all outcome
   outcome_over all outcome (lenient, opened, is, are, same) = (lenient, opened, lenient_over opened all lenient is, opened_over top files others alike opened are, same)
 
-  -- where make can read the names over these files, it can over the others
-  read_over : NamesAreRead files options → NamesAreRead others options
-  read_over read opened are = read opened (opened_back top files others alike opened are)
+  -- where no name is refused over these files, none is over the others
+  read_over : NamesAreTaken files options → NamesAreTaken others options
+  read_over taken tree opened accepted are =
+      taken tree opened (accepted_over top others files (flipped top files others alike) tree accepted) (opened_back top files others alike opened are)
 
   -- a name that is refused over these files is refused over the others
   name_over : (name : List ℕ) → IsRefusedName files options name → IsRefusedName others options name
@@ -56,7 +79,7 @@ module _ (options : Options) (files others : Files) (alike : ExpandsAlike (root_
     accepted = accepted_over top files others alike r.tree r.accepted;
     opened = r.opened;
     are_opened = opened_over top files others alike r.opened r.are_opened;
-    unreadable = r.unreadable;
+    refuses = r.refuses;
   }
 
   reads_over : (inputs : List InputFile) (told : Log) (events : List Event) → AreReads files options inputs told events → AreReads others options inputs told events
@@ -112,10 +135,6 @@ module _ (options : Options) (files others : Files) (alike : ExpandsAlike (root_
     is_outcome = outcome_over _ r.outcome r.is_outcome;
     ends = ends_over _ r.inputs r.outcome old new status r.ends;
   }
-
--- in the other direction
-pub flipped : (root : List ℕ) (files others : Files) → ExpandsAlike root files others → ExpandsAlike root others files
-flipped root files others alike r = ((alike r).1, (alike r).0)
 
 -- ---- many configurations
 

@@ -1,9 +1,15 @@
 pub mod ExistenceLemmas
 pub mod AccountedLemmas
 pub mod ListLemmas
+pub mod MoreLemmas
 pub mod LostLemmas
 pub mod PromptLemmas
 pub mod PartLemmas
+pub mod ExplainedLemmas
+pub mod ComputedLemmas
+pub mod RefusedNames
+pub mod HeldLemmas
+pub mod SourceLemmas
 pub mod OutcomeLemmas
 pub mod DiagnosticLemmas
 pub mod Once

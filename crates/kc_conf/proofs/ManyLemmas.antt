@@ -2,26 +2,27 @@
 use Rattle.std.proofs.Common.{◌≡◌, inl, inr, ℕ, suc, ◌+◌, ◌-◌, ◌<◌, ◌≤◌, Bool, true, false, not, List, [], ◌++◌, refl, sym, ap, subst, ◌∙◌, None, Some, Result, Ok, Err, arith}
 use Rattle.std.specs.Prelude.{◌||◌}
 use Rattle.std.proofs.lemmas.List.{append_cancel_left}
-use Rattle.kc_language.specs.Expansion.{Files, AreOpened}
+use Rattle.kc_language.specs.Expansion.{AreOpened, Expands, Files, Log as TreeLog, numbered_lines}
 use Rattle.kc_language.specs.Symbols.{TreeFacts}
 use Rattle.kc_io.specs.Log.{Log, Leads, failed, reported as io_reported, said}
 use Rattle.kc_io.specs.Delivery.{NamedText}
 use Rattle.kc_io.specs.declared.device.Action.{Action}
 use Rattle.kc_io.specs.declared.device.Action.TheVariants.{Report}
 use Rattle.kc_io.proofs.LogLemmas.{leads_both, leads_nothing}
-use Rattle.kc_conf.specs.Accepted.{IsAcceptedOf}
-use Rattle.kc_language.specs.Outcome.{Options, lead, IsAcceptedTree, IsLenientOutcome, IsOutcome, Outcome, accepted_tree, has_text, lines_text, reported, refused, refused_name, refused_tree, root_file, strictly, unreadable_name, with_rule}
-use Rattle.kc_conf.specs.PartsOfOutcome.{unreadable_line}
+use Rattle.kc_conf.specs.Accepted.{IsAcceptedOf, IsOrderedOf}
+use Rattle.kc_language.specs.Outcome.{Options, lead, IsAcceptedTree, IsLenientOutcome, IsOutcome, Outcome, accepted_tree, has_text, lines_text, reported, refused, refused_name, refused_tree, root_file, strictly, unknown_name, unknown_symbol, unreadable_name, with_rule}
+use Rattle.kc_conf.specs.PartsOfOutcome.{name_refusal}
+use Rattle.std.specs.Option.{option_or}
 use Rattle.kc_conf.specs.LawSteps.{OneAnswer, OneOutcome}
 use Rattle.kc_conf.specs.Endings.{Ends}
-use Rattle.kc_conf.specs.Faults.{clearing, event_of, stop_line}
+use Rattle.kc_conf.specs.Faults.{clearing, event_of, refused_name_of, stop_line}
 use Rattle.kc_conf.specs.PartsOfFaults.{nothing_said}
 use Rattle.kc_conf.specs.Endings.{Reports}
 use Rattle.kc_io.specs.Inputs.{bytes_of, reads, still_told}
 use Rattle.kc_io.specs.Log.{TriesToSay}
 use Rattle.kc_conf.specs.Faults as ends
 use Rattle.kc_conf.specs.Laws.{ExactlyOneOutcome}
-use Rattle.kc_conf.specs.Many.{AreRootedAt, CannotSay, ExactlyOnePart, IsPart, PartsAreOfRuns, RunsTurn, TakeTurns, TakesTurn, broken, ends_all, greater, last, next, none, whole}
+use Rattle.kc_conf.specs.Many.{KeepsFor, AreRootedAt, CannotSay, ExactlyOnePart, IsPart, PartsAreOfRuns, RunsTurn, TakeTurns, TakesTurn, broken, ends_all, greater, last, next, none, whole}
 use Rattle.kc_conf.specs.PartsOfMany.{IsWholeOf, warned_before}
 use Rattle.kc_conf.specs.PartRuns.{LeavesPart, LeavesTurn, strictly_after}
 use Rattle.kc_conf.specs.Reads.{IsReportStop}
@@ -30,11 +31,13 @@ use Rattle.kc_language.specs.declared.outcome.Status.{Status}
 use Rattle.kc_language.specs.declared.outcome.Status.TheVariants.{Done, Refused, Usage, Faulted}
 use Rattle.kc_conf.specs.declared.stop.Stop.{Stop}
 use Rattle.kc_conf.specs.declared.stop.Stop.TheVariants.{OutOfMemory, Failed}
+use Rattle.kc_conf.proofs.HeldLemmas.{AreHeld-sources}
 use Rattle.kc_conf.proofs.GivenLemmas.{AreInputs-later, inputs-exist}
 use Rattle.kc_conf.proofs.Once.{one_opened}
 use Rattle.kc_conf.proofs.OutcomeLemmas.{strictly-reported, with_rule-reported}
 use Rattle.kc_conf.proofs.PartLemmas.{AreLines-nothing}
 use Rattle.kc_conf.proofs.PartOutcomes.{texts-none}
+use Rattle.kc_conf.proofs.RefusedNames.{lenient_refusal, refused_with}
 use Rattle.kc_conf.proofs.RunParts.{EndsSo-behind, IsBrokenOff-memory, breaks-later}
 
 -- ---- one part
@@ -48,22 +51,22 @@ same_part text a b e =
 module _ (law : OneAnswer) (files : Files) (tree : TreeFacts) (options : Options) (all : List (List ℕ)) (accepted : IsAcceptedTree files (root_file options) tree) where
   -- the outcome with the tree's warnings before it, unless a name is refused
   abbrev behind : List (List ℕ) → Outcome → Outcome
-  behind opened part = reported (warned_before tree (unreadable_name options opened)) part
+  behind opened part = reported (warned_before tree (refused_name_of options opened tree)) part
 
   one_part : OneOutcome → (a b : Outcome) → IsPart files tree options all a → IsPart files tree options all b → a ≡ b
   one_part outcomes a b (opened, are, is) (others, are', is') =
       let same : others ≡ opened = one_opened files (root_file options) tree others opened accepted are' are in
       let is'' : IsOutcome files options all (behind opened b) = subst (λ l. IsOutcome files options all (behind l b)) same is' in
-      same_part (warned_before tree (unreadable_name options opened)) a b (outcomes files options all (behind opened a) (behind opened b) is is'')
+      same_part (warned_before tree (refused_name_of options opened tree)) a b (outcomes files options all (behind opened a) (behind opened b) is is'')
 
   -- a refused name
-  part_of_name : (opened : List (List ℕ)) (name : List ℕ) (outcome : Outcome) → AreOpened files (root_file options) opened → unreadable_name options opened ≡ Some name →
+  part_of_name : (opened : List (List ℕ)) (name : List ℕ) (outcome : Outcome) → AreOpened files (root_file options) opened → refused_name_of options opened tree ≡ Some name →
       IsOutcome files options all outcome → IsPart files tree options all outcome
   part_of_name opened name outcome are unread is =
       (opened, are, subst (λ u. IsOutcome files options all (reported (warned_before tree u) outcome)) (sym unread) is)
 
   -- no refused name
-  part_of_rest : (opened : List (List ℕ)) (part : Outcome) → AreOpened files (root_file options) opened → unreadable_name options opened ≡ None →
+  part_of_rest : (opened : List (List ℕ)) (part : Outcome) → AreOpened files (root_file options) opened → refused_name_of options opened tree ≡ None →
       IsOutcome files options all (reported (lines_text tree.warnings) part) → IsPart files tree options all part
   part_of_rest opened part are read is =
       (opened, are, subst (λ u. IsOutcome files options all (reported (warned_before tree u) part)) (sym read) is)
@@ -74,14 +77,23 @@ module _ (law : OneAnswer) (files : Files) (tree : TreeFacts) (options : Options
   of_run : (outcome : Outcome) → IsOutcome files options all outcome → OfRun outcome
   of_run outcome (lenient, opened, is_lenient, are, is) = go is_lenient
     where
+      of_name : (name : List ℕ) → refused_name_of options opened tree ≡ Some name → IsOutcome files options all outcome → OfRun outcome
+      of_name name refuses here = (
+        outcome,
+        part_of_name opened name outcome are refuses here,
+        inr (name, record { tree = tree; accepted = accepted; opened = opened; are_opened = are; refuses = refuses }, refl),
+      )
+
       go : IsLenientOutcome files options opened all lenient → OfRun outcome
       go (refused_tree r refuses e) = absurd (law.not_both files (root_file options) r tree refuses accepted)
-      go (refused_name other name second unread e) = (
-        outcome,
-        part_of_name opened name outcome are unread (lenient, opened, refused_name other name second unread e, are, is),
-        inr (name, record { tree = other; accepted = second; opened = opened; are_opened = are; unreadable = unread }, refl),
-      )
-      go (accepted_tree other second read (rest, of_reading, e)) =
+      go (refused_name other name second unread e) =
+          of_name name (ap (λ u. option_or u (unknown_name options tree)) unread) (lenient, opened, refused_name other name second unread e, are, is)
+      go (unknown_symbol other asked second read unknown e) =
+          let same : other ≡ tree = law.one_accepted files (root_file options) other tree second accepted in
+          of_name asked
+          (ap (λ u. option_or u (unknown_name options tree)) read ∙ ap (unknown_name options) (sym same) ∙ unknown)
+          (lenient, opened, unknown_symbol other asked second read unknown e, are, is)
+      go (accepted_tree other log second expands read known (rest, of_reading, e)) =
           let same : other ≡ tree = law.one_accepted files (root_file options) other tree second accepted in
           let warnings : List ℕ = lines_text tree.warnings in
           let after : lenient ≡ reported warnings rest = e ∙ ap (λ (t : TreeFacts). reported (lines_text t.warnings) rest) same in
@@ -90,8 +102,9 @@ module _ (law : OneAnswer) (files : Files) (tree : TreeFacts) (options : Options
           is ∙ ap (λ o. with_rule options opened (strictly options o)) after
           ∙ ap (with_rule options opened) (sym (strictly-reported options warnings rest))
           ∙ sym (with_rule-reported options opened warnings (strictly_after options (has_text warnings) rest)) in
-          let here : IsOutcome files options all outcome = (lenient, opened, accepted_tree other second read (rest, of_reading, e), are, is) in
-          (part, part_of_rest opened part are read (subst (λ o. IsOutcome files options all o) whole here), inl whole)
+          let here : IsOutcome files options all outcome = (lenient, opened, accepted_tree other log second expands read known (rest, of_reading, e), are, is) in
+          let taken : refused_name_of options opened tree ≡ None = ap (λ u. option_or u (unknown_name options tree)) read ∙ ap (unknown_name options) (sym same) ∙ known in
+          (part, part_of_rest opened part are taken (subst (λ o. IsOutcome files options all o) whole here), inl whole)
 
   -- there is a part
   part_exists : ExactlyOneOutcome → (part : Outcome) × IsPart files tree options all part
@@ -126,23 +139,25 @@ module _ (files : Files) (options : Options) (tree : TreeFacts) (accepted : IsAc
 
   module _ (opened : List (List ℕ)) (are : AreOpened files (root_file options) opened) (result : Result Status Stop) (old new : Log) where
     -- a name is refused
-    pub LeavesTurn-name : OneAnswer → (name : List ℕ) → unreadable_name options opened ≡ Some name → Ends options [] (lead options ++ unreadable_line name) [] Refused result old new →
+    pub LeavesTurn-name : OneAnswer → (text : List ℕ) → name_refusal options opened tree ≡ Some text → Ends options [] (lead options ++ text) [] Refused result old new →
         LeavesTurn files options tree result old new
-    LeavesTurn-name law name unread ended =
-        let line = lead options ++ unreadable_line name in
+    LeavesTurn-name law text refuses ended =
+        let line = lead options ++ text in
+        let (name, unread) = refused_with options opened tree text refuses in
         let (inputs, are_inputs) = inputs-exist (still_told old new) options in
         record {
           inputs = inputs;
           are_inputs = are_inputs;
           part = refused line;
-          is_part = part_of_name law files tree options (bytes_of inputs) accepted opened name (refused line) are unread (refused line, opened, refused_name tree name accepted unread refl, are, refl);
+          is_part = part_of_name law files tree options (bytes_of inputs) accepted opened name (refused line) are unread
+              (refused line, opened, lenient_refusal files options opened (bytes_of inputs) tree accepted text refuses, are, refl);
           ends = EndsSo-behind nothing_said files options inputs (refused line) [] [] [] old old new
-              (ends.refused_name name (record { tree = tree; accepted = accepted; opened = opened; are_opened = are; unreadable = unread })) AreLines-nothing refl (leads_nothing old) result
+              (ends.refused_name name (record { tree = tree; accepted = accepted; opened = opened; are_opened = are; refuses = unread })) AreLines-nothing refl (leads_nothing old) result
               (subst (λ (t : List NamedText). Ends options [] line t Refused result old new) (sym (texts-none options)) ended);
         }
 
     -- each name is read
-    pub LeavesTurn-part : OneAnswer → unreadable_name options opened ≡ None → LeavesPart files options tree result old new → LeavesTurn files options tree result old new
+    pub LeavesTurn-part : OneAnswer → refused_name_of options opened tree ≡ None → LeavesPart files options tree result old new → LeavesTurn files options tree result old new
     LeavesTurn-part law read p = record {
       inputs = p.inputs;
       are_inputs = p.are_inputs;
@@ -258,10 +273,17 @@ pub TriesToSay-behind : (line : List ℕ) (old mid new : Log) → Leads [] [] ol
 TriesToSay-behind line old mid new h (report, log) = (report, leads_both [] (io_reported report) [] (said report line) old mid new h log)
 
 -- all options are of this tree
-pub IsAcceptedOf-rooted : (files : Files) (root : List ℕ) (are_options : ℕ → Options → Type 0) (accepted : OrderedTree) → IsAcceptedTree files root accepted.laid.tree.now → AreOpened files root accepted.opened.now →
-    AreRootedAt root are_options → (i : ℕ) (options : Options) → are_options i options → IsAcceptedOf files options accepted
-IsAcceptedOf-rooted files root are_options accepted tree opened rooted i options is =
-    let e = sym (rooted i options is) in record {
-      tree = subst (λ r. IsAcceptedTree files r accepted.laid.tree.now) e tree;
-      opened = subst (λ r. AreOpened files r accepted.opened.now) e opened;
+pub IsAcceptedOf-rooted : (files : Files) (root : List ℕ) (keeps : Bool) (are_options : ℕ → Options → Type 0) (accepted : OrderedTree) → IsOrderedOf files root keeps accepted →
+    KeepsFor are_options keeps → AreRootedAt root are_options → (i : ℕ) (options : Options) → are_options i options → IsAcceptedOf files options accepted
+IsAcceptedOf-rooted files root keeps are_options accepted of keeps_for rooted i options is =
+    let e = sym (rooted i options is) in
+    let (log, expands, held) = of.sources in
+    record {
+      tree = subst (λ r. IsAcceptedTree files r accepted.laid.tree.now) e of.tree;
+      opened = subst (λ r. AreOpened files r accepted.opened.now) e of.opened;
+      sources = (
+        log,
+        subst (λ r. Expands files r (Ok log)) e expands,
+        AreHeld-sources files (numbered_lines log.lines) keeps options accepted.sources (keeps_for i options is) held,
+      );
     }

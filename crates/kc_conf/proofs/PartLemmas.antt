@@ -34,7 +34,7 @@ AreLines-append a b (ls, is) (ms, is') =
     (ls ++ ms, ap (λ t. t ++ b) is ∙ ap (λ t. lines_text ls ++ t) is' ∙ sym (flat_map-append (λ line. line ++ codes "\n") ls ms))
 
 -- texts of which each is whole lines
-AreLines-each : {X : Type 0} (f : X → List ℕ) (xs : List X) → ((x : X) → AreLines (f x)) → AreLines (flat_map f xs)
+pub AreLines-each : {X : Type 0} (f : X → List ℕ) (xs : List X) → ((x : X) → AreLines (f x)) → AreLines (flat_map f xs)
 AreLines-each f [] each = AreLines-nothing
 AreLines-each f (x ∷ xs) each = AreLines-append (f x) (flat_map f xs) (each x) (AreLines-each f xs each)
 

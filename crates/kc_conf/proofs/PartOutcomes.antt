@@ -1,7 +1,9 @@
 -- What a run leaves behind the tree's warnings.
 use Rattle.std.proofs.Common.{◌≡◌, ℕ, Bool, true, false, List, [], ◌++◌, refl, sym, ap, subst, ◌∙◌, Option, None, Some, String, Global}
-use Rattle.std.specs.Prelude.{◌&&◌, ◌||◌, if◌then◌else◌, Result}
-use Rattle.kc_language.specs.Expansion.{Files, AreOpened}
+use Rattle.std.specs.Option.{option_or}
+use Rattle.std.specs.Prelude.{◌&&◌, ◌||◌, if◌then◌else◌, Ok, Result}
+use Rattle.kc_language.specs.Expansion.{AreOpened, Expands, Files, Log as TreeLog, numbered_lines}
+use Rattle.kc_language.specs.Statements.{Located, Numbered}
 use Rattle.kc_language.specs.Symbols.{TreeFacts}
 use Rattle.kc_language.specs.Texts.{Solution}
 use Rattle.kc_language.specs.ConfigFile.{ReadResult, StreamLocation, UserInput}
@@ -11,9 +13,9 @@ use Rattle.kc_io.specs.Delivery.{NamedText}
 use Rattle.kc_conf.specs.Computed.{refuses, ruled_files, value_lines}
 use Rattle.kc_conf.specs.Endings.{Ends, line_if, status_if, texts_or}
 use Rattle.kc_io.specs.Delivery.{text_at, texts_of}
-use Rattle.kc_language.specs.Outcome.{Options, IsAcceptedTree, IsLenientOutcome, IsOutcome, IsOutcomeOfReading, IsSolutionFor, Outcome, accepted_tree, has_text, is_done, lines_text, long_line, names_listed, reported, read_of, refused, refused_if, refused_name, refused_tree, root_file, unreadable_name, warned_files, whole, with_rule, refuses_input}
+use Rattle.kc_language.specs.Outcome.{Options, IsAcceptedTree, IsLenientOutcome, IsOutcome, IsOutcomeOfReading, IsSolutionFor, Outcome, accepted_tree, has_text, is_done, lines_text, long_line, names_listed, reported, read_of, refused, refused_if, refused_name, refused_tree, root_file, unknown_name, unknown_symbol, unreadable_name, warned_files, whole, with_rule, refuses_input}
 use Rattle.kc_conf.specs.PartsOfOutcome.{too_long_line}
-use Rattle.kc_conf.specs.Faults.{NamesAreRead}
+use Rattle.kc_conf.specs.Faults.{NamesAreTaken, refused_name_of}
 use Rattle.kc_conf.specs.PartsOfOutcome.{outcome_of}
 use Rattle.kc_conf.specs.LawSteps.{OneAnswer}
 use Rattle.kc_conf.specs.Laws.{ExactlyOneOutcome}
@@ -31,9 +33,9 @@ text_at-none None = refl
 text_at-none (Some name) = refl
 
 pub texts-none : (options : Options) →
-    text_at options.out None ++ text_at options.header None ++ text_at options.minimal None ++ text_at options.list_new None ++ text_at options.list_gone None ++ text_at options.depfile None ≡ []
+    text_at options.out None ++ text_at options.header None ++ text_at options.minimal None ++ text_at options.list_new None ++ text_at options.list_gone None ++ text_at options.depfile None ++ text_at options.explanation None ≡ []
 texts-none options =
-    rw (text_at-none options.out, text_at-none options.header, text_at-none options.minimal, text_at-none options.list_new, text_at-none options.list_gone, text_at-none options.depfile) refl
+    rw (text_at-none options.out, text_at-none options.header, text_at-none options.minimal, text_at-none options.list_new, text_at-none options.list_gone, text_at-none options.depfile, text_at-none options.explanation) refl
 
 -- ---- the part of a run
 
@@ -44,67 +46,86 @@ part_of options opened before rest = with_rule options opened (strictly_after op
 pub part-warned : (options : Options) (opened : List (List ℕ)) (before : Bool) (rest : Outcome) → (part_of options opened before rest).warned ≡ rest.warned
 part-warned options opened before rest = rule-warned options opened (strictly_after options before rest) ∙ strictly_after-warned options before rest
 
-module _ (files : Files) (options : Options) (tree : TreeFacts) (accepted : IsAcceptedTree files (root_file options) tree)
-    (opened : List (List ℕ)) (are : AreOpened files (root_file options) opened) (readable : unreadable_name options opened ≡ None) where
-  pub names-read : NamesAreRead files options
-  names-read others others_are = ap (unreadable_name options) (one_opened files (root_file options) tree others opened accepted others_are are) ∙ readable
+-- where no name is refused, each is read, and each is that of a symbol
+pub both-taken : (unread unknown : Option (List ℕ)) → option_or unread unknown ≡ None → (unread ≡ None) × (unknown ≡ None)
+both-taken None unknown e = (refl, e)
+both-taken (Some name) unknown e = absurd (let clash : Some name ≡ None = e in cc)
 
-  -- with the tree's warnings before it, it is the outcome
-  pub is_part : (all : List (List ℕ)) (rest : Outcome) → IsOutcomeOfReading options tree (read_of options tree all) rest →
-      IsOutcome files options all (reported (lines_text tree.warnings) (part_of options opened (has_text (lines_text tree.warnings)) rest))
-  is_part all rest of_reading =
-      let told = lines_text tree.warnings in (
-        reported told rest,
-        opened,
-        accepted_tree tree accepted readable (rest, of_reading, refl),
-        are,
-        with_rule-reported options opened told (strictly_after options (has_text told) rest) ∙ ap (with_rule options opened) (strictly-reported options told rest),
-      )
+module _ (law : OneAnswer) (files : Files) (options : Options) (tree : TreeFacts) (accepted : IsAcceptedTree files (root_file options) tree)
+    (opened : List (List ℕ)) (are : AreOpened files (root_file options) opened) (taken : refused_name_of options opened tree ≡ None) where
+  pub names-taken : NamesAreTaken files options
+  names-taken other others second others_are =
+      ap (refused_name_of options others) (law.one_accepted files (root_file options) other tree second accepted)
+      ∙ ap (λ l. refused_name_of options l tree) (one_opened files (root_file options) tree others opened accepted others_are are) ∙ taken
 
-  -- something follows from the streams
-  pub rest-exists : OneAnswer → ExactlyOneOutcome → (all : List (List ℕ)) → (rest : Outcome) × IsOutcomeOfReading options tree (read_of options tree all) rest
-  rest-exists law outcomes all =
-      let (outcome, (lenient, others, is_lenient, others_are, is), only) = outcomes files options all in
-      go lenient others others_are is_lenient
-    where
-      go : (lenient : Outcome) (others : List (List ℕ)) → AreOpened files (root_file options) others → IsLenientOutcome files options others all lenient →
-          (rest : Outcome) × IsOutcomeOfReading options tree (read_of options tree all) rest
-      go lenient others others_are (refused_tree r refuses e) = absurd (law.not_both files (root_file options) r tree refuses accepted)
-      go lenient others others_are (refused_name other name second unread e) = absurd (let clash : Some name ≡ None = sym unread ∙ names-read others others_are in cc)
-      go lenient others others_are (accepted_tree other second named (rest, of_reading, e)) =
-          let same : other ≡ tree = law.one_accepted files (root_file options) other tree second accepted in
-          (rest, subst (λ t. IsOutcomeOfReading options t (read_of options t all) rest) same of_reading)
+  module _ (log : TreeLog) (expands : Expands files (root_file options) (Ok log)) where
+    -- with the tree's warnings before it, it is the outcome
+    pub is_part : (all : List (List ℕ)) (rest : Outcome) → IsOutcomeOfReading files options tree (numbered_lines log.lines) (read_of options tree all) rest →
+        IsOutcome files options all (reported (lines_text tree.warnings) (part_of options opened (has_text (lines_text tree.warnings)) rest))
+    is_part all rest of_reading =
+        let told = lines_text tree.warnings in
+        let names = both-taken (unreadable_name options opened) (unknown_name options tree) taken in (
+          reported told rest,
+          opened,
+          accepted_tree tree log accepted expands names.0 names.1 (rest, of_reading, refl),
+          are,
+          with_rule-reported options opened told (strictly_after options (has_text told) rest) ∙ ap (with_rule options opened) (strictly-reported options told rest),
+        )
 
--- its warnings begin with those of the streams
-pub rest-begins : (options : Options) (tree : TreeFacts) (read : ReadResult) (rest : Outcome) → IsOutcomeOfReading options tree read rest → BeginsWith rest.warned read.warned
-rest-begins options tree read rest (long_line stop stopped is) = ([], ap (λ (o : Outcome). o.warned) is)
-rest-begins options tree read rest (whole solution none solves is) = ((outcome_of options tree read.input solution).warned, ap (λ (o : Outcome). o.warned) is)
+    -- something follows from the streams
+    pub rest-exists : ExactlyOneOutcome → (all : List (List ℕ)) → (rest : Outcome) × IsOutcomeOfReading files options tree (numbered_lines log.lines) (read_of options tree all) rest
+    rest-exists outcomes all =
+        let (outcome, (lenient, others, is_lenient, others_are, is), only) = outcomes files options all in
+        go lenient others others_are is_lenient
+      where
+        go : (lenient : Outcome) (others : List (List ℕ)) → AreOpened files (root_file options) others → IsLenientOutcome files options others all lenient →
+            (rest : Outcome) × IsOutcomeOfReading files options tree (numbered_lines log.lines) (read_of options tree all) rest
+        go lenient others others_are (refused_tree r refuses e) = absurd (law.not_both files (root_file options) r tree refuses accepted)
+        go lenient others others_are (refused_name other name second unread e) =
+            let names = both-taken (unreadable_name options others) (unknown_name options other) (names-taken other others second others_are) in
+            absurd (let clash : Some name ≡ None = sym unread ∙ names.0 in cc)
+        go lenient others others_are (unknown_symbol other asked second read unknown e) =
+            let names = both-taken (unreadable_name options others) (unknown_name options other) (names-taken other others second others_are) in
+            absurd (let clash : Some asked ≡ None = sym unknown ∙ names.1 in cc)
+        go lenient others others_are (accepted_tree other more second expands_too read known (rest, of_reading, e)) =
+            let same : other ≡ tree = law.one_accepted files (root_file options) other tree second accepted in
+            let same_log : more ≡ log = law.one_log files (root_file options) more log expands_too expands in
+            let of : IsOutcomeOfReading files options tree (numbered_lines more.lines) (read_of options tree all) rest =
+            subst (λ (t : TreeFacts). IsOutcomeOfReading files options t (numbered_lines more.lines) (read_of options t all) rest) same of_reading in
+            (rest, subst (λ (l : TreeLog). IsOutcomeOfReading files options tree (numbered_lines l.lines) (read_of options tree all) rest) same_log of)
 
--- ---- a line is too long
+module _ (files : Files) (options : Options) (tree : TreeFacts) (lines : List (Located Numbered)) (read : ReadResult) where
+  -- its warnings begin with those of the streams
+  pub rest-begins : (rest : Outcome) → IsOutcomeOfReading files options tree lines read rest → BeginsWith rest.warned read.warned
+  rest-begins rest (long_line stop stopped is) = ([], ap (λ (o : Outcome). o.warned) is)
+  rest-begins rest (whole solution none solves is) = ((outcome_of files options tree lines read.input solution).warned, ap (λ (o : Outcome). o.warned) is)
 
-pub rest-long : (options : Options) (tree : TreeFacts) (read : ReadResult) (input : UserInput) (warned : List ℕ) (stop : StreamLocation) → read ≡ ended_with input warned (Some stop) →
-    IsOutcomeOfReading options tree read (reported warned (refused (too_long_line stop)))
-rest-long options tree read input warned stop e =
-    subst (λ (r : ReadResult). IsOutcomeOfReading options tree r (reported warned (refused (too_long_line stop)))) (sym e) (long_line stop refl refl)
+  -- ---- a line is too long
 
--- ---- all lines were read
+  pub rest-long : (input : UserInput) (warned : List ℕ) (stop : StreamLocation) → read ≡ ended_with input warned (Some stop) →
+      IsOutcomeOfReading files options tree lines read (reported warned (refused (too_long_line stop)))
+  rest-long input warned stop e =
+      subst (λ (r : ReadResult). IsOutcomeOfReading files options tree lines r (reported warned (refused (too_long_line stop)))) (sym e) (long_line stop refl refl)
 
-pub rest-whole : (options : Options) (tree : TreeFacts) (read : ReadResult) (input : UserInput) (warned : List ℕ) (solution : Solution) → read ≡ ended_with input warned None →
-    IsSolutionFor tree input.places solution → IsOutcomeOfReading options tree read (reported warned (outcome_of options tree input solution))
-rest-whole options tree read input warned solution e is =
-    subst (λ (r : ReadResult). IsOutcomeOfReading options tree r (reported warned (outcome_of options tree input solution))) (sym e) (whole solution refl is refl)
+  -- ---- all lines were read
+
+  pub rest-whole : (input : UserInput) (warned : List ℕ) (solution : Solution) → read ≡ ended_with input warned None →
+      IsSolutionFor tree input.places solution → IsOutcomeOfReading files options tree lines read (reported warned (outcome_of files options tree lines input solution))
+  rest-whole input warned solution e is =
+      subst (λ (r : ReadResult). IsOutcomeOfReading files options tree lines r (reported warned (outcome_of files options tree lines input solution))) (sym e) (whole solution refl is refl)
 
 -- only under --strict-tree it matters what was said
 strict-same : (strict before : Bool) (x y : List ℕ) → (strict ≡ true → x ≡ y) → (strict && (before || has_text x)) ≡ (strict && (before || has_text y))
 strict-same true before x y same = ap (λ t. before || has_text t) (same refl)
 strict-same false before x y same = refl
 
-module _ (options : Options) (tree : TreeFacts) (opened : List (List ℕ)) (input : UserInput) (warned : List ℕ) (solution : Solution) where
+module _ (files : Files) (options : Options) (tree : TreeFacts) (lines : List (Located Numbered)) (opened : List (List ℕ)) (input : UserInput) (warned : List ℕ)
+    (solution : Solution) where
   abbrev made : Bool → Outcome
-  made refused_too = reported warned (refused_if options refused_too (warned_files options tree input solution))
+  made refused_too = reported warned (refused_if options refused_too (warned_files files options tree lines input solution))
 
   abbrev given_by : Bool → Option (List NamedText)
-  given_by b = if b then None else Some (texts_of options (ruled_files options tree input solution (names_listed options opened)))
+  given_by b = if b then None else Some (texts_of options (ruled_files files options tree lines input solution (names_listed options opened)))
 
   -- the part has this line, these texts and this status
   abbrev Has : Outcome → Option (List NamedText) → Type 0
@@ -115,19 +136,19 @@ module _ (options : Options) (tree : TreeFacts) (opened : List (List ℕ)) (inpu
   has-by false true = (refl, texts-none options, refl)
   has-by false false = (refl, refl, refl)
 
-  pub part-has : (before : Bool) (text : List ℕ) → (options.strict_tree ≡ true → text ≡ warned ++ value_lines options input solution) →
-      Has (part_of options opened before (reported warned (outcome_of options tree input solution))) (given_by (refuses options input solution before text))
+  pub part-has : (before : Bool) (text : List ℕ) → (options.strict_tree ≡ true → text ≡ warned ++ value_lines options lines input solution) →
+      Has (part_of options opened before (reported warned (outcome_of files options tree lines input solution))) (given_by (refuses options input solution before text))
   part-has before text same =
       let r = refuses_input options input solution in
-      let told : (made r).warned ≡ warned ++ value_lines options input solution = ap (λ t. warned ++ t) (warned_if options (warned_files options tree input solution) r) in
+      let told : (made r).warned ≡ warned ++ value_lines options lines input solution = ap (λ t. warned ++ t) (warned_if options (warned_files files options tree lines input solution) r) in
       subst (λ q. Has (part_of options opened before (made r)) (given_by (r || q)))
       (strict-same options.strict_tree before (made r).warned text (λ on. told ∙ sym (same on)))
       (has-by r (options.strict_tree && (before || has_text (made r).warned)))
 
-  pub part-says : (before : Bool) → (part_of options opened before (reported warned (outcome_of options tree input solution))).warned ≡ warned ++ value_lines options input solution
+  pub part-says : (before : Bool) → (part_of options opened before (reported warned (outcome_of files options tree lines input solution))).warned ≡ warned ++ value_lines options lines input solution
   part-says before =
       part-warned options opened before (made (refuses_input options input solution))
-      ∙ ap (λ t. warned ++ t) (warned_if options (warned_files options tree input solution) (refuses_input options input solution))
+      ∙ ap (λ t. warned ++ t) (warned_if options (warned_files files options tree lines input solution) (refuses_input options input solution))
 
 -- the end of a run, in the terms of its part
 pub Ends-part : (options : Options) (part : Outcome) (given : Option (List NamedText)) (waits : List ℕ) (result : Result Status Stop) (old new : Log) →

@@ -9,9 +9,9 @@ use Rattle.kc_io.specs.declared.device.Action.TheVariants.{Open, Read}
 use Rattle.kc_io.specs.declared.steps.Failure.{Failure}
 use Rattle.kc_io.proofs.LogLemmas.{leads_as, leads_both, leads_nothing, leads_said}
 use Rattle.kc_language.specs.Text.{BeginsWith, GoesBeyond}
-use Rattle.kc_language.specs.Outcome.{Options, lead, refusal_line, IsAcceptedTree, IsLenientOutcome, IsOutcome, IsRefusedTree, refused, unreadable_name, Outcome, accepted_tree, has_text, is_done, lines_text, reported, refused_name, refused_tree, root_file, strictly}
-use Rattle.kc_conf.specs.PartsOfOutcome.{unreadable_line}
-use Rattle.kc_conf.specs.Faults.{AreLines, NamesAreRead, diagnostics_of}
+use Rattle.kc_language.specs.Outcome.{Options, lead, refusal_line, IsAcceptedTree, IsLenientOutcome, IsOutcome, IsRefusedTree, refused, unknown_name, unknown_symbol, unreadable_name, Outcome, accepted_tree, has_text, is_done, lines_text, reported, refused_name, refused_tree, root_file, strictly}
+use Rattle.kc_conf.specs.PartsOfOutcome.{name_refusal}
+use Rattle.kc_conf.specs.Faults.{AreLines, NamesAreTaken, diagnostics_of}
 use Rattle.kc_conf.specs.LawSteps.{OneAnswer}
 use Rattle.kc_conf.specs.Endings.{Answers, BreaksEnd, EndStops, Ends, IsEnded}
 use Rattle.kc_conf.specs.Endings as tail
@@ -38,7 +38,8 @@ use Rattle.kc_conf.proofs.EndingLemmas.{beyond-nothing, cleared-report, delivers
 use Rattle.kc_conf.proofs.GivenLemmas.{AreInputs-before, AreInputs-later, AreReads-before, AreReads-later, ReadsUpTo-before, ReadsUpTo-later, inputs-exist, keeps-are_reads, reads-front}
 use Rattle.kc_conf.proofs.OutcomeLemmas.{diagnostics-reported, rule-warned, warned_if}
 use Rattle.kc_conf.proofs.PartLemmas.{AreLines-append, AreLines-nothing}
-use Rattle.kc_conf.proofs.PartOutcomes.{texts-none}
+use Rattle.kc_conf.proofs.PartOutcomes.{both-taken, texts-none}
+use Rattle.kc_conf.proofs.RefusedNames.{lenient_refusal, refused_with}
 use Rattle.kc_conf.proofs.TellingLemmas.{Tells-first, Tells-later, Tells-weaker}
 
 -- ---- a run that was read, and then ended
@@ -130,7 +131,7 @@ cleared-read by f (inr e) = ap (cleared_by by) e ∙ at by
     at Replace = refl
     at Check = refl
 
-module _ (files : Files) (options : Options) (tree : TreeFacts) (accepted : IsAcceptedTree files (root_file options) tree) (named : NamesAreRead files options)
+module _ (files : Files) (options : Options) (tree : TreeFacts) (accepted : IsAcceptedTree files (root_file options) tree) (named : NamesAreTaken files options)
     (inputs : List InputFile) (part : Outcome) (warned : List ℕ) (begins : BeginsWith part.warned warned) (old new : Log) where
   stops-in : {stop : Stop} {done : List Event} {front : List ℕ} → StopsInputs (still_told old new) options tree inputs warned stop done front →
       Breaks files options nothing_said inputs part (still_told old new) stop done front × (clearing options stop ≡ [])
@@ -289,7 +290,7 @@ LeavesRun-memory outcomes files options old new log =
 
 -- ---- the tree's warnings were not said
 
-module _ (law : OneAnswer) (outcomes : ExactlyOneOutcome) (files : Files) (options : Options) (tree : TreeFacts) (accepted : IsAcceptedTree files (root_file options) tree) (named : NamesAreRead files options) where
+module _ (law : OneAnswer) (outcomes : ExactlyOneOutcome) (files : Files) (options : Options) (tree : TreeFacts) (accepted : IsAcceptedTree files (root_file options) tree) (named : NamesAreTaken files options) where
   -- the outcome begins with them
   begins-told : (all : List (List ℕ)) (outcome : Outcome) → IsOutcome files options all outcome → BeginsWith outcome.warned (lines_text tree.warnings)
   begins-told all outcome (lenient, opened, is_lenient, are, is) =
@@ -298,8 +299,13 @@ module _ (law : OneAnswer) (outcomes : ExactlyOneOutcome) (files : Files) (optio
     where
       go : IsLenientOutcome files options opened all lenient → BeginsWith lenient.warned (lines_text tree.warnings)
       go (refused_tree r refuses e) = absurd (law.not_both files (root_file options) r tree refuses accepted)
-      go (refused_name other name second unread e) = absurd (let clash : Some name ≡ None = sym unread ∙ named opened are in cc)
-      go (accepted_tree other second readable (rest, of_reading, e)) =
+      go (refused_name other name second unread e) =
+          let names = both-taken (unreadable_name options opened) (unknown_name options other) (named other opened second are) in
+          absurd (let clash : Some name ≡ None = sym unread ∙ names.0 in cc)
+      go (unknown_symbol other asked second read unknown e) =
+          let names = both-taken (unreadable_name options opened) (unknown_name options other) (named other opened second are) in
+          absurd (let clash : Some asked ≡ None = sym unknown ∙ names.1 in cc)
+      go (accepted_tree other log second expands read known (rest, of_reading, e)) =
           let same : other ≡ tree = law.one_accepted files (root_file options) other tree second accepted in
           (rest.warned, ap (λ (o : Outcome). o.warned) e ∙ ap (λ (t : TreeFacts). lines_text t.warnings ++ rest.warned) same)
 
@@ -374,14 +380,14 @@ Runs-answered files options (Err stop) status old mid new run (faulted, is_told,
 -- ---- what is refused
 
 -- a name
-pub LeavesRun-name : (files : Files) (options : Options) (tree : TreeFacts) (opened : List (List ℕ)) (name : List ℕ) (result : Result Status Stop) (old new : Log) →
-    IsAcceptedTree files (root_file options) tree → AreOpened files (root_file options) opened → unreadable_name options opened ≡ Some name →
-    Ends options [] (lead options ++ unreadable_line name) [] Refused result old new → LeavesRun files options result old new
-LeavesRun-name files options tree opened name result old new accepted are unread ends =
-    let line = lead options ++ unreadable_line name in
-    LeavesRun-refused files options (refused line) result old new
-    (λ inputs log. name_refused name (record { tree = tree; accepted = accepted; opened = opened; are_opened = are; unreadable = unread }))
-    (λ all. (refused line, opened, refused_name tree name accepted unread refl, are, refl)) refl (texts-none options) ends
+pub LeavesRun-name : (files : Files) (options : Options) (tree : TreeFacts) (opened : List (List ℕ)) (line : List ℕ) (result : Result Status Stop) (old new : Log) →
+    IsAcceptedTree files (root_file options) tree → AreOpened files (root_file options) opened → name_refusal options opened tree ≡ Some line →
+    Ends options [] (lead options ++ line) [] Refused result old new → LeavesRun files options result old new
+LeavesRun-name files options tree opened line result old new accepted are refuses ends =
+    let (name, is) = refused_with options opened tree line refuses in
+    LeavesRun-refused files options (refused (lead options ++ line)) result old new
+    (λ inputs log. name_refused name (record { tree = tree; accepted = accepted; opened = opened; are_opened = are; refuses = is }))
+    (λ all. (refused (lead options ++ line), opened, lenient_refusal files options opened all tree accepted line refuses, are, refl)) refl (texts-none options) ends
 
 -- a tree
 LeavesRun-tree : OpenedAreOneList → (files : Files) (options : Options) (r : RefusedTree) (result : Result Status Stop) (old new : Log) → IsRefusedTree files (root_file options) r →

@@ -177,26 +177,31 @@ module _ (name : List ℕ) where
 
   pub texts_lack : (options : Options) (outcome : Outcome) → is_among name (output_files options) ≡ false → has (texts_of options outcome) ≡ false
   texts_lack options outcome e =
-      let behind_new = name_if options.list_gone ++ name_if options.depfile in
+      let behind_gone = name_if options.depfile ++ name_if options.explanation in
+      let behind_new = name_if options.list_gone ++ behind_gone in
       let behind_minimal = name_if options.list_new ++ behind_new in
       let (out, after_out) = among_neither (name_if options.out) (name_if options.header ++ (name_if options.minimal ++ behind_minimal)) e in
       let (header, after_header) = among_neither (name_if options.header) (name_if options.minimal ++ behind_minimal) after_out in
       let (minimal, after_minimal) = among_neither (name_if options.minimal) behind_minimal after_header in
       let (list_new, after_new) = among_neither (name_if options.list_new) behind_new after_minimal in
-      let (list_gone, depfile) = among_neither (name_if options.list_gone) (name_if options.depfile) after_new in
+      let (list_gone, after_gone) = among_neither (name_if options.list_gone) behind_gone after_new in
+      let (depfile, explanation) = among_neither (name_if options.depfile) (name_if options.explanation) after_gone in
       let a = text_at options.out outcome.config in
       let b = text_at options.header outcome.header in
       let c = text_at options.minimal outcome.minimal in
       let d = text_at options.list_new outcome.list_new in
       let g = text_at options.list_gone outcome.list_gone in
       let h = text_at options.depfile outcome.depfile in
-      has_both (a ++ b ++ c ++ d ++ g) h
+      let k = text_at options.explanation outcome.explanation in
+      has_both (a ++ b ++ c ++ d ++ g ++ h) k
+      (has_both (a ++ b ++ c ++ d ++ g) h
       (has_both (a ++ b ++ c ++ d) g
       (has_both (a ++ b ++ c) d
       (has_both (a ++ b) c (has_both a b (at_lacks options.out outcome.config out) (at_lacks options.header outcome.header header)) (at_lacks options.minimal outcome.minimal minimal))
       (at_lacks options.list_new outcome.list_new list_new))
       (at_lacks options.list_gone outcome.list_gone list_gone))
-      (at_lacks options.depfile outcome.depfile depfile)
+      (at_lacks options.depfile outcome.depfile depfile))
+      (at_lacks options.explanation outcome.explanation explanation)
 
   -- ---- a turn
 

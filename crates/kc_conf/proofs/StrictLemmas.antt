@@ -1,6 +1,6 @@
 -- That --strict lets no line pass that was not taken as written.
 use Rattle.std.proofs.Common.{◌≡◌, ℕ, zero, suc, ◌<◌, Bool, true, false, true≢false, List, [], ◌∷◌, ◌++◌, length, Some, None, refl, sym, ap, subst, ◌∙◌, arith, eqb}
-use Rattle.std.specs.Prelude.{not, ◌&&◌, ◌==◌, replicate, slice_index_or, if◌then◌else◌}
+use Rattle.std.specs.Prelude.{is_some, not, ◌&&◌, ◌||◌, ◌==◌, replicate, slice_index_or, if◌then◌else◌}
 use Rattle.std.specs.List.{Contains, list_any}
 use Rattle.std.proofs.Math.Dec.{eqb-suc-zero}
 use Rattle.std.proofs.lemmas.Bool.{eqb-false, eqb-true}
@@ -188,6 +188,10 @@ module _ (files : Files) (options : Options) (all : List (List ℕ)) (tree : Tre
   abbrev empty : UserInput
   empty = fresh_input options tree
 
+  -- whether the lines of values are kept
+  abbrev keeps_lines : Bool
+  keeps_lines = options.warn_lost || is_some options.explanation
+
   abbrev last : UserInput
   last = input_after tree prefix empty lines
 
@@ -230,19 +234,19 @@ module _ (files : Files) (options : Options) (all : List (List ℕ)) (tree : Tre
       within : s.0 < length tree.symbols
       within = slice_get_within tree.symbols s.0 f defined
 
-      fits : Fits options.warn_lost here s
+      fits : Fits keeps_lines here s
       fits = (
         subst (λ n. s.0 < n) (sym counts.symbols) within,
         λ asked. subst (λ n. s.0 < n)
             (sym (turn.counts.lines empty before ∙ ap (λ b. length (if b then replicate (length tree.symbols) no_line else [])) asked ∙ length-replicate (length tree.symbols) no_line)) within,
       )
 
-      after : GiveThis tree prefix s given later × Keeps options.warn_lost (input_after tree prefix (input_after tree prefix here (l ∷ [])) later) s given
+      after : GiveThis tree prefix s given later × Keeps keeps_lines (input_after tree prefix (input_after tree prefix here (l ∷ [])) later) s given
       after =
-          all_keep tree prefix turn options.warn_lost s given (input_after tree prefix here (l ∷ [])) later
-          (turn.counts.places here (l ∷ []) counts) (fits_later tree prefix turn options.warn_lost s given here l counts fits)
-          (taken_later tree prefix turn options.warn_lost here l later from_here)
-          (assigned_keeps tree prefix turn options.warn_lost here l s given assigns fits)
+          all_keep tree prefix turn keeps_lines s given (input_after tree prefix here (l ∷ [])) later
+          (turn.counts.places here (l ∷ []) counts) (fits_later tree prefix turn keeps_lines s given here l counts fits)
+          (taken_later tree prefix turn keeps_lines here l later from_here)
+          (assigned_keeps tree prefix turn keeps_lines here l s given assigns fits)
 
       at_end : last ≡ input_after tree prefix (input_after tree prefix here (l ∷ [])) later
       at_end =
@@ -250,7 +254,7 @@ module _ (files : Files) (options : Options) (all : List (List ℕ)) (tree : Tre
 
       value_is : options.warn_lost ≡ true → has_prompt f.prompts ≡ true → given ≡ given_of (known solution s)
       value_is asked prompted =
-          let (at, by_line) = after.1.1 asked in
+          let (at, by_line) = after.1.1 (ap (λ b. b || is_some options.explanation) asked) in
           lost_if last.lines solution s f given at (subst (λ (t : TreeFacts). facts t s ≡ Some f) (sym is_whole.solution_is.tree_is) defined)
           (subst (λ (t : TreeFacts). Contains t.defined s) (sym is_whole.solution_is.tree_is) (formed.prompted_defined s f defined (some_prompts f.prompts prompted))) prompted
           (ap (λ (q : Places). place_at q (SymbolPlace s.0)) (places_are files options all tree solution is_whole) ∙ ap (λ (q : UserInput). place_at q.places (SymbolPlace s.0)) at_end ∙ after.1.0)
@@ -261,12 +265,12 @@ module _ (files : Files) (options : Options) (all : List (List ℕ)) (tree : Tre
       where
         by : (e : Effect) → effect tree prefix l ≡ e → IsTakenAsWritten tree prefix options.warn_lost solution later e
         by Silent is = tt
-        by (Warns line_warning) is = true≢false (sym (taken_here tree prefix turn options.warn_lost here l later (Warns line_warning) is from_here))
+        by (Warns line_warning) is = true≢false (sym (taken_here tree prefix turn keeps_lines here l later (Warns line_warning) is from_here))
         by (Assigns s given) is = λ f defined. ((after s given is f defined).0, value_is s given is f defined)
 
 pub strict_takes_all : TreesAreWellFormed → WrittenAreWhole → LinesGiveInTurn → StrictTakesAll
 strict_takes_all trees written turns files options all outcome text is_outcome there strict =
-    let (tree, solution, is_whole, (opened, are, is), passed) = written files options all outcome text is_outcome there in
+    let (tree, solution, is_whole, (opened, are, log, expands, is), passed) = written files options all outcome text is_outcome there in
     let text_is : text ≡ config_text tree options.prefix (solution_view solution) =
     sym (text_if_is options.out _ text (sym (ap (λ (o : Outcome). o.config) is) ∙ there))
     in (

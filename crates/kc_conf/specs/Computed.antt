@@ -1,28 +1,73 @@
 -- For proofs: What follows from the user's input.
-use Rattle.std.specs.Prelude.{◌≡◌, ℕ, Bool, ◌||◌, ◌&&◌, if◌then◌else◌, List, ◌++◌, map, Option, None, Some, option_map}
+use Rattle.std.specs.Borrow.{Bor}
+use Rattle.std.specs.Prelude.{◌≡◌, ℕ, Bool, ◌||◌, ◌&&◌, if◌then◌else◌, List, [], ◌++◌, codes, flat_map, map, Option, None, Some, option_map}
+use Rattle.kc_language.specs.Expansion.{Files, bytes_in}
+use Rattle.kc_language.specs.Explanations.{explanation_text, new_text_with_help}
+use Rattle.kc_language.specs.Statements.{Located, Numbered}
 use Rattle.kc_language.specs.Symbols.{TreeFacts}
-use Rattle.kc_language.specs.Texts.{Solution, warnings}
+use Rattle.kc_language.specs.Texts.{Solution, SolutionView, lost_at, new_text, solution_view, warnings}
 use Rattle.kc_language.specs.ConfigFile.{UserInput}
 use Rattle.kc_io.specs.Delivery.{NamedText}
-use Rattle.kc_language.specs.Outcome.{Options, rule_text, lead, target, IsSolutionFor, Outcome, has_text, lines_text, lost_warnings, refuses_input}
-use Rattle.kc_conf.specs.PartsOfOutcome.{files_of}
+use Rattle.kc_language.specs.Outcome.{Options, rule_text, lead, target, IsSolutionFor, Outcome, explained_text, has_text, lines_text, lost_text, lost_warnings, refuses_input}
+use Rattle.kc_read.specs.Entries.{lines_in}
+use Rattle.kc_conf.specs.PartsOfOutcome.{files_of, text_if}
+use Rattle.kc_conf.specs.declared.accepted.TreeSources.{TreeSources}
 use Rattle.kc_io.specs.Delivery.{texts_of}
 
 -- the files of a solution for the user's input, with a dependency file that lists these names
-abbrev pub ruled_files : Options → TreeFacts → UserInput → Solution → Option (List (List ℕ)) → Outcome
-ruled_files options tree input solution names = record (files_of options tree input solution) { depfile = option_map (rule_text (target options)) names }
+abbrev pub ruled_files : Files → Options → TreeFacts → List (Located Numbered) → UserInput → Solution → Option (List (List ℕ)) → Outcome
+ruled_files files options tree lines input solution names =
+    record (files_of files options tree lines input solution) { depfile = option_map (rule_text (target options)) names }
+
+-- the lines of the values that are lost, each with the explanation of its symbol
+abbrev pub explained_lost : List (Located Numbered) → UserInput → Solution → List ℕ
+explained_lost lines input solution = flat_map (λ s. flat_map (λ line. line ++ codes "\n" ++ explanation_text lines solution input (codes "  ") 1 s)
+    (lost_at input.lines solution s)) solution.tree.defined
+
+-- the sources, where they are wanted
+abbrev pub sources_if : Bool → Option (Bor TreeSources) → Option (Bor TreeSources)
+sources_if wanted sources = if wanted then sources else None
+
+-- what is told of lost values, of new symbols and of the symbols that are asked for, by the sources that are wanted for it
+abbrev pub lost_by : Option (Bor TreeSources) → Options → UserInput → Solution → List ℕ
+lost_by None options input solution = lines_text (lost_warnings options input solution)
+lost_by (Some sources) options input solution = explained_lost (lines_in sources.now.entries) input solution
+
+abbrev pub new_by : Option (Bor TreeSources) → TreeFacts → List ℕ → SolutionView → List ℕ
+new_by None tree prefix view = new_text tree prefix view
+new_by (Some sources) tree prefix view = new_text_with_help (bytes_in sources.now.files) (lines_in sources.now.entries) tree prefix view
+
+abbrev pub explained_by : Option (Bor TreeSources) → Options → UserInput → Solution → Option (List ℕ)
+explained_by None options input solution = None
+explained_by (Some sources) options input solution = text_if options.explanation (explained_text options (lines_in sources.now.entries) input solution)
+
+abbrev pub lost_from : Options → Option (Bor TreeSources) → UserInput → Solution → List ℕ
+lost_from options sources input solution = lost_by (sources_if (options.explain_lost && options.warn_lost) sources) options input solution
+
+abbrev pub new_from : Options → Option (Bor TreeSources) → Solution → List ℕ
+new_from options sources solution = new_by (sources_if options.with_help sources) solution.tree options.prefix (solution_view solution)
+
+-- the files of a solution, made of these sources
+abbrev pub files_from : Options → Option (Bor TreeSources) → UserInput → Solution → Option (List (List ℕ)) → Outcome
+files_from options sources input solution names = record (files_of (λ file. None) options solution.tree [] input solution) {
+  list_new = text_if options.list_new (new_from options sources solution);
+  depfile = option_map (rule_text (target options)) names;
+  explanation = explained_by sources options input solution;
+}
 
 -- what the values are warned of, and which are lost
-abbrev pub value_lines : Options → UserInput → Solution → List ℕ
-value_lines options input solution = lines_text (map (λ line. lead options ++ line) (warnings solution)) ++ lines_text (lost_warnings options input solution)
+abbrev pub value_lines : Options → List (Located Numbered) → UserInput → Solution → List ℕ
+value_lines options lines input solution = lines_text (map (λ line. lead options ++ line) (warnings solution)) ++ lost_text options lines input solution
 
 -- the texts are refused, where there was a warning before or these are warnings
 abbrev pub refuses : Options → UserInput → Solution → Bool → List ℕ → Bool
 refuses options input solution before warned = refuses_input options input solution || (options.strict_tree && (before || has_text warned))
 
 -- The warnings of the one solution for the user's values were added, and these are its texts, unless they are refused.
-pub record Computes (options : Options) (tree : TreeFacts) (names : Option (List (List ℕ))) (input : UserInput) (before : Bool) (old new : List ℕ) (texts : Option (List NamedText)) : Type 0 where
+-- The files and the lines are those of the tree.
+pub record Computes (files : Files) (options : Options) (tree : TreeFacts) (lines : List (Located Numbered)) (names : Option (List (List ℕ))) (input : UserInput)
+    (before : Bool) (old new : List ℕ) (texts : Option (List NamedText)) : Type 0 where
   pub solution : Solution
   pub solution_is : IsSolutionFor tree input.places solution
-  pub adds : new ≡ old ++ value_lines options input solution
-  pub texts_are : texts ≡ (if refuses options input solution before new then None else Some (texts_of options (ruled_files options tree input solution names)))
+  pub adds : new ≡ old ++ value_lines options lines input solution
+  pub texts_are : texts ≡ (if refuses options input solution before new then None else Some (texts_of options (ruled_files files options tree lines input solution names)))

@@ -1,22 +1,28 @@
 -- Trusted: Why a run breaks off, and how it ends.
 -- Our own. It ends in `Runs` and, for the tree of a folder, `FolderRuns`. Claims about files are for devices that record what files hold (kc_io).
 use Rattle.std.specs.Prelude.{◌≡◌, ◌⊎◌, ℕ, if◌then◌else◌, List, [], ◌++◌, ◌||◌, take, filter, slice_get, slice_index_or, string_bytes, Option, None, Some, Result, Ok, Err, ⊤}
-use Rattle.kc_language.specs.{ConfigFile.{lines_from, lines_of, reading}, Expansion.{AreOpened, Files, Refused}, Symbols.TreeFacts, Text.{BeginsWith, GoesBeyond}, Texts.HasShortLines, Outcome.{IsAcceptedTree, IsOutcome, IsRefusedTree, Options, Outcome, cannot_read_line, fresh_input, lead, lines_text, names_of, out_of_memory_line, read_of, root_file, run_error_text, streams, unreadable_name}, Statements.error_line, declared.{diagnostics.RunError.RunError, outcome.{Delivery.Delivery, Status.Status}}}
+use Rattle.std.specs.Option.{option_or}
+use Rattle.kc_language.specs.{ConfigFile.{lines_from, lines_of, reading}, Expansion.{AreOpened, Files, Refused}, Symbols.TreeFacts, Text.{BeginsWith, GoesBeyond}, Texts.HasShortLines, Outcome.{IsAcceptedTree, IsOutcome, IsRefusedTree, Options, Outcome, cannot_read_line, fresh_input, lead, lines_text, names_of, out_of_memory_line, read_of, root_file, run_error_text, streams, unknown_name, unreadable_name}, Statements.error_line, declared.{diagnostics.RunError.RunError, outcome.{Delivery.Delivery, Status.Status}}}
 use Rattle.kc_io.specs.{Delivery.{NamedText, StopsBefore, cleared_by, delivers, stale_lines, stale_texts, status_with, texts_of}, Inputs.{AreInputs, AreThere, HasTurn, InputFile, ReadsTo, begun, bytes_of, reads, still_told}, Log.{Event, Leads, Log, Tells, TriesToSay, failed, reported, said}, declared.{device.{Action.{Action, TheVariants.{Open, Read, Report}}, Fault.Fault}, steps.Failure.Failure}}
 use Rattle.kc_load.specs.{Folder.{AreFilesOf, IsLoadFault, failed_load, FolderState, Leads as FolderLeads, files_told}, declared.fault.LoadFault.LoadFault}
 use Rattle.kc_conf.specs.declared.stop.Stop.{Stop}
 
 -- ---- Names and lines
--- Make can read each name of the dependency file. Or the tree is accepted, and this is the first name that make cannot read.
-abbrev pub NamesAreRead : Files → Options → Type 0
-NamesAreRead files options = (opened : List (List ℕ)) → AreOpened files (root_file options) opened → unreadable_name options opened ≡ None
+-- The first name that is refused: one in the dependency file that make cannot read, or one that is asked for and that no symbol has.
+abbrev pub refused_name_of : Options → List (List ℕ) → TreeFacts → Option (List ℕ)
+refused_name_of options opened tree = option_or (unreadable_name options opened) (unknown_name options tree)
+
+-- No name is refused. Or the tree is accepted, and this is the first name that is.
+abbrev pub NamesAreTaken : Files → Options → Type 0
+NamesAreTaken files options = (tree : TreeFacts) (opened : List (List ℕ)) → IsAcceptedTree files (root_file options) tree →
+    AreOpened files (root_file options) opened → refused_name_of options opened tree ≡ None
 
 pub record IsRefusedName (files : Files) (options : Options) (name : List ℕ) : Type 0 where
   pub tree : TreeFacts
   pub accepted : IsAcceptedTree files (root_file options) tree
   pub opened : List (List ℕ)
   pub are_opened : AreOpened files (root_file options) opened
-  pub unreadable : unreadable_name options opened ≡ Some name
+  pub refuses : refused_name_of options opened tree ≡ Some name
 
 -- All diagnostics of an outcome; the text is whole lines.
 abbrev pub diagnostics_of : Outcome → List ℕ
@@ -76,7 +82,7 @@ IsReport (Stop.Failed f) report = elim f.action [ Report ↦ report ≡ Ok tt | 
 pub data AreReads (files : Files) (options : Options) (inputs : List InputFile) (told : Log) : List Event → Type 0 where
   refused_tree : (r : Refused) → IsRefusedTree files (root_file options) r → AreReads files options inputs told []
   refused_name : (name : List ℕ) → IsRefusedName files options name → AreReads files options inputs told []
-  of_tree : (tree : TreeFacts) (events : List Event) → IsAcceptedTree files (root_file options) tree → NamesAreRead files options →
+  of_tree : (tree : TreeFacts) (events : List Event) → IsAcceptedTree files (root_file options) tree → NamesAreTaken files options →
       AreThere told inputs → ReadsTo inputs (read_of options tree (bytes_of inputs)).stopped events → AreReads files options inputs told events
 
 -- It reads, reports the outcome's diagnostics and the files that are not up to date, and delivers the outcome's texts.
@@ -105,7 +111,7 @@ pub data Breaks (files : Files) (options : Options) (before : TreeFacts → List
       Breaks files options before inputs outcome told (Stop.Failed f) done front
   -- An input file could not be opened or read on.
   in_input : (f : Failure) (tree : TreeFacts) (file : InputFile) (done : List Event) (said_of_inputs : List ℕ) →
-      IsAcceptedTree files (root_file options) tree → NamesAreRead files options → (f.action ≡ Open) ⊎ (f.action ≡ Read) → f.name.now ≡ file.name →
+      IsAcceptedTree files (root_file options) tree → NamesAreTaken files options → (f.action ≡ Open) ⊎ (f.action ≡ Read) → f.name.now ≡ file.name →
       ReadsUpTo told options tree inputs f.action file done said_of_inputs →
       Breaks files options before inputs outcome told (Stop.Failed f) done (before tree ++ said_of_inputs)
   -- A text could not be delivered. All was reported, and what was to be done before was done.

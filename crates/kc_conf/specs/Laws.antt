@@ -1,8 +1,8 @@
 -- Trusted: The laws of outcomes: there is exactly one, its texts give the values back, no line is lost, and --strict passes only lines taken as written.
 -- Our own. Each law is the contract of a function that does nothing (src/laws.rt).
-use Rattle.std.specs.{List.list_any, Prelude.{◌≡◌, ◌⊎◌, ℕ, Bool, true, false, All, Contains, List, [], ◌∷◌, ◌++◌, Some, None, is_some}}
-use Rattle.kc_language.specs.{ConfigFile.{Assigns, Effect, Line, Silent, Warns, effect, is_prefix, lines_of, value_text, warning_line}, Expansion.{AreOpened, Files, Refused}, Symbols.{SymbolFacts, TreeFacts}, Texts.{ConfigGivesBack, HasShortLines, MinimalGivesBack, MinimalNeedsEach, Solution, config_text, has_prompt, known, minimal_text, solution_view, value_of, value_warnings}, Values.{GivenValue, facts, given_of, name, same_given}, Outcome.{IsAcceptedTree, IsOutcome, IsRefusedTree, IsSolutionFor, Options, Outcome, is_outside, lines_text, names_of, read_of, refuses_input, reported, root_file, streams, warned_files, with_rule}, declared.{diagnostics.Warning.TheVariants.{Changed, Lost, SetAgain}, expressions.{SymId.SymId, SymbolType.SymbolType}}}
-use Rattle.kc_conf.specs.Faults.{AreLines, NamesAreRead, diagnostics_of}
+use Rattle.std.specs.{List.list_any, Prelude.{◌≡◌, ◌⊎◌, ℕ, Bool, true, false, All, Contains, List, [], ◌∷◌, ◌++◌, Ok, Some, None, is_some}}
+use Rattle.kc_language.specs.{ConfigFile.{Assigns, Effect, Line, Silent, Warns, effect, is_prefix, lines_of, value_text, warning_line}, Expansion.{AreOpened, Expands, Files, Log, Refused, numbered_lines}, Symbols.{SymbolFacts, TreeFacts}, Texts.{ConfigGivesBack, HasShortLines, MinimalGivesBack, MinimalNeedsEach, Solution, config_text, has_prompt, known, minimal_text, solution_view, value_of, value_warnings}, Values.{GivenValue, facts, given_of, name, same_given}, Outcome.{IsAcceptedTree, IsOutcome, IsRefusedTree, IsSolutionFor, Options, Outcome, is_outside, lines_text, names_of, read_of, refuses_input, reported, root_file, streams, warned_files, with_rule}, declared.{diagnostics.Warning.TheVariants.{Changed, Lost, SetAgain}, expressions.{SymId.SymId, SymbolType.SymbolType}}}
+use Rattle.kc_conf.specs.Faults.{AreLines, NamesAreTaken, diagnostics_of}
 
 -- ---- There is exactly one outcome
 -- Over any files a root file has one accepted tree and no refusal, or one refusal and no accepted tree.
@@ -34,8 +34,9 @@ abbrev pub WrittenAreWhole : Type 0
 WrittenAreWhole = (files : Files) (options : Options) (all : List (List ℕ)) (outcome : Outcome) (text : List ℕ) →
     IsOutcome files options all outcome → outcome.config ≡ Some text →
     (tree : TreeFacts) × (solution : Solution) × RefusesNothing files options all tree solution
-    × ((opened : List (List ℕ)) × AreOpened files (root_file options) opened × (outcome ≡ with_rule options opened (reported (lines_text tree.warnings)
-    (reported (read_of options tree all).warned (warned_files options tree (read_of options tree all).input solution)))))
+    × ((opened : List (List ℕ)) × AreOpened files (root_file options) opened × (log : Log) × Expands files (root_file options) (Ok log)
+    × (outcome ≡ with_rule options opened (reported (lines_text tree.warnings)
+    (reported (read_of options tree all).warned (warned_files files options tree (numbered_lines log.lines) (read_of options tree all).input solution)))))
     × (refuses_input options (read_of options tree all).input solution ≡ false)
 
 -- Each text of such a run is read alone and starting from no user values. The minimal file gives the values back; with any nonempty set of its lines
@@ -64,11 +65,11 @@ pub record AreAlone (options alone : Options) : Type 0 where
   pub out : is_some alone.out ≡ is_some options.out
   pub no_fragments : alone.fragments.items ≡ []
 
--- A run on the minimal file alone, which lets warnings pass and whose names make can read, writes the .config that was written with it. (One that
+-- A run on the minimal file alone, which lets warnings pass and refuses no name, writes the .config that was written with it. (One that
 -- refuses them may write nothing: what that file assigns may be warned of where the input files were not.)
 abbrev pub MinimalIsRunAgain : Type 0
 MinimalIsRunAgain = (files : Files) (options alone : Options) (all : List (List ℕ)) (outcome later : Outcome) (text : List ℕ) →
-    is_prefix options.prefix ≡ true → AreAlone options alone → alone.strict ≡ false → alone.strict_tree ≡ false → NamesAreRead files alone →
+    is_prefix options.prefix ≡ true → AreAlone options alone → alone.strict ≡ false → alone.strict_tree ≡ false → NamesAreTaken files alone →
     IsOutcome files options all outcome → outcome.minimal ≡ Some text → IsOutcome files alone (text ∷ []) later → later.config ≡ outcome.config
 
 -- ---- With warn_lost, no line of the input files is lost

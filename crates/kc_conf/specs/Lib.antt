@@ -8,6 +8,7 @@ pub mod Laws
 pub mod LostView
 pub mod Many
 pub mod PartRuns
+pub mod RefusedNames
 pub mod PartsOfFaults
 pub mod PartsOfLaws
 pub mod PartsOfMany

@@ -1,16 +1,21 @@
 -- Trusted: What a run for many configurations of one tree leaves, and that these do not touch one another's files.
 -- Our own. It ends in `RunsEach`, and in the law `EachLeavesItsPart` of configurations whose files are apart.
 use Rattle.std.specs.{List.list_any, Prelude.{◌≡◌, ◌≢◌, ◌⊎◌, ℕ, suc, ◌<◌, Bool, true, false, not, ◌||◌, List, [], ◌∷◌, ◌++◌, Option, None, Some, String, string_bytes, bytes_eq, is_ok}, declared.alloc.Global.Global}
-use Rattle.kc_language.specs.{Expansion.{AreOpened, Files, Refused}, Symbols.TreeFacts, Outcome.{IsAcceptedTree, IsOutcome, IsRefusedTree, Options, Outcome, input_files, lines_text, out_of_memory_line, refusal_line, reported, root_file, unreadable_name}, declared.outcome.{Delivery.Delivery, Status.Status}}
+use Rattle.kc_language.specs.{Expansion.{AreOpened, Files, Refused}, Symbols.TreeFacts, Outcome.{IsAcceptedTree, IsOutcome, IsRefusedTree, Options, Outcome, input_files, lines_text, out_of_memory_line, refusal_line, reported, root_file}, declared.outcome.{Delivery.Delivery, Status.Status}}
 use Rattle.kc_io.specs.{Delivery.{last_of, stale_texts, status_with, texts_of}, Inputs.{AreInputs, InputFile, bytes_of, still_told}, Log.{Journal, Leads, Log, Tells, TriesToSay, failed, held}, declared.device.{Action.Action, Fault.Fault}}
-use Rattle.kc_conf.specs.{Faults.{Broken, Completes, IsRefusedName}, declared.stop.Stop.Stop}
+use Rattle.kc_options.specs.PartsOfOutcome.wants_sources
+use Rattle.kc_conf.specs.{Faults.{Broken, Completes, IsRefusedName, refused_name_of}, declared.stop.Stop.Stop}
+
+-- The sources of the tree are kept if the options of any configuration want them.
+abbrev pub KeepsFor : (ℕ → Options → Type 0) → Bool → Type 0
+KeepsFor options keeps = (i : ℕ) (one : Options) → options i one → wants_sources one ≡ true → keeps ≡ true
 
 -- ---- What one configuration leaves
--- The part of a configuration is what its own run leaves after the tree's warnings. A run of its own that refuses a name that make cannot read does
--- not report these warnings. Then the part is all that it leaves.
+-- The part of a configuration is what its own run leaves after the tree's warnings. A run of its own that refuses a name does not report these
+-- warnings. Then the part is all that it leaves.
 abbrev pub IsPart : Files → TreeFacts → Options → List (List ℕ) → Outcome → Type 0
 IsPart files tree options all part = (opened : List (List ℕ)) × AreOpened files (root_file options) opened
-    × IsOutcome files options all (reported (elim (unreadable_name options opened) [ None ↦ lines_text tree.warnings | _ ↦ [] ]) part)
+    × IsOutcome files options all (reported (elim (refused_name_of options opened tree) [ None ↦ lines_text tree.warnings | _ ↦ [] ]) part)
 
 -- A configuration of an accepted tree leaves one part, in whatever company and order: its own options and input files determine it.
 abbrev pub ExactlyOnePart : Type 0
@@ -94,7 +99,7 @@ abbrev pub name_if : Option (String Global) → List (List ℕ)
 name_if file = elim file [ None ↦ [] | Some name ↦ string_bytes name ∷ [] ]
 
 abbrev pub output_files : Options → List (List ℕ)
-output_files options = name_if options.out ++ (name_if options.header ++ (name_if options.minimal ++ (name_if options.list_new ++ (name_if options.list_gone ++ name_if options.depfile))))
+output_files options = name_if options.out ++ (name_if options.header ++ (name_if options.minimal ++ (name_if options.list_new ++ (name_if options.list_gone ++ (name_if options.depfile ++ name_if options.explanation)))))
 
 abbrev pub written_files : Options → List (List ℕ)
 written_files options = elim options.delivery [ Delivery.Check ↦ [] | _ ↦ output_files options ]

@@ -1,13 +1,14 @@
 -- For proofs: Parts of the definitions of Outcome, by names of their own.
 use Rattle.std.specs.Option.{option_map_or}
 use Rattle.std.specs.List.{list_any}
-use Rattle.std.specs.Prelude.{Bool, List, None, Option, Some, [], option_map, ℕ, ◌&&◌, ◌++◌, ◌==◌, ◌≡◌, length, not}
+use Rattle.std.specs.Prelude.{Bool, List, None, Option, Some, [], if◌then◌else◌, option_map, ℕ, ◌&&◌, ◌++◌, ◌==◌, length, not}
 use Rattle.kc_language.specs.ConfigFile.{StreamLocation, UserInput}
-use Rattle.kc_language.specs.Expansion.{AreOpened, Files}
-use Rattle.kc_language.specs.Outcome.{IsAcceptedTree, IsOutcomeOfReading, Options, Outcome, first_line, is_outside, lines_text, lost_warnings, names_listed, read_of, refused_if, refuses_input, reported, root_file, rule_text, run_error_text, target, unreadable_name, warned_files}
-use Rattle.kc_language.specs.Statements.{error_at, error_line}
+use Rattle.kc_language.specs.Expansion.{Files}
+use Rattle.kc_language.specs.Outcome.{Options, Outcome, explained_text, first_line, is_outside, lost_warnings, names_listed, near_text, refused_if, refuses_input, rule_text, run_error_text, target, unknown_name, unreadable_name, warned_files}
+use Rattle.kc_language.specs.Explanations.{new_text_with_help}
+use Rattle.kc_language.specs.Statements.{Located, Numbered, error_at, error_line}
 use Rattle.kc_language.specs.Symbols.{TreeFacts}
-use Rattle.kc_language.specs.Texts.{Solution, config_text, header_text, minimal_text, new_text, solution_view, value_warnings}
+use Rattle.kc_language.specs.Texts.{Solution, SolutionView, config_text, header_text, minimal_text, new_text, solution_view, value_warnings}
 use Rattle.kc_language.specs.declared.outcome.Status.TheVariants.{Done}
 use Rattle.kc_language.specs.declared.diagnostics.RunError.TheVariants as run
 
@@ -23,6 +24,17 @@ too_long_line stop = error_at stop.stream stop.number (run_error_text run.LineTo
 
 abbrev pub unreadable_line : List ℕ → List ℕ
 unreadable_line name = error_line (run_error_text (run.UnreadableName (first_line name)))
+
+abbrev pub unknown_line : TreeFacts → List ℕ → List ℕ
+unknown_line tree asked = error_line (run_error_text (run.UnknownName (first_line asked) (near_text tree asked)))
+
+-- the line of the first name that is refused, if there is one: that make cannot read it, or that no symbol has it
+abbrev pub refusal_by : TreeFacts → Option (List ℕ) → Option (List ℕ) → Option (List ℕ)
+refusal_by tree (Some name) unknown = Some (unreadable_line name)
+refusal_by tree None unknown = option_map (unknown_line tree) unknown
+
+abbrev pub name_refusal : Options → List (List ℕ) → TreeFacts → Option (List ℕ)
+name_refusal options opened tree = refusal_by tree (unreadable_name options opened) (unknown_name options tree)
 
 -- the error line behind the warnings that are refused
 abbrev pub strict_line : List ℕ
@@ -44,28 +56,27 @@ abbrev pub text_if : {T : Type 0} → Option T → List ℕ → Option (List ℕ
 text_if name text = option_map (λ file. text) name
 
 -- the files of a solution for the user's input
-abbrev pub files_of : Options → TreeFacts → UserInput → Solution → Outcome
-files_of options tree input solution = record {
+abbrev pub list_text : Files → List (Located Numbered) → TreeFacts → List ℕ → SolutionView → Bool → List ℕ
+list_text files lines tree prefix view with_help = if with_help then new_text_with_help files lines tree prefix view else new_text tree prefix view
+
+abbrev pub files_of : Files → Options → TreeFacts → List (Located Numbered) → UserInput → Solution → Outcome
+files_of files options tree lines input solution = record {
   config = text_if options.out (config_text tree options.prefix (solution_view solution));
   header = text_if options.header (header_text tree options.prefix (solution_view solution));
   minimal = text_if options.minimal (minimal_text tree options.prefix (solution_view solution));
-  list_new = text_if options.list_new (new_text tree options.prefix (solution_view solution));
+  list_new = text_if options.list_new (list_text files lines tree options.prefix (solution_view solution) options.with_help);
   list_gone = text_if options.list_gone (option_map_or (λ told. told.0 ++ told.1) input.gone []);
   depfile = None;
+  explanation = text_if options.explanation (explained_text options lines input solution);
   warned = [];
   refusal = [];
   status = Done;
 }
 
 -- Under --strict they are refused where a line was not taken as written.
-abbrev pub outcome_of : Options → TreeFacts → UserInput → Solution → Outcome
-outcome_of options tree input solution = refused_if options (refuses_input options input solution) (warned_files options tree input solution)
+abbrev pub outcome_of : Files → Options → TreeFacts → List (Located Numbered) → UserInput → Solution → Outcome
+outcome_of files options tree lines input solution = refused_if options (refuses_input options input solution) (warned_files files options tree lines input solution)
 
 -- the rule: what the file of --out is made of, where the tree opens these files
 abbrev pub depfile_text : Options → List (List ℕ) → Option (List ℕ)
 depfile_text options opened = option_map (rule_text (target options)) (names_listed options opened)
-
--- with the tree's warnings before it
-abbrev pub IsOutcomeOfTree : Options → TreeFacts → List (List ℕ) → Outcome → Type 0
-IsOutcomeOfTree options tree all outcome =
-    (rest : Outcome) × IsOutcomeOfReading options tree (read_of options tree all) rest × (outcome ≡ reported (lines_text tree.warnings) rest)

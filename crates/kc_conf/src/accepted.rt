@@ -1,9 +1,12 @@
 //! A tree that was read, and one that was accepted.
-ghost use Rattle.kc_language.specs.Expansion.{bytes_in};
+ghost use Rattle.std.specs.Prelude.{◌≡◌, ℕ, List, true, false, option_map};
+ghost use Rattle.kc_language.specs.Expansion.{AreOpened, Files, bytes_in};
+ghost use Rattle.kc_build.specs.Listings.{IsListingOf};
 ghost use Rattle.kc_conf.specs.Accepted.{IsReadingOf};
 
-use kc_build::{RootReading, read_listing, tree_of};
+use kc_build::{Listing, RootReading, built_tree, read_listing, tree_of};
 use kc_expr::names::Names;
+use kc_read::entries::Entries;
 use kc_read::file_map::FileMap;
 use kc_read::refusal::Refusal;
 use kc_solve::evaluation_order::EvaluationOrder;
@@ -11,45 +14,105 @@ use kc_tree::laid_tree::LaidTree;
 use kc_tree::tree::Tree;
 use std::alloc::Global;
 
-/// A tree that was read, and the names of the files that it opens.
+/// What a tree was made of: its lines, and the files of the run.
+#[derive(Drop)]
+pub(crate) struct TreeSources {
+    pub entries: Entries,
+    pub files: FileMap,
+}
+
+/// A tree that was read, the names of the files that it opens, and its sources, if they were kept.
 #[derive(Drop)]
 pub(crate) struct TreeReading {
     pub tree: Tree,
     pub opened: Names,
+    pub sources: Option<TreeSources>,
 }
 
-/// An accepted tree with an order of its symbols, and the names of the files that it opens.
+/// An accepted tree with an order of its symbols, the names of the files that it opens, and its sources, if they were kept.
 #[derive(Clone, Copy)]
 pub(crate) struct OrderedTree<'t> {
     pub laid: LaidTree<'t>,
     pub order: &'t EvaluationOrder,
     pub opened: &'t Names,
+    pub sources: Option<&'t TreeSources>,
 }
 
-/// The tree that a run accepted, with the order that the run used (our own).
+/// The tree that a run accepted, with the order that the run used, and its sources, if they were kept (our own).
 ///
 /// To give back its memory takes a while: a program that ends anyway may forget it.
 #[derive(Drop)]
 pub struct AcceptedTree {
     pub(crate) tree: Tree,
     pub(crate) order: EvaluationOrder,
+    pub(crate) sources: Option<TreeSources>,
 }
 
-/// Reads the tree of these files, which are let go before it is built.
+/// The sources of a tree, if they were kept.
+pub(crate) fn borrowed(sources: &Option<TreeSources>) -> Option<&TreeSources>
+    ensures { option_map (λ s. s.now) result ≡ sources.now }
+{
+    sources.as_ref()
+}
+
+// Builds the tree of a listing.
+fn read_alone(alloc: Global, listing: Listing, opened: Names) -> Result<TreeReading, Refusal>
+    requires { (files : Files) × (root : List ℕ) × IsListingOf files root listing }
+    ensures { (files : Files) (root : List ℕ) → IsListingOf files root listing → AreOpened files root opened → IsReadingOf files root false result }
+{
+    match tree_of(alloc, listing) {
+        Ok(tree) => Ok(TreeReading {
+            tree,
+            opened,
+            sources: None,
+        }),
+        Err(refusal) => Err(refusal),
+    }
+}
+
+// Builds the tree of a listing, and keeps its lines and these files.
+fn read_with_sources(
+    alloc: Global,
+    listing: Listing,
+    opened: Names,
+    files: FileMap,
+) -> Result<TreeReading, Refusal>
+    requires { (root : List ℕ) × IsListingOf (bytes_in files) root listing }
+    ensures { (root : List ℕ) → IsListingOf (bytes_in files) root listing → AreOpened (bytes_in files) root opened → IsReadingOf (bytes_in files) root true result }
+{
+    match built_tree(alloc, listing) {
+        Ok(built) => Ok(TreeReading {
+            tree: built.tree,
+            opened,
+            sources: Some(TreeSources {
+                entries: built.entries,
+                files,
+            }),
+        }),
+        Err(refusal) => Err(refusal),
+    }
+}
+
+/// Reads the tree of these files. They are let go before it is built, unless the sources are to be kept.
 ///
 /// # Errors
 ///
 /// The refusal of the tree, or that there is no memory (E20).
-pub(crate) fn read_tree(alloc: Global, files: FileMap, root: &[u8]) -> Result<TreeReading, Refusal>
-    ensures { IsReadingOf (bytes_in files) root.now result }
+pub(crate) fn read_tree(
+    alloc: Global,
+    files: FileMap,
+    root: &[u8],
+    keeps: bool,
+) -> Result<TreeReading, Refusal>
+    ensures { IsReadingOf (bytes_in files) root.now keeps result }
 {
     let RootReading { listing, opened } = match read_listing(alloc, &files, root) {
         Ok(reading) => reading,
         Err(refusal) => return Err(refusal),
     };
-    drop(files);
-    match tree_of(alloc, listing) {
-        Ok(tree) => Ok(TreeReading { tree, opened }),
-        Err(refusal) => Err(refusal),
+    if keeps {
+        return read_with_sources(alloc, listing, opened, files);
     }
+    drop(files);
+    read_alone(alloc, listing, opened)
 }

@@ -1,5 +1,5 @@
 //! What a run is to leave: its warnings and texts, whole in memory.
-ghost use Rattle.std.specs.Prelude.{◌≡◌, ◌++◌, ◌||◌, ◌&&◌, [], ◌∷◌, map, IfOk, OnOk, option_map};
+ghost use Rattle.std.specs.Prelude.{◌≡◌, ◌++◌, ◌||◌, ◌&&◌, List, [], ◌∷◌, map, IfOk, OnOk, option_map};
 ghost use Rattle.std.specs.List.{flat_map, list_any};
 ghost use Rattle.std.specs.Option.{option_map_or};
 ghost use Rattle.kc_diagnostics.specs.Warnings.{owned_warning};
@@ -9,18 +9,24 @@ ghost use Rattle.kc_language.specs.Texts.{warnings, solution_view};
 ghost use Rattle.kc_language.specs.Texts as whole;
 ghost use Rattle.kc_io.specs.Delivered.{text_view};
 ghost use Rattle.kc_language.specs.Outcome as rules;
-ghost use Rattle.kc_conf.specs.Accepted.{IsReady};
+ghost use Rattle.kc_language.specs.Expansion.{Files};
+ghost use Rattle.kc_language.specs.Statements.{Located, Numbered};
+ghost use Rattle.kc_conf.specs.Accepted.{AreSources, IsReady};
+ghost use Rattle.kc_conf.specs.Faults.{AreLines};
 ghost use Rattle.kc_language.specs.Outcome.{lead, target, has_text, lines_text, names_listed, is_outside, lost_warnings, refuses_input};
 ghost use Rattle.kc_conf.specs.PartsOfOutcome.{text_if};
-ghost use Rattle.kc_conf.specs.Computed.{Computes, ruled_files};
+ghost use Rattle.kc_conf.specs.Computed.{Computes, explained_by, explained_lost, files_from, lost_by, lost_from, new_by, new_from, sources_if};
+ghost use Rattle.kc_read.specs.Entries.{lines_in};
 ghost use Rattle.kc_io.specs.Delivery.{text_at, texts_of};
 
-use crate::accepted::OrderedTree;
+use crate::accepted::{OrderedTree, TreeSources};
+use crate::explained::{add_explained_lost, explained_text};
 use crate::lost::lost_warnings;
 use kc_config_file::config::config_text;
 use kc_config_file::header::{header_text, list_of_new, minimal_text};
 use kc_config_file::user_input::UserInput;
 use kc_diagnostics::{Warning, add_warning, borrowed};
+use kc_explain::{Lines, new_text_with_help};
 use kc_expr::names::Names;
 use kc_io::Text;
 use kc_load::{prerequisites_of, rule_text};
@@ -96,18 +102,86 @@ fn add_warnings(
     Ok(())
 }
 
-// Adds the warnings of the values, and the lines of the values that are lost.
-fn add_value_lines(
+// The sources, where they are wanted.
+fn sources_if<'s>(is_wanted: bool, sources: Option<&'s TreeSources>) -> Option<&'s TreeSources>
+    ensures { result ≡ sources_if is_wanted sources.entry }
+{
+    if is_wanted { sources } else { None }
+}
+
+// Whether lost values are explained.
+fn explains_lost(options: &Options) -> bool
+    ensures { result ≡ (options.now.explain_lost && options.now.warn_lost) }
+{
+    options.explain_lost && options.warn_lost
+}
+
+// Adds the lines of the values that are lost, each with the explanation of its symbol.
+fn add_explained(
+    alloc: Global,
+    sources: &TreeSources,
+    input: &UserInput<'_>,
+    solved: &Solved<'_>,
+    text: &mut Vec<u8>,
+) -> Result<(), AllocError>
+    ensures { OnOk result (text.new.items ≡ text.old.items ++ explained_lost (lines_in sources.now.entries) input.now solved.now) }
+{
+    let lines = Lines::of(alloc, &sources.entries)?;
+    add_explained_lost(alloc, &lines, input, solved, text)
+}
+
+// Adds these lines of the values that are lost, with explanations from these sources, if there are any.
+fn add_lost_by(
+    alloc: Global,
     options: &Options,
+    sources: Option<&TreeSources>,
+    input: &UserInput<'_>,
     solved: &Solved<'_>,
     lost: &[Vec<u8>],
     text: &mut Vec<u8>,
 ) -> Result<(), AllocError>
+    requires { map (λ line. line.items) lost.now ≡ lost_warnings options.now input.now solved.now }
+    ensures { OnOk result (text.new.items ≡ text.old.items ++ lost_by sources.entry options.now input.now solved.now) }
+{
+    match sources {
+        Some(sources) => add_explained(alloc, sources, input, solved, text),
+        None => add_lines(&[], lost, text),
+    }
+}
+
+// Adds the lines of the values that are lost, with explanations if they are wanted.
+fn add_lost(
+    alloc: Global,
+    options: &Options,
+    sources: Option<&TreeSources>,
+    input: &UserInput<'_>,
+    solved: &Solved<'_>,
+    lost: &[Vec<u8>],
+    text: &mut Vec<u8>,
+) -> Result<(), AllocError>
+    requires { map (λ line. line.items) lost.now ≡ lost_warnings options.now input.now solved.now }
+    ensures { OnOk result (text.new.items ≡ text.old.items ++ lost_from options.now sources.entry input.now solved.now) }
+{
+    let wanted = sources_if(explains_lost(options), sources);
+    add_lost_by(alloc, options, wanted, input, solved, lost, text)
+}
+
+// Adds the warnings of the values, and the lines of the values that are lost.
+fn add_value_lines(
+    alloc: Global,
+    options: &Options,
+    sources: Option<&TreeSources>,
+    input: &UserInput<'_>,
+    solved: &Solved<'_>,
+    lost: &[Vec<u8>],
+    text: &mut Vec<u8>,
+) -> Result<(), AllocError>
+    requires { map (λ line. line.items) lost.now ≡ lost_warnings options.now input.now solved.now }
     ensures { OnOk result (text.new.items ≡ text.old.items
-        ++ (lines_text (map (λ line. lead options.now ++ line) (warnings solved.now)) ++ lines_text (map (λ line. line.items) lost.now))) }
+        ++ (lines_text (map (λ line. lead options.now ++ line) (warnings solved.now)) ++ lost_from options.now sources.entry input.now solved.now)) }
 {
     add_warnings(&lead(options), solved.value_warnings(), text)?;
-    add_lines(&[], lost, text)?;
+    add_lost(alloc, options, sources, input, solved, lost, text)?;
     Ok(())
 }
 
@@ -255,20 +329,52 @@ fn add_minimal<'o>(
     Ok(())
 }
 
+// The text of the list of new symbols, with their definitions from these sources, if there are any.
+fn new_by(
+    alloc: Global,
+    options: &Options,
+    sources: Option<&TreeSources>,
+    solved: &Solved<'_>,
+) -> Result<Vec<u8>, AllocError>
+    ensures { IfOk result (λ text. text.items ≡ new_by sources.entry solved.now.tree options.now.prefix (solution_view solved.now)) }
+{
+    match sources {
+        Some(sources) => {
+            let lines = Lines::of(alloc, &sources.entries)?;
+            new_text_with_help(alloc, &sources.files, &lines, solved, &options.prefix)
+        }
+        None => list_of_new(alloc, solved, &options.prefix),
+    }
+}
+
+// The text of the list of new symbols, with their definitions if help is wanted.
+fn new_symbols(
+    alloc: Global,
+    options: &Options,
+    sources: Option<&TreeSources>,
+    solved: &Solved<'_>,
+) -> Result<Vec<u8>, AllocError>
+    ensures { IfOk result (λ text. text.items ≡ new_from options.now sources.entry solved.now) }
+{
+    let wanted = sources_if(options.with_help, sources);
+    new_by(alloc, options, wanted, solved)
+}
+
 // Adds that of the list of new symbols, where it is wanted.
 fn add_new<'o>(
     alloc: Global,
     options: &'o Options,
+    sources: Option<&TreeSources>,
     solved: &Solved<'_>,
     texts: &mut Vec<Text<'o>>,
 ) -> Result<(), AllocError>
     ensures { OnOk result (map text_view texts.new.items ≡ map text_view texts.old.items
-        ++ text_at options.now.list_new (text_if options.now.list_new (whole.new_text solved.now.tree options.now.prefix (solution_view solved.now)))) }
+        ++ text_at options.now.list_new (text_if options.now.list_new (new_from options.now sources.entry solved.now))) }
 {
     let Some(name) = &options.list_new else {
         return Ok(());
     };
-    let bytes = list_of_new(alloc, solved, &options.prefix)?;
+    let bytes = new_symbols(alloc, options, sources, solved)?;
     texts.push(Text {
         name: name.as_str(),
         bytes,
@@ -321,23 +427,53 @@ fn add_rule<'o>(
     Ok(())
 }
 
+// Adds that of the explanations, where they are wanted.
+fn add_explanation<'o>(
+    alloc: Global,
+    options: &'o Options,
+    sources: Option<&TreeSources>,
+    input: &UserInput<'_>,
+    solved: &Solved<'_>,
+    texts: &mut Vec<Text<'o>>,
+) -> Result<(), AllocError>
+    ensures { OnOk result (map text_view texts.new.items ≡ map text_view texts.old.items
+        ++ text_at options.now.explanation (explained_by sources.entry options.now input.now solved.now)) }
+{
+    let Some(name) = &options.explanation else {
+        return Ok(());
+    };
+    let Some(sources) = sources else {
+        return Ok(());
+    };
+    let lines = Lines::of(alloc, &sources.entries)?;
+    let bytes = explained_text(alloc, options, &lines, input, solved)?;
+    texts.push(Text {
+        name: name.as_str(),
+        bytes,
+    })?;
+    Ok(())
+}
+
 // The texts of a solution for the user's input, in the order in which they are delivered.
 fn texts_of<'o>(
     alloc: Global,
     options: &'o Options,
+    sources: Option<&TreeSources>,
     input: &UserInput<'_>,
     solved: &Solved<'_>,
     names: &Option<Names>,
 ) -> Result<Vec<Text<'o>>, AllocError>
-    ensures { IfOk result (λ texts. map text_view texts.items ≡ texts_of options.now (ruled_files options.now solved.now.tree input.now solved.now names.now)) }
+    ensures { IfOk result (λ texts. map text_view texts.items
+        ≡ texts_of options.now (files_from options.now sources.entry input.now solved.now names.now)) }
 {
     let mut texts = Vec::new(alloc);
     add_config(alloc, options, solved, &mut texts)?;
     add_header(alloc, options, solved, &mut texts)?;
     add_minimal(alloc, options, solved, &mut texts)?;
-    add_new(alloc, options, solved, &mut texts)?;
+    add_new(alloc, options, sources, solved, &mut texts)?;
     add_gone(alloc, options, input, &mut texts)?;
     add_rule(alloc, options, names, &mut texts)?;
+    add_explanation(alloc, options, sources, input, solved, &mut texts)?;
     Ok(texts)
 }
 
@@ -354,17 +490,20 @@ pub(crate) fn compute<'o>(
 ) -> Result<Option<Vec<Text<'o>>>, AllocError>
     requires ready { IsReady accepted.now }
     requires places { ArePlacesOf accepted.now.laid.tree.now input.now.places }
-    ensures { IfOk result (λ texts. Computes options.now accepted.now.laid.tree.now names.now input.now is_warned waiting.old.items waiting.new.items
+    ensures computes { (files : Files) (lines : List (Located Numbered)) → AreSources files lines options.now accepted.now.sources
+        → IfOk result (λ texts. Computes files options.now accepted.now.laid.tree.now lines names.now input.now is_warned waiting.old.items waiting.new.items
         (option_map (λ texts. map text_view texts.items) texts)) }
+    ensures lines { AreLines waiting.old.items → IfOk result (λ texts. AreLines waiting.new.items) }
 {
     let solved = solve(alloc, &accepted.laid, accepted.order, input.user())?;
     solved.is_solution();
     let lost = lost_warnings(alloc, options, input, &solved)?;
-    add_value_lines(options, &solved, &lost, waiting)?;
+    let sources = accepted.sources;
+    add_value_lines(alloc, options, sources, input, &solved, &lost, waiting)?;
     let is_warned = is_warned_by(is_warned, waiting);
     if is_refused(options, input, &solved, &lost, is_warned) {
         return Ok(None);
     }
-    let texts = texts_of(alloc, options, input, &solved, names)?;
+    let texts = texts_of(alloc, options, sources, input, &solved, names)?;
     Ok(Some(texts))
 }

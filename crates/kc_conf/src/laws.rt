@@ -16,10 +16,12 @@ use kc_values::laws::{
     accepted_have_one_solution, equations_read_needs, needing_are_defined, needs_are_symbols,
 };
 
-/// The law of the tree: a root file has at most one accepted tree, at most one refusal, and not both. It does nothing.
+/// The law of the tree: a root file has at most one accepted tree, at most one refusal, and not both; and
+/// at most one list of lines. It does nothing.
 pub(crate) fn one_answer()
     ensures { OneAnswer }
 {
+    has_one_expansion();
     one_tree();
     one_named_loop();
     unordered_have_a_loop();

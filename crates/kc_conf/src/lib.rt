@@ -11,10 +11,12 @@
 mod accepted;
 mod compute;
 mod diagnostics;
+mod explained;
 mod folder_run;
 pub mod laws;
 mod lost;
 mod many;
+mod names;
 mod reading;
 mod runs;
 mod stop;

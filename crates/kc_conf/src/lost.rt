@@ -148,8 +148,8 @@ fn given_at<'a>(user: &'a User, id: SymId) -> Option<&'a UserValue>
     user.get(id)
 }
 
-// The line of the symbol of a number, behind those that are there.
-fn lost_into(
+/// The line of the symbol of a number, behind those that are there.
+pub(crate) fn lost_into(
     alloc: Global,
     input: &UserInput<'_>,
     solved: &Solved<'_>,
@@ -157,7 +157,7 @@ fn lost_into(
     lines: &mut Vec<Vec<u8>>,
 ) -> Result<(), AllocError>
     requires { id.0 < name_count solved.now.tree }
-    ensures { OnOk result (map (λ l. l.items) lines.new.items ≡ map (λ l. l.items) lines.old.items ++ spec_parts.lost_at input.now.lines solved.now id.0) }
+    ensures { OnOk result (map (λ l. l.items) lines.new.items ≡ map (λ l. l.items) lines.old.items ++ spec.lost_at input.now.lines solved.now id) }
 {
     solved.is_solution();
     rows_tell_facts();

@@ -1,20 +1,21 @@
 //! A run for many configurations of one tree: the tree is read once, and the configurations take their turns.
-ghost use Rattle.std.specs.Prelude.{◌≡◌, ◌≢◌, ◌<◌, ℕ, List, IfOk, not, ◌||◌};
-ghost use Rattle.kc_language.specs.Expansion.{Files, bytes_in, AreOpened};
+ghost use Rattle.std.specs.Prelude.{◌≡◌, ◌≢◌, ◌<◌, ℕ, Bool, List, IfOk, not, ◌||◌};
+ghost use Rattle.kc_language.specs.Expansion.{Files, bytes_in};
 ghost use Rattle.kc_read.specs.RefusalView.{refusal_view};
 ghost use Rattle.kc_language.specs.declared.diagnostics.Cause.TheVariants.{Memory};
 ghost use Rattle.kc_io.specs.Log.{Log};
-ghost use Rattle.kc_conf.specs.Accepted.{IsAcceptedOf, IsReadOf, IsReady};
-ghost use Rattle.kc_conf.specs.Many.{AreRootedAt, RunsEach, RunsTurn, StopsAtTree, TakeTurns, TakesTurn, ends_all, greater};
+ghost use Rattle.kc_conf.specs.Accepted.{IsAcceptedOf, IsOrderedOf, IsReadOf, IsReady};
+ghost use Rattle.kc_conf.specs.Many.{AreRootedAt, KeepsFor, RunsEach, RunsTurn, StopsAtTree, TakeTurns, TakesTurn, ends_all, greater};
 ghost use Rattle.kc_language.specs.Symbols.{TreeFacts};
 ghost use Rattle.kc_language.specs.Outcome.{Options, IsAcceptedTree, IsRefusedTree, has_text, lines_text};
 ghost use Rattle.kc_conf.specs.PartRuns.{LeavesTurn, StopsLines};
 
-use crate::accepted::{AcceptedTree, OrderedTree, TreeReading, read_tree};
+use crate::accepted::{AcceptedTree, OrderedTree, TreeReading, borrowed, read_tree};
 use crate::compute::names_listed;
 use crate::diagnostics::{report, say_no_memory, say_refusal};
 use crate::laws::{exactly_one_outcome, one_answer};
-use crate::runs::{refuse_name, run_inputs, say_tree, unreadable_among};
+use crate::names::{refuse_name, refused_among};
+use crate::runs::{run_inputs, say_tree};
 use crate::stop::Stop;
 use kc_diagnostics::Cause;
 use kc_io::{Action, Device, Fault};
@@ -44,6 +45,10 @@ pub trait Configurations {
     fn options_of(&self, alloc: Global, i: usize) -> Result<Options, AllocError>
         requires { i < number self.now }
         ensures { IfOk result (options self.now i) };
+
+    /// Whether the sources of the tree are kept. They are, if one of the configurations wants them (`wants_sources` of kc_options).
+    fn keeps_sources(&self) -> bool
+        ensures { KeepsFor (options self.now) result };
 }
 
 // How the turn of one configuration ended, and whether that ends all.
@@ -55,7 +60,7 @@ struct Turn {
 
 // ---- one turn
 
-// Runs for one configuration behind the tree's warnings: refuses a name that make cannot read, or goes on to the input files.
+// Runs for one configuration behind the tree's warnings: refuses a name, or goes on to the input files.
 fn run_part<'o, D: Device>(
     alloc: Global,
     options: &'o Options,
@@ -70,8 +75,9 @@ fn run_part<'o, D: Device>(
     one_answer();
     exactly_one_outcome();
     let names = names_listed(alloc, options, accepted.opened)?;
-    if let Some(name) = unreadable_among(options, &names) {
-        return refuse_name(options, name, device);
+    let refused = refused_among(alloc, options, &names, accepted.laid.tree)?;
+    if let Some(name) = refused {
+        return refuse_name(options, &name, device);
     }
     run_inputs(alloc, options, accepted, &names, is_warned, device)
 }
@@ -231,7 +237,7 @@ fn run_each_of<C: Configurations, D: Device>(
     device: &mut D,
 ) -> Status
     requires { IsReady accepted.now }
-    ensures { (files : Files) (root : List ℕ) → IsAcceptedTree files root accepted.now.laid.tree.now → AreOpened files root accepted.now.opened.now →
+    ensures { (files : Files) (root : List ℕ) (keeps : Bool) → IsOrderedOf files root keeps accepted.now → KeepsFor (C.options configurations.now) keeps →
         AreRootedAt root (C.options configurations.now) →
         RunsEach files root (C.options configurations.now) (C.number configurations.now) (D.log device.old) (D.log device.new) result }
 {
@@ -256,22 +262,33 @@ fn run_each_over<C: Configurations, D: Device>(
     device: &mut D,
     kept: &mut Option<AcceptedTree>,
 ) -> Status
-    ensures { (files : Files) (root : List ℕ) → IsReadOf files root read → AreRootedAt root (C.options configurations.now) →
+    ensures { (files : Files) (root : List ℕ) (keeps : Bool) → IsReadOf files root keeps read → KeepsFor (C.options configurations.now) keeps →
+        AreRootedAt root (C.options configurations.now) →
         RunsEach files root (C.options configurations.now) (C.number configurations.now) (D.log device.old) (D.log device.new) result }
 {
-    let TreeReading { tree, opened } = read;
+    let TreeReading {
+        tree,
+        opened,
+        sources,
+    } = read;
     let laid = tree.laid();
     let order = match EvaluationOrder::of(alloc, &laid) {
         Ok(order) => order,
         Err(refusal) => return refuse_all(&refusal, device),
     };
+    let lent = borrowed(&sources);
     let accepted = OrderedTree {
         laid,
         order: &order,
         opened: &opened,
+        sources: lent,
     };
     let status = run_each_of(alloc, configurations, &accepted, device);
-    *kept = Some(AcceptedTree { tree, order });
+    *kept = Some(AcceptedTree {
+        tree,
+        order,
+        sources,
+    });
     status
 }
 
@@ -279,11 +296,11 @@ fn run_each_over<C: Configurations, D: Device>(
 ///
 /// The tree is read once, from this Kconfig file, with which all options have to begin. A refused tree is told once, and refuses all;
 /// else its warnings are told once. Behind them each configuration takes its turn, and leaves what [`run`](crate::run) leaves for its
-/// options behind the tree's warnings, whatever the others do. A refused one (E17, E21, E22, E23) and one whose files cannot be read or
+/// options behind the tree's warnings, whatever the others do. A refused one (E17, E21, E22, E23, E24) and one whose files cannot be read or
 /// written (E18, E19) leave the others their turns. Want of memory (E20) and diagnostics that fail end all. What is answered is the
 /// greatest status.
 ///
-/// The files are let go when they are read. The tree goes to `kept`, in place of what that held, if it is accepted: to give back its
+/// The files are let go when they are read, unless the texts are made of them too. The tree goes to `kept`, in place of what that held, if it is accepted: to give back its
 /// memory takes a while, and a program that ends anyway may forget it.
 pub fn run_each<C: Configurations, D: Device>(
     alloc: Global,
@@ -296,7 +313,12 @@ pub fn run_each<C: Configurations, D: Device>(
     requires { AreRootedAt root.now (C.options configurations.now) }
     ensures { RunsEach (bytes_in files) root.now (C.options configurations.now) (C.number configurations.now) (D.log device.old) (D.log device.new) result }
 {
-    match read_tree(alloc, files, root.as_bytes()) {
+    match read_tree(
+        alloc,
+        files,
+        root.as_bytes(),
+        configurations.keeps_sources(),
+    ) {
         Ok(read) => run_each_over(alloc, configurations, read, device, kept),
         Err(refusal) => refuse_all(&refusal, device),
     }

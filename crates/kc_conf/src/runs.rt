@@ -5,29 +5,28 @@ ghost use Rattle.kc_read.specs.RefusalView.{refusal_view};
 ghost use Rattle.kc_language.specs.declared.diagnostics.Cause.TheVariants.{Memory};
 ghost use Rattle.kc_io.specs.Delivered.{text_view};
 ghost use Rattle.kc_conf.specs.Accepted.{IsAcceptedOf, IsReadOf, IsReady};
-ghost use Rattle.kc_language.specs.Outcome.{Options, fresh_input, lead, refusal_line, root_file, has_text, lines_text, names_listed, unreadable_name};
-ghost use Rattle.kc_conf.specs.PartsOfOutcome.{too_long_line, unreadable_line};
+ghost use Rattle.kc_language.specs.Outcome.{Options, fresh_input, lead, refusal_line, root_file, has_text, lines_text, names_listed};
+ghost use Rattle.kc_conf.specs.PartsOfOutcome.{too_long_line};
 ghost use Rattle.kc_conf.specs.Faults.{AreLines};
 ghost use Rattle.kc_conf.specs.PartsOfOutcome.{strict_line};
-ghost use Rattle.kc_conf.specs.Faults.{Runs};
+ghost use Rattle.kc_conf.specs.Faults.{Runs, refused_name_of};
+ghost use Rattle.kc_options.specs.PartsOfOutcome.{wants_sources};
 ghost use Rattle.kc_conf.specs.Endings.{Answers, Ends, HandsBy, SaysAll, line_if, status_if, texts_or};
 ghost use Rattle.kc_conf.specs.PartRuns.{LeavesPart, LeavesRun, SaysLines};
 ghost use Rattle.kc_conf.specs.Reads.{stop_of};
 
-use crate::accepted::{AcceptedTree, OrderedTree, TreeReading, read_tree};
+use crate::accepted::{AcceptedTree, OrderedTree, TreeReading, borrowed, read_tree};
 use crate::compute::{compute, names_listed};
-use crate::diagnostics::{
-    first_line, report, say_error, say_lines, say_long_line, say_parts, say_refusal,
-};
+use crate::diagnostics::{report, say_error, say_lines, say_long_line, say_parts, say_refusal};
 use crate::laws::{exactly_one_outcome, one_answer};
+use crate::names::{refuse_name, refused_among};
 use crate::reading::{LongLine, Waiting, read_inputs, stream_names};
 use crate::stop::Stop;
 use kc_config_file::user_input::UserInput;
 use kc_diagnostics::{Cause, RunError};
 use kc_expr::names::Names;
 use kc_io::{Device, Manner, Text, deliver};
-use kc_load::unreadable_name;
-use kc_options::{Delivery, Options, Status, holds_warnings, target};
+use kc_options::{Delivery, Options, Status, holds_warnings, wants_sources};
 use kc_read::file_map::FileMap;
 use kc_read::laws::opened_are_one_list;
 use kc_read::refusal::Refusal;
@@ -108,20 +107,6 @@ fn refuse_line<D: Device>(long: LongLine<'_>, device: &mut D) -> Result<Status, 
     ensures { (options : Options) → Ends options [] (too_long_line (stop_of long.entry)) [] Status.Refused result (D.log device.old) (D.log device.new) }
 {
     match say_long_line(device, &long) {
-        Ok(()) => Ok(Status::Refused),
-        Err(stop) => Err(stop),
-    }
-}
-
-/// Refuses a name that make cannot read.
-pub(crate) fn refuse_name<D: Device>(
-    options: &Options,
-    name: &[u8],
-    device: &mut D,
-) -> Result<Status, Stop<'static>>
-    ensures { Ends options.now [] (lead options.now ++ unreadable_line name.now) [] Status.Refused result (D.log device.old) (D.log device.new) }
-{
-    match say_error(device, options, RunError::UnreadableName(first_line(name))) {
         Ok(()) => Ok(Status::Refused),
         Err(stop) => Err(stop),
     }
@@ -209,7 +194,11 @@ fn fresh_input<'a>(
 ) -> Result<UserInput<'a>, AllocError>
     ensures { IfOk result (λ input. input ≡ fresh_input options.now tree.now) }
 {
-    let mut input = UserInput::new(alloc, tree, options.warn_lost)?;
+    let mut input = UserInput::new(
+        alloc,
+        tree,
+        options.warn_lost || options.explanation.is_some(),
+    )?;
     match &options.list_gone {
         None => Ok(input),
         Some(_) => {
@@ -230,7 +219,7 @@ pub(crate) fn run_inputs<'o, D: Device>(
 ) -> Result<Status, Stop<'o>>
     requires ready { IsReady accepted.now }
     requires names { names.now ≡ names_listed options.now accepted.now.opened.now }
-    requires read { unreadable_name options.now accepted.now.opened.now ≡ None }
+    requires taken { refused_name_of options.now accepted.now.opened.now accepted.now.laid.tree.now ≡ None }
     requires warned { is_warned ≡ has_text (lines_text accepted.now.laid.tree.now.warnings) }
     ensures { (files : Files) → IsAcceptedOf files options.now accepted.now → LeavesPart files options.now accepted.now.laid.tree.now result (D.log device.old) (D.log device.new) }
 {
@@ -271,19 +260,6 @@ pub(crate) fn run_inputs<'o, D: Device>(
     finish(options, &waiting.text, texts, device)
 }
 
-/// The first name in the dependency file that make cannot read.
-pub(crate) fn unreadable_among<'n>(
-    options: &'n Options,
-    names: &'n Option<Names>,
-) -> Option<&'n [u8]>
-    ensures { (opened : List (List ℕ)) → names.now ≡ names_listed options.now opened → option_map (λ name. name.now) result ≡ unreadable_name options.now opened }
-{
-    match names {
-        Some(names) => unreadable_name(target(options).as_bytes(), names),
-        None => None,
-    }
-}
-
 /// Says the tree's warnings, if there are any.
 pub(crate) fn say_tree<D: Device>(
     alloc: Global,
@@ -298,7 +274,7 @@ pub(crate) fn say_tree<D: Device>(
     say_lines(alloc, device, warnings)
 }
 
-// Runs over an accepted tree: refuses a name that make cannot read, or says the tree's warnings and goes on to the input files.
+// Runs over an accepted tree: refuses a name, or says the tree's warnings and goes on to the input files.
 fn run_accepted<'o, D: Device>(
     alloc: Global,
     options: &'o Options,
@@ -311,8 +287,9 @@ fn run_accepted<'o, D: Device>(
     one_answer();
     exactly_one_outcome();
     let names = names_listed(alloc, options, accepted.opened)?;
-    if let Some(name) = unreadable_among(options, &names) {
-        return refuse_name(options, name, device);
+    let refused = refused_among(alloc, options, &names, accepted.laid.tree)?;
+    if let Some(name) = refused {
+        return refuse_name(options, &name, device);
     }
     let warnings = accepted.laid.tree.parse_warnings();
     match say_tree(alloc, warnings, device) {
@@ -336,24 +313,34 @@ fn run_tree<'o, D: Device>(
     device: &mut D,
     kept: &mut Option<AcceptedTree>,
 ) -> Result<Status, Stop<'o>>
-    ensures { (files : Files) → IsReadOf files (root_file options.now) read → LeavesRun files options.now result (D.log device.old) (D.log device.new) }
+    ensures { (files : Files) → IsReadOf files (root_file options.now) (wants_sources options.now) read → LeavesRun files options.now result (D.log device.old) (D.log device.new) }
 {
     one_answer();
     exactly_one_outcome();
     opened_are_one_list();
-    let TreeReading { tree, opened } = read;
+    let TreeReading {
+        tree,
+        opened,
+        sources,
+    } = read;
     let laid = tree.laid();
     let order = match EvaluationOrder::of(alloc, &laid) {
         Ok(order) => order,
         Err(refusal) => return refuse(&refusal, device),
     };
+    let lent = borrowed(&sources);
     let accepted = OrderedTree {
         laid,
         order: &order,
         opened: &opened,
+        sources: lent,
     };
     let ended = run_accepted(alloc, options, &accepted, device);
-    *kept = Some(AcceptedTree { tree, order });
+    *kept = Some(AcceptedTree {
+        tree,
+        order,
+        sources,
+    });
     ended
 }
 
@@ -369,7 +356,12 @@ fn run_over<'o, D: Device>(
 {
     exactly_one_outcome();
     opened_are_one_list();
-    let read = match read_tree(alloc, files, options.kconfig.as_bytes()) {
+    let read = match read_tree(
+        alloc,
+        files,
+        options.kconfig.as_bytes(),
+        wants_sources(options),
+    ) {
         Ok(read) => read,
         Err(refusal) => return refuse(&refusal, device),
     };
@@ -393,13 +385,13 @@ fn answer<D: Device>(options: &Options, ended: Result<Status, Stop<'_>>, device:
 /// the options name (our own).
 ///
 /// For these files, the options and the bytes that the device gives there is exactly one outcome: the tree's refusal (E1 to E16), a
-/// line's (E17), that of warnings (E21), that of a name (E23), or the texts and diagnostics of the tree's one solution. `Done` and
+/// line's (E17), that of warnings (E21), that of a name (E23, E24), or the texts and diagnostics of the tree's one solution. `Done` and
 /// `Refused` are answered only if the run was whole: what was said and done is the outcome's, and nothing else. With `Delivery::Check`
 /// a file that does not hold its text is reported (E22), and the status is `Refused`. `Faulted` is answered if the run was broken off: by
 /// a file that could not be read (E18) or written (E19), by want of memory (E20) or by the diagnostics. What comes before that is
 /// whole: the diagnostics said whole lines, and no text was begun before all was said.
 ///
-/// The files are let go when they are read. The tree goes to `kept`, in place of what that held, if it is accepted: to give back its
+/// The files are let go when they are read, unless the texts are made of them too. The tree goes to `kept`, in place of what that held, if it is accepted: to give back its
 /// memory takes a while, and a program that ends anyway may forget it.
 pub fn run<D: Device>(
     alloc: Global,

@@ -1,7 +1,8 @@
 -- What was loaded is enough: the expansion over it is the expansion over the folder's files.
-use Rattle.std.proofs.Common.{◌≡◌, ℕ, Bool, true, false, cond, nat_le, List, [], ◌∷◌, ◌++◌, length, Option, Some, None, MatchOption, Result, Err, Contains, IsUtf8, arith, refl, sym, ap, ◌∙◌, subst}
+use Rattle.std.proofs.Common.{◌≡◌, ℕ, Bool, true, false, cond, nat_le, List, [], ◌∷◌, ◌++◌, length, Option, Some, None, MatchOption, Result, Ok, Err, Contains, IsUtf8, arith, refl, sym, ap, ◌∙◌, subst}
 use Rattle.std.proofs.lemmas.Bool.{false≢true}
-use Rattle.std.proofs.lemmas.List.Elements.{Contains-append_left, Contains-append_right}
+use Rattle.std.specs.Prelude.{All, IfOk}
+use Rattle.std.proofs.lemmas.List.Elements.{All-append, All-cons, All-nil, Contains-append_left, Contains-append_right}
 use Rattle.std.proofs.lemmas.Str.{IsUtf8-from_is_utf8, is_utf8-from_IsUtf8}
 use Rattle.std.specs.List.{list_any}
 use Rattle.std.specs.Str.{is_utf8}
@@ -55,6 +56,32 @@ module _ (files others : Files) where
       (over d (λ y c. h y (Contains-append_right (name ∷ []) (sourced_files d ++ sourced_files g) y (Contains-append_left (sourced_files d) (sourced_files g) y c))))
       (over g (λ y c. h y (Contains-append_right (name ∷ []) (sourced_files d ++ sourced_files g) y (Contains-append_right (sourced_files d) (sourced_files g) y c))))
 
+-- What holds of the file that is read and of those that are sourced holds of the file of each line.
+module _ (files : Files) (P : List ℕ → Type 0) where
+  abbrev OfLines : List (Located Named) → Type 0
+  OfLines ls = All (λ (l : Located Named). P l.file) ls
+
+  pub of_lines : {a : FileContext} {l : UnreadLines} {own : List (Located Named)} {log : Log} {r : Result Log Refused} (d : Rest files a l own log r) →
+      P a.file → ((y : List ℕ) → Contains (sourced_files d) y → P y) → OfLines log.lines → IfOk r (λ more. OfLines more.lines)
+  of_lines (at_end a l own log none closed) p h all = all
+  of_lines (unclosed a l own log line none unmatched) p h all = tt
+  of_lines (too_long a l own log long) p h all = tt
+  of_lines (no_tokens a l m own log ts why next) p h all = tt
+  of_lines (blank a l m own log r next d) p h all = of_lines d p h all
+  of_lines (bad_line a l m own log c n) p h all = tt
+  of_lines (over_limit a l m own log s c n f) p h all = tt
+  of_lines (statement a l m own log s r n plain f d) p h all =
+      let last : Located Named = record { file = a.file; line = l.number; statement = s } in
+      of_lines d p h (All-append (λ (x : Located Named). P x.file) log.lines (last ∷ []) all
+      (All-cons (λ (x : Located Named). P x.file) last [] p (All-nil (λ (x : Located Named). P x.file))))
+  of_lines (bad_source a l m own log name c n f) p h all = tt
+  of_lines (refused_inside a l m own log name bytes e n free there d) p h all = tt
+  of_lines (source a l m own log more name bytes r n free there d g) p h all =
+      let within : OfLines more.lines =
+      of_lines d (h name (here name (sourced_files d ++ sourced_files g)))
+      (λ y c. h y (Contains-append_right (name ∷ []) (sourced_files d ++ sourced_files g) y (Contains-append_left (sourced_files d) (sourced_files g) y c))) all in
+      of_lines g p (λ y c. h y (Contains-append_right (name ∷ []) (sourced_files d ++ sourced_files g) y (Contains-append_right (sourced_files d) (sourced_files g) y c))) within
+
 -- ---- From the root file on
 
 abbrev RootGives : Files → List ℕ → Result Log Refused → Type 0
@@ -86,11 +113,23 @@ module _ (folder_files : List ℕ → Option (List ℕ)) (dir first : List ℕ) 
       by None e x = subst (λ (k : Option Cause). MatchOption k (RootGives loaded first r) (λ c. r ≡ Err (refused c first 0))) (sym (ap (bytes_cause first 0) same_root ∙ e)) (opened_alike r e x)
       by (Some c) e x = subst (λ (k : Option Cause). MatchOption k (RootGives loaded first r) (λ c. r ≡ Err (refused c first 0))) (sym (ap (bytes_cause first 0) same_root ∙ e)) x
 
-  pub alike : ExpandsAlike first (named folder_files dir) loaded
-  alike r = (forward r, back)
+  -- the files of the lines
+  lines_alike : (log : Log) → Expands (named folder_files dir) first (Ok log) → All (λ (l : Located Named). loaded l.file ≡ named folder_files dir l.file) log.lines
+  lines_alike log d = by (bytes_cause first 0 (named folder_files dir first)) refl d
     where
-      back : Expands loaded first r → Expands (named folder_files dir) first r
-      back h =
+      by : (o : Option Cause) → bytes_cause first 0 (named folder_files dir first) ≡ o →
+          MatchOption o (RootGives (named folder_files dir) first (Ok log)) (λ c. Ok log ≡ Err (refused c first 0)) →
+          All (λ (l : Located Named). loaded l.file ≡ named folder_files dir l.file) log.lines
+      by None e (bytes, there, d) =
+          of_lines (named folder_files dir) (λ y. loaded y ≡ named folder_files dir y) d same_root (requested_agree bytes (Ok log) e there d)
+          (All-nil (λ (l : Located Named). loaded l.file ≡ named folder_files dir l.file))
+      by (Some c) e x = absurd (let clash : Ok log ≡ Err (refused c first 0) = x in cc)
+
+  pub alike : ExpandsAlike first (named folder_files dir) loaded
+  alike = record { gives = λ r. (forward r, back r); holds = lines_alike }
+    where
+      back : (r : Result Log Refused) → Expands loaded first r → Expands (named folder_files dir) first r
+      back r h =
           let x = has_one_expansion (named folder_files dir) first in
           subst (Expands (named folder_files dir) first) (one_expansion_law loaded first x.0 r (forward x.0 x.1) h) x.1
 
@@ -120,5 +159,6 @@ module _ (folder_files : List ℕ → Option (List ℕ)) (dir first : List ℕ) 
   )
 
 pub enough : (folder_files : FolderFiles) (dir first : List ℕ) (s : State) → Ongoing folder_files dir first s → (b : Bool) → Walks folder_files dir [] 0 (first ∷ []) s.requested s.lines b → Suffices folder_files dir first s.files
-enough None dir first s h b walk = (s.files, tt, λ r. (λ x. x, λ x. x))
+enough None dir first s h b walk =
+    (s.files, tt, record { gives = λ r. (λ x. x, λ x. x); holds = λ log d i l within. refl })
 enough (Some folder_files) dir first s h b walk = enough_told folder_files dir first s h b walk

@@ -1,7 +1,7 @@
 -- Trusted: What loading gives: the files that were found, asked for in order, and that they are enough.
-use Rattle.std.specs.{Prelude.{◌≡◌, ℕ, ◌≤◌, List, [], ◌∷◌, ◌++◌, Contains, Option, Some, Result}, Str.IsUtf8}
+use Rattle.std.specs.{Prelude.{◌≡◌, ℕ, ◌≤◌, List, [], ◌∷◌, ◌++◌, All, Contains, Option, Some, Result, Ok}, Str.IsUtf8}
 use Rattle.kc_expr.specs.Names.{AreDistinct}
-use Rattle.kc_language.specs.{Text.most_lines, Expansion.{Expands, Files, Log, Refused}}
+use Rattle.kc_language.specs.{Text.most_lines, Expansion.{Expands, Files, Log, Refused}, Statements.{Located, Named}}
 use Rattle.kc_load.specs.Asking.{AreSources, AskedInOrder}
 use Rattle.kc_load.specs.Folder.{Answer, AreAsked, AreFilesOf, FolderFiles, files_found, line_total}
 
@@ -52,10 +52,12 @@ OrderIsReached =
 
 -- ---- it is enough
 
--- the root file gives the same list, with the files that it opens, or the same refusal over both
-abbrev pub ExpandsAlike : List ℕ → Files → Files → Type 0
-ExpandsAlike root files others = (r : Result Log Refused) → (Expands files root r → Expands others root r) × (Expands others root r → Expands files root r)
+-- The root file gives the same list, with the files that it opens, or the same refusal over both; and the files of the list's lines hold the same.
+pub record ExpandsAlike (root : List ℕ) (files others : Files) : Type 0 where
+  pub gives : (r : Result Log Refused) → (Expands files root r → Expands others root r) × (Expands others root r → Expands files root r)
+  pub holds : (log : Log) → Expands files root (Ok log) → All (λ (l : Located Named). others l.file ≡ files l.file) log.lines
 
--- What was loaded is enough: over it the first file gives what it gives over all the files of the folder, with the files that it opens.
+-- What was loaded is enough: over it the first file gives what it gives over all the files of the folder, with the files that it opens. And the files
+-- of the lines are there as they are in the folder.
 abbrev pub Suffices : FolderFiles → List ℕ → List ℕ → Files → Type 0
 Suffices folder_files dir first loaded = (files : Files) × AreFilesOf folder_files dir files × ExpandsAlike first files loaded

@@ -7,4 +7,6 @@
 mod options;
 
 pub use kc_language::outcome::{Delivery, Status};
-pub use options::{Options, holds_warnings, input_file, lead, may_be_missing, target};
+pub use options::{
+    Options, holds_warnings, input_file, lead, may_be_missing, target, wants_sources,
+};

@@ -3,7 +3,7 @@
 ghost use Rattle.std.specs.Prelude.{◌≡◌, [], not, slice_index_or};
 ghost use Rattle.std.specs.List.{flat_map};
 ghost use Rattle.kc_language.specs.Outcome.{input_files, lead, target};
-ghost use Rattle.kc_options.specs.PartsOfOutcome.{holds_warnings};
+ghost use Rattle.kc_options.specs.PartsOfOutcome.{holds_warnings, wants_sources};
 ghost use Rattle.kc_options.specs.Asked.{may_at};
 
 use kc_config_file::prefix::Prefix;
@@ -48,6 +48,15 @@ pub fn holds_warnings(options: &Options) -> bool
     ensures { result ≡ holds_warnings options.now }
 {
     options.strict || options.strict_tree
+}
+
+/// Whether the texts are made of the tree's sources too: its lines and its files (our own).
+pub fn wants_sources(options: &Options) -> bool
+    ensures { result ≡ wants_sources options.now }
+{
+    options.explanation.is_some()
+        || options.explain_lost && options.warn_lost
+        || options.with_help && options.list_new.is_some()
 }
 
 /// The file that a dependency file's rule makes; empty where no full `.config` is written (our own).

@@ -5,6 +5,7 @@ use Rattle.kc_diagnostics.specs.Warnings.{owned_warning}
 use Rattle.kc_language.specs.Symbols.{warning_line}
 use Rattle.kc_language.specs.declared.diagnostics.Warning.{Warning}
 use Rattle.kc_language.specs.Outcome.{lead, lines_text}
+use Rattle.kc_conf.specs.Computed.{lost_from}
 use Rattle.kc_conf.proofs.compute.add_value_lines.Goals as goal
 
 led : (l : List ℕ) (ws : List (Warning (Vec ℕ Global))) →
@@ -16,9 +17,9 @@ pub returns : goal.returns
 returns c =
     let old = c.args.text.now.items in
     let warned = c.value_warnings.result.now in
-    let lost = lines_text (map (λ (line : Vec ℕ Global). line.items) c.args.lost.now) in
+    let lost = lost_from c.args.options.now c.args.sources c.args.input.now c.args.solved.now in
     let front = flat_map (λ part. part.now) c.lead.result in
-    c.in_ok-add_lines.ensures ∙ ap (λ t. t ++ lost) c.in_ok-add_warnings.ensures
+    c.in_ok-add_lost.ensures ∙ ap (λ t. t ++ lost) c.in_ok-add_warnings.ensures
     ∙ append_assoc old (lines_text (map (λ w. front ++ warning_line (owned_warning w)) warned)) lost
     ∙ ap (λ l. old ++ (lines_text l ++ lost))
     (ap (λ l. map (λ w. l ++ warning_line (owned_warning w)) warned) c.lead.ensures ∙ led (lead c.args.options.now) warned

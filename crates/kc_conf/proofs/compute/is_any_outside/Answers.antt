@@ -1,5 +1,5 @@
 -- One of the warnings is about a value outside its range, or none.
-use Rattle.std.proofs.Common.{◌≡◌, ◌∙◌, ap, sym, true, take, get_or, ℕ, Vec, Global, arith}
+use Rattle.std.proofs.Common.{◌≡◌, ◌∙◌, ap, sym, true, take, get_or, arith}
 use Rattle.std.specs.List.{list_any}
 use Rattle.std.proofs.lemmas.List.{take_all}
 use Rattle.std.proofs.lemmas.List.Folds.{list_any_at}

@@ -1,8 +1,7 @@
 -- The lines of one symbol more, and of all.
-use Rattle.std.proofs.Common.{◌∙◌, ℕ, List, ap, arith}
+use Rattle.std.proofs.Common.{◌∙◌, ap, arith}
 use Rattle.std.specs.List.{flat_map}
-use Rattle.kc_language.specs.declared.expressions.SymId.{SymId}
-use Rattle.kc_conf.specs.PartsOfTexts.{lost_at}
+use Rattle.kc_language.specs.Texts.{lost_at}
 use Rattle.kc_conf.proofs.LostLemmas.{all_lost, one_more_lost}
 use Rattle.kc_conf.proofs.lost.lost_lines.Goals as goal
 
@@ -12,6 +11,5 @@ loop-i-preserved c =
 
 pub returns : goal.returns
 returns c =
-    let at : SymId → List (List ℕ) = λ x. lost_at c.args.input.now.lines c.args.solved.now x.0 in
     all_lost c.args.input.now.lines c.args.solved.now c.tree-tree.result.now.defined c.loop-i.i _ (omega (arith, c.loop-i-test.false, c.symbol_count-i-end.ensures.count)) c.loop-i.invariant
-    ∙ ap (λ t. flat_map at t.defined) c.tree-tree.ensures
+    ∙ ap (λ t. flat_map (lost_at c.args.input.now.lines c.args.solved.now) t.defined) c.tree-tree.ensures

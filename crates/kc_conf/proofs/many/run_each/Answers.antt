@@ -10,4 +10,4 @@ returns-in-Err g c =
 
 pub returns-in-Ok : goal.returns-in-Ok
 returns-in-Ok g c =
-    let of = rw c.as_bytes.ensures.value at c.in-Ok.ensures.read in c.run_each_over.ensures (bytes_in c.args.files) c.args.root.now of c.requires
+    let of = rw c.as_bytes.ensures.value at c.in-Ok.ensures.read in c.run_each_over.ensures (bytes_in c.args.files) c.args.root.now c.keeps_sources.result of c.keeps_sources.ensures c.requires

@@ -11,10 +11,10 @@ take_turns-requires-clause-warned g c =
     ap not c.is_empty.ensures ∙ lines_some c.parse_warnings-warnings.result.now ∙ ap (λ l. has_text (lines_text l)) c.parse_warnings-warnings.ensures
 
 pub returns-in-Ok : goal.returns-in-Ok
-returns-in-Ok g c = λ files root accepted opened rooted.
-    turns c.args.accepted.now.laid.tree.now (g.D.Device.log c.say_tree.new.device) accepted (rw c.parse_warnings-warnings.ensures at c.in-Ok.ensures)
-    (c.take_turns.ensures files (IsAcceptedOf-rooted files root (g.C.Configurations.options c.args.configurations.now) c.args.accepted.now accepted opened rooted))
+returns-in-Ok g c = λ files root keeps of keeps_for rooted.
+    turns c.args.accepted.now.laid.tree.now (g.D.Device.log c.say_tree.new.device) of.tree (rw c.parse_warnings-warnings.ensures at c.in-Ok.ensures)
+    (c.take_turns.ensures files (IsAcceptedOf-rooted files root keeps (g.C.Configurations.options c.args.configurations.now) c.args.accepted.now of keeps_for rooted))
 
 pub returns-in-Err : goal.returns-in-Err
-returns-in-Err g c = λ files root accepted opened rooted.
-    stops (c.end_unsaid.ensures files root c.args.accepted.now.laid.tree.now (g.D.Device.log c.args.device.now) accepted (rw c.parse_warnings-warnings.ensures at c.in-Err.ensures))
+returns-in-Err g c = λ files root keeps of keeps_for rooted.
+    stops (c.end_unsaid.ensures files root c.args.accepted.now.laid.tree.now (g.D.Device.log c.args.device.now) of.tree (rw c.parse_warnings-warnings.ensures at c.in-Err.ensures))
