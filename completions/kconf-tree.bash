@@ -11,10 +11,12 @@ _kconf_tree() {
         --prefix)
             COMPREPLY=($(compgen -W 'CONFIG_ BR2_' -- "$word"))
             return ;;
+        --explain | --explain-depth)
+            return ;;
     esac
     if [[ $word == -* ]]; then
         COMPREPLY=($(compgen -W \
-            '--relative-source --missing-ok --root --config --out --header --savedefconfig --list-new --list-gone --depfile --prefix --must-exist --strict --strict-tree --warn-lost --replace --check --fragment --help --version' -- "$word"))
+            '--relative-source --missing-ok --root --config --out --header --savedefconfig --list-new --with-help --list-gone --depfile --prefix --must-exist --strict --strict-tree --warn-lost --explain-lost --explain --explain-depth --replace --check --fragment --help --version' -- "$word"))
     else
         COMPREPLY=($(compgen -f -- "$word"))
     fi

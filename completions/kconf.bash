@@ -11,10 +11,12 @@ _kconf() {
         --prefix)
             COMPREPLY=($(compgen -W 'CONFIG_ BR2_' -- "$word"))
             return ;;
+        --explain | --explain-depth)
+            return ;;
     esac
     if [[ $word == -* ]]; then
         COMPREPLY=($(compgen -W \
-            '--root --config --out --header --savedefconfig --list-new --list-gone --depfile --prefix --must-exist --strict --strict-tree --warn-lost --replace --check --each --each-from --fragment --help --version' -- "$word"))
+            '--root --config --out --header --savedefconfig --list-new --with-help --list-gone --depfile --prefix --must-exist --strict --strict-tree --warn-lost --explain-lost --explain --explain-depth --replace --check --each --each-from --fragment --help --version' -- "$word"))
     else
         COMPREPLY=($(compgen -f -- "$word"))
     fi

@@ -1,5 +1,5 @@
 -- Configurations whose names are apart touch no file of one another.
-use Rattle.std.proofs.Common.{◌≡◌, ℕ, Bool, true, false, List, [], ◌∷◌, ◌++◌, length, map, refl, sym, ap, ◌∙◌, Option, None, Some, Result, Ok, Err, String, string_bytes, option_map}
+use Rattle.std.proofs.Common.{◌≡◌, ℕ, Bool, true, false, List, [], ◌∷◌, ◌++◌, length, map, refl, sym, ap, ◌∙◌, append-nil, Option, None, Some, Result, Ok, Err, String, string_bytes, option_map}
 use Rattle.std.specs.Prelude.{slice_index_or}
 use Rattle.std.specs.declared.alloc.Global.{Global}
 use Rattle.kc_io.specs.Delivery.{LookingKeeps}
@@ -38,21 +38,29 @@ module _ (each : Each) (config : List ℕ) (one : Options) (are : AreOptionsFor 
   abbrev pattern_if : Option (String Global) → List (List ℕ)
   pattern_if pattern = filled_if config pattern
 
+  -- the last two files: no explanation is written
+  abbrev last_files : List (List ℕ)
+  last_files = name_if one.depfile ++ name_if one.explanation
+
+  last : last_files ≡ pattern_if each.options.depfile
+  last = ap (λ (e : Option (String Global)). name_if one.depfile ++ name_if e) are.explanation ∙ append-nil (name_if one.depfile)
+      ∙ named config one.depfile each.options.depfile are.depfile
+
   outputs : output_files one ≡ writes each config
   outputs =
       let asked = each.options in
-      ap (λ (l : List (List ℕ)). l ++ (name_if one.header ++ (name_if one.minimal ++ (name_if one.list_new ++ (name_if one.list_gone ++ name_if one.depfile)))))
+      ap (λ (l : List (List ℕ)). l ++ (name_if one.header ++ (name_if one.minimal ++ (name_if one.list_new ++ (name_if one.list_gone ++ last_files)))))
       (named config one.out asked.out are.out)
-      ∙ ap (λ (l : List (List ℕ)). pattern_if asked.out ++ (l ++ (name_if one.minimal ++ (name_if one.list_new ++ (name_if one.list_gone ++ name_if one.depfile)))))
+      ∙ ap (λ (l : List (List ℕ)). pattern_if asked.out ++ (l ++ (name_if one.minimal ++ (name_if one.list_new ++ (name_if one.list_gone ++ last_files)))))
       (named config one.header asked.header are.header)
-      ∙ ap (λ (l : List (List ℕ)). pattern_if asked.out ++ (pattern_if asked.header ++ (l ++ (name_if one.list_new ++ (name_if one.list_gone ++ name_if one.depfile)))))
+      ∙ ap (λ (l : List (List ℕ)). pattern_if asked.out ++ (pattern_if asked.header ++ (l ++ (name_if one.list_new ++ (name_if one.list_gone ++ last_files)))))
       (named config one.minimal asked.minimal are.minimal)
-      ∙ ap (λ (l : List (List ℕ)). pattern_if asked.out ++ (pattern_if asked.header ++ (pattern_if asked.minimal ++ (l ++ (name_if one.list_gone ++ name_if one.depfile)))))
+      ∙ ap (λ (l : List (List ℕ)). pattern_if asked.out ++ (pattern_if asked.header ++ (pattern_if asked.minimal ++ (l ++ (name_if one.list_gone ++ last_files)))))
       (named config one.list_new asked.list_new are.list_new)
-      ∙ ap (λ (l : List (List ℕ)). pattern_if asked.out ++ (pattern_if asked.header ++ (pattern_if asked.minimal ++ (pattern_if asked.list_new ++ (l ++ name_if one.depfile)))))
+      ∙ ap (λ (l : List (List ℕ)). pattern_if asked.out ++ (pattern_if asked.header ++ (pattern_if asked.minimal ++ (pattern_if asked.list_new ++ (l ++ last_files)))))
       (named config one.list_gone asked.list_gone are.list_gone)
       ∙ ap (λ (l : List (List ℕ)). pattern_if asked.out ++ (pattern_if asked.header ++ (pattern_if asked.minimal ++ (pattern_if asked.list_new ++ (pattern_if asked.list_gone ++ l)))))
-      (named config one.depfile asked.depfile are.depfile)
+      last
 
   inputs : input_files one ≡ reads each config
   inputs = ap (λ (n : List ℕ). n ∷ map string_bytes one.fragments.items) are.config ∙ ap (λ (l : List (List ℕ)). config ∷ l) are.fragments

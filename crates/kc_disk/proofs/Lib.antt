@@ -1,3 +1,4 @@
 mod UsageLemmas
 mod EachLemmas
+mod KeptLemmas
 mod LeavesLemmas

@@ -9,9 +9,26 @@ use crate::temporary::{TemporaryFile, complete, move_to_place, remove, start};
 use kc_io::{Device, Fault, Site};
 use std::fs::File;
 use std::io::{self, ErrorKind, Read, Write};
+use std::mem;
 
 /// How many reads that give bytes there may be: a file that gives more has no end.
 const MOST_READS: u64 = 1 << 63;
+
+/// The name of standard output: a text of this name goes there.
+const STANDARD_OUTPUT: &str = "/dev/stdout";
+
+// Where the text goes that is written.
+#[derive(Drop)]
+enum Writing {
+    // Nowhere.
+    Nothing,
+    // To standard output, as it is.
+    StandardOutput,
+    // To this file, which stands at its place.
+    InPlace(File),
+    // To this file, which is to be moved there.
+    Beside(File, TemporaryFile),
+}
 
 /// The files of a disk and the diagnostics of the process (our own). It tells nothing.
 ///
@@ -19,6 +36,9 @@ const MOST_READS: u64 = 1 << 63;
 /// stands in the same folder, as `.kconf-N` with the next N from 0 on that is free. Only its owner may open it until it has the
 /// permissions of the file that it replaces. What is no regular file, or lies below `/proc` as a descriptor does, takes its text at
 /// once and is not moved.
+///
+/// A text whose name is exactly `/dev/stdout` goes to standard output as the process has it, which is not opened anew: a file to
+/// which the output is appended keeps what it holds. It takes its text at once too, and is not moved.
 #[derive(Drop)]
 pub struct SystemDevice<'a> {
     rt: &'a HostRuntime,
@@ -27,8 +47,8 @@ pub struct SystemDevice<'a> {
     reading: Option<File>,
     // How many reads gave bytes.
     reads: u64,
-    // The file that is written, and where it stands, if it is a temporary one.
-    writing: Option<(File, Option<TemporaryFile>)>,
+    // Where the text goes that is written.
+    writing: Writing,
     // Those that are whole, in the order in which they take their places.
     whole: Vec<Option<TemporaryFile>>,
     // How many names of temporary files were tried since there was none.
@@ -42,7 +62,7 @@ impl<'a> SystemDevice<'a> {
             diagnostics,
             reading: None,
             reads: 0,
-            writing: None,
+            writing: Writing::Nothing,
             whole: Vec::new(rt.alloc()),
             tried: 0,
         }
@@ -65,28 +85,43 @@ impl<'a> SystemDevice<'a> {
         diagnostics.into_kept()
     }
 
-    // Makes an empty file: at its place, or beside it.
+    // Makes an empty file: at its place, or beside it. Standard output is there.
     fn make(&mut self, site: Site, name: &str) -> io::Result<()> {
-        let made = match site {
-            Site::Place => (File::create(self.rt, name)?, None),
-            Site::Beside => start(self.rt, name, &mut self.tried)?,
+        let made = if name == STANDARD_OUTPUT {
+            Writing::StandardOutput
+        } else {
+            match site {
+                Site::Place => Writing::InPlace(File::create(self.rt, name)?),
+                Site::Beside => self.start_beside(name)?,
+            }
         };
-        self.writing = Some(made);
+        self.writing = made;
         Ok(())
+    }
+
+    // Makes the file for a text that is to be moved to its place, if it can be.
+    fn start_beside(&mut self, name: &str) -> io::Result<Writing> {
+        match start(self.rt, name, &mut self.tried)? {
+            (file, Some(temporary)) => Ok(Writing::Beside(file, temporary)),
+            (file, None) => Ok(Writing::InPlace(file)),
+        }
     }
 
     // Closes the file that is written. One that is to be moved has its permissions then, and is on the disk.
     fn finish(&mut self, site: Site) -> io::Result<()> {
         if let Site::Place = site {
-            self.writing = None;
+            self.writing = Writing::Nothing;
             return Ok(());
         }
-        if let Some((file, Some(temporary))) = &self.writing {
+        if let Writing::Beside(file, temporary) = &self.writing {
             complete(file, temporary)?;
         }
         self.whole.reserve(1)?;
-        if let Some((_, temporary)) = self.writing.take() {
-            self.whole.push(temporary)?;
+        match mem::replace(&mut self.writing, Writing::Nothing) {
+            Writing::Nothing => {}
+            Writing::StandardOutput => self.whole.push(None)?,
+            Writing::InPlace(_file) => self.whole.push(None)?,
+            Writing::Beside(_file, temporary) => self.whole.push(Some(temporary))?,
         }
         Ok(())
     }
@@ -123,6 +158,20 @@ fn read_on(reading: &mut Option<File>, buffer: &mut [u8]) -> io::Result<usize>
         *reading = None;
     }
     Ok(count)
+}
+
+// Writes bytes where they go, and answers how many were taken. Standard output takes all.
+fn write_on(rt: &HostRuntime, writing: &mut Writing, bytes: &[u8]) -> io::Result<usize>
+    ensures { IfOk result (λ count. count ≤ length bytes.now) }
+{
+    match writing {
+        Writing::Nothing => Ok(0),
+        Writing::StandardOutput => {
+            rt.stdout().write_all(bytes)?;
+            Ok(bytes.len())
+        }
+        Writing::InPlace(file) | Writing::Beside(file, _) => file.write(bytes),
+    }
 }
 
 // The fault of an error.
@@ -193,10 +242,7 @@ impl<'a> Device for SystemDevice<'a> {
     }
 
     fn write(&mut self, _site: Site, _name: &str, bytes: &[u8]) -> Result<usize, Fault> {
-        let Some((file, _)) = &mut self.writing else {
-            return Err(Fault::Refused);
-        };
-        match file.write(bytes) {
+        match write_on(self.rt, &mut self.writing, bytes) {
             Ok(count) if count > 0 => Ok(count),
             Ok(_) => Err(Fault::Refused),
             Err(error) => Err(fault_of(&error)),
@@ -212,11 +258,16 @@ impl<'a> Device for SystemDevice<'a> {
     }
 
     fn clear(&mut self) {
-        if let Some((_, temporary)) = self.writing.take() {
+        if let Writing::Beside(_file, temporary) = mem::replace(
+            &mut self.writing,
+            Writing::Nothing,
+        ) {
             remove(self.rt, &temporary);
         }
         for temporary in &self.whole {
-            remove(self.rt, temporary);
+            if let Some(temporary) = temporary {
+                remove(self.rt, temporary);
+            }
         }
         self.whole.clear();
         self.try_names_anew();

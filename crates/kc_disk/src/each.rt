@@ -7,6 +7,7 @@ use crate::usage::say_usage;
 use kc_conf::{AcceptedTree, Configurations, Options, Status, run_each, say_load_fault};
 use kc_io::Device;
 use kc_load::{Folder, FolderFault, LoadFault, load};
+use kc_options::wants_sources;
 use kc_words::{Each, list_of};
 use std::alloc::{AllocError, Global};
 
@@ -28,6 +29,11 @@ impl<'e> Configurations for NamedConfigurations<'e> {
 
     fn options_of(&self, alloc: Global, i: usize) -> Result<Options, AllocError> {
         self.each.options_for(alloc, self.names[i].as_str())
+    }
+
+    #[tactic(auto, using(crate::proofs::KeptLemmas::keeps_for))]
+    fn keeps_sources(&self) -> bool {
+        wants_sources(&self.each.options)
     }
 }
 

@@ -181,8 +181,6 @@ fn is_held(error: &io::Error) -> bool {
 }
 
 /// Removes a temporary file. A fault in it changes nothing.
-pub(crate) fn remove(rt: &HostRuntime, temporary: &Option<TemporaryFile>) {
-    if let Some(temporary) = temporary {
-        let _ = fs::remove_file(rt, temporary.path.as_path());
-    }
+pub(crate) fn remove(rt: &HostRuntime, temporary: &TemporaryFile) {
+    let _ = fs::remove_file(rt, temporary.path.as_path());
 }

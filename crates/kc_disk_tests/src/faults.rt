@@ -24,6 +24,13 @@ const REFUSALS: &[Case] = &[
         diagnostics: b".config:1: warning K7: unknown symbol Q\nx.cfg:2: warning K7: unknown symbol OLD_DRIVER\nerror E21: warnings are refused\n",
         ..REFUSED
     },
+    Case {
+        name: "a name that no symbol has",
+        arguments: "--explain A --strict Kconfig",
+        files: &[(".config", b"CONFIG_Q=y\n")],
+        diagnostics: b"error E24: no symbol has the name A\n",
+        ..REFUSED
+    },
 ];
 
 // Devices that fail.

@@ -69,6 +69,24 @@ const CASES: &[Case] = &[
         ..NEW
     },
     Case {
+        name: "an explanation stands in the place of all files",
+        arguments: "--replace --header h --explain A Kconfig",
+        tree: &[("./Kconfig", b"config A\n\tbool \"a\"\n")],
+        files: &[(".config", b"CONFIG_A=y\n")],
+        log: "make /dev/stdout\nclose /dev/stdout\n",
+        left: &[
+            (".config", Some(b"CONFIG_A=y\n")),
+            ("h", None),
+            (
+                "/dev/stdout",
+                Some(
+                    b"A=y (bool): user value\n  Kconfig:1: dependencies: y\n  Kconfig:2: prompt: y\n  .config:1: user value y\n",
+                ),
+            ),
+        ],
+        ..NEW
+    },
+    Case {
         name: "a refused tree",
         tree: &[("./Kconfig", b"source \"a\"\n")],
         log: "",

@@ -25,6 +25,9 @@ struct Want {
     list_new: Option<&'static str>,
     list_gone: Option<&'static str>,
     depfile: Option<&'static str>,
+    explanation: Option<&'static str>,
+    explain: &'static [&'static str],
+    explain_depth: usize,
     prefix: &'static [u8],
     fragments: &'static [&'static str],
     flags: &'static str,
@@ -41,9 +44,20 @@ const PLAIN: Want = Want {
     list_new: None,
     list_gone: None,
     depfile: None,
+    explanation: None,
+    explain: &[],
+    explain_depth: 3,
     prefix: b"CONFIG_",
     fragments: &[],
     flags: "",
+};
+
+// The same where three symbols are to be explained.
+const EXPLAINED: Want = Want {
+    out: None,
+    explanation: Some("/dev/stdout"),
+    explain: &["A", "CONFIG_B", ""],
+    ..PLAIN
 };
 
 fn is_name(name: &Option<String>, want: Option<&str>) -> bool {
@@ -54,7 +68,7 @@ fn is_name(name: &Option<String>, want: Option<&str>) -> bool {
     }
 }
 
-fn are_fragments(names: &[String], want: &[&str]) -> bool {
+fn are_names(names: &[String], want: &[&str]) -> bool {
     for (name, want) in names.iter().zip(want) {
         if name.as_str() != *want {
             return false;
@@ -70,6 +84,8 @@ fn flags_into(options: &Options, text: &mut String) -> Result<(), AllocError> {
         (options.strict, "strict "),
         (options.strict_tree, "strict-tree "),
         (options.warn_lost, "warn-lost "),
+        (options.explain_lost, "explain-lost "),
+        (options.with_help, "with-help "),
         (options.delivery == Delivery::Replace, "replace "),
         (options.delivery == Delivery::Check, "check "),
         (options.names_config, "names-config "),
@@ -97,8 +113,11 @@ fn are_options(alloc: Global, options: &Options, want: &Want) -> bool {
         && is_name(&options.list_new, want.list_new)
         && is_name(&options.list_gone, want.list_gone)
         && is_name(&options.depfile, want.depfile)
+        && is_name(&options.explanation, want.explanation)
+        && are_names(&options.explain, want.explain)
+        && options.explain_depth == want.explain_depth
         && options.prefix.as_bytes() == want.prefix
-        && are_fragments(&options.fragments, want.fragments)
+        && are_names(&options.fragments, want.fragments)
         && are_flags(alloc, options, want.flags)
 }
 
@@ -175,6 +194,43 @@ const OPTIONS: &[(&str, Want)] = &[
         },
     ),
     (
+        "--explain-lost|Kconfig|--explain-depth|007|--with-help",
+        Want {
+            explain_depth: 7,
+            flags: "explain-lost with-help ",
+            ..PLAIN
+        },
+    ),
+    (
+        "Kconfig|--explain-depth=9223372036854775807",
+        Want {
+            explain_depth: 9_223_372_036_854_775_807,
+            ..PLAIN
+        },
+    ),
+    (
+        "--explain|A|Kconfig|--explain=CONFIG_B|--explain=",
+        EXPLAINED,
+    ),
+    (
+        "--out=b|--header=h|--savedefconfig|m|--list-new=n|--list-gone=o|--depfile=d|--explain|A|Kconfig|--explain=CONFIG_B|--explain=",
+        EXPLAINED,
+    ),
+    (
+        "--strict|--strict-tree|--check|--explain|A|--explain=CONFIG_B|--explain=|Kconfig",
+        EXPLAINED,
+    ),
+    (
+        "--replace|--explain|A|--explain=CONFIG_B|--explain=|Kconfig|f|--must-exist|--warn-lost|--config=c|--explain-depth=0",
+        Want {
+            config: "c",
+            fragments: &["f"],
+            explain_depth: 0,
+            flags: "must-exist warn-lost ",
+            ..EXPLAINED
+        },
+    ),
+    (
         "--|--strict|--replace|-x",
         Want {
             kconfig: "--strict",
@@ -207,7 +263,7 @@ const EACH: Want = Want {
 };
 
 fn is_each(alloc: Global, each: &Each, want: &WantEach) -> bool {
-    are_fragments(&each.configurations, want.configurations)
+    are_names(&each.configurations, want.configurations)
         && is_name(&each.list, want.list)
         && are_options(alloc, &each.options, &want.options)
 }
@@ -244,6 +300,19 @@ const CONFIGURATIONS: &[(&str, WantEach)] = &[
             options: Want {
                 minimal: Some("m/{/}"),
                 fragments: &["c"],
+                ..EACH
+            },
+        },
+    ),
+    (
+        "--each|Kconfig|a|--explain-lost|--list-new|{}.new|--with-help|--explain-depth=1",
+        WantEach {
+            configurations: &["a"],
+            list: None,
+            options: Want {
+                list_new: Some("{}.new"),
+                explain_depth: 1,
+                flags: "must-exist explain-lost with-help names-config ",
                 ..EACH
             },
         },
@@ -321,6 +390,19 @@ const OTHERS: &[(&str, &str)] = &[
     ("--strict|--strict|K", "bad"),
     ("--warn-lost=1|K", "bad"),
     ("--warn-lost|--warn-lost|K", "bad"),
+    ("--explain-lost=1|K", "bad"),
+    ("--explain-lost|--explain-lost|K", "bad"),
+    ("--with-help=1|K", "bad"),
+    ("--explain|K", "bad"),
+    ("K|--explain", "bad"),
+    ("--explain-depth|1|--explain-depth|1|K", "bad"),
+    ("--explain-depth=|K", "bad"),
+    ("--explain-depth=-1|K", "bad"),
+    ("--explain-depth=+1|K", "bad"),
+    ("--explain-depth=0x1|K", "bad"),
+    ("--explain-depth=9223372036854775808|K", "bad"),
+    ("--explain|A|--check|--replace|K", "bad"),
+    ("--explain|A|--each|K", "bad"),
     ("--depfile|K", "bad"),
     ("--depfile=a|--depfile=b|K", "bad"),
     ("--replace=1|K", "bad"),
@@ -372,6 +454,18 @@ const USAGES: &[(&str, &str)] = &[
     (
         "--each|--config|a|K|--depfile|d",
         "error: the argument '--config <FILE>' cannot be used with '--each'\n",
+    ),
+    (
+        "--each|K|--depfile|d|--explain=A|--explain-depth=x",
+        "error: the argument '--explain <NAME>' cannot be used with '--each'\n",
+    ),
+    (
+        "--explain-depth|x|--prefix|9X|K",
+        "invalid value '9X' for '--prefix <TEXT>'",
+    ),
+    (
+        "--explain-depth|x1|K",
+        "invalid value 'x1' for '--explain-depth <N>': a decimal number below 2^63\n",
     ),
     (
         "--each-from|l|K|--depfile|d|--prefix|9X",

@@ -1,4 +1,5 @@
 pub mod ApartLemmas
+pub mod DepthLemmas
 pub mod PartLemmas
 pub mod PlaceLemmas
 pub mod RowLemmas

@@ -1,6 +1,7 @@
 -- How clap's faults and a prefix that is none are told.
 use Rattle.std.proofs.Common.{if◌then◌else◌, ◌==◌, ◌<◌, ◌∷◌, Bool, Option, length, arith, ◌≡◌, ◌⊎◌, inl, inr, ◌++◌, List, [], None, Some, refl, ap, sym, subst, ◌∙◌, true, false, codes, string_bytes}
 use Rattle.std.specs.Fmt.{decimal, digits}
+use Rattle.std.specs.Option.{is_some}
 use Rattle.clap.specs.Words.{App, IsAmong, Kinds, Row, Text, fault_of}
 use Rattle.clap.specs.Kinds.{HasKind}
 use Rattle.clap.specs.Faults.{is_simple_and_free}
@@ -8,10 +9,10 @@ use Rattle.clap.specs.declared.error.Error.{Error}
 use Rattle.clap.specs.declared.error.kind.ErrorKind.{ErrorKind}
 use Rattle.clap.specs.declared.error.kind.ErrorKind.TheVariants as kind
 use Rattle.kc_language.specs.Text.{longest_prefix}
-use Rattle.kc_words.specs.CommandLine.{kconf_app, exclusion_of, prefix_option, IsRefused, no_prefix_text, refusal_of}
+use Rattle.kc_words.specs.CommandLine.{kconf_app, depth_option, exclusion_of, prefix_option, IsRefused, depth_of, no_depth_text, no_prefix_text, refusal_of}
 use Rattle.kc_language.specs.ConfigFile.{is_prefix}
-use Rattle.kc_words.specs.PartsOfCommandLine.{are_exclusive, exclusion_text, is_one_of_many, lacks_target, one_of_many_text, target_text, first_report, prefix_refusal}
-use Rattle.kc_words.specs.Refusals.{IsBadFor, IsKindOf, IsNoPrefix, IsNoRequest, IsTold}
+use Rattle.kc_words.specs.PartsOfCommandLine.{are_exclusive, depth_refusal, exclusion_text, explains_many, explains_many_text, is_one_of_many, lacks_target, one_of_many_text, target_text, first_report, value_refusal}
+use Rattle.kc_words.specs.Refusals.{IsBadFor, IsKindOf, IsNoDepth, IsNoPrefix, IsNoRequest, IsNoValue, IsTold}
 use Rattle.kc_words.specs.declared.usage.UsageError.{UsageError}
 use Rattle.kc_words.specs.declared.usage.UsageError.TheVariants as usage
 use Rattle.kc_words.proofs.RowLemmas.{kconf_app-free}
@@ -25,11 +26,27 @@ has_kind app words e is h = subst (λ (a : App). HasKind (fault_of a words) e) i
 
 -- ---- arguments that are refused for what they hold
 
-pub no_prefix-no_request : (rows : List Row) (u : UsageError) → exclusion_of rows ≡ None → IsNoPrefix (prefix_option rows) u → IsNoRequest rows u
-no_prefix-no_request rows (usage.Help t) apart h = absurd h
-no_prefix-no_request rows usage.Version apart h = absurd h
-no_prefix-no_request rows (usage.Bad t) apart h = rw (apart, h.0) (ap Some (sym h.1))
-no_prefix-no_request rows usage.Memory apart h = tt
+pub no_prefix-no_value : (rows : List Row) (prefix : Text) (u : UsageError) → prefix ≡ prefix_option rows → IsNoPrefix prefix u → IsNoValue rows u
+no_prefix-no_value rows prefix (usage.Help t) is h = absurd h
+no_prefix-no_value rows prefix usage.Version is h = absurd h
+no_prefix-no_value rows prefix (usage.Bad t) is h = let no : is_prefix (prefix_option rows) ≡ false = ap is_prefix (sym is) ∙ h.0 in
+    rw no (ap (λ p. Some (no_prefix_text p)) (sym is) ∙ ap Some (sym h.1))
+no_prefix-no_value rows prefix usage.Memory is h = tt
+
+pub no_depth-no_value : (rows : List Row) (prefix depth : Text) (u : UsageError) → prefix ≡ prefix_option rows → is_prefix prefix ≡ true →
+    depth ≡ depth_option rows → IsNoDepth depth u → IsNoValue rows u
+no_depth-no_value rows prefix depth (usage.Help t) is valid same h = absurd h
+no_depth-no_value rows prefix depth usage.Version is valid same h = absurd h
+no_depth-no_value rows prefix depth (usage.Bad t) is valid same h = let yes : is_prefix (prefix_option rows) ≡ true = ap is_prefix (sym is) ∙ valid in
+    let no : depth_of (depth_option rows) ≡ None = ap depth_of (sym same) ∙ h.0 in
+    rw (yes, no) (ap (λ d. Some (no_depth_text d)) (sym same) ∙ ap Some (sym h.1))
+no_depth-no_value rows prefix depth usage.Memory is valid same h = tt
+
+pub no_value-no_request : (rows : List Row) (u : UsageError) → exclusion_of rows ≡ None → IsNoValue rows u → IsNoRequest rows u
+no_value-no_request rows (usage.Help t) apart h = absurd h
+no_value-no_request rows usage.Version apart h = absurd h
+no_value-no_request rows (usage.Bad t) apart h = rw apart h
+no_value-no_request rows usage.Memory apart h = tt
 
 pub excluded-no_request : (rows : List Row) (text : Text) (u : UsageError) → exclusion_of rows ≡ Some text → IsBadFor text u → IsNoRequest rows u
 excluded-no_request rows text (usage.Help t) is h = absurd h
@@ -81,19 +98,26 @@ front (x ∷ xs) y h = omega arith
 long : (e t : Text) → Some e ≡ Some t → 0 < length e → 0 < length t
 long e t is h = let same : e ≡ t = cc in subst (λ (x : Text). 0 < length x) same h
 
-told_exclusion : (a b d : Bool) (t : Text) → (if a then Some exclusion_text else if b then Some one_of_many_text else if d then Some target_text else None) ≡ Some t → 0 < length t
-told_exclusion true b d t h = long exclusion_text t h (positive exclusion_text refl)
-told_exclusion false true d t h = long one_of_many_text t h (positive one_of_many_text refl)
-told_exclusion false false true t h = long target_text t h (positive target_text refl)
-told_exclusion false false false t h = absurd (cc)
+told_exclusion : (a b d e : Bool) (t : Text)
+    → (if a then Some exclusion_text else if b then Some one_of_many_text else if d then Some explains_many_text else if e then Some target_text else None) ≡ Some t
+    → 0 < length t
+told_exclusion true b d e t h = long exclusion_text t h (positive exclusion_text refl)
+told_exclusion false true d e t h = long one_of_many_text t h (positive one_of_many_text refl)
+told_exclusion false false true e t h = long explains_many_text t h (positive explains_many_text refl)
+told_exclusion false false false true t h = long target_text t h (positive target_text refl)
+told_exclusion false false false false t h = absurd (cc)
 
-told_prefix : (p : Text) (b : Bool) (t : Text) → (if b then None else Some (no_prefix_text p)) ≡ Some t → 0 < length t
-told_prefix p true t h = absurd (cc)
-told_prefix p false t h = long (no_prefix_text p) t h (front (codes "error: invalid value '") _ (positive (codes "error: invalid value '") refl))
+told_depth : (d : Text) (b : Bool) (t : Text) → (if b then None else Some (no_depth_text d)) ≡ Some t → 0 < length t
+told_depth d true t h = absurd (cc)
+told_depth d false t h = long (no_depth_text d) t h (front (codes "error: invalid value '") _ (positive (codes "error: invalid value '") refl))
 
-told_first : (rows : List Row) (o : Option Text) (t : Text) → exclusion_of rows ≡ o → first_report o (prefix_refusal (prefix_option rows)) ≡ Some t → 0 < length t
-told_first rows (Some e) t is h = told_exclusion (are_exclusive rows) (is_one_of_many rows) (lacks_target rows) t (is ∙ h)
-told_first rows None t is h = told_prefix (prefix_option rows) (is_prefix (prefix_option rows)) t h
+told_value : (p d : Text) (b : Bool) (t : Text) → (if b then depth_refusal d else Some (no_prefix_text p)) ≡ Some t → 0 < length t
+told_value p d true t h = told_depth d (is_some (depth_of d)) t h
+told_value p d false t h = long (no_prefix_text p) t h (front (codes "error: invalid value '") _ (positive (codes "error: invalid value '") refl))
+
+told_first : (rows : List Row) (o : Option Text) (t : Text) → exclusion_of rows ≡ o → first_report o (value_refusal (prefix_option rows) (depth_option rows)) ≡ Some t → 0 < length t
+told_first rows (Some e) t is h = told_exclusion (are_exclusive rows) (is_one_of_many rows) (explains_many rows) (lacks_target rows) t (is ∙ h)
+told_first rows None t is h = told_value (prefix_option rows) (depth_option rows) (is_prefix (prefix_option rows)) t h
 
 pub told-request : (rows : List Row) (u : UsageError) → IsNoRequest rows u → IsTold u
 told-request rows (usage.Help t) h = tt

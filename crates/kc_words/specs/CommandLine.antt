@@ -1,9 +1,9 @@
 -- Trusted: What the command line asks for, why it is refused, and which files configurations share (our own; see `kconf --help`).
 -- The crate clap reads the arguments. It has a rule for each argument, and gives rows: the name of a rule with its values. A flag that is given
 -- has the value `true`.
-use Rattle.std.specs.{Prelude.{◌≡◌, ◌≢◌, ◌==◌, ◌<◌, ◌&&◌, ◌||◌, ◌⊎◌, ◌++◌, ℕ, List, [], ◌∷◌, Bool, true, false, not, Option, Some, None, is_some, unwrap_or, option_map, String, string_bytes, codes, decimal, bytes_eq, nat_eq, if◌then◌else◌, map, fold, filter, flat_map, length, drop, slice_index_or}, List.{last_or, list_any, slice_split, starts_with}, Option.option_or, Str.Lines.lines, declared.alloc.Global.Global}
+use Rattle.std.specs.{Prelude.{◌≡◌, ◌≢◌, ◌==◌, ◌<◌, ◌&&◌, ◌||◌, ◌⊎◌, ◌++◌, ◌^◌, ℕ, List, [], ◌∷◌, Bool, true, false, not, Option, Some, None, is_some, unwrap_or, option_map, String, string_bytes, codes, decimal, bytes_eq, nat_eq, if◌then◌else◌, map, fold, filter, flat_map, length, drop, slice_index_or}, List.{last_or, list_any, slice_split, starts_with}, Option.option_or, Str.Lines.lines, declared.alloc.Global.Global}
 use Rattle.clap.specs.{Words.{App, IsAmong, Kinds, Row, Rule, Text, all_of, first_of, matches_of, new_app, new_rule, with_rule}, Simple.on_top, declared.{builder.action.ArgAction.TheVariants.{Append, SetTrue}, error.kind.ErrorKind.{ErrorKind, TheVariants.{DisplayHelp, DisplayVersion}}}}
-use Rattle.kc_language.specs.{Text.{byte, longest_prefix}, ConfigFile.is_prefix, Outcome.Options, declared.outcome.Delivery.{Delivery, TheVariants.{Check, Replace, Write}}}
+use Rattle.kc_language.specs.{Text.{byte, longest_prefix, natural_of}, ConfigFile.is_prefix, Outcome.Options, declared.outcome.Delivery.{Delivery, TheVariants.{Check, Replace, Write}}}
 use Rattle.kc_words.specs.declared.{each.Each.Each, options.Request.{Request, TheVariants.{One, Each as Many}}, usage.UsageError.{UsageError, TheVariants.{Help, Version, Bad, Memory}}}
 
 -- ---- The command
@@ -31,8 +31,10 @@ empty_app = on_top (λ s. record s { no_binary_name = true; has_version = true }
 unfoldable pub with_options : App → App
 with_options app = fold with_rule app
     (option_rule (codes "root") ∷ option_rule (codes "config") ∷ option_rule (codes "out") ∷ option_rule (codes "header")
-    ∷ option_rule (codes "savedefconfig") ∷ option_rule (codes "list-new") ∷ option_rule (codes "list-gone") ∷ option_rule (codes "depfile") ∷ option_rule (codes "prefix")
+    ∷ option_rule (codes "savedefconfig") ∷ option_rule (codes "list-new") ∷ flag_rule (codes "with-help") ∷ option_rule (codes "list-gone")
+    ∷ option_rule (codes "depfile") ∷ option_rule (codes "prefix")
     ∷ flag_rule (codes "must-exist") ∷ flag_rule (codes "strict") ∷ flag_rule (codes "strict-tree") ∷ flag_rule (codes "warn-lost")
+    ∷ flag_rule (codes "explain-lost") ∷ repeated_rule (codes "explain") ∷ option_rule (codes "explain-depth")
     ∷ flag_rule (codes "replace") ∷ flag_rule (codes "check") ∷ flag_rule (codes "each")
     ∷ option_rule (codes "each-from") ∷ repeated_rule (codes "fragment") ∷ [])
 
@@ -64,6 +66,18 @@ is_each rows = is_given (codes "each") rows || has_value (codes "each-from") row
 abbrev pub prefix_option : List Row → Text
 prefix_option rows = unwrap_or (first_of (codes "prefix") rows) (codes "CONFIG_")
 
+-- The number of steps in which an explanation goes on: decimal digits, of a number below 2^63. Any other text is refused.
+abbrev pub depth_option : List Row → Text
+depth_option rows = unwrap_or (first_of (codes "explain-depth") rows) (codes "3")
+
+abbrev pub depth_of : Text → Option ℕ
+depth_of = natural_of 10 (2 ^ 63)
+
+-- With --explain no file is written but the explanations, and none is compared or refused for a warning: whatever else is given, what asks for
+-- that is as if it were absent.
+abbrev pub unless_explained : {A : Type 0} → List Row → A → A → A
+unless_explained rows absent asked = if has_value (codes "explain") rows then absent else asked
+
 abbrev pub delivery_of : List Row → Delivery
 delivery_of rows = if is_given (codes "check") rows then Check else if is_given (codes "replace") rows then Replace else Write
 
@@ -71,23 +85,28 @@ delivery_of rows = if is_given (codes "check") rows then Check else if is_given 
 pub record AreSharedOptions (rows : List Row) (options : Options) : Type 0 where
   pub root : string_bytes options.root ≡ unwrap_or (first_of (codes "root") rows) (codes ".")
   pub kconfig : string_bytes options.kconfig ≡ unwrap_or (first_of (codes "KCONFIG") rows) []
-  pub header : option_map string_bytes options.header ≡ first_of (codes "header") rows
-  pub minimal : option_map string_bytes options.minimal ≡ first_of (codes "savedefconfig") rows
-  pub list_new : option_map string_bytes options.list_new ≡ first_of (codes "list-new") rows
-  pub list_gone : option_map string_bytes options.list_gone ≡ first_of (codes "list-gone") rows
-  pub depfile : option_map string_bytes options.depfile ≡ first_of (codes "depfile") rows
+  pub header : option_map string_bytes options.header ≡ unless_explained rows None (first_of (codes "header") rows)
+  pub minimal : option_map string_bytes options.minimal ≡ unless_explained rows None (first_of (codes "savedefconfig") rows)
+  pub list_new : option_map string_bytes options.list_new ≡ unless_explained rows None (first_of (codes "list-new") rows)
+  pub with_help : options.with_help ≡ is_given (codes "with-help") rows
+  pub list_gone : option_map string_bytes options.list_gone ≡ unless_explained rows None (first_of (codes "list-gone") rows)
+  pub depfile : option_map string_bytes options.depfile ≡ unless_explained rows None (first_of (codes "depfile") rows)
+  pub explanation : option_map string_bytes options.explanation ≡ unless_explained rows (Some (codes "/dev/stdout")) None
+  pub explain : map string_bytes options.explain.items ≡ values_of (codes "explain") rows
+  pub explain_depth : Some options.explain_depth ≡ depth_of (depth_option rows)
+  pub explain_lost : options.explain_lost ≡ is_given (codes "explain-lost") rows
   pub prefix : options.prefix ≡ prefix_option rows
   pub prefix_is_one : is_prefix (prefix_option rows) ≡ true
-  pub strict : options.strict ≡ is_given (codes "strict") rows
-  pub strict_tree : options.strict_tree ≡ is_given (codes "strict-tree") rows
+  pub strict : options.strict ≡ unless_explained rows false (is_given (codes "strict") rows)
+  pub strict_tree : options.strict_tree ≡ unless_explained rows false (is_given (codes "strict-tree") rows)
   pub warn_lost : options.warn_lost ≡ is_given (codes "warn-lost") rows
-  pub delivery : options.delivery ≡ delivery_of rows
+  pub delivery : options.delivery ≡ unless_explained rows Write (delivery_of rows)
 
 -- The options of one configuration.
 pub record AreOptionsOf (rows : List Row) (options : Options) : Type 0 where
   pub shared : AreSharedOptions rows options
   pub config : string_bytes options.config ≡ unwrap_or (first_of (codes "config") rows) (codes ".config")
-  pub out : option_map string_bytes options.out ≡ Some (unwrap_or (first_of (codes "out") rows) (string_bytes options.config))
+  pub out : option_map string_bytes options.out ≡ unless_explained rows None (Some (unwrap_or (first_of (codes "out") rows) (string_bytes options.config)))
   pub fragments : map string_bytes options.fragments.items ≡ values_of (codes "FRAGMENT") rows ++ values_of (codes "fragment") rows
   pub must_exist : options.must_exist ≡ is_given (codes "must-exist") rows
   pub names_config : options.names_config ≡ false
@@ -96,7 +115,7 @@ pub record AreOptionsOf (rows : List Row) (options : Options) : Type 0 where
 pub record IsEachOf (rows : List Row) (each : Each) : Type 0 where
   pub shared : AreSharedOptions rows each.options
   pub config : string_bytes each.options.config ≡ []
-  pub out : option_map string_bytes each.options.out ≡ first_of (codes "out") rows
+  pub out : option_map string_bytes each.options.out ≡ unless_explained rows None (first_of (codes "out") rows)
   pub fragments : map string_bytes each.options.fragments.items ≡ values_of (codes "fragment") rows
   pub must_exist : each.options.must_exist ≡ true
   pub names_config : each.options.names_config ≡ true
@@ -113,13 +132,15 @@ AsksFor rows (Many each) = (is_each rows ≡ true) × IsEachOf rows each
 abbrev pub with_hint : Text → Text
 with_hint text = text ++ codes "\n\nFor more information, try '--help'.\n"
 
--- The error if arguments exclude each other: the first that fits. And the error if a prefix is not valid.
+-- The error if arguments exclude each other: the first that fits. And the errors if a prefix or a number of steps is not valid.
 abbrev pub exclusion_of : List Row → Option Text
 exclusion_of rows =
     if is_given (codes "check") rows && is_given (codes "replace") rows
     then Some (with_hint (codes "error: the argument '--check' cannot be used with '--replace'"))
     else if is_each rows && has_value (codes "config") rows
     then Some (with_hint (codes "error: the argument '--config <FILE>' cannot be used with '--each'"))
+    else if is_each rows && has_value (codes "explain") rows
+    then Some (with_hint (codes "error: the argument '--explain <NAME>' cannot be used with '--each'"))
     else if is_each rows && (has_value (codes "depfile") rows && not (has_value (codes "out") rows))
     then Some (with_hint (codes "error: the argument '--depfile <FILE>' needs '--out <FILE>' with '--each'"))
     else None
@@ -128,9 +149,17 @@ abbrev pub no_prefix_text : Text → Text
 no_prefix_text text = codes "error: invalid value '" ++ text ++ with_hint (codes "' for '--prefix <TEXT>': at most " ++ decimal longest_prefix
     ++ codes " letters, digits and _, of which the first is no digit")
 
+abbrev pub no_depth_text : Text → Text
+no_depth_text text = codes "error: invalid value '" ++ text ++ with_hint (codes "' for '--explain-depth <N>': a decimal number below 2^63")
+
+abbrev pub value_error : List Row → Option Text
+value_error rows = if is_prefix (prefix_option rows)
+    then (if is_some (depth_of (depth_option rows)) then None else Some (no_depth_text (depth_option rows)))
+    else Some (no_prefix_text (prefix_option rows))
+
 -- The error for arguments in which clap finds no fault, if there is one.
 abbrev pub refusal_of : List Row → Option Text
-refusal_of rows = option_or (exclusion_of rows) (if is_prefix (prefix_option rows) then None else Some (no_prefix_text (prefix_option rows)))
+refusal_of rows = option_or (exclusion_of rows) (value_error rows)
 
 -- What the arguments ask for, if they do not exclude each other.
 pub record IsRequestOf (rows : List Row) (request : Request) : Type 0 where
@@ -169,7 +198,7 @@ filled_parts config (first ∷ others) = first ++ flat_map (filled_part config) 
 abbrev pub filled : Text → Text → Text
 filled config pattern = filled_parts config (slice_split (λ b. b == byte "{") pattern)
 
--- The options of one of many configurations: those of all, with this name, and with the patterns filled.
+-- The options of one of many configurations: those of all, with this name, and with the patterns filled. None is asked to explain a symbol.
 pub record AreOptionsFor (each : Each) (name : Text) (options : Options) : Type 0 where
   pub root : string_bytes options.root ≡ string_bytes each.options.root
   pub config : string_bytes options.config ≡ name
@@ -178,8 +207,13 @@ pub record AreOptionsFor (each : Each) (name : Text) (options : Options) : Type 
   pub header : option_map string_bytes options.header ≡ option_map (λ p. filled name (string_bytes p)) each.options.header
   pub minimal : option_map string_bytes options.minimal ≡ option_map (λ p. filled name (string_bytes p)) each.options.minimal
   pub list_new : option_map string_bytes options.list_new ≡ option_map (λ p. filled name (string_bytes p)) each.options.list_new
+  pub with_help : options.with_help ≡ each.options.with_help
   pub list_gone : option_map string_bytes options.list_gone ≡ option_map (λ p. filled name (string_bytes p)) each.options.list_gone
   pub depfile : option_map string_bytes options.depfile ≡ option_map (λ p. filled name (string_bytes p)) each.options.depfile
+  pub explanation : options.explanation ≡ None
+  pub explain : options.explain.items ≡ []
+  pub explain_depth : options.explain_depth ≡ each.options.explain_depth
+  pub explain_lost : options.explain_lost ≡ each.options.explain_lost
   pub fragments : map string_bytes options.fragments.items ≡ map string_bytes each.options.fragments.items
   pub prefix : options.prefix ≡ each.options.prefix
   pub must_exist : options.must_exist ≡ each.options.must_exist

@@ -3,7 +3,7 @@ use Rattle.std.specs.{Prelude.{◌≡◌, ◌≢◌, ◌<◌, List, Option, None
 use Rattle.clap.specs.{Words.{Row, Text}, declared.error.kind.ErrorKind.ErrorKind}
 use Rattle.kc_language.specs.ConfigFile.{is_prefix}
 use Rattle.kc_language.specs.Outcome.{out_of_memory_line}
-use Rattle.kc_words.specs.{CommandLine.{listed, no_prefix_text, refusal_of}, declared.usage.UsageError.UsageError}
+use Rattle.kc_words.specs.{CommandLine.{depth_of, listed, no_depth_text, no_prefix_text, refusal_of, value_error}, declared.usage.UsageError.UsageError}
 use Rattle.clap.specs.declared.error.kind.ErrorKind.TheVariants as kind
 use Rattle.kc_words.specs.declared.usage.UsageError.TheVariants as usage
 
@@ -52,6 +52,18 @@ abbrev pub IsNoPrefix : Text → UsageError → Type 0
 IsNoPrefix text (usage.Bad told) = (is_prefix text ≡ false) × (string_bytes told ≡ no_prefix_text text)
 IsNoPrefix text usage.Memory = Unit {0}
 IsNoPrefix text _ = ⊥
+
+-- out of memory, or the text is no number of steps, and this reports it
+abbrev pub IsNoDepth : Text → UsageError → Type 0
+IsNoDepth text (usage.Bad told) = (depth_of text ≡ None) × (string_bytes told ≡ no_depth_text text)
+IsNoDepth text usage.Memory = Unit {0}
+IsNoDepth text _ = ⊥
+
+-- out of memory, or this reports a value that is not valid
+abbrev pub IsNoValue : List Row → UsageError → Type 0
+IsNoValue rows (usage.Bad told) = value_error rows ≡ Some (string_bytes told)
+IsNoValue rows usage.Memory = Unit {0}
+IsNoValue rows _ = ⊥
 
 -- out of memory, or this reports what the arguments are refused for
 abbrev pub IsNoRequest : List Row → UsageError → Type 0

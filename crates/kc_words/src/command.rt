@@ -21,9 +21,9 @@ With --each, {} in the FILEs of --out, --header, --savedefconfig, --list-new, --
 
 Exit status:
   0  success: every output file is complete
-  1  refused: an error in the input (the tree, a .config file, a file name with --depfile), a warning
-     under --strict or --strict-tree, or a file that is not up to date (--check); no file was created
-     or changed
+  1  refused: an error in the input (the tree, a .config file, a file name with --depfile, a name of
+     --explain), a warning under --strict or --strict-tree, or a file that is not up to date
+     (--check); no file was created or changed
   2  wrong arguments
   3  I/O error or out of memory: output files may be truncated; with --replace they are unchanged,
      unless a rename failed
@@ -67,6 +67,8 @@ const LIST_NEW: OptionTexts = OptionTexts {
     help: "Write the .config lines of symbols that no input answered to FILE",
 };
 
+const WITH_HELP: &str = "With --list-new, show the definitions of each symbol with prompt and help";
+
 const LIST_GONE: OptionTexts = OptionTexts {
     value: "FILE",
     help: "Write the lines of input files that name no symbol of the tree to FILE",
@@ -89,6 +91,18 @@ const STRICT: &str = "Fail if a line of the .config or a fragment was not taken 
 const STRICT_TREE: &str = "Fail on any warning, also about the tree";
 
 const WARN_LOST: &str = "Warn about values you set that did not take effect, and about conflicts";
+
+const EXPLAIN_LOST: &str = "With --warn-lost, explain each value that did not take effect";
+
+const EXPLAIN: OptionTexts = OptionTexts {
+    value: "NAME",
+    help: "Print why symbol NAME has its value, and write no file; may be repeated",
+};
+
+const EXPLAIN_DEPTH: OptionTexts = OptionTexts {
+    value: "N",
+    help: "Also explain what holds it down, in at most N steps [default: 3]",
+};
 
 const REPLACE: &str = "Write files atomically, and leave unchanged files untouched";
 
@@ -202,6 +216,7 @@ fn with_options<'a>(alloc: Global, command: Command<'a>) -> Result<Command<'a>, 
     let command = with_option(alloc, command, "header", HEADER)?;
     let command = with_option(alloc, command, "savedefconfig", MINIMAL)?;
     let command = with_option(alloc, command, "list-new", LIST_NEW)?;
+    let command = with_flag(alloc, command, "with-help", WITH_HELP)?;
     let command = with_option(alloc, command, "list-gone", LIST_GONE)?;
     let command = with_option(alloc, command, "depfile", DEPFILE)?;
     let command = with_option(alloc, command, "prefix", PREFIX)?;
@@ -209,6 +224,9 @@ fn with_options<'a>(alloc: Global, command: Command<'a>) -> Result<Command<'a>, 
     let command = with_flag(alloc, command, "strict", STRICT)?;
     let command = with_flag(alloc, command, "strict-tree", STRICT_TREE)?;
     let command = with_flag(alloc, command, "warn-lost", WARN_LOST)?;
+    let command = with_flag(alloc, command, "explain-lost", EXPLAIN_LOST)?;
+    let command = with_repeated(alloc, command, "explain", EXPLAIN)?;
+    let command = with_option(alloc, command, "explain-depth", EXPLAIN_DEPTH)?;
     let command = with_flag(alloc, command, "replace", REPLACE)?;
     let command = with_flag(alloc, command, "check", CHECK)?;
     let command = with_flag(alloc, command, "each", EACH)?;

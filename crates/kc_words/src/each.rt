@@ -42,7 +42,8 @@ fn copies_of(alloc: Global, names: &[String]) -> Result<Vec<String>, AllocError>
 
 impl Each {
     /// The options of the configuration of this name. The patterns are filled: `{}` with the name as it is, `{/}` with what follows
-    /// its last `/` (as GNU parallel does). What the name itself holds is not filled again. Its only error is to be out of memory.
+    /// its last `/` (as GNU parallel does). What the name itself holds is not filled again. No symbol is asked to be explained.
+    /// Its only error is to be out of memory.
     pub fn options_for(&self, alloc: Global, config: &str) -> Result<Options, AllocError>
         ensures { IfOk result (AreOptionsFor self.now config.now) }
     {
@@ -55,8 +56,13 @@ impl Each {
             header: filled_if(alloc, config, &asked.header)?,
             minimal: filled_if(alloc, config, &asked.minimal)?,
             list_new: filled_if(alloc, config, &asked.list_new)?,
+            with_help: asked.with_help,
             list_gone: filled_if(alloc, config, &asked.list_gone)?,
             depfile: filled_if(alloc, config, &asked.depfile)?,
+            explanation: None,
+            explain: Vec::new(alloc),
+            explain_depth: asked.explain_depth,
+            explain_lost: asked.explain_lost,
             fragments: copies_of(alloc, &asked.fragments)?,
             prefix: copy_of_prefix(alloc, &asked.prefix)?,
             must_exist: asked.must_exist,

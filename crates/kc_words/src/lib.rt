@@ -6,6 +6,7 @@
 
 mod apart;
 mod command;
+mod depth;
 mod each;
 mod list;
 mod options;

@@ -1,13 +1,14 @@
 //! What the arguments of the command line ask for.
 
-ghost use Rattle.std.specs.Prelude.{◌≡◌, ◌++◌, ◌<◌, [], IfOk, IfErr, None, false, length, map, option_map, string_bytes, unwrap_or, true};
+ghost use Rattle.std.specs.Prelude.{◌≡◌, ◌++◌, ◌<◌, [], IfOk, IfErr, None, Some, codes, false, length, map, option_map, string_bytes, unwrap_or, true};
 ghost use Rattle.kc_language.specs.ConfigFile.{is_prefix};
 ghost use Rattle.clap.specs.Words.{takes, rows_of, found_of, kind_of, first_of, fault_of};
-ghost use Rattle.kc_words.specs.CommandLine.{exclusion_of, has_value, is_each, is_given, values_of, AreOptionsOf, AreSharedOptions, AsksFor, IsEachOf, IsRequestOf, delivery_of, prefix_option, kconf_app, arguments_of, rows_for, IsRefused, refusal_of};
-ghost use Rattle.kc_words.specs.Inputs.{HasInputs};
-ghost use Rattle.kc_words.specs.Refusals.{IsKindOf, IsNoPrefix, IsNoRequest, IsBadWords, IsTold};
+ghost use Rattle.kc_words.specs.CommandLine.{exclusion_of, has_value, is_each, is_given, values_of, AreOptionsOf, AreSharedOptions, AsksFor, IsEachOf, IsRequestOf, delivery_of, depth_of, prefix_option, kconf_app, arguments_of, rows_for, IsRefused, refusal_of, unless_explained};
+ghost use Rattle.kc_words.specs.Inputs.{AreOutputs, AreValues, HasInputs};
+ghost use Rattle.kc_words.specs.Refusals.{IsKindOf, IsNoDepth, IsNoPrefix, IsNoRequest, IsNoValue, IsBadWords, IsTold};
 
 use crate::command::command;
+use crate::depth::depth_of;
 use crate::each::Each;
 use crate::usage::{UsageError, bad};
 use clap::error::ErrorKind;
@@ -35,11 +36,32 @@ struct Inputs {
     names_config: bool,
 }
 
+// The files that are written besides the full `.config`.
+#[derive(Drop)]
+struct Outputs {
+    header: Option<String>,
+    minimal: Option<String>,
+    list_new: Option<String>,
+    list_gone: Option<String>,
+    depfile: Option<String>,
+    explanation: Option<String>,
+}
+
+// The values that may be refused.
+#[derive(Drop)]
+struct Values {
+    prefix: Prefix,
+    explain_depth: usize,
+}
+
 const CHECK_AND_REPLACE: &str =
     "error: the argument '--check' cannot be used with '--replace'\n\nFor more information, try '--help'.\n";
 
 const CONFIG_AND_EACH: &str =
     "error: the argument '--config <FILE>' cannot be used with '--each'\n\nFor more information, try '--help'.\n";
+
+const EXPLAIN_AND_EACH: &str =
+    "error: the argument '--explain <NAME>' cannot be used with '--each'\n\nFor more information, try '--help'.\n";
 
 const DEPFILE_WITHOUT_OUT: &str =
     "error: the argument '--depfile <FILE>' needs '--out <FILE>' with '--each'\n\nFor more information, try '--help'.\n";
@@ -127,6 +149,19 @@ fn prefix_of(alloc: Global, text: &str) -> Result<Prefix, UsageError>
     }
 }
 
+// The number of steps that the text gives.
+fn checked_depth(alloc: Global, text: &str) -> Result<usize, UsageError>
+    ensures ok { IfOk result (λ depth. Some depth ≡ depth_of text.now) }
+    ensures err { IfErr result (IsNoDepth text.now) }
+{
+    match depth_of(text) {
+        Some(depth) => Ok(depth),
+        None => Err(UsageError::Bad(format!(in alloc;
+            "error: invalid value '{text}' for '--explain-depth <N>': a decimal number below 2^63\n\nFor more information, try '--help'.\n"
+        )?)),
+    }
+}
+
 // Whether the argument has a value.
 #[tactic(auto, using(crate::proofs::RowLemmas::found_rows))]
 fn has_value(matches: &ArgMatches<'_>, id: &str) -> bool
@@ -152,6 +187,9 @@ fn exclusion_of(matches: &ArgMatches<'_>) -> Option<&'static str>
     if is_each(matches) && has_value(matches, "config") {
         return Some(CONFIG_AND_EACH);
     }
+    if is_each(matches) && has_value(matches, "explain") {
+        return Some(EXPLAIN_AND_EACH);
+    }
     if is_each(matches) && has_value(matches, "depfile") && !has_value(matches, "out") {
         return Some(DEPFILE_WITHOUT_OUT);
     }
@@ -160,14 +198,77 @@ fn exclusion_of(matches: &ArgMatches<'_>) -> Option<&'static str>
 
 // What is done with the texts.
 fn delivery_of(matches: &ArgMatches<'_>) -> Delivery
-    ensures { result ≡ delivery_of (rows_of (found_of matches.now)) }
+    ensures { result ≡ unless_explained (rows_of (found_of matches.now)) Delivery.Write (delivery_of (rows_of (found_of matches.now))) }
 {
+    if has_value(matches, "explain") {
+        return Delivery::Write;
+    }
     if flag_of(matches, "check") {
         Delivery::Check
     } else if flag_of(matches, "replace") {
         Delivery::Replace
     } else {
         Delivery::Write
+    }
+}
+
+// Whether the flag stands among the words, and no explanation is asked for.
+fn flag_unless_explained(matches: &ArgMatches<'_>, id: &str) -> bool
+    ensures { result ≡ unless_explained (rows_of (found_of matches.now)) false (is_given id.now (rows_of (found_of matches.now))) }
+{
+    !has_value(matches, "explain") && flag_of(matches, id)
+}
+
+// The file that is asked for, unless an explanation is asked for.
+fn file_of(alloc: Global, matches: &ArgMatches<'_>, id: &str) -> Result<Option<String>, AllocError>
+    ensures { IfOk result (λ file. option_map string_bytes file ≡ unless_explained (rows_of (found_of matches.now)) None (first_of id.now (rows_of (found_of matches.now)))) }
+{
+    if has_value(matches, "explain") {
+        return Ok(None);
+    }
+    text_of(alloc, matches, id)
+}
+
+// The file that explanations are written to, if they are asked for.
+fn explanation_of(alloc: Global, matches: &ArgMatches<'_>) -> Result<Option<String>, AllocError>
+    ensures { IfOk result (λ file. option_map string_bytes file ≡ unless_explained (rows_of (found_of matches.now)) (Some (codes "/dev/stdout")) None) }
+{
+    if has_value(matches, "explain") {
+        return Ok(Some(String::from_str(alloc, "/dev/stdout")?));
+    }
+    Ok(None)
+}
+
+// Reads which files are written besides the full `.config`.
+fn read_outputs(alloc: Global, matches: &ArgMatches<'_>) -> Result<Outputs, AllocError>
+    ensures { IfOk result (AreOutputs (rows_of (found_of matches.now))) }
+{
+    Ok(Outputs {
+        header: file_of(alloc, matches, "header")?,
+        minimal: file_of(alloc, matches, "savedefconfig")?,
+        list_new: file_of(alloc, matches, "list-new")?,
+        list_gone: file_of(alloc, matches, "list-gone")?,
+        depfile: file_of(alloc, matches, "depfile")?,
+        explanation: explanation_of(alloc, matches)?,
+    })
+}
+
+// Reads the values that may be refused: the first that is not valid is told.
+fn read_values(alloc: Global, matches: &ArgMatches<'_>) -> Result<Values, UsageError>
+    ensures ok { IfOk result (AreValues (rows_of (found_of matches.now))) }
+    ensures err { IfErr result (IsNoValue (rows_of (found_of matches.now))) }
+{
+    let prefix = text_or(alloc, matches, "prefix", "CONFIG_")?;
+    let depth = text_or(alloc, matches, "explain-depth", "3")?;
+    match prefix_of(alloc, prefix.as_str()) {
+        Ok(prefix) => match checked_depth(alloc, depth.as_str()) {
+            Ok(explain_depth) => Ok(Values {
+                prefix,
+                explain_depth,
+            }),
+            Err(usage) => Err(usage),
+        },
+        Err(usage) => Err(usage),
     }
 }
 
@@ -179,49 +280,65 @@ fn read_options(
 ) -> Result<Options, UsageError>
     ensures ok { IfOk result (AreSharedOptions (rows_of (found_of matches.now))) }
     ensures inputs { IfOk result (HasInputs inputs) }
-    ensures err { IfErr result (IsNoPrefix (prefix_option (rows_of (found_of matches.now)))) }
+    ensures err { IfErr result (IsNoValue (rows_of (found_of matches.now))) }
 {
     let root = text_or(alloc, matches, "root", ".")?;
     let kconfig = text_or(alloc, matches, "KCONFIG", "")?;
-    let header = text_of(alloc, matches, "header")?;
-    let minimal = text_of(alloc, matches, "savedefconfig")?;
-    let list_new = text_of(alloc, matches, "list-new")?;
-    let list_gone = text_of(alloc, matches, "list-gone")?;
-    let depfile = text_of(alloc, matches, "depfile")?;
-    let prefix = text_or(alloc, matches, "prefix", "CONFIG_")?;
-    let prefix = prefix_of(alloc, prefix.as_str())?;
+    let outputs = read_outputs(alloc, matches)?;
+    let explain = texts_of(alloc, matches, "explain")?;
+    let values = read_values(alloc, matches)?;
     Ok(Options {
         root,
         config: inputs.config,
         out: inputs.out,
         kconfig,
-        header,
-        minimal,
-        list_new,
-        list_gone,
-        depfile,
+        header: outputs.header,
+        minimal: outputs.minimal,
+        list_new: outputs.list_new,
+        with_help: flag_of(matches, "with-help"),
+        list_gone: outputs.list_gone,
+        depfile: outputs.depfile,
+        explanation: outputs.explanation,
+        explain,
+        explain_depth: values.explain_depth,
+        explain_lost: flag_of(matches, "explain-lost"),
         fragments: inputs.fragments,
-        prefix,
+        prefix: values.prefix,
         must_exist: inputs.must_exist,
-        strict: flag_of(matches, "strict"),
-        strict_tree: flag_of(matches, "strict-tree"),
+        strict: flag_unless_explained(matches, "strict"),
+        strict_tree: flag_unless_explained(matches, "strict-tree"),
         warn_lost: flag_of(matches, "warn-lost"),
         delivery: delivery_of(matches),
         names_config: inputs.names_config,
     })
 }
 
+// The full `.config` of one configuration.
+fn out_of(
+    alloc: Global,
+    matches: &ArgMatches<'_>,
+    config: &str,
+) -> Result<Option<String>, AllocError>
+    ensures { let rows = rows_of (found_of matches.now) in
+        IfOk result (λ out. option_map string_bytes out ≡ unless_explained rows None (Some (unwrap_or (first_of (codes "out") rows) config.now))) }
+{
+    if has_value(matches, "explain") {
+        return Ok(None);
+    }
+    Ok(Some(text_or(alloc, matches, "out", config)?))
+}
+
 // Reads the options of one configuration.
 fn read_one(alloc: Global, matches: &ArgMatches<'_>) -> Result<Options, UsageError>
     ensures ok { IfOk result (AreOptionsOf (rows_of (found_of matches.now))) }
-    ensures err { IfErr result (IsNoPrefix (prefix_option (rows_of (found_of matches.now)))) }
+    ensures err { IfErr result (IsNoValue (rows_of (found_of matches.now))) }
 {
     let config = text_or(alloc, matches, "config", ".config")?;
-    let out = text_or(alloc, matches, "out", config.as_str())?;
+    let out = out_of(alloc, matches, config.as_str())?;
     let fragments = texts_of_both(alloc, matches, "FRAGMENT", "fragment")?;
     let inputs = Inputs {
         config,
-        out: Some(out),
+        out,
         fragments,
         must_exist: flag_of(matches, "must-exist"),
         names_config: false,
@@ -232,11 +349,11 @@ fn read_one(alloc: Global, matches: &ArgMatches<'_>) -> Result<Options, UsageErr
 // Reads what is asked for each of many configurations.
 fn read_each(alloc: Global, matches: &ArgMatches<'_>) -> Result<Each, UsageError>
     ensures ok { IfOk result (IsEachOf (rows_of (found_of matches.now))) }
-    ensures err { IfErr result (IsNoPrefix (prefix_option (rows_of (found_of matches.now)))) }
+    ensures err { IfErr result (IsNoValue (rows_of (found_of matches.now))) }
 {
     let inputs = Inputs {
         config: String::new(alloc),
-        out: text_of(alloc, matches, "out")?,
+        out: file_of(alloc, matches, "out")?,
         fragments: texts_of(alloc, matches, "fragment")?,
         must_exist: true,
         names_config: true,
@@ -256,7 +373,7 @@ fn read_each(alloc: Global, matches: &ArgMatches<'_>) -> Result<Each, UsageError
 // Reads what the matches ask for.
 fn read_taken(alloc: Global, matches: &ArgMatches<'_>) -> Result<Request, UsageError>
     ensures ok { IfOk result (AsksFor (rows_of (found_of matches.now))) }
-    ensures err { IfErr result (IsNoPrefix (prefix_option (rows_of (found_of matches.now)))) }
+    ensures err { IfErr result (IsNoValue (rows_of (found_of matches.now))) }
 {
     if is_each(matches) {
         return match read_each(alloc, matches) {
@@ -315,14 +432,18 @@ fn usage_of(alloc: Global, error: &Error) -> UsageError
 }
 
 /// Reads the arguments after the program's name, as the command line
-/// `[--root DIR] [--config FILE] [--out FILE] [--header FILE] [--savedefconfig FILE] [--list-new FILE] [--list-gone FILE]
-/// [--depfile FILE] [--prefix TEXT] [--must-exist] [--strict] [--strict-tree] [--warn-lost] [--replace] [--check] [--fragment FILE ..] KCONFIG [FRAGMENT ..]`,
+/// `[--root DIR] [--config FILE] [--out FILE] [--header FILE] [--savedefconfig FILE] [--list-new FILE] [--with-help] [--list-gone FILE]
+/// [--depfile FILE] [--prefix TEXT] [--must-exist] [--strict] [--strict-tree] [--warn-lost] [--explain-lost] [--explain NAME ..] [--explain-depth N]
+/// [--replace] [--check] [--fragment FILE ..] KCONFIG [FRAGMENT ..]`,
 /// `.. [--each] [--each-from FILE] .. KCONFIG [CONFIGURATION ..]`, `--help`, `-h`, `--version` or `-V`
 /// (our own; the arguments are read as Rust's `clap` reads them, whose documentation has the rules).
 ///
 /// Each field is what the arguments hold, or for an absent option: root `.`, config `.config`, out the file of `--config`, prefix
-/// `CONFIG_`, header, minimal, the two lists and depfile none, `--must-exist`, `--strict`, `--strict-tree` and `--warn-lost` false; the texts are
+/// `CONFIG_`, header, minimal, the two lists and depfile none, explain depth 3, each flag false; the texts are
 /// written, or with `--replace` replaced, or with `--check` compared. The files of `--fragment` follow the others.
+///
+/// With `--explain` the explanation is written to `/dev/stdout`, and nothing else is written, whatever else is given: out, header,
+/// minimal, the two lists and depfile are none, nothing is strict, and the texts are neither replaced nor compared.
 ///
 /// With `--each` or `--each-from` each argument after KCONFIG is a configuration of its own, and the fragments are those of
 /// `--fragment` alone. A configuration has to exist. Without `--out` no full `.config` is written.
@@ -330,7 +451,8 @@ fn usage_of(alloc: Global, error: &Error) -> UsageError
 /// # Errors
 ///
 /// Those of [`UsageError`]. They leave nothing behind. `--check` and `--replace` exclude each other, as do `--config` and `--each`
-/// or `--each-from`, and `--depfile` needs `--out` beside these. The first of these faults is told, and the prefix last.
+/// or `--each-from`, and `--explain` and these; `--depfile` needs `--out` beside them. The first of these faults is told, and after
+/// them the prefix and the depth.
 pub fn request_of(alloc: Global, words: &[String]) -> Result<Request, UsageError>
     // Each field is what the arguments hold, or what an absent option means.
     ensures ok { IfOk result (IsRequestOf (rows_for words.now)) }
