@@ -33,6 +33,8 @@ fn role_of(option: &str) -> Role {
         | "--list-new"
         | "--list-gone"
         | "--depfile"
+        | "--explain"
+        | "--explain-depth"
         | "--fragment" => Role::Dropped,
         _ if option.starts_with("--root=") || option.starts_with("--prefix=") => Role::Whole,
         _ => Role::Flag,
