@@ -37,7 +37,7 @@ RUN = {
 }
 # The crates of the sums at the end of --run, each with its name.
 PARTS = (
-    ("the language", ("kc_language", "kc_conf")),
+    ("the language", ("kc_language", "kc_options", "kc_conf")),
     ("the I/O layer and the command line", ("kc_io", "kc_load", "kc_words", "kc_disk")),
 )
 HEADS = {"-- Trusted: ": True, "-- For proofs: ": False}

@@ -12,6 +12,7 @@ import boards
 import builds
 import companion
 import each
+import explain
 import new
 import trees
 from conf import environment
@@ -28,6 +29,8 @@ PROGRAMS = {
     "m4": ["m4"],
     "aarch64-linux-gnu-gcc-12": ["gcc-12-aarch64-linux-gnu", "cpp-12-aarch64-linux-gnu", "binutils-aarch64-linux-gnu", "libgcc-12-dev-arm64-cross"],
 }
+# The trees on which explanations are checked.
+EXPLAINED = ("linux-x86", "linux-7.2")
 BUILDS = {"seabios": builds.seabios_of, "toybox": builds.toybox_of}
 
 
@@ -83,8 +86,19 @@ def one_tree(name, place, kconf, known, causes, reasons):
     summary.faults += not each.Each(tree, kconf, (root, kconfig), place.folder / "each" / name).all(configurations, own, causes)
     lists = new.New(tree, kconf, kconf_tree(), (root, kconfig), place.folder / "new" / name)
     summary.faults += not lists.all(configurations, own, new.older(name, place), reasons)
+    if name in EXPLAINED:
+        summary.faults += not explained(tree, place, kconf, root / kconfig)
     print(f"  {time.monotonic() - began:.0f} s", flush=True)
     return summary
+
+
+def explained(tree, place, kconf, flat_file):
+    """Checks explanations on a Linux tree with Debian's configuration of Linux 6.1, and on 7.2 the page of documents that shows one."""
+    config = trees.linux_x86(place).starts["config.amd64_none_amd64"]
+    is_right = explain.all_of(kconf, flat_file, config, 1)
+    if tree.name == "linux-7.2":
+        is_right &= explain.story(tree, kconf, kconf_tree(), config, place.folder / "explain")
+    return is_right
 
 
 def table(summaries):

@@ -1,0 +1,268 @@
+"""`kconf --explain` on a real tree: each fact of the explanations of random symbols, by kconfiglib on the same flat file.
+
+kconfiglib reads the flat file and the configuration. Then each line that kconf prints is asked of it: the value and the type of the
+symbol, the value of each dependency, prompt and part of a condition, of each default, range and of each line that selects or implies,
+the user's value, and the mode and the members of a choice. Locations count: a line has to say it.
+"""
+
+import os
+import pathlib
+import random
+import re
+import subprocess
+import sys
+import tempfile
+import time
+
+COUNT = 200
+HEAD = re.compile(r"(\w+)(?:=(.*))? \((\w+)\): (.*)|(\w+): not defined, or without a type")
+FACT = re.compile(r" +(\S+):(\d+): (.*)")
+TARGET = re.compile(r"(not )?(selected|implied) by (\w+)=(\S*?)(?: if (.*))?: ([nmy])")
+
+
+class Wrong(Exception):
+    """A line that kconfiglib contradicts."""
+
+
+def wants(holds, what):
+    if not holds:
+        raise Wrong(what)
+
+
+class Facts:
+    """What kconfiglib says of a flat file and a configuration."""
+
+    def __init__(self, flat, config):
+        sys.path += [folder for folder in os.environ.get("PYTHONPATH", "").split(":") if folder not in sys.path]
+        import kconfiglib
+        self.library = kconfiglib
+        os.environ["CONFIG_"] = "CONFIG_"
+        # kconfiglib knows the older form of a `modules` line.
+        with tempfile.NamedTemporaryFile("w", suffix=".Kconfig") as copy:
+            copy.write(re.sub(r"(?m)^(\s+)modules$", r"\1option modules", flat.read_text(errors="surrogateescape")))
+            copy.flush()
+            self.tree = kconfiglib.Kconfig(copy.name, warn=False)
+        self.tree.load_config(str(config))
+        self.nodes = {node.linenr: node for node in self.tree.node_iter() if isinstance(node.item, (kconfiglib.Symbol, kconfiglib.Choice))}
+        self.starts = sorted(self.nodes)
+
+    def value(self, expression):
+        """The value of an expression, given as kconfiglib has it."""
+        return self.library.TRI_TO_STR[self.library.expr_value(expression)]
+
+    def text_value(self, text):
+        """The value of an expression, given as it is written."""
+        return self.library.TRI_TO_STR[self.tree.eval_string(text)]
+
+    def node_before(self, line):
+        """The entry that a line of the file belongs to."""
+        import bisect
+        return self.nodes[self.starts[bisect.bisect_right(self.starts, line) - 1]]
+
+
+class Explanation:
+    """The lines about one symbol."""
+
+    def __init__(self, facts, lines, config_lines):
+        self.facts, self.lines, self.config_lines = facts, lines, config_lines
+        self.symbol = None
+
+    def check(self):
+        """Asks kconfiglib for each line; how many there are."""
+        self._head(self.lines[0])
+        for line in self.lines[1:]:
+            try:
+                self._fact(line)
+            except Wrong as wrong:
+                raise Wrong(f"{self.lines[0]}\n  {line.strip()}\n  {wrong}") from wrong
+        return len(self.lines)
+
+    def _head(self, line):
+        found = HEAD.fullmatch(line)
+        wants(found, f"not read: {line}")
+        if found[5]:
+            symbol = self.facts.tree.syms.get(found[5])
+            wants(symbol is None or symbol.orig_type == self.facts.library.UNKNOWN, f"{line}: it has a type")
+            return
+        self.symbol = self.facts.tree.syms[found[1]]
+        wants(found[3] == self.facts.library.TYPE_TO_STR[self.symbol.orig_type], f"{line}: the type")
+        wants(self._is_value(self.symbol, found[2]), f"{line}: kconfiglib says {self.symbol.str_value}")
+        if found[4] == "user value":
+            wants(self.symbol.user_value is not None and self.symbol.visibility > 0, f"{line}: the user has no say")
+        if found[4] in ("choice of the user", "choice by default", "its choice is n"):
+            self._choice_source(found[4])
+
+    def _choice_source(self, source):
+        choice = self.symbol.choice
+        wants(choice is not None, "it is in no choice")
+        wants((source == "its choice is n") == (choice.tri_value == 0), "the mode of the choice")
+        if source == "choice of the user":
+            wants(choice.user_selection is not None and choice.selection is choice.user_selection, "the selection")
+
+    def _is_value(self, symbol, text):
+        if symbol.orig_type == self.facts.library.STRING:
+            text = re.sub(r"\\(.)", r"\1", text[1:-1])
+        return symbol.str_value == text
+
+    def _fact(self, line):
+        if re.fullmatch(r"  active range .*", line):
+            return self._active(line)
+        if found := re.fullmatch(r"  member (\w+)=([ny]): ([nmy])", line):
+            member = self.facts.tree.syms[found[1]]
+            wants(member.choice is self.symbol.choice and member.str_value == found[2], f"kconfiglib says {member.str_value}")
+            return wants(self.facts.library.TRI_TO_STR[member.visibility] == found[3], f"kconfiglib says {member.visibility}")
+        if found := re.fullmatch(r"  modules (\w+)=([nmy])", line):
+            return wants(self.facts.tree.modules.str_value == found[2] and found[1] == self.facts.tree.modules.name, "the modules symbol")
+        found = FACT.fullmatch(line)
+        wants(found, "not read")
+        if pathlib.Path(found[1]).suffix != ".Kconfig":
+            return self._input(int(found[2]), found[3])
+        return self._tree(int(found[2]), found[3], line.startswith("    "))
+
+    def _input(self, number, text):
+        """A line of the configuration."""
+        given = self.config_lines[number - 1]
+        name = self.symbol.name
+        wants(given in (f"# CONFIG_{name} is not set",) or given.startswith(f"CONFIG_{name}="), f"the line is {given}")
+        if text.startswith("user value "):
+            value = "n" if given.startswith("#") else given.partition("=")[2]
+            wants(text[11:] == value, f"the line is {given}")
+        else:
+            wants(text == "value not allowed", "not read")
+
+    def _active(self, line):
+        found = re.fullmatch(r"  active range (\S+) to (\S+)", line)
+        base = 16 if self.symbol.orig_type == self.facts.library.HEX else 10
+        for low, high, condition in self.symbol.ranges:
+            if self.facts.library.expr_value(condition):
+                bounds = [int(each.str_value or "0", base) for each in (low, high)]
+                return wants(bounds == [int(found[1], base), int(found[2], base)], f"kconfiglib says {bounds}")
+        raise Wrong("no range is active")
+
+    def _tree(self, number, text, is_part):
+        facts = self.facts
+        words, _, value = text.rpartition(": ")
+        if is_part:
+            if words == "choice":
+                choice = facts.nodes[number].item
+                return wants(facts.library.TRI_TO_STR[choice.tri_value] == value, f"kconfiglib says {choice.tri_value}")
+            found = re.fullmatch(r"(?:depends on|visible if|if) (.*)", words)
+            return wants(found and facts.text_value(found[1]) == value, f"kconfiglib says {facts.text_value(found[1])}")
+        if words == "dependencies":
+            node = facts.nodes[number]
+            wants(node.item is self.symbol, f"there is {node.item}")
+            return wants(facts.value(node.dep) == value, f"kconfiglib says {facts.value(node.dep)}")
+        node = facts.node_before(number)
+        if words == "prompt":
+            wants(node.item in (self.symbol, self.symbol.choice) and node.prompt, "there is no prompt")
+            return wants(facts.value(node.prompt[1]) == value, f"kconfiglib says {facts.value(node.prompt[1])}")
+        if words == "choice":
+            return wants(facts.library.TRI_TO_STR[node.item.tri_value] == value, f"kconfiglib says {node.item.tri_value}")
+        if found := TARGET.fullmatch(text):
+            return self._target(node, found)
+        if text.startswith("default "):
+            return self._default(node, text)
+        if found := re.fullmatch(r"range (\S+) (\S+)(?: if (.*))?: ([nmy])", text):
+            wants(node.item is self.symbol, f"there is {node.item}")
+            return wants(self._under(node, found[3]) == found[4], f"kconfiglib says {self._under(node, found[3])}")
+        raise Wrong("not read")
+
+    def _under(self, node, condition):
+        """The value of an entry's dependency and a line's own condition."""
+        own = 2 if condition is None else self.facts.tree.eval_string(condition)
+        return self.facts.library.TRI_TO_STR[min(self.facts.library.expr_value(node.dep), own)]
+
+    def _target(self, node, found):
+        target = self.facts.tree.syms[found[3]]
+        wants(node.item is target, f"there is {node.item.name}")
+        wants(self._is_value(target, found[4]), f"kconfiglib says {target.str_value}")
+        pairs = target.selects if found[2] == "selected" else target.implies
+        wants(any(pair[0] is self.symbol for pair in pairs), "there is no such line")
+        under = self.facts.library.STR_TO_TRI[self._under(node, found[5])]
+        value = self.facts.library.TRI_TO_STR[min(target.tri_value, under)]
+        wants(found[6] == value and (found[1] is not None) == (value == "n"), f"kconfiglib says {value}")
+
+    def _default(self, node, text):
+        wants(node.item in (self.symbol, self.symbol.choice), f"there is {node.item}")
+        found = re.fullmatch(r"default (.*?)(?: if ([^\"]*))?: ([nmy])(?:, value (.*))?", text)
+        wants(found, "not read")
+        wants(self._under(node, found[2]) == found[3], f"kconfiglib says {self._under(node, found[2])}")
+        if found[4] is not None:
+            wants(found[3] != "n", "it does not apply")
+            if self.symbol.orig_type in (self.facts.library.BOOL, self.facts.library.TRISTATE):
+                wants(self.facts.text_value(found[1]) == found[4], f"kconfiglib says {self.facts.text_value(found[1])}")
+
+
+def explanations(text):
+    """The lines about each symbol: those of a symbol that holds another one down lose two spaces."""
+    made, is_inside = [], False
+    for line in text.splitlines():
+        is_head = re.fullmatch(r"(?:  )?(?:\w+=.* \((?:bool|tristate|string|int|hex)\): .*|\w+: not defined, or without a type)", line)
+        if is_head:
+            is_inside = line.startswith("  ")
+            made.append([])
+        made[-1].append(line[2:] if is_inside else line)
+    return made
+
+
+def check(kconf, flat, config, seed, depth=0):
+    """Explains random symbols and checks each line; the numbers of symbols and lines, and what is wrong."""
+    facts = Facts(flat, config)
+    names = [symbol.name for symbol in facts.tree.unique_defined_syms]
+    picked = random.Random(seed).sample(names, COUNT)
+    words = [str(kconf), "--root", str(flat.parent), "--config", str(config), "--explain-depth", str(depth)]
+    for name in picked:
+        words += ["--explain", name]
+    ran = subprocess.run([*words, flat.name], stdin=subprocess.DEVNULL, capture_output=True, text=True, check=True)
+    config_lines = config.read_text().splitlines()
+    wrong, count, all_made = [], 0, explanations(ran.stdout)
+    for lines in all_made:
+        try:
+            count += Explanation(facts, lines, config_lines).check()
+        except (Wrong, KeyError, IndexError) as fault:
+            wrong.append(f"{lines[0]}: {fault!r}" if not isinstance(fault, Wrong) else str(fault))
+    return len(all_made), count, wrong
+
+
+def seconds(command):
+    """The least time of five runs."""
+    times = []
+    for _ in range(5):
+        began = time.monotonic()
+        subprocess.run(command, stdin=subprocess.DEVNULL, capture_output=True, check=True)
+        times.append(time.monotonic() - began)
+    return min(times)
+
+
+def all_of(kconf, flat, config, seed):
+    """Checks one tree with one configuration, prints what came, and tells whether nothing is wrong."""
+    symbols, lines, wrong = check(kconf, flat, config, seed)
+    more, more_lines, more_wrong = check(kconf, flat, config, seed + 1, 3)
+    plain = [str(kconf), "--root", str(flat.parent), "--config", str(config), "--out", "/dev/null", flat.name]
+    once = seconds(plain)
+    one = seconds([*plain, "--explain", "MODULES"])
+    print(f"  explanations, {config.name}: {symbols + more} symbols, {lines + more_lines} lines, {len(wrong + more_wrong)} wrong; "
+          f"{once * 1000:.0f} ms a plain run, {one * 1000:.0f} ms one explanation")
+    for text in (wrong + more_wrong)[:20]:
+        print(f"    {text}")
+    return not wrong and not more_wrong
+
+
+def story(tree, kconf, companion, config, work):
+    """Runs the last command of docs/why.md in the tree, and tells whether it prints what the page says."""
+    page = (pathlib.Path(__file__).resolve().parents[2] / "docs/why.md").read_text()
+    told = page.rpartition("--explain HYPERV_NET Kconfig\n")[2].partition("```")[0]
+    copy = tree.folder / "config.amd64_none_amd64"
+    copy.write_bytes(config.read_bytes())
+    settings = {**os.environ, **tree.settings, "KCONF": str(kconf), "XDG_CACHE_HOME": str(work / "cache")}
+    ran = subprocess.run([companion, "--config", copy.name, "--explain", "HYPERV_NET", "Kconfig"], cwd=tree.folder, stdin=subprocess.DEVNULL,
+                         capture_output=True, text=True, env=settings, check=False)
+    copy.unlink()
+    print("  docs/why.md: " + ("as it says" if ran.stdout == told and ran.returncode == 0 else f"differs, status {ran.returncode}\n{ran.stdout}"))
+    return ran.stdout == told and ran.returncode == 0
+
+
+if __name__ == "__main__":
+    if len(sys.argv) != 4:
+        sys.exit("usage: explain.py KCONF FLAT CONFIG")
+    sys.exit(not all_of(pathlib.Path(sys.argv[1]).resolve(), pathlib.Path(sys.argv[2]).resolve(), pathlib.Path(sys.argv[3]).resolve(), 1))
