@@ -6,7 +6,7 @@ use Rattle.kc_language.specs.declared.expressions.SymId.{SymId}
 use Rattle.std.proofs.lemmas.List.FromFn.{get_or-map-range_with_len, length-map-range_with_len}
 use Rattle.kc_language.specs.Expressions.{SymbolValue, TextValue}
 use Rattle.kc_language.specs.declared.expressions.SymbolType.TheVariants.{Undefined}
-use Rattle.kc_language.specs.Expansion.{AreOpened, Expands, Log, Refused, Files, numbered_lines}
+use Rattle.kc_language.specs.Expansion.{AreOpened, Log, Refused, Files, numbered_lines}
 use Rattle.kc_read.specs.OpenedFiles.{OpenedAreOneList}
 use Rattle.kc_read.specs.Existing.{HasOneExpansion}
 use Rattle.kc_language.specs.Symbols.{TreeFacts, IsTreeOf}

@@ -1,5 +1,5 @@
 -- What a run leaves behind the tree's warnings, by how its input files were read.
-use Rattle.std.proofs.Common.{◌≡◌, ℕ, Bool, true, false, List, [], ◌++◌, map, refl, sym, ap, subst, ◌∙◌, append_assoc, append-nil, Option, None, Some, Result, Err}
+use Rattle.std.proofs.Common.{◌≡◌, ℕ, Bool, true, false, List, [], ◌++◌, refl, sym, ap, subst, ◌∙◌, append_assoc, append-nil, Option, None, Some, Result, Err}
 use Rattle.std.specs.Prelude.{◌||◌, if◌then◌else◌, Ok}
 use Rattle.kc_language.specs.Expansion.{AreOpened, Expands, Files, Log as TreeLog, numbered_lines}
 use Rattle.kc_language.specs.Statements.{Located, Numbered}
@@ -9,7 +9,7 @@ use Rattle.kc_io.specs.Delivery.{NamedText}
 use Rattle.kc_io.proofs.LogLemmas.{leads_nothing}
 use Rattle.kc_language.specs.ConfigFile.{ReadResult, StreamLocation, UserInput, lines_of, reading}
 use Rattle.kc_language.specs.Text.{BeginsWith}
-use Rattle.kc_language.specs.Outcome.{Options, lead, names_of, IsAcceptedTree, IsOutcomeOfReading, Outcome, has_text, lines_text, names_listed, reported, read_of, refused, root_file, streams}
+use Rattle.kc_language.specs.Outcome.{Options, names_of, IsAcceptedTree, IsOutcomeOfReading, Outcome, has_text, lines_text, names_listed, reported, read_of, refused, root_file, streams}
 use Rattle.kc_options.specs.PartsOfOutcome.{holds_warnings}
 use Rattle.kc_conf.specs.PartsOfOutcome.{too_long_line}
 use Rattle.kc_language.specs.Outcome.{fresh_input}

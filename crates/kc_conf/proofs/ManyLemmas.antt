@@ -2,7 +2,7 @@
 use Rattle.std.proofs.Common.{◌≡◌, inl, inr, ℕ, suc, ◌+◌, ◌-◌, ◌<◌, ◌≤◌, Bool, true, false, not, List, [], ◌++◌, refl, sym, ap, subst, ◌∙◌, None, Some, Result, Ok, Err, arith}
 use Rattle.std.specs.Prelude.{◌||◌}
 use Rattle.std.proofs.lemmas.List.{append_cancel_left}
-use Rattle.kc_language.specs.Expansion.{AreOpened, Expands, Files, Log as TreeLog, numbered_lines}
+use Rattle.kc_language.specs.Expansion.{AreOpened, Expands, Files, numbered_lines}
 use Rattle.kc_language.specs.Symbols.{TreeFacts}
 use Rattle.kc_io.specs.Log.{Log, Leads, failed, reported as io_reported, said}
 use Rattle.kc_io.specs.Delivery.{NamedText}
@@ -10,7 +10,7 @@ use Rattle.kc_io.specs.declared.device.Action.{Action}
 use Rattle.kc_io.specs.declared.device.Action.TheVariants.{Report}
 use Rattle.kc_io.proofs.LogLemmas.{leads_both, leads_nothing}
 use Rattle.kc_conf.specs.Accepted.{IsAcceptedOf, IsOrderedOf}
-use Rattle.kc_language.specs.Outcome.{Options, lead, IsAcceptedTree, IsLenientOutcome, IsOutcome, Outcome, accepted_tree, has_text, lines_text, reported, refused, refused_name, refused_tree, root_file, strictly, unknown_name, unknown_symbol, unreadable_name, with_rule}
+use Rattle.kc_language.specs.Outcome.{Options, lead, IsAcceptedTree, IsLenientOutcome, IsOutcome, Outcome, accepted_tree, has_text, lines_text, reported, refused, refused_name, refused_tree, root_file, strictly, unknown_name, unknown_symbol, with_rule}
 use Rattle.kc_conf.specs.PartsOfOutcome.{name_refusal}
 use Rattle.std.specs.Option.{option_or}
 use Rattle.kc_conf.specs.LawSteps.{OneAnswer, OneOutcome}

@@ -1,6 +1,6 @@
 -- What was read and told of a stream up to a place of it.
 use Rattle.std.proofs.Common.{◌≡◌, inl, inr, ℕ, zero, suc, ◌<◌, ◌≤◌, Bool, true, false, List, [], ◌∷◌, ◌++◌, length, codes, refl, sym, ap, subst, ◌∙◌, append_assoc, append-nil, length-append, arith, cond, Option, Some, None}
-use Rattle.std.specs.Prelude.{◌==◌, filter, find, not, decimal, slice_index_or, take, if◌then◌else◌, option_map}
+use Rattle.std.specs.Prelude.{◌==◌, filter, find, not, slice_index_or, take, if◌then◌else◌, option_map}
 use Rattle.std.specs.List.{All, enumerate_from, flat_map, onto_first, slice_split}
 use Rattle.std.proofs.lemmas.Bool.{cases_Bool, le-leb, lt-leb}
 use Rattle.std.proofs.lemmas.Grind.{flat_map-append}

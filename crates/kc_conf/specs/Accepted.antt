@@ -1,6 +1,6 @@
 -- For proofs: A tree that was read, and one that was accepted.
 use Rattle.std.specs.Borrow.{Bor}
-use Rattle.std.specs.Prelude.{◌≡◌, ◌≢◌, ℕ, Bool, false, List, Option, None, Some, option_map, Result, Ok, Err, IfOk, IfErr}
+use Rattle.std.specs.Prelude.{◌≡◌, ◌≢◌, ℕ, Bool, false, List, Option, None, Some, Result, Ok, Err, IfOk, IfErr}
 use Rattle.kc_language.specs.Statements.{Located, Numbered}
 use Rattle.kc_language.specs.Symbols.{IsTreeOf}
 use Rattle.kc_language.specs.Expansion.{AreOpened, Expands, Files, Log, bytes_in, numbered_lines}

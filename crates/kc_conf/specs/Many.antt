@@ -3,7 +3,7 @@
 use Rattle.std.specs.{List.list_any, Prelude.{◌≡◌, ◌≢◌, ◌⊎◌, ℕ, suc, ◌<◌, Bool, true, false, not, ◌||◌, List, [], ◌∷◌, ◌++◌, Option, None, Some, String, string_bytes, bytes_eq, is_ok}, declared.alloc.Global.Global}
 use Rattle.kc_language.specs.{Expansion.{AreOpened, Files, Refused}, Symbols.TreeFacts, Outcome.{IsAcceptedTree, IsOutcome, IsRefusedTree, Options, Outcome, input_files, lines_text, out_of_memory_line, refusal_line, reported, root_file}, declared.outcome.{Delivery.Delivery, Status.Status}}
 use Rattle.kc_io.specs.{Delivery.{last_of, stale_texts, status_with, texts_of}, Inputs.{AreInputs, InputFile, bytes_of, still_told}, Log.{Journal, Leads, Log, Tells, TriesToSay, failed, held}, declared.device.{Action.Action, Fault.Fault}}
-use Rattle.kc_options.specs.PartsOfOutcome.wants_sources
+use Rattle.kc_options.specs.PartsOfOutcome.{wants_sources}
 use Rattle.kc_conf.specs.{Faults.{Broken, Completes, IsRefusedName, refused_name_of}, declared.stop.Stop.Stop}
 
 -- The sources of the tree are kept if the options of any configuration want them.
