@@ -4,9 +4,8 @@ use Rattle.std.specs.Prelude.{◌&&◌, ◌||◌, is_some}
 use Rattle.std.specs.declared.alloc.Global.{Global}
 use Rattle.kc_conf.specs.Many.{KeepsFor}
 use Rattle.kc_disk.specs.Program.{GivesOptions}
-use Rattle.kc_language.specs.Outcome.{Options}
 use Rattle.kc_options.specs.PartsOfOutcome.{wants_sources}
-use Rattle.kc_words.specs.CommandLine.{AreOptionsFor, filled}
+use Rattle.kc_words.specs.CommandLine.{filled}
 use Rattle.kc_words.specs.declared.each.Each.{Each}
 
 -- a file is there where its pattern is
