@@ -281,6 +281,41 @@ def sourced_tabs(count):
     return sourced(count, "\t" * count + "x")
 
 
+def lost_symbols(count):
+    """So many symbols that depend on one that is n, each with a line in the .config; so each is lost."""
+    tree = config("OFF", 'bool "o"') + "".join(config(f"S_{i}", 'bool "s"', "depends on OFF") for i in range(count))
+    return tree, "".join(f"CONFIG_S_{i}=y\n" for i in range(count))
+
+
+def lost_members(count):
+    """So many choices of one member that depend on one that is n, each with a line in the .config."""
+    lines = '\tprompt "c"\n\tdepends on OFF\n\n'
+    tree = config("OFF", 'bool "o"') + "".join("choice\n" + lines + config(f"M_{i}", 'bool "m"') + "endchoice\n" for i in range(count))
+    return tree, "".join(f"CONFIG_M_{i}=y\n" for i in range(count))
+
+
+def a_chain_of_dependencies(count):
+    """So many symbols, each of which depends on the next one; the first is explained in as many steps."""
+    return "".join(config(f"S_{i}", 'bool "s"', f"depends on S_{i + 1}") for i in range(count)) + config(f"S_{count}", 'bool "s"')
+
+
+def defaults_that_do_not_apply(count):
+    """One entry with so many dependencies, and as many defaults that do not apply; it is explained."""
+    names, depends = dependencies(count)
+    return config("OFF", "bool") + names + config("A", "bool", *depends, *["default y if OFF" for _ in range(count)])
+
+
+def selects_that_do_not_count(count):
+    """A menu with so many dependencies round as many symbols that are n and select one symbol, which is explained."""
+    names, depends = dependencies(count)
+    return names + config("A", "bool") + menu_with(depends, "".join(config(f"S_{i}", 'bool "s"', "select A") for i in range(count)))
+
+
+def definitions_with_help(count):
+    """So many definitions of one symbol, each with a help text, which is new."""
+    return config("A", 'bool "a"', "help", "  text") * count
+
+
 # Each shape with its least size. A tree has at most 65,535 symbols and 1,000,000 lines.
 SHAPES = [
     (loop_beside_a_chain, 16000),
@@ -316,10 +351,24 @@ SHAPES = [
     (undefined_names, 5000),
     (sourced_help, 16000),
     (sourced_tabs, 16000),
+    (lost_symbols, 8000),
+    (lost_members, 8000),
+    (a_chain_of_dependencies, 8000),
+    (defaults_that_do_not_apply, 8000),
+    (selects_that_do_not_count, 8000),
+    (definitions_with_help, 16000),
 ]
-# Those that are refused, for their loop; and those of which the new symbols are listed.
+# Those that are refused, for their loop; and those whose run has more options.
 REFUSED = {loop_beside_a_chain, loop_beside_wide_conditions}
-LISTED = {hidden_members}
+MORE_OPTIONS = {
+    hidden_members: ["--list-new", "new"],
+    lost_symbols: ["--warn-lost", "--explain-lost"],
+    lost_members: ["--warn-lost", "--explain-lost"],
+    a_chain_of_dependencies: ["--explain", "S_0", "--explain-depth", "65535"],
+    defaults_that_do_not_apply: ["--explain", "A"],
+    selects_that_do_not_count: ["--explain", "A"],
+    definitions_with_help: ["--list-new", "new", "--with-help"],
+}
 
 
 def write(shape, count, folder):
@@ -368,7 +417,7 @@ def grown(rows):
 
 def measured(program, shape, least, times):
     """A shape's three sizes, each with its time and its memory, by so many rounds of runs until nothing has grown too much."""
-    options = ["--list-new", "new"] if shape in LISTED else []
+    options = MORE_OPTIONS.get(shape, [])
     rows = [(least, 9e9, 0), (2 * least, 9e9, 0), (4 * least, 9e9, 0)]
     with tempfile.TemporaryDirectory() as folder:
         for count, _, _ in rows:

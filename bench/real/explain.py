@@ -110,7 +110,8 @@ class Explanation:
         if found := re.fullmatch(r"  member (\w+)=([ny]): ([nmy])", line):
             member = self.facts.tree.syms[found[1]]
             wants(member.choice is self.symbol.choice and member.str_value == found[2], f"kconfiglib says {member.str_value}")
-            return wants(self.facts.library.TRI_TO_STR[member.visibility] == found[3], f"kconfiglib says {member.visibility}")
+            prompts = max((self.facts.library.expr_value(node.prompt[1]) for node in member.nodes if node.prompt), default=0)
+            return wants(self.facts.library.TRI_TO_STR[prompts] == found[3], f"kconfiglib says {prompts}")
         if found := re.fullmatch(r"  modules (\w+)=([nmy])", line):
             return wants(self.facts.tree.modules.str_value == found[2] and found[1] == self.facts.tree.modules.name, "the modules symbol")
         found = FACT.fullmatch(line)
@@ -205,15 +206,16 @@ def explanations(text):
     return made
 
 
-def check(kconf, flat, config, seed, depth=0):
-    """Explains random symbols and checks each line; the numbers of symbols and lines, and what is wrong."""
-    facts = Facts(flat, config)
+def asked(facts, seed):
+    """The options that ask for random symbols."""
     names = [symbol.name for symbol in facts.tree.unique_defined_syms]
-    picked = random.Random(seed).sample(names, COUNT)
-    words = [str(kconf), "--root", str(flat.parent), "--config", str(config), "--explain-depth", str(depth)]
-    for name in picked:
-        words += ["--explain", name]
-    ran = subprocess.run([*words, flat.name], stdin=subprocess.DEVNULL, capture_output=True, text=True, check=True)
+    return [word for name in random.Random(seed).sample(names, COUNT) for word in ("--explain", name)]
+
+
+def check(kconf, flat, config, facts, words):
+    """Explains the symbols that the options ask for and checks each line; the numbers of symbols and lines, and what is wrong."""
+    ran = subprocess.run([str(kconf), "--root", str(flat.parent), "--config", str(config), *words, flat.name], stdin=subprocess.DEVNULL,
+                         capture_output=True, text=True, check=True)
     config_lines = config.read_text().splitlines()
     wrong, count, all_made = [], 0, explanations(ran.stdout)
     for lines in all_made:
@@ -236,13 +238,14 @@ def seconds(command):
 
 def all_of(kconf, flat, config, seed):
     """Checks one tree with one configuration, prints what came, and tells whether nothing is wrong."""
-    symbols, lines, wrong = check(kconf, flat, config, seed)
-    more, more_lines, more_wrong = check(kconf, flat, config, seed + 1, 3)
-    plain = [str(kconf), "--root", str(flat.parent), "--config", str(config), "--out", "/dev/null", flat.name]
-    once = seconds(plain)
-    one = seconds([*plain, "--explain", "MODULES"])
-    print(f"  explanations, {config.name}: {symbols + more} symbols, {lines + more_lines} lines, {len(wrong + more_wrong)} wrong; "
-          f"{once * 1000:.0f} ms a plain run, {one * 1000:.0f} ms one explanation")
+    facts = Facts(flat, config)
+    symbols, lines, wrong = check(kconf, flat, config, facts, [*asked(facts, seed), "--explain-depth", "0"])
+    more, more_lines, more_wrong = check(kconf, flat, config, facts, asked(facts, seed + 1))
+    with tempfile.TemporaryDirectory() as folder:
+        plain = [str(kconf), "--root", str(flat.parent), "--config", str(config), "--out", f"{folder}/.config", flat.name]
+        times = [seconds(plain), seconds([*plain, "--explain", "MODULES"]), seconds([*plain, *asked(facts, seed)])]
+    print(f"  explanations, {config.name}: {symbols + more} symbols, {lines + more_lines} lines, {len(wrong + more_wrong)} wrong; a plain run "
+          f"{times[0] * 1000:.0f} ms, one explanation {times[1] * 1000:.0f} ms, {COUNT} explanations {times[2] * 1000:.0f} ms")
     for text in (wrong + more_wrong)[:20]:
         print(f"    {text}")
     return not wrong and not more_wrong

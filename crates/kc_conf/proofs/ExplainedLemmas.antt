@@ -1,5 +1,5 @@
 -- Explanations are whole lines, and so is what is told of lost values.
-use Rattle.std.proofs.Common.{◌≡◌, ℕ, Bool, true, false, List, [], ◌∷◌, ◌++◌, codes, refl, sym, subst, append-nil, OnOk, Result, Ok, Err}
+use Rattle.std.proofs.Common.{ℕ, Bool, true, false, List, [], ◌∷◌, ◌++◌, codes, refl, sym, append-nil}
 use Rattle.std.specs.List.{flat_map}
 use Rattle.std.specs.Prelude.{◌&&◌, drop, if◌then◌else◌}
 use Rattle.kc_language.specs.ConfigFile.{UserInput}
@@ -40,8 +40,3 @@ module _ (lines : List (Located Numbered)) (input : UserInput) (solution : Solut
 
 pub AreLines-lost : (options : Options) (lines : List (Located Numbered)) (input : UserInput) (solution : Solution) → AreLines (lost_text options lines input solution)
 AreLines-lost options lines input solution = lost_by lines input solution (options.explain_lost && options.warn_lost) (lost_warnings options input solution)
-
--- where whole lines were added to whole lines, these are whole lines
-pub added-lines : {A E : Type 0} → (result : Result A E) (old new more : List ℕ) → OnOk result (new ≡ old ++ more) → AreLines more → AreLines old → OnOk result (AreLines new)
-added-lines (Ok x) old new more e whole lines = subst AreLines (sym e) (AreLines-append old more lines whole)
-added-lines (Err x) old new more e whole lines = tt

@@ -72,9 +72,6 @@ attributes_past ss at all whole h w =
 pub none_past : (ss : List Numbered) (i : ℕ) → length ss ≤ i → [] ≡ enumerate_from (suc i) (attributes ss i)
 none_past ss i h = rw (drop_past ss (suc i) (omega arith)) refl
 
-pub of_entry : (ss : List Numbered) (i : ℕ) → from_line ss (i + 1) ≡ enumerate_from (suc i) (attributes ss i)
-of_entry ss i = let z : i + 1 ≡ suc i = omega arith in rw z refl
-
 -- the statement of a line that was read by its number
 pub line_is : (ls : List Line) (i : ℕ) (d : Line) → i < length ls → slice_get (statements (map line_view ls)) i ≡ Some (said_by (get_or ls i d).statement)
 line_is ls i d h =

@@ -1,5 +1,5 @@
 -- New symbols with their definitions.
-use Rattle.std.proofs.Common.{◌≡◌, ◌∙◌, ◌++◌, ◌-◌, List, None, Option, Some, ℕ, [], true, false, ap, drop, refl, sym, append_assoc, append-nil}
+use Rattle.std.proofs.Common.{◌≡◌, ◌∙◌, ◌++◌, ◌-◌, List, None, Option, Some, ℕ, true, false, ap, drop, refl, sym, append_assoc, append-nil}
 use Rattle.std.proofs.Math.Seq.{drop-nil}
 use Rattle.std.specs.Prelude.{codes, flat_map}
 use Rattle.kc_language.specs.Expansion.{Files}

@@ -1,5 +1,6 @@
 pub mod AttributeLemmas
 pub mod BlockLemmas
+pub mod ChoiceNumbers
 pub mod ExcerptLemmas
 pub mod HoldingLemmas
 pub mod LineIndexLemmas

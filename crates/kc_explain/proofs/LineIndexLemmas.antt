@@ -179,7 +179,7 @@ pub around_none : (ss : List Numbered) (i : ℕ) → innermost_at ss i ≡ None 
 around_none ss i e = nil_open (enclosing ss i) e
 
 -- The innermost block by its list.
-length-numbers : (n : ℕ) → length (numbers n) ≡ n
+pub length-numbers : (n : ℕ) → length (numbers n) ≡ n
 length-numbers zero = refl
 length-numbers (suc n) = omega (arith, length-append (numbers n) (n ∷ []), length-numbers n)
 

@@ -1,8 +1,8 @@
 -- Names that differ by one letter, symbol by symbol.
-use Rattle.std.proofs.Common.{◌≡◌, ℕ, ◌+◌, ◌≤◌, List, [], ◌∷◌, ◌++◌, Bool, true, false, length, map, drop, refl, sym, ap, ◌∙◌, Some, append_assoc, append-nil}
+use Rattle.std.proofs.Common.{◌≡◌, ℕ, ◌+◌, List, [], ◌∷◌, ◌++◌, Bool, true, false, map, drop, refl, sym, ap, ◌∙◌, Some, append_assoc, append-nil}
 use Rattle.std.specs.Prelude.{codes, slice_get, filter}
 use Rattle.std.specs.List.{flat_map}
-use Rattle.std.proofs.lemmas.List.{drop_more, drop_all}
+use Rattle.std.proofs.lemmas.List.{drop_more}
 use Rattle.std.proofs.lemmas.Option.{get_or_from_slice_get, slice_get_within}
 use Rattle.kc_language.specs.declared.expressions.SymId.{SymId}
 use Rattle.kc_language.specs.Explanations.{differs_by_one}
@@ -55,7 +55,3 @@ module _ (tree : TreeFacts) (asked : List ℕ) where
   near_next text i s called at found =
       let within = slice_get_within tree.defined i s at in
       rw (drop_more tree.defined i s within, get_or_from_slice_get tree.defined i s s at, get_or_from_slice_get tree.names s.0 called [] found) refl
-
-  -- no symbol more
-  pub near_ends : (text : List ℕ) (i : ℕ) → length tree.defined ≤ i → with_each asked text (map (name tree) (drop i tree.defined)) ≡ text
-  near_ends text i all = rw (drop_all i tree.defined all) refl

@@ -1,10 +1,9 @@
 -- Parts of conditions and lines that say something, one after the other.
-use Rattle.std.proofs.Common.{◌≡◌, ℕ, zero, suc, ◌+◌, ◌<◌, ◌≤◌, Bool, true, false, not, List, [], ◌∷◌, ◌++◌, length, drop, take, filter, map, Option, Some, None, refl, ap, sym, ◌∙◌, arith, add-one, get_or, append_assoc}
+use Rattle.std.proofs.Common.{◌≡◌, ℕ, zero, suc, ◌+◌, ◌<◌, ◌≤◌, Bool, true, false, List, [], ◌∷◌, ◌++◌, length, drop, filter, map, Option, Some, None, refl, ap, sym, ◌∙◌, arith, add-one, get_or, append_assoc}
 use Rattle.std.specs.Prelude.{if◌then◌else◌, option_map}
 use Rattle.std.specs.Option.{option_or}
 use Rattle.std.specs.List.{slice_get, filter_map, flat_map, cons_option, enumerate_from, last_or}
 use Rattle.std.proofs.lemmas.List.{map-append, append-nil, get_or_default}
-use Rattle.std.proofs.lemmas.List.Concat.{flat_map-append}
 use Rattle.std.proofs.lemmas.Option.{slice_get-get_or}
 use Rattle.kc_expr.proofs.FormLemmas.{lesser-assoc}
 use Rattle.kc_language.specs.Expansion.{attributes, enclosing, last_of}
@@ -12,13 +11,13 @@ use Rattle.kc_language.specs.Expressions.{Form, least, lesser}
 use Rattle.kc_language.specs.declared.expressions.Tri.{Tri}
 use Rattle.kc_language.specs.declared.expressions.Tri.TheVariants.{N, M, Y}
 use Rattle.kc_language.specs.Explanations as rules
-use Rattle.kc_language.specs.Statements.{IfLine, MenuLine, Numbered, statements, Located}
+use Rattle.kc_language.specs.Statements.{Numbered}
 use Rattle.kc_language.specs.Symbols.{listed, of_block}
 use Rattle.kc_language.specs.declared.statements.Block.{Block}
 use Rattle.kc_explain.specs.declared.lines.AttributeAt.{AttributeAt}
 use Rattle.kc_explain.specs.declared.parts.OwnCondition.{OwnCondition}
 use Rattle.kc_explain.specs.LineViews.{attribute_at_view}
-use Rattle.kc_explain.specs.PartsOfExplanations.{block_parts, head_parts, own_parts, read_by, said_one, visible_parts}
+use Rattle.kc_explain.specs.PartsOfExplanations.{own_parts, read_by, said_one, visible_parts}
 
 -- ---- A walk that adds what each element gives
 drop-get : {X : Type 0} (xs : List X) (i : ℕ) (x : X) → slice_get xs i ≡ Some x → drop i xs ≡ x ∷ drop (suc i) xs
@@ -126,19 +125,6 @@ module _ {X : Type 0} (p : X → Bool) where
   abbrev pub LastPasses : List X → ℕ → Option X → Type 0
   LastPasses xs i o = last_or o (filter p (drop i xs)) ≡ last_of (filter p xs)
 
-  passes : (b : Bool) (x : X) (ys : List X) (now : Option X) → last_or now (if b then x ∷ ys else ys) ≡ last_or (if b then Some x else now) ys
-  passes true x ys now = refl
-  passes false x ys now = refl
-
-  pub passes_next : (b : Bool) (xs : List X) (i : ℕ) (x : X) (now : Option X) → LastPasses xs i now → i < length xs → x ≡ get_or xs i x → b ≡ p x → LastPasses xs (i + 1) (if b then Some x else now)
-  passes_next b xs i x now h l at e =
-      let d : drop i xs ≡ x ∷ drop (i + 1) xs = drop_at xs i x l at in
-      ap (λ c. last_or (if c then Some x else now) (filter p (drop (i + 1) xs))) e
-      ∙ sym (passes (p x) x (filter p (drop (i + 1) xs)) now) ∙ (rw d at h)
-
-  pub passes_end : (xs : List X) (i : ℕ) (now : Option X) → LastPasses xs i now → length xs ≤ i → now ≡ last_of (filter p xs)
-  passes_end xs i now h b = let d : drop i xs ≡ [] = drop_past xs i b in (rw d at h)
-
 -- ---- Menus
 kept_parts : {X A : Type 0} (g : X → List A) (b : Bool) (x : X) (ys : List X) → (if b then g x else []) ++ flat_map g ys ≡ flat_map g (if b then x ∷ ys else ys)
 kept_parts g true x ys = refl
@@ -162,6 +148,11 @@ shown_is ss entry at none seen all around o w n s r a e =
 pub map-twice : {A B C : Type 0} (h : B → C) (v : A → B) (xs : List A) → map (λ x. h (v x)) xs ≡ map h (map v xs)
 map-twice h v [] = refl
 map-twice h v (x ∷ xs) = ap (λ r. h (v x) ∷ r) (map-twice h v xs)
+
+pub lesser_n : (t : Tri) → lesser t N ≡ N
+lesser_n N = refl
+lesser_n M = refl
+lesser_n Y = refl
 
 pub lesser_y : (t : Tri) → lesser t Y ≡ t
 lesser_y N = refl
@@ -195,29 +186,3 @@ least_of_both f first made own a b all m p q r =
 module _ {X Z : Type 0} (p : Z → Bool) (v : X → Z) where
   abbrev pub ThroughIs : List X → ℕ → List X → Type 0
   ThroughIs xs i met = map v met ++ rules.through p (map v (drop i xs)) ≡ rules.through p (map v xs)
-
-  through_true : (b : Bool) (z : Z) (zs : List Z) → b ≡ true → (if b then z ∷ [] else z ∷ zs) ≡ z ∷ []
-  through_true true z zs h = refl
-  through_true false z zs h = cc
-
-  through_false : (b : Bool) (z : Z) (zs : List Z) → b ≡ false → (if b then z ∷ [] else z ∷ zs) ≡ z ∷ zs
-  through_false true z zs h = cc
-  through_false false z zs h = refl
-
-  pub through_met : (xs : List X) (i : ℕ) (x : X) (met new : List X) (b : Bool) → ThroughIs xs i met → i < length xs → x ≡ get_or xs i x → new ≡ met ++ x ∷ [] →
-      b ≡ p (v x) → b ≡ true → map v new ≡ rules.through p (map v xs)
-  through_met xs i x met new b h l at n e t =
-      let d : drop i xs ≡ x ∷ drop (i + 1) xs = drop_at xs i x l at in
-      ap (map v) n ∙ map-append v met (x ∷ []) ∙ ap (λ r. map v met ++ r) (sym (through_true (p (v x)) (v x) (rules.through p (map v (drop (i + 1) xs))) (sym e ∙ t)))
-      ∙ (rw d at h)
-
-  pub through_more : (xs : List X) (i : ℕ) (x : X) (met new : List X) (b : Bool) → ThroughIs xs i met → i < length xs → x ≡ get_or xs i x → new ≡ met ++ x ∷ [] →
-      b ≡ p (v x) → b ≡ false → ThroughIs xs (i + 1) new
-  through_more xs i x met new b h l at n e t =
-      let d : drop i xs ≡ x ∷ drop (i + 1) xs = drop_at xs i x l at in
-      let rest = rules.through p (map v (drop (i + 1) xs)) in
-      ap (λ r. r ++ rest) (ap (map v) n ∙ map-append v met (x ∷ [])) ∙ append_assoc (map v met) (v x ∷ []) rest
-      ∙ ap (λ r. map v met ++ r) (sym (through_false (p (v x)) (v x) rest (sym e ∙ t))) ∙ (rw d at h)
-
-  pub through_end : (xs : List X) (i : ℕ) (met : List X) → ThroughIs xs i met → length xs ≤ i → map v met ≡ rules.through p (map v xs)
-  through_end xs i met h b = let d : drop i xs ≡ [] = drop_past xs i b in sym (append-nil (map v met)) ∙ (rw d at h)

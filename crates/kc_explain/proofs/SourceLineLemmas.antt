@@ -1,5 +1,5 @@
 -- Lines of a file, and which of them belong to a definition.
-use Rattle.std.proofs.Common.{◌≡◌, ℕ, Bool, cond, Option, Some, subst, ◌+◌, ◌-◌, ◌<◌, ◌≤◌, List, [], ◌∷◌, ◌++◌, true, false, length, take, drop, map, get_or, refl, ap, sym, ◌∙◌, arith, append_assoc, append-nil}
+use Rattle.std.proofs.Common.{◌≡◌, ℕ, Bool, cond, Option, Some, subst, ◌+◌, ◌-◌, ◌<◌, ◌≤◌, List, [], ◌∷◌, ◌++◌, true, false, length, take, drop, map, get_or, refl, ap, sym, ◌∙◌, arith, append_assoc}
 use Rattle.std.specs.Prelude.{IfSome}
 use Rattle.std.specs.Map.{lookup}
 use Rattle.std.proofs.lemmas.Map.Entries.{All-lookup}
@@ -64,13 +64,6 @@ module _ {X : Type 0} (now : X → List ℕ) where
       let e : take_while begins_blank lines ≡ now line ∷ take_while begins_blank more =
       ap (take_while begins_blank) is ∙ take_while-cons begins_blank (now line) more ∙ rw blank refl in
       rw map-append (append_assoc (map now all) (now line ∷ []) (take_while begins_blank more) ∙ ap (λ xs. map now all ++ xs) (sym e) ∙ before)
-
-  -- no line more does
-  pub own_ends : (all : List X) (line : X) (lines more whole : List (List ℕ)) → lines ≡ now line ∷ more → begins_blank (now line) ≡ false →
-      map now all ++ take_while begins_blank lines ≡ whole → map now all ≡ whole
-  own_ends all line lines more whole is text before =
-      let e : take_while begins_blank lines ≡ [] = ap (take_while begins_blank) is ∙ take_while-cons begins_blank (now line) more ∙ rw text refl in
-      sym (append-nil (map now all)) ∙ ap (λ xs. map now all ++ xs) (sym e) ∙ before
 
   -- one line more at the end has no text; the last one has
   pub textless_more : (lines : List X) (end : ℕ) (d : X) → 0 < end → end ≤ length lines → without_text (now (get_or lines (end - 1) d)) ≡ true →

@@ -33,7 +33,7 @@ use Rattle.kc_user.specs.ValueView.{given_of_value}
 use Rattle.kc_user.specs.declared.value.UserValue.{UserValue}
 use Rattle.kc_values.specs.Laws.{RowsTellFacts}
 use Rattle.kc_values.specs.User.{given_in}
-use Rattle.kc_explain.specs.SymbolsTold.{body_lines, head_of, plain_of, row_members, typed_head, user_lines}
+use Rattle.kc_explain.specs.SymbolsTold.{body_lines, plain_of, row_members, user_lines}
 
 -- ---- conditions in two parts
 lesser-assoc : (a b c : Tri) → lesser (lesser a b) c ≡ lesser a (lesser b c)
@@ -103,11 +103,6 @@ flat_map-each g f (x ∷ xs) =
 
 -- ---- what gives a symbol its value
 module _ (lines : List (Located Numbered)) (solution : Solution) (s : SymId) where
-  pub no_body : (rows : RowsTellFacts) (tree : TreeFacts) → tree ≡ solution.tree → (l : Layout) → IsLayoutOf tree l → None ≡ slice_get l.symbols.items s.0 →
-      body_lines lines solution s ≡ []
-  no_body rows tree same l laid none =
-      ap (rules.body_text lines solution s) (ap (λ (t : TreeFacts). facts t s) (sym same) ∙ rows tree l s laid ∙ ap (option_map (facts_of l s.0)) (sym none))
-
   its_facts : (rows : RowsTellFacts) (tree : TreeFacts) → tree ≡ solution.tree → (l : Layout) → IsLayoutOf tree l → (row : Symbol) → Some row ≡ slice_get l.symbols.items s.0 →
       facts solution.tree s ≡ Some (facts_of l s.0 row)
   its_facts rows tree same l laid row some =
@@ -133,12 +128,3 @@ module _ (lines : List (Located Numbered)) (solution : Solution) (s : SymId) whe
       ap (rules.body_text lines solution s) its
       ∙ ap (λ (o : Option ChoiceId). elim (mode_view o) [ Some k ↦ rules.choice_text lines solution k | None ↦ rules.plain_text lines solution s (facts_of l s.0 row) ]) chosen
       ∙ ap (plain_of lines solution s row.symbol_type) (sym (is ∙ ap (option_and_then (active_range solution.tree (known solution))) its))
-
-  -- the first line of a symbol that has a type
-  pub head_typed : (kind : SymbolType) → kind ≢ symbol_type.Undefined → head_of lines solution s kind ≡ typed_head lines solution s kind
-  head_typed symbol_type.Undefined typed = absurd (typed refl)
-  head_typed symbol_type.Bool typed = refl
-  head_typed symbol_type.Tristate typed = refl
-  head_typed symbol_type.Str typed = refl
-  head_typed symbol_type.Int typed = refl
-  head_typed symbol_type.Hex typed = refl

@@ -1,6 +1,6 @@
 -- For proofs: Definitions as they are written, part by part.
 use Rattle.std.specs.List.{flat_map}
-use Rattle.std.specs.Prelude.{List, None, Option, Some, [], codes, decimal, if◌then◌else◌, slice_get, ℕ, ◌++◌}
+use Rattle.std.specs.Prelude.{List, Option, [], codes, decimal, if◌then◌else◌, slice_get, ℕ, ◌++◌}
 use Rattle.kc_language.specs.Expansion.{Files}
 use Rattle.kc_language.specs.Explanations.{definition_comments, excerpt}
 use Rattle.kc_language.specs.Statements.{Located, Numbered}

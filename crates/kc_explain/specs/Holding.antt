@@ -1,12 +1,12 @@
 -- For proofs: Parts of what holds a symbol down, by names of their own.
-use Rattle.std.specs.Prelude.{Bool, List, Option, [], if◌then◌else◌, is_some, not, ◌&&◌, ◌++◌, ◌∷◌, filter, ℕ}
+use Rattle.std.specs.Prelude.{Bool, List, Option, [], if◌then◌else◌, is_some, ◌&&◌, ◌++◌, ◌∷◌, ℕ}
 use Rattle.std.specs.List.{flat_map}
 use Rattle.kc_expr.specs.PartsOfSymbols.{added}
 use Rattle.kc_language.specs.Explanations as rules
 use Rattle.kc_language.specs.Explanations.{ConditionPart, Said}
 use Rattle.kc_language.specs.Expressions.{Form, leaf_symbols, number_of_text, symbols}
 use Rattle.kc_language.specs.Statements.{InputPrompt, Located, Numbered, statements}
-use Rattle.kc_language.specs.Symbols.{Bounds, all_added, listed, same_type}
+use Rattle.kc_language.specs.Symbols.{Bounds, listed, same_type}
 use Rattle.kc_language.specs.Texts.{Solution, known}
 use Rattle.kc_language.specs.Values.{facts, name, type_in}
 use Rattle.kc_language.specs.declared.expressions.SymId.{SymId}

@@ -1,6 +1,5 @@
 -- For proofs: Parts of conditions and lines that say something, without where they lie in memory.
 use Rattle.std.specs.Prelude.{ℕ, Option}
-use Rattle.std.specs.Borrow.{Bor}
 use Rattle.kc_expr.specs.Form.{form_of, leaf_of}
 use Rattle.kc_expr.specs.When.{when_view}
 use Rattle.kc_language.specs.Expressions.{Form}

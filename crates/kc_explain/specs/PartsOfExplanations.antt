@@ -1,6 +1,5 @@
 -- For proofs: Parts of the definitions of explanations, each with a name.
 use Rattle.std.specs.Prelude.{ℕ, List, [], ◌∷◌, Option, Some, None, map, option_map, filter, if◌then◌else◌}
-use Rattle.std.specs.List.{filter_map, flat_map}
 use Rattle.kc_language.specs.Expansion.{Bracket, NoBracket, bracket, last_of}
 use Rattle.kc_language.specs.Expressions.{Form}
 use Rattle.kc_language.specs.Explanations as rules

@@ -8,12 +8,11 @@ use Rattle.kc_language.specs.Expressions.{Form}
 use Rattle.kc_language.specs.Statements.{InputPrompt, Located, Numbered, statements}
 use Rattle.kc_language.specs.Symbols.{is_selectable, listed, stated_default}
 use Rattle.kc_language.specs.Texts.{Solution, known}
-use Rattle.kc_language.specs.Values.{GivenValue, active_range, choice_at, facts, mode_of, name}
+use Rattle.kc_language.specs.Values.{GivenValue, choice_at, facts, mode_of, name}
 use Rattle.kc_language.specs.declared.expressions.SymId.{SymId}
 use Rattle.kc_language.specs.declared.expressions.SymbolType.{SymbolType}
 use Rattle.kc_language.specs.declared.expressions.SymbolType.TheVariants.{Tristate, Undefined}
 use Rattle.kc_language.specs.declared.expressions.Tri.{Tri}
-use Rattle.kc_language.specs.declared.symbols.SelectOrImply.{SelectOrImply}
 use Rattle.kc_language.specs.declared.symbols.SelectOrImply.TheVariants as word
 use Rattle.kc_language.specs.declared.values.Interval.{Interval}
 use Rattle.kc_tree.specs.declared.rows.Choice.{Choice}

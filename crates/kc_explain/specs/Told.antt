@@ -32,9 +32,6 @@ location_of o = elim o [ None ↦ [] | Some l ↦ l.file ++ codes ":" ++ decimal
 abbrev pub word_of : Numbered → List ℕ
 word_of s = elim s [ DependsLine e ↦ codes "depends on " | VisibleLine e ↦ codes "visible if " | _ ↦ codes "if " ]
 
-abbrev pub word_in : Option Numbered → List ℕ
-word_in o = elim o [ None ↦ codes "if " | Some s ↦ word_of s ]
-
 -- what a part of a condition at a line asks
 abbrev pub asked_text : List (Located Numbered) → Solution → ℕ → rules.Asked → List ℕ
 asked_text lines solution i asks =

@@ -17,7 +17,7 @@ use crate::parts::{
     Asked, ConditionPart, Said, default_lines, dependency_parts, is_met_default, part_value,
     prompt_at, range_lines, shown_parts,
 };
-use kc_expr::distinct_symbols::DistinctSymbols;
+use crate::seen::Seen;
 use kc_expr::expression::{Expr, SymId, SymbolType, Tri};
 use kc_expr::values::{Values, symbol_into, symbols_into};
 use kc_language::explanations::Source;
@@ -452,13 +452,11 @@ fn is_number_word(solved: &Solved<'_>, id: SymId) -> bool
 }
 
 // Adds a symbol to those that were reached, and to the next ones if it is new.
-fn add_new(id: SymId, seen: &mut DistinctSymbols, next: &mut Vec<SymId>) -> Result<(), AllocError>
+fn add_new(id: SymId, seen: &mut Seen, next: &mut Vec<SymId>) -> Result<(), AllocError>
     ensures seen { OnOk result (seen.new ≡ added seen.old id) }
     ensures next { (before : List SymId) → seen.old ≡ before ++ next.old.items → OnOk result (seen.new ≡ before ++ next.new.items) }
 {
-    let count = seen.count();
-    seen.add(id)?;
-    if seen.count() > count {
+    if seen.add(id)? {
         next.push(id)?;
     }
     Ok(())
@@ -468,7 +466,7 @@ fn add_new(id: SymId, seen: &mut DistinctSymbols, next: &mut Vec<SymId>) -> Resu
 fn add_one(
     solved: &Solved<'_>,
     id: SymId,
-    seen: &mut DistinctSymbols,
+    seen: &mut Seen,
     next: &mut Vec<SymId>,
 ) -> Result<(), AllocError>
     ensures seen { OnOk result (seen.new ≡ held.with_one solved.now seen.old id) }
@@ -485,7 +483,7 @@ fn add_one(
 fn add_all(
     solved: &Solved<'_>,
     found: &[SymId],
-    seen: &mut DistinctSymbols,
+    seen: &mut Seen,
     next: &mut Vec<SymId>,
 ) -> Result<(), AllocError>
     ensures seen { OnOk result (seen.new ≡ held.with_all solved.now seen.old found.now) }
@@ -503,7 +501,7 @@ fn step(
     lines: &Lines<'_>,
     solved: &Solved<'_>,
     front: &[SymId],
-    seen: &mut DistinctSymbols,
+    seen: &mut Seen,
 ) -> Result<Vec<SymId>, AllocError>
     ensures seen { OnOk result (seen.new ≡ held.wider lines.now solved.now seen.old front.now) }
     ensures next { IfOk result (λ next. seen.new ≡ seen.old ++ next.items) }
@@ -523,7 +521,7 @@ fn reach(
     solved: &Solved<'_>,
     depth: usize,
     first: Vec<SymId>,
-    seen: &mut DistinctSymbols,
+    seen: &mut Seen,
 ) -> Result<(), AllocError>
     ensures { OnOk result (seen.new ≡ rules.reached lines.now solved.now depth seen.old first.items) }
 {
@@ -547,13 +545,13 @@ pub(crate) fn reached(
     solved: &Solved<'_>,
     depth: usize,
     id: SymId,
-) -> Result<Vec<SymId>, AllocError>
-    ensures { IfOk result (λ all. all.items ≡ rules.reached lines.now solved.now depth (id ∷ []) (id ∷ [])) }
+) -> Result<Seen, AllocError>
+    ensures { IfOk result (λ all. all ≡ rules.reached lines.now solved.now depth (id ∷ []) (id ∷ [])) }
 {
-    let mut seen = DistinctSymbols::new(alloc);
+    let mut seen = Seen::new(alloc);
     seen.add(id)?;
     let mut front = Vec::new(alloc);
     front.push(id)?;
     reach(alloc, lines, solved, depth, front, &mut seen)?;
-    Ok(seen.into_symbols())
+    Ok(seen)
 }

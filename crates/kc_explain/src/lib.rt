@@ -16,6 +16,7 @@ pub mod lines;
 pub mod names;
 mod parts;
 mod said;
+mod seen;
 mod source_lines;
 pub mod text;
 

@@ -6,7 +6,7 @@ ghost use Rattle.kc_expr.specs.Form.{form_of, leaf_of};
 ghost use Rattle.kc_expr.specs.Value.{value_by_type};
 ghost use Rattle.kc_expr.specs.When.{when_view};
 ghost use Rattle.kc_language.specs.Explanations as rules;
-ghost use Rattle.kc_language.specs.Expressions.{truth_of_value};
+ghost use Rattle.kc_language.specs.Expressions.{lesser, truth_of_value};
 ghost use Rattle.kc_language.specs.Symbols.{has_text, listed};
 ghost use Rattle.kc_language.specs.Texts.{known};
 ghost use Rattle.kc_language.specs.Values.{given_of};
@@ -540,7 +540,32 @@ fn truth(solved: &Solved<'_>, id: SymId) -> Tri
     truth_of(id, solved)
 }
 
-// The value up to which a line selects or implies, where it stands in an entry of a symbol.
+// The value up to which a line of a symbol with this value selects or implies. The line is looked at only if the symbol is not n.
+fn value_under(
+    alloc: Global,
+    t: &Teller<'_, '_, '_>,
+    value: Tri,
+    target: &TargetAt<'_>,
+) -> Result<Tri, AllocError>
+    ensures { IfOk result (λ v. v ≡ lesser value (rules.line_value t.now.lines.now t.now.solved.now (λ w. w) (target_at_view target.now))) }
+{
+    match value {
+        Tri::N => Ok(Tri::N),
+        Tri::M | Tri::Y => {
+            let own = line_value(
+                alloc,
+                t.lines,
+                t.solved,
+                target.entry,
+                target.at,
+                condition(target.when),
+            )?;
+            Ok(lesser(value, own))
+        }
+    }
+}
+
+// The same of a line in an entry of a symbol, n in any other entry.
 fn value_from(
     alloc: Global,
     t: &Teller<'_, '_, '_>,
@@ -551,17 +576,7 @@ fn value_from(
 {
     match symbol {
         None => Ok(Tri::N),
-        Some(id) => {
-            let own = line_value(
-                alloc,
-                t.lines,
-                t.solved,
-                target.entry,
-                target.at,
-                condition(target.when),
-            )?;
-            Ok(lesser(truth(t.solved, id), own))
-        }
+        Some(id) => value_under(alloc, t, truth(t.solved, id), target),
     }
 }
 

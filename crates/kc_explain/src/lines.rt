@@ -2,6 +2,7 @@
 
 ghost use Rattle.std.specs.Prelude.{◌≡◌, ◌<◌, ◌==◌, ◌++◌, ◌∷◌, [], ℕ, List, if◌then◌else◌, length, map, option_map, slice_get, suc, filter, is_some, IfOk, OnOk, count_by, drop, nat_lt, take_while};
 ghost use Rattle.std.specs.List.{enumerate_from, flat_map};
+ghost use Rattle.std.specs.List.Sorted.{IsNonDecreasing};
 ghost use Rattle.kc_language.specs.Expansion.{attributes, enclosing};
 ghost use Rattle.kc_expr.specs.When.{when_view};
 ghost use Rattle.kc_language.specs.Explanations.{choice_entry, naming_lines, targets};
@@ -104,6 +105,7 @@ fn row_at<T>(rows: &[Vec<T>], row: usize) -> &[T]
 }
 
 // The symbol that a `config` line defines.
+#[inline(always)]
 fn symbol_of(statement: LineStatement<'_>) -> Option<SymId>
     ensures { result ≡ defined_name (said_by statement.entry) }
 {
@@ -124,6 +126,7 @@ fn attribute_of<'a>(statement: LineStatement<'a>) -> Option<&'a Attribute>
 }
 
 // Whether a line begins a choice.
+#[inline(always)]
 fn is_choice(statement: LineStatement<'_>) -> bool
     ensures { result ≡ is_block Block.Choice (opened (bracket (said_by statement.entry))) }
 {
@@ -131,6 +134,7 @@ fn is_choice(statement: LineStatement<'_>) -> bool
 }
 
 // The `config` line whose entry goes on after a line.
+#[inline(always)]
 fn entry_after(entry: Option<usize>, at: usize, statement: LineStatement<'_>) -> Option<usize>
     ensures { result ≡ entry_after entry at (said_by statement.entry) }
 {
@@ -142,6 +146,7 @@ fn entry_after(entry: Option<usize>, at: usize, statement: LineStatement<'_>) ->
 }
 
 // The innermost open block after a line.
+#[inline(always)]
 fn innermost_after(
     inner: &[Option<usize>],
     innermost: Option<usize>,
@@ -161,6 +166,7 @@ fn innermost_after(
 }
 
 // The symbol that a line selects or implies, and under what condition.
+#[inline(always)]
 fn target_of<'a>(
     word: SelectOrImply,
     statement: LineStatement<'a>,
@@ -179,6 +185,7 @@ fn target_of<'a>(
 }
 
 // Notes a `config` line.
+#[inline(always)]
 fn note_definition(
     alloc: Global,
     rows: &mut Vec<Vec<usize>>,
@@ -195,6 +202,7 @@ fn note_definition(
 }
 
 // Notes a line of this entry that selects or implies a symbol.
+#[inline(always)]
 fn note_target<'a>(
     alloc: Global,
     rows: &mut Vec<Vec<TargetAt<'a>>>,
@@ -217,6 +225,7 @@ fn note_target<'a>(
 }
 
 // Notes a line that begins a choice.
+#[inline(always)]
 fn note_choice(
     choices: &mut Vec<usize>,
     at: usize,
@@ -248,11 +257,12 @@ fn add_attributes<'a>(
     Ok(())
 }
 
-// How many numbers are below a bound.
+// How many numbers, which rise, are below a bound.
 fn count_below(numbers: &[usize], bound: usize) -> usize
+    requires { IsNonDecreasing numbers.now }
     ensures { result ≡ count_by (λ n. nat_lt n bound) numbers.now }
 {
-    numbers.iter().filter(|number| **number < bound).count()
+    numbers.partition_point(|number| *number < bound)
 }
 
 impl<'a> LineIndex<'a> {
@@ -274,6 +284,7 @@ impl<'a> LineIndex<'a> {
     }
 
     // Of one line more.
+    #[inline(always)]
     fn add(&mut self, alloc: Global, line: Line<'a>) -> Result<(), AllocError>
         ensures lines { OnOk result (self.new.lines.items ≡ self.old.lines.items ++ line.entry ∷ []) }
         ensures next { OnOk result (IsNext (length self.old.lines.items) (said_by line.entry.statement) self.old self.new) }

@@ -4,7 +4,7 @@ ghost use Rattle.std.specs.Prelude.{◌≡◌, ◌++◌, map, not, option_map, I
 ghost use Rattle.std.specs.List.{flat_map};
 ghost use Rattle.kc_expr.specs.Form.{form_of};
 ghost use Rattle.kc_language.specs.Explanations as rules;
-ghost use Rattle.kc_language.specs.Expressions.{value};
+ghost use Rattle.kc_language.specs.Expressions.{lesser, value};
 ghost use Rattle.kc_language.specs.Statements.{statements};
 ghost use Rattle.kc_language.specs.Symbols as whole;
 ghost use Rattle.kc_language.specs.Texts.{known};
@@ -320,6 +320,26 @@ fn own_value(solved: &Solved<'_>, at: usize, when: Option<&Expr>) -> Tri
     }
 }
 
+// The lesser of a value and of what an entry depends on, which is looked at only if the value is not n.
+#[tactic(auto, using(crate::proofs::PartLemmas::lesser_n))]
+fn under_dependency(
+    alloc: Global,
+    lines: &Lines<'_>,
+    solved: &Solved<'_>,
+    entry: usize,
+    value: Tri,
+) -> Result<Tri, AllocError>
+    ensures { IfOk result (λ t. t ≡ lesser (rules.parts_value solved.now.tree (known solved.now) (rules.dependency_parts (statements lines.now) entry)) value) }
+{
+    match value {
+        Tri::N => Ok(Tri::N),
+        Tri::M | Tri::Y => {
+            let parts = dependency_parts(alloc, lines, entry)?;
+            Ok(lesser(parts_value(solved, &parts), value))
+        }
+    }
+}
+
 /// The value of what an entry depends on and of the own condition of a line of it. Its only error is to be out of memory.
 pub(crate) fn line_value(
     alloc: Global,
@@ -332,8 +352,9 @@ pub(crate) fn line_value(
     ensures { IfOk result (λ t. t ≡ rules.line_value lines.now solved.now (λ w. w)
         (condition_said entry at (option_map (λ e. form_of e.now) when.entry))) }
 {
-    let parts = dependency_parts(alloc, lines, entry)?;
-    Ok(lesser(parts_value(solved, &parts), own_value(solved, at, when)))
+    let own = own_value(solved, at, when);
+    let worth = under_dependency(alloc, lines, solved, entry, own)?;
+    Ok(worth)
 }
 
 // Whether a value is not n.

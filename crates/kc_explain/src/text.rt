@@ -744,5 +744,5 @@ pub fn add_explanation(
     };
     let all = reached(alloc, lines, solved, depth, id)?;
     add_symbol(alloc, &teller, input, id, text)?;
-    add_further_in(alloc, &teller, input, behind_first(&all), text)
+    add_further_in(alloc, &teller, input, behind_first(all.symbols()), text)
 }

@@ -1,5 +1,5 @@
 -- Those of the symbols so far were added.
-use Rattle.std.proofs.Common.{◌≡◌, ◌++◌, map, take}
+use Rattle.std.proofs.Common.{◌≡◌, ◌++◌, take}
 use Rattle.std.specs.List.{flat_map}
 use Rattle.kc_language.specs.Explanations as rules
 use Rattle.kc_explain.proofs.holders.add_all_holders.Given as goal

@@ -1,6 +1,5 @@
 -- Those of the entries so far were added.
-use Rattle.std.proofs.Common.{◌≡◌, ◌++◌, map, take}
-use Rattle.std.specs.List.{flat_map}
+use Rattle.std.proofs.Common.{◌≡◌, ◌++◌, take}
 use Rattle.kc_explain.specs.Holding as held
 use Rattle.kc_explain.proofs.holders.add_all_prompt_names.Given as goal
 

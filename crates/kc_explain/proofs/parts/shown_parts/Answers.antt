@@ -1,6 +1,5 @@
 -- What the menus ask of what is visible, and then the prompt's own condition.
 use Rattle.std.proofs.Common.{ap, map, ◌∙◌}
-use Rattle.std.specs.Prelude.{option_map}
 use Rattle.kc_language.specs.Statements.{statements}
 use Rattle.kc_explain.specs.PartViews.{part_view}
 use Rattle.kc_explain.proofs.PartLemmas.{shown_is}

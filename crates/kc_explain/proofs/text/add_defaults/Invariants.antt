@@ -1,8 +1,5 @@
 -- The lines of the defaults so far were added.
-use Rattle.std.proofs.Common.{◌≡◌, ◌++◌, map, take, codes}
-use Rattle.std.specs.List.{flat_map}
-use Rattle.kc_language.specs.Explanations as rules
-use Rattle.kc_language.specs.Statements.{statements}
+use Rattle.std.proofs.Common.{◌≡◌, ◌++◌, map, take}
 use Rattle.kc_explain.specs.PartViews.{default_said}
 use Rattle.kc_explain.specs.Told.{default_line}
 use Rattle.kc_explain.specs.Told.{led}

@@ -1,8 +1,6 @@
 -- The lines of the members so far were added.
-use Rattle.std.proofs.Common.{◌≡◌, ◌++◌, map, take, codes}
-use Rattle.std.specs.List.{flat_map}
+use Rattle.std.proofs.Common.{◌≡◌, ◌++◌, map, take}
 use Rattle.kc_language.specs.Explanations as rules
-use Rattle.kc_language.specs.Statements.{statements}
 use Rattle.kc_explain.specs.Told.{led}
 use Rattle.kc_explain.proofs.text.add_members.Given as goal
 

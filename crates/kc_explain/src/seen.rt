@@ -1,0 +1,52 @@
+//! Symbols that were seen.
+
+ghost use Rattle.std.specs.Prelude.{◌≡◌, [], not, IfOk};
+ghost use Rattle.kc_expr.specs.PartsOfSymbols.{added, stands_in};
+
+use indexmap::IndexSet;
+use kc_expr::expression::SymId;
+use std::alloc::{AllocError, Global};
+use std::marker::Model;
+
+/// Symbols in the order in which they were seen, each once. What it costs depends on how many they are, and not on the tree.
+/// A contract sees the list of the symbols.
+#[derive(Drop)]
+pub(crate) struct Seen {
+    symbols: IndexSet<SymId>,
+}
+
+impl Model for Seen {
+    ghost use Rattle.std.specs.Prelude.{List};
+    ghost use Rattle.kc_language.specs.declared.expressions.SymId.{SymId};
+
+    ghost Value = { List SymId };
+
+    ghost view = { λ s. s.symbols.keys };
+}
+
+impl Seen {
+    /// No symbols.
+    pub(crate) fn new(alloc: Global) -> Self
+        ensures { result ≡ [] }
+    {
+        Seen {
+            symbols: IndexSet::new(alloc),
+        }
+    }
+
+    /// Adds the symbol, and tells whether it is a new one. Fails only when it is out of memory.
+    pub(crate) fn add(&mut self, id: SymId) -> Result<bool, AllocError>
+        ensures seen { IfOk result (λ is_new. self.new ≡ added self.old id) }
+        ensures told { IfOk result (λ is_new. is_new ≡ not (stands_in self.old id)) }
+    {
+        let is_new = self.symbols.insert(id)?;
+        Ok(is_new)
+    }
+
+    /// The symbols in their order. Takes no memory.
+    pub(crate) fn symbols(&self) -> &[SymId]
+        ensures { result.now ≡ self.now }
+    {
+        self.symbols.as_slice()
+    }
+}
