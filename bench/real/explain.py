@@ -104,14 +104,20 @@ class Explanation:
             text = re.sub(r"\\(.)", r"\1", text[1:-1])
         return symbol.str_value == text
 
+    def _is_worth(self, item, shown, said):
+        """Whether the condition of an item is worth what is shown. For a bool member of a choice m counts as y: kconfiglib takes
+        what is around it from the mode of the choice alone, which is y then."""
+        if isinstance(item, self.facts.library.Symbol) and item.choice and item.orig_type == self.facts.library.BOOL:
+            return (shown == "n") == (said == "n")
+        return shown == said
+
     def _fact(self, line):
         if re.fullmatch(r"  active range .*", line):
             return self._active(line)
         if found := re.fullmatch(r"  member (\w+)=([ny]): ([nmy])", line):
             member = self.facts.tree.syms[found[1]]
             wants(member.choice is self.symbol.choice and member.str_value == found[2], f"kconfiglib says {member.str_value}")
-            prompts = max((self.facts.library.expr_value(node.prompt[1]) for node in member.nodes if node.prompt), default=0)
-            return wants(self.facts.library.TRI_TO_STR[prompts] == found[3], f"kconfiglib says {prompts}")
+            return wants(self._is_worth(member, found[3], self.facts.library.TRI_TO_STR[member.visibility]), f"kconfiglib says {member.visibility}")
         if found := re.fullmatch(r"  modules (\w+)=([nmy])", line):
             return wants(self.facts.tree.modules.str_value == found[2] and found[1] == self.facts.tree.modules.name, "the modules symbol")
         found = FACT.fullmatch(line)
@@ -152,11 +158,11 @@ class Explanation:
         if words == "dependencies":
             node = facts.nodes[number]
             wants(node.item is self.symbol, f"there is {node.item}")
-            return wants(facts.value(node.dep) == value, f"kconfiglib says {facts.value(node.dep)}")
+            return wants(self._is_worth(node.item, value, facts.value(node.dep)), f"kconfiglib says {facts.value(node.dep)}")
         node = facts.node_before(number)
         if words == "prompt":
             wants(node.item in (self.symbol, self.symbol.choice) and node.prompt, "there is no prompt")
-            return wants(facts.value(node.prompt[1]) == value, f"kconfiglib says {facts.value(node.prompt[1])}")
+            return wants(self._is_worth(node.item, value, facts.value(node.prompt[1])), f"kconfiglib says {facts.value(node.prompt[1])}")
         if words == "choice":
             return wants(facts.library.TRI_TO_STR[node.item.tri_value] == value, f"kconfiglib says {node.item.tri_value}")
         if found := TARGET.fullmatch(text):
