@@ -187,7 +187,7 @@ class Explanation:
         wants(any(pair[0] is self.symbol for pair in pairs), "there is no such line")
         under = self.facts.library.STR_TO_TRI[self._under(node, found[5])]
         value = self.facts.library.TRI_TO_STR[min(target.tri_value, under)]
-        wants(found[6] == value and (found[1] is not None) == (value == "n"), f"kconfiglib says {value}")
+        wants(self._is_worth(target, found[6], value) and (found[1] is not None) == (value == "n"), f"kconfiglib says {value}")
 
     def _default(self, node, text):
         wants(node.item in (self.symbol, self.symbol.choice), f"there is {node.item}")
