@@ -37,8 +37,8 @@ enum Writing {
 /// permissions of the file that it replaces. What is no regular file, or lies below `/proc` as a descriptor does, takes its text at
 /// once and is not moved.
 ///
-/// A text whose name is exactly `/dev/stdout` goes to standard output as the process has it, which is not opened anew: a file to
-/// which the output is appended keeps what it holds. It takes its text at once too, and is not moved.
+/// A text that replaces nothing and whose name is exactly `/dev/stdout` goes to standard output as the process has it, which is not
+/// opened anew: a file to which the output is appended keeps what it holds.
 #[derive(Drop)]
 pub struct SystemDevice<'a> {
     rt: &'a HostRuntime,
@@ -85,15 +85,12 @@ impl<'a> SystemDevice<'a> {
         diagnostics.into_kept()
     }
 
-    // Makes an empty file: at its place, or beside it. Standard output is there.
+    // Makes an empty file: at its place, or beside it. Standard output is there and keeps what it holds.
     fn make(&mut self, site: Site, name: &str) -> io::Result<()> {
-        let made = if name == STANDARD_OUTPUT {
-            Writing::StandardOutput
-        } else {
-            match site {
-                Site::Place => Writing::InPlace(File::create(self.rt, name)?),
-                Site::Beside => self.start_beside(name)?,
-            }
+        let made = match site {
+            Site::Place if name == STANDARD_OUTPUT => Writing::StandardOutput,
+            Site::Place => Writing::InPlace(File::create(self.rt, name)?),
+            Site::Beside => self.start_beside(name)?,
         };
         self.writing = made;
         Ok(())
@@ -118,8 +115,7 @@ impl<'a> SystemDevice<'a> {
         }
         self.whole.reserve(1)?;
         match mem::replace(&mut self.writing, Writing::Nothing) {
-            Writing::Nothing => {}
-            Writing::StandardOutput => self.whole.push(None)?,
+            Writing::Nothing | Writing::StandardOutput => {}
             Writing::InPlace(_file) => self.whole.push(None)?,
             Writing::Beside(_file, temporary) => self.whole.push(Some(temporary))?,
         }
