@@ -34,7 +34,7 @@ use Rattle.kc_build.specs.WalkResult.{AreRowsThere, HasHeads, IsEntryThere, IsSm
 use Rattle.kc_build.specs.Stacks.{AreOpen, BlockFacts, block_facts_at, block_view}
 use Rattle.kc_build.specs.Walks.{IsEntryKnown, IsHead, IsWalk, index_after}
 use Rattle.kc_build.specs.WalkSteps.{AddsDefinition, KeepsAllButChoices, made_definition, one_more, with_member}
-use Rattle.kc_build.proofs.BlockLemmas.{enclosing-no}
+use Rattle.kc_read.proofs.EnclosingLemmas.{enclosing-no}
 use Rattle.kc_build.proofs.DefineLemmas.{entry_carries}
 use Rattle.kc_build.proofs.EnterLemmas.{definitions_passed, enclosing_passed, entries_passed, names_passed}
 use Rattle.kc_build.proofs.GrownLemmas.{Carries, choice_carries, guarded_default, guarded_bounds, entries_stay, map_alike, open_carries, pushed, shown_carries, titles_stay}

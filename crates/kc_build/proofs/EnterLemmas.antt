@@ -14,7 +14,7 @@ use Rattle.kc_build.specs.Before.{definition_line, definitions_before, entries_b
 use Rattle.kc_language.specs.Symbols.{shown_at, naming_at, of_block, symbol_at}
 use Rattle.kc_build.specs.PartsOfSymbols.{is_member_index, symbol_of, title_of}
 use Rattle.kc_build.specs.Walks.{IsHead, index_after}
-use Rattle.kc_build.proofs.BlockLemmas.{enclosing-no, take-next}
+use Rattle.kc_read.proofs.EnclosingLemmas.{enclosing-no, take-next}
 use Rattle.kc_build.proofs.PlaceLemmas.{filter-next, filter_map-next, flat_map-next}
 
 -- What an attribute is not.

@@ -22,7 +22,7 @@ use Rattle.kc_language.specs.Symbols.{is_symbol_of, choice_of, definitions_of, t
 use Rattle.kc_build.specs.PartsOfSymbols.{impliers_of, selectors_of}
 use Rattle.kc_build.specs.Before.{definition_facts_at, definition_line, definitions_before}
 use Rattle.kc_build.specs.SymbolRows.{AreSymbols, SymbolRow, definition_number, row_of, row_view}
-use Rattle.kc_build.proofs.BlockLemmas.{numbers_from, numbers-from}
+use Rattle.kc_read.proofs.EnclosingLemmas.{numbers_from, numbers-from}
 use Rattle.kc_build.proofs.ElementLemmas.{same_is}
 use Rattle.kc_build.proofs.ListLemmas.{end_get, front_get, there_in}
 use Rattle.kc_build.proofs.MemberLemmas.{below_or_past}

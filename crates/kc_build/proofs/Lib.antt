@@ -1,6 +1,5 @@
 mod PartsLemmas
 mod AttributeLemmas
-mod BlockLemmas
 mod BuildLemmas
 mod ChainLemmas
 mod ChoiceLemmas

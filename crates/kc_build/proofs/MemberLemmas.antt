@@ -12,7 +12,7 @@ use Rattle.kc_language.specs.Expressions.{same_symbol}
 use Rattle.kc_language.specs.Symbols.{is_symbol_of, listed, is_first_definition, symbol_at, enclosing_choice, choice_of, type_of, definitions_of, indices, is_first_definition_at, bad_members}
 use Rattle.kc_build.specs.PartsOfSymbols.{is_member}
 use Rattle.kc_build.specs.PartsOfSymbols.{symbol_of, first_of, is_member_index, first_of_symbol, is_bad_member}
-use Rattle.kc_build.proofs.BlockLemmas.{there}
+use Rattle.kc_read.proofs.EnclosingLemmas.{there}
 use Rattle.kc_build.proofs.PlaceLemmas.{filter-next}
 use Rattle.kc_build.proofs.FirstLemmas.{some_places, first-is}
 

@@ -9,7 +9,7 @@ use Rattle.kc_language.specs.Expansion.{numbers}
 use Rattle.kc_language.specs.Symbols.{Condition, Shown, SymbolShown, MenuShown, EndShown, is_first_definition, shows_entry, shown_at}
 use Rattle.kc_build.specs.PartsOfSymbols.{shown_number, entries}
 use Rattle.kc_build.specs.PartsOfSymbols.{enclosing_block, shown_when}
-use Rattle.kc_build.proofs.BlockLemmas.{there, last_is_nested}
+use Rattle.kc_read.proofs.EnclosingLemmas.{there, last_is_nested}
 use Rattle.kc_build.proofs.ChoiceLemmas.{fewer_before}
 use Rattle.kc_build.proofs.ExpansionLemmas.{AreNested}
 use Rattle.kc_build.proofs.ListLemmas.{count_next, end_get, front_get}

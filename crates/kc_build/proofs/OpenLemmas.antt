@@ -14,7 +14,7 @@ use Rattle.kc_build.specs.Scopes.{block_visible}
 use Rattle.kc_build.specs.Stacks.{AreOpen, BlockFacts, IsClosed, block_facts_at, block_view, open_scopes}
 use Rattle.kc_build.specs.declared.blocks.BlockScope.{BlockScope}
 use Rattle.kc_build.specs.declared.blocks.Blocks.{Blocks}
-use Rattle.kc_build.proofs.BlockLemmas.{front, enclosing-opens, enclosing-closes, enclosing-no, enclosing-last}
+use Rattle.kc_read.proofs.EnclosingLemmas.{front, enclosing-opens, enclosing-closes, enclosing-no, enclosing-last}
 use Rattle.kc_build.proofs.ScopeLemmas.{scope_snoc}
 use Rattle.kc_build.proofs.StackLemmas.{front_snoc, split_last}
 

@@ -10,7 +10,7 @@ use Rattle.kc_read.specs.declared.entries.AttributeLine.{AttributeLine}
 use Rattle.kc_read.specs.StatementViews.{attribute_view}
 use Rattle.kc_language.specs.Expansion.{numbers}
 use Rattle.kc_build.specs.Passes.{statements_of}
-use Rattle.kc_build.proofs.BlockLemmas.{numbers_from, numbers-from}
+use Rattle.kc_read.proofs.EnclosingLemmas.{numbers_from, numbers-from}
 
 pub numbers-next : (i : ℕ) → numbers (i + 1) ≡ numbers i ++ i ∷ []
 numbers-next i = rw add-one refl

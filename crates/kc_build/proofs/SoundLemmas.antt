@@ -9,7 +9,7 @@ use Rattle.kc_language.specs.Expansion.{numbers, last_of, enclosing}
 use Rattle.kc_read.specs.PartsOfExpansion.{is_open}
 use Rattle.kc_language.specs.Symbols.{of_block, choice_number, enclosing_choice}
 use Rattle.kc_build.specs.PartsOfSymbols.{choices}
-use Rattle.kc_build.proofs.BlockLemmas.{last-snoc}
+use Rattle.kc_read.proofs.EnclosingLemmas.{last-snoc}
 use Rattle.kc_build.proofs.ChoiceLemmas.{fewer_before, so_many}
 
 -- the last of the numbers below m that pass two tests

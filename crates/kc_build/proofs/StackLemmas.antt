@@ -1,7 +1,7 @@
 -- Stacks: the last of a list, and of what a function gives for a list.
 use Rattle.std.proofs.Common.{◌≡◌, ℕ, List, [], ◌∷◌, ◌++◌, map, Some, refl, ap}
 use Rattle.kc_language.specs.Expansion.{last_of}
-use Rattle.kc_build.proofs.BlockLemmas.{front}
+use Rattle.kc_read.proofs.EnclosingLemmas.{front}
 
 pub no_snoc : {X : Type 0} (xs : List X) (x : X) → xs ++ x ∷ [] ≡ [] → ⊥
 no_snoc [] x h = cc

@@ -10,7 +10,7 @@ use Rattle.kc_language.specs.Expansion.{numbers}
 use Rattle.kc_language.specs.Symbols.{is_symbol_of, symbol_at}
 use Rattle.kc_build.specs.Passes.{change, changed}
 use Rattle.kc_build.specs.SymbolWalk.{defined_before}
-use Rattle.kc_build.proofs.BlockLemmas.{numbers_from, numbers-from}
+use Rattle.kc_read.proofs.EnclosingLemmas.{numbers_from, numbers-from}
 use Rattle.kc_build.proofs.PlaceLemmas.{filter-next}
 
 same_from : {A : Type 0} (f h : ℕ → A) (p n : ℕ) → ((j : ℕ) → f (p + j) ≡ h (p + j)) → map f (numbers_from p n) ≡ map h (numbers_from p n)

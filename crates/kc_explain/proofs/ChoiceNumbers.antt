@@ -9,7 +9,7 @@ use Rattle.kc_language.specs.Expansion.{numbers}
 use Rattle.kc_language.specs.Statements.{Numbered}
 use Rattle.kc_language.specs.Symbols.{indices, of_block}
 use Rattle.kc_language.specs.declared.statements.Block.{Block}
-use Rattle.kc_explain.proofs.BlockLemmas.{numbers_from, numbers-from}
+use Rattle.kc_read.proofs.EnclosingLemmas.{numbers_from, numbers-from}
 use Rattle.kc_explain.proofs.LineIndexLemmas.{length-numbers}
 
 -- up to a place all pass, and from there on none

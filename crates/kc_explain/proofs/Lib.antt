@@ -1,5 +1,4 @@
 pub mod AttributeLemmas
-pub mod BlockLemmas
 pub mod ChoiceNumbers
 pub mod ExcerptLemmas
 pub mod HoldingLemmas

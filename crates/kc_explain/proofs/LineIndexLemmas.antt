@@ -22,7 +22,7 @@ use Rattle.kc_explain.specs.LineViews.{line_view, said_by}
 use Rattle.kc_explain.specs.declared.lines.Line.{Line}
 use Rattle.kc_explain.specs.declared.lines.LineIndex.{LineIndex}
 use Rattle.kc_explain.proofs.NamingLemmas.{entry-next, naming_lines-next}
-use Rattle.kc_explain.proofs.BlockLemmas.{enclosing-closes, enclosing-last, enclosing-no, enclosing-opens, front, last-snoc, last_is_nested, numbers_from, numbers-from}
+use Rattle.kc_read.proofs.EnclosingLemmas.{enclosing-closes, enclosing-last, enclosing-no, enclosing-opens, front, last-snoc, last_is_nested, numbers_from, numbers-from}
 
 -- Lists.
 get_front : {X : Type 0} (xs ys : List X) (i : ℕ) → i < length xs → slice_get (xs ++ ys) i ≡ slice_get xs i

@@ -14,7 +14,7 @@ use Rattle.kc_language.specs.Explanations.{Said, naming_lines, said_at, targets}
 use Rattle.kc_language.specs.Statements.{Numbered, ConfigLine, SelectLine, ImplyLine}
 use Rattle.kc_language.specs.Symbols.{symbol_at}
 use Rattle.kc_explain.specs.LineIndexes.{entry_after, entry_from, named, said_in}
-use Rattle.kc_explain.proofs.BlockLemmas.{numbers_from, numbers-from}
+use Rattle.kc_read.proofs.EnclosingLemmas.{numbers_from, numbers-from}
 
 -- An attribute defines no symbol, and no other line selects or implies one.
 attribute_defines_none : (s : Numbered) → is_attribute s ≡ true → is_some (defined_name s) ≡ false

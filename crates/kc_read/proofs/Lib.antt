@@ -1,5 +1,6 @@
 pub mod BlockLemmas
 pub mod ConstantLemmas
+pub mod EnclosingLemmas
 pub mod EntryLemmas
 pub mod ExpansionThere
 pub mod FileLemmas

@@ -12,7 +12,7 @@ use Rattle.kc_language.specs.Text.{longest_prefix}
 use Rattle.kc_words.specs.CommandLine.{kconf_app, depth_option, exclusion_of, prefix_option, IsRefused, depth_of, no_depth_text, no_prefix_text, refusal_of}
 use Rattle.kc_language.specs.ConfigFile.{is_prefix}
 use Rattle.kc_words.specs.PartsOfCommandLine.{are_exclusive, depth_refusal, exclusion_text, explains_many, explains_many_text, is_one_of_many, lacks_target, one_of_many_text, target_text, first_report, value_refusal}
-use Rattle.kc_words.specs.Refusals.{IsBadFor, IsKindOf, IsNoDepth, IsNoPrefix, IsNoRequest, IsNoValue, IsTold}
+use Rattle.kc_words.specs.Refusals.{IsBadFor, IsKindOf, IsNoRequest, IsNoValue, IsTold}
 use Rattle.kc_words.specs.declared.usage.UsageError.{UsageError}
 use Rattle.kc_words.specs.declared.usage.UsageError.TheVariants as usage
 use Rattle.kc_words.proofs.RowLemmas.{kconf_app-free}
@@ -25,22 +25,6 @@ pub has_kind : (app : App) (words : List Text) (e : Error) → app ≡ kconf_app
 has_kind app words e is h = subst (λ (a : App). HasKind (fault_of a words) e) is (h (ap is_simple_and_free is ∙ kconf_app-free))
 
 -- ---- arguments that are refused for what they hold
-
-pub no_prefix-no_value : (rows : List Row) (prefix : Text) (u : UsageError) → prefix ≡ prefix_option rows → IsNoPrefix prefix u → IsNoValue rows u
-no_prefix-no_value rows prefix (usage.Help t) is h = absurd h
-no_prefix-no_value rows prefix usage.Version is h = absurd h
-no_prefix-no_value rows prefix (usage.Bad t) is h = let no : is_prefix (prefix_option rows) ≡ false = ap is_prefix (sym is) ∙ h.0 in
-    rw no (ap (λ p. Some (no_prefix_text p)) (sym is) ∙ ap Some (sym h.1))
-no_prefix-no_value rows prefix usage.Memory is h = tt
-
-pub no_depth-no_value : (rows : List Row) (prefix depth : Text) (u : UsageError) → prefix ≡ prefix_option rows → is_prefix prefix ≡ true →
-    depth ≡ depth_option rows → IsNoDepth depth u → IsNoValue rows u
-no_depth-no_value rows prefix depth (usage.Help t) is valid same h = absurd h
-no_depth-no_value rows prefix depth usage.Version is valid same h = absurd h
-no_depth-no_value rows prefix depth (usage.Bad t) is valid same h = let yes : is_prefix (prefix_option rows) ≡ true = ap is_prefix (sym is) ∙ valid in
-    let no : depth_of (depth_option rows) ≡ None = ap depth_of (sym same) ∙ h.0 in
-    rw (yes, no) (ap (λ d. Some (no_depth_text d)) (sym same) ∙ ap Some (sym h.1))
-no_depth-no_value rows prefix depth usage.Memory is valid same h = tt
 
 pub no_value-no_request : (rows : List Row) (u : UsageError) → exclusion_of rows ≡ None → IsNoValue rows u → IsNoRequest rows u
 no_value-no_request rows (usage.Help t) apart h = absurd h
