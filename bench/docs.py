@@ -22,6 +22,7 @@ import shutil
 import subprocess
 import sys
 import tempfile
+import time
 
 TOP = os.path.dirname(os.path.dirname(os.path.abspath(__file__)))
 # A line may be broken at any blank.
@@ -103,7 +104,8 @@ class Built:
         return os.stat(os.path.join(self.folder, name)).st_mtime_ns
 
     def make(self):
-        """Runs make. The answer: its status, and whether it ran kconf and the compiler."""
+        """Runs make once the clock is past the times of all files. The answer: its status, and whether it ran kconf and the compiler."""
+        time.sleep(0.02)
         told = dict(os.environ, KCONF=self.kconf, CC="cc", LC_ALL="C")
         run = subprocess.run(["make"], cwd=self.folder, env=told, capture_output=True, text=True)
         return run.returncode, "--header" in run.stdout, "-include" in run.stdout, run.stderr
