@@ -21,6 +21,11 @@ install: build
 dist: build
 	tools/dist.sh
 
+# Packs the same files as a Debian package, dist/kconf_VERSION-1_amd64.deb. It needs dpkg-deb.
+.PHONY: deb
+deb: build
+	tools/deb.sh
+
 # Builds kconf without proofs and runs it on the example: the full .config on standard output, all else on standard error.
 EXAMPLE = $(shell cd crates/kconf_firmware/data && find . -name rows -prune -o -type f -printf '%P ')
 example:
@@ -91,9 +96,10 @@ make-names: build
 	bench/make_names.py crates/kconf/out/kconf
 
 # Runs the examples of docs/formats.md and the makefiles of docs/make.md, checks the documents (options, version, links, line
-# lengths), and looks whether each mutant still fits the code.
+# lengths), and looks whether each mutant still fits the code. Counts the figures of docs/figures.md anew.
 docs: build
 	mutants/check.py
+	bench/figures.py >docs/figures.md.new && mv docs/figures.md.new docs/figures.md
 	bench/docs.py crates/kconf/out/kconf
 
 clean:

@@ -12,7 +12,7 @@
   data, the cause in docs/differences.md.
 - A line of a document has at most 120 columns, except in tables.
 - docs/bench.svg must be the chart of the first table of times in docs/performance.md.
-- README.md must have the numbers of trusted files and definitions, and of their lines, that bench/trusted.py --run ends with.
+- docs/figures.md must be what bench/figures.py counts.
 """
 
 import glob
@@ -276,16 +276,10 @@ def chart():
     return [] if drawn.stdout == read("docs/bench.svg") else ["docs/bench.svg: run bench/chart.py docs/performance.md >docs/bench.svg"]
 
 
-def trusted():
-    """Complaints about the numbers of trusted files, definitions and lines: of the language, of the I/O layer with the command line, and of all."""
-    listed = subprocess.run([os.path.join(TOP, "bench/trusted.py"), "--run"], capture_output=True, text=True).stdout
-    found = re.findall(r"^ *(\d+) lines in +(\d+) definitions: ", listed, re.M)
-    if len(found) != 3:
-        return ["bench/trusted.py --run does not end with three sums"]
-    page, sums = " ".join(read("README.md").split()), [(f"{int(lines):,}", f"{int(definitions):,}") for lines, definitions in found]
-    wanted = [f"{definitions} definitions ({lines} lines)" for lines, definitions in sums]
-    wanted += [f"{files} files ({int(lines):,} lines)" for lines, files in re.findall(r"^ *(\d+) lines in +(\d+) files: ", listed, re.M)]
-    return [f"README.md does not have {it} of bench/trusted.py --run" for it in wanted if it not in page]
+def figures():
+    """Complaints about docs/figures.md: it must be what bench/figures.py prints."""
+    counted = subprocess.run([os.path.join(TOP, "bench/figures.py")], capture_output=True, text=True).stdout
+    return [] if counted == read("docs/figures.md") else ["docs/figures.md: run bench/figures.py >docs/figures.md"]
 
 
 def main():
@@ -295,7 +289,7 @@ def main():
     for name, text in makefiles().items():
         unmade += makefile(kconf, name, text)
     broken, count = links()
-    complaints = wrong + unmade + broken + cases() + causes() + widths() + chart() + trusted()
+    complaints = wrong + unmade + broken + cases() + causes() + widths() + chart() + figures()
     for complaint in complaints:
         print(complaint)
     print(f"{runs} examples, {count} links, {len(complaints)} complaints")
