@@ -80,7 +80,7 @@ pub fn read_listing(alloc: Global, map: &FileMap, root: &[u8]) -> Result<RootRea
     ensures refused { IfErr result (λ r. r.cause ≢ Memory → Expands (bytes_in map.now) root.now (Err (refusal_view r))) }
     ensures memory { IfErr result IsMemory }
 {
-    let mut names = Names::new(alloc);
+    let mut names = Names::keyed(alloc, map.key());
     let expansion = expand(alloc, map, root, &mut names)?;
     Ok(listing_of(names, expansion))
 }

@@ -4,11 +4,13 @@ ghost use Rattle.kc_disk.specs.Limits.{most_reads};
 
 use crate::destination::{Destination, destination_of};
 use crate::diagnostics::Diagnostics;
+use crate::open_file::{Devices, open_to_read};
 use crate::same_text::holds_text;
-use crate::temporary::{TemporaryFile, complete, move_to_place, remove, start};
+use crate::temporary::{Started, TemporaryFile, move_to_place, remove, start};
+use crate::terminal::show;
 use kc_io::{Device, Fault, Site};
 use std::fs::File;
-use std::io::{self, ErrorKind, Read, Write};
+use std::io::{self, ErrorKind, IsTerminal, Read, Write};
 use std::mem;
 
 /// How many reads that give bytes there may be: a file that gives more has no end.
@@ -17,6 +19,9 @@ const MOST_READS: u64 = 1 << 63;
 /// The name of standard output: a text of this name goes there.
 const STANDARD_OUTPUT: &str = "/dev/stdout";
 
+/// The only name that may be read and written, though no regular file is there.
+const NULL: &str = "/dev/null";
+
 // Where the text goes that is written.
 #[derive(Drop)]
 enum Writing {
@@ -24,10 +29,14 @@ enum Writing {
     Nothing,
     // To standard output, as it is.
     StandardOutput,
+    // To standard output, which is a terminal.
+    StandardTerminal,
+    // To this terminal.
+    Terminal(File),
     // To this file, which stands at its place.
     InPlace(File),
     // To this file, which is to be moved there.
-    Beside(File, TemporaryFile),
+    Beside(TemporaryFile),
 }
 
 /// The files of a disk and the diagnostics of the process (our own). It tells nothing.
@@ -45,6 +54,8 @@ pub struct SystemDevice<'a> {
     diagnostics: Diagnostics<'a>,
     // The file that is read.
     reading: Option<File>,
+    // The names that were read though no regular file is there. No text goes to such a name.
+    special: Vec<String>,
     // How many reads gave bytes.
     reads: u64,
     // Where the text goes that is written.
@@ -61,6 +72,7 @@ impl<'a> SystemDevice<'a> {
             rt,
             diagnostics,
             reading: None,
+            special: Vec::new(rt.alloc()),
             reads: 0,
             writing: Writing::Nothing,
             whole: Vec::new(rt.alloc()),
@@ -85,23 +97,31 @@ impl<'a> SystemDevice<'a> {
         diagnostics.into_kept()
     }
 
-    // Makes an empty file: at its place, or beside it. Standard output is there and keeps what it holds.
-    fn make(&mut self, site: Site, name: &str) -> io::Result<()> {
-        let made = match site {
-            Site::Place if name == STANDARD_OUTPUT => Writing::StandardOutput,
-            Site::Place => Writing::InPlace(File::create(self.rt, name)?),
-            Site::Beside => self.start_beside(name)?,
-        };
-        self.writing = made;
+    // Opens an input file, whose name is kept if it is no regular one.
+    fn open_input(&mut self, name: &str) -> io::Result<()> {
+        let (file, opened) = open_to_read(self.rt, name, Devices::NullAndTerminals)?;
+        if !opened.is_file() && name != NULL {
+            self.special.push(String::from_str(self.rt.alloc(), name)?)?;
+        }
+        self.reading = Some(file);
         Ok(())
     }
 
-    // Makes the file for a text that is to be moved to its place, if it can be.
-    fn start_beside(&mut self, name: &str) -> io::Result<Writing> {
-        match start(self.rt, name, &mut self.tried)? {
-            (file, Some(temporary)) => Ok(Writing::Beside(file, temporary)),
-            (file, None) => Ok(Writing::InPlace(file)),
+    // Makes an empty file: at its place, or beside it. Standard output is there and keeps what it holds.
+    fn make(&mut self, site: Site, name: &str) -> io::Result<()> {
+        if self.special.iter().any(|read| read.as_str() == name) {
+            return Err(io::Error::from(ErrorKind::InvalidInput));
         }
+        let made = match site {
+            Site::Place if name == STANDARD_OUTPUT => standard_output(self.rt),
+            Site::Place => in_place(create(self.rt, name)?),
+            Site::Beside => match start(self.rt, name, &mut self.tried)? {
+                Started::Beside(temporary) => Writing::Beside(temporary),
+                Started::InPlace(file) => in_place(file),
+            },
+        };
+        self.writing = made;
+        Ok(())
     }
 
     // Closes the file that is written. One that is to be moved has its permissions then, and is on the disk.
@@ -110,14 +130,14 @@ impl<'a> SystemDevice<'a> {
             self.writing = Writing::Nothing;
             return Ok(());
         }
-        if let Writing::Beside(file, temporary) = &self.writing {
-            complete(file, temporary)?;
+        if let Writing::Beside(temporary) = &self.writing {
+            temporary.complete(self.rt)?;
         }
         self.whole.reserve(1)?;
         match mem::replace(&mut self.writing, Writing::Nothing) {
-            Writing::Nothing | Writing::StandardOutput => {}
-            Writing::InPlace(_file) => self.whole.push(None)?,
-            Writing::Beside(_file, temporary) => self.whole.push(Some(temporary))?,
+            Writing::Nothing | Writing::StandardOutput | Writing::StandardTerminal => {}
+            Writing::Terminal(_file) | Writing::InPlace(_file) => self.whole.push(None)?,
+            Writing::Beside(temporary) => self.whole.push(Some(temporary))?,
         }
         Ok(())
     }
@@ -139,6 +159,30 @@ impl<'a> SystemDevice<'a> {
         }
         self.try_names_anew();
         Ok(())
+    }
+}
+
+// Empties the file of this name, or makes it.
+#[inline(never)]
+fn create(rt: &HostRuntime, name: &str) -> io::Result<File> {
+    File::create(rt, name)
+}
+
+// Where a text for a file goes that is written where it stands.
+fn in_place(file: File) -> Writing {
+    if file.is_terminal() {
+        Writing::Terminal(file)
+    } else {
+        Writing::InPlace(file)
+    }
+}
+
+// Where a text for standard output goes.
+fn standard_output(rt: &HostRuntime) -> Writing {
+    if rt.stdout().is_terminal() {
+        Writing::StandardTerminal
+    } else {
+        Writing::StandardOutput
     }
 }
 
@@ -166,7 +210,16 @@ fn write_on(rt: &HostRuntime, writing: &mut Writing, bytes: &[u8]) -> io::Result
             rt.stdout().write_all(bytes)?;
             Ok(bytes.len())
         }
-        Writing::InPlace(file) | Writing::Beside(file, _) => file.write(bytes),
+        Writing::StandardTerminal => {
+            show(&mut rt.stdout(), bytes)?;
+            Ok(bytes.len())
+        }
+        Writing::Terminal(terminal) => {
+            show(terminal, bytes)?;
+            Ok(bytes.len())
+        }
+        Writing::InPlace(file) => file.write(bytes),
+        Writing::Beside(temporary) => temporary.write(bytes),
     }
 }
 
@@ -194,11 +247,8 @@ impl<'a> Device for SystemDevice<'a> {
 
     fn open(&mut self, name: &str, may_be_missing: bool) -> Result<bool, Fault> {
         self.reading = None;
-        match File::open(self.rt, name) {
-            Ok(file) => {
-                self.reading = Some(file);
-                Ok(true)
-            }
+        match self.open_input(name) {
+            Ok(()) => Ok(true),
             Err(error) if may_be_missing && error.kind() == ErrorKind::NotFound => Ok(false),
             Err(error) => Err(fault_of(&error)),
         }
@@ -224,11 +274,11 @@ impl<'a> Device for SystemDevice<'a> {
     }
 
     fn holds(&self, name: &str, bytes: &[u8]) -> bool {
-        let Ok(Destination::Taken(path, _)) = destination_of(self.rt, name) else {
+        let Ok(Destination::Taken(path, found)) = destination_of(self.rt, name) else {
             return false;
         };
         matches!(
-            holds_text(self.rt, path.as_path().as_str(), bytes),
+            holds_text(self.rt, path.as_path().as_str(), &found, bytes),
             Ok(true)
         )
     }
@@ -254,7 +304,7 @@ impl<'a> Device for SystemDevice<'a> {
     }
 
     fn clear(&mut self) {
-        if let Writing::Beside(_file, temporary) = mem::replace(
+        if let Writing::Beside(temporary) = mem::replace(
             &mut self.writing,
             Writing::Nothing,
         ) {

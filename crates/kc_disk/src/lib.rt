@@ -16,9 +16,12 @@ mod each;
 mod ended;
 mod folder;
 pub mod laws;
+mod open_file;
+mod permissions;
 mod program;
 mod same_text;
 mod temporary;
+mod terminal;
 mod usage;
 
 pub use arguments::Arguments;

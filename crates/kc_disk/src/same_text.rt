@@ -1,17 +1,27 @@
 //! Whether a file holds a text.
-use std::fs::File;
+use crate::destination::{changed, is_same_file};
+use std::fs::{File, Metadata};
 use std::io::{self, ErrorKind, Read};
 
 // How many bytes are compared at once.
 const BUFFER_SIZE: usize = 4_096;
 
-/// Returns whether the file at this path holds these bytes and no others.
+/// Returns whether the file that was found at this path holds these bytes and no others.
 ///
 /// # Errors
 ///
-/// Fails if the file cannot be opened or read.
-pub(crate) fn holds_text(rt: &HostRuntime, path: &str, bytes: &[u8]) -> io::Result<bool> {
+/// Fails if the file cannot be opened or read, or if another one is there now.
+#[inline(never)]
+pub(crate) fn holds_text(
+    rt: &HostRuntime,
+    path: &str,
+    found: &Metadata,
+    bytes: &[u8],
+) -> io::Result<bool> {
     let mut file = File::open(rt, path)?;
+    if !is_same_file(&file.metadata()?, found) {
+        return Err(changed());
+    }
     let mut buffer = [0u8; BUFFER_SIZE];
     let mut rest = bytes;
     for _ in 0..u64::MAX {

@@ -10,6 +10,7 @@ ghost use Rattle.kc_explain.specs.SourceLines.{StandsBehind, comment, excerpt_in
 
 use bstr::ByteSlice;
 use indexmap::IndexMap;
+use kc_expr::hash_key::HashKey;
 use kc_read::file_map::FileMap;
 use kc_text::is_blank;
 use std::alloc::{AllocError, Global};
@@ -27,7 +28,7 @@ struct LinePlace<'f, 'n> {
 #[derive(Drop)]
 pub(crate) struct LineReader<'f, 'n> {
     files: &'f FileMap,
-    places: IndexMap<&'n [u8], LinePlace<'f, 'n>>,
+    places: IndexMap<&'n [u8], LinePlace<'f, 'n>, HashKey>,
 }
 
 impl<'f, 'n> Model for LineReader<'f, 'n> {
@@ -50,7 +51,7 @@ impl<'f, 'n> LineReader<'f, 'n> {
     {
         LineReader {
             files,
-            places: IndexMap::new(alloc),
+            places: IndexMap::with_hasher(alloc, files.key()),
         }
     }
 

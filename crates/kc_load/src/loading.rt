@@ -13,6 +13,7 @@ ghost use Rattle.kc_load.specs.Steps.{FailsAt, PushesSources, AddsFile, Visits, 
 use crate::fault::LoadFault;
 use crate::folder::{Folder, FolderFault};
 use crate::path::path_of;
+use kc_expr::hash_key::HashKey;
 use kc_expr::names::Names;
 use kc_read::{FileMap, MOST_LINES, sources_of};
 use kc_text::line_count;
@@ -47,16 +48,16 @@ fn read_named<F: Folder>(
 }
 
 impl Loading {
-    /// The first name waits.
-    pub(crate) fn new(alloc: Global, first: &str) -> Result<Loading, AllocError>
+    /// The first name waits. The tables of names have this key.
+    pub(crate) fn new(alloc: Global, first: &str, key: HashKey) -> Result<Loading, AllocError>
         ensures { IfOk result (λ loading. state_of loading ≡ initial_state first.now) }
     {
         let mut waiting = Vec::new(alloc);
         waiting.push(Vec::from_slice(alloc, first.as_bytes())?)?;
         Ok(Loading {
             alloc,
-            files: FileMap::new(alloc),
-            requested: Names::new(alloc),
+            files: FileMap::keyed(alloc, key),
+            requested: Names::keyed(alloc, key),
             waiting,
             lines: 0,
         })
@@ -159,7 +160,7 @@ pub fn load<F: Folder>(
     // The folder's files stay, and its device failed at the path of the name that E18 tells, just now, and nowhere else.
     ensures leads { Leads (failed_load dir.now result) (F.state folder.old) (F.state folder.new) }
 {
-    let mut loading = Loading::new(alloc, kconfig)?;
+    let mut loading = Loading::new(alloc, kconfig, folder.key())?;
     while let Some(name) = loading.waiting.pop() {
         loading.visit(folder, dir, name)?;
         if loading.is_over() {

@@ -5,6 +5,7 @@ ghost use Rattle.kc_language.specs.Expansion.{bytes_in};
 ghost use Rattle.kc_read.specs.Files.{Puts};
 
 use indexmap::IndexMap;
+use kc_expr::hash_key::HashKey;
 use kc_text::FileText;
 use std::alloc::{AllocError, Global};
 use std::marker::Model;
@@ -13,7 +14,8 @@ use std::marker::Model;
 #[derive(Drop)]
 pub struct FileMap {
     alloc: Global,
-    files: IndexMap<Vec<u8>, FileText>,
+    key: HashKey,
+    files: IndexMap<Vec<u8>, FileText, HashKey>,
 }
 
 impl Model for FileMap {
@@ -25,14 +27,27 @@ impl Model for FileMap {
 }
 
 impl FileMap {
-    /// No files.
+    /// No files. The key of their table is known.
     pub fn new(alloc: Global) -> Self
+        ensures { result ≡ [] }
+    {
+        FileMap::keyed(alloc, HashKey::known())
+    }
+
+    /// No files, in a table with this key.
+    pub fn keyed(alloc: Global, key: HashKey) -> Self
         ensures { result ≡ [] }
     {
         FileMap {
             alloc,
-            files: IndexMap::new(alloc),
+            key,
+            files: IndexMap::with_hasher(alloc, key),
         }
+    }
+
+    /// The key of the table, for other tables of names of the same tree.
+    pub fn key(&self) -> HashKey {
+        self.key
     }
 
     /// Gives the name these bytes, in place of those that it had. Its only error is to be out of memory, which no name that

@@ -453,6 +453,7 @@ fn usage_of(alloc: Global, error: &Error) -> UsageError
 /// Those of [`UsageError`]. They leave nothing behind. `--check` and `--replace` exclude each other, as do `--config` and `--each`
 /// or `--each-from`, and `--explain` and these; `--depfile` needs `--out` beside them. The first of these faults is told, and after
 /// them the prefix and the depth.
+#[inline(never)]
 pub fn request_of(alloc: Global, words: &[String]) -> Result<Request, UsageError>
     // Each field is what the arguments hold, or what an absent option means.
     ensures ok { IfOk result (IsRequestOf (rows_for words.now)) }
