@@ -11,8 +11,9 @@
 # - the values are compared with those of the tree's own tool; a symbol without a line is n or empty;
 # - kconf-tree has to give the same values as kconf by hand;
 # - the full and the minimal file are compared byte for byte with those of the tree's own tool.
-# Then kconf --each runs all of these at once: bench/real/each.py says what it checks. And the list of kconf --list-new is compared
-# with that of the tree's own conf --listnewconfig: bench/real/new.py says over which inputs. On Linux 6.1 and 7.2 each line of
+# Then kconf --each runs all of these at once: bench/real/each.py says what it checks. Each line of these configurations has to be
+# kept, or reported by --warn-lost: bench/real/ignored.py. And the list of kconf --list-new is compared with that of the tree's
+# own conf --listnewconfig: bench/real/new.py says over which inputs. On Linux 6.1 and 7.2 each line of
 # the explanations of random symbols is checked by kconfiglib, and the command of docs/why.md is run: bench/real/explain.py.
 #
 # Then come:

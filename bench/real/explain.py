@@ -15,7 +15,7 @@ import tempfile
 import time
 
 COUNT = 200
-HEAD = re.compile(r"(\w+)(?:=(.*))? \((\w+)\): (.*)|(\w+): not defined, or without a type")
+HEAD = re.compile(r"(\w+)(?:=(.*))? \((\w+)\): (.*)|(\w+): (?:not a symbol, only mentioned|a symbol without a type)")
 FACT = re.compile(r" +(\S+):(\d+): (.*)")
 TARGET = re.compile(r"(not )?(selected|implied) by (\w+)=(\S*?)(?: if (.*))?: ([nmy])")
 
@@ -204,7 +204,7 @@ def explanations(text):
     """The lines about each symbol: those of a symbol that holds another one down lose two spaces."""
     made, is_inside = [], False
     for line in text.splitlines():
-        is_head = re.fullmatch(r"(?:  )?(?:\w+=.* \((?:bool|tristate|string|int|hex)\): .*|\w+: not defined, or without a type)", line)
+        is_head = re.fullmatch(r"(?:  )?(?:\w+=.* \((?:bool|tristate|string|int|hex)\): .*|\w+: (?:not a symbol, only mentioned|a symbol without a type))", line)
         if is_head:
             is_inside = line.startswith("  ")
             made.append([])

@@ -13,6 +13,7 @@ import builds
 import companion
 import each
 import explain
+import ignored
 import new
 import trees
 from conf import environment
@@ -84,6 +85,7 @@ def one_tree(name, place, kconf, known, causes, reasons):
     summary = told(tree, runs.all(place.none), known, causes)
     configurations, own = runs.given()
     summary.faults += not each.Each(tree, kconf, (root, kconfig), place.folder / "each" / name).all(configurations, own, causes)
+    summary.faults += not ignored.Ignored(tree, kconf, (root, kconfig), place.folder / "ignored" / name).all(configurations)
     lists = new.New(tree, kconf, kconf_tree(), (root, kconfig), place.folder / "new" / name)
     summary.faults += not lists.all(configurations, own, new.older(name, place), reasons)
     if name in EXPLAINED:

@@ -1,5 +1,5 @@
 -- That no line of the streams goes unaccounted for where lost values are warned of.
-use Rattle.std.proofs.Common.{◌≡◌, ◌⊎◌, inl, inr, ℕ, ◌<◌, zero, suc, Bool, true, false, List, [], ◌∷◌, ◌++◌, length, Some, None, refl, sym, ap, subst, ◌∙◌, append_assoc, append-nil, arith, codes, eqb, map, Option}
+use Rattle.std.proofs.Common.{◌≡◌, ◌≢◌, ◌⊎◌, inl, inr, ℕ, ◌<◌, zero, suc, Bool, true, false, List, [], ◌∷◌, ◌++◌, length, Some, None, refl, sym, ap, subst, ◌∙◌, append_assoc, append-nil, codes, eqb, map, Option}
 use Rattle.std.specs.Prelude.{◌&&◌, ◌||◌, not, find, is_some, replicate, slice_index_or, if◌then◌else◌, option_map}
 use Rattle.std.specs.List.{All, Contains, flat_map, slice_get}
 use Rattle.std.proofs.lemmas.Grind.{flat_map-append}
@@ -10,28 +10,29 @@ use Rattle.std.proofs.lemmas.Bool.{eqb-false, eqb-true}
 use Rattle.std.proofs.lemmas.Option.{slice_get-get_or, slice_get_within}
 use Rattle.std.proofs.lemmas.Slice.Eq.{bytes_eq-Decides}
 use Rattle.kc_language.specs.declared.expressions.SymId.{SymId}
+use Rattle.kc_language.specs.declared.expressions.SymbolType.TheVariants.{Undefined}
 use Rattle.kc_language.specs.declared.expressions.Tri.{Tri}
 use Rattle.kc_language.specs.declared.expressions.Tri.TheVariants.{N, M, Y}
 use Rattle.kc_language.specs.Expansion.{Files, numbered_lines}
 use Rattle.kc_language.specs.Explanations.{explanation_text}
 use Rattle.kc_language.specs.Statements.{Located, Numbered}
-use Rattle.kc_language.specs.Symbols.{Condition, SymbolFacts, TreeFacts, Warning}
+use Rattle.kc_language.specs.Symbols.{SymbolFacts, TreeFacts, Warning}
 use Rattle.kc_tree.specs.TreeFacts.{IsWellFormed}
 use Rattle.kc_build.specs.Trees.{TreesAreWellFormed}
 use Rattle.kc_language.specs.Values.{GivenValue, GivenTruth, GivenText, Member, SymbolPlace, same_given, same_tri, given_of, facts, name, type_in}
-use Rattle.kc_language.specs.ConfigFile.{ArePlacesOf, Places, place_at, StreamLocation, change_text, Effect, Silent, Warns, Assigns, warning_line, Line, UserInput, effect, input_after, is_within, lines_of, reading, stream_location, warning, warnings}
+use Rattle.kc_language.specs.ConfigFile.{ArePlacesOf, Places, place_at, StreamLocation, change_text, Effect, Silent, Warns, Assigns, warning_line, Line, UserInput, effect, input_after, is_reported, is_within, lines_of, meaning, reading, stream_location, warning, warnings}
 use Rattle.kc_config_file.specs.PartsOfConfigFile.{change_line}
 use Rattle.kc_config_file.specs.PartsOfConfigFile.{type_of, before_too_long, effect_text, warning_line_if}
-use Rattle.kc_language.specs.Texts.{Solution, known, warnings as value_warnings, solution_view, config_text, has_prompt, lost_at, lost_by, lost_lines, lost_of}
+use Rattle.kc_language.specs.Texts.{Solution, known, warnings as value_warnings, has_prompt, lost_at, lost_by, lost_lines, lost_of}
 use Rattle.kc_conf.specs.PartsOfTexts.{lost_line}
 use Rattle.kc_language.specs.declared.diagnostics.Warning.TheVariants.{SetAgain}
 use Rattle.kc_config_file.specs.ReadingLaws.{LinesGiveInTurn, LinesInTurn}
-use Rattle.kc_conf.specs.Laws.{HoldsLine, IsAccountedFor, IsSetAgain, NothingIsLost, RefusesNothing, WrittenAreWhole}
+use Rattle.kc_conf.specs.Laws.{DoneAreWhole, HoldsLine, IsAccountedFor, IsSetAgain, NothingIsLost, RefusesNothing}
 use Rattle.kc_conf.specs.PartsOfLaws.{IsKeptOrWarned, LeavesAlone}
 use Rattle.kc_language.specs.Outcome.{Options, lead, Outcome, lines_text, lost_text, lost_warnings, names_of, reported, read_of, root_file, streams, warned_files, with_rule}
 use Rattle.kc_language.specs.Outcome.{fresh_input}
 use Rattle.kc_conf.specs.Faults.{AreLines}
-use Rattle.kc_conf.proofs.OutcomeLemmas.{text_if_is}
+use Rattle.kc_conf.proofs.{EffectLemmas.{all_reported, assigned_typed, effect_is, silent_says}, RerunLemmas.{has_its_texts}}
 use Rattle.kc_conf.proofs.ExplainedLemmas.{AreLines-explanation, one_line}
 use Rattle.kc_conf.proofs.PartLemmas.{AreLines-append, AreLines-each, AreLines-nothing, AreLines-reading, AreLines-warning_if, AreLines-warnings}
 
@@ -95,11 +96,6 @@ one_of_all f (x ∷ ids) (suc i) id at =
     let (before, after, is) = one_of_all f ids i id at in
     (f x ++ before, after, ap (λ t. f x ++ t) is ∙ sym (append_assoc (f x) before (f id ++ after)))
 
--- a symbol with a prompt has one prompt at least
-pub some_prompts : (prompts : List Condition) → has_prompt prompts ≡ true → 0 < length prompts
-some_prompts [] e = absurd cc
-some_prompts (p ∷ prompts) e = omega arith
-
 line_stands : (line : List ℕ) (lines before after : List (List ℕ)) → lines ≡ before ++ ((line ∷ []) ++ after) → StandsIn (line ++ codes "\n") (lines_text lines)
 line_stands line lines before after is = (
   lines_text before,
@@ -109,19 +105,18 @@ line_stands line lines before after is = (
 )
 
 module _ (lines : List (Option StreamLocation)) (s : Solution) (id : SymId) (f : SymbolFacts) (given : GivenValue) (at : StreamLocation) (defined : facts s.tree id ≡ Some f)
-    (one : Contains s.tree.defined id) (prompted : has_prompt f.prompts ≡ true) (there : place_at s.places (SymbolPlace id.0) ≡ Some given) (by_line : slice_index_or lines id.0 None ≡ Some at) where
+    (one : Contains s.tree.defined id) (there : place_at s.places (SymbolPlace id.0) ≡ Some given) (by_line : slice_index_or lines id.0 None ≡ Some at) where
   abbrev value : GivenValue
   value = given_of (known s id)
 
   abbrev line_of : List ℕ
-  line_of = lost_line at (name s.tree id) f.symbol_type given value
+  line_of = lost_line (has_prompt f.prompts) at (name s.tree id) f.symbol_type given value
 
   lost_here : lost_at lines s id ≡ (if same_given given value then [] else line_of ∷ [])
   lost_here =
       ap (λ o. lost_of (name s.tree id) o (slice_index_or lines id.0 None) (place_at s.places (SymbolPlace id.0)) value) defined
-      ∙ ap (λ b. if b then lost_by (name s.tree id) f.symbol_type (slice_index_or lines id.0 None) (place_at s.places (SymbolPlace id.0)) value else []) prompted
-      ∙ ap (λ o. lost_by (name s.tree id) f.symbol_type (slice_index_or lines id.0 None) o value) there
-      ∙ ap (λ l. lost_by (name s.tree id) f.symbol_type l (Some given) value) by_line
+      ∙ ap (λ o. lost_by (has_prompt f.prompts) (name s.tree id) f.symbol_type (slice_index_or lines id.0 None) o value) there
+      ∙ ap (λ l. lost_by (has_prompt f.prompts) (name s.tree id) f.symbol_type l (Some given) value) by_line
 
   kept_or_told : (given ≡ value) ⊎ StandsIn (line_of ++ codes "\n") (lines_text (lost_lines lines s))
   kept_or_told = by (same_given given value) refl where
@@ -366,7 +361,7 @@ module _ (files : Files) (options : Options) (all : List (List ℕ)) (tree : Tre
         (warned_at tree prefix turn empty before later l)))
 
     module _ (before later : List Line) (l : Line) (split : lines ≡ before ++ l ∷ later) (s : SymId) (given : GivenValue) (assigns : effect tree prefix l ≡ Assigns s given)
-        (f : SymbolFacts) (defined : facts tree s ≡ Some f) (prompted : has_prompt f.prompts ≡ true) where
+        (f : SymbolFacts) (defined : facts tree s ≡ Some f) (typed : f.symbol_type ≢ Undefined) where
       abbrev here : UserInput
       here = input_after tree prefix empty (before ++ l ∷ [])
 
@@ -395,7 +390,7 @@ module _ (files : Files) (options : Options) (all : List (List ℕ)) (tree : Tre
 
       -- what is told of lost values, with explanations or without
       abbrev line_told_of : TreeFacts → List ℕ
-      line_told_of t = lost_line (stream_location l) (name t s) f.symbol_type given (given_of (known solution s)) ++ codes "\n"
+      line_told_of t = lost_line (has_prompt f.prompts) (stream_location l) (name t s) f.symbol_type given (given_of (known solution s)) ++ codes "\n"
 
       abbrev explained : SymId → List ℕ
       explained x = explanation_text tree_lines solution last (codes "  ") 1 x
@@ -427,13 +422,13 @@ module _ (files : Files) (options : Options) (all : List (List ℕ)) (tree : Tre
 
           by : (b : Bool) → (options.explain_lost && options.warn_lost) ≡ b → IsKeptOrWarned tree solution outcome.warned l s f given
           by true e = elim (kept_or_explained last_lines solution s f given (stream_location l) (subst (λ (t : TreeFacts). facts t s ≡ Some f) (sym is_whole.solution_is.tree_is) defined)
-              (subst (λ (t : TreeFacts). Contains t.defined s) (sym is_whole.solution_is.tree_is) (formed.prompted_defined s f defined (some_prompts f.prompts prompted))) prompted there by_line
+              (subst (λ (t : TreeFacts). Contains t.defined s) (sym is_whole.solution_is.tree_is) (formed.typed_defined s f defined typed)) there by_line
               explained (AreLines-explanation tree_lines last solution (codes "  ") 1)) [
                 | inl same ↦ inl same
                 | inr told ↦ heard_in true e told
               ]
           by false e = elim (kept_or_told last_lines solution s f given (stream_location l) (subst (λ (t : TreeFacts). facts t s ≡ Some f) (sym is_whole.solution_is.tree_is) defined)
-              (subst (λ (t : TreeFacts). Contains t.defined s) (sym is_whole.solution_is.tree_is) (formed.prompted_defined s f defined (some_prompts f.prompts prompted))) prompted there by_line) [
+              (subst (λ (t : TreeFacts). Contains t.defined s) (sym is_whole.solution_is.tree_is) (formed.typed_defined s f defined typed)) there by_line) [
                 | inl same ↦ inl same
                 | inr told ↦ heard_in false e (subst (λ c. StandsIn (line_told_of solution.tree) (lines_text (if c then lost_lines last_lines solution else []))) (sym asked) told)
               ]
@@ -494,15 +489,22 @@ module _ (files : Files) (options : Options) (all : List (List ℕ)) (tree : Tre
     each_accounted_for : (before later : List Line) (l : Line) → lines ≡ before ++ l ∷ later → IsAccountedFor tree prefix solution outcome.warned l later (effect tree prefix l)
     each_accounted_for before later l split = by (effect tree prefix l) refl where
       by : (e : Effect) → effect tree prefix l ≡ e → IsAccountedFor tree prefix solution outcome.warned l later e
-      by Silent is_effect = tt
+      by Silent is_effect = silent_says tree (meaning tree prefix l) (effect_is tree prefix l ∙ is_effect)
       by (Warns line_warning) is_effect =
-          stands_within [] (warning_line l.stream l.number line_warning) [] outcome.warned AreLines-nothing (line_told before later l (Warns line_warning) split is_effect)
-      by (Assigns s given) is_effect = heard before later l split s given is_effect
+          stands_within [] (warning_line l.stream l.number line_warning) [] outcome.warned AreLines-nothing
+          (subst (λ b. StandsIn (warning_line_if l.stream l.number (if b then Some line_warning else None) ++ []) outcome.warned)
+          (ap (λ b. is_reported b line_warning) asked ∙ all_reported line_warning) (line_told before later l (Warns line_warning) split is_effect))
+      by (Assigns s given) is_effect =
+          let (f, defined, typed) = assigned_typed tree (meaning tree prefix l) s given (effect_is tree prefix l ∙ is_effect) in
+          (f, defined, heard before later l split s given is_effect f defined typed)
 
-pub nothing_lost : TreesAreWellFormed → WrittenAreWhole → LinesGiveInTurn → NothingIsLost
-nothing_lost trees written turns files options all outcome text is_outcome there asked =
-    let (tree, solution, is_whole, (opened, are, log, expands, is), passed) = written files options all outcome text is_outcome there in
-    let text_is : text ≡ config_text tree options.prefix (solution_view solution) =
-    sym (text_if_is options.out _ text (sym (ap (λ (o : Outcome). o.config) is) ∙ there))
-    in
-    (tree, solution, is_whole, text_is, each_accounted_for files options all tree solution is_whole (trees files (root_file options) tree is_whole.accepted.built) (turns tree options.prefix) asked outcome opened (numbered_lines log.lines) is)
+pub nothing_lost : TreesAreWellFormed → DoneAreWhole → LinesGiveInTurn → NothingIsLost
+nothing_lost trees wholes turns files options all outcome is_outcome done asked =
+    let (tree, solution, is_whole, (opened, are, log, expands, is), passed) = wholes files options all outcome is_outcome done in (
+      tree,
+      solution,
+      is_whole,
+      has_its_texts files options all outcome tree solution opened log is,
+      each_accounted_for files options all tree solution is_whole (trees files (root_file options) tree is_whole.accepted.built) (turns tree options.prefix) asked outcome opened
+          (numbered_lines log.lines) is,
+    )

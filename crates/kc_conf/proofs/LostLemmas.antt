@@ -1,6 +1,6 @@
 -- The lines of the values that are lost, symbol by symbol.
-use Rattle.std.proofs.Common.{◌≡◌, ℕ, ◌+◌, ◌≤◌, Bool, true, false, List, [], ◌∷◌, ◌++◌, length, take, Option, Some, None, sym, ◌∙◌, ap, append-nil}
-use Rattle.std.specs.Prelude.{if◌then◌else◌, slice_index_or, option_map}
+use Rattle.std.proofs.Common.{◌≡◌, ℕ, ◌+◌, ◌≤◌, Bool, List, [], ◌∷◌, ◌++◌, length, take, Option, Some, None, sym, ◌∙◌, ap, append-nil}
+use Rattle.std.specs.Prelude.{slice_index_or, option_map}
 use Rattle.kc_language.specs.ConfigFile.{StreamLocation, Places, place_at}
 use Rattle.std.specs.List.{slice_get, flat_map}
 use Rattle.std.proofs.lemmas.Grind.{flat_map-append}
@@ -44,24 +44,14 @@ module _ (rows : RowsTellFacts) (lines : List (Option StreamLocation)) (s : Solu
   pub lost-nowhere : None ≡ slice_get l.symbols.items i.0 → lost_at lines s i ≡ []
   lost-nowhere e = line None e
 
-  abbrev its_line : Symbol → List (List ℕ)
-  its_line row = lost_by (name s.tree i) row.symbol_type (slice_index_or lines i.0 None) (place_at s.places (SymbolPlace i.0)) (given_of (known s i))
-
-  -- and none without a prompt
-  pub lost-unprompted : (row : Symbol) → Some row ≡ slice_get l.symbols.items i.0 → (b : Bool) → b ≡ has_prompt (facts_of l 0 row).prompts → b ≡ false → lost_at lines s i ≡ []
-  lost-unprompted row e b is none = line (Some row) e ∙ ap (λ c. if c then its_line row else []) (sym is ∙ none)
-
-  pub lost-prompted : (row : Symbol) → Some row ≡ slice_get l.symbols.items i.0 → (b : Bool) → b ≡ has_prompt (facts_of l 0 row).prompts → b ≡ true →
-      lost_at lines s i ≡ lost_by (name s.tree i) row.symbol_type (slice_index_or lines i.0 None) (place_at s.places (SymbolPlace i.0)) (given_of (known s i))
-  lost-prompted row e b is some = line (Some row) e ∙ ap (λ c. if c then its_line row else []) (sym is ∙ some)
-
   -- else the line of what was given and what it is
-  pub lost-line : (row : Symbol) → Some row ≡ slice_get l.symbols.items i.0 → (b : Bool) → b ≡ has_prompt (facts_of l 0 row).prompts → b ≡ true →
+  pub lost-line : (row : Symbol) → Some row ≡ slice_get l.symbols.items i.0 → (b : Bool) → b ≡ has_prompt (facts_of l 0 row).prompts →
       (called : List ℕ) (at : Option StreamLocation) (places : Places) (given : Option GivenValue) (value : GivenValue) → called ≡ name tree i → at ≡ slice_index_or lines i.0 None → places ≡ s.places → given ≡ place_at places (SymbolPlace i.0) →
-      value ≡ given_of (known s i) → lost_by called row.symbol_type at given value ≡ lost_at lines s i
-  lost-line row e b is some called at places given value called_is at_is places_are given_is value_is =
-      ap (λ n. lost_by n row.symbol_type at given value) (called_is ∙ ap (λ (t : TreeFacts). name t i) same)
-      ∙ ap (λ a. lost_by (name s.tree i) row.symbol_type a given value) at_is
-      ∙ ap (λ g. lost_by (name s.tree i) row.symbol_type (slice_index_or lines i.0 None) g value) (given_is ∙ ap (λ p. place_at p (SymbolPlace i.0)) places_are)
-      ∙ ap (λ v. lost_by (name s.tree i) row.symbol_type (slice_index_or lines i.0 None) (place_at s.places (SymbolPlace i.0)) v) value_is
-      ∙ sym (lost-prompted row e b is some)
+      value ≡ given_of (known s i) → lost_by b called row.symbol_type at given value ≡ lost_at lines s i
+  lost-line row e b is called at places given value called_is at_is places_are given_is value_is =
+      ap (λ n. lost_by b n row.symbol_type at given value) (called_is ∙ ap (λ (t : TreeFacts). name t i) same)
+      ∙ ap (λ a. lost_by b (name s.tree i) row.symbol_type a given value) at_is
+      ∙ ap (λ g. lost_by b (name s.tree i) row.symbol_type (slice_index_or lines i.0 None) g value) (given_is ∙ ap (λ p. place_at p (SymbolPlace i.0)) places_are)
+      ∙ ap (λ v. lost_by b (name s.tree i) row.symbol_type (slice_index_or lines i.0 None) (place_at s.places (SymbolPlace i.0)) v) value_is
+      ∙ ap (λ c. lost_by c (name s.tree i) row.symbol_type (slice_index_or lines i.0 None) (place_at s.places (SymbolPlace i.0)) (given_of (known s i))) is
+      ∙ sym (line (Some row) e)

@@ -61,8 +61,8 @@ AreLines-change at name symbol_type (Some old) (Some from) given = by (same_give
 
 AreLines-effect : (tree : TreeFacts) (input : UserInput) (at : StreamLocation) (e : Effect) → AreLines (effect_text tree input at e)
 AreLines-effect tree input at e =
-    AreLines-append (warning_line_if at.stream at.number (effect_warning tree input.places e)) (effect_change tree input at e)
-    (AreLines-warning_if at.stream at.number (effect_warning tree input.places e)) (changed e)
+    AreLines-append (warning_line_if at.stream at.number (effect_warning input.asks_unset tree input.places e)) (effect_change tree input at e)
+    (AreLines-warning_if at.stream at.number (effect_warning input.asks_unset tree input.places e)) (changed e)
   where
     changed : (e : Effect) → AreLines (effect_change tree input at e)
     changed Silent = AreLines-nothing

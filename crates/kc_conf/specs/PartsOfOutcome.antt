@@ -45,7 +45,7 @@ abbrev pub error_if_at : Option (List ℕ × ℕ) → List ℕ → List ℕ
 error_if_at location text = elim location [ None ↦ error_line text | Some place ↦ error_at place.0 place.1 text ]
 
 -- ---- What reading and solving give
--- The user's lines were all taken as written: none was warned of (K7 to K9) or changed what another gave, no user value that counts lies outside
+-- The user's lines were all taken as written: none was warned of (K7 to K9 and K16) or changed what another gave, no user value that counts lies outside
 -- its range, and none is reported as lost.
 abbrev pub is_taken : Options → UserInput → Solution → Bool
 is_taken options input solution =

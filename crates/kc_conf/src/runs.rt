@@ -199,6 +199,7 @@ fn fresh_input<'a>(
         tree,
         options.warn_lost || options.explanation.is_some(),
     )?;
+    input.ask_unset(options.warn_lost);
     match &options.list_gone {
         None => Ok(input),
         Some(_) => {

@@ -1,5 +1,5 @@
 -- The laws of lines that are read one after another.
-use Rattle.std.proofs.Common.{◌≡◌, ℕ, List, [], ◌∷◌, ◌++◌, refl, ap, ◌∙◌, append-nil, Option, Some}
+use Rattle.std.proofs.Common.{◌≡◌, ℕ, Bool, List, [], ◌∷◌, ◌++◌, refl, ap, ◌∙◌, append-nil, Option, Some}
 use Rattle.std.specs.Prelude.{slice_set}
 use Rattle.kc_language.specs.declared.expressions.SymId.{SymId}
 use Rattle.kc_language.specs.Symbols.{TreeFacts}
@@ -32,15 +32,15 @@ module _ (tree : TreeFacts) (prefix : List ℕ) where
       ∙ ap (λ t. warning tree prefix input l ++ t) (warnings-nothing tree prefix (input_after tree prefix input (l ∷ [])))
       ∙ append-nil (warning tree prefix input l)
 
-  none_untaken : (places : Places) → untaken tree prefix places [] ≡ []
+  none_untaken : (asked : Bool) (places : Places) → untaken tree prefix asked places [] ≡ []
   unfolding untaken
-  none_untaken places = refl
+  none_untaken asked places = refl
 
-  one_untaken : (places : Places) (l : Line) → untaken tree prefix places (l ∷ []) ≡ untaken_line tree prefix places l
-  one_untaken places l =
-      untaken-cons tree prefix places l []
-      ∙ ap (λ (ls : List Line). untaken_line tree prefix places l ++ ls) (none_untaken (places_after tree prefix places (l ∷ [])))
-      ∙ append-nil (untaken_line tree prefix places l)
+  one_untaken : (asked : Bool) (places : Places) (l : Line) → untaken tree prefix asked places (l ∷ []) ≡ untaken_line tree prefix asked places l
+  one_untaken asked places l =
+      untaken-cons tree prefix asked places l []
+      ∙ ap (λ (ls : List Line). untaken_line tree prefix asked places l ++ ls) (none_untaken asked (places_after tree prefix places (l ∷ [])))
+      ∙ append-nil (untaken_line tree prefix asked places l)
 
   add_up : LinesAddUp tree prefix
   add_up = record {

@@ -264,8 +264,8 @@ module _ (setting : SettingKeepsPlaces) (selecting : SelectingKeepsPlaces) where
 
   -- what reading streams leaves, from empty places
   pub streams_leave : EmptyArePlaces → StreamsLeavePlaces
-  streams_leave empty tree prefix keeps_lines gone streams formed =
-      reading_keeps tree prefix formed setting selecting (lines_of streams) (record (no_input keeps_lines tree) { gone = gone }) (streams_lines streams) (empty tree)
+  streams_leave empty tree prefix keeps_lines gone asks_unset streams formed =
+      reading_keeps tree prefix formed setting selecting (lines_of streams) (record (no_input keeps_lines tree) { gone = gone; asks_unset = asks_unset }) (streams_lines streams) (empty tree)
 
   -- the lines before a refused one
   pub refusals_keep : RefusalsKeepPlaces

@@ -67,8 +67,8 @@ whole-change at name symbol_type (Some old) (Some from) given = by (same_given o
 
 whole-effect : (tree : TreeFacts) (input : UserInput) (at : StreamLocation) (e : Effect) → is_whole_lines (effect_text tree input at e) ≡ true
 whole-effect tree input at e =
-    is_whole_lines-append (warning_line_if at.stream at.number (effect_warning tree input.places e)) (effect_change tree input at e)
-    (whole-warning_if at.stream at.number (effect_warning tree input.places e)) (changed e)
+    is_whole_lines-append (warning_line_if at.stream at.number (effect_warning input.asks_unset tree input.places e)) (effect_change tree input at e)
+    (whole-warning_if at.stream at.number (effect_warning input.asks_unset tree input.places e)) (changed e)
   where
     changed : (e : Effect) → is_whole_lines (effect_change tree input at e) ≡ true
     changed Silent = refl

@@ -155,7 +155,7 @@ effect_change tree input at (Assigns s given) =
 
 -- what a line of this effect warns of, given the input before it
 abbrev pub effect_text : TreeFacts → UserInput → StreamLocation → Effect → List ℕ
-effect_text tree input at effect = warning_line_if at.stream at.number (effect_warning tree input.places effect) ++ effect_change tree input at effect
+effect_text tree input at effect = warning_line_if at.stream at.number (effect_warning input.asks_unset tree input.places effect) ++ effect_change tree input at effect
 
 -- the line that gives symbol i a value
 abbrev pub line_for : ℕ → StreamLocation → Effect → Option StreamLocation

@@ -42,8 +42,8 @@ ReadingKeepsPlaces =
 -- What reading any streams leaves, from empty places, holds what is allowed.
 abbrev pub StreamsLeavePlaces : Type 0
 StreamsLeavePlaces =
-    (tree : TreeFacts) (prefix : List ℕ) (keeps_lines : Bool) (gone : Option (List ℕ × List ℕ)) (streams : List Stream) → IsWellFormed tree →
-    ArePlaces tree (reading_of tree prefix (record (no_input keeps_lines tree) { gone = gone }) streams).input.places
+    (tree : TreeFacts) (prefix : List ℕ) (keeps_lines : Bool) (gone : Option (List ℕ × List ℕ)) (asks_unset : Bool) (streams : List Stream) → IsWellFormed tree →
+    ArePlaces tree (reading_of tree prefix (record (no_input keeps_lines tree) { gone = gone; asks_unset = asks_unset }) streams).input.places
 
 -- Places that hold what is allowed still do after a call that was refused.
 abbrev pub RefusalsKeepPlaces : Type 0

@@ -22,8 +22,8 @@ pub enum Effect<'a> {
     Assigns(SymId, UserValue),
 }
 
-/// What the line does: an unset line gives n to a bool or tristate and leaves another symbol alone, a set line gives
-/// the value that its text spells, where it is allowed. Its only error is to be out of memory.
+/// What the line does: an unset line gives n to a bool or tristate and has no effect on another symbol (K16), a set line
+/// gives the value that its text spells, where it is allowed. Its only error is to be out of memory.
 pub fn line_effect<'a>(
     alloc: Global,
     tree: &Tree,
@@ -58,7 +58,9 @@ fn unset_effect<'a>(tree: &Tree, name: &'a [u8]) -> Effect<'a>
         Some(id) => match type_of(tree, id) {
             SymbolType::Undefined => Effect::Warns(Warning::UnknownSymbol(name)),
             SymbolType::Bool | SymbolType::Tristate => Effect::Assigns(id, UserValue::Tri(Tri::N)),
-            SymbolType::Str | SymbolType::Int | SymbolType::Hex => Effect::Silent,
+            SymbolType::Str | SymbolType::Int | SymbolType::Hex => {
+                Effect::Warns(Warning::TextUnset(name))
+            }
         },
     }
 }

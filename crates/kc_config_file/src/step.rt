@@ -1,17 +1,18 @@
 //! What one line of a stream does to the user's input.
 ghost use Rattle.std.specs.Prelude.{◌≡◌, ◌++◌, ◌<◌, true, [], ◌∷◌, length, map, slice_set, Some, None, IfOk, OnOk, OnErr, IfSome, option_map};
 ghost use Rattle.kc_user.specs.ValueView.{given_of_value};
-ghost use Rattle.kc_language.specs.ConfigFile.{change_text, is_change, meaning_of, Assigns, Warns, effect_of, is_gone, not_allowed, warning_line, ArePlacesOf, place_at, places_given};
+ghost use Rattle.kc_language.specs.ConfigFile.{change_text, is_change, meaning_of, Assigns, Warns, effect_of, is_gone, is_reported, not_allowed, warning_line, ArePlacesOf, place_at, places_given};
 ghost use Rattle.kc_config_file.specs.PartsOfConfigFile.{change_line};
 ghost use Rattle.kc_config_file.specs.PartsOfConfigFile.{effect_text, choice_of};
 ghost use Rattle.kc_language.specs.declared.diagnostics.Warning.TheVariants.{Changed, SetAgain};
-ghost use Rattle.kc_config_file.specs.LineSteps.{input_by, input_with, refused_by, with_member};
+ghost use Rattle.kc_config_file.specs.LineSteps.{input_by, input_left, input_with, refused_by, with_member};
+ghost use Rattle.kc_config_file.specs.ConfigFileLine.{meaning_view};
 ghost use Rattle.kc_diagnostics.specs.Warnings.{shown_warning};
 ghost use Rattle.kc_config_file.specs.ShownView.{given_by, location_of};
 ghost use Rattle.kc_language.specs.Values.{SymbolPlace, is_yes};
 
 use crate::effect::{Effect, line_effect, type_of, warn};
-use crate::line::parse_config_file_line;
+use crate::line::{ConfigFileLine, parse_config_file_line};
 use crate::prefix::Prefix;
 use crate::shown::{InputLine, ShownValue, add_value, is_same, shown_given};
 use crate::user_input::UserInput;
@@ -291,6 +292,59 @@ fn refuse<'a>(refused: Option<SymId>, at: InputLine<'a>, input: &mut UserInput<'
     }
 }
 
+// Warns of a line, which is not taken as written.
+fn leave_out<'a>(
+    alloc: Global,
+    stream: &NamedStream<'a>,
+    at: InputLine<'a>,
+    line: ConfigFileLine<'_>,
+    line_warning: Warning<&[u8]>,
+    user: &mut UserInput<'a>,
+    told: &mut Vec<u8>,
+) -> Result<(), AllocError>
+    requires { is_reported user.old.asks_unset (shown_warning line_warning) ≡ true }
+    ensures left { OnOk result (user.new ≡ input_left stream.now.tree.now stream.now.prefix.now user.old (location_of at.entry)
+        (meaning_view line.entry) (Warns (shown_warning line_warning.entry))) }
+    ensures warned { OnOk result (told.new.items ≡ told.old.items
+        ++ effect_text stream.now.tree.now user.old (location_of at.entry) (Warns (shown_warning line_warning.entry))) }
+    ensures unchanged { OnErr result ((user.new ≡ user.old) × (told.new.items ≡ told.old.items)) }
+{
+    let untold = told.len();
+    let is_gone = is_gone(&line_warning);
+    let refused = not_allowed(stream.tree, &line_warning);
+    warn(at.file, at.number, line_warning, told)?;
+    let noted = user.leave_out(alloc, stream.prefix, line, is_gone);
+    if noted.is_ok() {
+        refuse(refused, at, user);
+    } else {
+        told.truncate(untold);
+    }
+    noted
+}
+
+// Warns of a line and leaves it out, where its warning is reported.
+fn heed<'a>(
+    alloc: Global,
+    stream: &NamedStream<'a>,
+    at: InputLine<'a>,
+    line: ConfigFileLine<'_>,
+    line_warning: Warning<&[u8]>,
+    user: &mut UserInput<'a>,
+    told: &mut Vec<u8>,
+) -> Result<(), AllocError>
+    ensures left { OnOk result (user.new ≡ input_left stream.now.tree.now stream.now.prefix.now user.old (location_of at.entry)
+        (meaning_view line.entry) (Warns (shown_warning line_warning.entry))) }
+    ensures warned { OnOk result (told.new.items ≡ told.old.items
+        ++ effect_text stream.now.tree.now user.old (location_of at.entry) (Warns (shown_warning line_warning.entry))) }
+    ensures unchanged { OnErr result ((user.new ≡ user.old) × (told.new.items ≡ told.old.items)) }
+{
+    if user.reports(&line_warning) {
+        leave_out(alloc, stream, at, line, line_warning, user, told)
+    } else {
+        Ok(())
+    }
+}
+
 /// Reads one line, given without its end: tells its warning, and then changes the input. Its only error is to be out of
 /// memory; then the input is as it was, and nothing was told.
 pub(crate) fn read_line<'a>(
@@ -316,19 +370,7 @@ pub(crate) fn read_line<'a>(
     let line = parse_config_file_line(stream.prefix.as_bytes(), text);
     match line_effect(alloc, stream.tree, line)? {
         Effect::Silent => Ok(()),
-        Effect::Warns(line_warning) => {
-            let untold = told.len();
-            let is_gone = is_gone(&line_warning);
-            let refused = not_allowed(stream.tree, &line_warning);
-            warn(stream.name, number, line_warning, told)?;
-            let noted = user.leave_out(alloc, stream.prefix, line, is_gone);
-            if noted.is_ok() {
-                refuse(refused, at, user);
-            } else {
-                told.truncate(untold);
-            }
-            noted
-        }
+        Effect::Warns(line_warning) => { heed(alloc, stream, at, line, line_warning, user, told) }
         Effect::Assigns(id, value) => {
             let before = told.len();
             warn_again(alloc, stream.tree, at, id, &value, user, told)?;

@@ -304,10 +304,7 @@ impl<'a> Device for SystemDevice<'a> {
     }
 
     fn clear(&mut self) {
-        if let Writing::Beside(temporary) = mem::replace(
-            &mut self.writing,
-            Writing::Nothing,
-        ) {
+        if let Writing::Beside(temporary) = mem::replace(&mut self.writing, Writing::Nothing) {
             remove(self.rt, &temporary);
         }
         for temporary in &self.whole {

@@ -107,9 +107,7 @@ pub(crate) fn start(rt: &HostRuntime, name: &str, tried: &mut usize) -> io::Resu
             return Ok(Started::InPlace(open_found(rt, name, &found)?));
         }
     };
-    Ok(Started::Beside(create_temporary(
-        rt, destination, replaced, tried,
-    )?))
+    Ok(Started::Beside(create_temporary(rt, destination, replaced, tried)?))
 }
 
 impl TemporaryFile {
@@ -121,11 +119,7 @@ impl TemporaryFile {
     }
 
     // The permissions of the file, if it replaces another one.
-    fn permissions_over(
-        &self,
-        rt: &HostRuntime,
-        replaced: &Metadata,
-    ) -> io::Result<Permissions> {
+    fn permissions_over(&self, rt: &HostRuntime, replaced: &Metadata) -> io::Result<Permissions> {
         let made = self.text.metadata()?;
         let trust = if made.uid() == replaced.uid() {
             if made.gid() == replaced.gid() {

@@ -57,8 +57,8 @@ module _ (lines : List (Located Numbered)) (solution : Solution) where
   typed_head s kind =
       rules.worth_of lines solution s ++ codes " (" ++ rules.type_text kind ++ codes "): " ++ rules.source_text (rules.source solution s)
 
-  abbrev pub head_of : SymId → SymbolType → List ℕ
-  head_of s kind = elim kind [ Undefined ↦ name solution.tree s ++ codes ": not defined, or without a type" | k ↦ typed_head s k ]
+  abbrev pub head_of : List ℕ → SymId → SymbolType → List ℕ
+  head_of entries s kind = elim kind [ Undefined ↦ name solution.tree s ++ rules.untyped_text entries | k ↦ typed_head s k ]
 
   -- who selects and implies a symbol of this type; the modules symbol of a tristate
   abbrev pub naming_text : SymId → SymbolType → List (List ℕ)
@@ -87,5 +87,5 @@ module _ (lines : List (Located Numbered)) (solution : Solution) where
   abbrev pub body_lines : SymId → List (List ℕ)
   body_lines s = rules.body_text lines solution s (facts solution.tree s)
 
-abbrev pub untyped_head : Solution → SymId → List ℕ
-untyped_head solution s = name solution.tree s ++ codes ": not defined, or without a type"
+abbrev pub untyped_head : Solution → List ℕ → SymId → List ℕ
+untyped_head solution entries s = name solution.tree s ++ rules.untyped_text entries

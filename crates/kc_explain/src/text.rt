@@ -305,13 +305,29 @@ fn source_text(from: Source) -> &'static [u8]
     }
 }
 
-// Adds the first line of a symbol without a type.
-fn add_untyped_head(t: &Teller<'_, '_, '_>, id: SymId, text: &mut Vec<u8>) -> Result<(), AllocError>
-    ensures { OnOk result (text.new.items ≡ text.old.items ++ led t.now.lead.now (spec.untyped_head t.now.solved.now id ∷ [])) }
+// What is said of a name without a type that these entries define.
+fn untyped_text(entries: &[usize]) -> &'static [u8]
+    ensures { result.now ≡ rules.untyped_text entries.now }
+{
+    match entries {
+        [] => b": not a symbol, only mentioned",
+        [_, ..] => b": a symbol without a type",
+    }
+}
+
+// Adds the first line of a name without a type that these entries define.
+fn add_untyped_head(
+    t: &Teller<'_, '_, '_>,
+    entries: &[usize],
+    id: SymId,
+    text: &mut Vec<u8>,
+) -> Result<(), AllocError>
+    ensures { OnOk result (text.new.items ≡ text.old.items ++ led t.now.lead.now (spec.untyped_head t.now.solved.now entries.now id ∷ [])) }
 {
     text.extend_from_slice(t.lead)?;
     add_name(t, id, text)?;
-    text.extend_from_slice(b": not defined, or without a type\n")
+    text.extend_from_slice(untyped_text(entries))?;
+    text.extend_from_slice(b"\n")
 }
 
 // Adds a symbol of this type, with its value and where that comes from.
@@ -347,30 +363,36 @@ fn add_typed_head(
     text.extend_from_slice(b"\n")
 }
 
-// Adds the first line of a symbol that has this type.
+// Adds the first line of a symbol that has this type and that these entries define.
 #[tactic(auto, using(crate::proofs::ToldLemmas::typed_within))]
 fn add_head_of(
     t: &Teller<'_, '_, '_>,
+    entries: &[usize],
     id: SymId,
     symbol_type: SymbolType,
     text: &mut Vec<u8>,
 ) -> Result<(), AllocError>
     requires { symbol_type ≡ type_in (facts t.now.solved.now.tree id) }
     ensures { OnOk result (text.new.items ≡ text.old.items
-        ++ led t.now.lead.now (spec.head_of t.now.lines.now t.now.solved.now id symbol_type ∷ [])) }
+        ++ led t.now.lead.now (spec.head_of t.now.lines.now t.now.solved.now entries.now id symbol_type ∷ [])) }
 {
     match symbol_type {
-        SymbolType::Undefined => add_untyped_head(t, id, text),
+        SymbolType::Undefined => add_untyped_head(t, entries, id, text),
         _ => add_typed_head(t, id, symbol_type, text),
     }
 }
 
-// Adds the first line of a symbol.
-fn add_head(t: &Teller<'_, '_, '_>, id: SymId, text: &mut Vec<u8>) -> Result<(), AllocError>
+// Adds the first line of a symbol that these entries define.
+fn add_head(
+    t: &Teller<'_, '_, '_>,
+    entries: &[usize],
+    id: SymId,
+    text: &mut Vec<u8>,
+) -> Result<(), AllocError>
     ensures { OnOk result (text.new.items ≡ text.old.items
-        ++ led t.now.lead.now (spec.head_of t.now.lines.now t.now.solved.now id (type_in (facts t.now.solved.now.tree id)) ∷ [])) }
+        ++ led t.now.lead.now (spec.head_of t.now.lines.now t.now.solved.now entries.now id (type_in (facts t.now.solved.now.tree id)) ∷ [])) }
 {
-    add_head_of(t, id, t.solved.symbol_type(id), text)
+    add_head_of(t, entries, id, t.solved.symbol_type(id), text)
 }
 
 // ---- a symbol outside a choice
@@ -666,7 +688,7 @@ fn add_symbol(
     ensures { OnOk result (text.new.items ≡ text.old.items ++ led t.now.lead.now (rules.symbol_lines t.now.lines.now t.now.solved.now input.now id)) }
 {
     let entries = t.lines.definitions_of(alloc, id)?;
-    add_head(t, id, text)?;
+    add_head(t, &entries, id, text)?;
     add_definitions(alloc, t, &entries, text)?;
     add_prompts(alloc, t, &entries, text)?;
     add_user(t, input, id, text)?;

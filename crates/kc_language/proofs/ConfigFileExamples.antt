@@ -1,6 +1,6 @@
 -- Examples for the chapter ConfigFile: lines of a `.config`, the values that they give, and the warnings about them.
 use Rattle.std.proofs.Common.{◌≡◌, refl}
-use Rattle.std.specs.Prelude.{List, None, Some, [], codes, false, true, ℕ, ◌∷◌}
+use Rattle.std.specs.Prelude.{Bool as Bool_, List, None, Some, [], codes, false, true, ℕ, ◌∷◌}
 use Rattle.std.specs.Fmt.{digits}
 use Rattle.kc_language.specs.ConfigFile.{Malformed, Nothing, ReadResult, Set, Unset, effect, gone_after, lines_after, lines_from, meaning_of, no_input, places_given, reading, reading_of, refused_after, untaken, untaken_line, value_by, warning, warnings}
 use Rattle.kc_language.specs.Symbols.{SymbolFacts, TreeFacts}
@@ -71,6 +71,32 @@ module _ (any_tree : TreeFacts) (any_facts : SymbolFacts) where
       ≡ codes ".config:1: warning K7: unknown symbol C\n.config:2: warning K8: value not allowed for B\n.config:3: warning K9: malformed line\n"
   unfolding read_text
   warned_lines = refl
+
+  -- An unset line of a string has no effect. It is reported (K16) and not taken as written only if this is asked for.
+  with_string : TreeFacts
+  with_string = record two_bools { symbols = record any_facts { symbol_type = Str; choice = None } ∷ record any_facts { symbol_type = Bool; choice = None } ∷ [] }
+
+  unset_string : Bool_ → ReadResult
+  unfolding with_string two_bools reading warnings warning untaken untaken_line lines_after refused_after places_given effect lines_from digits
+  unset_string asked =
+      reading_of with_string (codes "CONFIG_") (record (no_input true with_string) { asks_unset = asked })
+      (record { name = codes ".config"; bytes = codes "# CONFIG_A is not set\n" } ∷ [])
+
+  unset_string_reported : (unset_string true).warned ≡ codes ".config:1: warning K16: A is not bool or tristate, the line has no effect\n"
+  unfolding unset_string
+  unset_string_reported = refl
+
+  unset_string_untaken : (unset_string true).input.all_taken ≡ false
+  unfolding unset_string
+  unset_string_untaken = refl
+
+  unset_string_passes : (unset_string false).input.all_taken ≡ true
+  unfolding unset_string
+  unset_string_passes = refl
+
+  unset_string_silent : (unset_string false).warned ≡ []
+  unfolding unset_string
+  unset_string_silent = refl
 
   -- The last line whose value for B is not allowed stays known, even after one that gives B a value.
   refused_lines : (read_text (codes "CONFIG_B=1\nCONFIG_B=m\nCONFIG_B=y\nCONFIG_C=m\n")).input.refused ≡ None ∷ Some (record { stream = codes ".config"; number = 2 }) ∷ []

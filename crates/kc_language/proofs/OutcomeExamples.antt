@@ -230,7 +230,7 @@ tree_is_accepted (suc (suc (suc s))) h = absurd (omega (arith, h))
 -- Reading the `.config` gives A the value y, and one warning.
 abbrev read : ReadResult
 read = record {
-  input = record { places = record { symbols = Some (GivenTruth Y) ∷ None ∷ None ∷ []; choices = [] }; lines = []; refused = []; all_taken = false; gone = None };
+  input = record { places = record { symbols = Some (GivenTruth Y) ∷ None ∷ None ∷ []; choices = [] }; lines = []; refused = []; all_taken = false; gone = None; asks_unset = false };
   warned = codes ".config:2: warning K7: unknown symbol D\n";
   stopped = None;
 }

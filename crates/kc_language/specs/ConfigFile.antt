@@ -1,7 +1,7 @@
--- Trusted: 10. ConfigFile: what reading a `.config` and its fragments gives: the user's values, and the warnings K7 to K10 and K15.
+-- Trusted: 10. ConfigFile: what reading a `.config` and its fragments gives: the user's values, and the warnings K7 to K10, K15 and K16.
 -- Source: our own, in the manner of the kernel's `conf` and kconfiglib (docs/language.md, "The `.config` file"). The result is `reading_of`, at the end.
 use Rattle.std.specs.{Char.is_ascii_digit, List.{enumerate_from, last_or, list_all, list_any, position_or_len, slice_split, suffix_len}, Option.option_map_or, Str.Lines.strip_carriage_return, Prelude.{Bool, List, None, Option, Some, [], bytes_eq, codes, drop, false, filter_map, find, flat_map, if◌then◌else◌, is_some, length, min, nat_le, nat_lt, not, option_and_then, option_map, position, replicate, slice_index, slice_index_or, take, take_while, true, ℕ, ◌&&◌, ◌++◌, ◌+◌, ◌-◌, ◌==◌, ◌^◌, ◌∷◌, ◌≡◌}}
-use Rattle.kc_language.specs.{Expressions.{is_name_byte, same_name, symbol, tri_text}, Lines.is_line_feed, Symbols.{TreeFacts, Warning, located_warning}, Text.{byte, escape, hex_of, int_of, longest_input_line, longest_prefix, longest_value, unescape}, Tokens.is_blank, Values.{ChoicePlace, GivenText, GivenTruth, GivenValue, Member, SymbolPlace, UserPlace, facts, is_yes, name, same_given, type_in}, declared.{diagnostics.Warning.TheVariants.{Changed, MalformedLine, NotAllowed, SetAgain, UnknownSymbol}, expressions.{SymId.SymId, SymbolType.{SymbolType, TheVariants.{Bool as IsBool, Hex, Int, Str, Tristate, Undefined}}, Tri.{TheVariants.{M, N, Y}, Tri}}}}
+use Rattle.kc_language.specs.{Expressions.{is_name_byte, same_name, symbol, tri_text}, Lines.is_line_feed, Symbols.{TreeFacts, Warning, located_warning}, Text.{byte, escape, hex_of, int_of, longest_input_line, longest_prefix, longest_value, unescape}, Tokens.is_blank, Values.{ChoicePlace, GivenText, GivenTruth, GivenValue, Member, SymbolPlace, UserPlace, facts, is_yes, name, same_given, type_in}, declared.{diagnostics.Warning.TheVariants.{Changed, MalformedLine, NotAllowed, SetAgain, TextUnset, UnknownSymbol}, expressions.{SymId.SymId, SymbolType.{SymbolType, TheVariants.{Bool as IsBool, Hex, Int, Str, Tristate, Undefined}}, Tri.{TheVariants.{M, N, Y}, Tri}}}}
 
 -- A prefix, such as `CONFIG_`: at most 64 bytes that may stand in a name. The first is no digit.
 abbrev pub is_prefix : List ℕ → Bool
@@ -68,6 +68,7 @@ pub data Effect : Type 0 where
   Assigns : SymId → GivenValue → Effect
 
 -- A set line gives its value, an unset line a bool or tristate n. K7: no symbol of this name has a type. K8: the value is too long or not allowed.
+-- K16: an unset line of a string, int or hex symbol has no effect.
 abbrev pub set_by_type : List ℕ → SymId → List ℕ → SymbolType → Effect
 set_by_type called s text Undefined = Warns (UnknownSymbol called)
 set_by_type called s text kind =
@@ -75,7 +76,7 @@ set_by_type called s text kind =
 
 abbrev pub unset_by_type : List ℕ → SymId → SymbolType → Effect
 unset_by_type called s Undefined = Warns (UnknownSymbol called)
-unset_by_type called s kind = elim kind [ IsBool ↦ Assigns s (GivenTruth N) | Tristate ↦ Assigns s (GivenTruth N) | _ ↦ Silent ]
+unset_by_type called s kind = elim kind [ IsBool ↦ Assigns s (GivenTruth N) | Tristate ↦ Assigns s (GivenTruth N) | _ ↦ Warns (TextUnset called) ]
 
 abbrev pub symbol_named : TreeFacts → List ℕ → Option SymId
 symbol_named tree called = option_map symbol (position (same_name called) tree.names)
@@ -92,7 +93,7 @@ effect_of tree Malformed = Warns MalformedLine
 abbrev pub not_allowed : TreeFacts → Effect → Option SymId
 not_allowed tree e = elim e [ Warns w ↦ elim w [ NotAllowed called ↦ symbol_named tree called | _ ↦ None ] | _ ↦ None ]
 
--- A line is gone if no symbol of the tree has its name (K7). It is on unless it is an unset line or its value is n. Last, its text with a line feed.
+-- A line is gone if its name is that of no symbol with a type (K7). It is on unless it is an unset line or its value is n. Last, its text with a line feed.
 abbrev pub is_gone : Effect → Bool
 is_gone e = elim e [ Warns w ↦ elim w [ UnknownSymbol called ↦ true | _ ↦ false ] | _ ↦ false ]
 
@@ -174,13 +175,14 @@ places_given tree places given = record {
 
 -- What files gave so far: values, the line that gave each last, and the last line whose value for it was not allowed (K8). The lists of lines are
 -- empty without --warn-lost. And whether all lines were taken as written.
--- With --list-gone also the texts of the gone lines: of those that are on, and of the others.
+-- With --list-gone also the texts of the gone lines: of those that are on, and of the others. And whether K16 is asked for (--warn-lost).
 pub record UserInput : Type 0 where
   pub places : Places
   pub lines : List (Option StreamLocation)
   pub refused : List (Option StreamLocation)
   pub all_taken : Bool
   pub gone : Option (List ℕ × List ℕ)
+  pub asks_unset : Bool
 
 abbrev pub no_input : Bool → TreeFacts → UserInput
 no_input keeps_lines tree = record {
@@ -189,15 +191,20 @@ no_input keeps_lines tree = record {
   refused = if keeps_lines then replicate (length tree.symbols) None else [];
   all_taken = true;
   gone = None;
+  asks_unset = false;
 }
 
--- A line is taken as written: it causes no warning, or only K10 with the value that the symbol already has.
+-- K16 is reported only if it is asked for. Any other warning of a line always is.
+abbrev pub is_reported : Bool → Warning → Bool
+is_reported asked w = elim w [ TextUnset called ↦ asked | _ ↦ true ]
+
+-- A line is taken as written: no warning of it is reported, or only K10 with the value that the symbol already has.
 abbrev pub is_change : Option GivenValue → GivenValue → Bool
 is_change None given = false
 is_change (Some old) given = not (same_given old given)
 
-abbrev pub is_taken : Places → Effect → Bool
-is_taken places e = elim e [ Silent ↦ true | Warns w ↦ false | Assigns s given ↦ not (is_change (place_at places (SymbolPlace s.0)) given) ]
+abbrev pub is_taken : Bool → Places → Effect → Bool
+is_taken asked places e = elim e [ Silent ↦ true | Warns w ↦ not (is_reported asked w) | Assigns s given ↦ not (is_change (place_at places (SymbolPlace s.0)) given) ]
 
 -- A value as a .config writes it: a string in quotes, a number as it is.
 abbrev pub text_in_config : SymbolType → List ℕ → List ℕ
@@ -206,10 +213,10 @@ text_in_config kind = elim kind [ Str ↦ λ text. codes "\"" ++ escape text ++ 
 abbrev pub value_text : SymbolType → GivenValue → List ℕ
 value_text kind given = elim given [ GivenTruth t ↦ tri_text t | GivenText text ↦ text_in_config kind text | Member m ↦ [] ]
 
--- The warning K7, K8 or K9 of a line; or K10, if the symbol has a value already.
-abbrev pub effect_warning : TreeFacts → Places → Effect → Option Warning
-effect_warning tree places e =
-    elim e [ Silent ↦ None | Warns w ↦ Some w | Assigns s given ↦ if is_some (place_at places (SymbolPlace s.0)) then Some (SetAgain (name tree s)) else None ]
+-- The warning K7, K8, K9 or K16 of a line, if it is reported; or K10, if the symbol has a value already.
+abbrev pub effect_warning : Bool → TreeFacts → Places → Effect → Option Warning
+effect_warning asked tree places e =
+    elim e [ Silent ↦ None | Warns w ↦ if is_reported asked w then Some w else None | Assigns s given ↦ if is_some (place_at places (SymbolPlace s.0)) then Some (SetAgain (name tree s)) else None ]
 
 -- The line of a warning. K15: a line gives the symbol another value than an earlier line, if that line is known.
 abbrev pub warning_line : List ℕ → ℕ → Warning → List ℕ
@@ -257,11 +264,11 @@ module _ (tree : TreeFacts) (prefix : List ℕ) where
   gone_after old lines = option_map (λ told. (told.0 ++ gone_text is_on lines, told.1 ++ gone_text (λ m. not (is_on m)) lines)) old
 
   -- The lines that are not taken as written. Each is judged with the values that the lines before it give.
-  unfoldable pub untaken_line : Places → Line → List Line
-  untaken_line places l = if is_taken places (effect l) then [] else l ∷ []
+  unfoldable pub untaken_line : Bool → Places → Line → List Line
+  untaken_line asked places l = if is_taken asked places (effect l) then [] else l ∷ []
 
-  unfoldable pub untaken : Places → List Line → List Line
-  untaken places lines = flat_map (λ (i, l). untaken_line (places_after places (take i lines)) l) (enumerate_from 0 lines)
+  unfoldable pub untaken : Bool → Places → List Line → List Line
+  untaken asked places lines = flat_map (λ (i, l). untaken_line asked (places_after places (take i lines)) l) (enumerate_from 0 lines)
 
   -- The user's input after these lines.
   abbrev pub input_after : UserInput → List Line → UserInput
@@ -269,14 +276,15 @@ module _ (tree : TreeFacts) (prefix : List ℕ) where
     places = places_after input.places lines;
     lines = lines_after input.lines lines;
     refused = refused_after input.refused lines;
-    all_taken = input.all_taken && (length (untaken input.places lines) == 0);
+    all_taken = input.all_taken && (length (untaken input.asks_unset input.places lines) == 0);
     gone = gone_after input.gone lines;
+    asks_unset = input.asks_unset;
   }
 
   -- The diagnostics of one line and of all lines. Each is judged with the input that the lines before it give.
   unfoldable pub warning : UserInput → Line → List ℕ
   warning input l =
-      elim (effect_warning tree input.places (effect l)) [ None ↦ [] | Some w ↦ warning_line l.stream l.number w ]
+      elim (effect_warning input.asks_unset tree input.places (effect l)) [ None ↦ [] | Some w ↦ warning_line l.stream l.number w ]
       ++ elim (effect l) [
         | Assigns s given ↦ change_text (stream_location l) (name tree s)
             (type_in (facts tree s)) (place_at input.places (SymbolPlace s.0)) (slice_index_or input.lines s.0 None) given

@@ -207,6 +207,10 @@ module _ (ss : List Numbered) where
   abbrev pub choice_entry : ℕ → List ℕ
   choice_entry k = listed (slice_get (filter (of_block ss Block.Choice) (indices ss)) k)
 
+-- What is said of a name without a type that these entries define: it is a symbol only if one does.
+abbrev pub untyped_text : List ℕ → List ℕ
+untyped_text entries = elim entries [ [] ↦ codes ": not a symbol, only mentioned" | _ ↦ codes ": a symbol without a type" ]
+
 -- ---- The facts about the solution
 -- What an explanation cites of the values: that of a condition with these parts, of the mode of a choice, of a symbol, what a symbol selects or
 -- implies under such a condition, the value of a default, and a bound.
@@ -515,7 +519,7 @@ module _ (lines : List (Located Numbered)) (solution : Solution) where
     -- NAME=VALUE (TYPE): SOURCE
     abbrev pub head_text : SymId → List ℕ
     head_text s = let kind = type_in (facts solution.tree s) in
-        if same_type kind Undefined then name solution.tree s ++ codes ": not defined, or without a type"
+        if same_type kind Undefined then name solution.tree s ++ untyped_text (definitions_of (statements lines) s)
         else worth_of s ++ codes " (" ++ type_text kind ++ codes "): " ++ source_text (source solution s)
 
     abbrev pub symbol_lines : SymId → List (List ℕ)
@@ -553,7 +557,7 @@ new_text_with_help files lines tree prefix view =
     flat_map (λ s. if view.is_new s then definition_comments files lines s ++ symbol_config tree prefix view s ++ codes "\n" else []) tree.defined
 
 -- ---- The names that are asked for
--- The symbol of a name, which may have the prefix in front.
+-- The number of a name that the tree mentions, which may have the prefix in front.
 abbrev pub asked_symbol : TreeFacts → List ℕ → List ℕ → Option SymId
 asked_symbol tree prefix asked = option_or (symbol_named tree asked) (option_and_then (symbol_named tree) (without_prefix prefix asked))
 

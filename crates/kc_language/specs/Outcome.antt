@@ -133,7 +133,10 @@ streams (name ∷ names) (bytes ∷ all) = record { name = name; bytes = bytes }
 streams _ _ = []
 
 abbrev pub fresh_input : Options → TreeFacts → UserInput
-fresh_input options tree = record (no_input (options.warn_lost || is_some options.explanation) tree) { gone = option_map (λ name. ([], [])) options.list_gone }
+fresh_input options tree = record (no_input (options.warn_lost || is_some options.explanation) tree) {
+  gone = option_map (λ name. ([], [])) options.list_gone;
+  asks_unset = options.warn_lost;
+}
 
 abbrev pub read_of : Options → TreeFacts → List (List ℕ) → ReadResult
 read_of options tree all = reading_of tree options.prefix (fresh_input options tree) (streams (names_of options) all)
@@ -151,7 +154,7 @@ lost_warnings options input solution = if options.warn_lost then lost_lines inpu
 abbrev pub is_outside : Warning → Bool
 is_outside warning = elim warning [ UserOutside name value low high ↦ true | _ ↦ false ]
 
--- --strict refuses a line that was not taken as written (K7 to K9, or it changed what another gave), a value outside its range, and a lost one.
+-- --strict refuses a line that was not taken as written (K7 to K9 and K16, or it changed what another gave), a value outside its range, and a lost one.
 abbrev pub refuses_input : Options → UserInput → Solution → Bool
 refuses_input options input solution = options.strict
     && not (input.all_taken && (not (list_any is_outside (value_warnings solution)) && (length (lost_warnings options input solution) == 0)))
@@ -188,7 +191,8 @@ lines_text lines = flat_map (λ line. line ++ codes "\n") lines
 abbrev pub has_text : List ℕ → Bool
 has_text text = elim text [ [] ↦ false | _ ↦ true ]
 
--- What is asked to be explained: the first name that no symbol has, and the names that differ from it by one letter; the explanations, one by one.
+-- What is asked to be explained: the first name that the tree does not mention, and the names of symbols that differ from it by one letter; the
+-- explanations, one by one.
 abbrev pub unknown_name : Options → TreeFacts → Option (List ℕ)
 unknown_name options tree = find (λ asked. not (is_some (asked_symbol tree options.prefix asked))) (map string_bytes options.explain.items)
 

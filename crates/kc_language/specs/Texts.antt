@@ -1,7 +1,7 @@
 -- Trusted: 11. Texts: what a run writes: the `.config`, the header, the minimal file, and the warnings K11 to K14 about values.
 -- Source: our own, in the manner of the kernel's `conf` and kconfiglib (docs/language.md, "Texts"). At the end: what reading a written file again gives.
 use Rattle.std.specs.{List.{enumerate_from, last_or}, Option.option_map_or, Str.Lines.strip_carriage_return, Prelude.{All, Bool, List, None, Option, Some, [], codes, false, filter, flat_map, if◌then◌else◌, is_some, length, map, not, option_map, slice_get, slice_index_or, take, true, ℕ, ◌++◌, ◌<◌, ◌==◌, ◌||◌, ◌↔◌, ◌∷◌, ◌≡◌}}
-use Rattle.kc_language.specs.{ConfigFile.{ArePlacesOf, Places, ReadResult, StreamLocation, Unset, is_within, lines_from, meaning_of, no_input, place_at, reading_of, text_in_config, value_text}, Expressions.{SymbolValue, TextValue, Truth, tri_text}, Lines.is_line_feed, Symbols.{CommentShown, Condition, EndShown, MenuShown, Shown, SymbolFacts, SymbolShown, TreeFacts, Warning, located_warning, warning_line}, Text.{byte, escape, has_hex_prefix}, Tokens.is_blank, Values.{GivenValue, IsOnlySolution, Solves, SymbolPlace, UserPlace, above, active_range, changes_on_reread, clamped, condition, differs, direct, equations, facts, first_met, given_of, if_within_range, is_n, is_new, is_within_range, known_from, name, name_count, number_text, same_given, selected_to, single_text, visibility, visible_text, written}, declared.{diagnostics.Warning.TheVariants.{DefaultOutside, Lost, Selected, UserOutside}, expressions.{SymId.SymId, SymbolType.{SymbolType, TheVariants.{Bool as IsBool, Hex, Int, Str, Tristate, Undefined}}, Tri.{TheVariants.{M, N, Y}, Tri}}, values.Interval.Interval}}
+use Rattle.kc_language.specs.{ConfigFile.{ArePlacesOf, Places, ReadResult, StreamLocation, Unset, is_within, lines_from, meaning_of, no_input, place_at, reading_of, text_in_config, value_text}, Expressions.{SymbolValue, TextValue, Truth, tri_text}, Lines.is_line_feed, Symbols.{CommentShown, Condition, EndShown, MenuShown, Shown, SymbolFacts, SymbolShown, TreeFacts, Warning, located_warning, warning_line}, Text.{byte, escape, has_hex_prefix}, Tokens.is_blank, Values.{GivenValue, IsOnlySolution, Solves, SymbolPlace, UserPlace, above, active_range, changes_on_reread, clamped, condition, differs, direct, equations, facts, first_met, given_of, if_within_range, is_n, is_new, is_within_range, known_from, name, name_count, number_text, same_given, selected_to, single_text, visibility, visible_text, written}, declared.{diagnostics.Warning.TheVariants.{DefaultOutside, Lost, LostWithoutPrompt, Selected, UserOutside}, expressions.{SymId.SymId, SymbolType.{SymbolType, TheVariants.{Bool as IsBool, Hex, Int, Str, Tristate, Undefined}}, Tri.{TheVariants.{M, N, Y}, Tri}}, values.Interval.Interval}}
 
 -- The line of a `.config`. `called` is the prefix with the symbol's name: `CONFIG_NAME`.
 abbrev pub config_file_line : List ℕ → SymbolValue → List ℕ
@@ -156,20 +156,24 @@ value_warnings s = flat_map (λ i. warnings_of s.tree (known s) (name s.tree i) 
 abbrev pub warnings : Solution → List (List ℕ)
 warnings s = map warning_line (value_warnings s)
 
--- K14: the last line for the symbol, `at`, gave a value that the symbol does not have. Only symbols with a prompt have it, members of a choice too.
-abbrev pub lost_by : List ℕ → SymbolType → Option StreamLocation → Option GivenValue → GivenValue → List (List ℕ)
-lost_by called kind at None value = []
-lost_by called kind (Some at) (Some given) value =
-    if same_given given value then []
-    else located_warning at.stream at.number (Lost called (value_text kind given) (value_text kind value)) ∷ []
-lost_by called kind _ _ value = []
-
+-- K14: the last line for the symbol, `at`, gave a value that the symbol does not have. The warning says so if the symbol has no prompt.
 abbrev pub has_prompt : List Condition → Bool
 has_prompt cs = elim cs [ [] ↦ false | _ ↦ true ]
 
+abbrev pub lost_warning : Bool → List ℕ → SymbolType → GivenValue → GivenValue → Warning
+lost_warning prompted called kind given value =
+    if prompted then Lost called (value_text kind given) (value_text kind value)
+    else LostWithoutPrompt called (value_text kind given) (value_text kind value)
+
+abbrev pub lost_by : Bool → List ℕ → SymbolType → Option StreamLocation → Option GivenValue → GivenValue → List (List ℕ)
+lost_by prompted called kind at None value = []
+lost_by prompted called kind (Some at) (Some given) value =
+    if same_given given value then [] else located_warning at.stream at.number (lost_warning prompted called kind given value) ∷ []
+lost_by prompted called kind _ _ value = []
+
 abbrev pub lost_of : List ℕ → Option SymbolFacts → Option StreamLocation → Option GivenValue → GivenValue → List (List ℕ)
 lost_of called None at given value = []
-lost_of called (Some f) at given value = if has_prompt f.prompts then lost_by called f.symbol_type at given value else []
+lost_of called (Some f) at given value = lost_by (has_prompt f.prompts) called f.symbol_type at given value
 
 abbrev pub lost_at : List (Option StreamLocation) → Solution → SymId → List (List ℕ)
 lost_at lines s i = lost_of (name s.tree i) (facts s.tree i) (slice_index_or lines i.0 None) (place_at s.places (SymbolPlace i.0)) (given_of (known s i))

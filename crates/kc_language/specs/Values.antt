@@ -66,7 +66,7 @@ abbrev pub clamped : SymbolType → Option Interval → List ℕ → List ℕ
 clamped k None t = t
 clamped k (Some r) t = if int_lt (number_or_zero k t) r.low then number_text k r.low else (if int_lt r.high (number_or_zero k t) then number_text k r.high else t)
 
--- Symbols and choices of a tree by number; each name that the tree mentions is a symbol.
+-- Symbols and choices of a tree by number. Each name that the tree mentions has a number.
 abbrev pub name_count : TreeFacts → ℕ
 name_count tree = length tree.symbols
 
